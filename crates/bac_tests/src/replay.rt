@@ -1,0 +1,1 @@
+//! Scripts from their text to the text of the answers.

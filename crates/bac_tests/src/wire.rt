@@ -1,0 +1,1 @@
+//! Tags, primitive values and stamps.
