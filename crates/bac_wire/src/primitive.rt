@@ -5,7 +5,7 @@ ghost use Rattle.bac_wire.specs.Number.{number, signed, bits_of};
 ghost use Rattle.bac_wire.specs.Reading.{Gives, has_length, chars_in, bits_in, enumerated_in, bool_in, value_in, contents_as};
 ghost use Rattle.bac_wire.specs.View.{view};
 ghost use Rattle.bac_wire.specs.Stamp.{date_octets, time_octets};
-ghost use Rattle.bac_wire.specs.Primitive.{Unsigned, Enumerated, Object, Bits};
+ghost use Rattle.bac_wire.specs.Primitive.{Boolean, Unsigned, Signed, Enumerated, Object, Bits};
 
 use crate::fault::WireFault;
 use crate::object_id::ObjectId;
@@ -201,6 +201,33 @@ pub fn as_unsigned(contents: &[u8]) -> Result<u64, WireFault>
         return Err(WireFault::BadLength);
     }
     Ok(unsigned_of(contents))
+}
+
+/// A Signed behind a context tag.
+#[tactic(auto, unfolding(crate::specs::Reading::contents_as, crate::specs::Reading::value_in))]
+pub fn as_signed(contents: &[u8]) -> Result<i64, WireFault>
+    ensures { Gives (λ z. Signed z) result (contents_as 3 contents.now) }
+{
+    if !has_length_of(3, contents.len()) {
+        return Err(WireFault::BadLength);
+    }
+    Ok(signed_of(contents))
+}
+
+/// A Boolean behind a context tag: one octet, 0 or 1.
+#[tactic(auto, unfolding(crate::specs::Reading::contents_as))]
+pub fn as_boolean(contents: &[u8]) -> Result<bool, WireFault>
+    ensures { Gives (λ b. Boolean b) result (contents_as 1 contents.now) }
+{
+    match contents {
+        [flag] => {
+            if *flag > 1 {
+                return Err(WireFault::BadContents);
+            }
+            Ok(*flag == 1)
+        }
+        _ => Err(WireFault::BadLength),
+    }
 }
 
 /// An Enumerated behind a context tag.
