@@ -1,6 +1,6 @@
 //! The contents of each primitive type (clauses 20.2.2 to 20.2.14).
 
-ghost use Rattle.std.specs.Prelude.{◌≡◌, ◌+◌, ◌-◌, ◌*◌, ◌/◌, ◌%◌, ◌^◌, ◌<◌, ◌≤◌, ◌&&◌, ℕ, List, [], ◌∷◌, ◌++◌, length, map, take, drop, slice_index_or, IfOk, IsOkAnd, Ok, Err, IsTrue, true};
+ghost use Rattle.std.specs.Prelude.{◌≡◌, ◌-◌, ◌*◌, ◌^◌, ◌<◌, ◌≤◌, length, map, take, IfOk, true};
 ghost use Rattle.bac_wire.specs.Number.{number, signed, bits_of};
 ghost use Rattle.bac_wire.specs.Reading.{Gives, has_length, chars_in, bits_in, enumerated_in, bool_in, value_in, contents_as};
 ghost use Rattle.bac_wire.specs.View.{view};

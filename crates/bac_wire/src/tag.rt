@@ -1,7 +1,6 @@
 //! Heads of tags: the tag number and the length (clause 20.2.1), read and written.
 
-ghost use Rattle.std.specs.Prelude.{◌≡◌, ◌+◌, ◌-◌, ◌*◌, ◌/◌, ◌%◌, ◌^◌, ◌<◌, ◌≤◌, ◌&&◌, ℕ, List, [], ◌∷◌, ◌++◌, length, map, take, drop, slice_index_or, IfOk, IsOkAnd, Ok, Err, IsTrue, true};
-ghost use Rattle.bac_wire.specs.Number.{number};
+ghost use Rattle.std.specs.Prelude.{◌≡◌, ◌<◌, ◌≤◌, length};
 ghost use Rattle.bac_wire.specs.Reading.{Gives, octet_at, octets_at, number_at, length_at};
 ghost use Rattle.bac_wire.specs.Canon.{tag_octets, head_octets};
 
