@@ -5,7 +5,7 @@ ghost use Rattle.std.specs.Prelude.{◌≡◌, ◌<◌, ◌≤◌, ℕ, List, �
 ghost use Rattle.bac_wire.specs.Canon.{tag_octets, contents_of, canon, canon_context, IsValid};
 ghost use Rattle.bac_wire.specs.Primitive.{Primitive};
 ghost use Rattle.bac_wire.specs.Reading.{value_at, context_at, contents_as, mark_at};
-ghost use Rattle.bac_wire.specs.Spelling.{Spells, tag_of};
+ghost use Rattle.bac_wire.specs.Spelling.{Spells, StandsFor, tag_of};
 
 /// No spelling is the front of another, and no octets spell two values.
 pub fn one_reading()
@@ -32,6 +32,12 @@ pub fn value_is_read_back()
 pub fn context_is_read_back()
     ensures contents { (tag : ℕ) (value : Primitive) (rest : List ℕ) → tag < 255 → IsValid value → context_at tag (canon_context tag value ++ rest) ≡ Ok (contents_of value, rest) }
     ensures value { (value : Primitive) → IsValid value → contents_as (tag_of value) (contents_of value) ≡ Ok value }
+{}
+
+/// Contents are read as a value of a type exactly where they stand for it.
+pub fn contents_have_one_value()
+    ensures found { (tag : ℕ) (contents : List ℕ) (value : Primitive) → tag ≤ 12 → contents_as tag contents ≡ Ok value → (tag_of value ≡ tag) × StandsFor contents value }
+    ensures only { (contents : List ℕ) (value : Primitive) → StandsFor contents value → contents_as (tag_of value) contents ≡ Ok value }
 {}
 
 /// Opening and closing tags are read back, whatever follows them.

@@ -16,6 +16,7 @@ pub(crate) enum Token {
     Close(u8),
 }
 
+/// The first tag, with its contents where it has any, and the octets after it.
 #[tactic(auto, unfolding(crate::specs::Level::token_at))]
 fn token_of(bytes: &[u8]) -> Result<(Token, &[u8]), WireFault>
     ensures { Gives (λ x. (x.0, x.1.now)) result (token_at bytes.now) }
@@ -40,7 +41,9 @@ fn token_of(bytes: &[u8]) -> Result<(Token, &[u8]), WireFault>
     Ok((Token::Whole, rest))
 }
 
-/// How many octets stand before the closing tag that ends this level.
+/// How many octets stand before the closing tag of this number that ends the level (clause
+/// 20.2.1.3.2). BadTag where the closing tag on this level has another number, or a tag can't be
+/// read; Ended where octets are missing. The numbers of the tags inside are not compared.
 pub fn octets_to_close(bytes: &[u8], wanted: u8) -> Result<usize, WireFault>
     // Before it stand whole tags, each level that they open closed.
     ensures found { IfOk result (EndsAt wanted bytes.now) }
@@ -52,6 +55,7 @@ pub fn octets_to_close(bytes: &[u8], wanted: u8) -> Result<usize, WireFault>
     count_to_close(bytes, wanted)
 }
 
+/// Goes from tag to tag, and counts the levels that are open.
 fn count_to_close(bytes: &[u8], wanted: u8) -> Result<usize, WireFault>
     ensures within { IfOk result (λ n. n ≤ length bytes.now) }
     ensures exact { Gives (λ n. drop n bytes.now) result (close_at (length bytes.now + 1) 0 wanted bytes.now) }

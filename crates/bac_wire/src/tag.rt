@@ -8,6 +8,7 @@ use crate::fault::WireFault;
 use crate::primitive::unsigned_of;
 use arrayvec::ArrayVec;
 
+/// The first octet, and those after it.
 pub(crate) fn octet_of(bytes: &[u8]) -> Result<(u8, &[u8]), WireFault>
     ensures { Gives (λ x. (x.0, x.1.now)) result (octet_at bytes.now) }
 {
@@ -17,6 +18,7 @@ pub(crate) fn octet_of(bytes: &[u8]) -> Result<(u8, &[u8]), WireFault>
     }
 }
 
+/// So many octets, and those after them.
 pub(crate) fn octets_of(count: usize, bytes: &[u8]) -> Result<(&[u8], &[u8]), WireFault>
     ensures { Gives (λ x. (x.0.now, x.1.now)) result (octets_at count bytes.now) }
 {
@@ -26,6 +28,7 @@ pub(crate) fn octets_of(count: usize, bytes: &[u8]) -> Result<(&[u8], &[u8]), Wi
     Ok(bytes.split_at(count))
 }
 
+/// The tag number that the first octet states, or the octet after it (clause 20.2.1.2).
 #[tactic(auto, unfolding(crate::specs::Reading::number_at))]
 pub(crate) fn number_of(first: u8, bytes: &[u8]) -> Result<(u8, &[u8]), WireFault>
     ensures { Gives (λ x. (x.0, x.1.now)) result (number_at first bytes.now) }
@@ -40,6 +43,7 @@ pub(crate) fn number_of(first: u8, bytes: &[u8]) -> Result<(u8, &[u8]), WireFaul
     Ok((own, rest))
 }
 
+/// The length that the three low bits state, or the octets after them (clause 20.2.1.3.1).
 #[tactic(auto, unfolding(crate::specs::Reading::length_at))]
 pub(crate) fn length_of(low: u8, bytes: &[u8]) -> Result<(usize, &[u8]), WireFault>
     ensures { Gives (λ x. (x.0, x.1.now)) result (length_at low bytes.now) }
@@ -56,7 +60,7 @@ pub(crate) fn length_of(low: u8, bytes: &[u8]) -> Result<(usize, &[u8]), WireFau
     Ok((unsigned_of(size) as usize, rest))
 }
 
-/// Tag number and three low bits.
+/// The octets of a class, a tag number and three low bits (clauses 20.2.1.1 to 20.2.1.3).
 pub(crate) fn tag_of(class: u8, tag: u8, low: u8) -> ArrayVec<u8, 5>
     requires class { class ≤ 8 }
     requires tag { tag ≤ 254 }
@@ -74,7 +78,7 @@ pub(crate) fn tag_of(class: u8, tag: u8, low: u8) -> ArrayVec<u8, 5>
     octets
 }
 
-/// Tag number and length.
+/// The octets of a class, a tag number and a length (clause 20.2.1.3.1).
 pub(crate) fn head_of(class: u8, tag: u8, len: usize) -> ArrayVec<u8, 5>
     requires class { class ≤ 8 }
     requires tag { tag ≤ 254 }
