@@ -6,7 +6,8 @@ ghost use Rattle.bac_wire.specs.Spelling.{IsTag};
 ghost use Rattle.bac_wire.specs.Level.{token_at, close_at, IsLevel, EndsAt};
 
 use crate::fault::WireFault;
-use crate::tag::{length_of, number_of, octet_of, octets_of};
+use crate::primitive::BOOLEAN;
+use crate::tag::{Mark, is_context_tag, length_of, number_of, octet_of, octets_of};
 
 /// A whole tag with its contents, or one that opens or closes a level.
 #[derive(Clone, Copy, Debug)]
@@ -22,18 +23,18 @@ fn token_of(bytes: &[u8]) -> Result<(Token, &[u8]), WireFault>
     ensures { Gives (λ x. (x.0, x.1.now)) result (token_at bytes.now) }
 {
     let (first, rest) = octet_of(bytes)?;
-    let context = first / 8 % 2 == 1;
+    let context = is_context_tag(first);
     if !context && first % 8 > 5 {
         return Err(WireFault::BadTag);
     }
     let (tag, rest) = number_of(first, rest)?;
-    if first % 8 == 6 {
+    if first % 8 == Mark::Opening.bits() {
         return Ok((Token::Open, rest));
     }
-    if first % 8 == 7 {
+    if first % 8 == Mark::Closing.bits() {
         return Ok((Token::Close(tag), rest));
     }
-    if !context && tag == 1 {
+    if !context && tag == BOOLEAN {
         return Ok((Token::Whole, rest));
     }
     let (len, rest) = length_of(first % 8, rest)?;

@@ -12,6 +12,33 @@ use crate::object_id::ObjectId;
 use crate::stamp::{Date4, Time4};
 use crate::value::Value;
 
+// The types by the numbers of their application tags (clause 20.2.1.4).
+pub(crate) const NULL: u8 = 0;
+
+pub(crate) const BOOLEAN: u8 = 1;
+
+pub(crate) const UNSIGNED: u8 = 2;
+
+pub(crate) const SIGNED: u8 = 3;
+
+pub(crate) const REAL: u8 = 4;
+
+pub(crate) const DOUBLE: u8 = 5;
+
+pub(crate) const OCTETS: u8 = 6;
+
+pub(crate) const CHARS: u8 = 7;
+
+pub(crate) const BITS: u8 = 8;
+
+pub(crate) const ENUMERATED: u8 = 9;
+
+pub(crate) const DATE: u8 = 10;
+
+pub(crate) const TIME: u8 = 11;
+
+pub(crate) const OBJECT: u8 = 12;
+
 /// An unsigned number, high octet first (clause 20.2.4).
 pub(crate) fn unsigned_of(octets: &[u8]) -> u64
     requires { length octets.now ≤ 8 }
@@ -55,11 +82,11 @@ pub(crate) fn has_length_of(tag: u8, len: usize) -> bool
     ensures { result ≡ has_length tag len }
 {
     match tag {
-        0 => len == 0,
-        2 | 3 | 9 => 1 <= len && len <= 8,
-        4 | 10 | 11 | 12 => len == 4,
-        5 => len == 8,
-        6 => true,
+        NULL => len == 0,
+        UNSIGNED | SIGNED | ENUMERATED => 1 <= len && len <= 8,
+        REAL | DATE | TIME | OBJECT => len == 4,
+        DOUBLE => len == 8,
+        OCTETS => true,
         _ => 1 <= len,
     }
 }
@@ -73,17 +100,17 @@ pub(crate) fn value_of_contents(tag: u8, contents: &[u8]) -> Result<Value, WireF
     ensures { Gives view result (value_in tag contents.now) }
 {
     Ok(match tag {
-        0 => Value::Null,
-        2 => Value::Unsigned(unsigned_of(contents)),
-        3 => Value::Signed(signed_of(contents)),
-        4 => Value::Real4(four_of(contents)),
-        5 => Value::Double8(eight_of(contents)),
-        6 => Value::Octets(contents),
-        7 => return chars_of(contents),
-        8 => return bits_of(contents),
-        9 => return enumerated_of(contents),
-        10 => Value::Date(date_in(contents)),
-        11 => Value::Time(time_in(contents)),
+        NULL => Value::Null,
+        UNSIGNED => Value::Unsigned(unsigned_of(contents)),
+        SIGNED => Value::Signed(signed_of(contents)),
+        REAL => Value::Real4(four_of(contents)),
+        DOUBLE => Value::Double8(eight_of(contents)),
+        OCTETS => Value::Octets(contents),
+        CHARS => return chars_of(contents),
+        BITS => return bits_of(contents),
+        ENUMERATED => return enumerated_of(contents),
+        DATE => Value::Date(date_in(contents)),
+        TIME => Value::Time(time_in(contents)),
         _ => Value::Object(ObjectId::of_number(unsigned_of(contents) as u32)),
     })
 }
@@ -176,7 +203,7 @@ fn enumerated_of(contents: &[u8]) -> Result<Value, WireFault>
 pub fn as_unsigned(contents: &[u8]) -> Result<u64, WireFault>
     ensures { Gives (λ n. Unsigned n) result (contents_as 2 contents.now) }
 {
-    if !has_length_of(2, contents.len()) {
+    if !has_length_of(UNSIGNED, contents.len()) {
         return Err(WireFault::BadLength);
     }
     Ok(unsigned_of(contents))
@@ -188,7 +215,7 @@ pub fn as_unsigned(contents: &[u8]) -> Result<u64, WireFault>
 pub fn as_signed(contents: &[u8]) -> Result<i64, WireFault>
     ensures { Gives (λ z. Signed z) result (contents_as 3 contents.now) }
 {
-    if !has_length_of(3, contents.len()) {
+    if !has_length_of(SIGNED, contents.len()) {
         return Err(WireFault::BadLength);
     }
     Ok(signed_of(contents))
@@ -217,7 +244,7 @@ pub fn as_boolean(contents: &[u8]) -> Result<bool, WireFault>
 pub fn as_enumerated(contents: &[u8]) -> Result<u32, WireFault>
     ensures { Gives (λ n. Enumerated n) result (contents_as 9 contents.now) }
 {
-    if !has_length_of(9, contents.len()) {
+    if !has_length_of(ENUMERATED, contents.len()) {
         return Err(WireFault::BadLength);
     }
     let number = unsigned_of(contents);
@@ -252,7 +279,7 @@ pub fn as_bits(contents: &[u8]) -> Result<(u8, &[u8]), WireFault>
 pub fn as_object(contents: &[u8]) -> Result<ObjectId, WireFault>
     ensures { Gives (λ o. Object o) result (contents_as 12 contents.now) }
 {
-    if !has_length_of(12, contents.len()) {
+    if !has_length_of(OBJECT, contents.len()) {
         return Err(WireFault::BadLength);
     }
     Ok(ObjectId::of_number(unsigned_of(contents) as u32))

@@ -1,4 +1,5 @@
 use Rattle.std.proofs.Common.{◌≡◌, ◌+◌, ◌*◌, ◌/◌, ◌^◌, ◌<◌, ◌≤◌, ℕ, Bool, List, ◌++◌, length, Result, Ok, Err, OnOk, length-append, arith}
+use Rattle.bac_wire.specs.Tag.{class_bits}
 use Rattle.bac_wire.specs.Canon.{Writes, tagged, head_octets, bit_octets}
 use Rattle.bac_wire.proofs.Canonical.{packed_length}
 use Rattle.bac_wire.proofs.writing.write_contents.Goals as goal
@@ -9,4 +10,4 @@ few_bits old new (Ok u) class tag bits w =
 few_bits old new (Err e) class tag bits w = tt
 
 pub returns-in-Bits-clause-valid : goal.returns-in-Bits-clause-valid
-returns-in-Bits-clause-valid c = rw c.in-Bits.is (few_bits c.args.out.now c.write_bits.new.out c.write_bits.result c.args.class c.args.tag _ c.write_bits.ensures)
+returns-in-Bits-clause-valid c = rw c.in-Bits.is (few_bits c.args.out.now c.write_bits.new.out c.write_bits.result (class_bits c.args.class) c.args.tag _ c.write_bits.ensures)
