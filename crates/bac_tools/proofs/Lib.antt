@@ -1,0 +1,3 @@
+pub mod Octets
+pub mod Splits
+pub mod LineLemmas

@@ -1,0 +1,5 @@
+pub mod Lines
+pub mod Words
+pub mod Number
+pub mod Hexadecimal
+pub mod Output
