@@ -3,3 +3,8 @@ pub mod Words
 pub mod Number
 pub mod Hexadecimal
 pub mod Output
+pub mod Device
+pub mod Fault
+pub mod Session
+pub mod Replay
+pub mod Stops

@@ -1,6 +1,7 @@
 //! The words of a line, which one space separates.
 ghost use Rattle.std.specs.Prelude.{◌≡◌, ◌∷◌, [], IfSome, IfNone, All, position, false};
-ghost use Rattle.bac_tools.specs.Words.{is_space, words_of, HasTwo};
+ghost use Rattle.bac_apdu.specs.Frames.{GivesSome};
+ghost use Rattle.bac_tools.specs.Words.{is_space, words_of, HasTwo, text_in};
 
 /// The place of the first space.
 fn space(line: &[u8]) -> Option<usize>
@@ -27,5 +28,15 @@ pub(crate) fn last_word(line: &[u8]) -> Option<&[u8]>
     match split_word(line) {
         Some(_) => None,
         None => Some(line),
+    }
+}
+
+/// A word as a text, where its octets are UTF-8.
+pub(crate) fn text_in(word: &[u8]) -> Option<&str>
+    ensures { GivesSome (λ text. text.now) result (text_in word.now) }
+{
+    match str::from_utf8(word) {
+        Ok(text) => Some(text),
+        Err(_) => None,
     }
 }
