@@ -1,9 +1,9 @@
--- I-Am (clause 21, I-Am-Request): its parameters, and what an announcement shows of its fields.
+-- I-Am (clauses 16.10 and 21): its parameters, and what an announcement shows of its fields.
 use Rattle.std.specs.Prelude.{◌<◌, ◌^◌, Bool, true, false, List, [], ◌∷◌}
 use Rattle.bac_wire.specs.Primitive.{Primitive, Unsigned, Enumerated, Object}
 use Rattle.bac_wire.specs.Canon.{IsValid}
 use Rattle.bac_apdu.specs.declared.i_am.IAm.{IAm}
-use Rattle.bac_apdu.specs.Form.{Form, end, part, application, Item, Value}
+use Rattle.bac_apdu.specs.Form.{Form, end, part, application, unsigned, enumerated, object_identifier, Item, Value}
 
 -- any value of the type: a part's type is tested before its range
 
@@ -19,16 +19,12 @@ abbrev pub is_enumerated : Primitive → Bool
 is_enumerated (Enumerated n) = true
 is_enumerated value = false
 
--- Object Identifier, the device
--- Unsigned, the greatest APDU that it takes
--- Enumerated, how it segments
--- Unsigned, its vendor
 abbrev pub i_am : Form
 i_am =
-    part (application 12 is_object)
-    (part (application 2 is_unsigned)
-    (part (application 9 is_enumerated)
-    (part (application 2 is_unsigned)
+    part (application object_identifier is_object) -- I-Am device identifier
+    (part (application unsigned is_unsigned)       -- max APDU length accepted
+    (part (application enumerated is_enumerated)   -- segmentation supported
+    (part (application unsigned is_unsigned)       -- vendor identifier
     end)))
 
 abbrev pub i_am_items : IAm → List Item

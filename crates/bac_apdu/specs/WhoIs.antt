@@ -1,21 +1,19 @@
--- Who-Is (clause 21, Who-Is-Request): its parameters, and what a request shows of its fields.
+-- Who-Is (clauses 16.10 and 21): its parameters, and what a request shows of its fields.
 use Rattle.std.specs.Prelude.{ℕ, ◌≤◌, Bool, false, nat_le, List, [], ◌∷◌, Option, Some, None}
 use Rattle.bac_wire.specs.Primitive.{Primitive, Unsigned}
 use Rattle.bac_apdu.specs.declared.who_is.WhoIs.{WhoIs}
-use Rattle.bac_apdu.specs.Form.{Form, end, part, nothing_or, context, Item, Value}
+use Rattle.bac_apdu.specs.Form.{Form, end, part, nothing_or, context, unsigned, Item, Value}
 
 -- an instance number: at most 4194303
 abbrev pub is_instance : Primitive → Bool
 is_instance (Unsigned n) = nat_le n 4194303
 is_instance value = false
 
--- No parameter at all, or:
--- [0] Unsigned, the lowest instance
--- [1] Unsigned, the highest instance
+-- no parameter at all, or both
 abbrev pub who_is : Form
 who_is = nothing_or
-    (part (context 0 2 is_instance)
-    (part (context 1 2 is_instance)
+    (part (context 0 unsigned is_instance)      -- device instance range, low limit
+    (part (context 1 unsigned is_instance)      -- and high limit
     end))
 
 abbrev pub limit_items : Option (ℕ × ℕ) → List Item

@@ -1,13 +1,13 @@
-//! I-Am.
+//! I-Am (clause 16.10).
 
 ghost use Rattle.std.specs.Prelude.{◌≡◌, List, ℕ, IfSome, IsSomeAnd};
 ghost use Rattle.std.specs.Result.{result_ok};
 ghost use Rattle.bac_wire.specs.Canon.{Writes};
 ghost use Rattle.bac_wire.specs.Reading.{Gives};
-ghost use Rattle.bac_apdu.specs.Form.{Item, form_at, Reads};
-ghost use Rattle.bac_apdu.specs.Frames.{GivesSome};
+ghost use Rattle.bac_apdu.specs.Adding.{Adds};
+ghost use Rattle.bac_apdu.specs.Form.{Item, form_at, Reads, canon_form};
 ghost use Rattle.bac_apdu.specs.IAm.{i_am, i_am_items, IsAnnouncement};
-ghost use Rattle.bac_apdu.specs.Written.{canon_form, Adds};
+ghost use Rattle.bac_apdu.specs.Octets.{GivesSome};
 
 use crate::adding::add_value;
 use crate::parts::Parts;

@@ -1,0 +1,78 @@
+//! Tags on one level: whole tags, and the tags that open and close a level (clause 20.2.1.3.2).
+
+ghost use Rattle.std.specs.Prelude.{◌≡◌, ◌+◌, ◌-◌, ◌*◌, ◌/◌, ◌%◌, ◌^◌, ◌<◌, ◌≤◌, ◌&&◌, ℕ, List, [], ◌∷◌, ◌++◌, length, map, take, drop, slice_index_or, IfOk, IsOkAnd, Ok, Err, IsTrue, true};
+ghost use Rattle.bac_wire.specs.Reading.{Gives};
+ghost use Rattle.bac_wire.specs.Spelling.{IsTag};
+ghost use Rattle.bac_wire.specs.Level.{token_at, close_at, IsLevel, EndsAt};
+
+use crate::fault::WireFault;
+use crate::tag::{length_of, number_of, octet_of, octets_of};
+
+/// A whole tag with its contents, or one that opens or closes a level.
+#[derive(Clone, Copy, Debug)]
+pub(crate) enum Token {
+    Whole,
+    Open,
+    Close(u8),
+}
+
+#[tactic(auto, unfolding(crate::specs::Level::token_at))]
+fn token_of(bytes: &[u8]) -> Result<(Token, &[u8]), WireFault>
+    ensures { Gives (λ x. (x.0, x.1.now)) result (token_at bytes.now) }
+{
+    let (first, rest) = octet_of(bytes)?;
+    let context = first / 8 % 2 == 1;
+    if !context && first % 8 > 5 {
+        return Err(WireFault::BadTag);
+    }
+    let (tag, rest) = number_of(first, rest)?;
+    if first % 8 == 6 {
+        return Ok((Token::Open, rest));
+    }
+    if first % 8 == 7 {
+        return Ok((Token::Close(tag), rest));
+    }
+    if !context && tag == 1 {
+        return Ok((Token::Whole, rest));
+    }
+    let (len, rest) = length_of(first % 8, rest)?;
+    let (_, rest) = octets_of(len, rest)?;
+    Ok((Token::Whole, rest))
+}
+
+/// How many octets stand before the closing tag that ends this level.
+pub fn octets_to_close(bytes: &[u8], wanted: u8) -> Result<usize, WireFault>
+    // Before it stand whole tags, each level that they open closed.
+    ensures found { IfOk result (EndsAt wanted bytes.now) }
+    // Where such tags stand before it, it is found.
+    ensures only { (inside close after : List ℕ) → IsLevel inside → IsTag 8 wanted 7 close → bytes.now ≡ inside ++ (close ++ after) → IsOkAnd result (λ n. n ≡ length inside) }
+    // Which fault it is.
+    ensures exact { Gives (λ n. drop n bytes.now) result (close_at (length bytes.now + 1) 0 wanted bytes.now) }
+{
+    count_to_close(bytes, wanted)
+}
+
+fn count_to_close(bytes: &[u8], wanted: u8) -> Result<usize, WireFault>
+    ensures within { IfOk result (λ n. n ≤ length bytes.now) }
+    ensures exact { Gives (λ n. drop n bytes.now) result (close_at (length bytes.now + 1) 0 wanted bytes.now) }
+{
+    let mut at: usize = 0;
+    let mut depth: usize = 0;
+    loop {
+        let (token, after) = token_of(&bytes[at..])?;
+        match token {
+            Token::Whole => {}
+            Token::Open => depth += 1,
+            Token::Close(number) => {
+                if depth == 0 {
+                    if number == wanted {
+                        return Ok(at);
+                    }
+                    return Err(WireFault::BadTag);
+                }
+                depth -= 1;
+            }
+        }
+        at = bytes.len() - after.len();
+    }
+}
