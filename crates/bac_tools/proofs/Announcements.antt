@@ -4,10 +4,11 @@ use Rattle.std.specs.Int.{w16, w32, w64, to_be_bytes}
 use Rattle.std.specs.Result.{IsOk}
 use Rattle.bac_wire.specs.Primitive.{Primitive, Id, Unsigned, Enumerated, Object}
 use Rattle.bac_wire.specs.Canon.{Writes, shortened, without_needless, is_zero, unsigned_octets, tag_octets, length_octets, head_octets, tagged}
-use Rattle.bac_apdu.specs.Framed.{frame_text, place_text, header_text, message_text}
-use Rattle.bac_apdu.specs.Frames.{Unconfirmed}
+use Rattle.bac_apdu.specs.Adding.{value_text}
+use Rattle.bac_apdu.specs.Form.{canon_form}
+use Rattle.bac_apdu.specs.Frame.{frame_text}
 use Rattle.bac_apdu.specs.IAm.{i_am, i_am_items}
-use Rattle.bac_apdu.specs.Written.{canon_form, value_text}
+use Rattle.bac_apdu.specs.Npdu.{place_text, header_text}
 use Rattle.bac_apdu.specs.declared.i_am.IAm.{IAm}
 use Rattle.bac_tools.specs.Device.{plain}
 

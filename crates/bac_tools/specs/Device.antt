@@ -3,12 +3,13 @@ use Rattle.std.specs.Prelude.{◌≡◌, ℕ, ◌==◌, ◌||◌, ◌&&◌, not,
 use Rattle.std.specs.List.{list_any}
 use Rattle.std.specs.Result.{result_ok}
 use Rattle.bac_wire.specs.Primitive.{Unsigned}
-use Rattle.bac_apdu.specs.Form.{Item, Value, form_at}
-use Rattle.bac_apdu.specs.Frames.{◌>>=◌, Frame, Unicast, Broadcast, Header, Place, Message, Unconfirmed, frame_at, header_at, apdu_at}
-use Rattle.bac_apdu.specs.Framed.{frame_text, header_text, message_text}
+use Rattle.bac_apdu.specs.Apdu.{Message, Unconfirmed, apdu_at, message_text}
+use Rattle.bac_apdu.specs.Form.{Item, Value, canon_form, form_at}
+use Rattle.bac_apdu.specs.Frame.{Frame, Unicast, Broadcast, frame_at, frame_text}
 use Rattle.bac_apdu.specs.IAm.{i_am, i_am_items}
+use Rattle.bac_apdu.specs.Npdu.{Header, Place, header_at, header_text}
+use Rattle.bac_apdu.specs.Octets.{◌>>=◌}
 use Rattle.bac_apdu.specs.WhoIs.{who_is}
-use Rattle.bac_apdu.specs.Written.{canon_form}
 use Rattle.bac_apdu.specs.declared.i_am.IAm.{IAm}
 use Rattle.bac_tools.specs.declared.device.BuildFault.{BuildFault}
 use Rattle.bac_tools.specs.declared.device.BuildFault.TheVariants.{BadInstance, BadName, BadReplySize, Memory}

@@ -3,6 +3,7 @@ pub mod Words
 pub mod Number
 pub mod Hexadecimal
 pub mod Output
+pub mod Stamp
 pub mod Device
 pub mod Fault
 pub mod Session

@@ -2,10 +2,11 @@
 use Rattle.std.specs.Prelude.{◌≡◌, ℕ, ◌^◌, ◌==◌, ◌||◌, if◌then◌else◌, List, [], ◌∷◌, ◌++◌, length, slice_index, codes, Option, None, Some, Result, Ok, Err}
 use Rattle.std.specs.Str.{bytes_eq}
 use Rattle.hex.specs.Hex.{encode_lower}
-use Rattle.bac_apdu.specs.Frames.{◌>>=◌}
+use Rattle.bac_apdu.specs.Octets.{◌>>=◌}
 use Rattle.bac_tools.specs.Device.{answer, fault_of}
 use Rattle.bac_tools.specs.Hexadecimal.{octets_in}
 use Rattle.bac_tools.specs.Number.{number_in, below}
+use Rattle.bac_tools.specs.Stamp.{stamp_in}
 use Rattle.bac_tools.specs.Words.{words_of, text_in}
 use Rattle.bac_tools.specs.declared.device.BuildFault.{BuildFault}
 use Rattle.bac_tools.specs.declared.device.DeviceLine.{DeviceLine}
@@ -21,19 +22,20 @@ Step = Result (List ℕ × Session) LineFault
 
 -- ---- a line `device`
 
--- what the words behind `device` say: INSTANCE NAME VENDOR REPLY
+-- what the words behind `device` say: INSTANCE NAME VENDOR REPLY STAMP
 unfoldable pub device_line : List (List ℕ) → Option DeviceLine
-device_line (instance ∷ name ∷ vendor ∷ reply ∷ []) = do
+device_line (instance ∷ name ∷ vendor ∷ reply ∷ clock ∷ []) = do
   instance ← below (2 ^ 32) (number_in instance)
   name ← text_in name
   vendor ← below (2 ^ 16) (number_in vendor)
   reply ← below (2 ^ 16) (number_in reply)
-  Some (record { instance = instance; name = name; vendor = vendor; reply_size = reply })
+  clock ← stamp_in clock
+  Some (record { instance = instance; name = name; vendor = vendor; reply_size = reply; clock = clock })
 device_line words = None
 
 -- what the code reads, apart from where the name lies
 abbrev pub line_of : Line → DeviceLine
-line_of line = record { instance = line.instance; name = line.name.now; vendor = line.vendor; reply_size = line.reply_size }
+line_of line = record { instance = line.instance; name = line.name.now; vendor = line.vendor; reply_size = line.reply_size; clock = line.clock }
 
 -- it stands once, and before the first event
 abbrev pub on_device : Session → Option DeviceLine → Step

@@ -3,14 +3,14 @@
 ghost use Rattle.std.specs.Prelude.{◌≡◌, None, IfOk, IfErr};
 ghost use Rattle.std.specs.List.{list_any};
 ghost use Rattle.std.specs.Option.{option_copied};
-ghost use Rattle.bac_apdu.specs.Frames.{GivesSome};
-ghost use Rattle.bac_apdu.specs.Shown.{header_of};
+ghost use Rattle.bac_apdu.specs.Octets.{GivesSome};
+ghost use Rattle.bac_apdu.specs.Npdu.{header_of};
 ghost use Rattle.bac_apdu.specs.WhoIs.{who_is_items};
 ghost use Rattle.bac_tools.specs.Device.{is_control, is_name, fault_of, Refuses, npdu_at, is_heard, heard_at, who_is_at, asks_for, announcement, reply, answer};
 
 use crate::name::Name;
 use bac_apdu::{Apdu, Frame, IAm, Npdu, WhoIs, read_apdu, read_frame, read_npdu, write_apdu, write_datagram};
-use bac_wire::{Datagram, ObjectId};
+use bac_wire::{Datagram, ObjectId, Stamp};
 use std::alloc::{AllocError, Global};
 use std::marker::Model;
 use thiserror::Error;
@@ -25,6 +25,8 @@ pub(crate) struct DeviceLine {
     pub(crate) vendor: u16,
     /// The greatest number of octets of an APDU that it takes and sends.
     pub(crate) reply_size: u16,
+    /// Where its clock begins.
+    pub(crate) clock: Stamp,
 }
 
 /// The header of an answer: no destination, no source, no reply expected, normal priority.
@@ -111,6 +113,7 @@ impl DeviceLine {
             name: self.name.copy(alloc)?,
             vendor: self.vendor,
             reply_size: self.reply_size,
+            clock: self.clock,
         })
     }
 }

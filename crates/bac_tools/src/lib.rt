@@ -11,6 +11,7 @@ mod number;
 mod output;
 mod replay;
 mod session;
+mod stamp;
 mod words;
 
 pub use device::BuildFault;

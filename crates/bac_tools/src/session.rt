@@ -2,7 +2,7 @@
 
 ghost use Rattle.std.specs.Prelude.{◌≡◌, None, Some, IfOk, OnOk, IfErr};
 ghost use Rattle.std.specs.Option.{option_copied};
-ghost use Rattle.bac_apdu.specs.Frames.{GivesSome};
+ghost use Rattle.bac_apdu.specs.Octets.{GivesSome};
 ghost use Rattle.bac_tools.specs.Device.{Refuses};
 ghost use Rattle.bac_tools.specs.Session.{Meets, answer_text, answered, device_line, end_fault, on_device, on_octets, on_rx, line_of, step};
 ghost use Rattle.bac_tools.specs.Words.{words_of};
@@ -13,8 +13,9 @@ use crate::fault::LineFault;
 use crate::hexadecimal::{octets_in, push_digits};
 use crate::name::Name;
 use crate::number::{u16_in, u32_in};
+use crate::stamp::stamp_in;
 use crate::words::{last_word, split_word, text_in};
-use bac_wire::Datagram;
+use bac_wire::{Datagram, Stamp};
 use std::alloc::{AllocError, Global};
 
 /// What the lines so far have made.
@@ -35,6 +36,7 @@ struct Line<'a> {
     name: &'a str,
     vendor: u16,
     reply_size: u16,
+    clock: Stamp,
 }
 
 /// What the words behind `device` say.
@@ -45,12 +47,14 @@ fn device_line(words: &[u8]) -> Option<Line>
     let (instance, rest) = split_word(words)?;
     let (name, rest) = split_word(rest)?;
     let (vendor, rest) = split_word(rest)?;
-    let reply_size = last_word(rest)?;
+    let (reply_size, rest) = split_word(rest)?;
+    let clock = last_word(rest)?;
     Some(Line {
         instance: u32_in(instance)?,
         name: text_in(name)?,
         vendor: u16_in(vendor)?,
         reply_size: u16_in(reply_size)?,
+        clock: stamp_in(clock)?,
     })
 }
 
@@ -98,6 +102,7 @@ impl Session {
                     name: Name::of(name),
                     vendor: line.vendor,
                     reply_size: line.reply_size,
+                    clock: line.clock,
                 });
                 Ok(Vec::new(alloc))
             }
