@@ -1,6 +1,7 @@
 -- The range of ReadRange (clauses 15.8 and 21): its parameters, and what an extent shows of its fields.
 use Rattle.std.specs.Prelude.{ℕ, ℤ, pos, negsuc, ◌^◌, ◌<◌, ◌≡◌, ◌&&◌, nat_lt, nat_le, Bool, true, false, List, [], ◌∷◌}
 use Rattle.bac_wire.specs.Primitive.{Primitive, Unsigned, Signed, Date, Time}
+use Rattle.bac_wire.specs.Stamp.{date_octets, time_octets}
 use Rattle.bac_apdu.specs.declared.extent.Extent.{Extent}
 use Rattle.bac_apdu.specs.declared.extent.Extent.TheVariants.{All, ByPosition, ByNumber, ByTime}
 use Rattle.bac_apdu.specs.Form.{Form, end, part, option, application, opening, closing, is_u32, unsigned, signed, date, time, Item, Value, Mark}
@@ -59,11 +60,11 @@ abbrev pub extent_items : Extent → List Item
 extent_items All = []
 extent_items (ByPosition reference count) = Mark 3 ∷ Value (Unsigned reference) ∷ Value (Signed count) ∷ Mark 3 ∷ []
 extent_items (ByNumber reference count) = Mark 6 ∷ Value (Unsigned reference) ∷ Value (Signed count) ∷ Mark 6 ∷ []
-extent_items (ByTime date time count) = Mark 7 ∷ Value (Date date.octets) ∷ Value (Time time.octets) ∷ Value (Signed count) ∷ Mark 7 ∷ []
+extent_items (ByTime date time count) = Mark 7 ∷ Value (Date (date_octets date)) ∷ Value (Time (time_octets time)) ∷ Value (Signed count) ∷ Mark 7 ∷ []
 
 -- each number in its range
 abbrev pub IsExtent : Extent → Type 0
 IsExtent All = Unit {0}
 IsExtent (ByPosition reference count) = (reference < 2 ^ 32) × (is_count (Signed count) ≡ true)
 IsExtent (ByNumber reference count) = (reference < 2 ^ 32) × (is_count (Signed count) ≡ true)
-IsExtent (ByTime date time count) = (date_fits date.octets ≡ true) × (time_fits time.octets ≡ true) × (is_count (Signed count) ≡ true)
+IsExtent (ByTime date time count) = (date_fits (date_octets date) ≡ true) × (time_fits (time_octets time) ≡ true) × (is_count (Signed count) ≡ true)

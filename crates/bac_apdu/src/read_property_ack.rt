@@ -4,7 +4,7 @@ ghost use Rattle.std.specs.Prelude.{◌≡◌, List, ℕ, IfSome, IsSomeAnd};
 ghost use Rattle.std.specs.Result.{result_ok};
 ghost use Rattle.bac_wire.specs.Canon.{Writes};
 ghost use Rattle.bac_wire.specs.Reading.{Gives};
-ghost use Rattle.bac_wire.specs.Spelling.{IsLevel};
+ghost use Rattle.bac_wire.specs.Level.{IsLevel};
 ghost use Rattle.bac_apdu.specs.Adding.{Adds};
 ghost use Rattle.bac_apdu.specs.Form.{Item, form_at, Reads, canon_form};
 ghost use Rattle.bac_apdu.specs.Octets.{GivesSome};
@@ -93,6 +93,12 @@ impl<'a> ReadPropertyAck<'a> {
     /// What is written is read back.
     pub fn canon_is_read()
         ensures { (a : ReadPropertyAck) → IsProperty a.object a.property a.index → IsLevel a.values.now → Reads read_property_ack (canon_form read_property_ack (property_ack_items a)) (property_ack_items a) }
+    {
+    }
+
+    /// Two different answers never show the same parameters.
+    pub fn items_tell_fields()
+        ensures { (a b : ReadPropertyAck) → property_ack_items a ≡ property_ack_items b → (a.object ≡ b.object) × (a.property ≡ b.property) × (a.index ≡ b.index) × (a.values.now ≡ b.values.now) }
     {
     }
 }
