@@ -1,5 +1,7 @@
 //! Tags, primitive values and stamps.
 
+ghost use Rattle.bac_wire.specs.View.{IsWellFormed};
+
 use bac_wire::{
     Datagram, Date4, Full, ObjectId, Stamp, Time4, Value, WireFault, as_bits, as_boolean,
     as_enumerated, as_object, as_signed, as_unsigned, octets_to_close, read_close, read_context,
@@ -7,83 +9,114 @@ use bac_wire::{
     write_value,
 };
 use jiff::civil::DateTime;
+use std::alloc::AllocError;
 use std::cmp::Ordering;
 use std::test::Fail;
 
-// Octets, the value that they spell, and how it is written. The first thirteen are the examples of
+/// How many octets spell the value at the front, and what it is.
+fn shown(rt: &HostRuntime, octets: &[u8]) -> Result<String, AllocError> {
+    match read_value(octets) {
+        Ok((value, used)) => format!(in rt.alloc(); "{used} {value:?}"),
+        Err(fault) => format!(in rt.alloc(); "{fault:?}"),
+    }
+}
+
+fn fault_of(octets: &[u8]) -> Option<WireFault> {
+    match read_value(octets) {
+        Ok(_) => None,
+        Err(fault) => Some(fault),
+    }
+}
+
+/// Whether the value at the front is written so.
+fn is_written_as(octets: &[u8], text: &[u8]) -> bool {
+    match read_value(octets) {
+        Ok((value, _)) => match written(&value) {
+            Some(out) => out.octets() == text,
+            None => false,
+        },
+        Err(_) => false,
+    }
+}
+
+fn written(value: &Value) -> Option<Datagram>
+    requires { IsWellFormed value.now }
+{
+    let mut out = Datagram::new();
+    write_value(&mut out, value).ok()?;
+    Some(out)
+}
+
+// Octets, how many of them spell which value, and how it is written. The first thirteen are the examples of
 // clause 20.2.
 #[test]
 fn values(rt: HostRuntime) -> Result<(), Fail> {
     let rows: [(&[u8], &str, &[u8]); 20] = [
-        (&[0x00], "Null", &[0x00]),
-        (&[0x10], "Boolean(false)", &[0x10]),
-        (&[0x21, 72], "Unsigned(72)", &[0x21, 72]),
-        (&[0x31, 72], "Signed(72)", &[0x31, 72]),
+        (&[0x00], "1 Null", &[0x00]),
+        (&[0x10], "1 Boolean(false)", &[0x10]),
+        (&[0x21, 72], "2 Unsigned(72)", &[0x21, 72]),
+        (&[0x31, 72], "2 Signed(72)", &[0x31, 72]),
         (
             &[0x44, 0x42, 0x90, 0, 0],
-            "Real4([66, 144, 0, 0])",
+            "5 Real4([66, 144, 0, 0])",
             &[0x44, 0x42, 0x90, 0, 0],
         ),
         (
             &[0x55, 8, 0x40, 0x52, 0, 0, 0, 0, 0, 0],
-            "Double8([64, 82, 0, 0, 0, 0, 0, 0])",
+            "10 Double8([64, 82, 0, 0, 0, 0, 0, 0])",
             &[0x55, 8, 0x40, 0x52, 0, 0, 0, 0, 0, 0],
         ),
         (
             &[0x63, 0x12, 0x34, 0xff],
-            "Octets([18, 52, 255])",
+            "4 Octets([18, 52, 255])",
             &[0x63, 0x12, 0x34, 0xff],
         ),
         (
             &[0x74, 0, b'a', b'b', b'c'],
-            "Chars { set: 0, octets: [97, 98, 99] }",
+            "5 Chars { set: 0, octets: [97, 98, 99] }",
             &[0x74, 0, b'a', b'b', b'c'],
         ),
         (
             &[0x82, 3, 0b1010_1000],
-            "Bits { unused: 3, octets: [168] }",
+            "3 Bits { unused: 3, octets: [168] }",
             &[0x82, 3, 0b1010_1000],
         ),
-        (&[0x91, 0], "Enumerated(0)", &[0x91, 0]),
+        (&[0x91, 0], "2 Enumerated(0)", &[0x91, 0]),
         // 24 January 1991, a Thursday
         (
             &[0xa4, 91, 1, 24, 4],
-            "Date(Date4 { year: 91, month: 1, day: 24, weekday: 4 })",
+            "5 Date(Date4 { year: 91, month: 1, day: 24, weekday: 4 })",
             &[0xa4, 91, 1, 24, 4],
         ),
         // 17:35:45.17
         (
             &[0xb4, 17, 35, 45, 17],
-            "Time(Time4 { hour: 17, minute: 35, second: 45, hundredth: 17 })",
+            "5 Time(Time4 { hour: 17, minute: 35, second: 45, hundredth: 17 })",
             &[0xb4, 17, 35, 45, 17],
         ),
         // Binary Input, 15
         (
             &[0xc4, 0x00, 0xc0, 0x00, 0x0f],
-            "Object(ObjectId { kind: 3, instance: 15 })",
+            "5 Object(ObjectId { kind: 3, instance: 15 })",
             &[0xc4, 0x00, 0xc0, 0x00, 0x0f],
         ),
         // longer than it needs to be: the length, leading octets, the tag number
-        (&[0x25, 2, 0, 5], "Unsigned(5)", &[0x21, 5]),
-        (&[0x32, 0xff, 0x80], "Signed(-128)", &[0x31, 0x80]),
-        (&[0x95, 5, 0, 0, 0, 0, 1], "Enumerated(1)", &[0x91, 1]),
-        (&[0xf1, 1], "Boolean(true)", &[0x11]),
-        (&[0xf2, 2, 0, 7], "Unsigned(7)", &[0x21, 7]),
+        (&[0x25, 2, 0, 5], "4 Unsigned(5)", &[0x21, 5]),
+        (&[0x32, 0xff, 0x80], "3 Signed(-128)", &[0x31, 0x80]),
+        (&[0x95, 5, 0, 0, 0, 0, 1], "7 Enumerated(1)", &[0x91, 1]),
+        (&[0xf1, 1], "2 Boolean(true)", &[0x11]),
+        (&[0xf2, 2, 0, 7], "4 Unsigned(7)", &[0x21, 7]),
         // the three bits 000, whatever stands in the unused ones
         (
             &[0x82, 5, 0b0000_0111],
-            "Bits { unused: 5, octets: [7] }",
+            "3 Bits { unused: 5, octets: [7] }",
             &[0x82, 5, 0],
         ),
-        (&[0x81, 0], "Bits { unused: 0, octets: [] }", &[0x81, 0]),
+        (&[0x81, 0], "2 Bits { unused: 0, octets: [] }", &[0x81, 0]),
     ];
     for (octets, text, written) in rows {
-        let (value, used) = read_value(octets).ok().ok_or("not read")?;
-        assert_eq!(rt; used, octets.len(), "of {text}");
-        assert_eq!(rt; format!(in rt.alloc(); "{value:?}")?.as_str(), text);
-        let mut out = Datagram::new();
-        write_value(&mut out, &value).ok().ok_or("not written")?;
-        assert_eq!(rt; out.octets(), written, "of {text}");
+        assert_eq!(rt; shown(&rt, octets)?.as_str(), text);
+        assert!(rt; is_written_as(octets, written), "of {octets:?}");
     }
     Ok(())
 }
@@ -117,37 +150,27 @@ fn no_values(rt: HostRuntime) {
         (&[0x81, 1], WireFault::BadContents),
     ];
     for (octets, fault) in rows {
-        assert_eq!(rt; read_value(octets).err(), Some(fault), "of {octets:?}");
+        assert_eq!(rt; fault_of(octets), Some(fault), "of {octets:?}");
     }
 }
 
 #[test]
 fn shortest(rt: HostRuntime) -> Result<(), Fail> {
-    let rows: [(Value, &[u8]); 5] = [
-        (Value::Unsigned(0), &[0x21, 0]),
-        (Value::Unsigned(256), &[0x22, 1, 0]),
-        (Value::Signed(128), &[0x32, 0, 0x80]),
-        (Value::Signed(-129), &[0x32, 0xff, 0x7f]),
-        (Value::Boolean(true), &[0x11]),
-    ];
-    for (value, written) in rows {
-        let mut out = Datagram::new();
-        write_value(&mut out, &value).ok().ok_or("not written")?;
-        assert_eq!(rt; out.octets(), written);
-    }
+    let zero = written(&Value::Unsigned(0)).ok_or("0")?;
+    assert_eq!(rt; zero.octets(), [0x21, 0].as_slice());
+    let unsigned = written(&Value::Unsigned(256)).ok_or("256")?;
+    assert_eq!(rt; unsigned.octets(), [0x22, 1, 0].as_slice());
+    let signed = written(&Value::Signed(128)).ok_or("128")?;
+    assert_eq!(rt; signed.octets(), [0x32, 0, 0x80].as_slice());
+    let negative = written(&Value::Signed(-129)).ok_or("-129")?;
+    assert_eq!(rt; negative.octets(), [0x32, 0xff, 0x7f].as_slice());
     let octets = [7; 254];
-    let mut out = Datagram::new();
-    write_value(&mut out, &Value::Octets(&octets[..253]))
-        .ok()
-        .ok_or("not written")?;
-    assert_eq!(rt; out.octets().len(), 255);
-    assert_eq!(rt; &out.octets()[..3], [0x65, 253, 7].as_slice());
-    let mut out = Datagram::new();
-    write_value(&mut out, &Value::Octets(&octets))
-        .ok()
-        .ok_or("not written")?;
-    assert_eq!(rt; out.octets().len(), 258);
-    assert_eq!(rt; &out.octets()[..5], [0x65, 254, 0, 254, 7].as_slice());
+    let shorter = written(&Value::Octets(&octets[..253])).ok_or("253 octets")?;
+    assert_eq!(rt; shorter.octets().len(), 255);
+    assert_eq!(rt; &shorter.octets()[..3], [0x65, 253, 7].as_slice());
+    let longer = written(&Value::Octets(&octets)).ok_or("254 octets")?;
+    assert_eq!(rt; longer.octets().len(), 258);
+    assert_eq!(rt; &longer.octets()[..5], [0x65, 254, 0, 254, 7].as_slice());
     Ok(())
 }
 
@@ -254,12 +277,12 @@ fn full(rt: HostRuntime) -> Result<(), Fail> {
 }
 
 #[test]
-fn object_identifiers(rt: HostRuntime) {
-    let last = ObjectId::new(1023, 4194303);
-    assert_eq!(rt; last.map(|id| id.kind()), Some(1023));
-    assert_eq!(rt; last.map(|id| id.instance()), Some(4194303));
+fn object_identifiers(rt: HostRuntime) -> Result<(), Fail> {
+    let last = ObjectId::new(1023, 4194303).ok_or("in range")?;
+    assert_eq!(rt; (last.kind(), last.instance()), (1023, 4194303));
     assert_eq!(rt; ObjectId::new(1024, 0), None);
     assert_eq!(rt; ObjectId::new(0, 4194304), None);
+    Ok(())
 }
 
 #[test]
