@@ -8,7 +8,6 @@ use bac_apdu::{
 use bac_wire::{Datagram, Date4, ObjectId, Time4, Value};
 use std::test::Fail;
 
-
 fn object(kind: u16, instance: u32) -> Result<ObjectId, Fail> {
     match ObjectId::new(kind, instance) {
         Some(object) => Ok(object),
@@ -169,7 +168,7 @@ fn other_frames(rt: HostRuntime) -> Result<(), Fail> {
         hops: 0,
     };
     assert_eq!(rt; npdu, routed);
-    assert_eq!(rt; apdu, &[0x10, 8]);
+    assert_eq!(rt; apdu, [0x10, 8].as_slice());
     Ok(())
 }
 
@@ -225,7 +224,7 @@ fn request_by_number(rt: HostRuntime) -> Result<(), Fail> {
     };
     let mut datagram = Datagram::new();
     write_datagram(&mut datagram, &npdu, apdu.octets()).ok().ok_or("full")?;
-    assert_eq!(rt; datagram.octets(), &octets);
+    assert_eq!(rt; datagram.octets(), octets.as_slice());
     Ok(())
 }
 
@@ -268,7 +267,7 @@ fn property_rows(rt: HostRuntime) -> Result<(), Fail> {
     assert_eq!(rt; request, wanted);
     let mut written = Datagram::new();
     wanted.write(&mut written).ok().ok_or("full")?;
-    assert_eq!(rt; written.octets(), &name);
+    assert_eq!(rt; written.octets(), name.as_slice());
     // Object_Identifier of it, with its value
     let octets: [u8; 14] = [
         0x0c, 2, 0, 0, 123, 0x19, 75, 0x3e, 0xc4, 2, 0, 0, 123, 0x3f,
@@ -282,7 +281,7 @@ fn property_rows(rt: HostRuntime) -> Result<(), Fail> {
     assert_eq!(rt; ReadPropertyAck::read(&octets), Some(ack));
     let mut written = Datagram::new();
     ack.write(&mut written).ok().ok_or("full")?;
-    assert_eq!(rt; written.octets(), &octets);
+    assert_eq!(rt; written.octets(), octets.as_slice());
     assert!(rt; ReadPropertyAck::read(&octets[..13]).is_none());
     Ok(())
 }
@@ -310,16 +309,19 @@ fn write_row(rt: HostRuntime) -> Result<(), Fail> {
     };
     let mut written = Datagram::new();
     active.write(&mut written).ok().ok_or("full")?;
-    assert_eq!(rt; written.octets(), &octets);
+    assert_eq!(rt; written.octets(), octets.as_slice());
     Ok(())
 }
 
 #[test]
 fn records_row(rt: HostRuntime) -> Result<(), Fail> {
     // one record, the first and the last of the log: 2024-05-06 07:08:09.10, Enumerated 0, flags 0000
-    let entry: [u8; 19] = [
-        0x0e, 0xa4, 124, 5, 6, 1, 0xb4, 7, 8, 9, 10, 0x0f, // its stamp
-        0x1e, 0x39, 0, 0x1f, 0x2a, 0x04, 0, // its datum and its flags
+    let octets: [u8; 35] = [
+        0x0c, 5, 0, 0, 1, 0x19, 131, // Log_Buffer of Trend Log 1
+        0x3a, 5, 0xc0, 0x49, 1, // first item and last item; one item
+        0x5e, 0x0e, 0xa4, 124, 5, 6, 1, 0xb4, 7, 8, 9, 10, 0x0f, // its stamp
+        0x1e, 0x39, 0, 0x1f, 0x2a, 0x04, 0, 0x5f, // its datum and its flags
+        0x69, 1, // its sequence number
     ];
     let ack = ReadRangeAck {
         object: object(20, 1)?,
@@ -327,17 +329,13 @@ fn records_row(rt: HostRuntime) -> Result<(), Fail> {
         index: None,
         flags: 0xc0,
         count: 1,
-        items: &entry,
+        items: &octets[13..32],
         first_number: Some(1),
     };
     let mut written = Datagram::new();
     ack.write(&mut written).ok().ok_or("full")?;
-    let (head, rest) = written.octets().split_at(13);
-    assert_eq!(rt; head, &[0x0c, 5, 0, 0, 1, 0x19, 131, 0x3a, 5, 0xc0, 0x49, 1, 0x5e]);
-    let (items, tail) = rest.split_at(19);
-    assert_eq!(rt; items, &entry);
-    assert_eq!(rt; tail, &[0x5f, 0x69, 1]);
-    assert_eq!(rt; ReadRangeAck::read(written.octets()), Some(ack));
+    assert_eq!(rt; written.octets(), octets.as_slice());
+    assert_eq!(rt; ReadRangeAck::read(&octets), Some(ack));
     Ok(())
 }
 
@@ -403,7 +401,7 @@ fn i_am_with_a_route(rt: HostRuntime) -> Result<(), Fail> {
     assert_eq!(rt; IAm::read(&octets[..10]), None);
     let mut parameters = Datagram::new();
     announcement.write(&mut parameters).ok().ok_or("full")?;
-    assert_eq!(rt; parameters.octets(), &octets);
+    assert_eq!(rt; parameters.octets(), octets.as_slice());
     let mut apdu = Datagram::new();
     let unconfirmed = Apdu::Unconfirmed {
         service: 0,
@@ -424,15 +422,17 @@ fn i_am_with_a_route(rt: HostRuntime) -> Result<(), Fail> {
     };
     let mut datagram = Datagram::new();
     write_datagram(&mut datagram, &npdu, apdu.octets()).ok().ok_or("full")?;
-    let (head, rest) = datagram.octets().split_at(13);
-    assert_eq!(rt; head, &[0x81, 0x0a, 0, 25, 0x01, 0x20, 0, 5, 1, 0x0a, 255, 0x10, 0]);
-    assert_eq!(rt; rest, &octets);
+    let whole: [u8; 25] = [
+        0x81, 0x0a, 0, 25, 0x01, 0x20, 0, 5, 1, 0x0a, 255, // frame, header and route
+        0x10, 0, 0xc4, 2, 0, 0, 123, 0x22, 0x05, 0xc4, 0x91, 3, 0x21, 0,
+    ];
+    assert_eq!(rt; datagram.octets(), whole.as_slice());
     // the limits of a Who-Is
     let mut limits = Datagram::new();
     let request = WhoIs {
         limits: Some((124, 200)),
     };
     request.write(&mut limits).ok().ok_or("full")?;
-    assert_eq!(rt; limits.octets(), &[0x09, 124, 0x19, 200]);
+    assert_eq!(rt; limits.octets(), [0x09, 124, 0x19, 200].as_slice());
     Ok(())
 }
