@@ -1,7 +1,8 @@
 -- The days since 1990 against the day numbers of jiff, which begin in 1970.
-use Rattle.std.proofs.Common.{◌≡◌, ℕ, zero, suc, ◌+◌, ◌-◌, ◌≤◌, ap, ◌∙◌, arith, ℤ, pos, neg_ℤ, ◌+ℤ◌, ◌≤ℤ◌}
+use Rattle.std.proofs.Common.{◌≡◌, ℕ, zero, suc, ◌+◌, ◌-◌, ◌≤◌, ap, ◌∙◌, arith, ℤ, pos, neg_ℤ, ◌+ℤ◌, ◌-ℤ◌, ◌≤ℤ◌, ◌<◌, w32, to_z, of_z}
 use Rattle.jiff_core.specs.Calendar.{days_in_year, day_count, days_from_civil, weekday_number}
 use Rattle.jiff_core.proofs.CalendarLemmas.{day_count-epoch, days_from_civil-day_count, day_count-next_year, day_count-next_month, day_count-day, weekday_number-parts}
+use Rattle.jiff_core.proofs.SignedLemmas.{back_small}
 use Rattle.jiff.proofs.SpanFacts.{signed_arith}
 use Rattle.bac_wire.specs.declared.stamp.Date4.{Date4}
 use Rattle.bac_wire.specs.Stamp.{date_of, Moment, IsMoment, days_of_years, days_of_months, day_number, weekday_of}
@@ -54,8 +55,22 @@ weekday_is m y k d is year month day =
     let d_is : d ≡ m.day = omega (arith, signed_arith) in
     rw year (rw k_is (rw d_is (weekday_number-day_number m is)))
 
+pub days_is : (m : Moment) (y : ℤ) (k d : ℕ) → IsMoment m → y ≡ pos m.year → pos k ≡ pos m.month → pos d ≡ pos m.day → days_from_civil y k d ≡ pos (7305 + day_number m)
+days_is m y k d is year month day =
+    let k_is : k ≡ m.month = omega (arith, signed_arith) in
+    let d_is : d ≡ m.day = omega (arith, signed_arith) in
+    rw year (rw k_is (rw d_is (omega (arith, signed_arith, days_from_civil-day_count (pos m.year) m.month m.day, day_count-day_number m is))))
+
 abbrev dated : Moment → ℕ → Date4
 dated m w = record { year = m.year - 1900; month = m.month; day = m.day; weekday = w }
 
 pub date_is : (m now : Moment) (w : ℕ) → m ≡ now → w ≡ weekday_of now → dated m w ≡ date_of now
 date_is m now w same_moment same_day = ap (λ x. dated x w) same_moment ∙ ap (λ x. dated now x) same_day
+
+-- what the code computes of jiff's day number
+pub since_1990 : (r : ℤ) (n : ℕ) → r ≡ pos (7305 + n) → n < 3000000 → to_z w32 (of_z w32 (to_z w32 (of_z w32 r) -ℤ pos 7305)) ≡ pos n
+since_1990 r n e lt =
+    let a : to_z w32 (of_z w32 (pos (7305 + n))) ≡ pos (7305 + n) = back_small w32 (pos (7305 + n)) (omega arith) in
+    let b : pos (7305 + n) -ℤ pos 7305 ≡ pos n = omega (arith, signed_arith) in
+    let d : to_z w32 (of_z w32 (pos n)) ≡ pos n = back_small w32 (pos n) (omega arith) in
+    rw e (rw a (rw b d))

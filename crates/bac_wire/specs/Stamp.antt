@@ -1,7 +1,8 @@
 -- Dates, times and moments of the calendar (clauses 20.2.12 and 20.2.13).
-use Rattle.std.specs.Prelude.{ℕ, zero, suc, pos, ◌+◌, ◌-◌, ◌%◌, ◌<◌, ◌≤◌, List, [], ◌∷◌}
+use Rattle.std.specs.Prelude.{ℕ, zero, suc, pos, unsigned_abs, ◌+◌, ◌-◌, ◌*◌, ◌/◌, ◌%◌, ◌<◌, ◌≤◌, List, [], ◌∷◌}
 use Rattle.std.specs.declared.cmp.Ordering.{Ordering}
 use Rattle.std.specs.Ordering.{nat_cmp, ordering_then}
+use Rattle.jiff_core.specs.declared.civil.datetime.DateTime.{DateTime}
 use Rattle.jiff.specs.Words.{IsDate, days_in_month, days_in_year}
 use Rattle.bac_wire.specs.declared.stamp.Date4.{Date4}
 use Rattle.bac_wire.specs.declared.stamp.Time4.{Time4}
@@ -67,6 +68,20 @@ day_number m = days_of_years (m.year - 1990) + days_of_months m.year (m.month - 
 -- Monday is 1 and Sunday 7, and 1990-01-01 was a Monday
 abbrev pub weekday_of : Moment → ℕ
 weekday_of m = 1 + day_number m % 7
+
+-- the hundredths of a second since 1990-01-01T00:00:00.00
+abbrev pub ticks_of : Moment → ℕ
+ticks_of m = (((day_number m * 24 + m.hour) * 60 + m.minute) * 60 + m.second) * 100 + m.hundredth
+
+-- the first part in which they differ decides
+abbrev pub moment_order : Moment → Moment → Ordering
+moment_order m n =
+    ordering_then (nat_cmp m.year n.year) (ordering_then (nat_cmp m.month n.month) (ordering_then (nat_cmp m.day n.day)
+    (ordering_then (nat_cmp m.hour n.hour) (ordering_then (nat_cmp m.minute n.minute) (ordering_then (nat_cmp m.second n.second) (nat_cmp m.hundredth n.hundredth))))))
+
+-- the moment that a date and a time of the calendar show, cut to hundredths
+abbrev pub moment_of : DateTime → Moment
+moment_of civil = moment (unsigned_abs civil.date.year) civil.date.month civil.date.day civil.time.hour civil.time.minute civil.time.second (civil.time.subsec_nanosecond / 10_000_000)
 
 -- ---- a moment's octets
 

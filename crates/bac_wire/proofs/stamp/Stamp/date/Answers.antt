@@ -1,13 +1,11 @@
-use Rattle.std.proofs.Common.{subst, arith}
+use Rattle.std.proofs.Common.{arith}
 use Rattle.jiff.proofs.SpanFacts.{signed_arith}
-use Rattle.bac_wire.specs.Stamp.{IsMoment}
 use Rattle.bac_wire.proofs.Calendar.{weekday_is, date_is}
 use Rattle.bac_wire.proofs.stamp.Stamp.date.Goals as goal
 
 pub returns-clause-value : goal.returns-clause-value
 returns-clause-value c =
-    let e = c.civil.ensures in
+    let e = c.civil.ensures.value in
     let d = c.civil.result in
-    let is = subst (λ m. IsMoment m) c.self.view_is c.self.invariant in
-    let weekday = weekday_is c.args.self.now d.year d.month d.day is e.0 e.1 e.2 in
+    let weekday = weekday_is c.args.self.now d.year d.month d.day c.civil.ensures.exists e.0 e.1 e.2 in
     date_is _ _ _ c.self.view_is (omega (arith, signed_arith, weekday, c.weekday.ensures, c.to_monday_one_offset.ensures.value))

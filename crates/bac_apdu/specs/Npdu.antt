@@ -1,0 +1,94 @@
+-- Network headers (clause 6.2): how they are read and written, with the routes to and from other networks.
+use Rattle.std.specs.Prelude.{ℕ, ◌+◌, ◌*◌, ◌%◌, ◌<◌, ◌≡◌, ◌==◌, Bool, true, false, List, [], ◌∷◌, ◌++◌, length, Option, Some, None, if◌then◌else◌}
+use Rattle.std.specs.Int.{w16, to_be_bytes, from_bool}
+use Rattle.bac_wire.specs.Number.{bit}
+use Rattle.bac_apdu.specs.declared.npdu.Npdu.{Npdu}
+use Rattle.bac_apdu.specs.declared.npdu.Far.{Far}
+use Rattle.bac_apdu.specs.Octets.{◌>>=◌, octet_at, word_at, octets_at}
+
+-- ---- headers, apart from where they lie in memory
+
+pub record Place : Type 0 where
+  pub net : ℕ
+  pub address : List ℕ
+
+pub record Header : Type 0 where
+  pub network : Bool
+  pub reply : Bool
+  pub priority : ℕ
+  pub dest : Option Place
+  pub source : Option Place
+  pub hops : ℕ
+
+abbrev pub place_of : Far → Place
+place_of far = record { net = far.net; address = far.address.now }
+
+abbrev pub maybe_place_of : Option Far → Option Place
+maybe_place_of None = None
+maybe_place_of (Some far) = Some (place_of far)
+
+abbrev pub header_of : Npdu → Header
+header_of n = record { network = n.network; reply = n.reply; priority = n.priority; dest = maybe_place_of n.dest; source = maybe_place_of n.source; hops = n.hops }
+
+-- ---- read
+
+-- the network in two octets, the length of the address, the address
+unfoldable pub place_at : List ℕ → Option (Place × List ℕ)
+place_at bytes = do
+  net ← word_at bytes
+  len ← octet_at net.1
+  address ← octets_at len.0 len.1
+  Some (record { net = net.0; address = address.0 }, address.1)
+
+unfoldable pub maybe_place_at : Bool → List ℕ → Option (Option Place × List ℕ)
+maybe_place_at there bytes = if there then (do
+  place ← place_at bytes
+  Some (Some place.0, place.1)) else Some (None, bytes)
+
+unfoldable pub hops_at : Bool → List ℕ → Option (ℕ × List ℕ)
+hops_at there bytes = if there then octet_at bytes else Some (0, bytes)
+
+-- 01, the control octet, the destination where bit 5 is set, the source where bit 3 is, and the hop count where there is a destination.
+-- Bit 7 says a network message, bit 2 that a reply is expected, bits 1 and 0 the priority.
+unfoldable pub header_at : List ℕ → Option (Header × List ℕ)
+header_at bytes = do
+  version ← octet_at bytes
+  if version.0 == 1 then (do
+    control ← octet_at version.1
+    dest ← maybe_place_at (bit control.0 5) control.1
+    source ← maybe_place_at (bit control.0 3) dest.1
+    hops ← hops_at (bit control.0 5) source.1
+    Some (record { network = bit control.0 7; reply = bit control.0 2; priority = control.0 % 4; dest = dest.0; source = source.0; hops = hops.0 }, hops.1)) else None
+
+-- ---- written
+
+abbrev pub is_there : Option Place → Bool
+is_there None = false
+is_there (Some place) = true
+
+unfoldable pub place_text : Option Place → List ℕ
+place_text None = []
+place_text (Some place) = to_be_bytes w16 place.net ++ length place.address ∷ place.address
+
+abbrev pub hops_text : Option Place → ℕ → List ℕ
+hops_text None hops = []
+hops_text (Some place) hops = hops ∷ []
+
+abbrev pub control_of : Header → ℕ
+control_of h = 128 * from_bool h.network + 32 * from_bool (is_there h.dest) + 8 * from_bool (is_there h.source) + 4 * from_bool h.reply + h.priority
+
+abbrev pub header_text : Header → List ℕ
+header_text h = (1 ∷ control_of h ∷ []) ++ (place_text h.dest ++ (place_text h.source ++ hops_text h.dest h.hops))
+
+-- ---- what can be written
+
+abbrev pub IsPlace : Option Place → Type 0
+IsPlace None = Unit {0}
+IsPlace (Some place) = (place.net < 65536) × (length place.address < 256)
+
+abbrev pub HasHops : Option Place → ℕ → Type 0
+HasHops None hops = hops ≡ 0
+HasHops (Some place) hops = Unit {0}
+
+abbrev pub IsHeader : Header → Type 0
+IsHeader h = (h.priority < 4) × IsPlace h.dest × IsPlace h.source × HasHops h.dest h.hops

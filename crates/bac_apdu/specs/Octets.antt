@@ -1,0 +1,26 @@
+-- Octets read from left to right, where nothing says why there is no reading.
+use Rattle.std.specs.Prelude.{ℕ, ◌+◌, ◌*◌, List, [], ◌∷◌, length, take, drop, nat_lt, Option, Some, None, ◌≡◌, if◌then◌else◌}
+
+infixl 10 ◌>>=◌
+abbrev pub ◌>>=◌ : {A B : Type 0} → Option A → (A → Option B) → Option B
+None >>= f = None
+(Some x) >>= f = f x
+
+-- What a function returned, seen by view, is what reading gives.
+abbrev pub GivesSome : {X Y : Type 0} → (X → Y) → Option X → Option Y → Type 0
+GivesSome view (Some x) read = read ≡ Some (view x)
+GivesSome view None read = read ≡ None
+
+abbrev pub octet_at : List ℕ → Option (ℕ × List ℕ)
+octet_at [] = None
+octet_at (b ∷ rest) = Some (b, rest)
+
+-- two octets, the high one first
+unfoldable pub word_at : List ℕ → Option (ℕ × List ℕ)
+word_at bytes = do
+  high ← octet_at bytes
+  low ← octet_at high.1
+  Some (high.0 * 256 + low.0, low.1)
+
+unfoldable pub octets_at : ℕ → List ℕ → Option (List ℕ × List ℕ)
+octets_at n bytes = if nat_lt (length bytes) n then None else Some (take n bytes, drop n bytes)

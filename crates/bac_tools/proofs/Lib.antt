@@ -1,0 +1,6 @@
+pub mod Octets
+pub mod Splits
+pub mod LineLemmas
+pub mod PlayLemmas
+pub mod EndLemmas
+pub mod Announcements
