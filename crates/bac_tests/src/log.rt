@@ -163,6 +163,14 @@ fn logs_are_refused_in_order(rt: HostRuntime) -> Result<(), Fail> {
     Ok(())
 }
 
+fn bits(count: u8, bits: u32) -> Datum {
+    Datum::Bits { count, bits }
+}
+
+fn failure(class: u32, code: u32) -> Datum {
+    Datum::Failure { class, code }
+}
+
 #[test]
 fn data_are_writable_and_loggable(rt: HostRuntime) {
     // datum, flags, writable, loggable
@@ -171,12 +179,7 @@ fn data_are_writable_and_loggable(rt: HostRuntime) {
         (Datum::LogStatus(0x10), None, false, false),
         (Datum::LogStatus(0x80), Some(0x00), true, false),
         (Datum::Boolean(true), Some(0x00), true, false),
-        (
-            Datum::Real4([0x41, 0xc8, 0x00, 0x00]),
-            Some(0x00),
-            true,
-            false,
-        ),
+        (Datum::Real4([0x41, 0xc8, 0, 0]), Some(0x00), true, false),
         (Datum::Enumerated(0xffff_ffff), Some(0xf0), true, true),
         (Datum::Enumerated(0), Some(0x08), false, false),
         (Datum::Enumerated(0), None, true, false),
@@ -186,71 +189,19 @@ fn data_are_writable_and_loggable(rt: HostRuntime) {
         (Datum::Signed(-0x8000_0001), Some(0x00), true, false),
         (Datum::Signed(0x7fff_ffff), Some(0x00), true, true),
         (Datum::Signed(0x8000_0000), Some(0x00), true, false),
-        (Datum::Bits { count: 0, bits: 0 }, None, true, false),
-        (
-            Datum::Bits {
-                count: 3,
-                bits: 0xe000_0000,
-            },
-            None,
-            true,
-            false,
-        ),
-        (
-            Datum::Bits {
-                count: 3,
-                bits: 0x1000_0000,
-            },
-            None,
-            false,
-            false,
-        ),
-        (
-            Datum::Bits {
-                count: 32,
-                bits: 0xffff_ffff,
-            },
-            None,
-            true,
-            false,
-        ),
-        (Datum::Bits { count: 33, bits: 0 }, None, false, false),
+        (bits(0, 0), None, true, false),
+        (bits(0, 0x8000_0000), None, false, false),
+        (bits(3, 0xe000_0000), None, true, false),
+        (bits(3, 0x1000_0000), None, false, false),
+        (bits(32, 0xffff_ffff), None, true, false),
+        (bits(33, 0), None, false, false),
         (Datum::LongBits(33), None, false, false),
         (Datum::Null, None, true, false),
-        (
-            Datum::Failure {
-                class: 255,
-                code: 255,
-            },
-            None,
-            true,
-            true,
-        ),
-        (
-            Datum::Failure {
-                class: 256,
-                code: 0,
-            },
-            None,
-            true,
-            false,
-        ),
-        (
-            Datum::Failure {
-                class: 0,
-                code: 256,
-            },
-            None,
-            true,
-            false,
-        ),
-        (
-            Datum::Failure { class: 1, code: 31 },
-            Some(0x00),
-            true,
-            false,
-        ),
-        (Datum::TimeChange([0x00; 4]), None, true, false),
+        (failure(255, 255), None, true, true),
+        (failure(256, 0), None, true, false),
+        (failure(0, 256), None, true, false),
+        (failure(1, 31), Some(0x00), true, false),
+        (Datum::TimeChange([0; 4]), None, true, false),
         (Datum::Any(5), None, false, false),
     ];
     for (datum, flags, writable, loggable) in rows {
