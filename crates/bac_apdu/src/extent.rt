@@ -14,7 +14,7 @@ use bac_wire::{Datagram, Date4, Full, Time4, Value};
 
 /// Which records are asked for. A count above 0 goes on from the reference, one below 0 ends
 /// there; it isn't 0.
-#[derive(Clone, Copy, Debug)]
+#[derive(Clone, Copy, Debug, PartialEq, Eq)]
 pub enum Extent {
     /// Every record.
     All,

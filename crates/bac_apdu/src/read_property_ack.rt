@@ -17,7 +17,7 @@ use crate::reason::Reason;
 use bac_wire::{Datagram, Full, ObjectId, Value, write_octets};
 
 /// The value of a property, as octets.
-#[derive(Clone, Copy, Debug)]
+#[derive(Clone, Copy, Debug, PartialEq, Eq)]
 pub struct ReadPropertyAck<'a> {
     pub object: ObjectId,
     pub property: u32,

@@ -40,21 +40,29 @@ moment_at text = do
   hundredth ← part_at 46 second.1
   Some (moment year.0 month.0 day.0 hour.0 minute.0 second.0 hundredth.0, hundredth.1)
 
--- the calendar has the day, in the years 1990 to 2154, and a clock shows the time
+-- nothing is left
+abbrev pub end_at : List ℕ → Option (Unit {0})
+end_at [] = Some tt
+end_at (b ∷ rest) = None
+
+-- the calendar has this day
+abbrev pub is_day : ℕ → ℕ → ℕ → Bool
+is_day year month day = nat_le 1 month && (nat_le month 12 && (nat_le 1 day && nat_le day (days_in_month (pos year) month)))
+
+-- a clock shows this time
+abbrev pub is_time : ℕ → ℕ → ℕ → ℕ → Bool
+is_time hour minute second hundredth = nat_lt hour 24 && (nat_lt minute 60 && (nat_lt second 60 && nat_lt hundredth 100))
+
+-- a day of the years 1990 to 2154, and a time
 unfoldable pub is_moment : Moment → Bool
-is_moment m =
-    nat_le 1990 m.year && nat_le m.year 2154 && nat_le 1 m.month && nat_le m.month 12 && nat_le 1 m.day && nat_le m.day (days_in_month (pos m.year) m.month)
-    && nat_lt m.hour 24 && nat_lt m.minute 60 && nat_lt m.second 60 && nat_lt m.hundredth 100
+is_moment m = nat_le 1990 m.year && (nat_le m.year 2154 && (is_day m.year m.month m.day && is_time m.hour m.minute m.second m.hundredth))
 
 abbrev pub checked : Moment → Option Moment
 checked m = if is_moment m then Some m else None
-
-abbrev pub whole : Moment × List ℕ → Option Moment
-whole (m, []) = checked m
-whole (m, b ∷ rest) = None
 
 -- a moment, and nothing behind it
 unfoldable pub stamp_in : List ℕ → Option Moment
 stamp_in word = do
   read ← moment_at word
-  whole read
+  end ← end_at read.1
+  checked read.0

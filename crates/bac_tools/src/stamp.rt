@@ -2,7 +2,7 @@
 
 ghost use Rattle.std.specs.Prelude.{◌≡◌, ◌<◌, IfSome};
 ghost use Rattle.bac_apdu.specs.Octets.{GivesSome};
-ghost use Rattle.bac_tools.specs.Stamp.{digit_in, pair_at, year_at, part_at, stamp_in, checked};
+ghost use Rattle.bac_tools.specs.Stamp.{digit_in, pair_at, year_at, part_at, end_at, stamp_in, checked};
 ghost use Rattle.bac_wire.specs.Stamp.{moment};
 
 use bac_wire::Stamp;
@@ -55,6 +55,16 @@ fn part_at(text: &[u8], mark: u8) -> Option<(u8, &[u8])>
     }
 }
 
+/// Nothing is left.
+fn end_at(text: &[u8]) -> Option<()>
+    ensures { GivesSome (λ _. tt) result (end_at text.now) }
+{
+    match text {
+        [] => Some(()),
+        [_, ..] => None,
+    }
+}
+
 /// The moment of these parts, where the calendar has it.
 fn stamp_of(
     year: u16,
@@ -82,8 +92,6 @@ pub(crate) fn stamp_in(word: &[u8]) -> Option<Stamp>
     let (minute, rest) = part_at(rest, b':')?;
     let (second, rest) = part_at(rest, b':')?;
     let (hundredth, rest) = part_at(rest, b'.')?;
-    if !rest.is_empty() {
-        return None;
-    }
+    end_at(rest)?;
     stamp_of(year, month, day, hour, minute, second, hundredth)
 }

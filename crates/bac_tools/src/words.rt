@@ -31,10 +31,13 @@ pub(crate) fn last_word(line: &[u8]) -> Option<&[u8]>
     }
 }
 
-/// A word as a text, where its octets are UTF-8.
+/// A word as a text, where it has an octet and its octets are UTF-8.
 pub(crate) fn text_in(word: &[u8]) -> Option<&str>
     ensures { GivesSome (λ text. text.now) result (text_in word.now) }
 {
+    if word.is_empty() {
+        return None;
+    }
     match str::from_utf8(word) {
         Ok(text) => Some(text),
         Err(_) => None,
