@@ -47,8 +47,8 @@ fn written(value: &Value) -> Option<Datagram>
     Some(out)
 }
 
-// Octets, how many of them spell which value, and how it is written. The first thirteen are the examples of
-// clause 20.2.
+// Octets, how many of them spell which value, and how it is written. The first thirteen are of the
+// forms that clause 20.2 gives examples of.
 #[test]
 fn values(rt: HostRuntime) -> Result<(), Fail> {
     let rows: [(&[u8], &str, &[u8]); 20] = [
