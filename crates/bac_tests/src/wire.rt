@@ -47,109 +47,112 @@ fn written(value: &Value) -> Option<Datagram>
     Some(out)
 }
 
-// Octets, how many of them spell which value, and how it is written. The first thirteen are the examples of
-// clause 20.2.
+// Octets, how many of them spell which value, and how it is written. The first thirteen are of the
+// forms that clause 20.2 gives examples of.
+const VALUES: [(&[u8], &str, &[u8]); 20] = [
+    (&[0x00], "1 Null", &[0x00]),
+    (&[0x10], "1 Boolean(false)", &[0x10]),
+    (&[0x21, 72], "2 Unsigned(72)", &[0x21, 72]),
+    (&[0x31, 72], "2 Signed(72)", &[0x31, 72]),
+    (
+        &[0x44, 0x42, 0x90, 0, 0],
+        "5 Real4([66, 144, 0, 0])",
+        &[0x44, 0x42, 0x90, 0, 0],
+    ),
+    (
+        &[0x55, 8, 0x40, 0x52, 0, 0, 0, 0, 0, 0],
+        "10 Double8([64, 82, 0, 0, 0, 0, 0, 0])",
+        &[0x55, 8, 0x40, 0x52, 0, 0, 0, 0, 0, 0],
+    ),
+    (
+        &[0x63, 0x12, 0x34, 0xff],
+        "4 Octets([18, 52, 255])",
+        &[0x63, 0x12, 0x34, 0xff],
+    ),
+    (
+        &[0x74, 0, b'a', b'b', b'c'],
+        "5 Chars { set: 0, octets: [97, 98, 99] }",
+        &[0x74, 0, b'a', b'b', b'c'],
+    ),
+    (
+        &[0x82, 3, 0b1010_1000],
+        "3 Bits { unused: 3, octets: [168] }",
+        &[0x82, 3, 0b1010_1000],
+    ),
+    (&[0x91, 0], "2 Enumerated(0)", &[0x91, 0]),
+    // 24 January 1991, a Thursday
+    (
+        &[0xa4, 91, 1, 24, 4],
+        "5 Date(Date4 { year: 91, month: 1, day: 24, weekday: 4 })",
+        &[0xa4, 91, 1, 24, 4],
+    ),
+    // 17:35:45.17
+    (
+        &[0xb4, 17, 35, 45, 17],
+        "5 Time(Time4 { hour: 17, minute: 35, second: 45, hundredth: 17 })",
+        &[0xb4, 17, 35, 45, 17],
+    ),
+    // Binary Input, 15
+    (
+        &[0xc4, 0x00, 0xc0, 0x00, 0x0f],
+        "5 Object(ObjectId { kind: 3, instance: 15 })",
+        &[0xc4, 0x00, 0xc0, 0x00, 0x0f],
+    ),
+    // longer than it needs to be: the length, leading octets, the tag number
+    (&[0x25, 2, 0, 5], "4 Unsigned(5)", &[0x21, 5]),
+    (&[0x32, 0xff, 0x80], "3 Signed(-128)", &[0x31, 0x80]),
+    (&[0x95, 5, 0, 0, 0, 0, 1], "7 Enumerated(1)", &[0x91, 1]),
+    (&[0xf1, 1], "2 Boolean(true)", &[0x11]),
+    (&[0xf2, 2, 0, 7], "4 Unsigned(7)", &[0x21, 7]),
+    // the three bits 000, whatever stands in the unused ones
+    (
+        &[0x82, 5, 0b0000_0111],
+        "3 Bits { unused: 5, octets: [7] }",
+        &[0x82, 5, 0],
+    ),
+    (&[0x81, 0], "2 Bits { unused: 0, octets: [] }", &[0x81, 0]),
+];
+
 #[test]
 fn values(rt: HostRuntime) -> Result<(), Fail> {
-    let rows: [(&[u8], &str, &[u8]); 20] = [
-        (&[0x00], "1 Null", &[0x00]),
-        (&[0x10], "1 Boolean(false)", &[0x10]),
-        (&[0x21, 72], "2 Unsigned(72)", &[0x21, 72]),
-        (&[0x31, 72], "2 Signed(72)", &[0x31, 72]),
-        (
-            &[0x44, 0x42, 0x90, 0, 0],
-            "5 Real4([66, 144, 0, 0])",
-            &[0x44, 0x42, 0x90, 0, 0],
-        ),
-        (
-            &[0x55, 8, 0x40, 0x52, 0, 0, 0, 0, 0, 0],
-            "10 Double8([64, 82, 0, 0, 0, 0, 0, 0])",
-            &[0x55, 8, 0x40, 0x52, 0, 0, 0, 0, 0, 0],
-        ),
-        (
-            &[0x63, 0x12, 0x34, 0xff],
-            "4 Octets([18, 52, 255])",
-            &[0x63, 0x12, 0x34, 0xff],
-        ),
-        (
-            &[0x74, 0, b'a', b'b', b'c'],
-            "5 Chars { set: 0, octets: [97, 98, 99] }",
-            &[0x74, 0, b'a', b'b', b'c'],
-        ),
-        (
-            &[0x82, 3, 0b1010_1000],
-            "3 Bits { unused: 3, octets: [168] }",
-            &[0x82, 3, 0b1010_1000],
-        ),
-        (&[0x91, 0], "2 Enumerated(0)", &[0x91, 0]),
-        // 24 January 1991, a Thursday
-        (
-            &[0xa4, 91, 1, 24, 4],
-            "5 Date(Date4 { year: 91, month: 1, day: 24, weekday: 4 })",
-            &[0xa4, 91, 1, 24, 4],
-        ),
-        // 17:35:45.17
-        (
-            &[0xb4, 17, 35, 45, 17],
-            "5 Time(Time4 { hour: 17, minute: 35, second: 45, hundredth: 17 })",
-            &[0xb4, 17, 35, 45, 17],
-        ),
-        // Binary Input, 15
-        (
-            &[0xc4, 0x00, 0xc0, 0x00, 0x0f],
-            "5 Object(ObjectId { kind: 3, instance: 15 })",
-            &[0xc4, 0x00, 0xc0, 0x00, 0x0f],
-        ),
-        // longer than it needs to be: the length, leading octets, the tag number
-        (&[0x25, 2, 0, 5], "4 Unsigned(5)", &[0x21, 5]),
-        (&[0x32, 0xff, 0x80], "3 Signed(-128)", &[0x31, 0x80]),
-        (&[0x95, 5, 0, 0, 0, 0, 1], "7 Enumerated(1)", &[0x91, 1]),
-        (&[0xf1, 1], "2 Boolean(true)", &[0x11]),
-        (&[0xf2, 2, 0, 7], "4 Unsigned(7)", &[0x21, 7]),
-        // the three bits 000, whatever stands in the unused ones
-        (
-            &[0x82, 5, 0b0000_0111],
-            "3 Bits { unused: 5, octets: [7] }",
-            &[0x82, 5, 0],
-        ),
-        (&[0x81, 0], "2 Bits { unused: 0, octets: [] }", &[0x81, 0]),
-    ];
-    for (octets, text, written) in rows {
+    for (octets, text, written) in VALUES {
         assert_eq!(rt; shown(&rt, octets)?.as_str(), text);
         assert!(rt; is_written_as(octets, written), "of {octets:?}");
     }
     Ok(())
 }
 
+// Octets that begin no value, and the first check that fails.
+const FAULTS: [(&[u8], WireFault); 19] = [
+    (&[], WireFault::Ended),
+    // a context tag, an opening tag, class 0 with the bits of an opening tag
+    (&[0x09, 1], WireFault::BadTag),
+    (&[0x2e], WireFault::BadTag),
+    (&[0x26], WireFault::BadTag),
+    // number 13, number 255, a number that is missing
+    (&[0xd0], WireFault::BadTag),
+    (&[0xf0, 255], WireFault::BadTag),
+    (&[0xf2], WireFault::Ended),
+    (&[0x12], WireFault::BadContents),
+    // no length octet, or a length that the type doesn't have
+    (&[0x25], WireFault::Ended),
+    (&[0x20], WireFault::BadLength),
+    (&[0x25, 0], WireFault::BadLength),
+    (&[0x40], WireFault::BadLength),
+    (&[0x45, 5], WireFault::BadLength),
+    // contents missing
+    (&[0x45, 4], WireFault::Ended),
+    (&[0x91], WireFault::Ended),
+    (&[0x75, 3, 0, 0xc3], WireFault::Ended),
+    // an Enumerated of 2^32, eight unused bits, unused bits of no octet
+    (&[0x95, 5, 1, 0, 0, 0, 0], WireFault::BadContents),
+    (&[0x82, 8, 0], WireFault::BadContents),
+    (&[0x81, 1], WireFault::BadContents),
+];
+
 #[test]
 fn no_values(rt: HostRuntime) {
-    let rows: [(&[u8], WireFault); 19] = [
-        (&[], WireFault::Ended),
-        // a context tag, an opening tag, class 0 with the bits of an opening tag
-        (&[0x09, 1], WireFault::BadTag),
-        (&[0x2e], WireFault::BadTag),
-        (&[0x26], WireFault::BadTag),
-        // number 13, number 255, a number that is missing
-        (&[0xd0], WireFault::BadTag),
-        (&[0xf0, 255], WireFault::BadTag),
-        (&[0xf2], WireFault::Ended),
-        (&[0x12], WireFault::BadContents),
-        // no length octet, or a length that the type doesn't have
-        (&[0x25], WireFault::Ended),
-        (&[0x20], WireFault::BadLength),
-        (&[0x25, 0], WireFault::BadLength),
-        (&[0x40], WireFault::BadLength),
-        (&[0x45, 5], WireFault::BadLength),
-        // contents missing
-        (&[0x45, 4], WireFault::Ended),
-        (&[0x91], WireFault::Ended),
-        (&[0x75, 3, 0, 0xc3], WireFault::Ended),
-        // an Enumerated of 2^32, eight unused bits, unused bits of no octet
-        (&[0x95, 5, 1, 0, 0, 0, 0], WireFault::BadContents),
-        (&[0x82, 8, 0], WireFault::BadContents),
-        (&[0x81, 1], WireFault::BadContents),
-    ];
-    for (octets, fault) in rows {
+    for (octets, fault) in FAULTS {
         assert_eq!(rt; fault_of(octets), Some(fault), "of {octets:?}");
     }
 }
