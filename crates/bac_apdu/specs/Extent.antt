@@ -1,5 +1,5 @@
 -- The range of ReadRange (clauses 15.8 and 21): its parameters, and what an extent shows of its fields.
-use Rattle.std.specs.Prelude.{ℕ, ℤ, pos, negsuc, ◌^◌, ◌<◌, ◌≡◌, ◌&&◌, nat_lt, nat_le, Bool, true, false, List, [], ◌∷◌}
+use Rattle.std.specs.Prelude.{ℕ, pos, negsuc, ◌^◌, ◌<◌, ◌≡◌, ◌&&◌, nat_lt, nat_le, Bool, true, false, List, [], ◌∷◌}
 use Rattle.bac_wire.specs.Primitive.{Primitive, Unsigned, Signed, Date, Time}
 use Rattle.bac_wire.specs.Stamp.{date_octets, time_octets}
 use Rattle.bac_apdu.specs.declared.extent.Extent.{Extent}
@@ -37,8 +37,8 @@ is_time value = false
 abbrev pub by_reference : ℕ → Form
 by_reference tag =
     part (opening tag)
-    (part (application unsigned is_u32)         -- reference index or sequence number
-    (part (application signed is_count)         -- count
+    (part (application unsigned is_u32)  -- reference index or sequence number
+    (part (application signed is_count)  -- count
     (part (closing tag)
     end)))
 
@@ -46,9 +46,9 @@ by_reference tag =
 abbrev pub by_time : Form
 by_time =
     part (opening 7)
-    (part (application date is_date)            -- reference time: its date
-    (part (application time is_time)            -- and its time
-    (part (application signed is_count)         -- count
+    (part (application date is_date)  -- reference time: its date
+    (part (application time is_time)  -- and its time
+    (part (application signed is_count)  -- count
     (part (closing 7)
     end))))
 

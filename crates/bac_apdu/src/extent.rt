@@ -19,9 +19,15 @@ pub enum Extent {
     /// Every record.
     All,
     /// By place in the log, the oldest being 1.
-    ByPosition { reference: u32, count: i32 },
+    ByPosition {
+        reference: u32,
+        count: i32,
+    },
     /// By sequence number.
-    ByNumber { reference: u32, count: i32 },
+    ByNumber {
+        reference: u32,
+        count: i32,
+    },
     /// By time: those after it, or those before it. Year, month and day and all of the time are
     /// specified.
     ByTime {

@@ -79,12 +79,10 @@ impl IAm {
     /// What is written is read back.
     pub fn canon_is_read()
         ensures { (a : IAm) → IsAnnouncement a → Reads i_am (canon_form i_am (i_am_items a)) (i_am_items a) }
-    {
-    }
+    {}
 
     /// Two different announcements never show the same parameters.
     pub fn items_tell_fields()
         ensures { (a b : IAm) → i_am_items a ≡ i_am_items b → a ≡ b }
-    {
-    }
+    {}
 }

@@ -93,12 +93,10 @@ impl<'a> ReadPropertyAck<'a> {
     /// What is written is read back.
     pub fn canon_is_read()
         ensures { (a : ReadPropertyAck) → IsProperty a.object a.property a.index → IsLevel a.values.now → Reads read_property_ack (canon_form read_property_ack (property_ack_items a)) (property_ack_items a) }
-    {
-    }
+    {}
 
     /// Two different answers never show the same parameters.
     pub fn items_tell_fields()
         ensures { (a b : ReadPropertyAck) → property_ack_items a ≡ property_ack_items b → (a.object ≡ b.object) × (a.property ≡ b.property) × (a.index ≡ b.index) × (a.values.now ≡ b.values.now) }
-    {
-    }
+    {}
 }

@@ -74,12 +74,10 @@ impl WhoIs {
     /// What is written is read back.
     pub fn canon_is_read()
         ensures { (w : WhoIs) → AreLimits w.limits → Reads who_is (canon_form who_is (who_is_items w)) (who_is_items w) }
-    {
-    }
+    {}
 
     /// Two different requests never show the same parameters.
     pub fn items_tell_fields()
         ensures { (v w : WhoIs) → who_is_items v ≡ who_is_items w → v ≡ w }
-    {
-    }
+    {}
 }
