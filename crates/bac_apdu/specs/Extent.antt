@@ -8,13 +8,13 @@ use Rattle.bac_apdu.specs.Form.{Form, end, part, option, application, opening, c
 
 -- ---- ranges
 
--- a Signed of 32 bits, not zero
+-- a Signed of 32 bits, not zero (15.8)
 abbrev pub is_count : Primitive → Bool
 is_count (Signed (pos n)) = nat_lt 0 n && nat_lt n (2 ^ 31)
 is_count (Signed (negsuc n)) = nat_lt n (2 ^ 31)
 is_count value = false
 
--- year, month and day are specified; any weekday
+-- year, month and day are specified; any weekday (20.2.12)
 abbrev pub date_fits : List ℕ → Bool
 date_fits (year ∷ month ∷ day ∷ weekday ∷ []) = nat_le year 254 && nat_le 1 month && nat_le month 12 && nat_le 1 day && nat_le day 31
 date_fits octets = false
@@ -23,6 +23,7 @@ abbrev pub is_date : Primitive → Bool
 is_date (Date octets) = date_fits octets
 is_date value = false
 
+-- hour, minute, second and hundredths are specified (20.2.13)
 abbrev pub time_fits : List ℕ → Bool
 time_fits (hour ∷ minute ∷ second ∷ hundredths ∷ []) = nat_le hour 23 && nat_le minute 59 && nat_le second 59 && nat_le hundredths 99
 time_fits octets = false

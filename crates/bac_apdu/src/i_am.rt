@@ -34,6 +34,7 @@ impl IAm {
         ensures found { IfSome result (λ a. Reads i_am bytes.now (i_am_items a)) }
         // What is spelled so is read.
         ensures only { (items : List Item) → Reads i_am bytes.now items → IsSomeAnd result (λ a. i_am_items a ≡ items) }
+        // The same as a function, on which callers build.
         ensures exact { GivesSome i_am_items result (result_ok (form_at i_am bytes.now)) }
     {
         IAm::parts(bytes).ok()

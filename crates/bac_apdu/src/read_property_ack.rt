@@ -34,6 +34,7 @@ impl<'a> ReadPropertyAck<'a> {
         ensures found { IfSome result (λ a. Reads read_property_ack bytes.now (property_ack_items a)) }
         // What is spelled so is read.
         ensures only { (items : List Item) → Reads read_property_ack bytes.now items → IsSomeAnd result (λ a. property_ack_items a ≡ items) }
+        // The same as a function, on which callers build.
         ensures exact { GivesSome property_ack_items result (result_ok (form_at read_property_ack bytes.now)) }
     {
         match ReadPropertyAck::parts(bytes) {
