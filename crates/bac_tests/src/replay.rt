@@ -1,1 +1,270 @@
 //! Scripts from their text to the text of the answers.
+
+use bac_tools::{BuildFault, LIMIT, ReplayFault, run_replay};
+use std::alloc::Global;
+use std::io::{self, Read, Write};
+use std::process::Abort;
+use std::test::Fail;
+
+/// Device 123 with a reply size of 1476.
+const DEVICE: &[u8] = b"device 123 plant 0 1476 2024-05-06T07:08:09.10\n";
+
+/// Who-Is without limits, as a broadcast: 810b000c is the frame's head, 0120ffff00ff the header of a
+/// datagram to all devices, 1008 the service.
+const WHO_IS: &[u8] = b"rx 810b000c0120ffff00ff1008\n";
+
+/// I-Am of Device 123, to one receiver: 810a0014 is the frame's head, 0100 a plain header, 1000 the
+/// service, c40200007b the device, 2205c4 its 1476 octets, 9103 no segmentation, 2100 vendor 0.
+const I_AM: &[u8] = b"tx 810a001401001000c40200007b2205c491032100\n";
+
+const NONE: &[u8] = b"none\n";
+
+/// Plays a script, and compares what it wrote and how it ended.
+fn plays(
+    rt: &impl Abort,
+    alloc: Global,
+    script: &[&[u8]],
+    want: &[&[u8]],
+    ended: Result<(), ReplayFault>,
+) -> Result<(), Fail> {
+    let script = script.concat(alloc)?;
+    let want = want.concat(alloc)?;
+    let mut reader = script.as_slice();
+    let mut text = Vec::new(alloc);
+    let got = run_replay(alloc, &mut reader, &mut text);
+    assert_eq!(rt; text.as_slice(), want.as_slice());
+    assert_eq!(rt; got, ended);
+    Ok(())
+}
+
+#[test]
+fn who_is_is_answered(rt: HostRuntime) -> Result<(), Fail> {
+    plays(&rt, rt.alloc(), &[DEVICE, WHO_IS], &[I_AM], Ok(()))?;
+    // 0a for 0b, no destination, digits of upper case.
+    plays(&rt, rt.alloc(), &[DEVICE, b"rx 810A000801001008"], &[I_AM], Ok(()))?;
+    // Limits 124 to 200, 123 to 123, 123 to 200, 100 to 123.
+    plays(&rt, rt.alloc(), &[DEVICE, b"rx 810b00100120ffff00ff1008097c19c8\n"], &[NONE], Ok(()))?;
+    plays(&rt, rt.alloc(), &[DEVICE, b"rx 810b00100120ffff00ff1008097b197b\n"], &[I_AM], Ok(()))?;
+    plays(&rt, rt.alloc(), &[DEVICE, b"rx 810b00100120ffff00ff1008097b19c8\n"], &[I_AM], Ok(()))?;
+    plays(&rt, rt.alloc(), &[DEVICE, b"rx 810b00100120ffff00ff10080964197b\n"], &[I_AM], Ok(()))?;
+    // One limit only.
+    plays(&rt, rt.alloc(), &[DEVICE, b"rx 810b000e0120ffff00ff1008097b\n"], &[NONE], Ok(()))
+}
+
+#[test]
+fn the_rest_is_not_answered(rt: HostRuntime) -> Result<(), Fail> {
+    // The length of the frame is one too large.
+    plays(&rt, rt.alloc(), &[DEVICE, b"rx 810b000d0120ffff00ff1008\n"], &[NONE], Ok(()))?;
+    // Another function of the frame; another version of the header.
+    plays(&rt, rt.alloc(), &[DEVICE, b"rx 8109000c0120ffff00ff1008\n"], &[NONE], Ok(()))?;
+    plays(&rt, rt.alloc(), &[DEVICE, b"rx 810b000c0220ffff00ff1008\n"], &[NONE], Ok(()))?;
+    // A network message; from network 5; to network 5; to one device of all networks.
+    plays(&rt, rt.alloc(), &[DEVICE, b"rx 810b000801801200\n"], &[NONE], Ok(()))?;
+    plays(&rt, rt.alloc(), &[DEVICE, b"rx 810b000c0108000501071008\n"], &[NONE], Ok(()))?;
+    plays(&rt, rt.alloc(), &[DEVICE, b"rx 810b000c0120000500ff1008\n"], &[NONE], Ok(()))?;
+    plays(&rt, rt.alloc(), &[DEVICE, b"rx 810b000d0120ffff0107ff1008\n"], &[NONE], Ok(()))?;
+    // I-Am, and a ReadProperty of Device 123's name.
+    plays(&rt, rt.alloc(), &[DEVICE, b"rx 810a001401001000c40200007b2205c491032100\n"], &[NONE], Ok(()))?;
+    plays(&rt, rt.alloc(), &[DEVICE, b"rx 810a001101040005010c0c0200007b194d\n"], &[NONE], Ok(()))
+}
+
+#[test]
+fn lines_are_counted_and_cut(rt: HostRuntime) -> Result<(), Fail> {
+    plays(&rt, rt.alloc(), &[], &[], Ok(()))?;
+    plays(&rt, rt.alloc(), &[DEVICE], &[], Ok(()))?;
+    plays(&rt, rt.alloc(), &[b"# \xff\r\n\r\n", DEVICE, WHO_IS, b"#"], &[I_AM], Ok(()))?;
+    // Each line ends with a carriage return too.
+    plays(&rt, rt.alloc(), &[b"device 123 plant 0 1476 2024-05-06T07:08:09.10\r\nrx 00\r\n"], &[NONE], Ok(()))?;
+    // What is written before a bad line stays; comments and empty lines count.
+    plays(&rt, rt.alloc(), &[DEVICE, b"rx 8\n"], &[], Err(ReplayFault::BadLine(2)))?;
+    plays(&rt, rt.alloc(), &[DEVICE, WHO_IS, b"# more\n\nrx 8\nrx 00\n"], &[I_AM], Err(ReplayFault::BadLine(5)))
+}
+
+/// Lines that are bad as the second of a script whose first is the device.
+const BAD: [&[u8]; 12] = [
+    b"rx\n",
+    b"rx \n",
+    b"rx 0g\n",
+    b"rx 000\n",
+    b"rx  00\n",
+    b" rx 00\n",
+    b"rx 00 \n",
+    b"rx 00\r",
+    b"rx 00 00\n",
+    b"\r",
+    b"binary 1 pump 0\n",
+    b"device 123 plant 0 1476 2024-05-06T07:08:09.10\n",
+];
+
+/// Lines that are bad as the first.
+const NO_DEVICE: [&[u8]; 15] = [
+    b"rx 00\n",
+    b"device\n",
+    b"device 123 plant 0 1476\n",
+    b"device 123  0 1476 2024-05-06T07:08:09.10\n",
+    b"device 123 plant room 0 1476 2024-05-06T07:08:09.10\n",
+    b"device 123 \xff 0 1476 2024-05-06T07:08:09.10\n",
+    b"device 4294967296 plant 0 1476 2024-05-06T07:08:09.10\n",
+    b"device 00000000123 plant 0 1476 2024-05-06T07:08:09.10\n",
+    b"device +123 plant 0 1476 2024-05-06T07:08:09.10\n",
+    b"device 123 plant 65536 1476 2024-05-06T07:08:09.10\n",
+    b"device 123 plant 0 65536 2024-05-06T07:08:09.10\n",
+    b"device 123 plant 0 1476 2023-02-29T07:08:09.10\n",
+    b"device 123 plant 0 1476 1989-12-31T23:59:59.99\n",
+    b"device 123 plant 0 1476 2024-05-06T24:00:00.00\n",
+    b"device 123 plant 0 1476 2024-05-06 07:08:09.10\n",
+];
+
+#[test]
+fn bad_lines_are_refused(rt: HostRuntime) -> Result<(), Fail> {
+    for bad in BAD {
+        plays(&rt, rt.alloc(), &[DEVICE, bad], &[], Err(ReplayFault::BadLine(2)))?;
+    }
+    for bad in NO_DEVICE {
+        plays(&rt, rt.alloc(), &[bad], &[], Err(ReplayFault::BadLine(1)))?;
+    }
+    // A device line after an event; the leap day of 2024.
+    plays(&rt, rt.alloc(), &[DEVICE, WHO_IS, DEVICE], &[I_AM], Err(ReplayFault::BadLine(3)))?;
+    plays(&rt, rt.alloc(), &[b"device 123 plant 0 1476 2024-02-29T07:08:09.10\n", WHO_IS], &[I_AM], Ok(()))
+}
+
+#[test]
+fn devices_are_built_once_there_is_an_event(rt: HostRuntime) -> Result<(), Fail> {
+    let at = b" 2024-05-06T07:08:09.10\n".as_slice();
+    let instance = Err(ReplayFault::Build(BuildFault::BadInstance));
+    let name = Err(ReplayFault::Build(BuildFault::BadName));
+    let size = Err(ReplayFault::Build(BuildFault::BadReplySize));
+    plays(&rt, rt.alloc(), &[b"device 4194303 plant 0 1476", at, WHO_IS], &[], instance)?;
+    plays(&rt, rt.alloc(), &[b"device 4194303 plant 0 1476", at], &[], instance)?;
+    plays(&rt, rt.alloc(), &[b"device 4194302 plant 0 1476", at], &[], Ok(()))?;
+    plays(&rt, rt.alloc(), &[b"device 123 pl\x7fnt 0 1476", at], &[], name)?;
+    plays(&rt, rt.alloc(), &[b"device 123 pl\tnt 0 1476", at], &[], name)?;
+    // 64 octets, 65 octets, and 33 characters of two octets each.
+    let digits = b"0123456789012345678901234567890123456789012345678901234567890123".as_slice();
+    plays(&rt, rt.alloc(), &[b"device 123 ", digits, b" 0 1476", at], &[], Ok(()))?;
+    plays(&rt, rt.alloc(), &[b"device 123 ", digits, b"4 0 1476", at], &[], name)?;
+    plays(&rt, rt.alloc(), &["device 123 äöüäöüäöüäöüäöüäöüäöüäöüäöüäöüäöü 0 1476".as_bytes(), at], &[], name)?;
+    plays(&rt, rt.alloc(), &[b"device 123 plant 0 49", at], &[], size)?;
+    plays(&rt, rt.alloc(), &[b"device 123 plant 0 50", at], &[], Ok(()))?;
+    plays(&rt, rt.alloc(), &[b"device 123 plant 0 1477", at], &[], size)?;
+    // The instance comes first, then the name; a bad event line before all of them.
+    plays(&rt, rt.alloc(), &[b"device 4194303 \x7f 0 49", at], &[], instance)?;
+    plays(&rt, rt.alloc(), &[b"device 123 \x7f 0 49", at], &[], name)?;
+    plays(&rt, rt.alloc(), &[b"device 4194303 plant 0 1476", at, b"rx 8\n"], &[], Err(ReplayFault::BadLine(2)))
+}
+
+/// A reader over memory that refuses the read after so many.
+#[derive(Drop)]
+struct Failing<'a> {
+    rest: &'a [u8],
+    reads: usize,
+}
+
+impl Read for Failing<'_> {
+    ghost use Rattle.std.specs.Prelude.{Some};
+
+    ghost remaining = { λ s. Some s.rest.now };
+
+    fn read(&mut self, buf: &mut [u8]) -> io::Result<usize> {
+        if self.reads == 0 {
+            return Err(io::Error::from(io::ErrorKind::Other));
+        }
+        self.reads -= 1;
+        self.rest.read(buf)
+    }
+}
+
+/// A writer over memory that takes so many octets, and then refuses.
+#[derive(Drop)]
+struct Short {
+    text: Vec<u8>,
+    room: usize,
+}
+
+impl Write for Short {
+    ghost use Rattle.std.specs.Prelude.{Some};
+
+    ghost contents = { λ s. Some s.text.items };
+
+    fn write(&mut self, buf: &[u8]) -> io::Result<usize> {
+        if self.room == 0 {
+            return Err(io::Error::from(io::ErrorKind::Other));
+        }
+        let n = buf.len().min(self.room);
+        self.text.extend_from_slice(&buf[..n])?;
+        self.room -= n;
+        Ok(n)
+    }
+
+    fn flush(&mut self) -> io::Result<()> {
+        Ok(())
+    }
+}
+
+#[test]
+fn a_refused_read_is_answered_last(rt: HostRuntime) -> Result<(), Fail> {
+    // The last line has no line feed yet, and isn't played.
+    let script = [DEVICE, WHO_IS, b"rx 00"].concat(rt.alloc())?;
+    let mut reader = Failing {
+        rest: script.as_slice(),
+        reads: 1,
+    };
+    let mut text = Vec::new(rt.alloc());
+    let ended = run_replay(rt.alloc(), &mut reader, &mut text);
+    assert_eq!(rt; ended, Err(ReplayFault::Read));
+    assert_eq!(rt; text.as_slice(), I_AM);
+    // A bad line before it is the fault.
+    let script = [DEVICE, WHO_IS, b"rx 8\n"].concat(rt.alloc())?;
+    let mut reader = Failing {
+        rest: script.as_slice(),
+        reads: 1,
+    };
+    let mut text = Vec::new(rt.alloc());
+    let ended = run_replay(rt.alloc(), &mut reader, &mut text);
+    assert_eq!(rt; ended, Err(ReplayFault::BadLine(3)));
+    assert_eq!(rt; text.as_slice(), I_AM);
+    Ok(())
+}
+
+#[test]
+fn a_refused_write_ends_the_replay(rt: HostRuntime) -> Result<(), Fail> {
+    let script = [DEVICE, WHO_IS, b"rx 8\n"].concat(rt.alloc())?;
+    let mut reader = script.as_slice();
+    let mut writer = Short {
+        text: Vec::new(rt.alloc()),
+        room: 10,
+    };
+    let ended = run_replay(rt.alloc(), &mut reader, &mut writer);
+    assert_eq!(rt; ended, Err(ReplayFault::Write));
+    assert_eq!(rt; writer.text.as_slice(), b"tx 810a001".as_slice());
+    Ok(())
+}
+
+#[test]
+fn a_script_may_have_so_many_octets(rt: HostRuntime) -> Result<(), Fail> {
+    let room = LIMIT - DEVICE.len() - WHO_IS.len();
+    let feeds = vec![in rt.alloc(); b'\n'; room]?;
+    plays(&rt, rt.alloc(), &[DEVICE, WHO_IS, feeds.as_slice()], &[I_AM], Ok(()))?;
+    // One octet more, even without a line feed; what was ended is played, the rest isn't.
+    plays(&rt, rt.alloc(), &[DEVICE, WHO_IS, feeds.as_slice(), b"r"], &[I_AM], Err(ReplayFault::TooLong))?;
+    let digits = vec![in rt.alloc(); b'0'; room]?;
+    plays(&rt, rt.alloc(), &[DEVICE, WHO_IS, digits.as_slice(), b"\n"], &[I_AM], Err(ReplayFault::TooLong))?;
+    plays(&rt, rt.alloc(), &[DEVICE, WHO_IS, b"rx 8\n", feeds.as_slice()], &[I_AM], Err(ReplayFault::BadLine(3)))
+}
+
+#[test]
+fn faults_have_their_texts(rt: HostRuntime) -> Result<(), Fail> {
+    for (fault, text) in [
+        (ReplayFault::BadLine(2), "line 2: bad line"),
+        (ReplayFault::Build(BuildFault::BadInstance), "cannot build: bad instance"),
+        (ReplayFault::Build(BuildFault::BadName), "cannot build: bad name"),
+        (ReplayFault::Build(BuildFault::BadReplySize), "cannot build: bad reply size"),
+        (ReplayFault::TooLong, "script too long"),
+        (ReplayFault::Read, "read fault"),
+        (ReplayFault::Write, "write fault"),
+        (ReplayFault::Memory, "out of memory"),
+    ] {
+        assert_eq!(rt; format!(in rt.alloc(); "{fault}")?.as_str(), text);
+    }
+    Ok(())
+}

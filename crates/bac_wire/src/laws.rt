@@ -5,7 +5,7 @@ ghost use Rattle.std.specs.Prelude.{◌≡◌, ◌<◌, ◌≤◌, ℕ, List, �
 ghost use Rattle.bac_wire.specs.Canon.{tag_octets, contents_of, canon, canon_context, IsValid};
 ghost use Rattle.bac_wire.specs.Primitive.{Primitive};
 ghost use Rattle.bac_wire.specs.Reading.{value_at, context_at, contents_as, mark_at};
-ghost use Rattle.bac_wire.specs.Spelling.{Spells, StandsFor, tag_of};
+ghost use Rattle.bac_wire.specs.Spelling.{IsTag, IsTagged, Spells, StandsFor, tag_of};
 
 /// No spelling is the front of another, and no octets spell two values.
 pub fn one_reading()
@@ -17,9 +17,12 @@ pub fn canon_is_read()
     ensures { (value : Primitive) → IsValid value → Spells (canon value) value }
 {}
 
-/// No spelling of a value has fewer octets than what is written for it.
+/// No spelling of a value, and none of its contents behind a context tag, has fewer octets than what
+/// is written for it; and no opening or closing tag, whose three low bits are `low`.
 pub fn canon_is_shortest()
-    ensures { (value : Primitive) (text : List ℕ) → ((i : ℕ) → slice_index_or text i 0 < 256) → IsValid value → Spells text value → length (canon value) ≤ length text }
+    ensures value { (value : Primitive) (text : List ℕ) → ((i : ℕ) → slice_index_or text i 0 < 256) → IsValid value → Spells text value → length (canon value) ≤ length text }
+    ensures context { (tag : ℕ) (value : Primitive) (contents text : List ℕ) → ((i : ℕ) → slice_index_or text i 0 < 256) → IsValid value → IsTagged 8 tag contents text → StandsFor contents value → length (canon_context tag value) ≤ length text }
+    ensures mark { (tag low : ℕ) (text : List ℕ) → IsTag 8 tag low text → length (tag_octets 8 tag low) ≤ length text }
 {}
 
 /// What is written for a value is read back as that value, whatever follows it.

@@ -3,7 +3,7 @@
 ghost use Rattle.std.specs.Prelude.{◌≡◌, ◌-◌, ◌*◌, ◌^◌, ◌<◌, ◌≤◌, length, map, take, IfOk, true};
 ghost use Rattle.bac_wire.specs.Number.{number, signed, bits_of};
 ghost use Rattle.bac_wire.specs.Reading.{Gives, has_length, chars_in, bits_in, enumerated_in, value_in, contents_as};
-ghost use Rattle.bac_wire.specs.View.{view};
+ghost use Rattle.bac_wire.specs.View.{view, IsWellFormed};
 ghost use Rattle.bac_wire.specs.Stamp.{date_octets, time_octets};
 ghost use Rattle.bac_wire.specs.Primitive.{Boolean, Unsigned, Signed, Enumerated, Object, Bits};
 
@@ -97,7 +97,8 @@ pub(crate) fn value_of_contents(tag: u8, contents: &[u8]) -> Result<Value, WireF
     requires length { has_length tag (length contents.now) ≡ true }
     requires value { 0 < tag → 1 < tag }
     requires known { tag ≤ 12 }
-    ensures { Gives view result (value_in tag contents.now) }
+    ensures exact { Gives view result (value_in tag contents.now) }
+    ensures well_formed { IfOk result IsWellFormed }
 {
     Ok(match tag {
         NULL => Value::Null,
@@ -159,7 +160,8 @@ fn time_in(octets: &[u8]) -> Time4
 
 /// The octet of the character set, then the characters (clause 20.2.9).
 fn chars_of(contents: &[u8]) -> Result<Value, WireFault>
-    ensures { Gives view result (chars_in contents.now) }
+    ensures exact { Gives view result (chars_in contents.now) }
+    ensures well_formed { IfOk result IsWellFormed }
 {
     match contents {
         [] => Err(WireFault::BadContents),
@@ -169,7 +171,8 @@ fn chars_of(contents: &[u8]) -> Result<Value, WireFault>
 
 /// The count of unused bits, then the bits (clause 20.2.10).
 fn bits_of(contents: &[u8]) -> Result<Value, WireFault>
-    ensures { Gives view result (bits_in contents.now) }
+    ensures exact { Gives view result (bits_in contents.now) }
+    ensures well_formed { IfOk result IsWellFormed }
 {
     match contents {
         [] => Err(WireFault::BadContents),
@@ -188,7 +191,8 @@ fn bits_of(contents: &[u8]) -> Result<Value, WireFault>
 /// A number below 2^32 (clause 20.2.11).
 fn enumerated_of(contents: &[u8]) -> Result<Value, WireFault>
     requires { length contents.now ≤ 8 }
-    ensures { Gives view result (enumerated_in contents.now) }
+    ensures exact { Gives view result (enumerated_in contents.now) }
+    ensures well_formed { IfOk result IsWellFormed }
 {
     let number = unsigned_of(contents);
     if number > 4294967295 {

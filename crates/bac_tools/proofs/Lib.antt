@@ -1,0 +1,7 @@
+pub mod Octets
+pub mod Splits
+pub mod LineLemmas
+pub mod PlayLemmas
+pub mod EndLemmas
+pub mod Announcements
+pub mod Moments

@@ -1,0 +1,28 @@
+-- Faults of lines and of replays.
+use Rattle.std.specs.Prelude.{ℕ}
+use Rattle.bac_tools.specs.declared.device.BuildFault.{BuildFault}
+use Rattle.bac_tools.specs.declared.device.BuildFault.TheVariants as build
+use Rattle.bac_tools.specs.declared.fault.LineFault as line
+use Rattle.bac_tools.specs.declared.fault.LineFault.{LineFault}
+use Rattle.bac_tools.specs.declared.fault.ReplayFault.{ReplayFault}
+use Rattle.bac_tools.specs.declared.fault.ReplayFault.TheVariants.{BadLine, Build, Memory}
+
+-- the fault of a line whose event builds the device
+abbrev pub line_fault : BuildFault → LineFault
+line_fault build.BadInstance = line.TheVariants.Build build.BadInstance
+line_fault build.BadName = line.TheVariants.Build build.BadName
+line_fault build.BadReplySize = line.TheVariants.Build build.BadReplySize
+line_fault build.Memory = line.TheVariants.Memory
+
+-- the fault of a replay whose device can't be built
+abbrev pub replay_fault : BuildFault → ReplayFault
+replay_fault build.BadInstance = Build build.BadInstance
+replay_fault build.BadName = Build build.BadName
+replay_fault build.BadReplySize = Build build.BadReplySize
+replay_fault build.Memory = Memory
+
+-- a fault of line n
+abbrev pub at_line : ℕ → LineFault → ReplayFault
+at_line n line.TheVariants.Bad = BadLine n
+at_line n (line.TheVariants.Build fault) = Build fault
+at_line n line.TheVariants.Memory = Memory

@@ -1,0 +1,11 @@
+pub mod Lines
+pub mod Words
+pub mod Number
+pub mod Hexadecimal
+pub mod Output
+pub mod Stamp
+pub mod Device
+pub mod Fault
+pub mod Session
+pub mod Replay
+pub mod Stops

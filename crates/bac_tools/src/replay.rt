@@ -1,0 +1,163 @@
+//! A script read from a reader, its text written to a writer.
+ghost use Rattle.std.specs.Prelude.{◌≡◌, ◌+◌, ◌<◌, ◌≤◌, ℕ, List, [], ◌∷◌, ◌++◌, length, None, Ok, Err, IfOk, IfErr, OnOk};
+ghost use Rattle.std.specs.Io.KnownBytes.{Appends};
+ghost use Rattle.std.specs.Str.Lines.{lines};
+ghost use Rattle.bac_tools.specs.Lines.{ended_lines, open_line, last_if_any};
+ghost use Rattle.bac_tools.specs.Replay.{PlaysAll, Replays};
+ghost use Rattle.bac_tools.specs.Session.{step, end_fault};
+ghost use Rattle.bac_tools.specs.declared.session.Session.TheVariants.{Empty};
+ghost use Rattle.bac_tools.specs.Stops.{LineStops, Stops, ScriptStops};
+
+use crate::fault::ReplayFault;
+use crate::input::{Ending, fill};
+use crate::lines::{split_line, without_return};
+use crate::output::write_text;
+use crate::session::Session;
+use std::alloc::Global;
+use std::io::{Read, Write};
+
+/// The greatest number of octets of a script.
+pub const LIMIT: usize = 1_048_576;
+
+/// Plays one line and writes its text.
+fn play_line<W: Write>(
+    alloc: Global,
+    session: &mut Session,
+    number: usize,
+    line: &[u8],
+    writer: &mut W,
+) -> Result<(), ReplayFault>
+    ensures ok { OnOk result ((text : List ℕ) × (step session.old line.now ≡ Ok (text, session.new))
+        × Appends (W.contents writer.old) (W.contents writer.new) text) }
+    ensures err { IfErr result (LineStops (W.contents writer.old) (W.contents writer.new) number session.old line.now) }
+{
+    let text = match session.play(alloc, line) {
+        Ok(text) => text,
+        Err(fault) => return Err(fault.at_line(number)),
+    };
+    match write_text(writer, text.as_slice()) {
+        Ok(()) => Ok(()),
+        Err(_) => Err(ReplayFault::Write),
+    }
+}
+
+/// Plays the lines that a line feed ends. It answers the number of the line that follows, and what
+/// stands behind the last line feed.
+fn play_ended<'a, W: Write>(
+    alloc: Global,
+    session: &mut Session,
+    script: &'a [u8],
+    writer: &mut W,
+) -> Result<(usize, &'a [u8]), ReplayFault>
+    requires { length script.now ≤ LIMIT }
+    ensures number { IfOk result (λ x. x.0 ≡ 1 + length (ended_lines script.now)) }
+    ensures all { IfOk result (λ x. PlaysAll (W.contents writer.old) (W.contents writer.new) session.old (ended_lines script.now) session.new) }
+    ensures rest { IfOk result (λ x. open_line script.now ≡ last_if_any (x.1.now ∷ [])) }
+    ensures err { IfErr result (Stops (W.contents writer.old) (W.contents writer.new) session.old (ended_lines script.now)) }
+{
+    let mut rest = script;
+    let mut number = 1;
+    while let Some((line, more)) = split_line(rest) {
+        play_line(alloc, session, number, without_return(line), writer)?;
+        rest = more;
+        number += 1;
+    }
+    Ok((number, rest))
+}
+
+/// Plays the lines that a line feed ends, from the start.
+fn play_cut<W: Write>(alloc: Global, script: &[u8], writer: &mut W) -> Result<(), ReplayFault>
+    requires { length script.now ≤ LIMIT }
+    ensures ok { OnOk result ((t : Session) × PlaysAll (W.contents writer.old) (W.contents writer.new) Empty (ended_lines script.now) t) }
+    ensures err { IfErr result (Stops (W.contents writer.old) (W.contents writer.new) Empty (ended_lines script.now)) }
+{
+    let mut session = Session::Empty;
+    play_ended(alloc, &mut session, script, writer)?;
+    Ok(())
+}
+
+/// Plays all the lines.
+fn play_all<W: Write>(
+    alloc: Global,
+    session: &mut Session,
+    script: &[u8],
+    writer: &mut W,
+) -> Result<(), ReplayFault>
+    requires { length script.now ≤ LIMIT }
+    ensures ok { OnOk result (PlaysAll (W.contents writer.old) (W.contents writer.new) session.old (lines script.now) session.new) }
+    ensures err { IfErr result (Stops (W.contents writer.old) (W.contents writer.new) session.old (lines script.now)) }
+{
+    let (number, rest) = play_ended(alloc, session, script, writer)?;
+    if rest.is_empty() {
+        return Ok(());
+    }
+    play_line(alloc, session, number, rest, writer)
+}
+
+/// Plays all the lines, and builds the device at the end where no line did.
+fn play_whole<W: Write>(alloc: Global, script: &[u8], writer: &mut W) -> Result<(), ReplayFault>
+    requires { length script.now ≤ LIMIT }
+    ensures ok { OnOk result ((t : Session) × PlaysAll (W.contents writer.old) (W.contents writer.new) Empty (lines script.now) t × (end_fault t ≡ None)) }
+    ensures err { IfErr result (ScriptStops (W.contents writer.old) (W.contents writer.new) script.now) }
+{
+    let mut session = Session::Empty;
+    play_all(alloc, &mut session, script, writer)?;
+    match session.finish(alloc) {
+        Ok(()) => Ok(()),
+        Err(fault) => Err(ReplayFault::of_build(fault)),
+    }
+}
+
+/// Plays the script that the reader has, which is read into the buffer, and writes its text. A script
+/// of more than `limit` octets is too long.
+fn replay_in<R: Read, W: Write>(
+    alloc: Global,
+    limit: usize,
+    buffer: &mut [u8],
+    reader: &mut R,
+    writer: &mut W,
+) -> Result<(), ReplayFault>
+    requires limit { limit ≤ LIMIT }
+    requires room { length buffer.old ≡ limit + 1 }
+    ensures { Replays limit (R.remaining reader.old) (R.remaining reader.new) (W.contents writer.old) (W.contents writer.new) result }
+{
+    let (filled, ending) = fill(reader, buffer);
+    match ending {
+        Ending::End => play_whole(alloc, &buffer[..filled], writer),
+        Ending::Full => {
+            play_cut(alloc, &buffer[..limit], writer)?;
+            Err(ReplayFault::TooLong)
+        }
+        Ending::Refused => {
+            play_cut(alloc, &buffer[..filled], writer)?;
+            Err(ReplayFault::Read)
+        }
+    }
+}
+
+/// The same, with a buffer of its own.
+fn replay_within<R: Read, W: Write>(
+    alloc: Global,
+    limit: usize,
+    reader: &mut R,
+    writer: &mut W,
+) -> Result<(), ReplayFault>
+    requires { limit ≤ LIMIT }
+    ensures { Replays limit (R.remaining reader.old) (R.remaining reader.new) (W.contents writer.old) (W.contents writer.new) result }
+{
+    match vec![in alloc; 0u8; limit + 1] {
+        Ok(mut buffer) => replay_in(alloc, limit, &mut buffer, reader, writer),
+        Err(_) => Err(ReplayFault::Memory),
+    }
+}
+
+/// Plays the script that the reader has, and writes its text.
+pub fn run_replay<R: Read, W: Write>(
+    alloc: Global,
+    reader: &mut R,
+    writer: &mut W,
+) -> Result<(), ReplayFault>
+    ensures { Replays LIMIT (R.remaining reader.old) (R.remaining reader.new) (W.contents writer.old) (W.contents writer.new) result }
+{
+    replay_within(alloc, LIMIT, reader, writer)
+}
