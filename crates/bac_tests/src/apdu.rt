@@ -255,7 +255,7 @@ fn request_by_time(rt: HostRuntime) -> Result<(), Fail> {
 }
 
 #[test]
-fn property_rows(rt: HostRuntime) -> Result<(), Fail> {
+fn property_request(rt: HostRuntime) -> Result<(), Fail> {
     // Object_Name of device 123
     let name: [u8; 7] = [0x0c, 2, 0, 0, 123, 0x19, 77];
     let request = ReadProperty::read(&name).ok().ok_or("request")?;
@@ -268,7 +268,12 @@ fn property_rows(rt: HostRuntime) -> Result<(), Fail> {
     let mut written = Datagram::new();
     wanted.write(&mut written).ok().ok_or("full")?;
     assert_eq!(rt; written.octets(), name.as_slice());
-    // Object_Identifier of it, with its value
+    Ok(())
+}
+
+#[test]
+fn property_answer(rt: HostRuntime) -> Result<(), Fail> {
+    // Object_Identifier of device 123, with its value
     let octets: [u8; 14] = [
         0x0c, 2, 0, 0, 123, 0x19, 75, 0x3e, 0xc4, 2, 0, 0, 123, 0x3f,
     ];
@@ -278,11 +283,13 @@ fn property_rows(rt: HostRuntime) -> Result<(), Fail> {
         index: None,
         values: &[0xc4, 2, 0, 0, 123],
     };
-    assert_eq!(rt; ReadPropertyAck::read(&octets), Some(ack));
     let mut written = Datagram::new();
     ack.write(&mut written).ok().ok_or("full")?;
     assert_eq!(rt; written.octets(), octets.as_slice());
-    assert!(rt; ReadPropertyAck::read(&octets[..13]).is_none());
+    assert_eq!(rt; ReadPropertyAck::read(&octets), Some(ack));
+    // without the closing tag
+    let cut: [u8; 13] = [0x0c, 2, 0, 0, 123, 0x19, 75, 0x3e, 0xc4, 2, 0, 0, 123];
+    assert!(rt; ReadPropertyAck::read(&cut).is_none());
     Ok(())
 }
 
@@ -398,7 +405,9 @@ fn i_am_with_a_route(rt: HostRuntime) -> Result<(), Fail> {
         vendor: 0,
     };
     assert_eq!(rt; IAm::read(&octets), Some(announcement));
-    assert_eq!(rt; IAm::read(&octets[..10]), None);
+    // without the vendor
+    let cut: [u8; 10] = [0xc4, 2, 0, 0, 123, 0x22, 0x05, 0xc4, 0x91, 3];
+    assert_eq!(rt; IAm::read(&cut), None);
     let mut parameters = Datagram::new();
     announcement.write(&mut parameters).ok().ok_or("full")?;
     assert_eq!(rt; parameters.octets(), octets.as_slice());
