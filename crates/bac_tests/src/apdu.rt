@@ -48,10 +48,7 @@ fn reasons_of_read_range(rt: HostRuntime) -> Result<(), Fail> {
             Reason::InvalidTag,
         ),
         // one octet 00 after the property
-        (
-            &[0x0c, 5, 0, 0, 1, 0x19, 0x83, 0],
-            Reason::TooManyArguments,
-        ),
+        (&[0x0c, 5, 0, 0, 1, 0x19, 0x83, 0], Reason::TooManyArguments),
         // by number 1, count 100, and 6e after the range
         (
             &[
@@ -74,9 +71,7 @@ fn values_out_of_range(rt: HostRuntime) -> Result<(), Fail> {
     ];
     assert_eq!(rt; ReadRange::read(&month).err(), Some(Reason::OutOfRange));
     // by position 3, count 0
-    let count: [u8; 13] = [
-        0x0c, 5, 0, 0, 1, 0x19, 0x83, 0x3e, 0x21, 3, 0x31, 0, 0x3f,
-    ];
+    let count: [u8; 13] = [0x0c, 5, 0, 0, 1, 0x19, 0x83, 0x3e, 0x21, 3, 0x31, 0, 0x3f];
     assert_eq!(rt; ReadRange::read(&count).err(), Some(Reason::OutOfRange));
     // priority 17
     let priority: [u8; 13] = [
@@ -94,9 +89,7 @@ fn values_out_of_range(rt: HostRuntime) -> Result<(), Fail> {
 #[test]
 fn who_is_rows(rt: HostRuntime) -> Result<(), Fail> {
     // to all networks, 255 hops: Who-Is without limits
-    let all: [u8; 12] = [
-        0x81, 0x0b, 0, 12, 0x01, 0x20, 0xff, 0xff, 0, 0xff, 0x10, 8,
-    ];
+    let all: [u8; 12] = [0x81, 0x0b, 0, 12, 0x01, 0x20, 0xff, 0xff, 0, 0xff, 0x10, 8];
     let npdu = match read_frame(&all).ok_or("frame")? {
         Frame::Broadcast(npdu) => npdu,
         _ => &[],
@@ -128,9 +121,7 @@ fn who_is_rows(rt: HostRuntime) -> Result<(), Fail> {
 #[test]
 fn frames_that_are_none(rt: HostRuntime) -> Result<(), Fail> {
     // Who-Is with a BVLC length one too large, and one too small
-    let large: [u8; 12] = [
-        0x81, 0x0b, 0, 13, 0x01, 0x20, 0xff, 0xff, 0, 0xff, 0x10, 8,
-    ];
+    let large: [u8; 12] = [0x81, 0x0b, 0, 13, 0x01, 0x20, 0xff, 0xff, 0, 0xff, 0x10, 8];
     assert!(rt; read_frame(&large).is_none());
     let small: [u8; 6] = [0x81, 0x0a, 0, 5, 0x01, 0];
     assert!(rt; read_frame(&small).is_none());
@@ -223,7 +214,9 @@ fn request_by_number(rt: HostRuntime) -> Result<(), Fail> {
         hops: 0,
     };
     let mut datagram = Datagram::new();
-    write_datagram(&mut datagram, &npdu, apdu.octets()).ok().ok_or("full")?;
+    write_datagram(&mut datagram, &npdu, apdu.octets())
+        .ok()
+        .ok_or("full")?;
     assert_eq!(rt; datagram.octets(), octets.as_slice());
     Ok(())
 }
@@ -274,9 +267,7 @@ fn property_request(rt: HostRuntime) -> Result<(), Fail> {
 #[test]
 fn property_answer(rt: HostRuntime) -> Result<(), Fail> {
     // Object_Identifier of device 123, with its value
-    let octets: [u8; 14] = [
-        0x0c, 2, 0, 0, 123, 0x19, 75, 0x3e, 0xc4, 2, 0, 0, 123, 0x3f,
-    ];
+    let octets: [u8; 14] = [0x0c, 2, 0, 0, 123, 0x19, 75, 0x3e, 0xc4, 2, 0, 0, 123, 0x3f];
     let ack = ReadPropertyAck {
         object: object(8, 123)?,
         property: 75,
@@ -350,7 +341,13 @@ fn records_row(rt: HostRuntime) -> Result<(), Fail> {
 fn short_answers(rt: HostRuntime) -> Result<(), Fail> {
     // what stands for each APDU in octets, and the APDU
     let rows: [(&[u8], Apdu); 5] = [
-        (&[0x20, 1, 15], Apdu::Simple { invoke: 1, service: 15 }),
+        (
+            &[0x20, 1, 15],
+            Apdu::Simple {
+                invoke: 1,
+                service: 15,
+            },
+        ),
         // class property, code write-access-denied
         (
             &[0x50, 1, 15, 0x91, 2, 0x91, 40],
@@ -361,7 +358,13 @@ fn short_answers(rt: HostRuntime) -> Result<(), Fail> {
                 code: 40,
             },
         ),
-        (&[0x60, 3, 6], Apdu::Reject { invoke: 3, reason: 6 }),
+        (
+            &[0x60, 3, 6],
+            Apdu::Reject {
+                invoke: 3,
+                reason: 6,
+            },
+        ),
         // segmentation not supported
         (
             &[0x71, 1, 4],
@@ -389,8 +392,20 @@ fn short_answers(rt: HostRuntime) -> Result<(), Fail> {
     }
     // a segment with sequence 0 and window 1, and its acknowledgement
     let segment = read_apdu(&[0x08, 0x05, 1, 0, 1, 12, 0x0c]);
-    assert!(rt; matches!(segment, Some(Apdu::Confirmed { segmented: true, service: 12, .. })));
-    assert_eq!(rt; read_apdu(&[0x40, 1, 0, 1]), Some(Apdu::SegmentAck { invoke: 1 }));
+    assert!(rt;
+        matches!(
+            segment,
+            Some(Apdu::Confirmed {
+                segmented: true,
+                service: 12,
+                ..
+            })
+        )
+    );
+    assert_eq!(rt;
+        read_apdu(&[0x40, 1, 0, 1]),
+        Some(Apdu::SegmentAck { invoke: 1 })
+    );
     Ok(())
 }
 
@@ -430,7 +445,9 @@ fn i_am_with_a_route(rt: HostRuntime) -> Result<(), Fail> {
         hops: 255,
     };
     let mut datagram = Datagram::new();
-    write_datagram(&mut datagram, &npdu, apdu.octets()).ok().ok_or("full")?;
+    write_datagram(&mut datagram, &npdu, apdu.octets())
+        .ok()
+        .ok_or("full")?;
     let whole: [u8; 25] = [
         0x81, 0x0a, 0, 25, 0x01, 0x20, 0, 5, 1, 0x0a, 255, // frame, header and route
         0x10, 0, 0xc4, 2, 0, 0, 123, 0x22, 0x05, 0xc4, 0x91, 3, 0x21, 0,
