@@ -41,43 +41,157 @@ fn plays(
 fn who_is_is_answered(rt: HostRuntime) -> Result<(), Fail> {
     plays(&rt, rt.alloc(), &[DEVICE, WHO_IS], &[I_AM], Ok(()))?;
     // 0a for 0b, no destination, digits of upper case.
-    plays(&rt, rt.alloc(), &[DEVICE, b"rx 810A000801001008"], &[I_AM], Ok(()))?;
+    plays(
+        &rt,
+        rt.alloc(),
+        &[DEVICE, b"rx 810A000801001008"],
+        &[I_AM],
+        Ok(()),
+    )?;
     // Limits 124 to 200, 123 to 123, 123 to 200, 100 to 123.
-    plays(&rt, rt.alloc(), &[DEVICE, b"rx 810b00100120ffff00ff1008097c19c8\n"], &[NONE], Ok(()))?;
-    plays(&rt, rt.alloc(), &[DEVICE, b"rx 810b00100120ffff00ff1008097b197b\n"], &[I_AM], Ok(()))?;
-    plays(&rt, rt.alloc(), &[DEVICE, b"rx 810b00100120ffff00ff1008097b19c8\n"], &[I_AM], Ok(()))?;
-    plays(&rt, rt.alloc(), &[DEVICE, b"rx 810b00100120ffff00ff10080964197b\n"], &[I_AM], Ok(()))?;
+    plays(
+        &rt,
+        rt.alloc(),
+        &[DEVICE, b"rx 810b00100120ffff00ff1008097c19c8\n"],
+        &[NONE],
+        Ok(()),
+    )?;
+    plays(
+        &rt,
+        rt.alloc(),
+        &[DEVICE, b"rx 810b00100120ffff00ff1008097b197b\n"],
+        &[I_AM],
+        Ok(()),
+    )?;
+    plays(
+        &rt,
+        rt.alloc(),
+        &[DEVICE, b"rx 810b00100120ffff00ff1008097b19c8\n"],
+        &[I_AM],
+        Ok(()),
+    )?;
+    plays(
+        &rt,
+        rt.alloc(),
+        &[DEVICE, b"rx 810b00100120ffff00ff10080964197b\n"],
+        &[I_AM],
+        Ok(()),
+    )?;
     // One limit only.
-    plays(&rt, rt.alloc(), &[DEVICE, b"rx 810b000e0120ffff00ff1008097b\n"], &[NONE], Ok(()))
+    plays(
+        &rt,
+        rt.alloc(),
+        &[DEVICE, b"rx 810b000e0120ffff00ff1008097b\n"],
+        &[NONE],
+        Ok(()),
+    )
 }
 
 #[test]
 fn the_rest_is_not_answered(rt: HostRuntime) -> Result<(), Fail> {
     // The length of the frame is one too large.
-    plays(&rt, rt.alloc(), &[DEVICE, b"rx 810b000d0120ffff00ff1008\n"], &[NONE], Ok(()))?;
+    plays(
+        &rt,
+        rt.alloc(),
+        &[DEVICE, b"rx 810b000d0120ffff00ff1008\n"],
+        &[NONE],
+        Ok(()),
+    )?;
     // Another function of the frame; another version of the header.
-    plays(&rt, rt.alloc(), &[DEVICE, b"rx 8109000c0120ffff00ff1008\n"], &[NONE], Ok(()))?;
-    plays(&rt, rt.alloc(), &[DEVICE, b"rx 810b000c0220ffff00ff1008\n"], &[NONE], Ok(()))?;
+    plays(
+        &rt,
+        rt.alloc(),
+        &[DEVICE, b"rx 8109000c0120ffff00ff1008\n"],
+        &[NONE],
+        Ok(()),
+    )?;
+    plays(
+        &rt,
+        rt.alloc(),
+        &[DEVICE, b"rx 810b000c0220ffff00ff1008\n"],
+        &[NONE],
+        Ok(()),
+    )?;
     // A network message; from network 5; to network 5; to one device of all networks.
-    plays(&rt, rt.alloc(), &[DEVICE, b"rx 810b000801801200\n"], &[NONE], Ok(()))?;
-    plays(&rt, rt.alloc(), &[DEVICE, b"rx 810b000c0108000501071008\n"], &[NONE], Ok(()))?;
-    plays(&rt, rt.alloc(), &[DEVICE, b"rx 810b000c0120000500ff1008\n"], &[NONE], Ok(()))?;
-    plays(&rt, rt.alloc(), &[DEVICE, b"rx 810b000d0120ffff0107ff1008\n"], &[NONE], Ok(()))?;
+    plays(
+        &rt,
+        rt.alloc(),
+        &[DEVICE, b"rx 810b000801801200\n"],
+        &[NONE],
+        Ok(()),
+    )?;
+    plays(
+        &rt,
+        rt.alloc(),
+        &[DEVICE, b"rx 810b000c0108000501071008\n"],
+        &[NONE],
+        Ok(()),
+    )?;
+    plays(
+        &rt,
+        rt.alloc(),
+        &[DEVICE, b"rx 810b000c0120000500ff1008\n"],
+        &[NONE],
+        Ok(()),
+    )?;
+    plays(
+        &rt,
+        rt.alloc(),
+        &[DEVICE, b"rx 810b000d0120ffff0107ff1008\n"],
+        &[NONE],
+        Ok(()),
+    )?;
     // I-Am, and a ReadProperty of Device 123's name.
-    plays(&rt, rt.alloc(), &[DEVICE, b"rx 810a001401001000c40200007b2205c491032100\n"], &[NONE], Ok(()))?;
-    plays(&rt, rt.alloc(), &[DEVICE, b"rx 810a001101040005010c0c0200007b194d\n"], &[NONE], Ok(()))
+    plays(
+        &rt,
+        rt.alloc(),
+        &[DEVICE, b"rx 810a001401001000c40200007b2205c491032100\n"],
+        &[NONE],
+        Ok(()),
+    )?;
+    plays(
+        &rt,
+        rt.alloc(),
+        &[DEVICE, b"rx 810a001101040005010c0c0200007b194d\n"],
+        &[NONE],
+        Ok(()),
+    )
 }
 
 #[test]
 fn lines_are_counted_and_cut(rt: HostRuntime) -> Result<(), Fail> {
     plays(&rt, rt.alloc(), &[], &[], Ok(()))?;
     plays(&rt, rt.alloc(), &[DEVICE], &[], Ok(()))?;
-    plays(&rt, rt.alloc(), &[b"# \xff\r\n\r\n", DEVICE, WHO_IS, b"#"], &[I_AM], Ok(()))?;
+    plays(
+        &rt,
+        rt.alloc(),
+        &[b"# \xff\r\n\r\n", DEVICE, WHO_IS, b"#"],
+        &[I_AM],
+        Ok(()),
+    )?;
     // Each line ends with a carriage return too.
-    plays(&rt, rt.alloc(), &[b"device 123 plant 0 1476 2024-05-06T07:08:09.10\r\nrx 00\r\n"], &[NONE], Ok(()))?;
+    plays(
+        &rt,
+        rt.alloc(),
+        &[b"device 123 plant 0 1476 2024-05-06T07:08:09.10\r\nrx 00\r\n"],
+        &[NONE],
+        Ok(()),
+    )?;
     // What is written before a bad line stays; comments and empty lines count.
-    plays(&rt, rt.alloc(), &[DEVICE, b"rx 8\n"], &[], Err(ReplayFault::BadLine(2)))?;
-    plays(&rt, rt.alloc(), &[DEVICE, WHO_IS, b"# more\n\nrx 8\nrx 00\n"], &[I_AM], Err(ReplayFault::BadLine(5)))
+    plays(
+        &rt,
+        rt.alloc(),
+        &[DEVICE, b"rx 8\n"],
+        &[],
+        Err(ReplayFault::BadLine(2)),
+    )?;
+    plays(
+        &rt,
+        rt.alloc(),
+        &[DEVICE, WHO_IS, b"# more\n\nrx 8\nrx 00\n"],
+        &[I_AM],
+        Err(ReplayFault::BadLine(5)),
+    )
 }
 
 /// Lines that are bad as the second of a script whose first is the device.
@@ -118,14 +232,32 @@ const NO_DEVICE: [&[u8]; 15] = [
 #[test]
 fn bad_lines_are_refused(rt: HostRuntime) -> Result<(), Fail> {
     for bad in BAD {
-        plays(&rt, rt.alloc(), &[DEVICE, bad], &[], Err(ReplayFault::BadLine(2)))?;
+        plays(
+            &rt,
+            rt.alloc(),
+            &[DEVICE, bad],
+            &[],
+            Err(ReplayFault::BadLine(2)),
+        )?;
     }
     for bad in NO_DEVICE {
         plays(&rt, rt.alloc(), &[bad], &[], Err(ReplayFault::BadLine(1)))?;
     }
     // A device line after an event; the leap day of 2024.
-    plays(&rt, rt.alloc(), &[DEVICE, WHO_IS, DEVICE], &[I_AM], Err(ReplayFault::BadLine(3)))?;
-    plays(&rt, rt.alloc(), &[b"device 123 plant 0 1476 2024-02-29T07:08:09.10\n", WHO_IS], &[I_AM], Ok(()))
+    plays(
+        &rt,
+        rt.alloc(),
+        &[DEVICE, WHO_IS, DEVICE],
+        &[I_AM],
+        Err(ReplayFault::BadLine(3)),
+    )?;
+    plays(
+        &rt,
+        rt.alloc(),
+        &[b"device 123 plant 0 1476 2024-02-29T07:08:09.10\n", WHO_IS],
+        &[I_AM],
+        Ok(()),
+    )
 }
 
 #[test]
@@ -134,23 +266,98 @@ fn devices_are_built_once_there_is_an_event(rt: HostRuntime) -> Result<(), Fail>
     let instance = Err(ReplayFault::Build(BuildFault::BadInstance));
     let name = Err(ReplayFault::Build(BuildFault::BadName));
     let size = Err(ReplayFault::Build(BuildFault::BadReplySize));
-    plays(&rt, rt.alloc(), &[b"device 4194303 plant 0 1476", at, WHO_IS], &[], instance)?;
-    plays(&rt, rt.alloc(), &[b"device 4194303 plant 0 1476", at], &[], instance)?;
-    plays(&rt, rt.alloc(), &[b"device 4194302 plant 0 1476", at], &[], Ok(()))?;
-    plays(&rt, rt.alloc(), &[b"device 123 pl\x7fnt 0 1476", at], &[], name)?;
-    plays(&rt, rt.alloc(), &[b"device 123 pl\tnt 0 1476", at], &[], name)?;
+    plays(
+        &rt,
+        rt.alloc(),
+        &[b"device 4194303 plant 0 1476", at, WHO_IS],
+        &[],
+        instance,
+    )?;
+    plays(
+        &rt,
+        rt.alloc(),
+        &[b"device 4194303 plant 0 1476", at],
+        &[],
+        instance,
+    )?;
+    plays(
+        &rt,
+        rt.alloc(),
+        &[b"device 4194302 plant 0 1476", at],
+        &[],
+        Ok(()),
+    )?;
+    plays(
+        &rt,
+        rt.alloc(),
+        &[b"device 123 pl\x7fnt 0 1476", at],
+        &[],
+        name,
+    )?;
+    plays(
+        &rt,
+        rt.alloc(),
+        &[b"device 123 pl\tnt 0 1476", at],
+        &[],
+        name,
+    )?;
     // 64 octets, 65 octets, and 33 characters of two octets each.
     let digits = b"0123456789012345678901234567890123456789012345678901234567890123".as_slice();
-    plays(&rt, rt.alloc(), &[b"device 123 ", digits, b" 0 1476", at], &[], Ok(()))?;
-    plays(&rt, rt.alloc(), &[b"device 123 ", digits, b"4 0 1476", at], &[], name)?;
-    plays(&rt, rt.alloc(), &["device 123 äöüäöüäöüäöüäöüäöüäöüäöüäöüäöüäöü 0 1476".as_bytes(), at], &[], name)?;
+    plays(
+        &rt,
+        rt.alloc(),
+        &[b"device 123 ", digits, b" 0 1476", at],
+        &[],
+        Ok(()),
+    )?;
+    plays(
+        &rt,
+        rt.alloc(),
+        &[b"device 123 ", digits, b"4 0 1476", at],
+        &[],
+        name,
+    )?;
+    plays(
+        &rt,
+        rt.alloc(),
+        &[
+            "device 123 äöüäöüäöüäöüäöüäöüäöüäöüäöüäöüäöü 0 1476".as_bytes(),
+            at,
+        ],
+        &[],
+        name,
+    )?;
     plays(&rt, rt.alloc(), &[b"device 123 plant 0 49", at], &[], size)?;
-    plays(&rt, rt.alloc(), &[b"device 123 plant 0 50", at], &[], Ok(()))?;
-    plays(&rt, rt.alloc(), &[b"device 123 plant 0 1477", at], &[], size)?;
+    plays(
+        &rt,
+        rt.alloc(),
+        &[b"device 123 plant 0 50", at],
+        &[],
+        Ok(()),
+    )?;
+    plays(
+        &rt,
+        rt.alloc(),
+        &[b"device 123 plant 0 1477", at],
+        &[],
+        size,
+    )?;
     // The instance comes first, then the name; a bad event line before all of them.
-    plays(&rt, rt.alloc(), &[b"device 4194303 \x7f 0 49", at], &[], instance)?;
+    plays(
+        &rt,
+        rt.alloc(),
+        &[b"device 4194303 \x7f 0 49", at],
+        &[],
+        instance,
+    )?;
     plays(&rt, rt.alloc(), &[b"device 123 \x7f 0 49", at], &[], name)?;
-    plays(&rt, rt.alloc(), &[b"device 4194303 plant 0 1476", at, b"rx 8\n"], &[], Err(ReplayFault::BadLine(2)))
+    plays(
+        &rt,
+        rt.alloc(),
+        &[b"device 4194303 plant 0 1476", at, b"rx 8\n"],
+        &[],
+        Err(ReplayFault::BadLine(2)),
+    )
 }
 
 /// A reader over memory that refuses the read after so many.
@@ -244,21 +451,54 @@ fn a_refused_write_ends_the_replay(rt: HostRuntime) -> Result<(), Fail> {
 fn a_script_may_have_so_many_octets(rt: HostRuntime) -> Result<(), Fail> {
     let room = LIMIT - DEVICE.len() - WHO_IS.len();
     let feeds = vec![in rt.alloc(); b'\n'; room]?;
-    plays(&rt, rt.alloc(), &[DEVICE, WHO_IS, feeds.as_slice()], &[I_AM], Ok(()))?;
+    plays(
+        &rt,
+        rt.alloc(),
+        &[DEVICE, WHO_IS, feeds.as_slice()],
+        &[I_AM],
+        Ok(()),
+    )?;
     // One octet more, even without a line feed; what was ended is played, the rest isn't.
-    plays(&rt, rt.alloc(), &[DEVICE, WHO_IS, feeds.as_slice(), b"r"], &[I_AM], Err(ReplayFault::TooLong))?;
+    plays(
+        &rt,
+        rt.alloc(),
+        &[DEVICE, WHO_IS, feeds.as_slice(), b"r"],
+        &[I_AM],
+        Err(ReplayFault::TooLong),
+    )?;
     let digits = vec![in rt.alloc(); b'0'; room]?;
-    plays(&rt, rt.alloc(), &[DEVICE, WHO_IS, digits.as_slice(), b"\n"], &[I_AM], Err(ReplayFault::TooLong))?;
-    plays(&rt, rt.alloc(), &[DEVICE, WHO_IS, b"rx 8\n", feeds.as_slice()], &[I_AM], Err(ReplayFault::BadLine(3)))
+    plays(
+        &rt,
+        rt.alloc(),
+        &[DEVICE, WHO_IS, digits.as_slice(), b"\n"],
+        &[I_AM],
+        Err(ReplayFault::TooLong),
+    )?;
+    plays(
+        &rt,
+        rt.alloc(),
+        &[DEVICE, WHO_IS, b"rx 8\n", feeds.as_slice()],
+        &[I_AM],
+        Err(ReplayFault::BadLine(3)),
+    )
 }
 
 #[test]
 fn faults_have_their_texts(rt: HostRuntime) -> Result<(), Fail> {
     for (fault, text) in [
         (ReplayFault::BadLine(2), "line 2: bad line"),
-        (ReplayFault::Build(BuildFault::BadInstance), "cannot build: bad instance"),
-        (ReplayFault::Build(BuildFault::BadName), "cannot build: bad name"),
-        (ReplayFault::Build(BuildFault::BadReplySize), "cannot build: bad reply size"),
+        (
+            ReplayFault::Build(BuildFault::BadInstance),
+            "cannot build: bad instance",
+        ),
+        (
+            ReplayFault::Build(BuildFault::BadName),
+            "cannot build: bad name",
+        ),
+        (
+            ReplayFault::Build(BuildFault::BadReplySize),
+            "cannot build: bad reply size",
+        ),
         (ReplayFault::TooLong, "script too long"),
         (ReplayFault::Read, "read fault"),
         (ReplayFault::Write, "write fault"),

@@ -1,8 +1,8 @@
 -- An announcement fits a datagram.
-use Rattle.std.proofs.Common.{◌≡◌, ℕ, suc, ◌+◌, ◌*◌, ◌^◌, ◌<◌, ◌≤◌, Bool, true, false, cond, nat_lt, List, [], ◌∷◌, ◌++◌, length, Result, Ok, Err, refl, sym, ap, subst, ◌∙◌, arith, length-append}
-use Rattle.std.specs.Int.{w16, w32, w64, to_be_bytes}
+use Rattle.std.proofs.Common.{◌≡◌, ℕ, ◌+◌, ◌*◌, ◌^◌, ◌≤◌, Bool, true, false, cond, nat_lt, List, [], ◌∷◌, ◌++◌, length, Result, Ok, Err, refl, ap, ◌∙◌, arith, length-append}
+use Rattle.std.specs.Int.{w32, w64, to_be_bytes}
 use Rattle.std.specs.Result.{IsOk}
-use Rattle.bac_wire.specs.Primitive.{Primitive, Id, Unsigned, Enumerated, Object}
+use Rattle.bac_wire.specs.Primitive.{Id, Unsigned, Enumerated, Object}
 use Rattle.bac_wire.specs.Canon.{Writes, shortened, without_needless, is_zero, unsigned_octets, tag_octets, length_octets, head_octets, tagged}
 use Rattle.bac_apdu.specs.Adding.{value_text}
 use Rattle.bac_apdu.specs.Form.{canon_form}
@@ -69,8 +69,17 @@ announcement-len a =
     let x = value_text (Unsigned a.max_apdu) in
     let y = value_text (Enumerated a.segmentation) in
     let z = value_text (Unsigned a.vendor) in
-    omega (arith, object-len a.device, number-len a.max_apdu, enumerated-len a.segmentation, number-len a.vendor,
-      length-append w (x ++ (y ++ (z ++ []))), length-append x (y ++ (z ++ [])), length-append y (z ++ []), length-append {A = ℕ} z [])
+    omega (
+      arith,
+      object-len a.device,
+      number-len a.max_apdu,
+      enumerated-len a.segmentation,
+      number-len a.vendor,
+      length-append w (x ++ (y ++ (z ++ []))),
+      length-append x (y ++ (z ++ [])),
+      length-append y (z ++ []),
+      length-append {A = ℕ} z [],
+    )
 
 -- behind a plain header, and in a frame
 pub reply-len : (apdu : List ℕ) → length apdu ≤ 58 → length (frame_text (header_text plain ++ apdu)) ≤ 64

@@ -1,15 +1,15 @@
 -- From the lines that were played to the script that was read.
-use Rattle.std.proofs.Common.{◌≡◌, ◌⊎◌, ℕ, suc, ◌+◌, ◌-◌, ◌≤◌, ◌<◌, Bool, true, false, cond, nat_le, List, [], ◌∷◌, ◌++◌, length, take, drop, Option, None, Some, Result, Ok, Err, refl, sym, ap, subst, ◌∙◌, arith, append_assoc, append-nil, inl, inr, OnOk, IfErr, length-append, option_map}
+use Rattle.std.proofs.Common.{◌≡◌, ℕ, ◌+◌, ◌-◌, ◌≤◌, ◌<◌, Bool, true, false, cond, nat_le, List, [], ◌∷◌, ◌++◌, length, take, drop, Option, None, Some, Result, Ok, Err, refl, sym, ap, subst, ◌∙◌, arith, append_assoc, append-nil, inl, inr, OnOk, IfErr, length-append, option_map}
 use Rattle.std.proofs.KnownBytes.{Appends-nil}
 use Rattle.std.proofs.Math.Seq.{take-add}
 use Rattle.std.proofs.lemmas.List.{take_at, drop_at, take-append-le}
 use Rattle.std.proofs.lemmas.Bool.{le-leb, lt-leb}
 use Rattle.bac_tools.proofs.LineLemmas.{ended_lines-longer, lines-parts}
 use Rattle.std.specs.Io.KnownBytes.{Appends, Consumes, IsAtEnd}
-use Rattle.bac_tools.specs.Lines.{parts, all_but_last, last_if_any, ended_lines, open_line}
+use Rattle.bac_tools.specs.Lines.{last_if_any, ended_lines, open_line}
 use Rattle.std.specs.Str.Lines.{lines}
-use Rattle.bac_tools.specs.Replay.{Played, play, then_play, at_end, past_limit, played_lines, text_of, fault_of_script, PlaysAll, PlaysSome, Ends, Replays}
-use Rattle.bac_tools.specs.Fault.{at_line, replay_fault}
+use Rattle.bac_tools.specs.Replay.{Played, play, then_play, at_end, past_limit, played_lines, text_of, fault_of_script, PlaysAll, Ends, Replays}
+use Rattle.bac_tools.specs.Fault.{replay_fault}
 use Rattle.bac_tools.specs.Session.{step, end_fault}
 use Rattle.bac_tools.specs.Stops.{FaultStops, Stops, ScriptStops}
 use Rattle.bac_tools.specs.Output.{AppendsPart}

@@ -1,12 +1,11 @@
 -- Lines that are played in parts.
-use Rattle.std.proofs.Common.{◌≡◌, ℕ, suc, ◌+◌, List, [], ◌∷◌, ◌++◌, length, Option, None, Some, Result, Ok, Err, refl, sym, ap, subst, ◌∙◌, arith, append_assoc, append-nil, length-append}
+use Rattle.std.proofs.Common.{◌≡◌, ℕ, suc, ◌+◌, List, [], ◌∷◌, ◌++◌, length, Option, Result, Ok, Err, refl, sym, ap, subst, ◌∙◌, arith, append_assoc, append-nil, length-append}
 use Rattle.std.specs.Io.KnownBytes.{Appends, Keeps}
 use Rattle.std.proofs.KnownBytes.{Appends-nil, Appends-trans, Appends-kept}
 use Rattle.bac_tools.specs.Replay.{Played, play, then_play, PlaysAll}
 use Rattle.bac_tools.specs.Fault.{at_line}
 use Rattle.bac_tools.specs.Session.{step}
 use Rattle.bac_tools.specs.Stops.{LineStops, FaultStops, Stops}
-use Rattle.bac_tools.specs.Output.{AppendsPart}
 use Rattle.bac_tools.specs.declared.fault.LineFault.{LineFault}
 use Rattle.bac_tools.specs.declared.fault.ReplayFault.{ReplayFault}
 use Rattle.bac_tools.specs.declared.fault.ReplayFault.TheVariants.{BadLine, Build, Read, TooLong, Write, Memory}

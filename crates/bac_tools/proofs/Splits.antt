@@ -16,7 +16,7 @@ slice_split-position p text i found =
 abbrev pub IsCons : List (List ℕ) → Type 0
 IsCons xs = (y : List ℕ) × (ys : List (List ℕ)) × (xs ≡ y ∷ ys)
 
-onto_first-IsCons : (x : ℕ) (xs : List (List ℕ)) → IsCons (onto_first x xs)
+pub onto_first-IsCons : (x : ℕ) (xs : List (List ℕ)) → IsCons (onto_first x xs)
 onto_first-IsCons x [] = (x ∷ [], [], refl)
 onto_first-IsCons x (y ∷ ys) = (x ∷ y, ys, refl)
 

@@ -1,5 +1,5 @@
 -- How the playing of lines can stop early.
-use Rattle.std.specs.Prelude.{◌≡◌, ◌⊎◌, ℕ, List, ◌++◌, Option, Some, Result, Ok, Err}
+use Rattle.std.specs.Prelude.{◌≡◌, ◌⊎◌, ℕ, List, ◌++◌, Option, Ok, Err}
 use Rattle.std.specs.Io.KnownBytes.{Appends, Keeps}
 use Rattle.std.specs.Str.Lines.{lines}
 use Rattle.bac_tools.specs.Fault.{at_line, replay_fault}

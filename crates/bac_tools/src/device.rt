@@ -9,7 +9,9 @@ ghost use Rattle.bac_apdu.specs.WhoIs.{who_is_items};
 ghost use Rattle.bac_tools.specs.Device.{is_control, is_name, fault_of, Refuses, npdu_at, is_heard, heard_at, who_is_at, asks_for, announcement, reply, answer};
 
 use crate::name::Name;
-use bac_apdu::{Apdu, Frame, IAm, Npdu, WhoIs, read_apdu, read_frame, read_npdu, write_apdu, write_datagram};
+use bac_apdu::{
+    Apdu, Frame, IAm, Npdu, WhoIs, read_apdu, read_frame, read_npdu, write_apdu, write_datagram,
+};
 use bac_wire::{Datagram, ObjectId, Stamp};
 use std::alloc::{AllocError, Global};
 use std::marker::Model;

@@ -1,4 +1,14 @@
-//! The tools.
+//! What the program `bac` does, over values, readers and writers that a contract can name.
+//!
+//! [`run_replay`] plays a script: each line is a device to describe or a datagram that it receives,
+//! and what it answers is written. The text that a script makes is stated in specs/Replay, line by
+//! line from specs/Session, and `run_replay` is proved to write that text and nothing else, also
+//! where the reader, the writer or memory refuses ([`ReplayFault`]).
+//!
+//! A line passes `lines` and `words`, then `number`, `name`, `stamp` or `hexadecimal`, and
+//! `session`, which holds what the lines so far have made. The device itself, in `device`, answers
+//! Who-Is and nothing else. The program's words, its standard streams and its exit status are in
+//! the crate bac.
 #![tactic(auto)]
 
 mod device;

@@ -1,4 +1,4 @@
-use Rattle.std.proofs.Common.{arith, List, ℕ, ◌≡◌, ◌<◌, [], ◌∷◌, length, eqb}
+use Rattle.std.proofs.Common.{arith, ◌≡◌, ◌<◌, [], ◌∷◌, length}
 use Rattle.std.proofs.lemmas.Result.{err_from_is_err_and, on_ok_weaker, IfErr-weaker}
 use Rattle.std.proofs.lemmas.Grind.{common_steps}
 use Rattle.std.specs.Str.Lines.{lines}

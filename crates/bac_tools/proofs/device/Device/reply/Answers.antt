@@ -1,11 +1,10 @@
-use Rattle.std.proofs.Common.{◌≡◌, ◌≤◌, ◌∷◌, ◌++◌, length, sym, ap, subst, ◌∙◌, arith, refl}
-use Rattle.std.specs.Result.{IsOk}
+use Rattle.std.proofs.Common.{◌≡◌, ◌≤◌, ◌++◌, length, ap, ◌∙◌, arith}
 use Rattle.bac_apdu.specs.Apdu.{Unconfirmed, message_text}
 use Rattle.bac_apdu.specs.Form.{canon_form}
 use Rattle.bac_apdu.specs.Frame.{frame_text}
 use Rattle.bac_apdu.specs.IAm.{i_am, i_am_items}
 use Rattle.bac_apdu.specs.Npdu.{header_text}
-use Rattle.bac_tools.specs.Device.{announcement, plain, reply}
+use Rattle.bac_tools.specs.Device.{plain, reply}
 use Rattle.bac_tools.proofs.Announcements.{written, announcement-len, reply-len}
 use Rattle.bac_tools.proofs.device.Device.reply.Goals as goal
 
