@@ -5,7 +5,7 @@ use Rattle.bac_apdu.specs.declared.frame.Frame.{Frame as FrameCode}
 use Rattle.bac_apdu.specs.declared.frame.Frame.TheVariants as code
 use Rattle.bac_apdu.specs.Octets.{◌>>=◌, octet_at, word_at, octets_at}
 
--- a frame, apart from where it lies in memory
+-- A frame, apart from where it lies in memory. Forwarded has an address and an NPDU, Function its number and what follows.
 pub data Frame : Type 0 where
   Unicast : List ℕ → Frame
   Broadcast : List ℕ → Frame
