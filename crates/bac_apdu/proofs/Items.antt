@@ -1,8 +1,8 @@
 -- What a service shows of its fields is all of them.
-use Rattle.std.proofs.Common.{◌≡◌, ℕ, ◌*◌, ◌/◌, ◌%◌, ◌^◌, ◌<◌, eqb, Bool, true, false, List, [], ◌∷◌, Option, Some, None, ℤ, refl, sym, ap, ◌∙◌, arith, inl, inr}
+use Rattle.std.proofs.Common.{◌≡◌, ℕ, ◌/◌, ◌%◌, ◌^◌, ◌<◌, eqb, List, [], ◌∷◌, Option, Some, None, ℤ, refl, ap, ◌∙◌, arith, inl, inr}
 use Rattle.std.proofs.lemmas.Bool.{cases_Bool, eqb-true, eqb-false}
 use Rattle.bac_wire.specs.Number.{bit}
-use Rattle.bac_wire.specs.Primitive.{Id, Primitive, Unsigned, Signed, Bits, Enumerated, Date, Time, Object}
+use Rattle.bac_wire.specs.Primitive.{Id, Primitive, Unsigned, Signed, Bits, Enumerated, Object}
 use Rattle.bac_wire.specs.Stamp.{date_octets, time_octets}
 use Rattle.bac_wire.specs.declared.stamp.Date4.{Date4}
 use Rattle.bac_wire.specs.declared.stamp.Time4.{Time4}
@@ -16,7 +16,7 @@ use Rattle.bac_apdu.specs.declared.extent.Extent.{Extent}
 use Rattle.bac_apdu.specs.declared.extent.Extent.TheVariants.{All, ByPosition, ByNumber, ByTime}
 use Rattle.bac_apdu.specs.declared.read_range.ReadRange.{ReadRange}
 use Rattle.bac_apdu.specs.declared.read_range_ack.ReadRangeAck.{ReadRangeAck}
-use Rattle.bac_apdu.specs.Form.{Item, Value, Mark, Inside, Absent, number_item}
+use Rattle.bac_apdu.specs.Form.{Item, Value, Mark, Inside, number_item}
 use Rattle.bac_apdu.specs.WhoIs.{limit_items, who_is_items}
 use Rattle.bac_apdu.specs.IAm.{i_am_items}
 use Rattle.bac_apdu.specs.ReadProperty.{property_items}
@@ -73,7 +73,7 @@ same_trio a b p q i j l m e =
       object = same_object a b (first_item (Value (Object a)) (Value (Object b)) (Value (Enumerated p) ∷ number_item i ∷ l) (Value (Enumerated q) ∷ number_item j ∷ m) e);
       property = same_enumerated p q (first_item (Value (Enumerated p)) (Value (Enumerated q)) (number_item i ∷ l) (number_item j ∷ m) one);
       index = same_number i j (first_item (number_item i) (number_item j) l m two);
-      others = other_items (number_item i) (number_item j) l m two
+      others = other_items (number_item i) (number_item j) l m two;
     }
 
 -- ---- Who-Is and I-Am
@@ -131,10 +131,13 @@ same_write v w e =
     let t = same_trio v.object w.object v.property w.property v.index w.index (Mark 3 ∷ Value (view v.value) ∷ Mark 3 ∷ number_item v.priority ∷ []) (Mark 3 ∷ Value (view w.value) ∷ Mark 3 ∷ number_item w.priority ∷ []) e in
     let one = other_items (Mark 3) (Mark 3) (Value (view v.value) ∷ Mark 3 ∷ number_item v.priority ∷ []) (Value (view w.value) ∷ Mark 3 ∷ number_item w.priority ∷ []) t.others in
     let two = other_items (Value (view v.value)) (Value (view w.value)) (Mark 3 ∷ number_item v.priority ∷ []) (Mark 3 ∷ number_item w.priority ∷ []) one in
-    let three = other_items (Mark 3) (Mark 3) (number_item v.priority ∷ []) (number_item w.priority ∷ []) two in
-    (t.object, t.property, t.index,
+    let three = other_items (Mark 3) (Mark 3) (number_item v.priority ∷ []) (number_item w.priority ∷ []) two in (
+      t.object,
+      t.property,
+      t.index,
       same_value (view v.value) (view w.value) (first_item (Value (view v.value)) (Value (view w.value)) (Mark 3 ∷ number_item v.priority ∷ []) (Mark 3 ∷ number_item w.priority ∷ []) one),
-      same_number v.priority w.priority (first_item (number_item v.priority) (number_item w.priority) [] [] three))
+      same_number v.priority w.priority (first_item (number_item v.priority) (number_item w.priority) [] [] three),
+    )
 
 -- ---- ranges
 
@@ -227,8 +230,8 @@ pub same_range_ack : (a b : ReadRangeAck) → a.flags < 256 → b.flags < 256 �
     → (a.object ≡ b.object) × (a.property ≡ b.property) × (a.index ≡ b.index) × (a.flags ≡ b.flags) × (a.count ≡ b.count) × (a.items.now ≡ b.items.now) × (a.first_number ≡ b.first_number)
 same_range_ack a b small low rest clear e =
     let t = same_trio a.object b.object a.property b.property a.index b.index
-        (Value (Bits (flag_bits a.flags)) ∷ Value (Unsigned a.count) ∷ Mark 5 ∷ Inside a.items.now ∷ number_item a.first_number ∷ [])
-        (Value (Bits (flag_bits b.flags)) ∷ Value (Unsigned b.count) ∷ Mark 5 ∷ Inside b.items.now ∷ number_item b.first_number ∷ []) e in
+    (Value (Bits (flag_bits a.flags)) ∷ Value (Unsigned a.count) ∷ Mark 5 ∷ Inside a.items.now ∷ number_item a.first_number ∷ [])
+    (Value (Bits (flag_bits b.flags)) ∷ Value (Unsigned b.count) ∷ Mark 5 ∷ Inside b.items.now ∷ number_item b.first_number ∷ []) e in
     let others = t.others in
     let flags : flag_bits a.flags ≡ flag_bits b.flags = cc in
     let count : a.count ≡ b.count = cc in

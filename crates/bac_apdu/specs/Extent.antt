@@ -1,5 +1,5 @@
 -- The range of ReadRange (clauses 15.8 and 21): its parameters, and what an extent shows of its fields.
-use Rattle.std.specs.Prelude.{ℕ, ℤ, pos, negsuc, ◌^◌, ◌<◌, ◌≡◌, ◌&&◌, nat_lt, nat_le, Bool, true, false, List, [], ◌∷◌}
+use Rattle.std.specs.Prelude.{ℕ, pos, negsuc, ◌^◌, ◌<◌, ◌≡◌, ◌&&◌, nat_lt, nat_le, Bool, true, false, List, [], ◌∷◌}
 use Rattle.bac_wire.specs.Primitive.{Primitive, Unsigned, Signed, Date, Time}
 use Rattle.bac_wire.specs.Stamp.{date_octets, time_octets}
 use Rattle.bac_apdu.specs.declared.extent.Extent.{Extent}
@@ -8,13 +8,13 @@ use Rattle.bac_apdu.specs.Form.{Form, end, part, option, application, opening, c
 
 -- ---- ranges
 
--- a Signed of 32 bits, not zero
+-- a Signed of 32 bits, not zero (15.8)
 abbrev pub is_count : Primitive → Bool
 is_count (Signed (pos n)) = nat_lt 0 n && nat_lt n (2 ^ 31)
 is_count (Signed (negsuc n)) = nat_lt n (2 ^ 31)
 is_count value = false
 
--- year, month and day are specified; any weekday
+-- year, month and day are specified; any weekday (20.2.12)
 abbrev pub date_fits : List ℕ → Bool
 date_fits (year ∷ month ∷ day ∷ weekday ∷ []) = nat_le year 254 && nat_le 1 month && nat_le month 12 && nat_le 1 day && nat_le day 31
 date_fits octets = false
@@ -23,6 +23,7 @@ abbrev pub is_date : Primitive → Bool
 is_date (Date octets) = date_fits octets
 is_date value = false
 
+-- hour, minute, second and hundredths are specified (20.2.13)
 abbrev pub time_fits : List ℕ → Bool
 time_fits (hour ∷ minute ∷ second ∷ hundredths ∷ []) = nat_le hour 23 && nat_le minute 59 && nat_le second 59 && nat_le hundredths 99
 time_fits octets = false
@@ -37,8 +38,8 @@ is_time value = false
 abbrev pub by_reference : ℕ → Form
 by_reference tag =
     part (opening tag)
-    (part (application unsigned is_u32)         -- reference index or sequence number
-    (part (application signed is_count)         -- count
+    (part (application unsigned is_u32)  -- reference index or sequence number
+    (part (application signed is_count)  -- count
     (part (closing tag)
     end)))
 
@@ -46,9 +47,9 @@ by_reference tag =
 abbrev pub by_time : Form
 by_time =
     part (opening 7)
-    (part (application date is_date)            -- reference time: its date
-    (part (application time is_time)            -- and its time
-    (part (application signed is_count)         -- count
+    (part (application date is_date)  -- reference time: its date
+    (part (application time is_time)  -- and its time
+    (part (application signed is_count)  -- count
     (part (closing 7)
     end))))
 

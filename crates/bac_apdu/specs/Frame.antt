@@ -18,7 +18,7 @@ frame_of (code.Broadcast rest) = Broadcast rest.now
 frame_of (code.Forwarded address rest) = Forwarded address rest.now
 frame_of (code.Function function rest) = Function function rest.now
 
--- Original-Unicast-NPDU is 0A, Original-Broadcast-NPDU 0B; Forwarded-NPDU, 04, has six octets of address first.
+-- What each function has (J.2.5, J.2.11, J.2.12): Original-Unicast-NPDU is 0A, Original-Broadcast-NPDU 0B; Forwarded-NPDU, 04, has six octets of address first.
 unfoldable pub body_at : ℕ → List ℕ → Option Frame
 body_at function bytes =
     if function == 10 then Some (Unicast bytes) else
@@ -36,6 +36,6 @@ frame_at bytes = do
   len ← word_at function.1
   if kind.0 == 129 && len.0 == length bytes then body_at function.0 len.1 else None
 
--- a frame to one device
+-- an Original-Unicast-NPDU (J.2.11)
 unfoldable pub frame_text : List ℕ → List ℕ
 frame_text body = (129 ∷ 10 ∷ to_be_bytes w16 (length body + 4)) ++ body

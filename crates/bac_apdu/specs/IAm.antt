@@ -21,10 +21,10 @@ is_enumerated value = false
 
 abbrev pub i_am : Form
 i_am =
-    part (application object_identifier is_object) -- I-Am device identifier
-    (part (application unsigned is_unsigned)       -- max APDU length accepted
-    (part (application enumerated is_enumerated)   -- segmentation supported
-    (part (application unsigned is_unsigned)       -- vendor identifier
+    part (application object_identifier is_object)  -- I-Am device identifier
+    (part (application unsigned is_unsigned)  -- max APDU length accepted
+    (part (application enumerated is_enumerated)  -- segmentation supported
+    (part (application unsigned is_unsigned)  -- vendor identifier
     end)))
 
 abbrev pub i_am_items : IAm → List Item

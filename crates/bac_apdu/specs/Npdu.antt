@@ -8,10 +8,12 @@ use Rattle.bac_apdu.specs.Octets.{◌>>=◌, octet_at, word_at, octets_at}
 
 -- ---- headers, apart from where they lie in memory
 
+-- a network and an address on it (6.2.2.1, 6.2.2.2)
 pub record Place : Type 0 where
   pub net : ℕ
   pub address : List ℕ
 
+-- what stands before an APDU or a network message (6.2.1, 6.2.2)
 pub record Header : Type 0 where
   pub network : Bool
   pub reply : Bool
@@ -48,7 +50,7 @@ maybe_place_at there bytes = if there then (do
 unfoldable pub hops_at : Bool → List ℕ → Option (ℕ × List ℕ)
 hops_at there bytes = if there then octet_at bytes else Some (0, bytes)
 
--- 01, the control octet, the destination where bit 5 is set, the source where bit 3 is, and the hop count where there is a destination.
+-- 6.2.2: 01, the control octet, the destination where bit 5 is set, the source where bit 3 is, and the hop count where there is a destination.
 -- Bit 7 says a network message, bit 2 that a reply is expected, bits 1 and 0 the priority.
 unfoldable pub header_at : List ℕ → Option (Header × List ℕ)
 header_at bytes = do
@@ -74,21 +76,26 @@ abbrev pub hops_text : Option Place → ℕ → List ℕ
 hops_text None hops = []
 hops_text (Some place) hops = hops ∷ []
 
+-- the control octet (6.2.2)
 abbrev pub control_of : Header → ℕ
 control_of h = 128 * from_bool h.network + 32 * from_bool (is_there h.dest) + 8 * from_bool (is_there h.source) + 4 * from_bool h.reply + h.priority
 
+-- in the order of 6.2: the hop count is last
 abbrev pub header_text : Header → List ℕ
 header_text h = (1 ∷ control_of h ∷ []) ++ (place_text h.dest ++ (place_text h.source ++ hops_text h.dest h.hops))
 
 -- ---- what can be written
 
+-- a number of two octets, and an address whose length has one
 abbrev pub IsPlace : Option Place → Type 0
 IsPlace None = Unit {0}
 IsPlace (Some place) = (place.net < 65536) × (length place.address < 256)
 
+-- the hop count is there where a destination is (6.2.3)
 abbrev pub HasHops : Option Place → ℕ → Type 0
 HasHops None hops = hops ≡ 0
 HasHops (Some place) hops = Unit {0}
 
+-- the priority has two bits (6.2.2)
 abbrev pub IsHeader : Header → Type 0
 IsHeader h = (h.priority < 4) × IsPlace h.dest × IsPlace h.source × HasHops h.dest h.hops

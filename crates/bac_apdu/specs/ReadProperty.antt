@@ -7,9 +7,9 @@ use Rattle.bac_apdu.specs.Form.{Form, end, part, maybe, context, anything, is_u3
 
 abbrev pub read_property : Form
 read_property =
-    part (context 0 object_identifier anything) -- object identifier
-    (part (context 1 enumerated anything)       -- property identifier
-    (maybe 2 unsigned is_u32                    -- property array index, optional
+    part (context 0 object_identifier anything)  -- object identifier
+    (part (context 1 enumerated anything)  -- property identifier
+    (maybe 2 unsigned is_u32  -- property array index, optional
     end))
 
 abbrev pub property_items : ReadProperty → List Item

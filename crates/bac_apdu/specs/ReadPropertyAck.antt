@@ -6,15 +6,15 @@ use Rattle.bac_apdu.specs.Form.{Form, end, part, maybe, context, opening, enclos
 
 abbrev pub values : Form
 values =
-    part (opening 3)                            -- property value, opened
-    (part (enclosed 3)                          -- values, and the tag that closes
+    part (opening 3)  -- property value, opened
+    (part (enclosed 3)  -- values, and the tag that closes
     end)
 
 abbrev pub read_property_ack : Form
 read_property_ack =
-    part (context 0 object_identifier anything) -- object identifier
-    (part (context 1 enumerated anything)       -- property identifier
-    (maybe 2 unsigned is_u32                    -- property array index, optional
+    part (context 0 object_identifier anything)  -- object identifier
+    (part (context 1 enumerated anything)  -- property identifier
+    (maybe 2 unsigned is_u32  -- property array index, optional
     values))
 
 abbrev pub value_items : ReadPropertyAck → List Item

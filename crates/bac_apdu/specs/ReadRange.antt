@@ -7,10 +7,10 @@ use Rattle.bac_apdu.specs.Extent.{range, extent_items}
 
 abbrev pub read_range : Form
 read_range =
-    part (context 0 object_identifier anything) -- object identifier
-    (part (context 1 enumerated anything)       -- property identifier
-    (maybe 2 unsigned is_u32                    -- property array index, optional
-    range))                                     -- range, optional
+    part (context 0 object_identifier anything)  -- object identifier
+    (part (context 1 enumerated anything)  -- property identifier
+    (maybe 2 unsigned is_u32  -- property array index, optional
+    range))  -- range, optional
 
 abbrev pub range_items : ReadRange → List Item
 range_items r = Value (Object r.object) ∷ Value (Enumerated r.property) ∷ number_item r.index ∷ extent_items r.extent

@@ -12,8 +12,8 @@ is_instance value = false
 -- no parameter at all, or both
 abbrev pub who_is : Form
 who_is = nothing_or
-    (part (context 0 unsigned is_instance)      -- device instance range, low limit
-    (part (context 1 unsigned is_instance)      -- and high limit
+    (part (context 0 unsigned is_instance)  -- device instance range, low limit
+    (part (context 1 unsigned is_instance)  -- and high limit
     end))
 
 abbrev pub limit_items : Option (ℕ × ℕ) → List Item

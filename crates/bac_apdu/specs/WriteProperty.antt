@@ -12,17 +12,17 @@ is_priority value = false
 
 abbrev pub setting : Form
 setting =
-    part (opening 3)                            -- property value, opened
-    (part any                                   -- one value
-    (part (closing 3)                           -- and closed
-    (maybe 4 unsigned is_priority               -- priority, optional
+    part (opening 3)  -- property value, opened
+    (part any  -- one value
+    (part (closing 3)  -- and closed
+    (maybe 4 unsigned is_priority  -- priority, optional
     end)))
 
 abbrev pub write_property : Form
 write_property =
-    part (context 0 object_identifier anything) -- object identifier
-    (part (context 1 enumerated anything)       -- property identifier
-    (maybe 2 unsigned is_u32                    -- property array index, optional
+    part (context 0 object_identifier anything)  -- object identifier
+    (part (context 1 enumerated anything)  -- property identifier
+    (maybe 2 unsigned is_u32  -- property array index, optional
     setting))
 
 abbrev pub setting_items : WriteProperty → List Item

@@ -5,7 +5,7 @@ ghost use Rattle.bac_wire.specs.Primitive.{Unsigned, Signed};
 ghost use Rattle.bac_wire.specs.Reading.{Gives};
 ghost use Rattle.bac_apdu.specs.Adding.{Adds};
 ghost use Rattle.bac_apdu.specs.Extent.{range, extent_items, by_reference};
-ghost use Rattle.bac_apdu.specs.Form.{Value as Number, Mark, form_at, canon_form};
+ghost use Rattle.bac_apdu.specs.Form.{Value as Item, Mark, form_at, canon_form};
 
 use crate::adding::{add_close, add_open, add_value};
 use crate::parts::Parts;
@@ -14,14 +14,20 @@ use bac_wire::{Datagram, Date4, Full, Time4, Value};
 
 /// Which records are asked for. A count above 0 goes on from the reference, one below 0 ends
 /// there; it isn't 0.
-#[derive(Clone, Copy, Debug)]
+#[derive(Clone, Copy, Debug, PartialEq, Eq)]
 pub enum Extent {
     /// Every record.
     All,
     /// By place in the log, the oldest being 1.
-    ByPosition { reference: u32, count: i32 },
+    ByPosition {
+        reference: u32,
+        count: i32,
+    },
     /// By sequence number.
-    ByNumber { reference: u32, count: i32 },
+    ByNumber {
+        reference: u32,
+        count: i32,
+    },
     /// By time: those after it, or those before it. Year, month and day and all of the time are
     /// specified.
     ByTime {
@@ -77,7 +83,7 @@ pub(crate) fn add_extent(out: &mut Datagram, extent: Extent) -> Result<(), Full>
 
 fn add_reference(out: &mut Datagram, tag: u8, reference: u32, count: i32) -> Result<(), Full>
     requires { tag ≤ 254 }
-    ensures { Adds out.old (canon_form (by_reference tag) (Mark tag ∷ Number (Unsigned reference) ∷ Number (Signed count) ∷ Mark tag ∷ [])) result out.new }
+    ensures { Adds out.old (canon_form (by_reference tag) (Mark tag ∷ Item (Unsigned reference) ∷ Item (Signed count) ∷ Mark tag ∷ [])) result out.new }
 {
     add_open(out, tag)?;
     add_value(out, &Value::Unsigned(reference as u64))?;

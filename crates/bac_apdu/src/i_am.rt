@@ -34,6 +34,7 @@ impl IAm {
         ensures found { IfSome result (λ a. Reads i_am bytes.now (i_am_items a)) }
         // What is spelled so is read.
         ensures only { (items : List Item) → Reads i_am bytes.now items → IsSomeAnd result (λ a. i_am_items a ≡ items) }
+        // The same as a function, on which callers build.
         ensures exact { GivesSome i_am_items result (result_ok (form_at i_am bytes.now)) }
     {
         IAm::parts(bytes).ok()
@@ -79,12 +80,10 @@ impl IAm {
     /// What is written is read back.
     pub fn canon_is_read()
         ensures { (a : IAm) → IsAnnouncement a → Reads i_am (canon_form i_am (i_am_items a)) (i_am_items a) }
-    {
-    }
+    {}
 
     /// Two different announcements never show the same parameters.
     pub fn items_tell_fields()
         ensures { (a b : IAm) → i_am_items a ≡ i_am_items b → a ≡ b }
-    {
-    }
+    {}
 }

@@ -17,7 +17,7 @@ use crate::reason::Reason;
 use bac_wire::{Datagram, Full, ObjectId, Value, write_octets};
 
 /// The value of a property, as octets.
-#[derive(Clone, Copy, Debug)]
+#[derive(Clone, Copy, Debug, PartialEq, Eq)]
 pub struct ReadPropertyAck<'a> {
     pub object: ObjectId,
     pub property: u32,
@@ -34,6 +34,7 @@ impl<'a> ReadPropertyAck<'a> {
         ensures found { IfSome result (λ a. Reads read_property_ack bytes.now (property_ack_items a)) }
         // What is spelled so is read.
         ensures only { (items : List Item) → Reads read_property_ack bytes.now items → IsSomeAnd result (λ a. property_ack_items a ≡ items) }
+        // The same as a function, on which callers build.
         ensures exact { GivesSome property_ack_items result (result_ok (form_at read_property_ack bytes.now)) }
     {
         match ReadPropertyAck::parts(bytes) {
@@ -93,12 +94,10 @@ impl<'a> ReadPropertyAck<'a> {
     /// What is written is read back.
     pub fn canon_is_read()
         ensures { (a : ReadPropertyAck) → IsProperty a.object a.property a.index → IsLevel a.values.now → Reads read_property_ack (canon_form read_property_ack (property_ack_items a)) (property_ack_items a) }
-    {
-    }
+    {}
 
     /// Two different answers never show the same parameters.
     pub fn items_tell_fields()
         ensures { (a b : ReadPropertyAck) → property_ack_items a ≡ property_ack_items b → (a.object ≡ b.object) × (a.property ≡ b.property) × (a.index ≡ b.index) × (a.values.now ≡ b.values.now) }
-    {
-    }
+    {}
 }

@@ -29,6 +29,7 @@ impl WhoIs {
         ensures found { IfSome result (λ w. Reads who_is bytes.now (who_is_items w)) }
         // What is spelled so is read.
         ensures only { (items : List Item) → Reads who_is bytes.now items → IsSomeAnd result (λ w. who_is_items w ≡ items) }
+        // The same as a function, on which callers build.
         ensures exact { GivesSome who_is_items result (result_ok (form_at who_is bytes.now)) }
     {
         WhoIs::parts(bytes).ok()
@@ -74,12 +75,10 @@ impl WhoIs {
     /// What is written is read back.
     pub fn canon_is_read()
         ensures { (w : WhoIs) → AreLimits w.limits → Reads who_is (canon_form who_is (who_is_items w)) (who_is_items w) }
-    {
-    }
+    {}
 
     /// Two different requests never show the same parameters.
     pub fn items_tell_fields()
         ensures { (v w : WhoIs) → who_is_items v ≡ who_is_items w → v ≡ w }
-    {
-    }
+    {}
 }

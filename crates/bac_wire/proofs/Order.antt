@@ -1,14 +1,14 @@
 -- Moments are ordered by their parts as by their ticks.
-use Rattle.std.proofs.Common.{◌≡◌, ℕ, ◌+◌, ◌-◌, ◌*◌, ◌<◌, ◌≤◌, ◌⊎◌, inl, inr, refl, ap, sym, ◌∙◌, arith, pos, ◌<ℤ◌}
+use Rattle.std.proofs.Common.{◌≡◌, ℕ, ◌+◌, ◌<◌, ◌≤◌, inl, inr, ap, sym, ◌∙◌, arith, pos, ◌<ℤ◌}
 use Rattle.std.proofs.lemmas.Bool.{cases_order}
 use Rattle.std.specs.declared.cmp.Ordering.{Ordering}
 use Rattle.std.specs.declared.cmp.Ordering.TheVariants.{Less, Equal, Greater}
 use Rattle.std.specs.Ordering.{nat_cmp, ordering_then}
 use Rattle.std.specs.Cmp.{nat_cmp_is}
-use Rattle.jiff_core.specs.Calendar.{IsCivilDate, days_in_month, day_count}
+use Rattle.jiff_core.specs.Calendar.{IsCivilDate, day_count}
 use Rattle.jiff_core.proofs.CalendarLemmas.{day_count-lt_year, day_count-lt_month, day_count-day}
 use Rattle.jiff.proofs.SpanFacts.{signed_arith}
-use Rattle.bac_wire.specs.Stamp.{Moment, IsMoment, day_number, ticks_of, moment_order, order_of, date_of, time_of}
+use Rattle.bac_wire.specs.Stamp.{Moment, IsMoment, day_number, ticks_of, moment_order}
 use Rattle.bac_wire.proofs.Calendar.{day_count-day_number}
 
 less : (a b : ℕ) → a < b → nat_cmp a b ≡ Less

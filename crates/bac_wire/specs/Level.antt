@@ -13,6 +13,7 @@ use Rattle.bac_wire.specs.Reading.{◌>>=◌, octet_at, octets_at, number_at, le
 abbrev pub IsWhole : List ℕ → Type 0
 IsWhole text = ((low : ℕ) × (low < 6) × IsTag 0 1 low text) ⊎ ((class : ℕ) × (tag : ℕ) × (contents : List ℕ) × ((class ≡ 8) ⊎ ((class ≡ 0) × (tag ≡ 1 → ⊥))) × IsTagged class tag contents text)
 
+-- a whole tag, one that opens a level, or one that closes a level
 abbrev pub IsToken : Token → List ℕ → Type 0
 IsToken Whole text = IsWhole text
 IsToken Open text = (tag : ℕ) × IsTag 8 tag 6 text
@@ -41,7 +42,7 @@ EndsAt wanted bytes n = (n ≤ length bytes) × IsLevel (take n bytes) × ((clos
 
 -- ---- reading from left to right
 
--- a whole tag with its contents
+-- the first of them, and the octets after it
 unfoldable pub token_at : List ℕ → Result (Token × List ℕ) WireFault
 token_at bytes = do
   first ← octet_at bytes

@@ -1,12 +1,13 @@
 //! Tags on one level: whole tags, and the tags that open and close a level (clause 20.2.1.3.2).
 
-ghost use Rattle.std.specs.Prelude.{◌≡◌, ◌+◌, ◌-◌, ◌*◌, ◌/◌, ◌%◌, ◌^◌, ◌<◌, ◌≤◌, ◌&&◌, ℕ, List, [], ◌∷◌, ◌++◌, length, map, take, drop, slice_index_or, IfOk, IsOkAnd, Ok, Err, IsTrue, true};
+ghost use Rattle.std.specs.Prelude.{◌≡◌, ◌+◌, ◌≤◌, ℕ, List, ◌++◌, length, drop, IfOk, IsOkAnd};
 ghost use Rattle.bac_wire.specs.Reading.{Gives};
 ghost use Rattle.bac_wire.specs.Spelling.{IsTag};
 ghost use Rattle.bac_wire.specs.Level.{token_at, close_at, IsLevel, EndsAt};
 
 use crate::fault::WireFault;
-use crate::tag::{length_of, number_of, octet_of, octets_of};
+use crate::primitive::BOOLEAN;
+use crate::tag::{Mark, is_context_tag, length_of, number_of, octet_of, octets_of};
 
 /// A whole tag with its contents, or one that opens or closes a level.
 #[derive(Clone, Copy, Debug)]
@@ -16,23 +17,24 @@ pub(crate) enum Token {
     Close(u8),
 }
 
+/// The first tag, with its contents where it has any, and the octets after it.
 #[tactic(auto, unfolding(crate::specs::Level::token_at))]
 fn token_of(bytes: &[u8]) -> Result<(Token, &[u8]), WireFault>
     ensures { Gives (λ x. (x.0, x.1.now)) result (token_at bytes.now) }
 {
     let (first, rest) = octet_of(bytes)?;
-    let context = first / 8 % 2 == 1;
+    let context = is_context_tag(first);
     if !context && first % 8 > 5 {
         return Err(WireFault::BadTag);
     }
     let (tag, rest) = number_of(first, rest)?;
-    if first % 8 == 6 {
+    if first % 8 == Mark::Opening.bits() {
         return Ok((Token::Open, rest));
     }
-    if first % 8 == 7 {
+    if first % 8 == Mark::Closing.bits() {
         return Ok((Token::Close(tag), rest));
     }
-    if !context && tag == 1 {
+    if !context && tag == BOOLEAN {
         return Ok((Token::Whole, rest));
     }
     let (len, rest) = length_of(first % 8, rest)?;
@@ -40,7 +42,9 @@ fn token_of(bytes: &[u8]) -> Result<(Token, &[u8]), WireFault>
     Ok((Token::Whole, rest))
 }
 
-/// How many octets stand before the closing tag that ends this level.
+/// How many octets stand before the closing tag of this number that ends the level (clause
+/// 20.2.1.3.2). BadTag where the closing tag on this level has another number, or a tag can't be
+/// read; Ended where octets are missing. The numbers of the tags inside are not compared.
 pub fn octets_to_close(bytes: &[u8], wanted: u8) -> Result<usize, WireFault>
     // Before it stand whole tags, each level that they open closed.
     ensures found { IfOk result (EndsAt wanted bytes.now) }
@@ -52,6 +56,7 @@ pub fn octets_to_close(bytes: &[u8], wanted: u8) -> Result<usize, WireFault>
     count_to_close(bytes, wanted)
 }
 
+/// Goes from tag to tag, and counts the levels that are open.
 fn count_to_close(bytes: &[u8], wanted: u8) -> Result<usize, WireFault>
     ensures within { IfOk result (λ n. n ≤ length bytes.now) }
     ensures exact { Gives (λ n. drop n bytes.now) result (close_at (length bytes.now + 1) 0 wanted bytes.now) }

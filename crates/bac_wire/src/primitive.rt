@@ -1,9 +1,9 @@
 //! The contents of each primitive type (clauses 20.2.2 to 20.2.14).
 
-ghost use Rattle.std.specs.Prelude.{◌≡◌, ◌+◌, ◌-◌, ◌*◌, ◌/◌, ◌%◌, ◌^◌, ◌<◌, ◌≤◌, ◌&&◌, ℕ, List, [], ◌∷◌, ◌++◌, length, map, take, drop, slice_index_or, IfOk, IsOkAnd, Ok, Err, IsTrue, true};
+ghost use Rattle.std.specs.Prelude.{◌≡◌, ◌-◌, ◌*◌, ◌^◌, ◌<◌, ◌≤◌, length, map, take, IfOk, true};
 ghost use Rattle.bac_wire.specs.Number.{number, signed, bits_of};
-ghost use Rattle.bac_wire.specs.Reading.{Gives, has_length, chars_in, bits_in, enumerated_in, bool_in, value_in, contents_as};
-ghost use Rattle.bac_wire.specs.View.{view};
+ghost use Rattle.bac_wire.specs.Reading.{Gives, has_length, chars_in, bits_in, enumerated_in, value_in, contents_as};
+ghost use Rattle.bac_wire.specs.View.{view, IsWellFormed};
 ghost use Rattle.bac_wire.specs.Stamp.{date_octets, time_octets};
 ghost use Rattle.bac_wire.specs.Primitive.{Boolean, Unsigned, Signed, Enumerated, Object, Bits};
 
@@ -12,7 +12,34 @@ use crate::object_id::ObjectId;
 use crate::stamp::{Date4, Time4};
 use crate::value::Value;
 
-/// An unsigned number, high octet first.
+// The types by the numbers of their application tags (clause 20.2.1.4).
+pub(crate) const NULL: u8 = 0;
+
+pub(crate) const BOOLEAN: u8 = 1;
+
+pub(crate) const UNSIGNED: u8 = 2;
+
+pub(crate) const SIGNED: u8 = 3;
+
+pub(crate) const REAL: u8 = 4;
+
+pub(crate) const DOUBLE: u8 = 5;
+
+pub(crate) const OCTETS: u8 = 6;
+
+pub(crate) const CHARS: u8 = 7;
+
+pub(crate) const BITS: u8 = 8;
+
+pub(crate) const ENUMERATED: u8 = 9;
+
+pub(crate) const DATE: u8 = 10;
+
+pub(crate) const TIME: u8 = 11;
+
+pub(crate) const OBJECT: u8 = 12;
+
+/// An unsigned number, high octet first (clause 20.2.4).
 pub(crate) fn unsigned_of(octets: &[u8]) -> u64
     requires { length octets.now ≤ 8 }
     ensures value { result ≡ number octets.now }
@@ -37,7 +64,7 @@ fn complement_of(octets: &[u8]) -> u64
     number
 }
 
-/// A number in two's complement, high octet first.
+/// A number in two's complement, high octet first (clause 20.2.5).
 fn signed_of(octets: &[u8]) -> i64
     requires some { 1 ≤ length octets.now }
     requires few { length octets.now ≤ 8 }
@@ -50,38 +77,41 @@ fn signed_of(octets: &[u8]) -> i64
     }
 }
 
+/// Which lengths the contents of a type have.
 pub(crate) fn has_length_of(tag: u8, len: usize) -> bool
     ensures { result ≡ has_length tag len }
 {
     match tag {
-        0 => len == 0,
-        2 | 3 | 9 => 1 <= len && len <= 8,
-        4 | 10 | 11 | 12 => len == 4,
-        5 => len == 8,
-        6 => true,
+        NULL => len == 0,
+        UNSIGNED | SIGNED | ENUMERATED => 1 <= len && len <= 8,
+        REAL | DATE | TIME | OBJECT => len == 4,
+        DOUBLE => len == 8,
+        OCTETS => true,
         _ => 1 <= len,
     }
 }
 
+/// The value of contents that have a length of their type.
 #[tactic(auto, unfolding(crate::specs::Reading::value_in))]
 pub(crate) fn value_of_contents(tag: u8, contents: &[u8]) -> Result<Value, WireFault>
     requires length { has_length tag (length contents.now) ≡ true }
     requires value { 0 < tag → 1 < tag }
     requires known { tag ≤ 12 }
-    ensures { Gives view result (value_in tag contents.now) }
+    ensures exact { Gives view result (value_in tag contents.now) }
+    ensures well_formed { IfOk result IsWellFormed }
 {
     Ok(match tag {
-        0 => Value::Null,
-        2 => Value::Unsigned(unsigned_of(contents)),
-        3 => Value::Signed(signed_of(contents)),
-        4 => Value::Real4(four_of(contents)),
-        5 => Value::Double8(eight_of(contents)),
-        6 => Value::Octets(contents),
-        7 => return chars_of(contents),
-        8 => return bits_of(contents),
-        9 => return enumerated_of(contents),
-        10 => Value::Date(date_in(contents)),
-        11 => Value::Time(time_in(contents)),
+        NULL => Value::Null,
+        UNSIGNED => Value::Unsigned(unsigned_of(contents)),
+        SIGNED => Value::Signed(signed_of(contents)),
+        REAL => Value::Real4(four_of(contents)),
+        DOUBLE => Value::Double8(eight_of(contents)),
+        OCTETS => Value::Octets(contents),
+        CHARS => return chars_of(contents),
+        BITS => return bits_of(contents),
+        ENUMERATED => return enumerated_of(contents),
+        DATE => Value::Date(date_in(contents)),
+        TIME => Value::Time(time_in(contents)),
         _ => Value::Object(ObjectId::of_number(unsigned_of(contents) as u32)),
     })
 }
@@ -93,6 +123,16 @@ fn four_of(octets: &[u8]) -> [u8; 4]
     [octets[0], octets[1], octets[2], octets[3]]
 }
 
+fn eight_of(octets: &[u8]) -> [u8; 8]
+    requires { length octets.now ≡ 8 }
+    ensures { result ≡ octets.now }
+{
+    [
+        octets[0], octets[1], octets[2], octets[3], octets[4], octets[5], octets[6], octets[7],
+    ]
+}
+
+/// Year, month, day, weekday (clause 20.2.12).
 fn date_in(octets: &[u8]) -> Date4
     requires { length octets.now ≡ 4 }
     ensures { date_octets result ≡ octets.now }
@@ -105,6 +145,7 @@ fn date_in(octets: &[u8]) -> Date4
     }
 }
 
+/// Hour, minute, second, hundredth (clause 20.2.13).
 fn time_in(octets: &[u8]) -> Time4
     requires { length octets.now ≡ 4 }
     ensures { time_octets result ≡ octets.now }
@@ -117,17 +158,10 @@ fn time_in(octets: &[u8]) -> Time4
     }
 }
 
-fn eight_of(octets: &[u8]) -> [u8; 8]
-    requires { length octets.now ≡ 8 }
-    ensures { result ≡ octets.now }
-{
-    [
-        octets[0], octets[1], octets[2], octets[3], octets[4], octets[5], octets[6], octets[7],
-    ]
-}
-
+/// The octet of the character set, then the characters (clause 20.2.9).
 fn chars_of(contents: &[u8]) -> Result<Value, WireFault>
-    ensures { Gives view result (chars_in contents.now) }
+    ensures exact { Gives view result (chars_in contents.now) }
+    ensures well_formed { IfOk result IsWellFormed }
 {
     match contents {
         [] => Err(WireFault::BadContents),
@@ -135,8 +169,10 @@ fn chars_of(contents: &[u8]) -> Result<Value, WireFault>
     }
 }
 
+/// The count of unused bits, then the bits (clause 20.2.10).
 fn bits_of(contents: &[u8]) -> Result<Value, WireFault>
-    ensures { Gives view result (bits_in contents.now) }
+    ensures exact { Gives view result (bits_in contents.now) }
+    ensures well_formed { IfOk result IsWellFormed }
 {
     match contents {
         [] => Err(WireFault::BadContents),
@@ -152,9 +188,11 @@ fn bits_of(contents: &[u8]) -> Result<Value, WireFault>
     }
 }
 
+/// A number below 2^32 (clause 20.2.11).
 fn enumerated_of(contents: &[u8]) -> Result<Value, WireFault>
     requires { length contents.now ≤ 8 }
-    ensures { Gives view result (enumerated_in contents.now) }
+    ensures exact { Gives view result (enumerated_in contents.now) }
+    ensures well_formed { IfOk result IsWellFormed }
 {
     let number = unsigned_of(contents);
     if number > 4294967295 {
@@ -163,58 +201,32 @@ fn enumerated_of(contents: &[u8]) -> Result<Value, WireFault>
     Ok(Value::Enumerated(number as u32))
 }
 
-fn bool_of(contents: &[u8]) -> Result<Value, WireFault>
-    ensures { Gives view result (bool_in contents.now) }
-{
-    match contents {
-        [flag] => {
-            if *flag > 1 {
-                return Err(WireFault::BadContents);
-            }
-            Ok(Value::Boolean(*flag == 1))
-        }
-        _ => Err(WireFault::BadLength),
-    }
-}
-
-/// The value that contents behind a context tag stand for.
-#[tactic(auto, unfolding(crate::specs::Reading::contents_as))]
-pub(crate) fn value_as(tag: u8, contents: &[u8]) -> Result<Value, WireFault>
-    requires { tag ≤ 12 }
-    ensures { Gives view result (contents_as tag contents.now) }
-{
-    if tag == 1 {
-        return bool_of(contents);
-    }
-    if !has_length_of(tag, contents.len()) {
-        return Err(WireFault::BadLength);
-    }
-    value_of_contents(tag, contents)
-}
-
-/// An Unsigned behind a context tag.
+/// The contents of an Unsigned behind a context tag, 1 to 8 octets (clause 20.2.4). BadLength for
+/// any other length.
 #[tactic(auto, unfolding(crate::specs::Reading::contents_as, crate::specs::Reading::value_in))]
 pub fn as_unsigned(contents: &[u8]) -> Result<u64, WireFault>
     ensures { Gives (λ n. Unsigned n) result (contents_as 2 contents.now) }
 {
-    if !has_length_of(2, contents.len()) {
+    if !has_length_of(UNSIGNED, contents.len()) {
         return Err(WireFault::BadLength);
     }
     Ok(unsigned_of(contents))
 }
 
-/// A Signed behind a context tag.
+/// The contents of a Signed behind a context tag, 1 to 8 octets in two's complement (clause 20.2.5).
+/// BadLength for any other length.
 #[tactic(auto, unfolding(crate::specs::Reading::contents_as, crate::specs::Reading::value_in))]
 pub fn as_signed(contents: &[u8]) -> Result<i64, WireFault>
     ensures { Gives (λ z. Signed z) result (contents_as 3 contents.now) }
 {
-    if !has_length_of(3, contents.len()) {
+    if !has_length_of(SIGNED, contents.len()) {
         return Err(WireFault::BadLength);
     }
     Ok(signed_of(contents))
 }
 
-/// A Boolean behind a context tag: one octet, 0 or 1.
+/// The contents of a Boolean behind a context tag, one octet (clause 20.2.3). BadLength for any
+/// other length, BadContents unless the octet is 0 or 1.
 #[tactic(auto, unfolding(crate::specs::Reading::contents_as))]
 pub fn as_boolean(contents: &[u8]) -> Result<bool, WireFault>
     ensures { Gives (λ b. Boolean b) result (contents_as 1 contents.now) }
@@ -230,12 +242,13 @@ pub fn as_boolean(contents: &[u8]) -> Result<bool, WireFault>
     }
 }
 
-/// An Enumerated behind a context tag.
+/// The contents of an Enumerated behind a context tag, 1 to 8 octets (clause 20.2.11). BadLength for
+/// any other length, BadContents for a number of 2^32 and more.
 #[tactic(auto, unfolding(crate::specs::Reading::contents_as, crate::specs::Reading::value_in))]
 pub fn as_enumerated(contents: &[u8]) -> Result<u32, WireFault>
     ensures { Gives (λ n. Enumerated n) result (contents_as 9 contents.now) }
 {
-    if !has_length_of(9, contents.len()) {
+    if !has_length_of(ENUMERATED, contents.len()) {
         return Err(WireFault::BadLength);
     }
     let number = unsigned_of(contents);
@@ -245,7 +258,9 @@ pub fn as_enumerated(contents: &[u8]) -> Result<u32, WireFault>
     Ok(number as u32)
 }
 
-/// How many bits of the last octet are unused, and the octets of a Bit String behind a context tag.
+/// The contents of a Bit String behind a context tag (clause 20.2.10): how many bits of the last octet
+/// are unused, and the octets, the first bit the highest of the first octet. BadLength where there
+/// are no contents, BadContents for more than 7 unused bits, or any where no octet follows.
 #[tactic(auto, unfolding(crate::specs::Reading::contents_as, crate::specs::Reading::value_in))]
 pub fn as_bits(contents: &[u8]) -> Result<(u8, &[u8]), WireFault>
     ensures exact { Gives (λ x. Bits (take (8 * length x.1.now - x.0) (bits_of x.1.now))) result (contents_as 8 contents.now) }
@@ -262,12 +277,13 @@ pub fn as_bits(contents: &[u8]) -> Result<(u8, &[u8]), WireFault>
     }
 }
 
-/// An Object Identifier behind a context tag.
+/// The contents of an Object Identifier behind a context tag, four octets (clause 20.2.14).
+/// BadLength for any other length.
 #[tactic(auto, unfolding(crate::specs::Reading::contents_as, crate::specs::Reading::value_in))]
 pub fn as_object(contents: &[u8]) -> Result<ObjectId, WireFault>
     ensures { Gives (λ o. Object o) result (contents_as 12 contents.now) }
 {
-    if !has_length_of(12, contents.len()) {
+    if !has_length_of(OBJECT, contents.len()) {
         return Err(WireFault::BadLength);
     }
     Ok(ObjectId::of_number(unsigned_of(contents) as u32))

@@ -1,14 +1,67 @@
 //! Heads of tags: the tag number and the length (clause 20.2.1), read and written.
 
-ghost use Rattle.std.specs.Prelude.{◌≡◌, ◌+◌, ◌-◌, ◌*◌, ◌/◌, ◌%◌, ◌^◌, ◌<◌, ◌≤◌, ◌&&◌, ℕ, List, [], ◌∷◌, ◌++◌, length, map, take, drop, slice_index_or, IfOk, IsOkAnd, Ok, Err, IsTrue, true};
-ghost use Rattle.bac_wire.specs.Number.{number};
-ghost use Rattle.bac_wire.specs.Reading.{Gives, octet_at, octets_at, number_at, length_at};
+ghost use Rattle.std.specs.Prelude.{◌≡◌, ◌<◌, ◌≤◌, length};
+ghost use Rattle.bac_wire.specs.Reading.{Gives, octet_at, octets_at, number_at, length_at, is_context};
+ghost use Rattle.bac_wire.specs.Tag.{class_bits};
 ghost use Rattle.bac_wire.specs.Canon.{tag_octets, head_octets};
 
 use crate::fault::WireFault;
 use crate::primitive::unsigned_of;
 use arrayvec::ArrayVec;
 
+/// Who numbers a tag: the standard, for all primitive types, or the production that the tag stands
+/// in (clause 20.2.1.1).
+#[derive(Clone, Copy)]
+pub(crate) enum Class {
+    Application,
+    Context,
+}
+
+/// A tag that opens or closes a level (clause 20.2.1.3.2).
+#[derive(Clone, Copy)]
+pub(crate) enum Mark {
+    Opening,
+    Closing,
+}
+
+impl Class {
+    ghost use Rattle.bac_wire.specs.Tag.{class_bits};
+
+    /// Bit 3 of a tag's first octet.
+    fn bits(self) -> u8
+        ensures value { result ≡ class_bits self }
+        ensures bound { result ≤ 8 }
+    {
+        match self {
+            Class::Application => 0,
+            Class::Context => 8,
+        }
+    }
+}
+
+impl Mark {
+    ghost use Rattle.bac_wire.specs.Tag.{mark_bits};
+
+    /// The three low bits of a tag's first octet.
+    pub(crate) fn bits(self) -> u8
+        ensures value { result ≡ mark_bits self }
+        ensures bound { result < 8 }
+    {
+        match self {
+            Mark::Opening => 6,
+            Mark::Closing => 7,
+        }
+    }
+}
+
+/// Whether the first octet is that of a context tag.
+pub(crate) fn is_context_tag(first: u8) -> bool
+    ensures { result ≡ is_context first }
+{
+    first / 8 % 2 == 1
+}
+
+/// The first octet, and those after it.
 pub(crate) fn octet_of(bytes: &[u8]) -> Result<(u8, &[u8]), WireFault>
     ensures { Gives (λ x. (x.0, x.1.now)) result (octet_at bytes.now) }
 {
@@ -18,6 +71,7 @@ pub(crate) fn octet_of(bytes: &[u8]) -> Result<(u8, &[u8]), WireFault>
     }
 }
 
+/// So many octets, and those after them.
 pub(crate) fn octets_of(count: usize, bytes: &[u8]) -> Result<(&[u8], &[u8]), WireFault>
     ensures { Gives (λ x. (x.0.now, x.1.now)) result (octets_at count bytes.now) }
 {
@@ -27,6 +81,7 @@ pub(crate) fn octets_of(count: usize, bytes: &[u8]) -> Result<(&[u8], &[u8]), Wi
     Ok(bytes.split_at(count))
 }
 
+/// The tag number that the first octet states, or the octet after it (clause 20.2.1.2).
 #[tactic(auto, unfolding(crate::specs::Reading::number_at))]
 pub(crate) fn number_of(first: u8, bytes: &[u8]) -> Result<(u8, &[u8]), WireFault>
     ensures { Gives (λ x. (x.0, x.1.now)) result (number_at first bytes.now) }
@@ -41,6 +96,7 @@ pub(crate) fn number_of(first: u8, bytes: &[u8]) -> Result<(u8, &[u8]), WireFaul
     Ok((own, rest))
 }
 
+/// The length that the three low bits state, or the octets after them (clause 20.2.1.3.1).
 #[tactic(auto, unfolding(crate::specs::Reading::length_at))]
 pub(crate) fn length_of(low: u8, bytes: &[u8]) -> Result<(usize, &[u8]), WireFault>
     ensures { Gives (λ x. (x.0, x.1.now)) result (length_at low bytes.now) }
@@ -57,30 +113,28 @@ pub(crate) fn length_of(low: u8, bytes: &[u8]) -> Result<(usize, &[u8]), WireFau
     Ok((unsigned_of(size) as usize, rest))
 }
 
-/// Tag number and three low bits.
-pub(crate) fn tag_of(class: u8, tag: u8, low: u8) -> ArrayVec<u8, 5>
-    requires class { class ≤ 8 }
+/// The octets of a class, a tag number and three low bits (clauses 20.2.1.1 to 20.2.1.3).
+pub(crate) fn tag_of(class: Class, tag: u8, low: u8) -> ArrayVec<u8, 5>
     requires tag { tag ≤ 254 }
     requires low { low < 8 }
-    ensures items { result.items ≡ tag_octets class tag low }
+    ensures items { result.items ≡ tag_octets (class_bits class) tag low }
     ensures len { length result.items ≤ 2 }
 {
     let mut octets = ArrayVec::new();
     if tag < 15 {
-        octets.push(16 * tag + class + low);
+        octets.push(16 * tag + class.bits() + low);
     } else {
-        octets.push(240 + class + low);
+        octets.push(240 + class.bits() + low);
         octets.push(tag);
     }
     octets
 }
 
-/// Tag number and length.
-pub(crate) fn head_of(class: u8, tag: u8, len: usize) -> ArrayVec<u8, 5>
-    requires class { class ≤ 8 }
+/// The octets of a class, a tag number and a length (clause 20.2.1.3.1).
+pub(crate) fn head_of(class: Class, tag: u8, len: usize) -> ArrayVec<u8, 5>
     requires tag { tag ≤ 254 }
     requires len { len < 65536 }
-    ensures { result.items ≡ head_octets class tag len }
+    ensures { result.items ≡ head_octets (class_bits class) tag len }
 {
     if len < 5 {
         return tag_of(class, tag, len as u8);

@@ -1,4 +1,4 @@
-use Rattle.std.proofs.Common.{◌≡◌, ℤ, pos, ◌+◌, ◌-ℤ◌, ◌<◌, ◌∙◌, ap, w32, to_z, of_z, arith}
+use Rattle.std.proofs.Common.{◌≡◌, pos, ◌+◌, ◌-ℤ◌, ◌<◌, ◌∙◌, ap, w32, to_z, of_z, arith}
 use Rattle.jiff.proofs.SpanFacts.{signed_arith}
 use Rattle.jiff.specs.Words.{epoch_day}
 use Rattle.bac_wire.specs.Stamp.{day_number}

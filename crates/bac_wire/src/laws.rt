@@ -1,0 +1,50 @@
+//! Laws of spelling, reading and writing together (clause 20.2). Each function does nothing: what it
+//! ensures is the law.
+
+ghost use Rattle.std.specs.Prelude.{◌≡◌, ◌<◌, ◌≤◌, ℕ, List, ◌++◌, length, Ok, slice_index_or};
+ghost use Rattle.bac_wire.specs.Canon.{tag_octets, contents_of, canon, canon_context, IsValid};
+ghost use Rattle.bac_wire.specs.Primitive.{Primitive};
+ghost use Rattle.bac_wire.specs.Reading.{value_at, context_at, contents_as, mark_at};
+ghost use Rattle.bac_wire.specs.Spelling.{IsTag, IsTagged, Spells, StandsFor, tag_of};
+
+/// No spelling is the front of another, and no octets spell two values.
+pub fn one_reading()
+    ensures { (a b x y : List ℕ) (v w : Primitive) → Spells a v → Spells b w → a ++ x ≡ b ++ y → (a ≡ b) × (v ≡ w) }
+{}
+
+/// What is written for a value spells it.
+pub fn canon_is_read()
+    ensures { (value : Primitive) → IsValid value → Spells (canon value) value }
+{}
+
+/// No spelling of a value, and none of its contents behind a context tag, has fewer octets than what
+/// is written for it; and no opening or closing tag, whose three low bits are `low`.
+pub fn canon_is_shortest()
+    ensures value { (value : Primitive) (text : List ℕ) → ((i : ℕ) → slice_index_or text i 0 < 256) → IsValid value → Spells text value → length (canon value) ≤ length text }
+    ensures context { (tag : ℕ) (value : Primitive) (contents text : List ℕ) → ((i : ℕ) → slice_index_or text i 0 < 256) → IsValid value → IsTagged 8 tag contents text → StandsFor contents value → length (canon_context tag value) ≤ length text }
+    ensures mark { (tag low : ℕ) (text : List ℕ) → IsTag 8 tag low text → length (tag_octets 8 tag low) ≤ length text }
+{}
+
+/// What is written for a value is read back as that value, whatever follows it.
+pub fn value_is_read_back()
+    ensures { (value : Primitive) (rest : List ℕ) → IsValid value → value_at (canon value ++ rest) ≡ Ok (value, rest) }
+{}
+
+/// What is written for a value behind a context tag is read back as its contents, whatever follows
+/// it, and the contents as that value.
+pub fn context_is_read_back()
+    ensures contents { (tag : ℕ) (value : Primitive) (rest : List ℕ) → tag < 255 → IsValid value → context_at tag (canon_context tag value ++ rest) ≡ Ok (contents_of value, rest) }
+    ensures value { (value : Primitive) → IsValid value → contents_as (tag_of value) (contents_of value) ≡ Ok value }
+{}
+
+/// Contents are read as a value of a type exactly where they stand for it.
+pub fn contents_have_one_value()
+    ensures found { (tag : ℕ) (contents : List ℕ) (value : Primitive) → tag ≤ 12 → contents_as tag contents ≡ Ok value → (tag_of value ≡ tag) × StandsFor contents value }
+    ensures only { (contents : List ℕ) (value : Primitive) → StandsFor contents value → contents_as (tag_of value) contents ≡ Ok value }
+{}
+
+/// Opening and closing tags are read back, whatever follows them.
+pub fn marks_are_read_back()
+    ensures opening { (tag : ℕ) (rest : List ℕ) → tag < 255 → mark_at 6 tag (tag_octets 8 tag 6 ++ rest) ≡ Ok (tt, rest) }
+    ensures closing { (tag : ℕ) (rest : List ℕ) → tag < 255 → mark_at 7 tag (tag_octets 8 tag 7 ++ rest) ≡ Ok (tt, rest) }
+{}
