@@ -39,7 +39,8 @@ past_limit (Err f) = Some f
 
 -- In what follows a script has at most `limit` octets, else it is too long.
 
--- the lines of a script that are played: of one that is too long those that a line feed ended within the limit
+-- The lines of a script that are played: of one that is too long, those that a line feed ended within the limit.
+-- `lines` is std's: a line feed ends a line, less one carriage return, and what stands behind the last one is a line where there is anything.
 abbrev pub played_lines : ℕ → List ℕ → List (List ℕ)
 played_lines limit script = if nat_le (length script) limit then lines script else ended_lines (take limit script)
 
@@ -62,7 +63,7 @@ pub record PlaysAll (old new : Option (List ℕ)) (s : Session) (all : List (Lis
 abbrev pub PlaysSome : Option (List ℕ) → Option (List ℕ) → List (List ℕ) → Type 0
 PlaysSome old new all = (before : List (List ℕ)) × (after : List (List ℕ)) × (t : Session) × (all ≡ before ++ after) × PlaysAll old new Empty before t
 
--- how a replay ends: what its writer holds at the end, by what its reader had and what that has left
+-- How a replay ends: what its reader had is `script`, and what it has left is `left`; `old` and `new` are what the writer held before and holds now.
 unfoldable pub Ends : ℕ → List ℕ → Option (List ℕ) → Option (List ℕ) → Option (List ℕ) → Result (Unit {0}) ReplayFault → Type 0
 Ends limit script left old new (Ok _) = (fault_of_script limit script ≡ None) × Appends old new (text_of limit script)
 Ends limit script left old new (Err (BadLine n)) = (fault_of_script limit script ≡ Some (BadLine n)) × Appends old new (text_of limit script)
