@@ -39,6 +39,27 @@ Refuses BadName fault = fault ≡ Some BadName
 Refuses BadReplySize fault = fault ≡ Some BadReplySize
 Refuses Memory fault = fault ≡ None
 
+-- ---- numbers of the standard
+
+-- the type of a device's object (clause 12.11)
+abbrev pub device : ℕ
+device = 8
+
+-- the unconfirmed services Who-Is and I-Am (clause 21, BACnetUnconfirmedServiceChoice)
+abbrev pub who_is_service : ℕ
+who_is_service = 8
+
+abbrev pub i_am_service : ℕ
+i_am_service = 0
+
+-- no segmentation in either direction (clause 21, BACnetSegmentation)
+abbrev pub no_segmentation : ℕ
+no_segmentation = 3
+
+-- the network number that stands for all networks (clause 6.2.2)
+abbrev pub all_networks : ℕ
+all_networks = 65535
+
 -- ---- what is asked
 
 -- the NPDU of a frame to one device or to all
@@ -52,10 +73,10 @@ npdu_at datagram = do
   frame ← frame_at datagram
   npdu_in frame
 
--- without a destination, or with the global broadcast address: network FFFF and no address there
+-- without a destination, or with the global broadcast address: all networks and no address there
 abbrev pub is_for_all : Option Place → Bool
 is_for_all None = true
-is_for_all (Some place) = place.net == 65535 && length place.address == 0
+is_for_all (Some place) = place.net == all_networks && length place.address == 0
 
 -- no network message, none from another network, and none to another network
 abbrev pub is_heard : Header → Bool
@@ -66,9 +87,9 @@ heard_at npdu = do
   header ← header_at npdu
   if is_heard header.0 then Some header.1 else None
 
--- the parameters of an unconfirmed request of service 8
+-- the parameters of a Who-Is
 abbrev pub who_is_parameters : Message → Option (List ℕ)
-who_is_parameters (Unconfirmed service parameters) = if service == 8 then Some parameters else None
+who_is_parameters (Unconfirmed service parameters) = if service == who_is_service then Some parameters else None
 who_is_parameters other = None
 
 unfoldable pub who_is_at : List ℕ → Option (List Item)
@@ -85,10 +106,10 @@ asks_for instance other = false
 
 -- ---- what is answered
 
--- The device's identifier has type 8, and 3 says that it doesn't segment.
+-- its identifier, the greatest APDU that it takes, that it doesn't segment, its vendor
 abbrev pub announcement : DeviceLine → IAm
 announcement line =
-    record { device = record { kind = 8; instance = line.instance }; max_apdu = line.reply_size; segmentation = 3; vendor = line.vendor }
+    record { device = record { kind = device; instance = line.instance }; max_apdu = line.reply_size; segmentation = no_segmentation; vendor = line.vendor }
 
 -- no destination, no source, no reply expected, normal priority
 abbrev pub plain : Header
@@ -96,7 +117,7 @@ plain = record { network = false; reply = false; priority = 0; dest = None; sour
 
 -- the I-Am of a device in a datagram to one receiver
 unfoldable pub reply : DeviceLine → List ℕ
-reply line = frame_text (header_text plain ++ message_text (Unconfirmed 0 (canon_form i_am (i_am_items (announcement line)))))
+reply line = frame_text (header_text plain ++ message_text (Unconfirmed i_am_service (canon_form i_am (i_am_items (announcement line)))))
 
 -- what a device answers to a datagram
 unfoldable pub answer : DeviceLine → List ℕ → Option (List ℕ)

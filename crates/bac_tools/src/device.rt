@@ -31,6 +31,19 @@ pub(crate) struct DeviceLine {
     pub(crate) clock: Stamp,
 }
 
+/// The type of a device's object (clause 12.11).
+const DEVICE: u16 = 8;
+
+/// The unconfirmed services Who-Is and I-Am (clause 21, BACnetUnconfirmedServiceChoice).
+const WHO_IS: u8 = 8;
+const I_AM: u8 = 0;
+
+/// No segmentation in either direction (clause 21, BACnetSegmentation).
+const NO_SEGMENTATION: u32 = 3;
+
+/// The network number that stands for all networks (clause 6.2.2).
+const ALL_NETWORKS: u16 = 0xffff;
+
 /// The header of an answer: no destination, no source, no reply expected, normal priority.
 const PLAIN: Npdu = Npdu {
     network: false,
@@ -164,11 +177,11 @@ impl Device {
     fn announcement(&self) -> IAm
         ensures { result ≡ announcement self.now }
     {
-        match ObjectId::new(8, self.line.instance) {
+        match ObjectId::new(DEVICE, self.line.instance) {
             Some(device) => IAm {
                 device,
                 max_apdu: u64::from(self.line.reply_size),
-                segmentation: 3,
+                segmentation: NO_SEGMENTATION,
                 vendor: u64::from(self.line.vendor),
             },
             None => unreachable!(),
@@ -183,7 +196,7 @@ impl Device {
         self.announcement().write(&mut parameters).unwrap();
         let mut apdu = Datagram::new();
         let message = Apdu::Unconfirmed {
-            service: 0,
+            service: I_AM,
             parameters: parameters.octets(),
         };
         write_apdu(&mut apdu, &message).unwrap();
@@ -210,7 +223,7 @@ fn is_heard(header: &Npdu) -> bool
     ensures { result ≡ is_heard (header_of header.now) }
 {
     let for_all = match header.dest {
-        Some(far) => far.net == 0xffff && far.address.is_empty(),
+        Some(far) => far.net == ALL_NETWORKS && far.address.is_empty(),
         None => true,
     };
     !header.network && header.source.is_none() && for_all
@@ -232,7 +245,7 @@ fn who_is_at(apdu: &[u8]) -> Option<WhoIs>
 {
     match read_apdu(apdu)? {
         Apdu::Unconfirmed {
-            service: 8,
+            service: WHO_IS,
             parameters,
         } => WhoIs::read(parameters),
         _ => None,
