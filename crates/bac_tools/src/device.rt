@@ -36,6 +36,7 @@ const DEVICE: u16 = 8;
 
 /// The unconfirmed services Who-Is and I-Am (clause 21, BACnetUnconfirmedServiceChoice).
 const WHO_IS: u8 = 8;
+
 const I_AM: u8 = 0;
 
 /// No segmentation in either direction (clause 21, BACnetSegmentation).
