@@ -34,9 +34,10 @@ pub(crate) struct DeviceLine {
 /// The type of a device's object (clause 12.11).
 const DEVICE: u16 = 8;
 
-/// The unconfirmed services Who-Is and I-Am (clause 21, BACnetUnconfirmedServiceChoice).
+/// Who-Is (clause 21, BACnetUnconfirmedServiceChoice).
 const WHO_IS: u8 = 8;
 
+/// I-Am (clause 21, BACnetUnconfirmedServiceChoice).
 const I_AM: u8 = 0;
 
 /// No segmentation in either direction (clause 21, BACnetSegmentation).
