@@ -5,6 +5,9 @@
 //! 2 a refused read or write, 5 no memory.
 #![tactic(auto)]
 
+ghost use Rattle.std.specs.Prelude.{◌≡◌};
+ghost use Rattle.bac.specs.Status.{exit_status};
+
 use bac_tools::{ReplayFault, run_replay};
 use std::io::{BufWriter, Write};
 use std::process::ExitCode;
@@ -39,7 +42,9 @@ fn replay(rt: &HostRuntime) -> Result<(), ReplayFault> {
 }
 
 /// The exit status of a fault.
-fn status_of(fault: ReplayFault) -> u8 {
+fn status_of(fault: ReplayFault) -> u8
+    ensures { result ≡ exit_status fault }
+{
     match fault {
         ReplayFault::BadLine(_) | ReplayFault::Build(_) | ReplayFault::TooLong => 1,
         ReplayFault::Read | ReplayFault::Write => 2,

@@ -163,16 +163,30 @@ fn other_frames(rt: HostRuntime) -> Result<(), Fail> {
     Ok(())
 }
 
+/// ReadRange of Log_Buffer of Trend Log 1 by number 1, count 100, invoke ID 1.
+const REQUEST_BY_NUMBER: [u8; 23] = [
+    0x81, 0x0a, 0, 23, 0x01, 0x04, // a frame to one device, a reply is expected
+    0x00, 0x05, 1, 26, // at most 1476 octets are wanted
+    0x0c, 5, 0, 0, 1, 0x19, 131, // Log_Buffer of Trend Log 1
+    0x6e, 0x21, 1, 0x31, 100, 0x6f,
+];
+
+/// The same in its fields.
+fn by_number() -> Result<ReadRange, Fail> {
+    Ok(ReadRange {
+        object: object(20, 1)?,
+        property: 131,
+        index: None,
+        extent: Extent::ByNumber {
+            reference: 1,
+            count: 100,
+        },
+    })
+}
+
 #[test]
-fn request_by_number(rt: HostRuntime) -> Result<(), Fail> {
-    // ReadRange of Log_Buffer of Trend Log 1 by number 1, count 100, invoke ID 1
-    let octets: [u8; 23] = [
-        0x81, 0x0a, 0, 23, 0x01, 0x04, // a frame to one device, a reply is expected
-        0x00, 0x05, 1, 26, // at most 1476 octets are wanted
-        0x0c, 5, 0, 0, 1, 0x19, 131, // Log_Buffer of Trend Log 1
-        0x6e, 0x21, 1, 0x31, 100, 0x6f,
-    ];
-    let parameters = match apdu_in(&octets).ok_or("request")? {
+fn request_by_number_is_read(rt: HostRuntime) -> Result<(), Fail> {
+    let parameters = match apdu_in(&REQUEST_BY_NUMBER).ok_or("request")? {
         Apdu::Confirmed {
             segmented: false,
             max_response: 1476,
@@ -183,26 +197,21 @@ fn request_by_number(rt: HostRuntime) -> Result<(), Fail> {
         _ => return Err(Fail::from("another APDU")),
     };
     let request = ReadRange::read(parameters).ok().ok_or("parameters")?;
-    let fields = ReadRange {
-        object: object(20, 1)?,
-        property: 131,
-        index: None,
-        extent: Extent::ByNumber {
-            reference: 1,
-            count: 100,
-        },
-    };
-    assert_eq!(rt; request, fields);
-    // and the same from the fields
-    let mut written = Datagram::new();
-    fields.write(&mut written).ok().ok_or("full")?;
+    assert_eq!(rt; request, by_number()?);
+    Ok(())
+}
+
+#[test]
+fn request_by_number_is_written(rt: HostRuntime) -> Result<(), Fail> {
+    let mut parameters = Datagram::new();
+    by_number()?.write(&mut parameters).ok().ok_or("full")?;
     let mut apdu = Datagram::new();
     let confirmed = Apdu::Confirmed {
         segmented: false,
         max_response: 1476,
         invoke: 1,
         service: 26,
-        parameters: written.octets(),
+        parameters: parameters.octets(),
     };
     write_apdu(&mut apdu, &confirmed).ok().ok_or("full")?;
     let npdu = Npdu {
@@ -217,7 +226,7 @@ fn request_by_number(rt: HostRuntime) -> Result<(), Fail> {
     write_datagram(&mut datagram, &npdu, apdu.octets())
         .ok()
         .ok_or("full")?;
-    assert_eq!(rt; datagram.octets(), octets.as_slice());
+    assert_eq!(rt; datagram.octets(), REQUEST_BY_NUMBER.as_slice());
     Ok(())
 }
 
@@ -337,60 +346,66 @@ fn records_row(rt: HostRuntime) -> Result<(), Fail> {
     Ok(())
 }
 
+/// What stands for each APDU in octets, and the APDU.
+const ANSWERS: [(&[u8], Apdu); 5] = [
+    (
+        &[0x20, 1, 15],
+        Apdu::Simple {
+            invoke: 1,
+            service: 15,
+        },
+    ),
+    // class property, code write-access-denied
+    (
+        &[0x50, 1, 15, 0x91, 2, 0x91, 40],
+        Apdu::Error {
+            invoke: 1,
+            service: 15,
+            class: 2,
+            code: 40,
+        },
+    ),
+    (
+        &[0x60, 3, 6],
+        Apdu::Reject {
+            invoke: 3,
+            reason: 6,
+        },
+    ),
+    // segmentation not supported
+    (
+        &[0x71, 1, 4],
+        Apdu::Abort {
+            by_server: true,
+            invoke: 1,
+            reason: 4,
+        },
+    ),
+    (
+        &[0x30, 1, 12, 0x0c],
+        Apdu::Complex {
+            segmented: false,
+            invoke: 1,
+            service: 12,
+            parameters: &[0x0c],
+        },
+    ),
+];
+
 #[test]
 fn short_answers(rt: HostRuntime) -> Result<(), Fail> {
-    // what stands for each APDU in octets, and the APDU
-    let rows: [(&[u8], Apdu); 5] = [
-        (
-            &[0x20, 1, 15],
-            Apdu::Simple {
-                invoke: 1,
-                service: 15,
-            },
-        ),
-        // class property, code write-access-denied
-        (
-            &[0x50, 1, 15, 0x91, 2, 0x91, 40],
-            Apdu::Error {
-                invoke: 1,
-                service: 15,
-                class: 2,
-                code: 40,
-            },
-        ),
-        (
-            &[0x60, 3, 6],
-            Apdu::Reject {
-                invoke: 3,
-                reason: 6,
-            },
-        ),
-        // segmentation not supported
-        (
-            &[0x71, 1, 4],
-            Apdu::Abort {
-                by_server: true,
-                invoke: 1,
-                reason: 4,
-            },
-        ),
-        (
-            &[0x30, 1, 12, 0x0c],
-            Apdu::Complex {
-                segmented: false,
-                invoke: 1,
-                service: 12,
-                parameters: &[0x0c],
-            },
-        ),
-    ];
-    for (octets, apdu) in rows {
+    for (octets, apdu) in ANSWERS {
         let mut written = Datagram::new();
         write_apdu(&mut written, &apdu).ok().ok_or("full")?;
         assert_eq!(rt; written.octets(), octets);
         assert_eq!(rt; read_apdu(octets), Some(apdu));
     }
-    // a segment with sequence 0 and window 1, and its acknowledgement
+    Ok(())
+}
+
+// A segment with sequence 0 and window 1, and its acknowledgement.
+#[test]
+fn segments_are_told(rt: HostRuntime) {
     let segment = read_apdu(&[0x08, 0x05, 1, 0, 1, 12, 0x0c]);
     assert!(rt;
         matches!(
@@ -406,26 +421,34 @@ fn short_answers(rt: HostRuntime) -> Result<(), Fail> {
         read_apdu(&[0x40, 1, 0, 1]),
         Some(Apdu::SegmentAck { invoke: 1 })
     );
+}
+
+/// I-Am of device 123: 1476 octets, no segmentation, vendor 0.
+const I_AM: [u8; 12] = [0xc4, 2, 0, 0, 123, 0x22, 0x05, 0xc4, 0x91, 3, 0x21, 0];
+
+/// The same in its fields.
+fn announcement() -> Result<IAm, Fail> {
+    Ok(IAm {
+        device: object(8, 123)?,
+        max_apdu: 1476,
+        segmentation: 3,
+        vendor: 0,
+    })
+}
+
+#[test]
+fn i_am_is_read(rt: HostRuntime) -> Result<(), Fail> {
+    assert_eq!(rt; IAm::read(&I_AM), Some(announcement()?));
+    // without the vendor
+    assert_eq!(rt; IAm::read(&I_AM[..10]), None);
     Ok(())
 }
 
 #[test]
 fn i_am_with_a_route(rt: HostRuntime) -> Result<(), Fail> {
-    // device 123, 1476 octets, no segmentation, vendor 0
-    let octets: [u8; 12] = [0xc4, 2, 0, 0, 123, 0x22, 0x05, 0xc4, 0x91, 3, 0x21, 0];
-    let announcement = IAm {
-        device: object(8, 123)?,
-        max_apdu: 1476,
-        segmentation: 3,
-        vendor: 0,
-    };
-    assert_eq!(rt; IAm::read(&octets), Some(announcement));
-    // without the vendor
-    let cut: [u8; 10] = [0xc4, 2, 0, 0, 123, 0x22, 0x05, 0xc4, 0x91, 3];
-    assert_eq!(rt; IAm::read(&cut), None);
     let mut parameters = Datagram::new();
-    announcement.write(&mut parameters).ok().ok_or("full")?;
-    assert_eq!(rt; parameters.octets(), octets.as_slice());
+    announcement()?.write(&mut parameters).ok().ok_or("full")?;
+    assert_eq!(rt; parameters.octets(), I_AM.as_slice());
     let mut apdu = Datagram::new();
     let unconfirmed = Apdu::Unconfirmed {
         service: 0,
@@ -453,7 +476,11 @@ fn i_am_with_a_route(rt: HostRuntime) -> Result<(), Fail> {
         0x10, 0, 0xc4, 2, 0, 0, 123, 0x22, 0x05, 0xc4, 0x91, 3, 0x21, 0,
     ];
     assert_eq!(rt; datagram.octets(), whole.as_slice());
-    // the limits of a Who-Is
+    Ok(())
+}
+
+#[test]
+fn limits_are_written(rt: HostRuntime) -> Result<(), Fail> {
     let mut limits = Datagram::new();
     let request = WhoIs {
         limits: Some((124, 200)),

@@ -37,125 +37,50 @@ fn plays(
     Ok(())
 }
 
+/// Datagrams that Device 123 answers by its I-Am.
+const ANSWERED: [&[u8]; 5] = [
+    b"rx 810b000c0120ffff00ff1008",
+    // 0a for 0b, no destination, digits of upper case.
+    b"rx 810A000801001008",
+    // Limits 123 to 123, 123 to 200, 100 to 123.
+    b"rx 810b00100120ffff00ff1008097b197b",
+    b"rx 810b00100120ffff00ff1008097b19c8",
+    b"rx 810b00100120ffff00ff10080964197b",
+];
+
+/// Datagrams that it doesn't answer.
+const NOT_ANSWERED: [&[u8]; 11] = [
+    // Limits 124 to 200; one limit only.
+    b"rx 810b00100120ffff00ff1008097c19c8",
+    b"rx 810b000e0120ffff00ff1008097b",
+    // The length of the frame is one too large; another function; another version of the header.
+    b"rx 810b000d0120ffff00ff1008",
+    b"rx 8109000c0120ffff00ff1008",
+    b"rx 810b000c0220ffff00ff1008",
+    // A network message; from network 5; to network 5; to one device of all networks.
+    b"rx 810b000801801200",
+    b"rx 810b000c0108000501071008",
+    b"rx 810b000c0120000500ff1008",
+    b"rx 810b000d0120ffff0107ff1008",
+    // I-Am, and a ReadProperty of Device 123's name.
+    b"rx 810a001401001000c40200007b2205c491032100",
+    b"rx 810a001101040005010c0c0200007b194d",
+];
+
 #[test]
 fn who_is_is_answered(rt: HostRuntime) -> Result<(), Fail> {
-    plays(&rt, rt.alloc(), &[DEVICE, WHO_IS], &[I_AM], Ok(()))?;
-    // 0a for 0b, no destination, digits of upper case.
-    plays(
-        &rt,
-        rt.alloc(),
-        &[DEVICE, b"rx 810A000801001008"],
-        &[I_AM],
-        Ok(()),
-    )?;
-    // Limits 124 to 200, 123 to 123, 123 to 200, 100 to 123.
-    plays(
-        &rt,
-        rt.alloc(),
-        &[DEVICE, b"rx 810b00100120ffff00ff1008097c19c8\n"],
-        &[NONE],
-        Ok(()),
-    )?;
-    plays(
-        &rt,
-        rt.alloc(),
-        &[DEVICE, b"rx 810b00100120ffff00ff1008097b197b\n"],
-        &[I_AM],
-        Ok(()),
-    )?;
-    plays(
-        &rt,
-        rt.alloc(),
-        &[DEVICE, b"rx 810b00100120ffff00ff1008097b19c8\n"],
-        &[I_AM],
-        Ok(()),
-    )?;
-    plays(
-        &rt,
-        rt.alloc(),
-        &[DEVICE, b"rx 810b00100120ffff00ff10080964197b\n"],
-        &[I_AM],
-        Ok(()),
-    )?;
-    // One limit only.
-    plays(
-        &rt,
-        rt.alloc(),
-        &[DEVICE, b"rx 810b000e0120ffff00ff1008097b\n"],
-        &[NONE],
-        Ok(()),
-    )
+    for datagram in ANSWERED {
+        plays(&rt, rt.alloc(), &[DEVICE, datagram], &[I_AM], Ok(()))?;
+    }
+    Ok(())
 }
 
 #[test]
 fn the_rest_is_not_answered(rt: HostRuntime) -> Result<(), Fail> {
-    // The length of the frame is one too large.
-    plays(
-        &rt,
-        rt.alloc(),
-        &[DEVICE, b"rx 810b000d0120ffff00ff1008\n"],
-        &[NONE],
-        Ok(()),
-    )?;
-    // Another function of the frame; another version of the header.
-    plays(
-        &rt,
-        rt.alloc(),
-        &[DEVICE, b"rx 8109000c0120ffff00ff1008\n"],
-        &[NONE],
-        Ok(()),
-    )?;
-    plays(
-        &rt,
-        rt.alloc(),
-        &[DEVICE, b"rx 810b000c0220ffff00ff1008\n"],
-        &[NONE],
-        Ok(()),
-    )?;
-    // A network message; from network 5; to network 5; to one device of all networks.
-    plays(
-        &rt,
-        rt.alloc(),
-        &[DEVICE, b"rx 810b000801801200\n"],
-        &[NONE],
-        Ok(()),
-    )?;
-    plays(
-        &rt,
-        rt.alloc(),
-        &[DEVICE, b"rx 810b000c0108000501071008\n"],
-        &[NONE],
-        Ok(()),
-    )?;
-    plays(
-        &rt,
-        rt.alloc(),
-        &[DEVICE, b"rx 810b000c0120000500ff1008\n"],
-        &[NONE],
-        Ok(()),
-    )?;
-    plays(
-        &rt,
-        rt.alloc(),
-        &[DEVICE, b"rx 810b000d0120ffff0107ff1008\n"],
-        &[NONE],
-        Ok(()),
-    )?;
-    // I-Am, and a ReadProperty of Device 123's name.
-    plays(
-        &rt,
-        rt.alloc(),
-        &[DEVICE, b"rx 810a001401001000c40200007b2205c491032100\n"],
-        &[NONE],
-        Ok(()),
-    )?;
-    plays(
-        &rt,
-        rt.alloc(),
-        &[DEVICE, b"rx 810a001101040005010c0c0200007b194d\n"],
-        &[NONE],
-        Ok(()),
-    )
+    for datagram in NOT_ANSWERED {
+        plays(&rt, rt.alloc(), &[DEVICE, datagram], &[NONE], Ok(()))?;
+    }
+    Ok(())
 }
 
 #[test]
@@ -260,104 +185,65 @@ fn bad_lines_are_refused(rt: HostRuntime) -> Result<(), Fail> {
     )
 }
 
+/// Device lines up to the stamp, and the fault of the device.
+const DEVICES: [(&[u8], Option<BuildFault>); 12] = [
+    (b"device 4194302 plant 0 1476", None),
+    (
+        b"device 4194303 plant 0 1476",
+        Some(BuildFault::BadInstance),
+    ),
+    (b"device 123 pl\x7fnt 0 1476", Some(BuildFault::BadName)),
+    (b"device 123 pl\tnt 0 1476", Some(BuildFault::BadName)),
+    // 64 octets, 65 octets, and 33 characters (c3 a4) of two octets each.
+    (
+        b"device 123 0123456789012345678901234567890123456789012345678901234567890123 0 1476",
+        None,
+    ),
+    (
+        b"device 123 01234567890123456789012345678901234567890123456789012345678901234 0 1476",
+        Some(BuildFault::BadName),
+    ),
+    (
+        b"device 123 \xc3\xa4\xc3\xa4\xc3\xa4\xc3\xa4\xc3\xa4\xc3\xa4\xc3\xa4\xc3\xa4\xc3\xa4\xc3\xa4\xc3\xa4\xc3\xa4\xc3\xa4\xc3\xa4\xc3\xa4\xc3\xa4\xc3\xa4\xc3\xa4\xc3\xa4\xc3\xa4\xc3\xa4\xc3\xa4\xc3\xa4\xc3\xa4\xc3\xa4\xc3\xa4\xc3\xa4\xc3\xa4\xc3\xa4\xc3\xa4\xc3\xa4\xc3\xa4\xc3\xa4 0 1476",
+        Some(BuildFault::BadName),
+    ),
+    (b"device 123 plant 0 49", Some(BuildFault::BadReplySize)),
+    (b"device 123 plant 0 50", None),
+    (b"device 123 plant 0 1477", Some(BuildFault::BadReplySize)),
+    // The instance comes first, then the name.
+    (b"device 4194303 \x7f 0 49", Some(BuildFault::BadInstance)),
+    (b"device 123 \x7f 0 49", Some(BuildFault::BadName)),
+];
+
+/// Where a clock begins, the last word of a device line.
+const CLOCK: &[u8] = b" 2024-05-06T07:08:09.10\n";
+
 #[test]
-fn devices_are_built_once_there_is_an_event(rt: HostRuntime) -> Result<(), Fail> {
-    let at = b" 2024-05-06T07:08:09.10\n".as_slice();
+fn devices_are_built_at_the_end(rt: HostRuntime) -> Result<(), Fail> {
+    for (line, fault) in DEVICES {
+        let ended = match fault {
+            Some(fault) => Err(ReplayFault::Build(fault)),
+            None => Ok(()),
+        };
+        plays(&rt, rt.alloc(), &[line, CLOCK], &[], ended)?;
+    }
+    Ok(())
+}
+
+#[test]
+fn devices_are_built_at_the_first_event(rt: HostRuntime) -> Result<(), Fail> {
+    let line = b"device 4194303 plant 0 1476".as_slice();
     let instance = Err(ReplayFault::Build(BuildFault::BadInstance));
-    let name = Err(ReplayFault::Build(BuildFault::BadName));
-    let size = Err(ReplayFault::Build(BuildFault::BadReplySize));
     plays(
         &rt,
         rt.alloc(),
-        &[b"device 4194303 plant 0 1476", at, WHO_IS],
+        &[line, CLOCK, WHO_IS, b"rx 8\n"],
         &[],
         instance,
     )?;
-    plays(
-        &rt,
-        rt.alloc(),
-        &[b"device 4194303 plant 0 1476", at],
-        &[],
-        instance,
-    )?;
-    plays(
-        &rt,
-        rt.alloc(),
-        &[b"device 4194302 plant 0 1476", at],
-        &[],
-        Ok(()),
-    )?;
-    plays(
-        &rt,
-        rt.alloc(),
-        &[b"device 123 pl\x7fnt 0 1476", at],
-        &[],
-        name,
-    )?;
-    plays(
-        &rt,
-        rt.alloc(),
-        &[b"device 123 pl\tnt 0 1476", at],
-        &[],
-        name,
-    )?;
-    // 64 octets, 65 octets, and 33 characters of two octets each.
-    let digits = b"0123456789012345678901234567890123456789012345678901234567890123".as_slice();
-    plays(
-        &rt,
-        rt.alloc(),
-        &[b"device 123 ", digits, b" 0 1476", at],
-        &[],
-        Ok(()),
-    )?;
-    plays(
-        &rt,
-        rt.alloc(),
-        &[b"device 123 ", digits, b"4 0 1476", at],
-        &[],
-        name,
-    )?;
-    plays(
-        &rt,
-        rt.alloc(),
-        &[
-            "device 123 äöüäöüäöüäöüäöüäöüäöüäöüäöüäöüäöü 0 1476".as_bytes(),
-            at,
-        ],
-        &[],
-        name,
-    )?;
-    plays(&rt, rt.alloc(), &[b"device 123 plant 0 49", at], &[], size)?;
-    plays(
-        &rt,
-        rt.alloc(),
-        &[b"device 123 plant 0 50", at],
-        &[],
-        Ok(()),
-    )?;
-    plays(
-        &rt,
-        rt.alloc(),
-        &[b"device 123 plant 0 1477", at],
-        &[],
-        size,
-    )?;
-    // The instance comes first, then the name; a bad event line before all of them.
-    plays(
-        &rt,
-        rt.alloc(),
-        &[b"device 4194303 \x7f 0 49", at],
-        &[],
-        instance,
-    )?;
-    plays(&rt, rt.alloc(), &[b"device 123 \x7f 0 49", at], &[], name)?;
-    plays(
-        &rt,
-        rt.alloc(),
-        &[b"device 4194303 plant 0 1476", at, b"rx 8\n"],
-        &[],
-        Err(ReplayFault::BadLine(2)),
-    )
+    // A bad event line comes before the device.
+    let bad = Err(ReplayFault::BadLine(2));
+    plays(&rt, rt.alloc(), &[line, CLOCK, b"rx 8\n"], &[], bad)
 }
 
 /// A reader over memory that refuses the read after so many.
