@@ -13,16 +13,33 @@ use std::io::{BufWriter, Write};
 use std::process::ExitCode;
 use std::{env, io};
 
-/// Whether the words behind the program's name are the one word `replay`.
-fn is_replay(rt: &(impl env::Env + Alloc)) -> bool {
-    let Ok(words) = env::args(rt) else {
-        return false;
+/// What the words behind the program's name ask for.
+#[derive(Clone, Copy, Debug, PartialEq, Eq)]
+enum Job {
+    /// The one word `replay`.
+    Replay,
+    /// Anything else: how the program is used.
+    Usage,
+}
+
+/// The words behind the program's name. A word that isn't UTF-8 is none that it knows; want of
+/// memory is the fault that it is anywhere.
+fn read_words(rt: &(impl env::Env + Alloc)) -> Result<Job, ReplayFault> {
+    let mut words = match env::args(rt) {
+        Ok(words) => words.skip(1),
+        Err(error) if error.kind() == io::ErrorKind::OutOfMemory => {
+            return Err(ReplayFault::Memory);
+        }
+        Err(_) => return Ok(Job::Usage),
     };
-    let mut rest = words.skip(1);
-    let Some(word) = rest.next() else {
-        return false;
+    let Some(word) = words.next() else {
+        return Ok(Job::Usage);
     };
-    rest.next().is_none() && word.as_str() == "replay"
+    if words.next().is_none() && word.as_str() == "replay" {
+        Ok(Job::Replay)
+    } else {
+        Ok(Job::Usage)
+    }
 }
 
 /// Plays the script on standard input. All output is written when it answers, also before a fault;
@@ -52,13 +69,23 @@ fn status_of(fault: ReplayFault) -> u8
     }
 }
 
-fn main(rt: HostRuntime) -> ExitCode {
-    if !is_replay(&rt) {
-        let _ = eprintln!(rt; "usage: bac replay < SCRIPT");
-        return ExitCode::from(1);
+/// Does what the words ask for, and answers the exit status.
+fn run(rt: &HostRuntime) -> Result<u8, ReplayFault> {
+    match read_words(rt)? {
+        Job::Replay => {
+            replay(rt)?;
+            Ok(0)
+        }
+        Job::Usage => {
+            let _ = eprintln!(rt; "usage: bac replay < SCRIPT");
+            Ok(1)
+        }
     }
-    match replay(&rt) {
-        Ok(()) => ExitCode::SUCCESS,
+}
+
+fn main(rt: HostRuntime) -> ExitCode {
+    match run(&rt) {
+        Ok(status) => ExitCode::from(status),
         Err(fault) => {
             let _ = eprintln!(rt; "{fault}");
             ExitCode::from(status_of(fault))
