@@ -1,7 +1,8 @@
 //! Laws of spelling, reading and writing together (clause 20.2). Each function does nothing: what it
 //! ensures is the law.
 
-ghost use Rattle.std.specs.Prelude.{◌≡◌, ◌<◌, ◌≤◌, ℕ, List, ◌++◌, length, Ok, slice_index_or};
+ghost use Rattle.std.specs.Prelude.{◌≡◌, ◌<◌, ◌≤◌, ℕ, List, [], ◌++◌, length, Ok, slice_index_or};
+ghost use Rattle.bac_wire.specs.Level.{IsLevel};
 ghost use Rattle.bac_wire.specs.Canon.{tag_octets, contents_of, canon, canon_context, IsValid};
 ghost use Rattle.bac_wire.specs.Primitive.{Primitive};
 ghost use Rattle.bac_wire.specs.Reading.{value_at, context_at, contents_as, mark_at};
@@ -47,4 +48,14 @@ pub fn contents_have_one_value()
 pub fn marks_are_read_back()
     ensures opening { (tag : ℕ) (rest : List ℕ) → tag < 255 → mark_at 6 tag (tag_octets 8 tag 6 ++ rest) ≡ Ok (tt, rest) }
     ensures closing { (tag : ℕ) (rest : List ℕ) → tag < 255 → mark_at 7 tag (tag_octets 8 tag 7 ++ rest) ≡ Ok (tt, rest) }
+{}
+
+/// No octets are a level, and what is written for a value; two levels one after the other are one,
+/// and so is a level between an opening and a closing tag.
+pub fn levels_are_made()
+    ensures nothing { IsLevel [] }
+    ensures value { (value : Primitive) → IsValid value → IsLevel (canon value) }
+    ensures context { (tag : ℕ) (value : Primitive) → tag < 255 → IsValid value → IsLevel (canon_context tag value) }
+    ensures joined { (a b : List ℕ) → IsLevel a → IsLevel b → IsLevel (a ++ b) }
+    ensures enclosed { (tag : ℕ) (inside : List ℕ) → tag < 255 → IsLevel inside → IsLevel (tag_octets 8 tag 6 ++ (inside ++ tag_octets 8 tag 7)) }
 {}

@@ -11,7 +11,7 @@ use crate::tag::{Mark, is_context_tag, length_of, number_of, octet_of, octets_of
 
 /// A whole tag with its contents, or one that opens or closes a level.
 #[derive(Clone, Copy, Debug)]
-pub(crate) enum Token {
+pub enum Token {
     Whole,
     Open,
     Close(u8),
