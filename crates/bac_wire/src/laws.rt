@@ -50,6 +50,14 @@ pub fn marks_are_read_back()
     ensures closing { (tag : ℕ) (rest : List ℕ) → tag < 255 → mark_at 7 tag (tag_octets 8 tag 7 ++ rest) ≡ Ok (tt, rest) }
 {}
 
+/// What is written for a value behind a context tag spells it, and so do opening and closing tags,
+/// whose three low bits are `low`.
+pub fn context_is_spelled()
+    ensures contents { (tag : ℕ) (value : Primitive) → tag < 255 → IsValid value → IsTagged 8 tag (contents_of value) (canon_context tag value) }
+    ensures value { (value : Primitive) → IsValid value → StandsFor (contents_of value) value }
+    ensures mark { (tag low : ℕ) → tag < 255 → IsTag 8 tag low (tag_octets 8 tag low) }
+{}
+
 /// No octets are a level, and what is written for a value; two levels one after the other are one,
 /// and so is a level between an opening and a closing tag.
 pub fn levels_are_made()
