@@ -168,7 +168,7 @@ module _ (limit : ℕ) (script : List ℕ) (long : limit < length script) where
   pub Ends-too_long : (left old new : Option (List ℕ)) (t : Session) → PlaysAll old new Empty (ended_lines (take limit script)) t → Ends limit script left old new (Err TooLong)
   unfolding Ends
   Ends-too_long left old new t played =
-      (fault-cut ∙ ap past_limit played.state, subst (Appends old new) (sym (ap (λ l. (play 1 Empty l).0) played-cut)) played.text)
+      (long, fault-cut ∙ ap past_limit played.state, subst (Appends old new) (sym (ap (λ l. (play 1 Empty l).0) played-cut)) played.text)
 
 take-past : (limit : ℕ) (read rest : List ℕ) → length read ≤ limit → take limit (read ++ rest) ≡ read ++ take (limit - length read) rest
 take-past limit read rest short =

@@ -2,6 +2,7 @@ pub mod Lines
 pub mod Words
 pub mod Number
 pub mod Hexadecimal
+pub mod Input
 pub mod Output
 pub mod Stamp
 pub mod Device

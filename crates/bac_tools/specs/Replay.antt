@@ -1,5 +1,5 @@
 -- What a whole script prints, and how it ends.
-use Rattle.std.specs.Prelude.{◌≡◌, ℕ, ◌+◌, ◌≤◌, if◌then◌else◌, nat_le, List, [], ◌∷◌, ◌++◌, length, take, Option, None, Some, Result, Ok, Err}
+use Rattle.std.specs.Prelude.{◌≡◌, ℕ, ◌+◌, ◌<◌, ◌≤◌, if◌then◌else◌, nat_le, List, [], ◌∷◌, ◌++◌, length, take, Option, None, Some, Result, Ok, Err}
 use Rattle.std.specs.Option.{option_map}
 use Rattle.std.specs.Io.KnownBytes.{Appends, Consumes}
 use Rattle.std.specs.Str.Lines.{lines}
@@ -68,7 +68,7 @@ unfoldable pub Ends : ℕ → List ℕ → Option (List ℕ) → Option (List �
 Ends limit script left old new (Ok _) = (fault_of_script limit script ≡ None) × Appends old new (text_of limit script)
 Ends limit script left old new (Err (BadLine n)) = (fault_of_script limit script ≡ Some (BadLine n)) × Appends old new (text_of limit script)
 Ends limit script left old new (Err (Build f)) = (fault_of_script limit script ≡ Some (Build f)) × Appends old new (text_of limit script)
-Ends limit script left old new (Err TooLong) = (fault_of_script limit script ≡ Some TooLong) × Appends old new (text_of limit script)
+Ends limit script left old new (Err TooLong) = (limit < length script) × (fault_of_script limit script ≡ Some TooLong) × Appends old new (text_of limit script)
 Ends limit script left old new (Err Read) = (read : List ℕ) × (t : Session) × Consumes (Some script) left read × (length read ≤ limit) × PlaysAll old new Empty (ended_lines read) t
 Ends limit script left old new (Err Write) = AppendsPart old new (text_of limit script)
 Ends limit script left old new (Err Memory) = PlaysSome old new (played_lines limit script)

@@ -1,6 +1,7 @@
 //! A script read from a reader, its text written to a writer.
 ghost use Rattle.std.specs.Prelude.{◌≡◌, ◌+◌, ◌<◌, ◌≤◌, ℕ, List, [], ◌∷◌, ◌++◌, length, None, Ok, Err, IfOk, IfErr, OnOk};
-ghost use Rattle.std.specs.Io.KnownBytes.{Appends};
+ghost use Rattle.std.specs.Io.KnownBytes.{Appends, IsAtEnd};
+ghost use Rattle.bac_tools.specs.Input.{ConsumesUpTo};
 ghost use Rattle.std.specs.Str.Lines.{lines};
 ghost use Rattle.bac_tools.specs.Lines.{ended_lines, open_line, last_if_any};
 ghost use Rattle.bac_tools.specs.Replay.{PlaysAll, Replays};
@@ -119,7 +120,9 @@ fn replay_in<R: Read, W: Write>(
 ) -> Result<(), ReplayFault>
     requires limit { limit ≤ LIMIT }
     requires room { length buffer.old ≡ limit + 1 }
-    ensures { Replays limit (R.remaining reader.old) (R.remaining reader.new) (W.contents writer.old) (W.contents writer.new) result }
+    ensures ends { Replays limit (R.remaining reader.old) (R.remaining reader.new) (W.contents writer.old) (W.contents writer.new) result }
+    ensures read { ConsumesUpTo (limit + 1) (R.remaining reader.old) (R.remaining reader.new) }
+    ensures whole { OnOk result (IsAtEnd (R.remaining reader.new)) }
 {
     let (filled, ending) = fill(reader, buffer);
     match ending {
@@ -143,7 +146,9 @@ fn replay_within<R: Read, W: Write>(
     writer: &mut W,
 ) -> Result<(), ReplayFault>
     requires { limit ≤ LIMIT }
-    ensures { Replays limit (R.remaining reader.old) (R.remaining reader.new) (W.contents writer.old) (W.contents writer.new) result }
+    ensures ends { Replays limit (R.remaining reader.old) (R.remaining reader.new) (W.contents writer.old) (W.contents writer.new) result }
+    ensures read { ConsumesUpTo (limit + 1) (R.remaining reader.old) (R.remaining reader.new) }
+    ensures whole { OnOk result (IsAtEnd (R.remaining reader.new)) }
 {
     match vec![in alloc; 0u8; limit + 1] {
         Ok(mut buffer) => replay_in(alloc, limit, &mut buffer, reader, writer),
@@ -157,7 +162,9 @@ pub fn run_replay<R: Read, W: Write>(
     reader: &mut R,
     writer: &mut W,
 ) -> Result<(), ReplayFault>
-    ensures { Replays LIMIT (R.remaining reader.old) (R.remaining reader.new) (W.contents writer.old) (W.contents writer.new) result }
+    ensures ends { Replays LIMIT (R.remaining reader.old) (R.remaining reader.new) (W.contents writer.old) (W.contents writer.new) result }
+    ensures read { ConsumesUpTo (LIMIT + 1) (R.remaining reader.old) (R.remaining reader.new) }
+    ensures whole { OnOk result (IsAtEnd (R.remaining reader.new)) }
 {
     replay_within(alloc, LIMIT, reader, writer)
 }

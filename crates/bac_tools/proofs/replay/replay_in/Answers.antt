@@ -8,8 +8,8 @@ use Rattle.bac_tools.specs.Stops.{Stops}
 use Rattle.bac_tools.proofs.EndLemmas.{Ends-read, Ends-full, Ends-full_stopped, Ends-cut, Ends-cut_stopped}
 use Rattle.bac_tools.proofs.replay.replay_in.Goals as goal
 
-pub returns-in-End : goal.returns-in-End
-returns-in-End g c =
+pub returns-in-End-clause-ends : goal.returns-in-End-clause-ends
+returns-in-End-clause-ends g c =
     let have = g.R.Read.remaining c.args.reader.now in
     let left = g.R.Read.remaining c.fill-filled.new.reader in
     let old = g.W.Write.contents c.args.writer.now in
@@ -21,8 +21,8 @@ returns-in-End g c =
     let short : length (take filled buffer) ≤ c.args.limit = omega (arith, length-take-le filled buffer fits, sent.end c.in-End.is, c.requires.room) in
     Ends-read c.args.limit have left old new (take filled buffer) sent.consumed (sent.at_end c.in-End.is) short c.play_whole.result c.play_whole.ensures.ok c.play_whole.ensures.err
 
-pub returns-in_ok-play_cut-in-Refused : goal.returns-in_ok-play_cut-in-Refused
-returns-in_ok-play_cut-in-Refused g c =
+pub returns-in_ok-play_cut-in-Refused-clause-ends : goal.returns-in_ok-play_cut-in-Refused-clause-ends
+returns-in_ok-play_cut-in-Refused-clause-ends g c =
     let have = g.R.Read.remaining c.args.reader.now in
     let left = g.R.Read.remaining c.fill-filled.new.reader in
     let old = g.W.Write.contents c.args.writer.now in
@@ -35,8 +35,8 @@ returns-in_ok-play_cut-in-Refused g c =
     let (t, played) = c.in_ok-play_cut-in-Refused.ensures.ok in
     Ends-cut c.args.limit have left old new (take filled buffer) t sent.consumed short played
 
-pub returns-in_err-play_cut-in-Refused : goal.returns-in_err-play_cut-in-Refused
-returns-in_err-play_cut-in-Refused g c =
+pub returns-in_err-play_cut-in-Refused-clause-ends : goal.returns-in_err-play_cut-in-Refused-clause-ends
+returns-in_err-play_cut-in-Refused-clause-ends g c =
     let p = err_from_is_err_and c.from_residual-in_err-play_cut-in-Refused.result c.from_residual-in_err-play_cut-in-Refused.ensures.1 in
     let have = g.R.Read.remaining c.args.reader.now in
     let left = g.R.Read.remaining c.fill-filled.new.reader in
@@ -49,8 +49,8 @@ returns-in_err-play_cut-in-Refused g c =
     let short : length (take filled buffer) ≤ c.args.limit = omega (arith, length-take-le filled buffer fits, sent.refused c.in-Refused.is, c.requires.room) in
     rw (p.1, p.2) (Ends-cut_stopped c.args.limit have left old new (take filled buffer) c.in_err-play_cut-in-Refused.field-0.0 sent.consumed short c.in_err-play_cut-in-Refused.ensures.err)
 
-pub returns-in_ok-play_cut-in-Full : goal.returns-in_ok-play_cut-in-Full
-returns-in_ok-play_cut-in-Full g c =
+pub returns-in_ok-play_cut-in-Full-clause-ends : goal.returns-in_ok-play_cut-in-Full-clause-ends
+returns-in_ok-play_cut-in-Full-clause-ends g c =
     let have = g.R.Read.remaining c.args.reader.now in
     let left = g.R.Read.remaining c.fill-filled.new.reader in
     let old = g.W.Write.contents c.args.writer.now in
@@ -66,8 +66,8 @@ returns-in_ok-play_cut-in-Full g c =
     let (t, played) = c.in_ok-play_cut-in-Full.ensures.ok in
     Ends-full limit old new (take filled buffer) full have left t sent.consumed (subst (λ l. PlaysAll old new Empty (ended_lines l) t) (sym front) played)
 
-pub returns-in_err-play_cut-in-Full : goal.returns-in_err-play_cut-in-Full
-returns-in_err-play_cut-in-Full g c =
+pub returns-in_err-play_cut-in-Full-clause-ends : goal.returns-in_err-play_cut-in-Full-clause-ends
+returns-in_err-play_cut-in-Full-clause-ends g c =
     let p = err_from_is_err_and c.from_residual.result c.from_residual.ensures.1 in
     let have = g.R.Read.remaining c.args.reader.now in
     let left = g.R.Read.remaining c.fill-filled.new.reader in
