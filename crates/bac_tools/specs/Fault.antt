@@ -21,8 +21,18 @@ replay_fault build.BadName = Build build.BadName
 replay_fault build.BadReplySize = Build build.BadReplySize
 replay_fault build.Memory = Memory
 
--- a fault of line n
-abbrev pub at_line : ℕ → LineFault → ReplayFault
-at_line n line.TheVariants.Bad = BadLine n
-at_line n (line.TheVariants.Build fault) = Build fault
-at_line n line.TheVariants.Memory = Memory
+-- why a line can't be played: it is none of a script, or stands in the wrong place; or it is the first event, and the device can't be built
+pub data Refusal : Type 0 where
+  Bad : Refusal
+  Unbuilt : BuildFault → Refusal
+
+-- the fault of a script whose line n is refused
+abbrev pub at_line : ℕ → Refusal → ReplayFault
+at_line n Bad = BadLine n
+at_line n (Unbuilt fault) = Build fault
+
+-- the same of what the code answers, which may be want of memory
+abbrev pub told : ℕ → LineFault → ReplayFault
+told n line.TheVariants.Bad = BadLine n
+told n (line.TheVariants.Build fault) = Build fault
+told n line.TheVariants.Memory = Memory

@@ -7,33 +7,33 @@ use Rattle.bac_tools.specs.Fault.{at_line}
 use Rattle.bac_tools.specs.Lines.{ended_lines}
 use Rattle.bac_tools.specs.Session.{step, end_fault}
 use Rattle.bac_tools.specs.Output.{AppendsPart}
-use Rattle.bac_tools.specs.declared.fault.LineFault.{LineFault}
+use Rattle.bac_tools.specs.Fault.{Refusal}
 use Rattle.bac_tools.specs.declared.fault.ReplayFault.{ReplayFault}
 use Rattle.bac_tools.specs.declared.fault.ReplayFault.TheVariants.{BadLine, Build, Read, TooLong, Write, Memory}
-use Rattle.bac_tools.specs.declared.session.Session.{Session}
-use Rattle.bac_tools.specs.declared.session.Session.TheVariants.{Empty}
+use Rattle.bac_tools.specs.Session.{State}
+use Rattle.bac_tools.specs.Session.{Empty}
 
 -- what is printed, and then the state or the fault
 abbrev pub Played : Type 0
-Played = List ℕ × Result Session ReplayFault
+Played = List ℕ × Result State ReplayFault
 
 -- what comes before the rest
-abbrev pub then_play : ℕ → Result (List ℕ × Session) LineFault → (Session → Played) → Played
+abbrev pub then_play : ℕ → Result (List ℕ × State) Refusal → (State → Played) → Played
 then_play n (Ok x) rest = (x.0 ++ (rest x.1).0, (rest x.1).1)
 then_play n (Err f) rest = ([], Err (at_line n f))
 
 -- the lines one after the other, the first one having number n, up to the first fault
-abbrev pub play : ℕ → Session → List (List ℕ) → Played
+abbrev pub play : ℕ → State → List (List ℕ) → Played
 play n s [] = ([], Ok s)
 play n s (x ∷ more) = then_play n (step s x) (λ t. play (n + 1) t more)
 
 -- the fault that is left at the end of a script
-abbrev pub at_end : Result Session ReplayFault → Option ReplayFault
+abbrev pub at_end : Result State ReplayFault → Option ReplayFault
 at_end (Ok s) = option_map Build (end_fault s)
 at_end (Err f) = Some f
 
 -- the fault of a script that is too long: that of a line, else that it is too long
-abbrev pub past_limit : Result Session ReplayFault → Option ReplayFault
+abbrev pub past_limit : Result State ReplayFault → Option ReplayFault
 past_limit (Ok s) = Some TooLong
 past_limit (Err f) = Some f
 
@@ -55,13 +55,13 @@ fault_of_script limit script =
     else past_limit (play 1 Empty (ended_lines (take limit script))).1
 
 -- All the lines were played, and the writer holds their text.
-pub record PlaysAll (old new : Option (List ℕ)) (s : Session) (all : List (List ℕ)) (t : Session) : Type 0 where
+pub record PlaysAll (old new : Option (List ℕ)) (s : State) (all : List (List ℕ)) (t : State) : Type 0 where
   pub state : (play 1 s all).1 ≡ Ok t
   pub text : Appends old new (play 1 s all).0
 
 -- Some first lines were played, and the writer holds their text.
 abbrev pub PlaysSome : Option (List ℕ) → Option (List ℕ) → List (List ℕ) → Type 0
-PlaysSome old new all = (before : List (List ℕ)) × (after : List (List ℕ)) × (t : Session) × (all ≡ before ++ after) × PlaysAll old new Empty before t
+PlaysSome old new all = (before : List (List ℕ)) × (after : List (List ℕ)) × (t : State) × (all ≡ before ++ after) × PlaysAll old new Empty before t
 
 -- How a replay ends: what its reader had is `script`, and what it has left is `left`; `old` and `new` are what the writer held before and holds now.
 unfoldable pub Ends : ℕ → List ℕ → Option (List ℕ) → Option (List ℕ) → Option (List ℕ) → Result (Unit {0}) ReplayFault → Type 0
@@ -69,7 +69,7 @@ Ends limit script left old new (Ok _) = (fault_of_script limit script ≡ None) 
 Ends limit script left old new (Err (BadLine n)) = (fault_of_script limit script ≡ Some (BadLine n)) × Appends old new (text_of limit script)
 Ends limit script left old new (Err (Build f)) = (fault_of_script limit script ≡ Some (Build f)) × Appends old new (text_of limit script)
 Ends limit script left old new (Err TooLong) = (limit < length script) × (fault_of_script limit script ≡ Some TooLong) × Appends old new (text_of limit script)
-Ends limit script left old new (Err Read) = (read : List ℕ) × (t : Session) × Consumes (Some script) left read × (length read ≤ limit) × PlaysAll old new Empty (ended_lines read) t
+Ends limit script left old new (Err Read) = (read : List ℕ) × (t : State) × Consumes (Some script) left read × (length read ≤ limit) × PlaysAll old new Empty (ended_lines read) t
 Ends limit script left old new (Err Write) = AppendsPart old new (text_of limit script)
 Ends limit script left old new (Err Memory) = PlaysSome old new (played_lines limit script)
 

@@ -11,14 +11,27 @@ use Rattle.bac_tools.specs.Words.{words_of, text_in}
 use Rattle.bac_tools.specs.declared.device.BuildFault.{BuildFault}
 use Rattle.bac_tools.specs.declared.device.DeviceLine.{DeviceLine}
 use Rattle.bac_tools.specs.declared.fault.LineFault.{LineFault}
-use Rattle.bac_tools.specs.declared.fault.LineFault.TheVariants.{Bad, Build, Memory}
+use Rattle.bac_tools.specs.declared.fault.LineFault.TheVariants as fault
+use Rattle.bac_tools.specs.Fault.{Refusal, Bad, Unbuilt}
 use Rattle.bac_tools.specs.declared.session.Line.{Line}
 use Rattle.bac_tools.specs.declared.session.Session.{Session}
-use Rattle.bac_tools.specs.declared.session.Session.TheVariants.{Empty, Described, Running}
+use Rattle.bac_tools.specs.declared.session.Session.TheVariants as code
+
+-- what the lines so far have made: nothing, a device that is described, or one that answers
+pub data State : Type 0 where
+  Empty : State
+  Described : DeviceLine → State
+  Running : DeviceLine → State
+
+-- the same of what the code keeps
+abbrev pub state_of : Session → State
+state_of code.Empty = Empty
+state_of (code.Described line) = Described line
+state_of (code.Running device) = Running device
 
 -- what a line prints and the state after it, or its fault
 abbrev pub Step : Type 0
-Step = Result (List ℕ × Session) LineFault
+Step = Result (List ℕ × State) Refusal
 
 -- ---- a line `device`
 
@@ -38,7 +51,7 @@ abbrev pub line_of : Line → DeviceLine
 line_of line = record { instance = line.instance; name = line.name.now; vendor = line.vendor; reply_size = line.reply_size; clock = line.clock }
 
 -- it stands once, and before the first event
-abbrev pub on_device : Session → Option DeviceLine → Step
+abbrev pub on_device : State → Option DeviceLine → Step
 on_device s None = Err Bad
 on_device Empty (Some line) = Ok ([], Described line)
 on_device (Described old) (Some line) = Err Bad
@@ -58,34 +71,34 @@ answered line octets = Ok (answer_text (answer line octets), Running line)
 -- the first event builds the device
 abbrev pub built : Option BuildFault → DeviceLine → List ℕ → Step
 built None line octets = answered line octets
-built (Some fault) line octets = Err (Build fault)
+built (Some refused) line octets = Err (Unbuilt refused)
 
-abbrev pub on_octets : Session → Option (List ℕ) → Step
+abbrev pub on_octets : State → Option (List ℕ) → Step
 on_octets s None = Err Bad
 on_octets Empty (Some octets) = Err Bad
 on_octets (Described line) (Some octets) = built (fault_of line) line octets
 on_octets (Running line) (Some octets) = answered line octets
 
 -- there is one word behind `rx`
-abbrev pub on_rx : Session → List (List ℕ) → Step
+abbrev pub on_rx : State → List (List ℕ) → Step
 on_rx s (word ∷ []) = on_octets s (octets_in word)
 on_rx s words = Err Bad
 
 -- ---- any line
 
 -- the first word says which line it is
-abbrev pub command : Session → List (List ℕ) → Step
+abbrev pub command : State → List (List ℕ) → Step
 command s [] = Err Bad
 command s (word ∷ words) =
     if bytes_eq word (codes "device") then on_device s (device_line words) else
     if bytes_eq word (codes "rx") then on_rx s words else Err Bad
 
 -- an empty line and a comment do nothing
-unfoldable pub step : Session → List ℕ → Step
+unfoldable pub step : State → List ℕ → Step
 step s line = if (length line == 0) || (slice_index line 0 == 35) then Ok ([], s) else command s (words_of line)
 
 -- what the end of a script finds: a device that no event had built
-abbrev pub end_fault : Session → Option BuildFault
+abbrev pub end_fault : State → Option BuildFault
 end_fault Empty = None
 end_fault (Described line) = fault_of line
 end_fault (Running line) = None
@@ -93,12 +106,12 @@ end_fault (Running line) = None
 -- ---- what functions return
 
 -- The fault is the one that the definition says. Want of memory can come in place of anything.
-abbrev pub Fails : {Y : Type 0} → LineFault → Result Y LineFault → Type 0
-Fails Bad said = said ≡ Err Bad
-Fails (Build fault) said = said ≡ Err (Build fault)
-Fails Memory said = Unit {0}
+abbrev pub Fails : {Y : Type 0} → LineFault → Result Y Refusal → Type 0
+Fails fault.Bad said = said ≡ Err Bad
+Fails (fault.Build refused) said = said ≡ Err (Unbuilt refused)
+Fails fault.Memory said = Unit {0}
 
 -- what a function returned, seen by view, is what the definition says, unless memory ran out
-abbrev pub Meets : {X Y : Type 0} → (X → Y) → Result X LineFault → Result Y LineFault → Type 0
+abbrev pub Meets : {X Y : Type 0} → (X → Y) → Result X LineFault → Result Y Refusal → Type 0
 Meets view (Ok x) said = said ≡ Ok (view x)
-Meets view (Err fault) said = Fails fault said
+Meets view (Err f) said = Fails f said

@@ -1,7 +1,7 @@
 //! Why a replay ends early.
 
 ghost use Rattle.std.specs.Prelude.{◌≡◌};
-ghost use Rattle.bac_tools.specs.Fault.{line_fault, replay_fault, at_line};
+ghost use Rattle.bac_tools.specs.Fault.{line_fault, replay_fault, told};
 
 use crate::device::BuildFault;
 use thiserror::Error;
@@ -53,7 +53,7 @@ impl LineFault {
 
     /// The fault of the replay where this is that of the line with this number.
     pub(crate) fn at_line(self, number: usize) -> ReplayFault
-        ensures { result ≡ at_line number self }
+        ensures { result ≡ told number self }
     {
         match self {
             LineFault::Bad => ReplayFault::BadLine(number),

@@ -5,8 +5,7 @@ ghost use Rattle.bac_tools.specs.Input.{ConsumesUpTo};
 ghost use Rattle.std.specs.Str.Lines.{lines};
 ghost use Rattle.bac_tools.specs.Lines.{ended_lines, open_line, last_if_any};
 ghost use Rattle.bac_tools.specs.Replay.{PlaysAll, Replays};
-ghost use Rattle.bac_tools.specs.Session.{step, end_fault};
-ghost use Rattle.bac_tools.specs.declared.session.Session.TheVariants.{Empty};
+ghost use Rattle.bac_tools.specs.Session.{State, Empty, state_of, step, end_fault};
 ghost use Rattle.bac_tools.specs.Stops.{LineStops, Stops, ScriptStops};
 
 use crate::fault::ReplayFault;
@@ -28,9 +27,9 @@ fn play_line<W: Write>(
     line: &[u8],
     writer: &mut W,
 ) -> Result<(), ReplayFault>
-    ensures ok { OnOk result ((text : List ℕ) × (step session.old line.now ≡ Ok (text, session.new))
+    ensures ok { OnOk result ((text : List ℕ) × (step (state_of session.old) line.now ≡ Ok (text, state_of session.new))
         × Appends (W.contents writer.old) (W.contents writer.new) text) }
-    ensures err { IfErr result (LineStops (W.contents writer.old) (W.contents writer.new) number session.old line.now) }
+    ensures err { IfErr result (LineStops (W.contents writer.old) (W.contents writer.new) number (state_of session.old) line.now) }
 {
     let text = match session.play(alloc, line) {
         Ok(text) => text,
@@ -52,9 +51,9 @@ fn play_ended<'a, W: Write>(
 ) -> Result<(usize, &'a [u8]), ReplayFault>
     requires { length script.now ≤ LIMIT }
     ensures number { IfOk result (λ x. x.0 ≡ 1 + length (ended_lines script.now)) }
-    ensures all { IfOk result (λ x. PlaysAll (W.contents writer.old) (W.contents writer.new) session.old (ended_lines script.now) session.new) }
+    ensures all { IfOk result (λ x. PlaysAll (W.contents writer.old) (W.contents writer.new) (state_of session.old) (ended_lines script.now) (state_of session.new)) }
     ensures rest { IfOk result (λ x. open_line script.now ≡ last_if_any (x.1.now ∷ [])) }
-    ensures err { IfErr result (Stops (W.contents writer.old) (W.contents writer.new) session.old (ended_lines script.now)) }
+    ensures err { IfErr result (Stops (W.contents writer.old) (W.contents writer.new) (state_of session.old) (ended_lines script.now)) }
 {
     let mut rest = script;
     let mut number = 1;
@@ -69,7 +68,7 @@ fn play_ended<'a, W: Write>(
 /// Plays the lines that a line feed ends, from the start.
 fn play_cut<W: Write>(alloc: Global, script: &[u8], writer: &mut W) -> Result<(), ReplayFault>
     requires { length script.now ≤ LIMIT }
-    ensures ok { OnOk result ((t : Session) × PlaysAll (W.contents writer.old) (W.contents writer.new) Empty (ended_lines script.now) t) }
+    ensures ok { OnOk result ((t : State) × PlaysAll (W.contents writer.old) (W.contents writer.new) Empty (ended_lines script.now) t) }
     ensures err { IfErr result (Stops (W.contents writer.old) (W.contents writer.new) Empty (ended_lines script.now)) }
 {
     let mut session = Session::Empty;
@@ -85,8 +84,8 @@ fn play_all<W: Write>(
     writer: &mut W,
 ) -> Result<(), ReplayFault>
     requires { length script.now ≤ LIMIT }
-    ensures ok { OnOk result (PlaysAll (W.contents writer.old) (W.contents writer.new) session.old (lines script.now) session.new) }
-    ensures err { IfErr result (Stops (W.contents writer.old) (W.contents writer.new) session.old (lines script.now)) }
+    ensures ok { OnOk result (PlaysAll (W.contents writer.old) (W.contents writer.new) (state_of session.old) (lines script.now) (state_of session.new)) }
+    ensures err { IfErr result (Stops (W.contents writer.old) (W.contents writer.new) (state_of session.old) (lines script.now)) }
 {
     let (number, rest) = play_ended(alloc, session, script, writer)?;
     if rest.is_empty() {
@@ -98,7 +97,7 @@ fn play_all<W: Write>(
 /// Plays all the lines, and builds the device at the end where no line did.
 fn play_whole<W: Write>(alloc: Global, script: &[u8], writer: &mut W) -> Result<(), ReplayFault>
     requires { length script.now ≤ LIMIT }
-    ensures ok { OnOk result ((t : Session) × PlaysAll (W.contents writer.old) (W.contents writer.new) Empty (lines script.now) t × (end_fault t ≡ None)) }
+    ensures ok { OnOk result ((t : State) × PlaysAll (W.contents writer.old) (W.contents writer.new) Empty (lines script.now) t × (end_fault t ≡ None)) }
     ensures err { IfErr result (ScriptStops (W.contents writer.old) (W.contents writer.new) script.now) }
 {
     let mut session = Session::Empty;

@@ -4,9 +4,8 @@ ghost use Rattle.std.specs.Prelude.{◌≡◌, None, Some, IfOk, OnOk, IfErr};
 ghost use Rattle.std.specs.Option.{option_copied};
 ghost use Rattle.bac_apdu.specs.Octets.{GivesSome};
 ghost use Rattle.bac_tools.specs.Device.{Refuses};
-ghost use Rattle.bac_tools.specs.Session.{Meets, answer_text, answered, device_line, end_fault, on_device, on_octets, on_rx, line_of, step};
+ghost use Rattle.bac_tools.specs.Session.{Meets, answer_text, answered, device_line, end_fault, on_device, on_octets, on_rx, line_of, step, state_of, Running};
 ghost use Rattle.bac_tools.specs.Words.{words_of};
-ghost use Rattle.bac_tools.specs.declared.session.Session.TheVariants.{Running};
 
 use crate::device::{BuildFault, Device, DeviceLine};
 use crate::fault::LineFault;
@@ -87,7 +86,7 @@ fn answer(device: &Device, alloc: Global, datagram: &Datagram) -> Result<Vec<u8>
 impl Session {
     /// Plays a line `device` with these words behind it.
     fn play_device(&mut self, alloc: Global, words: &[u8]) -> Result<Vec<u8>, LineFault>
-        ensures { Meets (λ text. (text.items, self.new)) result (on_device self.old (device_line (words_of words.now))) }
+        ensures { Meets (λ text. (text.items, state_of self.new)) result (on_device (state_of self.old) (device_line (words_of words.now))) }
     {
         let Some(line) = device_line(words) else {
             return Err(LineFault::Bad);
@@ -112,7 +111,7 @@ impl Session {
 
     /// Plays a datagram that was received.
     fn play_datagram(&mut self, alloc: Global, datagram: &Datagram) -> Result<Vec<u8>, LineFault>
-        ensures { Meets (λ text. (text.items, self.new)) result (on_octets self.old (Some datagram.now)) }
+        ensures { Meets (λ text. (text.items, state_of self.new)) result (on_octets (state_of self.old) (Some datagram.now)) }
     {
         match self {
             Session::Empty => Err(LineFault::Bad),
@@ -131,7 +130,7 @@ impl Session {
 
     /// Plays a line `rx` with these words behind it.
     fn play_rx(&mut self, alloc: Global, words: &[u8]) -> Result<Vec<u8>, LineFault>
-        ensures { Meets (λ text. (text.items, self.new)) result (on_rx self.old (words_of words.now)) }
+        ensures { Meets (λ text. (text.items, state_of self.new)) result (on_rx (state_of self.old) (words_of words.now)) }
     {
         let Some(word) = last_word(words) else {
             return Err(LineFault::Bad);
@@ -145,7 +144,7 @@ impl Session {
     /// Plays one line, and answers what it prints.
     #[tactic(auto, unfolding(crate::specs::Session::step, crate::specs::Session::device_line))]
     pub(crate) fn play(&mut self, alloc: Global, line: &[u8]) -> Result<Vec<u8>, LineFault>
-        ensures { Meets (λ text. (text.items, self.new)) result (step self.old line.now) }
+        ensures { Meets (λ text. (text.items, state_of self.new)) result (step (state_of self.old) line.now) }
     {
         if line.is_empty() || line[0] == b'#' {
             return Ok(Vec::new(alloc));
@@ -164,8 +163,8 @@ impl Session {
 
     /// Builds the device at the end of a script, where no event has.
     pub(crate) fn finish(&self, alloc: Global) -> Result<(), BuildFault>
-        ensures ok { OnOk result (end_fault self.now ≡ None) }
-        ensures err { IfErr result (λ fault. Refuses fault (end_fault self.now)) }
+        ensures ok { OnOk result (end_fault (state_of self.now) ≡ None) }
+        ensures err { IfErr result (λ fault. Refuses fault (end_fault (state_of self.now))) }
     {
         if let Session::Described(line) = self {
             Device::build(alloc, line)?;

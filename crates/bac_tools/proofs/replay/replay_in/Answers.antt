@@ -3,7 +3,7 @@ use lib.Seq.{take-take}
 use Rattle.std.proofs.lemmas.Result.{err_from_is_err_and}
 use Rattle.bac_tools.specs.Lines.{ended_lines}
 use Rattle.bac_tools.specs.Replay.{PlaysAll}
-use Rattle.bac_tools.specs.declared.session.Session.TheVariants.{Empty}
+use Rattle.bac_tools.specs.Session.{Empty}
 use Rattle.bac_tools.specs.Stops.{Stops}
 use Rattle.bac_tools.proofs.EndLemmas.{Ends-read, Ends-full, Ends-full_stopped, Ends-cut, Ends-cut_stopped}
 use Rattle.bac_tools.proofs.replay.replay_in.Goals as goal
