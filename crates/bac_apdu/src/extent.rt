@@ -1,14 +1,15 @@
 //! The range of ReadRange (clause 15.8).
 
-ghost use Rattle.std.specs.Prelude.{◌≤◌, [], ◌∷◌};
-ghost use Rattle.bac_wire.specs.Primitive.{Unsigned, Signed};
+ghost use Rattle.std.specs.Prelude.{◌≡◌, ◌≤◌, [], ◌∷◌};
+ghost use Rattle.bac_wire.specs.Primitive.{Unsigned, Signed, Date, Time};
 ghost use Rattle.bac_wire.specs.Reading.{Gives};
+ghost use Rattle.bac_wire.specs.Stamp.{date_octets, time_octets};
 ghost use Rattle.bac_apdu.specs.Adding.{Adds};
-ghost use Rattle.bac_apdu.specs.Extent.{range, extent_items, by_reference};
-ghost use Rattle.bac_apdu.specs.Form.{Value as Item, Mark, form_at, canon_form};
+ghost use Rattle.bac_apdu.specs.Extent.{range, extent_items, by_reference, is_count, is_date, is_time, date_fits, time_fits};
+ghost use Rattle.bac_apdu.specs.Form.{Value as Item, Mark, application, unsigned, signed, date, time, is_u32, part_at, form_at, canon_form};
 
 use crate::adding::{add_close, add_open, add_value};
-use crate::parts::Parts;
+use crate::parts::{DATE, Parts, SIGNED, TIME, UNSIGNED};
 use crate::reason::Reason;
 use bac_wire::{Datagram, Date4, Full, Time4, Value};
 
@@ -90,4 +91,99 @@ fn add_reference(out: &mut Datagram, tag: u8, reference: u32, count: i32) -> Res
     add_value(out, &Value::Signed(count as i64))?;
     add_close(out, tag)?;
     Ok(())
+}
+
+impl<'a> Parts<'a> {
+    /// An Unsigned of at most 4294967295.
+    #[tactic(auto, unfolding(crate::specs::Form::part_at))]
+    fn plain_number(&mut self) -> Result<u32, Reason>
+        ensures { Gives (λ x. (Item (Unsigned x), self.new)) result (part_at (application unsigned is_u32) self.old) }
+    {
+        match self.typed(UNSIGNED) {
+            Ok(Value::Unsigned(number)) => {
+                if number > u32::MAX as u64 {
+                    return Err(Reason::OutOfRange);
+                }
+                Ok(number as u32)
+            }
+            Ok(_) => Err(Reason::OutOfRange),
+            Err(reason) => Err(reason),
+        }
+    }
+
+    /// A Signed of 32 bits that isn't 0.
+    #[tactic(auto, unfolding(crate::specs::Form::part_at))]
+    fn count(&mut self) -> Result<i32, Reason>
+        ensures { Gives (λ x. (Item (Signed x), self.new)) result (part_at (application signed is_count) self.old) }
+    {
+        match self.typed(SIGNED) {
+            Ok(Value::Signed(number)) => {
+                if number == 0 || number < i32::MIN as i64 || number > i32::MAX as i64 {
+                    return Err(Reason::OutOfRange);
+                }
+                Ok(number as i32)
+            }
+            Ok(_) => Err(Reason::OutOfRange),
+            Err(reason) => Err(reason),
+        }
+    }
+
+    /// A Date whose year, month and day are specified.
+    #[tactic(auto, unfolding(crate::specs::Form::part_at))]
+    fn date(&mut self) -> Result<Date4, Reason>
+        ensures { Gives (λ x. (Item (Date (date_octets x)), self.new)) result (part_at (application date is_date) self.old) }
+    {
+        match self.typed(DATE) {
+            Ok(Value::Date(date)) => {
+                if !is_full_date(date) {
+                    return Err(Reason::OutOfRange);
+                }
+                Ok(date)
+            }
+            Ok(_) => Err(Reason::OutOfRange),
+            Err(reason) => Err(reason),
+        }
+    }
+
+    /// A Time that is specified.
+    #[tactic(auto, unfolding(crate::specs::Form::part_at))]
+    fn time(&mut self) -> Result<Time4, Reason>
+        ensures { Gives (λ x. (Item (Time (time_octets x)), self.new)) result (part_at (application time is_time) self.old) }
+    {
+        match self.typed(TIME) {
+            Ok(Value::Time(time)) => {
+                if !is_full_time(time) {
+                    return Err(Reason::OutOfRange);
+                }
+                Ok(time)
+            }
+            Ok(_) => Err(Reason::OutOfRange),
+            Err(reason) => Err(reason),
+        }
+    }
+
+    /// Reference and count between tags of this number, and then nothing.
+    #[tactic(auto, unfolding(crate::specs::Form::form_at))]
+    fn reference(&mut self, tag: u8) -> Result<(u32, i32), Reason>
+        ensures { Gives (λ x. Mark tag ∷ Item (Unsigned x.0) ∷ Item (Signed x.1) ∷ Mark tag ∷ []) result (form_at (by_reference tag) self.old) }
+    {
+        self.open(tag)?;
+        let reference = self.plain_number()?;
+        let count = self.count()?;
+        self.close(tag)?;
+        self.end()?;
+        Ok((reference, count))
+    }
+}
+
+fn is_full_date(date: Date4) -> bool
+    ensures { result ≡ date_fits (date_octets date) }
+{
+    date.year <= 254 && 1 <= date.month && date.month <= 12 && 1 <= date.day && date.day <= 31
+}
+
+fn is_full_time(time: Time4) -> bool
+    ensures { result ≡ time_fits (time_octets time) }
+{
+    time.hour <= 23 && time.minute <= 59 && time.second <= 59 && time.hundredth <= 99
 }

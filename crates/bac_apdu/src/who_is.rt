@@ -3,16 +3,17 @@
 ghost use Rattle.std.specs.Prelude.{◌≡◌, List, ℕ, IfSome, IsSomeAnd};
 ghost use Rattle.std.specs.Result.{result_ok};
 ghost use Rattle.bac_wire.specs.Canon.{Writes};
+ghost use Rattle.bac_wire.specs.Primitive.{Unsigned};
 ghost use Rattle.bac_wire.specs.Reading.{Gives};
 ghost use Rattle.bac_apdu.specs.Adding.{Adds};
-ghost use Rattle.bac_apdu.specs.Form.{Item, form_at, Reads, canon_form};
-ghost use Rattle.bac_apdu.specs.WhoIs.{who_is, who_is_items, AreLimits};
+ghost use Rattle.bac_apdu.specs.Form.{Item, Value as ItemValue, context, unsigned, part_at, form_at, Reads, canon_form};
+ghost use Rattle.bac_apdu.specs.WhoIs.{is_instance, who_is, who_is_items, AreLimits};
 ghost use Rattle.bac_apdu.specs.Octets.{GivesSome};
 
 use crate::adding::add_context;
 use crate::parts::Parts;
 use crate::reason::Reason;
-use bac_wire::{Datagram, Full, Value, write_octets};
+use bac_wire::{Datagram, Full, Value, as_unsigned, write_octets};
 
 /// Asks devices to announce themselves (clause 16.10): all of them, or those whose instance is
 /// one of the two limits or lies between them.
@@ -81,4 +82,19 @@ impl WhoIs {
     pub fn items_tell_fields()
         ensures { (v w : WhoIs) → who_is_items v ≡ who_is_items w → v ≡ w }
     {}
+}
+
+impl<'a> Parts<'a> {
+    /// An Unsigned of at most 4194303.
+    #[tactic(auto, unfolding(crate::specs::Form::part_at))]
+    fn instance(&mut self, tag: u8) -> Result<u32, Reason>
+        ensures { Gives (λ x. (ItemValue (Unsigned x), self.new)) result (part_at (context tag unsigned is_instance) self.old) }
+    {
+        let contents = self.contents(tag)?;
+        let number = as_unsigned(contents)?;
+        if number > 4194303 {
+            return Err(Reason::OutOfRange);
+        }
+        Ok(number as u32)
+    }
 }
