@@ -21,9 +21,9 @@ frame_of (code.Function function rest) = Function function rest.now
 -- What each function has (J.2.5, J.2.11, J.2.12): Original-Unicast-NPDU is 0A, Original-Broadcast-NPDU 0B; Forwarded-NPDU, 04, has six octets of address first.
 unfoldable pub body_at : ℕ → List ℕ → Option Frame
 body_at function bytes =
-    if function == 10 then Some (Unicast bytes) else
-    if function == 11 then Some (Broadcast bytes) else
-    if function == 4 then (do
+    if function == 0x0A then Some (Unicast bytes) else
+    if function == 0x0B then Some (Broadcast bytes) else
+    if function == 0x04 then (do
       address ← octets_at 6 bytes
       Some (Forwarded address.0 address.1)) else
     Some (Function function bytes)
@@ -34,8 +34,8 @@ frame_at bytes = do
   kind ← octet_at bytes
   function ← octet_at kind.1
   len ← word_at function.1
-  if kind.0 == 129 && len.0 == length bytes then body_at function.0 len.1 else None
+  if kind.0 == 0x81 && len.0 == length bytes then body_at function.0 len.1 else None
 
 -- an Original-Unicast-NPDU (J.2.11)
 unfoldable pub frame_text : List ℕ → List ℕ
-frame_text body = (129 ∷ 10 ∷ to_be_bytes w16 (length body + 4)) ++ body
+frame_text body = (0x81 ∷ 0x0A ∷ to_be_bytes w16 (length body + 4)) ++ body
