@@ -4,7 +4,7 @@ use Rattle.bac_wire.specs.Primitive.{Primitive, Unsigned, Signed, Date, Time}
 use Rattle.bac_wire.specs.Stamp.{date_octets, time_octets}
 use Rattle.bac_apdu.specs.declared.extent.Extent.{Extent}
 use Rattle.bac_apdu.specs.declared.extent.Extent.TheVariants.{All, ByPosition, ByNumber, ByTime}
-use Rattle.bac_apdu.specs.Form.{Form, end, part, option, application, opening, closing, is_u32, unsigned, signed, date, time, Item, Value, Mark}
+use Rattle.bac_apdu.specs.Form.{Form, end, part, choice, application, opening, closing, is_u32, unsigned, signed, date, time, Item, Value, Mark}
 
 -- ---- ranges
 
@@ -55,7 +55,7 @@ by_time =
 
 -- one of the three, or nothing for all records
 abbrev pub range : Form
-range = option 3 (by_reference 3) (option 6 (by_reference 6) (option 7 by_time end))
+range = choice 3 (by_reference 3) (choice 6 (by_reference 6) (choice 7 by_time end))
 
 abbrev pub extent_items : Extent → List Item
 extent_items All = []

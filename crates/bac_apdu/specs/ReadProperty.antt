@@ -3,13 +3,13 @@ use Rattle.std.specs.Prelude.{ℕ, ◌^◌, ◌<◌, List, [], ◌∷◌, Option
 use Rattle.bac_wire.specs.Primitive.{Id, Enumerated, Object}
 use Rattle.bac_wire.specs.Canon.{IsValid}
 use Rattle.bac_apdu.specs.declared.read_property.ReadProperty.{ReadProperty}
-use Rattle.bac_apdu.specs.Form.{Form, end, part, maybe, context, anything, is_u32, unsigned, enumerated, object_identifier, Item, Value, number_item}
+use Rattle.bac_apdu.specs.Form.{Form, end, part, optional, context, anything, is_u32, unsigned, enumerated, object_identifier, Item, Value, number_item}
 
 abbrev pub read_property : Form
 read_property =
     part (context 0 object_identifier anything)  -- object identifier
     (part (context 1 enumerated anything)  -- property identifier
-    (maybe 2 unsigned is_u32  -- property array index, optional
+    (optional 2 unsigned is_u32  -- property array index, optional
     end))
 
 abbrev pub property_items : ReadProperty → List Item

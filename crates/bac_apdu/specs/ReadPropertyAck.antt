@@ -2,7 +2,7 @@
 use Rattle.std.specs.Prelude.{List, [], ◌∷◌}
 use Rattle.bac_wire.specs.Primitive.{Enumerated, Object}
 use Rattle.bac_apdu.specs.declared.read_property_ack.ReadPropertyAck.{ReadPropertyAck}
-use Rattle.bac_apdu.specs.Form.{Form, end, part, maybe, context, opening, enclosed, anything, is_u32, unsigned, enumerated, object_identifier, Item, Value, Mark, Inside, number_item}
+use Rattle.bac_apdu.specs.Form.{Form, end, part, optional, context, opening, enclosed, anything, is_u32, unsigned, enumerated, object_identifier, Item, Value, Mark, Inside, number_item}
 
 abbrev pub values : Form
 values =
@@ -14,7 +14,7 @@ abbrev pub read_property_ack : Form
 read_property_ack =
     part (context 0 object_identifier anything)  -- object identifier
     (part (context 1 enumerated anything)  -- property identifier
-    (maybe 2 unsigned is_u32  -- property array index, optional
+    (optional 2 unsigned is_u32  -- property array index, optional
     values))
 
 abbrev pub value_items : ReadPropertyAck → List Item

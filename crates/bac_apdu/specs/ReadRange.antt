@@ -2,14 +2,14 @@
 use Rattle.std.specs.Prelude.{List, ◌∷◌}
 use Rattle.bac_wire.specs.Primitive.{Enumerated, Object}
 use Rattle.bac_apdu.specs.declared.read_range.ReadRange.{ReadRange}
-use Rattle.bac_apdu.specs.Form.{Form, part, maybe, context, anything, is_u32, unsigned, enumerated, object_identifier, Item, Value, number_item}
+use Rattle.bac_apdu.specs.Form.{Form, part, optional, context, anything, is_u32, unsigned, enumerated, object_identifier, Item, Value, number_item}
 use Rattle.bac_apdu.specs.Extent.{range, extent_items}
 
 abbrev pub read_range : Form
 read_range =
     part (context 0 object_identifier anything)  -- object identifier
     (part (context 1 enumerated anything)  -- property identifier
-    (maybe 2 unsigned is_u32  -- property array index, optional
+    (optional 2 unsigned is_u32  -- property array index, optional
     range))  -- range, optional
 
 abbrev pub range_items : ReadRange → List Item

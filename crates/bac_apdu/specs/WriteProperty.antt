@@ -3,7 +3,7 @@ use Rattle.std.specs.Prelude.{ℕ, ◌<◌, ◌&&◌, nat_lt, Bool, false, List,
 use Rattle.bac_wire.specs.Primitive.{Primitive, Unsigned, Enumerated, Object}
 use Rattle.bac_wire.specs.View.{view}
 use Rattle.bac_apdu.specs.declared.write_property.WriteProperty.{WriteProperty}
-use Rattle.bac_apdu.specs.Form.{Form, end, part, maybe, context, opening, closing, any, anything, is_u32, unsigned, enumerated, object_identifier, Item, Value, Mark, number_item}
+use Rattle.bac_apdu.specs.Form.{Form, end, part, optional, context, opening, closing, any, anything, is_u32, unsigned, enumerated, object_identifier, Item, Value, Mark, number_item}
 
 -- 1 to 16
 abbrev pub is_priority : Primitive → Bool
@@ -15,14 +15,14 @@ setting =
     part (opening 3)  -- property value, opened
     (part any  -- one value
     (part (closing 3)  -- and closed
-    (maybe 4 unsigned is_priority  -- priority, optional
+    (optional 4 unsigned is_priority  -- priority, optional
     end)))
 
 abbrev pub write_property : Form
 write_property =
     part (context 0 object_identifier anything)  -- object identifier
     (part (context 1 enumerated anything)  -- property identifier
-    (maybe 2 unsigned is_u32  -- property array index, optional
+    (optional 2 unsigned is_u32  -- property array index, optional
     setting))
 
 abbrev pub setting_items : WriteProperty → List Item

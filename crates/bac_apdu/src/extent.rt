@@ -6,7 +6,9 @@ ghost use Rattle.bac_wire.specs.Reading.{Gives};
 ghost use Rattle.bac_wire.specs.Stamp.{date_octets, time_octets};
 ghost use Rattle.bac_apdu.specs.Adding.{Adds};
 ghost use Rattle.bac_apdu.specs.Extent.{range, extent_items, by_reference, is_count, is_date, is_time, date_fits, time_fits};
-ghost use Rattle.bac_apdu.specs.Form.{Value as Item, Mark, application, unsigned, signed, date, time, is_u32, part_at, form_at, canon_form};
+ghost use Rattle.bac_apdu.specs.Form.{Value as Item, Mark, application, unsigned, signed, date, time, is_u32};
+ghost use Rattle.bac_apdu.specs.FormReading.{part_at, form_at};
+ghost use Rattle.bac_apdu.specs.FormCanon.{canon_form};
 
 use crate::adding::{add_close, add_open, add_value};
 use crate::parts::{DATE, Parts, SIGNED, TIME, UNSIGNED};
@@ -39,7 +41,7 @@ pub enum Extent {
 }
 
 /// The range, if there is one, and then nothing.
-#[tactic(auto, unfolding(crate::specs::Form::form_at))]
+#[tactic(auto, unfolding(crate::specs::FormReading::form_at))]
 pub(crate) fn extent_of(mut parts: Parts) -> Result<Extent, Reason>
     ensures { Gives extent_items result (form_at range parts.entry) }
 {
@@ -95,7 +97,7 @@ fn add_reference(out: &mut Datagram, tag: u8, reference: u32, count: i32) -> Res
 
 impl<'a> Parts<'a> {
     /// An Unsigned of at most 4294967295.
-    #[tactic(auto, unfolding(crate::specs::Form::part_at))]
+    #[tactic(auto, unfolding(crate::specs::FormReading::part_at))]
     fn plain_number(&mut self) -> Result<u32, Reason>
         ensures { Gives (λ x. (Item (Unsigned x), self.new)) result (part_at (application unsigned is_u32) self.old) }
     {
@@ -112,7 +114,7 @@ impl<'a> Parts<'a> {
     }
 
     /// A Signed of 32 bits that isn't 0.
-    #[tactic(auto, unfolding(crate::specs::Form::part_at))]
+    #[tactic(auto, unfolding(crate::specs::FormReading::part_at))]
     fn count(&mut self) -> Result<i32, Reason>
         ensures { Gives (λ x. (Item (Signed x), self.new)) result (part_at (application signed is_count) self.old) }
     {
@@ -129,7 +131,7 @@ impl<'a> Parts<'a> {
     }
 
     /// A Date whose year, month and day are specified.
-    #[tactic(auto, unfolding(crate::specs::Form::part_at))]
+    #[tactic(auto, unfolding(crate::specs::FormReading::part_at))]
     fn date(&mut self) -> Result<Date4, Reason>
         ensures { Gives (λ x. (Item (Date (date_octets x)), self.new)) result (part_at (application date is_date) self.old) }
     {
@@ -146,7 +148,7 @@ impl<'a> Parts<'a> {
     }
 
     /// A Time that is specified.
-    #[tactic(auto, unfolding(crate::specs::Form::part_at))]
+    #[tactic(auto, unfolding(crate::specs::FormReading::part_at))]
     fn time(&mut self) -> Result<Time4, Reason>
         ensures { Gives (λ x. (Item (Time (time_octets x)), self.new)) result (part_at (application time is_time) self.old) }
     {
@@ -163,7 +165,7 @@ impl<'a> Parts<'a> {
     }
 
     /// Reference and count between tags of this number, and then nothing.
-    #[tactic(auto, unfolding(crate::specs::Form::form_at))]
+    #[tactic(auto, unfolding(crate::specs::FormReading::form_at))]
     fn reference(&mut self, tag: u8) -> Result<(u32, i32), Reason>
         ensures { Gives (λ x. Mark tag ∷ Item (Unsigned x.0) ∷ Item (Signed x.1) ∷ Mark tag ∷ []) result (form_at (by_reference tag) self.old) }
     {

@@ -5,7 +5,9 @@ ghost use Rattle.std.specs.Result.{result_ok};
 ghost use Rattle.bac_wire.specs.Canon.{Writes};
 ghost use Rattle.bac_wire.specs.Reading.{Gives};
 ghost use Rattle.bac_apdu.specs.Adding.{Adds};
-ghost use Rattle.bac_apdu.specs.Form.{Item, form_at, Reads, canon_form};
+ghost use Rattle.bac_apdu.specs.Form.{Item, Reads};
+ghost use Rattle.bac_apdu.specs.FormReading.{form_at};
+ghost use Rattle.bac_apdu.specs.FormCanon.{canon_form};
 ghost use Rattle.bac_apdu.specs.IAm.{i_am, i_am_items, IsAnnouncement};
 ghost use Rattle.bac_apdu.specs.Octets.{GivesSome};
 
@@ -40,7 +42,7 @@ impl IAm {
         IAm::parts(bytes).ok()
     }
 
-    #[tactic(auto, unfolding(crate::specs::Form::form_at))]
+    #[tactic(auto, unfolding(crate::specs::FormReading::form_at))]
     fn parts(bytes: &[u8]) -> Result<IAm, Reason>
         ensures { Gives i_am_items result (form_at i_am bytes.now) }
     {

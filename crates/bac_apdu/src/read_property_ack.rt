@@ -6,7 +6,9 @@ ghost use Rattle.bac_wire.specs.Canon.{Writes};
 ghost use Rattle.bac_wire.specs.Reading.{Gives};
 ghost use Rattle.bac_wire.specs.Level.{IsLevel};
 ghost use Rattle.bac_apdu.specs.Adding.{Adds};
-ghost use Rattle.bac_apdu.specs.Form.{Item, form_at, Reads, canon_form};
+ghost use Rattle.bac_apdu.specs.Form.{Item, Reads};
+ghost use Rattle.bac_apdu.specs.FormReading.{form_at};
+ghost use Rattle.bac_apdu.specs.FormCanon.{canon_form};
 ghost use Rattle.bac_apdu.specs.Octets.{GivesSome};
 ghost use Rattle.bac_apdu.specs.ReadProperty.{IsProperty};
 ghost use Rattle.bac_apdu.specs.ReadPropertyAck.{read_property_ack, property_ack_items, values, value_items};
@@ -43,7 +45,7 @@ impl<'a> ReadPropertyAck<'a> {
         }
     }
 
-    #[tactic(auto, unfolding(crate::specs::Form::form_at))]
+    #[tactic(auto, unfolding(crate::specs::FormReading::form_at))]
     fn parts(bytes: &'a [u8]) -> Result<ReadPropertyAck<'a>, Reason>
         ensures { Gives property_ack_items result (form_at read_property_ack bytes.now) }
     {

@@ -6,7 +6,9 @@ ghost use Rattle.bac_wire.specs.Canon.{Writes};
 ghost use Rattle.bac_wire.specs.Primitive.{Unsigned};
 ghost use Rattle.bac_wire.specs.Reading.{Gives};
 ghost use Rattle.bac_apdu.specs.Adding.{Adds};
-ghost use Rattle.bac_apdu.specs.Form.{Item, Value as ItemValue, context, unsigned, part_at, form_at, Reads, canon_form};
+ghost use Rattle.bac_apdu.specs.Form.{Item, Value as ItemValue, context, unsigned, Reads};
+ghost use Rattle.bac_apdu.specs.FormReading.{part_at, form_at};
+ghost use Rattle.bac_apdu.specs.FormCanon.{canon_form};
 ghost use Rattle.bac_apdu.specs.WhoIs.{is_instance, who_is, who_is_items, AreLimits};
 ghost use Rattle.bac_apdu.specs.Octets.{GivesSome};
 
@@ -36,7 +38,7 @@ impl WhoIs {
         WhoIs::parts(bytes).ok()
     }
 
-    #[tactic(auto, unfolding(crate::specs::Form::form_at))]
+    #[tactic(auto, unfolding(crate::specs::FormReading::form_at))]
     fn parts(bytes: &[u8]) -> Result<WhoIs, Reason>
         ensures { Gives who_is_items result (form_at who_is bytes.now) }
     {
@@ -86,7 +88,7 @@ impl WhoIs {
 
 impl<'a> Parts<'a> {
     /// An Unsigned of at most 4194303.
-    #[tactic(auto, unfolding(crate::specs::Form::part_at))]
+    #[tactic(auto, unfolding(crate::specs::FormReading::part_at))]
     fn instance(&mut self, tag: u8) -> Result<u32, Reason>
         ensures { Gives (λ x. (ItemValue (Unsigned x), self.new)) result (part_at (context tag unsigned is_instance) self.old) }
     {

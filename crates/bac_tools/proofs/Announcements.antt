@@ -5,7 +5,7 @@ use Rattle.std.specs.Result.{IsOk}
 use Rattle.bac_wire.specs.Primitive.{Id, Unsigned, Enumerated, Object}
 use Rattle.bac_wire.specs.Canon.{Writes, shortened, without_needless, is_zero, unsigned_octets, tag_octets, length_octets, head_octets, tagged}
 use Rattle.bac_apdu.specs.Adding.{value_text}
-use Rattle.bac_apdu.specs.Form.{canon_form}
+use Rattle.bac_apdu.specs.FormCanon.{canon_form}
 use Rattle.bac_apdu.specs.Frame.{frame_text}
 use Rattle.bac_apdu.specs.IAm.{i_am, i_am_items}
 use Rattle.bac_apdu.specs.Npdu.{place_text, header_text}

@@ -4,7 +4,9 @@ use Rattle.std.specs.List.{list_any}
 use Rattle.std.specs.Result.{result_ok}
 use Rattle.bac_wire.specs.Primitive.{Unsigned}
 use Rattle.bac_apdu.specs.Apdu.{Message, Unconfirmed, apdu_at, message_text}
-use Rattle.bac_apdu.specs.Form.{Item, Value, canon_form, form_at}
+use Rattle.bac_apdu.specs.Form.{Item, Value}
+use Rattle.bac_apdu.specs.FormReading.{form_at}
+use Rattle.bac_apdu.specs.FormCanon.{canon_form}
 use Rattle.bac_apdu.specs.Frame.{Frame, Unicast, Broadcast, frame_at, frame_text}
 use Rattle.bac_apdu.specs.IAm.{i_am, i_am_items}
 use Rattle.bac_apdu.specs.Npdu.{Header, Place, header_at, header_text}

@@ -1,6 +1,6 @@
 use Rattle.std.proofs.Common.{◌≡◌, ◌≤◌, ◌++◌, length, ap, ◌∙◌, arith}
 use Rattle.bac_apdu.specs.Apdu.{Unconfirmed, message_text}
-use Rattle.bac_apdu.specs.Form.{canon_form}
+use Rattle.bac_apdu.specs.FormCanon.{canon_form}
 use Rattle.bac_apdu.specs.Frame.{frame_text}
 use Rattle.bac_apdu.specs.IAm.{i_am, i_am_items}
 use Rattle.bac_apdu.specs.Npdu.{header_text}

@@ -1,0 +1,102 @@
+-- Reading parameters from left to right: the first check that fails is the reason, and where reading stops.
+use Rattle.std.specs.Prelude.{◌≡◌, ◌⊎◌, ℕ, zero, suc, ◌+◌, ◌-◌, ◌≤◌, Bool, true, false, not, ◌&&◌, nat_le, ◌==◌, List, [], ◌∷◌, ◌++◌, length, take, Result, Ok, Err, if◌then◌else◌}
+use Rattle.bac_wire.specs.Primitive.{Primitive}
+use Rattle.bac_wire.specs.Level.{close_at}
+use Rattle.bac_wire.specs.Reading.{◌>>=◌, context_at, mark_at, contents_as, value_at}
+use Rattle.bac_apdu.specs.declared.reason.Reason.{Reason}
+use Rattle.bac_apdu.specs.declared.reason.Reason.TheVariants.{InvalidTag, OutOfRange, TooManyArguments}
+use Rattle.bac_apdu.specs.Reason.{reasoned}
+use Rattle.bac_apdu.specs.Form.{Absent, Form, Inside, Item, Mark, Part, SpellsPart, Value, any, application, choice, closing, context, enclosed, end, if_tag, next_tag, nothing_or, opening, opening_next, optional, part, value_next}
+
+-- an application tag of another type
+abbrev pub other_next : ℕ → List ℕ → Bool
+other_next type bytes = if_tag (λ tag. nat_le tag.0 5 && not (tag.1 == type)) (next_tag bytes)
+
+-- ---- reading, and the reason of the first parameter that isn't spelled or not in range
+
+abbrev pub ranged : {A : Type 0} → (Primitive → Bool) → Primitive → A → Result (Item × A) Reason
+ranged fits value rest = if fits value then Ok (Value value, rest) else Err OutOfRange
+
+-- Where one application type is wanted, another type is a fault of the tag, before all that is said of length and contents.
+abbrev pub typed_at : ℕ → List ℕ → Result (Primitive × List ℕ) Reason
+typed_at type bytes = if other_next type bytes then Err InvalidTag else reasoned (value_at bytes)
+
+-- one parameter, and what follows it
+unfoldable pub part_at : Part → List ℕ → Result (Item × List ℕ) Reason
+part_at (context tag type fits) bytes = do
+  contents ← reasoned (context_at tag bytes)
+  value ← reasoned (contents_as type contents.0)
+  ranged fits value contents.1
+part_at (application type fits) bytes = do
+  value ← typed_at type bytes
+  ranged fits value.0 value.1
+part_at (opening tag) bytes = do
+  mark ← reasoned (mark_at 6 tag bytes)
+  Ok (Mark tag, mark.1)
+part_at (closing tag) bytes = do
+  mark ← reasoned (mark_at 7 tag bytes)
+  Ok (Mark tag, mark.1)
+part_at (enclosed tag) bytes = do
+  close ← reasoned (close_at (length bytes + 1) 0 tag bytes)
+  mark ← reasoned (mark_at 7 tag close)
+  Ok (Inside (take (length bytes - length close) bytes), mark.1)
+part_at any bytes = do
+  value ← reasoned (value_at bytes)
+  Ok (Value value.0, value.1)
+
+abbrev pub end_at : List ℕ → Result (List Item) Reason
+end_at [] = Ok []
+end_at (b ∷ rest) = Err TooManyArguments
+
+unfoldable pub optional_at : ℕ → ℕ → (Primitive → Bool) → List ℕ → Result (Item × List ℕ) Reason
+optional_at tag type fits bytes = if value_next tag bytes then part_at (context tag type fits) bytes else Ok (Absent, bytes)
+
+unfoldable pub form_at : Form → List ℕ → Result (List Item) Reason
+form_at end bytes = end_at bytes
+form_at (part p form) bytes = do
+  item ← part_at p bytes
+  items ← form_at form item.1
+  Ok (item.0 ∷ items)
+form_at (optional tag type fits form) bytes = do
+  item ← optional_at tag type fits bytes
+  items ← form_at form item.1
+  Ok (item.0 ∷ items)
+form_at (choice tag there otherwise) bytes = if opening_next tag bytes then form_at there bytes else form_at otherwise bytes
+form_at (nothing_or form) [] = Ok []
+form_at (nothing_or form) (octet ∷ bytes) = form_at form (octet ∷ bytes)
+
+-- the types of a form are those of values
+
+abbrev pub IsPart : Part → Type 0
+IsPart (context tag type fits) = type ≤ 12
+IsPart p = Unit {0}
+
+abbrev pub IsForm : Form → Type 0
+IsForm end = Unit {0}
+IsForm (part p form) = IsPart p × IsForm form
+IsForm (optional tag type fits form) = (type ≤ 12) × IsForm form
+IsForm (choice tag there otherwise) = IsForm there × IsForm otherwise
+IsForm (nothing_or form) = IsForm form
+
+-- ---- where reading stops
+
+-- No front of the text spells the parameter; the reason is that of the first check of it that fails.
+abbrev pub IsFault : Part → List ℕ → Reason → Type 0
+IsFault p text reason = ((front rest : List ℕ) (item : Item) → text ≡ front ++ rest → SpellsPart p front item → ⊥) × (part_at p text ≡ Err reason)
+
+-- the parameter is at fault, or it is spelled and reading stops after it
+abbrev pub StopsPart : Part → (List ℕ → ℕ → Reason → Type 0) → List ℕ → ℕ → Reason → Type 0
+StopsPart p after text zero reason = IsFault p text reason
+StopsPart p after text (suc count) reason = (front : List ℕ) × (rest : List ℕ) × (item : Item) × (text ≡ front ++ rest) × SpellsPart p front item × after rest count reason
+
+-- After the longest run of leading parameters that are spelled and in range, count of them, the next one is at fault for this reason, or none is wanted and octets are left.
+abbrev pub Stops : Form → List ℕ → ℕ → Reason → Type 0
+Stops end [] count reason = ⊥
+Stops end (octet ∷ text) count reason = (count ≡ 0) × (reason ≡ TooManyArguments)
+Stops (part p form) text count reason = StopsPart p (Stops form) text count reason
+Stops (optional tag type fits form) text count reason =
+    ((value_next tag text ≡ true) × StopsPart (context tag type fits) (Stops form) text count reason)
+    ⊎ ((value_next tag text ≡ false) × Stops form text count reason)
+Stops (choice tag there otherwise) text count reason = ((opening_next tag text ≡ true) × Stops there text count reason) ⊎ ((opening_next tag text ≡ false) × Stops otherwise text count reason)
+Stops (nothing_or form) [] count reason = ⊥
+Stops (nothing_or form) (octet ∷ text) count reason = Stops form (octet ∷ text) count reason
