@@ -7,24 +7,24 @@ use Rattle.bac_wire.specs.Stamp.{date_octets, time_octets}
 use Rattle.bac_wire.specs.declared.stamp.Date4.{Date4}
 use Rattle.bac_wire.specs.declared.stamp.Time4.{Time4}
 use Rattle.bac_wire.specs.View.{view}
-use Rattle.bac_apdu.specs.declared.who_is.WhoIs.{WhoIs}
-use Rattle.bac_apdu.specs.declared.i_am.IAm.{IAm}
-use Rattle.bac_apdu.specs.declared.read_property.ReadProperty.{ReadProperty}
-use Rattle.bac_apdu.specs.declared.read_property_ack.ReadPropertyAck.{ReadPropertyAck}
-use Rattle.bac_apdu.specs.declared.write_property.WriteProperty.{WriteProperty}
-use Rattle.bac_apdu.specs.declared.extent.Extent.{Extent}
-use Rattle.bac_apdu.specs.declared.extent.Extent.TheVariants.{All, ByPosition, ByNumber, ByTime}
-use Rattle.bac_apdu.specs.declared.read_range.ReadRange.{ReadRange}
-use Rattle.bac_apdu.specs.declared.read_range_ack.ReadRangeAck.{ReadRangeAck}
+use Rattle.bac_apdu.specs.declared.service.who_is.WhoIs.{WhoIs}
+use Rattle.bac_apdu.specs.declared.service.i_am.IAm.{IAm}
+use Rattle.bac_apdu.specs.declared.service.read_property.ReadProperty.{ReadProperty}
+use Rattle.bac_apdu.specs.declared.service.read_property_ack.ReadPropertyAck.{ReadPropertyAck}
+use Rattle.bac_apdu.specs.declared.service.write_property.WriteProperty.{WriteProperty}
+use Rattle.bac_apdu.specs.declared.service.extent.Extent.{Extent}
+use Rattle.bac_apdu.specs.declared.service.extent.Extent.TheVariants.{All, ByPosition, ByNumber, ByTime}
+use Rattle.bac_apdu.specs.declared.service.read_range.ReadRange.{ReadRange}
+use Rattle.bac_apdu.specs.declared.service.read_range_ack.ReadRangeAck.{ReadRangeAck}
 use Rattle.bac_apdu.specs.Form.{Item, Value, Mark, Inside, number_item}
-use Rattle.bac_apdu.specs.WhoIs.{limit_items, who_is_items}
-use Rattle.bac_apdu.specs.IAm.{i_am_items}
-use Rattle.bac_apdu.specs.ReadProperty.{property_items}
-use Rattle.bac_apdu.specs.ReadPropertyAck.{property_ack_items}
-use Rattle.bac_apdu.specs.WriteProperty.{write_items}
-use Rattle.bac_apdu.specs.Extent.{extent_items}
-use Rattle.bac_apdu.specs.ReadRange.{range_items}
-use Rattle.bac_apdu.specs.ReadRangeAck.{flag_bits, ack_items}
+use Rattle.bac_apdu.specs.Service.WhoIs.{limit_items, who_is_items}
+use Rattle.bac_apdu.specs.Service.IAm.{i_am_items}
+use Rattle.bac_apdu.specs.Service.ReadProperty.{property_items}
+use Rattle.bac_apdu.specs.Service.ReadPropertyAck.{property_ack_items}
+use Rattle.bac_apdu.specs.Service.WriteProperty.{write_items}
+use Rattle.bac_apdu.specs.Service.Extent.{extent_items}
+use Rattle.bac_apdu.specs.Service.ReadRange.{range_items}
+use Rattle.bac_apdu.specs.Service.ReadRangeAck.{flag_bits, ack_items}
 
 -- ---- lists of items
 

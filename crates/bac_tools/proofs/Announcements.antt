@@ -7,9 +7,9 @@ use Rattle.bac_wire.specs.Canon.{Writes, shortened, without_needless, is_zero, u
 use Rattle.bac_apdu.specs.Adding.{value_text}
 use Rattle.bac_apdu.specs.FormCanon.{canon_form}
 use Rattle.bac_apdu.specs.Frame.{frame_text}
-use Rattle.bac_apdu.specs.IAm.{i_am, i_am_items}
+use Rattle.bac_apdu.specs.Service.IAm.{i_am, i_am_items}
 use Rattle.bac_apdu.specs.Npdu.{place_text, header_text}
-use Rattle.bac_apdu.specs.declared.i_am.IAm.{IAm}
+use Rattle.bac_apdu.specs.declared.service.i_am.IAm.{IAm}
 use Rattle.bac_tools.specs.Device.{plain}
 
 -- what fits is written

@@ -8,11 +8,11 @@ use Rattle.bac_apdu.specs.Form.{Item, Value}
 use Rattle.bac_apdu.specs.FormReading.{form_at}
 use Rattle.bac_apdu.specs.FormCanon.{canon_form}
 use Rattle.bac_apdu.specs.Frame.{Frame, Unicast, Broadcast, frame_at, frame_text}
-use Rattle.bac_apdu.specs.IAm.{i_am, i_am_items}
+use Rattle.bac_apdu.specs.Service.IAm.{i_am, i_am_items}
 use Rattle.bac_apdu.specs.Npdu.{Header, Place, header_at, header_text}
 use Rattle.bac_apdu.specs.Octets.{◌>>=◌}
-use Rattle.bac_apdu.specs.WhoIs.{who_is}
-use Rattle.bac_apdu.specs.declared.i_am.IAm.{IAm}
+use Rattle.bac_apdu.specs.Service.WhoIs.{who_is}
+use Rattle.bac_apdu.specs.declared.service.i_am.IAm.{IAm}
 use Rattle.bac_tools.specs.declared.device.BuildFault.{BuildFault}
 use Rattle.bac_tools.specs.declared.device.BuildFault.TheVariants.{BadInstance, BadName, BadReplySize, Memory}
 use Rattle.bac_tools.specs.declared.device.DeviceLine.{DeviceLine}

@@ -2,7 +2,7 @@ use Rattle.std.proofs.Common.{◌≡◌, ◌≤◌, ◌++◌, length, ap, ◌∙
 use Rattle.bac_apdu.specs.Apdu.{Unconfirmed, message_text}
 use Rattle.bac_apdu.specs.FormCanon.{canon_form}
 use Rattle.bac_apdu.specs.Frame.{frame_text}
-use Rattle.bac_apdu.specs.IAm.{i_am, i_am_items}
+use Rattle.bac_apdu.specs.Service.IAm.{i_am, i_am_items}
 use Rattle.bac_apdu.specs.Npdu.{header_text}
 use Rattle.bac_tools.specs.Device.{plain, reply}
 use Rattle.bac_tools.proofs.Announcements.{written, announcement-len, reply-len}

@@ -1,5 +1,0 @@
-use Rattle.bac_apdu.proofs.Services.{announcement_again}
-use Rattle.bac_apdu.proofs.i_am.IAm.canon_is_read.Goals as goal
-
-pub returns : goal.returns
-returns c = announcement_again

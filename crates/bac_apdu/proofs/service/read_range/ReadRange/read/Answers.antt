@@ -1,0 +1,14 @@
+use Rattle.std.proofs.Common.{arith, rules}
+use Rattle.bac_apdu.specs.declared.service.read_range.ReadRange.{ReadRange}
+use Rattle.bac_apdu.specs.Service.ReadRange.{read_range, range_items}
+use Rattle.bac_apdu.proofs.Forms.{is_found, is_only, is_refused}
+use Rattle.bac_apdu.proofs.service.read_range.ReadRange.read.Goals as goal
+
+pub returns-clause-found : goal.returns-clause-found
+returns-clause-found c = is_found ReadRange range_items read_range c.args.bytes.now c.parts.result (search rules) (λ i. omega (arith, c.type_inv.bytes i)) c.parts.ensures
+
+pub returns-clause-only : goal.returns-clause-only
+returns-clause-only c = is_only ReadRange range_items read_range c.args.bytes.now c.parts.result c.parts.ensures
+
+pub returns-clause-refused : goal.returns-clause-refused
+returns-clause-refused c = is_refused ReadRange range_items read_range c.args.bytes.now c.parts.result (search rules) (λ i. omega (arith, c.type_inv.bytes i)) c.parts.ensures

@@ -1,0 +1,9 @@
+-- The services, one file each: its list of parameters, and what it shows of its fields.
+pub mod WhoIs
+pub mod IAm
+pub mod ReadProperty
+pub mod ReadPropertyAck
+pub mod WriteProperty
+pub mod Extent
+pub mod ReadRange
+pub mod ReadRangeAck

@@ -1,0 +1,29 @@
+-- Who-Is (clauses 16.10 and 21): its parameters, and what a request shows of its fields.
+use Rattle.std.specs.Prelude.{ℕ, ◌≤◌, Bool, false, nat_le, List, [], ◌∷◌, Option, Some, None}
+use Rattle.bac_wire.specs.Primitive.{Primitive, Unsigned}
+use Rattle.bac_apdu.specs.declared.service.who_is.WhoIs.{WhoIs}
+use Rattle.bac_apdu.specs.Form.{Form, end, part, nothing_or, context, unsigned, Item, Value}
+
+-- an instance number: at most 4194303
+abbrev pub is_instance : Primitive → Bool
+is_instance (Unsigned n) = nat_le n 4194303
+is_instance value = false
+
+-- no parameter at all, or both
+abbrev pub who_is : Form
+who_is = nothing_or
+    (part (context 0 unsigned is_instance)  -- device instance range, low limit
+    (part (context 1 unsigned is_instance)  -- and high limit
+    end))
+
+abbrev pub limit_items : Option (ℕ × ℕ) → List Item
+limit_items None = []
+limit_items (Some limits) = Value (Unsigned limits.0) ∷ Value (Unsigned limits.1) ∷ []
+
+abbrev pub who_is_items : WhoIs → List Item
+who_is_items w = limit_items w.limits
+
+-- both are instance numbers
+abbrev pub AreLimits : Option (ℕ × ℕ) → Type 0
+AreLimits None = Unit {0}
+AreLimits (Some limits) = (limits.0 ≤ 4194303) × (limits.1 ≤ 4194303)

@@ -1,0 +1,91 @@
+//! I-Am (clause 16.10).
+
+ghost use Rattle.std.specs.Prelude.{◌≡◌, List, ℕ, IfSome, IsSomeAnd};
+ghost use Rattle.std.specs.Result.{result_ok};
+ghost use Rattle.bac_wire.specs.Canon.{Writes};
+ghost use Rattle.bac_wire.specs.Reading.{Gives};
+ghost use Rattle.bac_apdu.specs.Adding.{Adds};
+ghost use Rattle.bac_apdu.specs.Form.{Item, Reads};
+ghost use Rattle.bac_apdu.specs.FormReading.{form_at};
+ghost use Rattle.bac_apdu.specs.FormCanon.{canon_form};
+ghost use Rattle.bac_apdu.specs.Service.IAm.{i_am, i_am_items, IsAnnouncement};
+ghost use Rattle.bac_apdu.specs.Octets.{GivesSome};
+
+use crate::adding::add_value;
+use crate::parts::Parts;
+use crate::reason::Reason;
+use bac_wire::{Datagram, Full, ObjectId, Value, write_octets};
+
+/// A device announces itself (clause 16.10).
+#[derive(Clone, Copy, Debug, PartialEq, Eq)]
+pub struct IAm {
+    /// The device's own identifier.
+    pub device: ObjectId,
+    /// The octets of the greatest APDU that it takes.
+    pub max_apdu: u64,
+    /// How it segments; 3 is not at all.
+    pub segmentation: u32,
+    /// The number of its vendor.
+    pub vendor: u64,
+}
+
+impl IAm {
+    /// The announcement that the parameters spell; `None` where they spell none.
+    pub fn read(bytes: &[u8]) -> Option<IAm>
+        // What is read is spelled so.
+        ensures found { IfSome result (λ a. Reads i_am bytes.now (i_am_items a)) }
+        // What is spelled so is read.
+        ensures only { (items : List Item) → Reads i_am bytes.now items → IsSomeAnd result (λ a. i_am_items a ≡ items) }
+        // The same as a function, on which callers build.
+        ensures exact { GivesSome i_am_items result (result_ok (form_at i_am bytes.now)) }
+    {
+        IAm::parts(bytes).ok()
+    }
+
+    #[tactic(auto, unfolding(crate::specs::FormReading::form_at))]
+    fn parts(bytes: &[u8]) -> Result<IAm, Reason>
+        ensures { Gives i_am_items result (form_at i_am bytes.now) }
+    {
+        let mut parts = Parts::of(bytes);
+        let device = parts.plain_object()?;
+        let max_apdu = parts.plain_unsigned()?;
+        let segmentation = parts.plain_enumerated()?;
+        let vendor = parts.plain_unsigned()?;
+        parts.end()?;
+        Ok(IAm {
+            device,
+            max_apdu,
+            segmentation,
+            vendor,
+        })
+    }
+
+    /// Appends the parameters, or nothing where they don't fit.
+    pub fn write(&self, out: &mut Datagram) -> Result<(), Full>
+        ensures { Writes out.old (canon_form i_am (i_am_items self.now)) result out.new }
+    {
+        let mut text = Datagram::new();
+        self.add(&mut text)?;
+        write_octets(out, text.octets())
+    }
+
+    fn add(&self, out: &mut Datagram) -> Result<(), Full>
+        ensures { Adds out.old (canon_form i_am (i_am_items self.now)) result out.new }
+    {
+        add_value(out, &Value::Object(self.device))?;
+        add_value(out, &Value::Unsigned(self.max_apdu))?;
+        add_value(out, &Value::Enumerated(self.segmentation))?;
+        add_value(out, &Value::Unsigned(self.vendor))?;
+        Ok(())
+    }
+
+    /// What is written is read back.
+    pub fn canon_is_read()
+        ensures { (a : IAm) → IsAnnouncement a → Reads i_am (canon_form i_am (i_am_items a)) (i_am_items a) }
+    {}
+
+    /// Two different announcements never show the same parameters.
+    pub fn items_tell_fields()
+        ensures { (a b : IAm) → i_am_items a ≡ i_am_items b → a ≡ b }
+    {}
+}

@@ -1,0 +1,86 @@
+//! ReadProperty (clause 15.5).
+
+ghost use Rattle.std.specs.Prelude.{◌≡◌, List, ℕ, IfOk, IfErr, IsOkAnd};
+ghost use Rattle.bac_wire.specs.Reading.{Gives};
+ghost use Rattle.bac_wire.specs.Canon.{Writes};
+ghost use Rattle.bac_apdu.specs.Adding.{Adds};
+ghost use Rattle.bac_apdu.specs.Form.{Item, Reads};
+ghost use Rattle.bac_apdu.specs.FormReading.{form_at, Stops};
+ghost use Rattle.bac_apdu.specs.FormCanon.{canon_form};
+ghost use Rattle.bac_apdu.specs.Service.ReadProperty.{read_property, property_items, IsProperty};
+
+use crate::adding::add_context;
+use crate::parts::Parts;
+use crate::reason::Reason;
+use bac_wire::{Datagram, Full, ObjectId, Value, write_octets};
+
+/// Asks for the property of an object, or for one element of it.
+#[derive(Clone, Copy, Debug, PartialEq, Eq)]
+pub struct ReadProperty {
+    pub object: ObjectId,
+    pub property: u32,
+    /// The element of an array; 0 is the number of elements.
+    pub index: Option<u32>,
+}
+
+impl ReadProperty {
+    /// The request that the parameters spell, or the reason of the first that is wrong.
+    pub fn read(bytes: &[u8]) -> Result<ReadProperty, Reason>
+        // What is read is spelled so.
+        ensures found { IfOk result (λ p. Reads read_property bytes.now (property_items p)) }
+        // What is spelled so is read.
+        ensures only { (items : List Item) → Reads read_property bytes.now items → IsOkAnd result (λ p. property_items p ≡ items) }
+        // The reason is that of the parameter after the longest run of those that are right.
+        ensures refused { IfErr result (λ reason. (count : ℕ) × Stops read_property bytes.now count reason) }
+        // The same as a function, on which callers build.
+        ensures exact { Gives property_items result (form_at read_property bytes.now) }
+    {
+        ReadProperty::parts(bytes)
+    }
+
+    /// Appends the parameters, or nothing where they don't fit.
+    pub fn write(&self, out: &mut Datagram) -> Result<(), Full>
+        ensures { Writes out.old (canon_form read_property (property_items self.now)) result out.new }
+    {
+        let mut text = Datagram::new();
+        self.add(&mut text)?;
+        write_octets(out, text.octets())
+    }
+
+    fn add(&self, out: &mut Datagram) -> Result<(), Full>
+        ensures { Adds out.old (canon_form read_property (property_items self.now)) result out.new }
+    {
+        add_context(out, 0, &Value::Object(self.object))?;
+        add_context(out, 1, &Value::Enumerated(self.property))?;
+        if let Some(index) = self.index {
+            add_context(out, 2, &Value::Unsigned(index as u64))?;
+        }
+        Ok(())
+    }
+
+    #[tactic(auto, unfolding(crate::specs::FormReading::form_at))]
+    fn parts(bytes: &[u8]) -> Result<ReadProperty, Reason>
+        ensures { Gives property_items result (form_at read_property bytes.now) }
+    {
+        let mut parts = Parts::of(bytes);
+        let object = parts.object(0)?;
+        let property = parts.enumerated(1)?;
+        let index = parts.optional_number(2)?;
+        parts.end()?;
+        Ok(ReadProperty {
+            object,
+            property,
+            index,
+        })
+    }
+
+    /// What is written is read back.
+    pub fn canon_is_read()
+        ensures { (p : ReadProperty) → IsProperty p.object p.property p.index → Reads read_property (canon_form read_property (property_items p)) (property_items p) }
+    {}
+
+    /// Two different requests never show the same parameters.
+    pub fn items_tell_fields()
+        ensures { (p q : ReadProperty) → property_items p ≡ property_items q → p ≡ q }
+    {}
+}

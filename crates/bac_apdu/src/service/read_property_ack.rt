@@ -1,0 +1,105 @@
+//! The ACK of ReadProperty (clause 15.5).
+
+ghost use Rattle.std.specs.Prelude.{◌≡◌, List, ℕ, IfSome, IsSomeAnd};
+ghost use Rattle.std.specs.Result.{result_ok};
+ghost use Rattle.bac_wire.specs.Canon.{Writes};
+ghost use Rattle.bac_wire.specs.Reading.{Gives};
+ghost use Rattle.bac_wire.specs.Level.{IsLevel};
+ghost use Rattle.bac_apdu.specs.Adding.{Adds};
+ghost use Rattle.bac_apdu.specs.Form.{Item, Reads};
+ghost use Rattle.bac_apdu.specs.FormReading.{form_at};
+ghost use Rattle.bac_apdu.specs.FormCanon.{canon_form};
+ghost use Rattle.bac_apdu.specs.Octets.{GivesSome};
+ghost use Rattle.bac_apdu.specs.Service.ReadProperty.{IsProperty};
+ghost use Rattle.bac_apdu.specs.Service.ReadPropertyAck.{read_property_ack, property_ack_items, values, value_items};
+
+use crate::adding::{add_close, add_context, add_open};
+use crate::parts::Parts;
+use crate::reason::Reason;
+use bac_wire::{Datagram, Full, ObjectId, Value, write_octets};
+
+/// The value of a property, as octets.
+#[derive(Clone, Copy, Debug, PartialEq, Eq)]
+pub struct ReadPropertyAck<'a> {
+    pub object: ObjectId,
+    pub property: u32,
+    /// The element of an array.
+    pub index: Option<u32>,
+    /// Whole tags, each that opens closed again.
+    pub values: &'a [u8],
+}
+
+impl<'a> ReadPropertyAck<'a> {
+    /// The answer that the parameters spell; `None` where they spell none.
+    pub fn read(bytes: &'a [u8]) -> Option<ReadPropertyAck<'a>>
+        // What is read is spelled so.
+        ensures found { IfSome result (λ a. Reads read_property_ack bytes.now (property_ack_items a)) }
+        // What is spelled so is read.
+        ensures only { (items : List Item) → Reads read_property_ack bytes.now items → IsSomeAnd result (λ a. property_ack_items a ≡ items) }
+        // The same as a function, on which callers build.
+        ensures exact { GivesSome property_ack_items result (result_ok (form_at read_property_ack bytes.now)) }
+    {
+        match ReadPropertyAck::parts(bytes) {
+            Ok(ack) => Some(ack),
+            Err(_) => None,
+        }
+    }
+
+    #[tactic(auto, unfolding(crate::specs::FormReading::form_at))]
+    fn parts(bytes: &'a [u8]) -> Result<ReadPropertyAck<'a>, Reason>
+        ensures { Gives property_ack_items result (form_at read_property_ack bytes.now) }
+    {
+        let mut parts = Parts::of(bytes);
+        let object = parts.object(0)?;
+        let property = parts.enumerated(1)?;
+        let index = parts.optional_number(2)?;
+        parts.open(3)?;
+        let values = parts.inside(3)?;
+        parts.end()?;
+        Ok(ReadPropertyAck {
+            object,
+            property,
+            index,
+            values,
+        })
+    }
+
+    /// Appends the parameters, or nothing where they don't fit.
+    pub fn write(&self, out: &mut Datagram) -> Result<(), Full>
+        ensures { Writes out.old (canon_form read_property_ack (property_ack_items self.now)) result out.new }
+    {
+        let mut text = Datagram::new();
+        self.add(&mut text)?;
+        write_octets(out, text.octets())
+    }
+
+    fn add(&self, out: &mut Datagram) -> Result<(), Full>
+        ensures { Adds out.old (canon_form read_property_ack (property_ack_items self.now)) result out.new }
+    {
+        add_context(out, 0, &Value::Object(self.object))?;
+        add_context(out, 1, &Value::Enumerated(self.property))?;
+        if let Some(index) = self.index {
+            add_context(out, 2, &Value::Unsigned(index as u64))?;
+        }
+        self.add_values(out)
+    }
+
+    fn add_values(&self, out: &mut Datagram) -> Result<(), Full>
+        ensures { Adds out.old (canon_form values (value_items self.now)) result out.new }
+    {
+        add_open(out, 3)?;
+        write_octets(out, self.values)?;
+        add_close(out, 3)?;
+        Ok(())
+    }
+
+    /// What is written is read back.
+    pub fn canon_is_read()
+        ensures { (a : ReadPropertyAck) → IsProperty a.object a.property a.index → IsLevel a.values.now → Reads read_property_ack (canon_form read_property_ack (property_ack_items a)) (property_ack_items a) }
+    {}
+
+    /// Two different answers never show the same parameters.
+    pub fn items_tell_fields()
+        ensures { (a b : ReadPropertyAck) → property_ack_items a ≡ property_ack_items b → (a.object ≡ b.object) × (a.property ≡ b.property) × (a.index ≡ b.index) × (a.values.now ≡ b.values.now) }
+    {}
+}

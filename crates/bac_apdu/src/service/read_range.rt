@@ -1,0 +1,93 @@
+//! ReadRange (clause 15.8).
+
+ghost use Rattle.std.specs.Prelude.{◌≡◌, List, ℕ, IfOk, IfErr, IsOkAnd, OnOk};
+ghost use Rattle.bac_wire.specs.Canon.{Writes};
+ghost use Rattle.bac_wire.specs.Reading.{Gives};
+ghost use Rattle.bac_apdu.specs.Adding.{Adds};
+ghost use Rattle.bac_apdu.specs.Service.Extent.{IsExtent};
+ghost use Rattle.bac_apdu.specs.Form.{Item, Reads};
+ghost use Rattle.bac_apdu.specs.FormReading.{form_at, Stops};
+ghost use Rattle.bac_apdu.specs.FormCanon.{canon_form};
+ghost use Rattle.bac_apdu.specs.Service.ReadProperty.{IsProperty};
+ghost use Rattle.bac_apdu.specs.Service.ReadRange.{read_range, range_items};
+
+use crate::adding::add_context;
+use crate::parts::Parts;
+use crate::reason::Reason;
+use crate::service::extent::{Extent, add_extent, extent_of};
+use bac_wire::{Datagram, Full, ObjectId, Value, write_octets};
+
+/// Asks for records of a log.
+#[derive(Clone, Copy, Debug, PartialEq, Eq)]
+pub struct ReadRange {
+    pub object: ObjectId,
+    pub property: u32,
+    /// The element of an array.
+    pub index: Option<u32>,
+    pub extent: Extent,
+}
+
+impl ReadRange {
+    /// The request that the parameters spell, or the reason of the first that is wrong.
+    pub fn read(bytes: &[u8]) -> Result<ReadRange, Reason>
+        // What is read is spelled so.
+        ensures found { IfOk result (λ r. Reads read_range bytes.now (range_items r)) }
+        // What is spelled so is read.
+        ensures only { (items : List Item) → Reads read_range bytes.now items → IsOkAnd result (λ r. range_items r ≡ items) }
+        // The reason is that of the parameter after the longest run of those that are right.
+        ensures refused { IfErr result (λ reason. (count : ℕ) × Stops read_range bytes.now count reason) }
+        // The same as a function, on which callers build.
+        ensures exact { Gives range_items result (form_at read_range bytes.now) }
+    {
+        ReadRange::parts(bytes)
+    }
+
+    /// Appends the parameters, or nothing where they don't fit.
+    pub fn write(&self, out: &mut Datagram) -> Result<(), Full>
+        ensures written { Writes out.old (canon_form read_range (range_items self.now)) result out.new }
+        ensures in_range { OnOk result (IsProperty self.now.object self.now.property self.now.index) }
+    {
+        let mut text = Datagram::new();
+        self.add(&mut text)?;
+        write_octets(out, text.octets())
+    }
+
+    fn add(&self, out: &mut Datagram) -> Result<(), Full>
+        ensures written { Adds out.old (canon_form read_range (range_items self.now)) result out.new }
+        ensures in_range { OnOk result (IsProperty self.now.object self.now.property self.now.index) }
+    {
+        add_context(out, 0, &Value::Object(self.object))?;
+        add_context(out, 1, &Value::Enumerated(self.property))?;
+        if let Some(index) = self.index {
+            add_context(out, 2, &Value::Unsigned(index as u64))?;
+        }
+        add_extent(out, self.extent)
+    }
+
+    #[tactic(auto, unfolding(crate::specs::FormReading::form_at))]
+    fn parts(bytes: &[u8]) -> Result<ReadRange, Reason>
+        ensures { Gives range_items result (form_at read_range bytes.now) }
+    {
+        let mut parts = Parts::of(bytes);
+        let object = parts.object(0)?;
+        let property = parts.enumerated(1)?;
+        let index = parts.optional_number(2)?;
+        let extent = extent_of(parts)?;
+        Ok(ReadRange {
+            object,
+            property,
+            index,
+            extent,
+        })
+    }
+
+    /// What is written is read back.
+    pub fn canon_is_read()
+        ensures { (r : ReadRange) → IsProperty r.object r.property r.index → IsExtent r.extent → Reads read_range (canon_form read_range (range_items r)) (range_items r) }
+    {}
+
+    /// Two different requests never show the same parameters.
+    pub fn items_tell_fields()
+        ensures { (r s : ReadRange) → range_items r ≡ range_items s → r ≡ s }
+    {}
+}

@@ -1,0 +1,189 @@
+//! The ACK of ReadRange (clause 15.8).
+
+ghost use Rattle.std.specs.Prelude.{◌≡◌, ◌+◌, ◌-◌, ◌*◌, ◌%◌, ◌^◌, ◌<◌, ◌≤◌, true, false, List, ℕ, length, take, Some, None, IfOk, IfSome, IsSomeAnd};
+ghost use Rattle.std.specs.Result.{result_ok};
+ghost use Rattle.bac_wire.specs.Canon.{Writes};
+ghost use Rattle.bac_wire.specs.Number.{bits_of};
+ghost use Rattle.bac_wire.specs.Primitive.{Unsigned, Bits};
+ghost use Rattle.bac_wire.specs.Reading.{Gives};
+ghost use Rattle.bac_wire.specs.Level.{IsLevel};
+ghost use Rattle.bac_apdu.specs.Adding.{Adds};
+ghost use Rattle.bac_apdu.specs.Apdu.{Complex, message_text};
+ghost use Rattle.bac_apdu.specs.Form.{Item, Value as ItemValue, context, unsigned, bit_string, number_item, Reads};
+ghost use Rattle.bac_apdu.specs.FormReading.{part_at, optional_at, form_at};
+ghost use Rattle.bac_apdu.specs.FormCanon.{canon_form};
+ghost use Rattle.bac_apdu.specs.Octets.{GivesSome};
+ghost use Rattle.bac_apdu.specs.Service.ReadProperty.{IsProperty};
+ghost use Rattle.bac_apdu.specs.Service.ReadRangeAck.{read_range_ack, ack_items, records, record_items, is_three, is_first, flag_bits, IsFirst, IsSmall, optional_size, ack_size};
+
+use crate::adding::{add_close, add_context, add_flags, add_open};
+use crate::parts::Parts;
+use crate::reason::Reason;
+use bac_wire::{Datagram, Full, ObjectId, Value, as_bits, as_unsigned, write_octets};
+
+/// Records of a log, as octets.
+#[derive(Clone, Copy, Debug, PartialEq, Eq)]
+pub struct ReadRangeAck<'a> {
+    pub object: ObjectId,
+    pub property: u32,
+    /// The element of an array.
+    pub index: Option<u32>,
+    /// First item 80, last item 40, more items 20; the other bits aren't sent.
+    pub flags: u8,
+    /// How many records there are.
+    pub count: u64,
+    /// Whole tags, each that opens closed again.
+    pub items: &'a [u8],
+    /// The sequence number of the first record, which isn't 0.
+    pub first_number: Option<u32>,
+}
+
+impl<'a> ReadRangeAck<'a> {
+    /// The answer that the parameters spell; `None` where they spell none.
+    pub fn read(bytes: &'a [u8]) -> Option<ReadRangeAck<'a>>
+        // What is read is spelled so.
+        ensures found { IfSome result (λ a. Reads read_range_ack bytes.now (ack_items a)) }
+        // What is spelled so is read.
+        ensures only { (items : List Item) → Reads read_range_ack bytes.now items → IsSomeAnd result (λ a. ack_items a ≡ items) }
+        // The same as a function, on which callers build.
+        ensures exact { GivesSome ack_items result (result_ok (form_at read_range_ack bytes.now)) }
+        // Nothing stands in the low bits of the flags.
+        ensures low { IfSome result (λ a. a.flags % 32 ≡ 0) }
+    {
+        match ReadRangeAck::parts(bytes) {
+            Ok(ack) => Some(ack),
+            Err(_) => None,
+        }
+    }
+
+    #[tactic(auto, unfolding(crate::specs::FormReading::form_at))]
+    fn parts(bytes: &'a [u8]) -> Result<ReadRangeAck<'a>, Reason>
+        ensures low { IfOk result (λ a. a.flags % 32 ≡ 0) }
+        ensures exact { Gives ack_items result (form_at read_range_ack bytes.now) }
+    {
+        let mut parts = Parts::of(bytes);
+        let object = parts.object(0)?;
+        let property = parts.enumerated(1)?;
+        let index = parts.optional_number(2)?;
+        let flags = parts.flags(3)?;
+        let count = parts.wide_number(4)?;
+        parts.open(5)?;
+        let items = parts.inside(5)?;
+        let first_number = parts.optional_first(6)?;
+        parts.end()?;
+        Ok(ReadRangeAck {
+            object,
+            property,
+            index,
+            flags,
+            count,
+            items,
+            first_number,
+        })
+    }
+
+    /// Appends the parameters, or nothing where they don't fit.
+    pub fn write(&self, out: &mut Datagram) -> Result<(), Full>
+        ensures { Writes out.old (canon_form read_range_ack (ack_items self.now)) result out.new }
+    {
+        let mut text = Datagram::new();
+        self.add(&mut text)?;
+        write_octets(out, text.octets())
+    }
+
+    fn add(&self, out: &mut Datagram) -> Result<(), Full>
+        ensures { Adds out.old (canon_form read_range_ack (ack_items self.now)) result out.new }
+    {
+        add_context(out, 0, &Value::Object(self.object))?;
+        add_context(out, 1, &Value::Enumerated(self.property))?;
+        if let Some(index) = self.index {
+            add_context(out, 2, &Value::Unsigned(index as u64))?;
+        }
+        self.add_records(out)
+    }
+
+    fn add_records(&self, out: &mut Datagram) -> Result<(), Full>
+        ensures { Adds out.old (canon_form records (record_items self.now)) result out.new }
+    {
+        add_flags(out, 3, self.flags)?;
+        add_context(out, 4, &Value::Unsigned(self.count))?;
+        add_open(out, 5)?;
+        write_octets(out, self.items)?;
+        add_close(out, 5)?;
+        if let Some(first) = self.first_number {
+            add_context(out, 6, &Value::Unsigned(first as u64))?;
+        }
+        Ok(())
+    }
+
+    /// What is written is read back.
+    pub fn canon_is_read()
+        ensures { (a : ReadRangeAck) → IsProperty a.object a.property a.index → a.count < 2 ^ 64 → IsFirst a.first_number → IsLevel a.items.now → Reads read_range_ack (canon_form read_range_ack (ack_items a)) (ack_items a) }
+    {}
+
+    /// Two different answers never show the same parameters, as long as nothing stands in the low
+    /// bits of their flags.
+    pub fn items_tell_fields()
+        ensures { (a b : ReadRangeAck) → a.flags < 256 → b.flags < 256 → a.flags % 32 ≡ 0 → b.flags % 32 ≡ 0 → ack_items a ≡ ack_items b
+            → (a.object ≡ b.object) × (a.property ≡ b.property) × (a.index ≡ b.index) × (a.flags ≡ b.flags) × (a.count ≡ b.count) × (a.items.now ≡ b.items.now) × (a.first_number ≡ b.first_number) }
+    {}
+
+    /// How many octets the parameters have. The APDU of an answer for a property below 256 that is
+    /// no array, with fewer than 256 records, has 17 octets beside them and the first number, and
+    /// that adds 2 to 5.
+    pub fn canon_size()
+        ensures parameters { (a : ReadRangeAck) → a.property < 2 ^ 32 → IsSmall a.index → a.count < 2 ^ 32 → IsSmall a.first_number → length (canon_form read_range_ack (ack_items a)) ≡ ack_size a }
+        ensures apdu { (a : ReadRangeAck) (invoke : ℕ) → a.property < 2 ^ 8 → a.index ≡ None → a.count < 2 ^ 8 → IsSmall a.first_number
+            → length (message_text (Complex false invoke 26 (canon_form read_range_ack (ack_items a)))) ≡ 17 + length a.items.now + optional_size a.first_number }
+        ensures first_number { (n : ℕ) → (2 ≤ optional_size (Some n)) × (optional_size (Some n) ≤ 5) }
+    {}
+}
+
+impl<'a> Parts<'a> {
+    /// An Unsigned of 1 to 4294967295.
+    #[tactic(auto, unfolding(crate::specs::FormReading::part_at))]
+    fn first(&mut self, tag: u8) -> Result<u32, Reason>
+        ensures { Gives (λ x. (ItemValue (Unsigned x), self.new)) result (part_at (context tag unsigned is_first) self.old) }
+    {
+        let contents = self.contents(tag)?;
+        let number = as_unsigned(contents)?;
+        if number == 0 || number > u32::MAX as u64 {
+            return Err(Reason::OutOfRange);
+        }
+        Ok(number as u32)
+    }
+
+    /// The same where it is there.
+    #[tactic(auto, unfolding(crate::specs::FormReading::optional_at))]
+    fn optional_first(&mut self, tag: u8) -> Result<Option<u32>, Reason>
+        ensures { Gives (λ x. (number_item x, self.new)) result (optional_at tag unsigned is_first self.old) }
+    {
+        if self.is_next(tag) {
+            Ok(Some(self.first(tag)?))
+        } else {
+            Ok(None)
+        }
+    }
+
+    /// Three bits, which come in the high bits.
+    #[tactic(auto, unfolding(crate::specs::FormReading::part_at))]
+    fn flags(&mut self, tag: u8) -> Result<u8, Reason>
+        ensures low { IfOk result (λ x. x % 32 ≡ 0) }
+        ensures exact { Gives (λ x. (ItemValue (Bits (flag_bits x)), self.new)) result (part_at (context tag bit_string is_three) self.old) }
+    {
+        let contents = self.contents(tag)?;
+        let (unused, octets) = as_bits(contents)?;
+        if !is_three_bits(unused, octets) {
+            return Err(Reason::OutOfRange);
+        }
+        Ok(octets[0] / 32 * 32)
+    }
+}
+
+fn is_three_bits(unused: u8, octets: &[u8]) -> bool
+    requires { unused ≤ 7 }
+    ensures value { result ≡ is_three (Bits (take (8 * length octets.now - unused) (bits_of octets.now))) }
+    ensures size { result ≡ true → (unused ≡ 5) × (length octets.now ≡ 1) }
+{
+    unused == 5 && octets.len() == 1
+}

@@ -1,0 +1,102 @@
+//! Who-Is (clause 16.10).
+
+ghost use Rattle.std.specs.Prelude.{◌≡◌, List, ℕ, IfSome, IsSomeAnd};
+ghost use Rattle.std.specs.Result.{result_ok};
+ghost use Rattle.bac_wire.specs.Canon.{Writes};
+ghost use Rattle.bac_wire.specs.Primitive.{Unsigned};
+ghost use Rattle.bac_wire.specs.Reading.{Gives};
+ghost use Rattle.bac_apdu.specs.Adding.{Adds};
+ghost use Rattle.bac_apdu.specs.Form.{Item, Value as ItemValue, context, unsigned, Reads};
+ghost use Rattle.bac_apdu.specs.FormReading.{part_at, form_at};
+ghost use Rattle.bac_apdu.specs.FormCanon.{canon_form};
+ghost use Rattle.bac_apdu.specs.Service.WhoIs.{is_instance, who_is, who_is_items, AreLimits};
+ghost use Rattle.bac_apdu.specs.Octets.{GivesSome};
+
+use crate::adding::add_context;
+use crate::parts::Parts;
+use crate::reason::Reason;
+use bac_wire::{Datagram, Full, Value, as_unsigned, write_octets};
+
+/// Asks devices to announce themselves (clause 16.10): all of them, or those whose instance is
+/// one of the two limits or lies between them.
+#[derive(Clone, Copy, Debug, PartialEq, Eq)]
+pub struct WhoIs {
+    /// The lowest and the highest instance, each at most 4194303.
+    pub limits: Option<(u32, u32)>,
+}
+
+impl WhoIs {
+    /// The request that the parameters spell; `None` where they spell none.
+    pub fn read(bytes: &[u8]) -> Option<WhoIs>
+        // What is read is spelled so.
+        ensures found { IfSome result (λ w. Reads who_is bytes.now (who_is_items w)) }
+        // What is spelled so is read.
+        ensures only { (items : List Item) → Reads who_is bytes.now items → IsSomeAnd result (λ w. who_is_items w ≡ items) }
+        // The same as a function, on which callers build.
+        ensures exact { GivesSome who_is_items result (result_ok (form_at who_is bytes.now)) }
+    {
+        WhoIs::parts(bytes).ok()
+    }
+
+    #[tactic(auto, unfolding(crate::specs::FormReading::form_at))]
+    fn parts(bytes: &[u8]) -> Result<WhoIs, Reason>
+        ensures { Gives who_is_items result (form_at who_is bytes.now) }
+    {
+        match bytes {
+            [] => Ok(WhoIs { limits: None }),
+            [_, ..] => {
+                let mut parts = Parts::of(bytes);
+                let low = parts.instance(0)?;
+                let high = parts.instance(1)?;
+                parts.end()?;
+                Ok(WhoIs {
+                    limits: Some((low, high)),
+                })
+            }
+        }
+    }
+
+    /// Appends the parameters, or nothing where they don't fit.
+    pub fn write(&self, out: &mut Datagram) -> Result<(), Full>
+        ensures { Writes out.old (canon_form who_is (who_is_items self.now)) result out.new }
+    {
+        let mut text = Datagram::new();
+        self.add(&mut text)?;
+        write_octets(out, text.octets())
+    }
+
+    fn add(&self, out: &mut Datagram) -> Result<(), Full>
+        ensures { Adds out.old (canon_form who_is (who_is_items self.now)) result out.new }
+    {
+        if let Some((low, high)) = self.limits {
+            add_context(out, 0, &Value::Unsigned(low as u64))?;
+            add_context(out, 1, &Value::Unsigned(high as u64))?;
+        }
+        Ok(())
+    }
+
+    /// What is written is read back.
+    pub fn canon_is_read()
+        ensures { (w : WhoIs) → AreLimits w.limits → Reads who_is (canon_form who_is (who_is_items w)) (who_is_items w) }
+    {}
+
+    /// Two different requests never show the same parameters.
+    pub fn items_tell_fields()
+        ensures { (v w : WhoIs) → who_is_items v ≡ who_is_items w → v ≡ w }
+    {}
+}
+
+impl<'a> Parts<'a> {
+    /// An Unsigned of at most 4194303.
+    #[tactic(auto, unfolding(crate::specs::FormReading::part_at))]
+    fn instance(&mut self, tag: u8) -> Result<u32, Reason>
+        ensures { Gives (λ x. (ItemValue (Unsigned x), self.new)) result (part_at (context tag unsigned is_instance) self.old) }
+    {
+        let contents = self.contents(tag)?;
+        let number = as_unsigned(contents)?;
+        if number > 4194303 {
+            return Err(Reason::OutOfRange);
+        }
+        Ok(number as u32)
+    }
+}

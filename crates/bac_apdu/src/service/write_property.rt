@@ -1,0 +1,152 @@
+//! WriteProperty (clause 15.9).
+
+ghost use Rattle.std.specs.Prelude.{◌≡◌, List, ℕ, IfOk, IfErr, IsOkAnd, OnOk};
+ghost use Rattle.bac_wire.specs.Canon.{Writes, IsValid};
+ghost use Rattle.bac_wire.specs.Primitive.{Unsigned};
+ghost use Rattle.bac_wire.specs.Reading.{Gives};
+ghost use Rattle.bac_wire.specs.View.{view, IsWellFormed};
+ghost use Rattle.bac_apdu.specs.Adding.{Adds};
+ghost use Rattle.bac_apdu.specs.Form.{Item, Value as ItemValue, context, unsigned, number_item, Reads};
+ghost use Rattle.bac_apdu.specs.FormReading.{part_at, optional_at, form_at, Stops};
+ghost use Rattle.bac_apdu.specs.FormCanon.{canon_form};
+ghost use Rattle.bac_apdu.specs.Service.ReadProperty.{IsProperty};
+ghost use Rattle.bac_apdu.specs.Service.WriteProperty.{write_property, write_items, setting, setting_items, is_priority, IsPriority};
+
+use crate::adding::{add_close, add_context, add_open, add_value};
+use crate::parts::Parts;
+use crate::reason::Reason;
+use bac_wire::{Datagram, Full, ObjectId, Value, as_unsigned, write_octets};
+
+/// Sets the property of an object, or one element of it.
+#[derive(Clone, Copy, Debug)]
+pub struct WriteProperty<'a> {
+    pub object: ObjectId,
+    pub property: u32,
+    /// The element of an array.
+    pub index: Option<u32>,
+    pub value: Value<'a>,
+    /// 1 to 16, 1 the most urgent.
+    pub priority: Option<u8>,
+}
+
+impl<'a> WriteProperty<'a> {
+    /// The request that the parameters spell, or the reason of the first that is wrong.
+    pub fn read(bytes: &'a [u8]) -> Result<WriteProperty<'a>, Reason>
+        // What is read is spelled so.
+        ensures found { IfOk result (λ w. Reads write_property bytes.now (write_items w)) }
+        // What is spelled so is read.
+        ensures only { (items : List Item) → Reads write_property bytes.now items → IsOkAnd result (λ w. write_items w ≡ items) }
+        // The reason is that of the parameter after the longest run of those that are right.
+        ensures refused { IfErr result (λ reason. (count : ℕ) × Stops write_property bytes.now count reason) }
+        // The same as a function, on which callers build.
+        ensures exact { Gives write_items result (form_at write_property bytes.now) }
+        // It may be written.
+        ensures well_formed { IfOk result (λ w. IsWellFormed w.value) }
+    {
+        WriteProperty::parts(bytes)
+    }
+
+    #[tactic(auto, unfolding(crate::specs::FormReading::form_at))]
+    fn parts(bytes: &'a [u8]) -> Result<WriteProperty<'a>, Reason>
+        ensures exact { Gives write_items result (form_at write_property bytes.now) }
+        ensures well_formed { IfOk result (λ w. IsWellFormed w.value) }
+    {
+        let mut parts = Parts::of(bytes);
+        let object = parts.object(0)?;
+        let property = parts.enumerated(1)?;
+        let index = parts.optional_number(2)?;
+        parts.open(3)?;
+        let value = match parts.any() {
+            Ok(value) => value,
+            Err(reason) => return Err(reason),
+        };
+        parts.close(3)?;
+        let priority = parts.optional_priority(4)?;
+        parts.end()?;
+        Ok(WriteProperty {
+            object,
+            property,
+            index,
+            value,
+            priority,
+        })
+    }
+
+    /// Appends the parameters, or nothing where they don't fit.
+    pub fn write(&self, out: &mut Datagram) -> Result<(), Full>
+        requires { IsWellFormed self.now.value }
+        ensures written { Writes out.old (canon_form write_property (write_items self.now)) result out.new }
+        ensures in_range { OnOk result (IsProperty self.now.object self.now.property self.now.index) }
+        ensures valid { OnOk result (IsValid (view self.now.value)) }
+    {
+        let mut text = Datagram::new();
+        self.add(&mut text)?;
+        write_octets(out, text.octets())
+    }
+
+    fn add(&self, out: &mut Datagram) -> Result<(), Full>
+        requires { IsWellFormed self.now.value }
+        ensures written { Adds out.old (canon_form write_property (write_items self.now)) result out.new }
+        ensures in_range { OnOk result (IsProperty self.now.object self.now.property self.now.index) }
+        ensures valid { OnOk result (IsValid (view self.now.value)) }
+    {
+        add_context(out, 0, &Value::Object(self.object))?;
+        add_context(out, 1, &Value::Enumerated(self.property))?;
+        if let Some(index) = self.index {
+            add_context(out, 2, &Value::Unsigned(index as u64))?;
+        }
+        self.add_setting(out)
+    }
+
+    fn add_setting(&self, out: &mut Datagram) -> Result<(), Full>
+        requires { IsWellFormed self.now.value }
+        ensures written { Adds out.old (canon_form setting (setting_items self.now)) result out.new }
+        ensures valid { OnOk result (IsValid (view self.now.value)) }
+    {
+        add_open(out, 3)?;
+        add_value(out, &self.value)?;
+        add_close(out, 3)?;
+        if let Some(priority) = self.priority {
+            add_context(out, 4, &Value::Unsigned(priority as u64))?;
+        }
+        Ok(())
+    }
+
+    /// What is written is read back.
+    pub fn canon_is_read()
+        ensures { (w : WriteProperty) → IsProperty w.object w.property w.index → IsValid (view w.value) → IsPriority w.priority → Reads write_property (canon_form write_property (write_items w)) (write_items w) }
+    {}
+
+    /// Two different requests never show the same parameters, up to the octets in which a value
+    /// keeps the unused bits of a Bit String.
+    pub fn items_tell_fields()
+        ensures { (v w : WriteProperty) → write_items v ≡ write_items w → (v.object ≡ w.object) × (v.property ≡ w.property) × (v.index ≡ w.index) × (view v.value ≡ view w.value) × (v.priority ≡ w.priority) }
+    {}
+}
+
+impl<'a> Parts<'a> {
+    /// An Unsigned of 1 to 16.
+    #[tactic(auto, unfolding(crate::specs::FormReading::part_at))]
+    fn priority(&mut self, tag: u8) -> Result<u8, Reason>
+        ensures { Gives (λ x. (ItemValue (Unsigned x), self.new)) result (part_at (context tag unsigned is_priority) self.old) }
+    {
+        let contents = self.contents(tag)?;
+        let number = as_unsigned(contents)?;
+        if number == 0 || number > 16 {
+            return Err(Reason::OutOfRange);
+        }
+        Ok(number as u8)
+    }
+
+    /// The same where it is there.
+    #[tactic(auto, unfolding(crate::specs::FormReading::optional_at))]
+    fn optional_priority(&mut self, tag: u8) -> Result<Option<u8>, Reason>
+        ensures { Gives (λ x. (number_item x, self.new)) result (optional_at tag unsigned is_priority self.old) }
+    {
+        if self.is_next(tag) {
+            Ok(Some(self.priority(tag)?))
+        } else {
+            Ok(None)
+        }
+    }
+}
