@@ -3,18 +3,18 @@ use Rattle.std.specs.Prelude.{◌≡◌, ◌⊎◌, ℕ, ◌<◌, Bool, true, fa
 use Rattle.bac_wire.specs.Spelling.{tag_of}
 use Rattle.bac_wire.specs.Level.{IsLevel}
 use Rattle.bac_wire.specs.Canon.{IsValid}
-use Rattle.bac_apdu.specs.Adding.{context_text, value_text, open_text, close_text}
+use Rattle.bac_apdu.specs.Adding.{context_octets, value_octets, open_octets, close_octets}
 use Rattle.bac_apdu.specs.Form.{Absent, Form, Inside, Item, Mark, Part, Value, any, application, choice, closing, context, enclosed, end, nothing_or, opening, opening_next, optional, part, value_next}
 
 -- ---- writing
 
 abbrev pub canon_part : Part → Item → List ℕ
-canon_part (context tag type fits) (Value value) = context_text tag value
-canon_part (application type fits) (Value value) = value_text value
-canon_part (opening tag) (Mark number) = open_text tag
-canon_part (closing tag) (Mark number) = close_text tag
-canon_part (enclosed tag) (Inside octets) = octets ++ close_text tag
-canon_part any (Value value) = value_text value
+canon_part (context tag type fits) (Value value) = context_octets tag value
+canon_part (application type fits) (Value value) = value_octets value
+canon_part (opening tag) (Mark number) = open_octets tag
+canon_part (closing tag) (Mark number) = close_octets tag
+canon_part (enclosed tag) (Inside octets) = octets ++ close_octets tag
+canon_part any (Value value) = value_octets value
 canon_part p item = []
 
 abbrev pub starts : ℕ → List Item → Bool
@@ -28,7 +28,7 @@ canon_form (part p form) [] = []
 canon_form (part p form) (item ∷ items) = canon_part p item ++ canon_form form items
 canon_form (optional tag type fits form) [] = []
 canon_form (optional tag type fits form) (Absent ∷ items) = canon_form form items
-canon_form (optional tag type fits form) (Value value ∷ items) = context_text tag value ++ canon_form form items
+canon_form (optional tag type fits form) (Value value ∷ items) = context_octets tag value ++ canon_form form items
 canon_form (optional tag type fits form) (Mark number ∷ items) = []
 canon_form (optional tag type fits form) (Inside octets ∷ items) = []
 canon_form (choice tag there otherwise) items = if starts tag items then canon_form there items else canon_form otherwise items

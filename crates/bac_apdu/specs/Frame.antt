@@ -37,5 +37,5 @@ frame_at bytes = do
   if kind.0 == 0x81 && len.0 == length bytes then body_at function.0 len.1 else None
 
 -- an Original-Unicast-NPDU (J.2.11)
-unfoldable pub frame_text : List ℕ → List ℕ
-frame_text body = (0x81 ∷ 0x0A ∷ to_be_bytes w16 (length body + 4)) ++ body
+unfoldable pub frame_octets : List ℕ → List ℕ
+frame_octets body = (0x81 ∷ 0x0A ∷ to_be_bytes w16 (length body + 4)) ++ body

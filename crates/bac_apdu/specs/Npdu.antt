@@ -68,21 +68,21 @@ abbrev pub is_there : Option Place → Bool
 is_there None = false
 is_there (Some place) = true
 
-unfoldable pub place_text : Option Place → List ℕ
-place_text None = []
-place_text (Some place) = to_be_bytes w16 place.net ++ length place.address ∷ place.address
+unfoldable pub place_octets : Option Place → List ℕ
+place_octets None = []
+place_octets (Some place) = to_be_bytes w16 place.net ++ length place.address ∷ place.address
 
-abbrev pub hops_text : Option Place → ℕ → List ℕ
-hops_text None hops = []
-hops_text (Some place) hops = hops ∷ []
+abbrev pub hops_octets : Option Place → ℕ → List ℕ
+hops_octets None hops = []
+hops_octets (Some place) hops = hops ∷ []
 
 -- the control octet (6.2.2)
 abbrev pub control_of : Header → ℕ
 control_of h = 128 * from_bool h.network + 32 * from_bool (is_there h.dest) + 8 * from_bool (is_there h.source) + 4 * from_bool h.reply + h.priority
 
 -- in the order of 6.2: the hop count is last
-abbrev pub header_text : Header → List ℕ
-header_text h = (1 ∷ control_of h ∷ []) ++ (place_text h.dest ++ (place_text h.source ++ hops_text h.dest h.hops))
+abbrev pub header_octets : Header → List ℕ
+header_octets h = (1 ∷ control_of h ∷ []) ++ (place_octets h.dest ++ (place_octets h.source ++ hops_octets h.dest h.hops))
 
 -- ---- what can be written
 

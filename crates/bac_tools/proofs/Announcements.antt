@@ -4,11 +4,11 @@ use Rattle.std.specs.Int.{w32, w64, to_be_bytes}
 use Rattle.std.specs.Result.{IsOk}
 use Rattle.bac_wire.specs.Primitive.{Id, Unsigned, Enumerated, Object}
 use Rattle.bac_wire.specs.Canon.{Writes, shortened, without_needless, is_zero, unsigned_octets, tag_octets, length_octets, head_octets, tagged}
-use Rattle.bac_apdu.specs.Adding.{value_text}
+use Rattle.bac_apdu.specs.Adding.{value_octets}
 use Rattle.bac_apdu.specs.FormCanon.{canon_form}
-use Rattle.bac_apdu.specs.Frame.{frame_text}
+use Rattle.bac_apdu.specs.Frame.{frame_octets}
 use Rattle.bac_apdu.specs.Service.IAm.{i_am, i_am_items}
-use Rattle.bac_apdu.specs.Npdu.{place_text, header_text}
+use Rattle.bac_apdu.specs.Npdu.{place_octets, header_octets}
 use Rattle.bac_apdu.specs.declared.service.i_am.IAm.{IAm}
 use Rattle.bac_tools.specs.Device.{plain}
 
@@ -51,24 +51,24 @@ tagged-len class tag contents =
     let head = length-append (tag_octets class tag low) (length_octets len) in
     omega (arith, first, size, head, length-append (head_octets class tag len) contents)
 
-object-len : (id : Id) → length (value_text (Object id)) ≤ 11
-unfolding value_text
+object-len : (id : Id) → length (value_octets (Object id)) ≤ 11
+unfolding value_octets
 object-len id = tagged-len 0 12 (to_be_bytes w32 (id.kind * 2 ^ 22 + id.instance))
 
-number-len : (n : ℕ) → length (value_text (Unsigned n)) ≤ 15
-unfolding value_text
+number-len : (n : ℕ) → length (value_octets (Unsigned n)) ≤ 15
+unfolding value_octets
 number-len n = omega (arith, tagged-len 0 2 (unsigned_octets n), unsigned-len n)
 
-enumerated-len : (n : ℕ) → length (value_text (Enumerated n)) ≤ 15
-unfolding value_text
+enumerated-len : (n : ℕ) → length (value_octets (Enumerated n)) ≤ 15
+unfolding value_octets
 enumerated-len n = omega (arith, tagged-len 0 9 (unsigned_octets n), unsigned-len n)
 
 pub announcement-len : (a : IAm) → length (canon_form i_am (i_am_items a)) ≤ 56
 announcement-len a =
-    let w = value_text (Object a.device) in
-    let x = value_text (Unsigned a.max_apdu) in
-    let y = value_text (Enumerated a.segmentation) in
-    let z = value_text (Unsigned a.vendor) in
+    let w = value_octets (Object a.device) in
+    let x = value_octets (Unsigned a.max_apdu) in
+    let y = value_octets (Enumerated a.segmentation) in
+    let z = value_octets (Unsigned a.vendor) in
     omega (
       arith,
       object-len a.device,
@@ -82,6 +82,6 @@ announcement-len a =
     )
 
 -- behind a plain header, and in a frame
-pub reply-len : (apdu : List ℕ) → length apdu ≤ 58 → length (frame_text (header_text plain ++ apdu)) ≤ 64
-unfolding frame_text place_text
+pub reply-len : (apdu : List ℕ) → length apdu ≤ 58 → length (frame_octets (header_octets plain ++ apdu)) ≤ 64
+unfolding frame_octets place_octets
 reply-len apdu h = omega (arith, h)

@@ -3,13 +3,13 @@ use Rattle.std.specs.Prelude.{◌≡◌, ℕ, ◌==◌, ◌||◌, ◌&&◌, not,
 use Rattle.std.specs.List.{list_any}
 use Rattle.std.specs.Result.{result_ok}
 use Rattle.bac_wire.specs.Primitive.{Unsigned}
-use Rattle.bac_apdu.specs.Apdu.{Message, Unconfirmed, apdu_at, message_text}
+use Rattle.bac_apdu.specs.Apdu.{Apdu, Unconfirmed, apdu_at, apdu_octets}
 use Rattle.bac_apdu.specs.Form.{Item, Value}
 use Rattle.bac_apdu.specs.FormReading.{form_at}
 use Rattle.bac_apdu.specs.FormCanon.{canon_form}
-use Rattle.bac_apdu.specs.Frame.{Frame, Unicast, Broadcast, frame_at, frame_text}
+use Rattle.bac_apdu.specs.Frame.{Frame, Unicast, Broadcast, frame_at, frame_octets}
 use Rattle.bac_apdu.specs.Service.IAm.{i_am, i_am_items}
-use Rattle.bac_apdu.specs.Npdu.{Header, Place, header_at, header_text}
+use Rattle.bac_apdu.specs.Npdu.{Header, Place, header_at, header_octets}
 use Rattle.bac_apdu.specs.Octets.{◌>>=◌}
 use Rattle.bac_apdu.specs.Service.WhoIs.{who_is}
 use Rattle.bac_apdu.specs.declared.service.i_am.IAm.{IAm}
@@ -90,7 +90,7 @@ heard_at npdu = do
   if is_heard header.0 then Some header.1 else None
 
 -- the parameters of a Who-Is
-abbrev pub who_is_parameters : Message → Option (List ℕ)
+abbrev pub who_is_parameters : Apdu → Option (List ℕ)
 who_is_parameters (Unconfirmed service parameters) = if service == who_is_service then Some parameters else None
 who_is_parameters other = None
 
@@ -119,7 +119,7 @@ plain = record { network = false; reply = false; priority = 0; dest = None; sour
 
 -- the I-Am of a device in a datagram to one receiver
 unfoldable pub reply : DeviceLine → List ℕ
-reply line = frame_text (header_text plain ++ message_text (Unconfirmed i_am_service (canon_form i_am (i_am_items (announcement line)))))
+reply line = frame_octets (header_octets plain ++ apdu_octets (Unconfirmed i_am_service (canon_form i_am (i_am_items (announcement line)))))
 
 -- what a device answers to a datagram
 unfoldable pub answer : DeviceLine → List ℕ → Option (List ℕ)

@@ -8,7 +8,7 @@ ghost use Rattle.bac_wire.specs.Primitive.{Unsigned, Bits};
 ghost use Rattle.bac_wire.specs.Reading.{Gives};
 ghost use Rattle.bac_wire.specs.Level.{IsLevel};
 ghost use Rattle.bac_apdu.specs.Adding.{Adds};
-ghost use Rattle.bac_apdu.specs.Apdu.{Complex, message_text};
+ghost use Rattle.bac_apdu.specs.Apdu.{Complex, apdu_octets};
 ghost use Rattle.bac_apdu.specs.Form.{Item, Value as ItemValue, context, unsigned, bit_string, number_item, Reads};
 ghost use Rattle.bac_apdu.specs.FormReading.{part_at, optional_at, form_at};
 ghost use Rattle.bac_apdu.specs.FormCanon.{canon_form};
@@ -134,7 +134,7 @@ impl<'a> ReadRangeAck<'a> {
     pub fn canon_size()
         ensures parameters { (a : ReadRangeAck) → a.property < 2 ^ 32 → IsSmall a.index → a.count < 2 ^ 32 → IsSmall a.first_number → length (canon_form read_range_ack (ack_items a)) ≡ ack_size a }
         ensures apdu { (a : ReadRangeAck) (invoke : ℕ) → a.property < 2 ^ 8 → a.index ≡ None → a.count < 2 ^ 8 → IsSmall a.first_number
-            → length (message_text (Complex false invoke 26 (canon_form read_range_ack (ack_items a)))) ≡ 17 + length a.items.now + optional_size a.first_number }
+            → length (apdu_octets (Complex false invoke 26 (canon_form read_range_ack (ack_items a)))) ≡ 17 + length a.items.now + optional_size a.first_number }
         ensures first_number { (n : ℕ) → (2 ≤ optional_size (Some n)) × (optional_size (Some n) ≤ 5) }
     {}
 }
