@@ -2,7 +2,8 @@
 use Rattle.std.specs.Prelude.{◌≡◌, ◌⊎◌, ℕ, zero, suc, ◌+◌, ◌-◌, ◌≤◌, Bool, true, false, not, ◌&&◌, nat_le, ◌==◌, List, [], ◌∷◌, ◌++◌, length, take, Result, Ok, Err, if◌then◌else◌}
 use Rattle.bac_wire.specs.Primitive.{Primitive}
 use Rattle.bac_wire.specs.Level.{close_at}
-use Rattle.bac_wire.specs.Reading.{◌>>=◌, context_at, mark_at, contents_as, value_at}
+use Rattle.bac_wire.specs.Chain.{◌>>=◌}
+use Rattle.bac_wire.specs.Reading.{context_at, mark_at, contents_as, value_at}
 use Rattle.bac_apdu.specs.declared.reason.Reason.{Reason}
 use Rattle.bac_apdu.specs.declared.reason.Reason.TheVariants.{InvalidTag, OutOfRange, TooManyArguments}
 use Rattle.bac_apdu.specs.Reason.{reasoned}

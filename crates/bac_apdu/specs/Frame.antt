@@ -3,7 +3,8 @@ use Rattle.std.specs.Prelude.{ℕ, ◌+◌, ◌&&◌, ◌==◌, List, ◌∷◌,
 use Rattle.std.specs.Int.{w16, to_be_bytes}
 use Rattle.bac_apdu.specs.declared.frame.Frame.{Frame as FrameCode}
 use Rattle.bac_apdu.specs.declared.frame.Frame.TheVariants as code
-use Rattle.bac_apdu.specs.Octets.{◌>>=◌, octet_at, word_at, octets_at}
+use Rattle.bac_wire.specs.OptionChain.{◌>>=◌}
+use Rattle.bac_apdu.specs.Octets.{octet_at, word_at, octets_at}
 
 -- A frame, apart from where it lies in memory. Forwarded has an address and an NPDU, Function its number and what follows.
 pub data Frame : Type 0 where

@@ -4,7 +4,8 @@ use Rattle.std.specs.Int.{w16, to_be_bytes, from_bool}
 use Rattle.bac_wire.specs.Number.{bit}
 use Rattle.bac_apdu.specs.declared.npdu.Npdu.{Npdu}
 use Rattle.bac_apdu.specs.declared.npdu.Far.{Far}
-use Rattle.bac_apdu.specs.Octets.{◌>>=◌, octet_at, word_at, octets_at}
+use Rattle.bac_wire.specs.OptionChain.{◌>>=◌}
+use Rattle.bac_apdu.specs.Octets.{octet_at, word_at, octets_at}
 
 -- ---- headers, apart from where they lie in memory
 

@@ -1,15 +1,6 @@
 -- Octets read from left to right, where nothing says why there is no reading.
-use Rattle.std.specs.Prelude.{ℕ, ◌+◌, ◌*◌, List, [], ◌∷◌, length, take, drop, nat_lt, Option, Some, None, ◌≡◌, if◌then◌else◌}
-
-infixl 10 ◌>>=◌
-abbrev pub ◌>>=◌ : {A B : Type 0} → Option A → (A → Option B) → Option B
-None >>= f = None
-(Some x) >>= f = f x
-
--- What a function returned, seen by view, is what reading gives.
-abbrev pub GivesSome : {X Y : Type 0} → (X → Y) → Option X → Option Y → Type 0
-GivesSome view (Some x) read = read ≡ Some (view x)
-GivesSome view None read = read ≡ None
+use Rattle.std.specs.Prelude.{ℕ, ◌+◌, ◌*◌, List, [], ◌∷◌, length, take, drop, nat_lt, Option, Some, None, if◌then◌else◌}
+use Rattle.bac_wire.specs.OptionChain.{◌>>=◌}
 
 abbrev pub octet_at : List ℕ → Option (ℕ × List ℕ)
 octet_at [] = None

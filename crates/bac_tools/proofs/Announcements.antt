@@ -3,7 +3,8 @@ use Rattle.std.proofs.Common.{◌≡◌, ℕ, ◌+◌, ◌*◌, ◌^◌, ◌≤�
 use Rattle.std.specs.Int.{w32, w64, to_be_bytes}
 use Rattle.std.specs.Result.{IsOk}
 use Rattle.bac_wire.specs.Primitive.{Id, Unsigned, Enumerated, Object}
-use Rattle.bac_wire.specs.Canon.{Writes, shortened, without_needless, is_zero, unsigned_octets, tag_octets, length_octets, head_octets, tagged}
+use Rattle.bac_wire.specs.Datagram.{Writes}
+use Rattle.bac_wire.specs.Canon.{shortened, without_needless, is_zero, unsigned_octets, tag_octets, length_octets, head_octets, tagged}
 use Rattle.bac_apdu.specs.Adding.{value_octets}
 use Rattle.bac_apdu.specs.FormCanon.{canon_form}
 use Rattle.bac_apdu.specs.Frame.{frame_octets}

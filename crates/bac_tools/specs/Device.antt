@@ -10,7 +10,7 @@ use Rattle.bac_apdu.specs.FormCanon.{canon_form}
 use Rattle.bac_apdu.specs.Frame.{Frame, Unicast, Broadcast, frame_at, frame_octets}
 use Rattle.bac_apdu.specs.Service.IAm.{i_am, i_am_items}
 use Rattle.bac_apdu.specs.Npdu.{Header, Place, header_at, header_octets}
-use Rattle.bac_apdu.specs.Octets.{◌>>=◌}
+use Rattle.bac_wire.specs.OptionChain.{◌>>=◌}
 use Rattle.bac_apdu.specs.Service.WhoIs.{who_is}
 use Rattle.bac_apdu.specs.declared.service.i_am.IAm.{IAm}
 use Rattle.bac_tools.specs.declared.device.BuildFault.{BuildFault}

@@ -2,7 +2,7 @@
 use Rattle.std.specs.Prelude.{◌≡◌, ℕ, ◌^◌, ◌==◌, ◌||◌, if◌then◌else◌, List, [], ◌∷◌, ◌++◌, length, slice_index, codes, Option, None, Some, Result, Ok, Err}
 use Rattle.std.specs.Str.{bytes_eq}
 use Rattle.hex.specs.Hex.{encode_lower}
-use Rattle.bac_apdu.specs.Octets.{◌>>=◌}
+use Rattle.bac_wire.specs.OptionChain.{◌>>=◌}
 use Rattle.bac_tools.specs.Device.{answer, fault_of}
 use Rattle.bac_tools.specs.Hexadecimal.{octets_in}
 use Rattle.bac_tools.specs.Number.{number_in, below}

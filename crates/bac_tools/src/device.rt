@@ -3,7 +3,7 @@
 ghost use Rattle.std.specs.Prelude.{◌≡◌, None, IfOk, IfErr};
 ghost use Rattle.std.specs.List.{list_any};
 ghost use Rattle.std.specs.Option.{option_copied};
-ghost use Rattle.bac_apdu.specs.Octets.{GivesSome};
+ghost use Rattle.bac_wire.specs.OptionChain.{GivesSome};
 ghost use Rattle.bac_apdu.specs.Npdu.{header_of};
 ghost use Rattle.bac_apdu.specs.Service.WhoIs.{who_is_items};
 ghost use Rattle.bac_tools.specs.Device.{is_control, is_name, fault_of, Refuses, npdu_at, is_heard, heard_at, who_is_at, asks_for, announcement, reply, answer};

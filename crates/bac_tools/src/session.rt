@@ -2,7 +2,7 @@
 
 ghost use Rattle.std.specs.Prelude.{◌≡◌, None, Some, IfOk, OnOk, IfErr};
 ghost use Rattle.std.specs.Option.{option_copied};
-ghost use Rattle.bac_apdu.specs.Octets.{GivesSome};
+ghost use Rattle.bac_wire.specs.OptionChain.{GivesSome};
 ghost use Rattle.bac_tools.specs.Device.{Refuses};
 ghost use Rattle.bac_tools.specs.Session.{Meets, answer_text, answered, device_line, end_fault, on_device, on_octets, on_rx, line_of, step, state_of, Running};
 ghost use Rattle.bac_tools.specs.Words.{words_of};

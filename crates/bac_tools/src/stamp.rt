@@ -1,7 +1,7 @@
 //! A moment in a script: YYYY-MM-DDTHH:MM:SS.hh
 
 ghost use Rattle.std.specs.Prelude.{◌≡◌, ◌<◌, IfSome};
-ghost use Rattle.bac_apdu.specs.Octets.{GivesSome};
+ghost use Rattle.bac_wire.specs.OptionChain.{GivesSome};
 ghost use Rattle.bac_tools.specs.Stamp.{digit_in, pair_at, year_at, part_at, end_at, stamp_in, checked};
 ghost use Rattle.bac_wire.specs.Stamp.{moment};
 

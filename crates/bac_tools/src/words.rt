@@ -1,6 +1,6 @@
 //! The words of a line, which one space separates.
 ghost use Rattle.std.specs.Prelude.{◌≡◌, ◌∷◌, [], IfSome, IfNone, All, position, false};
-ghost use Rattle.bac_apdu.specs.Octets.{GivesSome};
+ghost use Rattle.bac_wire.specs.OptionChain.{GivesSome};
 ghost use Rattle.bac_tools.specs.Words.{is_space, words_of, HasTwo, text_in};
 
 /// The place of the first space.

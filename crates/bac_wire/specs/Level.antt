@@ -5,7 +5,8 @@ use Rattle.bac_wire.specs.declared.level.Token.TheVariants.{Whole, Open, Close}
 use Rattle.bac_wire.specs.declared.fault.WireFault.{WireFault}
 use Rattle.bac_wire.specs.declared.fault.WireFault.TheVariants.{Ended, BadTag}
 use Rattle.bac_wire.specs.Spelling.{IsTag, IsTagged}
-use Rattle.bac_wire.specs.Reading.{◌>>=◌, octet_at, octets_at, number_at, length_at, is_context}
+use Rattle.bac_wire.specs.Chain.{◌>>=◌}
+use Rattle.bac_wire.specs.Reading.{octet_at, octets_at, number_at, length_at, is_context}
 
 -- ---- the grammar
 

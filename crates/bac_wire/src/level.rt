@@ -1,7 +1,7 @@
 //! Tags on one level: whole tags, and the tags that open and close a level (clause 20.2.1.3.2).
 
 ghost use Rattle.std.specs.Prelude.{◌≡◌, ◌+◌, ◌≤◌, ℕ, List, ◌++◌, length, drop, IfOk, IsOkAnd};
-ghost use Rattle.bac_wire.specs.Reading.{Gives};
+ghost use Rattle.bac_wire.specs.Chain.{Gives};
 ghost use Rattle.bac_wire.specs.Spelling.{IsTag};
 ghost use Rattle.bac_wire.specs.Level.{token_at, close_at, IsLevel, EndsAt};
 

@@ -2,7 +2,8 @@
 
 ghost use Rattle.std.specs.Prelude.{◌≡◌, ◌-◌, ◌*◌, ◌^◌, ◌<◌, ◌≤◌, length, map, take, IfOk, true};
 ghost use Rattle.bac_wire.specs.Number.{number, signed, bits_of};
-ghost use Rattle.bac_wire.specs.Reading.{Gives, has_length, chars_in, bits_in, enumerated_in, value_in, contents_as};
+ghost use Rattle.bac_wire.specs.Chain.{Gives};
+ghost use Rattle.bac_wire.specs.Reading.{has_length, chars_in, bits_in, enumerated_in, value_in, contents_as};
 ghost use Rattle.bac_wire.specs.View.{view, IsWellFormed};
 ghost use Rattle.bac_wire.specs.Stamp.{date_octets, time_octets};
 ghost use Rattle.bac_wire.specs.Primitive.{Boolean, Unsigned, Signed, Enumerated, Object, Bits};

@@ -1,7 +1,8 @@
 //! Heads of tags: the tag number and the length (clause 20.2.1), read and written.
 
 ghost use Rattle.std.specs.Prelude.{◌≡◌, ◌<◌, ◌≤◌, length};
-ghost use Rattle.bac_wire.specs.Reading.{Gives, octet_at, octets_at, number_at, length_at, is_context};
+ghost use Rattle.bac_wire.specs.Chain.{Gives};
+ghost use Rattle.bac_wire.specs.Reading.{octet_at, octets_at, number_at, length_at, is_context};
 ghost use Rattle.bac_wire.specs.Tag.{class_bits};
 ghost use Rattle.bac_wire.specs.Canon.{tag_octets, head_octets};
 

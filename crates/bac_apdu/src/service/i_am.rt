@@ -2,14 +2,14 @@
 
 ghost use Rattle.std.specs.Prelude.{◌≡◌, List, ℕ, IfSome, IsSomeAnd};
 ghost use Rattle.std.specs.Result.{result_ok};
-ghost use Rattle.bac_wire.specs.Canon.{Writes};
-ghost use Rattle.bac_wire.specs.Reading.{Gives};
+ghost use Rattle.bac_wire.specs.Datagram.{Writes};
+ghost use Rattle.bac_wire.specs.Chain.{Gives};
 ghost use Rattle.bac_apdu.specs.Adding.{Adds};
 ghost use Rattle.bac_apdu.specs.Form.{Item, Reads};
 ghost use Rattle.bac_apdu.specs.FormReading.{form_at};
 ghost use Rattle.bac_apdu.specs.FormCanon.{canon_form};
 ghost use Rattle.bac_apdu.specs.Service.IAm.{i_am, i_am_items, IsAnnouncement};
-ghost use Rattle.bac_apdu.specs.Octets.{GivesSome};
+ghost use Rattle.bac_wire.specs.OptionChain.{GivesSome};
 
 use crate::adding::add_value;
 use crate::parts::Parts;

@@ -1,8 +1,8 @@
 //! ReadProperty (clause 15.5).
 
 ghost use Rattle.std.specs.Prelude.{◌≡◌, List, ℕ, IfOk, IfErr, IsOkAnd};
-ghost use Rattle.bac_wire.specs.Reading.{Gives};
-ghost use Rattle.bac_wire.specs.Canon.{Writes};
+ghost use Rattle.bac_wire.specs.Chain.{Gives};
+ghost use Rattle.bac_wire.specs.Datagram.{Writes};
 ghost use Rattle.bac_apdu.specs.Adding.{Adds};
 ghost use Rattle.bac_apdu.specs.Form.{Item, Reads};
 ghost use Rattle.bac_apdu.specs.FormReading.{form_at, Stops};

@@ -2,17 +2,17 @@
 
 ghost use Rattle.std.specs.Prelude.{◌≡◌, ◌+◌, ◌-◌, ◌*◌, ◌%◌, ◌^◌, ◌<◌, ◌≤◌, true, false, List, ℕ, length, take, Some, None, IfOk, IfSome, IsSomeAnd};
 ghost use Rattle.std.specs.Result.{result_ok};
-ghost use Rattle.bac_wire.specs.Canon.{Writes};
+ghost use Rattle.bac_wire.specs.Datagram.{Writes};
 ghost use Rattle.bac_wire.specs.Number.{bits_of};
 ghost use Rattle.bac_wire.specs.Primitive.{Unsigned, Bits};
-ghost use Rattle.bac_wire.specs.Reading.{Gives};
+ghost use Rattle.bac_wire.specs.Chain.{Gives};
 ghost use Rattle.bac_wire.specs.Level.{IsLevel};
 ghost use Rattle.bac_apdu.specs.Adding.{Adds};
 ghost use Rattle.bac_apdu.specs.Apdu.{Complex, apdu_octets};
 ghost use Rattle.bac_apdu.specs.Form.{Item, Value as ItemValue, context, unsigned, bit_string, number_item, Reads};
 ghost use Rattle.bac_apdu.specs.FormReading.{part_at, optional_at, form_at};
 ghost use Rattle.bac_apdu.specs.FormCanon.{canon_form};
-ghost use Rattle.bac_apdu.specs.Octets.{GivesSome};
+ghost use Rattle.bac_wire.specs.OptionChain.{GivesSome};
 ghost use Rattle.bac_apdu.specs.Service.ReadProperty.{IsProperty};
 ghost use Rattle.bac_apdu.specs.Service.ReadRangeAck.{read_range_ack, ack_items, records, record_items, is_three, is_first, flag_bits, IsFirst, IsSmall, optional_size, ack_size};
 

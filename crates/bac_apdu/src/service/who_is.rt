@@ -2,15 +2,15 @@
 
 ghost use Rattle.std.specs.Prelude.{◌≡◌, List, ℕ, IfSome, IsSomeAnd};
 ghost use Rattle.std.specs.Result.{result_ok};
-ghost use Rattle.bac_wire.specs.Canon.{Writes};
+ghost use Rattle.bac_wire.specs.Datagram.{Writes};
 ghost use Rattle.bac_wire.specs.Primitive.{Unsigned};
-ghost use Rattle.bac_wire.specs.Reading.{Gives};
+ghost use Rattle.bac_wire.specs.Chain.{Gives};
 ghost use Rattle.bac_apdu.specs.Adding.{Adds};
 ghost use Rattle.bac_apdu.specs.Form.{Item, Value as ItemValue, context, unsigned, Reads};
 ghost use Rattle.bac_apdu.specs.FormReading.{part_at, form_at};
 ghost use Rattle.bac_apdu.specs.FormCanon.{canon_form};
 ghost use Rattle.bac_apdu.specs.Service.WhoIs.{is_instance, who_is, who_is_items, AreLimits};
-ghost use Rattle.bac_apdu.specs.Octets.{GivesSome};
+ghost use Rattle.bac_wire.specs.OptionChain.{GivesSome};
 
 use crate::adding::add_context;
 use crate::parts::Parts;

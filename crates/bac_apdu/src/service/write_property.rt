@@ -1,9 +1,10 @@
 //! WriteProperty (clause 15.9).
 
 ghost use Rattle.std.specs.Prelude.{◌≡◌, List, ℕ, IfOk, IfErr, IsOkAnd, OnOk};
-ghost use Rattle.bac_wire.specs.Canon.{Writes, IsValid};
+ghost use Rattle.bac_wire.specs.Datagram.{Writes};
+ghost use Rattle.bac_wire.specs.Canon.{IsValid};
 ghost use Rattle.bac_wire.specs.Primitive.{Unsigned};
-ghost use Rattle.bac_wire.specs.Reading.{Gives};
+ghost use Rattle.bac_wire.specs.Chain.{Gives};
 ghost use Rattle.bac_wire.specs.View.{view, IsWellFormed};
 ghost use Rattle.bac_apdu.specs.Adding.{Adds};
 ghost use Rattle.bac_apdu.specs.Form.{Item, Value as ItemValue, context, unsigned, number_item, Reads};

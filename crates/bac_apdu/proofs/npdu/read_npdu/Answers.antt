@@ -4,7 +4,8 @@ use Rattle.std.proofs.lemmas.Option.{none-some, same_Some}
 use Rattle.std.proofs.lemmas.List.{get_or-drop, length-take-le}
 use Rattle.std.proofs.lemmas.Bool.{ltb-false}
 use Rattle.bac_wire.specs.Number.{bit}
-use Rattle.bac_apdu.specs.Octets.{GivesSome, ◌>>=◌, octet_at, word_at, octets_at}
+use Rattle.bac_wire.specs.OptionChain.{GivesSome, ◌>>=◌}
+use Rattle.bac_apdu.specs.Octets.{octet_at, word_at, octets_at}
 use Rattle.std.specs.Prelude.{IfSome}
 use Rattle.bac_apdu.specs.declared.npdu.Npdu.{Npdu}
 use Rattle.bac_apdu.specs.Npdu.{Place, Header, place_at, maybe_place_at, hops_at, header_at, header_of, IsPlace, HasHops, IsHeader}

@@ -1,6 +1,7 @@
 use Rattle.std.proofs.Common.{◌+◌, ◌/◌, ◌^◌, ◌<◌, ℕ, Bool, List, length, Result, Ok, Err, OnOk, length-append, arith}
 use Rattle.bac_wire.specs.Tag.{class_bits}
-use Rattle.bac_wire.specs.Canon.{Writes, tagged, head_octets, bit_octets}
+use Rattle.bac_wire.specs.Datagram.{Writes}
+use Rattle.bac_wire.specs.Canon.{tagged, head_octets, bit_octets}
 use Rattle.bac_wire.proofs.Canonical.{packed_length}
 use Rattle.bac_wire.proofs.writing.write_contents.Goals as goal
 

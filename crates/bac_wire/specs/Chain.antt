@@ -1,0 +1,13 @@
+-- Steps that can fail, one after the other, and what a function returned beside them.
+use Rattle.std.specs.Prelude.{◌≡◌, Result, Ok, Err}
+
+-- the next step where this one did not fail
+infixl 10 ◌>>=◌
+abbrev pub ◌>>=◌ : {A B F : Type 0} → Result A F → (A → Result B F) → Result B F
+(Ok x) >>= f = f x
+(Err e) >>= f = Err e
+
+-- What a function returned, seen by view, is what reading gives.
+abbrev pub Gives : {X Y F : Type 0} → (X → Y) → Result X F → Result Y F → Type 0
+Gives view (Ok x) read = read ≡ Ok (view x)
+Gives view (Err e) read = read ≡ Err e
