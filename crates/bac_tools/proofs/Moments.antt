@@ -6,7 +6,7 @@ use Rattle.std.proofs.lemmas.Bool.{and_parts, and_from}
 use Rattle.std.proofs.lemmas.Bool.Decides.{nat_tests}
 use Rattle.std.proofs.lemmas.Int.{ints}
 use Rattle.jiff.specs.Words.{IsDate, days_in_month}
-use Rattle.bac_wire.specs.Stamp.{Moment, IsMoment}
+use Rattle.bac_wire.specs.Stamp.{CivilTime, IsCivilTime}
 use Rattle.bac_tools.specs.Stamp.{is_day, is_time, is_moment, checked}
 
 le-true : (a b : ℕ) → nat_le a b ≡ true → a ≤ b
@@ -39,7 +39,7 @@ day-from year month day (is_year, (m, n), (d, e)) =
     (and_from (nat_le month 12) (nat_le 1 day && nat_le day last) (true-le month 12 (omega (arith, ints, n)))
     (and_from (nat_le 1 day) (nat_le day last) (true-le 1 day (omega (arith, ints, d))) (true-le day last (omega (arith, ints, e)))))
 
-moment-from : (m : Moment) → is_moment m ≡ true → IsMoment m
+moment-from : (m : CivilTime) → is_moment m ≡ true → IsCivilTime m
 unfolding is_moment
 moment-from m h =
     let day = is_day m.year m.month m.day in
@@ -61,7 +61,7 @@ moment-from m h =
       hundredth = lt-true m.hundredth 100 u.1;
     }
 
-test-from : (m : Moment) → IsMoment m → is_moment m ≡ true
+test-from : (m : CivilTime) → IsCivilTime m → is_moment m ≡ true
 unfolding is_moment
 test-from m h =
     let day = is_day m.year m.month m.day in
@@ -73,11 +73,11 @@ test-from m h =
     (and_from (nat_lt m.minute 60) (nat_lt m.second 60 && nat_lt m.hundredth 100) (true-lt m.minute 60 h.minute)
     (and_from (nat_lt m.second 60) (nat_lt m.hundredth 100) (true-lt m.second 60 h.second) (true-lt m.hundredth 100 h.hundredth))))))
 
-checked_by : (b : Bool) (m : Moment) (r : Option Moment) → SomeIff r (IsMoment m) m → (b ≡ true → IsMoment m) → (IsMoment m → b ≡ true) → r ≡ cond b (Some m) None
+checked_by : (b : Bool) (m : CivilTime) (r : Option CivilTime) → SomeIff r (IsCivilTime m) m → (b ≡ true → IsCivilTime m) → (IsCivilTime m → b ≡ true) → r ≡ cond b (Some m) None
 checked_by true m None never found again = absurd (never (found refl))
 checked_by true m (Some x) (is, same) found again = ap Some same
 checked_by false m None never found again = refl
 checked_by false m (Some x) (is, same) found again = cc (again is)
 
-pub is_checked : (m : Moment) (r : Option Moment) → SomeIff r (IsMoment m) m → r ≡ checked m
+pub is_checked : (m : CivilTime) (r : Option CivilTime) → SomeIff r (IsCivilTime m) m → r ≡ checked m
 is_checked m r h = checked_by (is_moment m) m r h (moment-from m) (test-from m)

@@ -3,7 +3,7 @@ use Rattle.std.specs.Prelude.{ℕ, pos, ◌+◌, ◌-◌, ◌*◌, ◌==◌, ◌
 use Rattle.std.specs.Char.{is_ascii_digit}
 use Rattle.jiff.specs.Words.{days_in_month}
 use Rattle.bac_wire.specs.OptionChain.{◌>>=◌}
-use Rattle.bac_wire.specs.Stamp.{Moment, moment}
+use Rattle.bac_wire.specs.Stamp.{CivilTime, moment}
 
 abbrev pub digit_in : ℕ → Option ℕ
 digit_in c = if is_ascii_digit c then Some (c - 48) else None
@@ -29,7 +29,7 @@ part_at mark [] = None
 part_at mark (c ∷ rest) = if c == mark then pair_at rest else None
 
 -- the parts of a moment in their order, and the rest
-unfoldable pub moment_at : List ℕ → Option (Moment × List ℕ)
+unfoldable pub moment_at : List ℕ → Option (CivilTime × List ℕ)
 moment_at text = do
   year ← year_at text
   month ← part_at 45 year.1
@@ -54,14 +54,14 @@ abbrev pub is_time : ℕ → ℕ → ℕ → ℕ → Bool
 is_time hour minute second hundredth = nat_lt hour 24 && (nat_lt minute 60 && (nat_lt second 60 && nat_lt hundredth 100))
 
 -- a day of the years 1990 to 2154, and a time
-unfoldable pub is_moment : Moment → Bool
+unfoldable pub is_moment : CivilTime → Bool
 is_moment m = nat_le 1990 m.year && (nat_le m.year 2154 && (is_day m.year m.month m.day && is_time m.hour m.minute m.second m.hundredth))
 
-abbrev pub checked : Moment → Option Moment
+abbrev pub checked : CivilTime → Option CivilTime
 checked m = if is_moment m then Some m else None
 
 -- a moment, and nothing behind it
-unfoldable pub stamp_in : List ℕ → Option Moment
+unfoldable pub stamp_in : List ℕ → Option CivilTime
 stamp_in word = do
   read ← moment_at word
   end ← end_at read.1

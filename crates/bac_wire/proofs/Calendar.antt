@@ -5,7 +5,7 @@ use Rattle.jiff_core.proofs.CalendarLemmas.{day_count-epoch, days_from_civil-day
 use Rattle.jiff_core.proofs.SignedLemmas.{back_small}
 use Rattle.jiff.proofs.SpanFacts.{signed_arith}
 use Rattle.bac_wire.specs.declared.stamp.Date4.{Date4}
-use Rattle.bac_wire.specs.Stamp.{date_of, Moment, IsMoment, days_of_years, days_of_months, day_number, weekday_of}
+use Rattle.bac_wire.specs.Stamp.{date_of, CivilTime, IsCivilTime, days_of_years, days_of_months, day_number, weekday_of}
 
 -- the days of the first n years from 1970 on
 abbrev span : ℕ → ℕ
@@ -36,7 +36,7 @@ months y zero = omega arith
 months y (suc n) = omega (arith, day_count-next_month (pos y) (suc n) (omega arith), months y n, ap (λ k. day_count (pos y) k 1) (same n))
 
 -- the day count of a moment's day
-pub day_count-day_number : (m : Moment) → IsMoment m → day_count (pos m.year) m.month m.day ≡ 4379258 + day_number m
+pub day_count-day_number : (m : CivilTime) → IsCivilTime m → day_count (pos m.year) m.month m.day ≡ 4379258 + day_number m
 day_count-day_number m is =
     let year : 1990 + (m.year - 1990) ≡ m.year = omega (arith, is.from) in
     let some : 1 ≤ m.month = omega (arith, signed_arith, is.date) in
@@ -45,26 +45,26 @@ day_count-day_number m is =
     omega (arith, ap (λ y. day_count (pos y) 1 1) year, years_from_1990 (m.year - 1990), months m.year (m.month - 1), ap (λ k. day_count (pos m.year) k 1) month, day_count-day (pos m.year) m.month m.day 1 first (omega arith))
 
 -- 1990-01-01 was a Monday in jiff too
-pub weekday_number-day_number : (m : Moment) → IsMoment m → weekday_number (days_from_civil (pos m.year) m.month m.day) + 1 ≡ weekday_of m
+pub weekday_number-day_number : (m : CivilTime) → IsCivilTime m → weekday_number (days_from_civil (pos m.year) m.month m.day) + 1 ≡ weekday_of m
 weekday_number-day_number m is =
     omega (arith, weekday_number-parts (days_from_civil (pos m.year) m.month m.day), days_from_civil-day_count (pos m.year) m.month m.day, day_count-day_number m is)
 
-pub weekday_is : (m : Moment) (y : ℤ) (k d : ℕ) → IsMoment m → y ≡ pos m.year → pos k ≡ pos m.month → pos d ≡ pos m.day → weekday_number (days_from_civil y k d) + 1 ≡ weekday_of m
+pub weekday_is : (m : CivilTime) (y : ℤ) (k d : ℕ) → IsCivilTime m → y ≡ pos m.year → pos k ≡ pos m.month → pos d ≡ pos m.day → weekday_number (days_from_civil y k d) + 1 ≡ weekday_of m
 weekday_is m y k d is year month day =
     let k_is : k ≡ m.month = omega (arith, signed_arith) in
     let d_is : d ≡ m.day = omega (arith, signed_arith) in
     rw year (rw k_is (rw d_is (weekday_number-day_number m is)))
 
-pub days_is : (m : Moment) (y : ℤ) (k d : ℕ) → IsMoment m → y ≡ pos m.year → pos k ≡ pos m.month → pos d ≡ pos m.day → days_from_civil y k d ≡ pos (7305 + day_number m)
+pub days_is : (m : CivilTime) (y : ℤ) (k d : ℕ) → IsCivilTime m → y ≡ pos m.year → pos k ≡ pos m.month → pos d ≡ pos m.day → days_from_civil y k d ≡ pos (7305 + day_number m)
 days_is m y k d is year month day =
     let k_is : k ≡ m.month = omega (arith, signed_arith) in
     let d_is : d ≡ m.day = omega (arith, signed_arith) in
     rw year (rw k_is (rw d_is (omega (arith, signed_arith, days_from_civil-day_count (pos m.year) m.month m.day, day_count-day_number m is))))
 
-abbrev dated : Moment → ℕ → Date4
+abbrev dated : CivilTime → ℕ → Date4
 dated m w = record { year = m.year - 1900; month = m.month; day = m.day; weekday = w }
 
-pub date_is : (m now : Moment) (w : ℕ) → m ≡ now → w ≡ weekday_of now → dated m w ≡ date_of now
+pub date_is : (m now : CivilTime) (w : ℕ) → m ≡ now → w ≡ weekday_of now → dated m w ≡ date_of now
 date_is m now w same_moment same_day = ap (λ x. dated x w) same_moment ∙ ap (λ x. dated now x) same_day
 
 -- what the code computes of jiff's day number

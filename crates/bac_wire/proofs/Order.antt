@@ -8,7 +8,7 @@ use Rattle.std.specs.Cmp.{nat_cmp_is}
 use Rattle.jiff_core.specs.Calendar.{IsCivilDate, day_count}
 use Rattle.jiff_core.proofs.CalendarLemmas.{day_count-lt_year, day_count-lt_month, day_count-day}
 use Rattle.jiff.proofs.SpanFacts.{signed_arith}
-use Rattle.bac_wire.specs.Stamp.{Moment, IsMoment, day_number, ticks_of, moment_order}
+use Rattle.bac_wire.specs.Stamp.{CivilTime, IsCivilTime, day_number, ticks_of, moment_order}
 use Rattle.bac_wire.proofs.Calendar.{day_count-day_number}
 
 less : (a b : ℕ) → a < b → nat_cmp a b ≡ Less
@@ -43,31 +43,31 @@ same_gap a b x y e =
           ]
     ]
 
-civil : (m : Moment) → IsMoment m → IsCivilDate (pos m.year) m.month m.day
+civil : (m : CivilTime) → IsCivilTime m → IsCivilDate (pos m.year) m.month m.day
 civil m is = (is.date.0, (omega (arith, signed_arith, is.date), omega (arith, signed_arith, is.date)), (omega (arith, signed_arith, is.date), omega (arith, signed_arith, is.date)))
 
-by_year : (m n : Moment) → IsMoment m → IsMoment n → m.year < n.year → day_number m < day_number n
+by_year : (m n : CivilTime) → IsCivilTime m → IsCivilTime n → m.year < n.year → day_number m < day_number n
 by_year m n is are lt =
     let first : 1 ≤ n.day = omega (arith, signed_arith, are.date) in
     let later : pos m.year <ℤ pos n.year = omega (arith, signed_arith) in
     omega (arith, day_count-day_number m is, day_count-day_number n are, day_count-lt_year (pos m.year) m.month m.day (pos n.year) n.month n.day (civil m is) first later)
 
-by_month : (m n : Moment) → IsMoment m → IsMoment n → m.year ≡ n.year → m.month < n.month → day_number m < day_number n
+by_month : (m n : CivilTime) → IsCivilTime m → IsCivilTime n → m.year ≡ n.year → m.month < n.month → day_number m < day_number n
 by_month m n is are year lt =
     let first : 1 ≤ n.day = omega (arith, signed_arith, are.date) in
     omega (arith, day_count-day_number m is, day_count-day_number n are, ap (λ y. day_count (pos y) n.month n.day) year, day_count-lt_month (pos m.year) m.month m.day n.month n.day (civil m is) first lt)
 
-by_day : (m n : Moment) → IsMoment m → IsMoment n → m.year ≡ n.year → m.month ≡ n.month → day_number m + n.day ≡ day_number n + m.day
+by_day : (m n : CivilTime) → IsCivilTime m → IsCivilTime n → m.year ≡ n.year → m.month ≡ n.month → day_number m + n.day ≡ day_number n + m.day
 by_day m n is are year month =
     let first : 1 ≤ n.day = omega (arith, signed_arith, are.date) in
     let begun : 1 ≤ m.day = omega (arith, signed_arith, is.date) in
     omega (arith, day_count-day_number m is, day_count-day_number n are, ap (λ y. day_count (pos y) n.month n.day) year, ap (λ k. day_count (pos m.year) k n.day) month, day_count-day (pos m.year) m.month m.day n.day begun first)
 
 -- a moment's day decides, before its time
-sooner : (m n : Moment) → IsMoment m → IsMoment n → day_number m < day_number n → ticks_of m < ticks_of n
+sooner : (m n : CivilTime) → IsCivilTime m → IsCivilTime n → day_number m < day_number n → ticks_of m < ticks_of n
 sooner m n is are lt = omega (arith, is.hour, is.minute, is.second, is.hundredth)
 
-pub ticks_order : (m n : Moment) → IsMoment m → IsMoment n → nat_cmp (ticks_of m) (ticks_of n) ≡ moment_order m n
+pub ticks_order : (m n : CivilTime) → IsCivilTime m → IsCivilTime n → nat_cmp (ticks_of m) (ticks_of n) ≡ moment_order m n
 ticks_order m n is are =
     step m.year n.year (ticks_of m) (ticks_of n) _ (λ lt. sooner m n is are (by_year m n is are lt)) (λ gt. sooner n m are is (by_year n m are is gt)) (λ year.
     step m.month n.month (ticks_of m) (ticks_of n) _ (λ lt. sooner m n is are (by_month m n is are year lt)) (λ gt. sooner n m are is (by_month n m are is (sym year) gt)) (λ month.

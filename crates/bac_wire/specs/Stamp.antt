@@ -25,7 +25,7 @@ order_of date time date' time' =
 -- ---- moments
 
 -- the parts of a moment
-pub record Moment : Type 0 where
+pub record CivilTime : Type 0 where
   pub year : ℕ
   pub month : ℕ
   pub day : ℕ
@@ -35,12 +35,12 @@ pub record Moment : Type 0 where
   pub hundredth : ℕ
 
 -- the moment of these parts, in their order
-abbrev pub moment : ℕ → ℕ → ℕ → ℕ → ℕ → ℕ → ℕ → Moment
+abbrev pub moment : ℕ → ℕ → ℕ → ℕ → ℕ → ℕ → ℕ → CivilTime
 moment year month day hour minute second hundredth =
     record { year = year; month = month; day = day; hour = hour; minute = minute; second = second; hundredth = hundredth }
 
 -- the calendar has this day, in the years that a date can state, and a clock shows this time
-pub record IsMoment (m : Moment) : Type 0 where
+pub record IsCivilTime (m : CivilTime) : Type 0 where
   pub from : 1990 ≤ m.year
   pub to : m.year ≤ 2154
   pub date : IsDate (pos m.year) (pos m.month) (pos m.day)
@@ -62,31 +62,31 @@ days_of_months year zero = 0
 days_of_months year (suc n) = days_of_months year n + days_in_month (pos year) (suc n)
 
 -- the days since 1990-01-01
-abbrev pub day_number : Moment → ℕ
+abbrev pub day_number : CivilTime → ℕ
 day_number m = days_of_years (m.year - 1990) + days_of_months m.year (m.month - 1) + (m.day - 1)
 
 -- Monday is 1 and Sunday 7, and 1990-01-01 was a Monday
-abbrev pub weekday_of : Moment → ℕ
+abbrev pub weekday_of : CivilTime → ℕ
 weekday_of m = 1 + day_number m % 7
 
 -- the hundredths of a second since 1990-01-01T00:00:00.00
-abbrev pub ticks_of : Moment → ℕ
+abbrev pub ticks_of : CivilTime → ℕ
 ticks_of m = (((day_number m * 24 + m.hour) * 60 + m.minute) * 60 + m.second) * 100 + m.hundredth
 
 -- the first part in which they differ decides
-abbrev pub moment_order : Moment → Moment → Ordering
+abbrev pub moment_order : CivilTime → CivilTime → Ordering
 moment_order m n =
     ordering_then (nat_cmp m.year n.year) (ordering_then (nat_cmp m.month n.month) (ordering_then (nat_cmp m.day n.day)
     (ordering_then (nat_cmp m.hour n.hour) (ordering_then (nat_cmp m.minute n.minute) (ordering_then (nat_cmp m.second n.second) (nat_cmp m.hundredth n.hundredth))))))
 
 -- the moment that a date and a time of the calendar show, cut to hundredths
-abbrev pub moment_of : DateTime → Moment
+abbrev pub moment_of : DateTime → CivilTime
 moment_of civil = moment (unsigned_abs civil.date.year) civil.date.month civil.date.day civil.time.hour civil.time.minute civil.time.second (civil.time.subsec_nanosecond / 10_000_000)
 
 -- ---- a moment's octets
 
-abbrev pub date_of : Moment → Date4
+abbrev pub date_of : CivilTime → Date4
 date_of m = record { year = m.year - 1900; month = m.month; day = m.day; weekday = weekday_of m }
 
-abbrev pub time_of : Moment → Time4
+abbrev pub time_of : CivilTime → Time4
 time_of m = record { hour = m.hour; minute = m.minute; second = m.second; hundredth = m.hundredth }
