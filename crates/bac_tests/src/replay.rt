@@ -333,9 +333,84 @@ fn a_refused_write_ends_the_replay(rt: HostRuntime) -> Result<(), Fail> {
     Ok(())
 }
 
+/// A reader over memory that gives one octet a read, as a slow pipe may.
+#[derive(Drop)]
+struct Dripping<'a> {
+    rest: &'a [u8],
+}
+
+impl Read for Dripping<'_> {
+    fn read(&mut self, buf: &mut [u8]) -> io::Result<usize> {
+        if self.rest.is_empty() || buf.is_empty() {
+            return Ok(0);
+        }
+        buf[0] = self.rest[0];
+        self.rest = &self.rest[1..];
+        Ok(1)
+    }
+}
+
+/// A writer over memory that takes one octet a write.
+#[derive(Drop)]
+struct Narrow {
+    text: Vec<u8>,
+}
+
+impl Write for Narrow {
+    fn write(&mut self, buf: &[u8]) -> io::Result<usize> {
+        match buf.first() {
+            Some(octet) => {
+                self.text.push(*octet)?;
+                Ok(1)
+            }
+            None => Ok(0),
+        }
+    }
+
+    fn flush(&mut self) -> io::Result<()> {
+        Ok(())
+    }
+}
+
 #[test]
-fn a_script_may_have_so_many_octets(rt: HostRuntime) -> Result<(), Fail> {
-    let room = LIMIT - DEVICE.len() - WHO_IS.len();
+fn octets_may_come_and_go_one_at_a_time(rt: HostRuntime) -> Result<(), Fail> {
+    let script = [DEVICE, WHO_IS, b"rx 00\n", WHO_IS].concat(rt.alloc())?;
+    let want = [I_AM, NONE, I_AM].concat(rt.alloc())?;
+    let mut reader = Dripping {
+        rest: script.as_slice(),
+    };
+    let mut writer = Narrow {
+        text: Vec::new(rt.alloc()),
+    };
+    let ended = run_replay(rt.alloc(), &mut reader, &mut writer);
+    assert_eq!(rt; ended, Ok(()));
+    assert_eq!(rt; writer.text.as_slice(), want.as_slice());
+    Ok(())
+}
+
+#[test]
+fn a_datagram_may_have_1501_octets(rt: HostRuntime) -> Result<(), Fail> {
+    let digits = vec![in rt.alloc(); b'0'; 3_004]?;
+    plays(
+        &rt,
+        rt.alloc(),
+        &[DEVICE, b"rx ", &digits[..3_002], b"\n"],
+        &[NONE],
+        Ok(()),
+    )?;
+    plays(
+        &rt,
+        rt.alloc(),
+        &[DEVICE, b"rx ", digits.as_slice(), b"\n"],
+        &[],
+        Err(ReplayFault::BadLine(2)),
+    )
+}
+
+#[test]
+fn a_script_may_have_1048576_octets(rt: HostRuntime) -> Result<(), Fail> {
+    assert_eq!(rt; LIMIT, 1_048_576);
+    let room = 1_048_576 - DEVICE.len() - WHO_IS.len();
     let feeds = vec![in rt.alloc(); b'\n'; room]?;
     plays(
         &rt,
