@@ -161,6 +161,7 @@ pub fn run_replay<R: Read, W: Write>(
     reader: &mut R,
     writer: &mut W,
 ) -> Result<(), ReplayFault>
+    ensures limit { LIMIT ≡ 1048576 }
     ensures ends { Replays LIMIT (R.remaining reader.old) (R.remaining reader.new) (W.contents writer.old) (W.contents writer.new) result }
     ensures read { ConsumesUpTo (LIMIT + 1) (R.remaining reader.old) (R.remaining reader.new) }
     ensures whole { OnOk result (IsAtEnd (R.remaining reader.new)) }
