@@ -9,18 +9,15 @@ use Rattle.std.specs.Io.KnownBytes.{Appends, Consumes, IsAtEnd}
 use Rattle.bac_tools.specs.Lines.{last_if_any, ended_lines, open_line}
 use Rattle.std.specs.Str.Lines.{lines}
 use Rattle.bac_tools.specs.Replay.{Played, play, then_play, at_end, past_limit, played_lines, text_of, fault_of_script, PlaysAll, Ends, Replays}
-use Rattle.bac_tools.specs.Fault.{replay_fault}
-use Rattle.bac_tools.specs.Session.{step, end_fault}
+use Rattle.bac_tools.specs.Fault.{replay_fault, Refusal}
+use Rattle.bac_tools.specs.Session.{step, end_fault, State, Empty}
 use Rattle.bac_tools.specs.Stops.{FaultStops, Stops, ScriptStops}
 use Rattle.bac_tools.specs.Output.{AppendsPart}
 use Rattle.bac_tools.specs.Device.{Refuses}
 use Rattle.bac_tools.specs.declared.device.BuildFault.{BuildFault}
 use Rattle.bac_tools.specs.declared.device.BuildFault.TheVariants as build
-use Rattle.bac_tools.specs.Fault.{Refusal}
 use Rattle.bac_tools.specs.declared.fault.ReplayFault.{ReplayFault}
 use Rattle.bac_tools.specs.declared.fault.ReplayFault.TheVariants.{BadLine, Build, Read, TooLong, Write, Memory}
-use Rattle.bac_tools.specs.Session.{State}
-use Rattle.bac_tools.specs.Session.{Empty}
 use Rattle.bac_tools.proofs.PlayLemmas.{Progress, Progress-more, Progress-end}
 
 -- ---- lines that are followed by more lines

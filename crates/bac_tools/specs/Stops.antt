@@ -2,17 +2,14 @@
 use Rattle.std.specs.Prelude.{◌≡◌, ◌⊎◌, ℕ, List, ◌++◌, Option, Ok, Err}
 use Rattle.std.specs.Io.KnownBytes.{Appends, Keeps}
 use Rattle.std.specs.Str.Lines.{lines}
-use Rattle.bac_tools.specs.Fault.{at_line, replay_fault}
+use Rattle.bac_tools.specs.Fault.{at_line, replay_fault, Refusal}
 use Rattle.bac_tools.specs.Replay.{play, PlaysAll}
-use Rattle.bac_tools.specs.Session.{step, end_fault}
+use Rattle.bac_tools.specs.Session.{step, end_fault, State, Empty}
 use Rattle.bac_tools.specs.Device.{Refuses}
 use Rattle.bac_tools.specs.declared.device.BuildFault.{BuildFault}
 use Rattle.bac_tools.specs.Output.{AppendsPart}
-use Rattle.bac_tools.specs.Fault.{Refusal}
 use Rattle.bac_tools.specs.declared.fault.ReplayFault.{ReplayFault}
 use Rattle.bac_tools.specs.declared.fault.ReplayFault.TheVariants.{BadLine, Build, Read, TooLong, Write, Memory}
-use Rattle.bac_tools.specs.Session.{State}
-use Rattle.bac_tools.specs.Session.{Empty}
 
 -- line n has this fault, and nothing was written for it
 abbrev pub IsFaultOf : Option (List ℕ) → Option (List ℕ) → ℕ → State → List ℕ → ReplayFault → Type 0

@@ -1,11 +1,11 @@
 -- Levels put together.
-use Rattle.std.proofs.Common.{◌≡◌, ℕ, zero, suc, ◌+◌, ◌<◌, ◌≤◌, List, [], ◌∷◌, ◌++◌, length, refl, sym, ap, ◌∙◌, append_assoc, append-nil, arith, inl, inr, true, false}
+use Rattle.std.proofs.Common.{◌≡◌, ℕ, zero, suc, ◌+◌, ◌<◌, List, [], ◌∷◌, ◌++◌, refl, sym, append_assoc, append-nil, arith, inl, inr, true, false}
 use Rattle.bac_wire.specs.declared.level.Token.{Token}
 use Rattle.bac_wire.specs.declared.level.Token.TheVariants.{Whole, Open, Close}
 use Rattle.bac_wire.specs.Primitive.{Primitive, Null, Boolean, Unsigned, Signed, Real, Double, Octets, Chars, Bits, Enumerated, Date, Time, Object}
-use Rattle.bac_wire.specs.Spelling.{IsTag, Spells}
+use Rattle.bac_wire.specs.Spelling.{Spells}
 use Rattle.bac_wire.specs.Canon.{canon, canon_context, contents_of, tag_octets, IsValid}
-use Rattle.bac_wire.specs.Level.{IsWhole, IsToken, AreTokens, Closes, IsLevel}
+use Rattle.bac_wire.specs.Level.{IsWhole, AreTokens, Closes, IsLevel}
 use Rattle.bac_wire.proofs.Canonical.{canon_spells, context_is, tag_is}
 
 tokens_join : (s t : List Token) (a b : List ℕ) → AreTokens s a → AreTokens t b → AreTokens (s ++ t) (a ++ b)
