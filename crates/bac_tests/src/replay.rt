@@ -1,6 +1,7 @@
 //! Scripts from their text to the text of the answers.
 
-use bac_tools::{BuildFault, LIMIT, ReplayFault, run_replay};
+use bac_device::BuildFault;
+use bac_tools::{LIMIT, ReplayFault, run_replay};
 use std::alloc::Global;
 use std::io::{self, Read, Write};
 use std::process::Abort;

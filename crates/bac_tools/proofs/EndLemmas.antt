@@ -13,9 +13,9 @@ use Rattle.bac_tools.specs.Fault.{replay_fault, Refusal}
 use Rattle.bac_tools.specs.Session.{step, end_fault, State, Empty}
 use Rattle.bac_tools.specs.Stops.{FaultStops, Stops, ScriptStops}
 use Rattle.bac_tools.specs.Output.{AppendsPart}
-use Rattle.bac_tools.specs.Device.{Refuses}
-use Rattle.bac_tools.specs.declared.device.BuildFault.{BuildFault}
-use Rattle.bac_tools.specs.declared.device.BuildFault.TheVariants as build
+use Rattle.bac_device.specs.Build.{Refuses}
+use Rattle.bac_device.specs.declared.build.BuildFault.{BuildFault}
+use Rattle.bac_device.specs.declared.build.BuildFault.TheVariants as build
 use Rattle.bac_tools.specs.declared.fault.ReplayFault.{ReplayFault}
 use Rattle.bac_tools.specs.declared.fault.ReplayFault.TheVariants.{BadLine, Build, Read, TooLong, Write, Memory}
 use Rattle.bac_tools.proofs.PlayLemmas.{Progress, Progress-more, Progress-end}
@@ -132,14 +132,10 @@ module _ (limit : ℕ) (script : List ℕ) (short : length script ≤ limit) whe
   -- the device could not be built at the end
   Ends-unbuilt : (left old new : Option (List ℕ)) (t : State) (e : BuildFault) → PlaysAll old new Empty (lines script) t → Refuses e (end_fault t) → Ends limit script left old new (Err (replay_fault e))
   unfolding Ends
-  Ends-unbuilt left old new t build.BadInstance played is =
-      (fault-whole ∙ ap at_end played.state ∙ ap (option_map Build) is, subst (Appends old new) (sym text-whole) played.text)
-  Ends-unbuilt left old new t build.BadName played is =
-      (fault-whole ∙ ap at_end played.state ∙ ap (option_map Build) is, subst (Appends old new) (sym text-whole) played.text)
-  Ends-unbuilt left old new t build.BadReplySize played is =
-      (fault-whole ∙ ap at_end played.state ∙ ap (option_map Build) is, subst (Appends old new) (sym text-whole) played.text)
   Ends-unbuilt left old new t build.Memory played is =
       (lines script, [], t, played-whole ∙ sym (append-nil (lines script)), played)
+  Ends-unbuilt left old new t fault played is =
+      (fault-whole ∙ ap at_end played.state ∙ ap (option_map Build) is, subst (Appends old new) (sym text-whole) played.text)
 
   pub Ends-done : (left old new : Option (List ℕ)) (r : Result (Unit {0}) ReplayFault)
       → OnOk r ((t : State) × PlaysAll old new Empty (lines script) t × (end_fault t ≡ None)) → IfErr r (ScriptStops old new script) → Ends limit script left old new r

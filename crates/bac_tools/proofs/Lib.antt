@@ -3,5 +3,4 @@ pub mod Splits
 pub mod LineLemmas
 pub mod PlayLemmas
 pub mod EndLemmas
-pub mod Announcements
 pub mod Moments

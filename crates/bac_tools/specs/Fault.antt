@@ -1,7 +1,7 @@
 -- Faults of lines and of replays.
 use Rattle.std.specs.Prelude.{ℕ}
-use Rattle.bac_tools.specs.declared.device.BuildFault.{BuildFault}
-use Rattle.bac_tools.specs.declared.device.BuildFault.TheVariants as build
+use Rattle.bac_device.specs.declared.build.BuildFault.{BuildFault}
+use Rattle.bac_device.specs.declared.build.BuildFault.TheVariants as build
 use Rattle.bac_tools.specs.declared.fault.LineFault as line
 use Rattle.bac_tools.specs.declared.fault.LineFault.{LineFault}
 use Rattle.bac_tools.specs.declared.fault.ReplayFault.{ReplayFault}
@@ -9,17 +9,13 @@ use Rattle.bac_tools.specs.declared.fault.ReplayFault.TheVariants.{BadLine, Buil
 
 -- the fault of a line whose event builds the device
 abbrev pub line_fault : BuildFault → LineFault
-line_fault build.BadInstance = line.TheVariants.Build build.BadInstance
-line_fault build.BadName = line.TheVariants.Build build.BadName
-line_fault build.BadReplySize = line.TheVariants.Build build.BadReplySize
 line_fault build.Memory = line.TheVariants.Memory
+line_fault fault = line.TheVariants.Build fault
 
 -- the fault of a replay whose device can't be built
 abbrev pub replay_fault : BuildFault → ReplayFault
-replay_fault build.BadInstance = Build build.BadInstance
-replay_fault build.BadName = Build build.BadName
-replay_fault build.BadReplySize = Build build.BadReplySize
 replay_fault build.Memory = Memory
+replay_fault fault = Build fault
 
 -- why a line can't be played: it is none of a script, or stands in the wrong place; or it is the first event, and the device can't be built
 pub data Refusal : Type 0 where

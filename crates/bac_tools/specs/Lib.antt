@@ -5,7 +5,6 @@ pub mod Hexadecimal
 pub mod Input
 pub mod Output
 pub mod Stamp
-pub mod Device
 pub mod Fault
 pub mod Session
 pub mod Replay

@@ -3,13 +3,16 @@ use Rattle.std.specs.Prelude.{◌≡◌, ℕ, ◌^◌, ◌==◌, ◌||◌, if◌
 use Rattle.std.specs.Str.{bytes_eq}
 use Rattle.hex.specs.Hex.{encode_lower}
 use Rattle.bac_wire.specs.OptionChain.{◌>>=◌}
-use Rattle.bac_tools.specs.Device.{answer, fault_of}
+use Rattle.bac_device.specs.Answer.{handled}
+use Rattle.bac_device.specs.Build.{build_fault, built}
+use Rattle.bac_device.specs.State.{State as Device}
 use Rattle.bac_tools.specs.Hexadecimal.{octets_in}
 use Rattle.bac_tools.specs.Number.{number_in, below}
 use Rattle.bac_tools.specs.Stamp.{stamp_in}
 use Rattle.bac_tools.specs.Words.{words_of, text_in}
-use Rattle.bac_tools.specs.declared.device.BuildFault.{BuildFault}
-use Rattle.bac_tools.specs.declared.device.DeviceLine.{DeviceLine}
+use Rattle.bac_device.specs.declared.build.BuildFault.{BuildFault}
+use Rattle.bac_device.specs.declared.lines.DeviceLine.{DeviceLine}
+use Rattle.bac_device.specs.declared.reply.Reply.{Reply}
 use Rattle.bac_tools.specs.declared.fault.LineFault.{LineFault}
 use Rattle.bac_tools.specs.declared.fault.LineFault.TheVariants as fault
 use Rattle.bac_tools.specs.Fault.{Refusal, Bad, Unbuilt}
@@ -21,7 +24,7 @@ use Rattle.bac_tools.specs.declared.session.Session.TheVariants as code
 pub data State : Type 0 where
   Empty : State
   Described : DeviceLine → State
-  Running : DeviceLine → State
+  Running : Device → State
 
 -- the same of what the code keeps
 abbrev pub state_of : Session → State
@@ -60,24 +63,24 @@ on_device (Running old) (Some line) = Err Bad
 -- ---- a line `rx`
 
 -- what an answer prints
-abbrev pub answer_text : Option (List ℕ) → List ℕ
+abbrev pub answer_text : Option Reply → List ℕ
 answer_text None = codes "none" ++ 10 ∷ []
-answer_text (Some octets) = codes "tx " ++ (encode_lower octets ++ 10 ∷ [])
+answer_text (Some reply) = codes "tx " ++ (encode_lower reply.datagram ++ 10 ∷ [])
 
 -- a device that runs answers
-abbrev pub answered : DeviceLine → List ℕ → Step
-answered line octets = Ok (answer_text (answer line octets), Running line)
+abbrev pub answered : Device → List ℕ → Step
+answered device octets = Ok (answer_text (handled device octets).0, Running (handled device octets).1)
 
 -- the first event builds the device
-abbrev pub built : Option BuildFault → DeviceLine → List ℕ → Step
-built None line octets = answered line octets
-built (Some refused) line octets = Err (Unbuilt refused)
+abbrev pub first_answered : Option BuildFault → Device → List ℕ → Step
+first_answered None device octets = answered device octets
+first_answered (Some refused) device octets = Err (Unbuilt refused)
 
 abbrev pub on_octets : State → Option (List ℕ) → Step
 on_octets s None = Err Bad
 on_octets Empty (Some octets) = Err Bad
-on_octets (Described line) (Some octets) = built (fault_of line) line octets
-on_octets (Running line) (Some octets) = answered line octets
+on_octets (Described line) (Some octets) = first_answered (build_fault line) (built line) octets
+on_octets (Running device) (Some octets) = answered device octets
 
 -- there is one word behind `rx`
 abbrev pub on_rx : State → List (List ℕ) → Step
@@ -100,8 +103,8 @@ step s line = if (length line == 0) || (slice_index line 0 == 35) then Ok ([], s
 -- what the end of a script finds: a device that no event had built
 abbrev pub end_fault : State → Option BuildFault
 end_fault Empty = None
-end_fault (Described line) = fault_of line
-end_fault (Running line) = None
+end_fault (Described line) = build_fault line
+end_fault (Running device) = None
 
 -- ---- what functions return
 

@@ -3,7 +3,7 @@
 ghost use Rattle.std.specs.Prelude.{◌≡◌};
 ghost use Rattle.bac_tools.specs.Fault.{line_fault, replay_fault, told};
 
-use crate::device::BuildFault;
+use bac_device::BuildFault;
 use thiserror::Error;
 
 /// Why a line can't be played.

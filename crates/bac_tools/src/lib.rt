@@ -5,18 +5,15 @@
 //! line from specs/Session, and `run_replay` is proved to write that text and nothing else, also
 //! where the reader, the writer or memory refuses ([`ReplayFault`]).
 //!
-//! A line passes `lines` and `words`, then `number`, `name`, `stamp` or `hexadecimal`, and
-//! `session`, which holds what the lines so far have made. The device itself, in `device`, answers
-//! Who-Is and nothing else. The program's words, its standard streams and its exit status are in
-//! the crate bac.
+//! A line passes `lines` and `words`, then `number`, `stamp` or `hexadecimal`, and
+//! `session`, which holds what the lines so far have made. The device itself is in the crate
+//! bac_device; the program's words, its standard streams and its exit status are in the crate bac.
 #![tactic(auto)]
 
-mod device;
 mod fault;
 mod hexadecimal;
 mod input;
 mod lines;
-mod name;
 mod number;
 mod output;
 mod replay;
@@ -24,6 +21,5 @@ mod session;
 mod stamp;
 mod words;
 
-pub use device::BuildFault;
 pub use fault::ReplayFault;
 pub use replay::{LIMIT, run_replay};

@@ -3,17 +3,17 @@
 ghost use Rattle.std.specs.Prelude.{◌≡◌, None, Some, IfOk, OnOk, IfErr};
 ghost use Rattle.std.specs.Option.{option_copied};
 ghost use Rattle.bac_wire.specs.OptionChain.{GivesSome};
-ghost use Rattle.bac_tools.specs.Device.{Refuses};
+ghost use Rattle.bac_device.specs.Build.{Refuses};
+ghost use Rattle.bac_device.specs.Answer.{handled};
 ghost use Rattle.bac_tools.specs.Session.{Meets, answer_text, answered, device_line, end_fault, on_device, on_octets, on_rx, line_of, step, state_of, Running};
 ghost use Rattle.bac_tools.specs.Words.{words_of};
 
-use crate::device::{BuildFault, Device, DeviceLine};
 use crate::fault::LineFault;
 use crate::hexadecimal::{octets_in, push_digits};
-use crate::name::Name;
 use crate::number::{u16_in, u32_in};
 use crate::stamp::stamp_in;
 use crate::words::{last_word, split_word, text_in};
+use bac_device::{BuildFault, Device, DeviceLine, Name, Reply};
 use bac_wire::{Datagram, Stamp};
 use std::alloc::{AllocError, Global};
 
@@ -58,14 +58,14 @@ fn device_line(words: &[u8]) -> Option<Line>
 }
 
 /// What an answer prints.
-fn print_answer(alloc: Global, answer: Option<&Datagram>) -> Result<Vec<u8>, AllocError>
+fn print_answer(alloc: Global, answer: Option<&Reply>) -> Result<Vec<u8>, AllocError>
     ensures { IfOk result (λ text. text.items ≡ answer_text (option_copied answer.entry)) }
 {
     let mut text = Vec::new(alloc);
     match answer {
-        Some(datagram) => {
+        Some(reply) => {
             text.extend_from_slice(b"tx ")?;
-            push_digits(&mut text, datagram.octets())?;
+            push_digits(&mut text, reply.datagram.octets())?;
             text.push(b'\n')?;
         }
         None => text.extend_from_slice(b"none\n")?,
@@ -74,8 +74,8 @@ fn print_answer(alloc: Global, answer: Option<&Datagram>) -> Result<Vec<u8>, All
 }
 
 /// What a device prints for a datagram.
-fn answer(device: &Device, alloc: Global, datagram: &Datagram) -> Result<Vec<u8>, LineFault>
-    ensures { Meets (λ text. (text.items, Running device.now)) result (answered device.now datagram.now) }
+fn answer(device: &mut Device, alloc: Global, datagram: &Datagram) -> Result<Vec<u8>, LineFault>
+    ensures { Meets (λ text. (text.items, Running device.new)) result (answered device.old datagram.now) }
 {
     match print_answer(alloc, device.handle(datagram.octets()).as_ref()) {
         Ok(text) => Ok(text),
@@ -116,11 +116,11 @@ impl Session {
         match self {
             Session::Empty => Err(LineFault::Bad),
             Session::Described(line) => {
-                let device = match Device::build(alloc, line) {
+                let mut device = match Device::build(alloc, line) {
                     Ok(device) => device,
                     Err(fault) => return Err(LineFault::of_build(fault)),
                 };
-                let text = answer(&device, alloc, datagram)?;
+                let text = answer(&mut device, alloc, datagram)?;
                 *self = Session::Running(device);
                 Ok(text)
             }

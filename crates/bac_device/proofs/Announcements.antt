@@ -11,7 +11,7 @@ use Rattle.bac_apdu.specs.Frame.{frame_octets}
 use Rattle.bac_apdu.specs.Service.IAm.{i_am, i_am_items}
 use Rattle.bac_apdu.specs.Npdu.{place_octets, header_octets}
 use Rattle.bac_apdu.specs.declared.service.i_am.IAm.{IAm}
-use Rattle.bac_tools.specs.Device.{plain}
+use Rattle.bac_device.specs.Answer.{plain}
 
 -- what fits is written
 pub written : {E : Type 0} (old text : List ℕ) (r : Result (Unit {0}) E) (new : List ℕ) → Writes old text r new → old ≡ [] → length text ≤ 1501 → IsOk r × (new ≡ text)

@@ -8,7 +8,7 @@ use std::marker::Model;
 
 /// A text, which contracts see as its octets.
 #[derive(Debug, Drop)]
-pub(crate) struct Name {
+pub struct Name {
     text: String,
 }
 
@@ -23,14 +23,14 @@ impl Model for Name {
 
 impl Name {
     /// The name with this text.
-    pub(crate) fn of(text: String) -> Name
+    pub fn of(text: String) -> Name
         ensures { result ≡ string_bytes text }
     {
         Name { text }
     }
 
     /// Its octets in UTF-8.
-    pub(crate) fn octets(&self) -> &[u8]
+    pub fn octets(&self) -> &[u8]
         ensures { result.now ≡ self.now }
     {
         self.text.as_bytes()

@@ -1,6 +1,6 @@
 -- What a device answers to a datagram: it takes Who-Is and gives I-Am (clause 16.10).
-use Rattle.std.specs.Prelude.{◌≡◌, ℕ, ◌==◌, ◌||◌, ◌&&◌, not, nat_lt, nat_le, Bool, true, false, is_none, if◌then◌else◌, List, [], ◌∷◌, ◌++◌, length, Option, None, Some}
-use Rattle.std.specs.List.{list_any}
+use Rattle.std.specs.Prelude.{ℕ, ◌==◌, ◌&&◌, not, nat_le, Bool, true, false, is_none, if◌then◌else◌, List, [], ◌∷◌, ◌++◌, length, Option, None, Some}
+use Rattle.std.specs.Option.{option_map}
 use Rattle.std.specs.Result.{result_ok}
 use Rattle.bac_wire.specs.Primitive.{Unsigned}
 use Rattle.bac_apdu.specs.Apdu.{Apdu, Unconfirmed, apdu_at, apdu_octets}
@@ -13,33 +13,9 @@ use Rattle.bac_apdu.specs.Npdu.{Header, Place, header_at, header_octets}
 use Rattle.bac_wire.specs.OptionChain.{◌>>=◌}
 use Rattle.bac_apdu.specs.Service.WhoIs.{who_is}
 use Rattle.bac_apdu.specs.declared.service.i_am.IAm.{IAm}
-use Rattle.bac_tools.specs.declared.device.BuildFault.{BuildFault}
-use Rattle.bac_tools.specs.declared.device.BuildFault.TheVariants.{BadInstance, BadName, BadReplySize, Memory}
-use Rattle.bac_tools.specs.declared.device.DeviceLine.{DeviceLine}
-
--- ---- building
-
--- Control characters. In UTF-8 each is one octet, and no octet of another character is one of these.
-abbrev pub is_control : ℕ → Bool
-is_control octet = nat_lt octet 32 || octet == 127
-
--- a name has 1 to 64 octets, and none of them is a control character
-abbrev pub is_name : List ℕ → Bool
-is_name name = nat_le 1 (length name) && nat_le (length name) 64 && not (list_any is_control name)
-
--- the first fault of a device line
-abbrev pub fault_of : DeviceLine → Option BuildFault
-fault_of line =
-    if nat_lt 4194302 line.instance then Some BadInstance else
-    if not (is_name line.name) then Some BadName else
-    if nat_lt line.reply_size 50 || nat_lt 1476 line.reply_size then Some BadReplySize else None
-
--- A line with this fault is refused so. Want of memory is met only by a line without a fault.
-abbrev pub Refuses : BuildFault → Option BuildFault → Type 0
-Refuses BadInstance fault = fault ≡ Some BadInstance
-Refuses BadName fault = fault ≡ Some BadName
-Refuses BadReplySize fault = fault ≡ Some BadReplySize
-Refuses Memory fault = fault ≡ None
+use Rattle.bac_device.specs.State.{State}
+use Rattle.bac_device.specs.declared.reply.Reply.{Reply}
+use Rattle.bac_device.specs.declared.reply.Receiver.TheVariants.{Sender}
 
 -- ---- numbers of the standard
 
@@ -109,22 +85,30 @@ asks_for instance other = false
 -- ---- what is answered
 
 -- its identifier, the greatest APDU that it takes, that it doesn't segment, its vendor
-abbrev pub announcement : DeviceLine → IAm
-announcement line =
-    record { device = record { kind = device; instance = line.instance }; max_apdu = line.reply_size; segmentation = no_segmentation; vendor = line.vendor }
+abbrev pub announcement : State → IAm
+announcement state =
+    record { device = record { kind = device; instance = state.instance }; max_apdu = state.reply_size; segmentation = no_segmentation; vendor = state.vendor }
 
 -- no destination, no source, no reply expected, normal priority
 abbrev pub plain : Header
 plain = record { network = false; reply = false; priority = 0; dest = None; source = None; hops = 0 }
 
 -- the I-Am of a device in a datagram to one receiver
-unfoldable pub reply : DeviceLine → List ℕ
-reply line = frame_octets (header_octets plain ++ apdu_octets (Unconfirmed i_am_service (canon_form i_am (i_am_items (announcement line)))))
+unfoldable pub i_am_datagram : State → List ℕ
+i_am_datagram state = frame_octets (header_octets plain ++ apdu_octets (Unconfirmed i_am_service (canon_form i_am (i_am_items (announcement state)))))
 
--- what a device answers to a datagram
-unfoldable pub answer : DeviceLine → List ℕ → Option (List ℕ)
-answer line datagram = do
+-- the datagram that answers this one
+unfoldable pub answer : State → List ℕ → Option (List ℕ)
+answer state datagram = do
   npdu ← npdu_at datagram
   apdu ← heard_at npdu
   items ← who_is_at apdu
-  if asks_for line.instance items then Some (reply line) else None
+  if asks_for state.instance items then Some (i_am_datagram state) else None
+
+-- an answer to who sent what it answers
+abbrev pub to_sender : List ℕ → Reply
+to_sender datagram = record { datagram = datagram; to = Sender }
+
+-- what a device does with a datagram: its answer, and the state after
+abbrev pub handled : State → List ℕ → Option Reply × State
+handled state datagram = (option_map to_sender (answer state datagram), state)

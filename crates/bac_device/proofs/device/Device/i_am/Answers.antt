@@ -4,9 +4,9 @@ use Rattle.bac_apdu.specs.FormCanon.{canon_form}
 use Rattle.bac_apdu.specs.Frame.{frame_octets}
 use Rattle.bac_apdu.specs.Service.IAm.{i_am, i_am_items}
 use Rattle.bac_apdu.specs.Npdu.{header_octets}
-use Rattle.bac_tools.specs.Device.{plain, reply}
-use Rattle.bac_tools.proofs.Announcements.{written, announcement-len, reply-len}
-use Rattle.bac_tools.proofs.device.Device.reply.Goals as goal
+use Rattle.bac_device.specs.Answer.{plain, i_am_datagram}
+use Rattle.bac_device.proofs.Announcements.{written, announcement-len, reply-len}
+use Rattle.bac_device.proofs.device.Device.i_am.Goals as goal
 
 pub unwrap-requires : goal.unwrap-requires
 unwrap-requires c =
@@ -30,7 +30,7 @@ unwrap-requires-3 c =
     (written c.new-datagram.result (frame_octets (header_octets plain ++ c.octets-2.result.now)) c.write_datagram.result c.write_datagram.new.out c.write_datagram.ensures c.new-datagram.ensures (omega (arith, reply-len c.octets-2.result.now short))).0
 
 pub returns : goal.returns
-unfolding reply
+unfolding i_am_datagram
 returns c =
     let a = c.announcement.result in
     let parameters = written c.new-parameters.result (canon_form i_am (i_am_items a)) c.write.result c.write.new.out c.write.ensures c.new-parameters.ensures (omega (arith, announcement-len a)) in

@@ -1,0 +1,3 @@
+pub mod State
+pub mod Build
+pub mod Answer

@@ -1,0 +1,12 @@
+-- What a device is between two calls.
+use Rattle.std.specs.Prelude.{ℕ, List}
+use Rattle.bac_wire.specs.Stamp.{CivilTime}
+
+pub record State : Type 0 where
+  -- the number of its identifier, its name in octets, and the number of its vendor
+  pub instance : ℕ
+  pub name : List ℕ
+  pub vendor : ℕ
+  -- the greatest number of octets of an APDU that it takes and sends
+  pub reply_size : ℕ
+  pub clock : CivilTime
