@@ -6,6 +6,8 @@ pub mod Input
 pub mod Output
 pub mod Stamp
 pub mod Fault
+pub mod Line
 pub mod Session
+pub mod Views
 pub mod Replay
 pub mod Stops

@@ -13,6 +13,7 @@
 mod fault;
 mod hexadecimal;
 mod input;
+mod line;
 mod lines;
 mod number;
 mod output;

@@ -5,7 +5,8 @@ ghost use Rattle.bac_tools.specs.Input.{ConsumesUpTo};
 ghost use Rattle.std.specs.Str.Lines.{lines};
 ghost use Rattle.bac_tools.specs.Lines.{ended_lines, open_line, last_if_any};
 ghost use Rattle.bac_tools.specs.Replay.{PlaysAll, Replays};
-ghost use Rattle.bac_tools.specs.Session.{State, Empty, state_of, step, end_fault};
+ghost use Rattle.bac_tools.specs.Session.{State, Empty, step, end_fault};
+ghost use Rattle.bac_tools.specs.Views.{state_of};
 ghost use Rattle.bac_tools.specs.Stops.{LineStops, Stops, ScriptStops};
 
 use crate::fault::ReplayFault;
@@ -31,7 +32,7 @@ fn play_line<W: Write>(
         × Appends (W.contents writer.old) (W.contents writer.new) text) }
     ensures err { IfErr result (LineStops (W.contents writer.old) (W.contents writer.new) number (state_of session.old) line.now) }
 {
-    let text = match session.play(alloc, line) {
+    let text = match session.play_text(alloc, line) {
         Ok(text) => text,
         Err(fault) => return Err(fault.at_line(number)),
     };

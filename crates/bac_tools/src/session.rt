@@ -1,20 +1,15 @@
 //! What the lines so far have made, and what one line does.
 
-ghost use Rattle.std.specs.Prelude.{◌≡◌, None, Some, IfOk, OnOk, IfErr};
+ghost use Rattle.std.specs.Prelude.{◌≡◌, None, IfOk, OnOk, IfErr};
 ghost use Rattle.std.specs.Option.{option_copied};
-ghost use Rattle.bac_wire.specs.OptionChain.{GivesSome};
 ghost use Rattle.bac_device.specs.Build.{Refuses};
-ghost use Rattle.bac_device.specs.Answer.{handled};
-ghost use Rattle.bac_tools.specs.Session.{Meets, answer_text, answered, device_line, end_fault, on_device, on_octets, on_rx, line_of, step, state_of, Running};
-ghost use Rattle.bac_tools.specs.Words.{words_of};
+ghost use Rattle.bac_tools.specs.Session.{answer_text, end_fault, happens, on_device, on_event, on_line, step};
+ghost use Rattle.bac_tools.specs.Views.{Meets, event_of, line_of, state_of};
 
 use crate::fault::LineFault;
-use crate::hexadecimal::{octets_in, push_digits};
-use crate::number::{u16_in, u32_in};
-use crate::stamp::stamp_in;
-use crate::words::{last_word, split_word, text_in};
-use bac_device::{BuildFault, Device, DeviceLine, Name, Reply};
-use bac_wire::{Datagram, Stamp};
+use crate::hexadecimal::push_digits;
+use crate::line::{Event, Line, is_silent};
+use bac_device::{BuildFault, Device, DeviceLine, Reply};
 use std::alloc::{AllocError, Global};
 
 /// What the lines so far have made.
@@ -22,39 +17,10 @@ use std::alloc::{AllocError, Global};
 pub(crate) enum Session {
     /// No device line.
     Empty,
-    /// A device line, and no event line.
+    /// A device line, and no event.
     Described(DeviceLine),
-    /// A device that answers.
+    /// A device to which events happen.
     Running(Device),
-}
-
-/// A device line, whose name still lies in the script.
-#[derive(Clone, Copy, Debug)]
-struct Line<'a> {
-    instance: u32,
-    name: &'a str,
-    vendor: u16,
-    reply_size: u16,
-    clock: Stamp,
-}
-
-/// What the words behind `device` say.
-#[tactic(auto, unfolding(crate::specs::Session::device_line))]
-fn device_line(words: &[u8]) -> Option<Line>
-    ensures { GivesSome line_of result (device_line (words_of words.now)) }
-{
-    let (instance, rest) = split_word(words)?;
-    let (name, rest) = split_word(rest)?;
-    let (vendor, rest) = split_word(rest)?;
-    let (reply_size, rest) = split_word(rest)?;
-    let clock = last_word(rest)?;
-    Some(Line {
-        instance: u32_in(instance)?,
-        name: text_in(name)?,
-        vendor: u16_in(vendor)?,
-        reply_size: u16_in(reply_size)?,
-        clock: stamp_in(clock)?,
-    })
 }
 
 /// What an answer prints.
@@ -73,45 +39,35 @@ fn print_answer(alloc: Global, answer: Option<&Reply>) -> Result<Vec<u8>, AllocE
     Ok(text)
 }
 
-/// What a device prints for a datagram.
-fn answer(device: &mut Device, alloc: Global, datagram: &Datagram) -> Result<Vec<u8>, LineFault>
-    ensures { Meets (λ text. (text.items, Running device.new)) result (answered device.old datagram.now) }
+/// What an event at a device prints.
+fn happen(device: &mut Device, alloc: Global, event: &Event) -> Result<Vec<u8>, AllocError>
+    ensures { IfOk result (λ text. happens device.old (event_of event.now) ≡ (text.items, device.new)) }
 {
-    match print_answer(alloc, device.handle(datagram.octets()).as_ref()) {
-        Ok(text) => Ok(text),
-        Err(_) => Err(LineFault::Memory),
+    match event {
+        Event::Received(datagram) => {
+            let reply = device.handle(datagram.octets());
+            print_answer(alloc, reply.as_ref())
+        }
     }
 }
 
 impl Session {
-    /// Plays a line `device` with these words behind it.
-    fn play_device(&mut self, alloc: Global, words: &[u8]) -> Result<Vec<u8>, LineFault>
-        ensures { Meets (λ text. (text.items, state_of self.new)) result (on_device (state_of self.old) (device_line (words_of words.now))) }
+    /// Plays a device line.
+    fn play_device(&mut self, alloc: Global, line: DeviceLine) -> Result<Vec<u8>, LineFault>
+        ensures { Meets (λ text. (text.items, state_of self.new)) result (on_device (state_of self.old) line) }
     {
-        let Some(line) = device_line(words) else {
-            return Err(LineFault::Bad);
-        };
-        let Session::Empty = self else {
-            return Err(LineFault::Bad);
-        };
-        match String::from_str(alloc, line.name) {
-            Ok(name) => {
-                *self = Session::Described(DeviceLine {
-                    instance: line.instance,
-                    name: Name::of(name),
-                    vendor: line.vendor,
-                    reply_size: line.reply_size,
-                    clock: line.clock,
-                });
+        match self {
+            Session::Empty => {
+                *self = Session::Described(line);
                 Ok(Vec::new(alloc))
             }
-            Err(_) => Err(LineFault::Memory),
+            _ => Err(LineFault::Bad),
         }
     }
 
-    /// Plays a datagram that was received.
-    fn play_datagram(&mut self, alloc: Global, datagram: &Datagram) -> Result<Vec<u8>, LineFault>
-        ensures { Meets (λ text. (text.items, state_of self.new)) result (on_octets (state_of self.old) (Some datagram.now)) }
+    /// Plays an event.
+    fn play_event(&mut self, alloc: Global, event: &Event) -> Result<Vec<u8>, LineFault>
+        ensures { Meets (λ text. (text.items, state_of self.new)) result (on_event (state_of self.old) (event_of event.now)) }
     {
         match self {
             Session::Empty => Err(LineFault::Bad),
@@ -120,45 +76,44 @@ impl Session {
                     Ok(device) => device,
                     Err(fault) => return Err(LineFault::of_build(fault)),
                 };
-                let text = answer(&mut device, alloc, datagram)?;
-                *self = Session::Running(device);
-                Ok(text)
+                match happen(&mut device, alloc, event) {
+                    Ok(text) => {
+                        *self = Session::Running(device);
+                        Ok(text)
+                    }
+                    Err(_) => Err(LineFault::Memory),
+                }
             }
-            Session::Running(device) => answer(device, alloc, datagram),
-        }
-    }
-
-    /// Plays a line `rx` with these words behind it.
-    fn play_rx(&mut self, alloc: Global, words: &[u8]) -> Result<Vec<u8>, LineFault>
-        ensures { Meets (λ text. (text.items, state_of self.new)) result (on_rx (state_of self.old) (words_of words.now)) }
-    {
-        let Some(word) = last_word(words) else {
-            return Err(LineFault::Bad);
-        };
-        match octets_in(word) {
-            Some(datagram) => self.play_datagram(alloc, &datagram),
-            None => Err(LineFault::Bad),
+            Session::Running(device) => match happen(device, alloc, event) {
+                Ok(text) => Ok(text),
+                Err(_) => Err(LineFault::Memory),
+            },
         }
     }
 
     /// Plays one line, and answers what it prints.
-    #[tactic(auto, unfolding(crate::specs::Session::step, crate::specs::Session::device_line))]
-    pub(crate) fn play(&mut self, alloc: Global, line: &[u8]) -> Result<Vec<u8>, LineFault>
-        ensures { Meets (λ text. (text.items, state_of self.new)) result (step (state_of self.old) line.now) }
+    pub(crate) fn play(&mut self, alloc: Global, line: Line) -> Result<Vec<u8>, LineFault>
+        ensures { Meets (λ text. (text.items, state_of self.new)) result (on_line (state_of self.old) (line_of line)) }
     {
-        if line.is_empty() || line[0] == b'#' {
+        match line {
+            Line::Device(words) => self.play_device(alloc, words),
+            Line::Happens(event) => self.play_event(alloc, &event),
+        }
+    }
+
+    /// Plays the line that a text says, and answers what it prints.
+    #[tactic(auto, unfolding(crate::specs::Session::step))]
+    pub(crate) fn play_text(&mut self, alloc: Global, text: &[u8]) -> Result<Vec<u8>, LineFault>
+        ensures { Meets (λ printed. (printed.items, state_of self.new)) result (step (state_of self.old) text.now) }
+    {
+        if is_silent(text) {
             return Ok(Vec::new(alloc));
         }
-        let Some((word, words)) = split_word(line) else {
-            return Err(LineFault::Bad);
-        };
-        if word == b"device".as_slice() {
-            return self.play_device(alloc, words);
+        match Line::read(alloc, text) {
+            Ok(Some(line)) => self.play(alloc, line),
+            Ok(None) => Err(LineFault::Bad),
+            Err(_) => Err(LineFault::Memory),
         }
-        if word == b"rx".as_slice() {
-            return self.play_rx(alloc, words);
-        }
-        Err(LineFault::Bad)
     }
 
     /// Builds the device at the end of a script, where no event has.

@@ -1,4 +1,4 @@
-use Rattle.bac_tools.specs.Session.{state_of}
+use Rattle.bac_tools.specs.Views.{state_of}
 use Rattle.std.proofs.Common.{arith, ◌≡◌, ◌<◌, [], ◌∷◌, length}
 use Rattle.std.proofs.lemmas.Result.{err_from_is_err_and, on_ok_weaker, IfErr-weaker}
 use Rattle.std.proofs.lemmas.Grind.{common_steps}

@@ -1,0 +1,45 @@
+-- What the code keeps and returns, seen as the definitions see it. Only private calls cite these.
+use Rattle.std.specs.Prelude.{◌≡◌, ℕ, List, Result, Ok, Err}
+use Rattle.bac_wire.specs.Stamp.{CivilTime}
+use Rattle.bac_tools.specs.Fault.{Refusal, Bad, Unbuilt}
+use Rattle.bac_tools.specs.Line.{Event, Received, ScriptLine, Device, Happens}
+use Rattle.bac_tools.specs.Session.{State, Empty, Described, Running}
+use Rattle.bac_tools.specs.declared.fault.LineFault.{LineFault}
+use Rattle.bac_tools.specs.declared.fault.LineFault.TheVariants as fault
+use Rattle.bac_tools.specs.declared.line.Event as event
+use Rattle.bac_tools.specs.declared.line.Line as line
+use Rattle.bac_tools.specs.declared.session.Session.{Session}
+use Rattle.bac_tools.specs.declared.session.Session.TheVariants as session
+
+-- ---- a line
+
+-- what a device line says
+abbrev pub device_of : ℕ → List ℕ → ℕ → ℕ → CivilTime → ScriptLine
+device_of instance name vendor reply clock = Device (record { instance = instance; name = name; vendor = vendor; reply_size = reply; clock = clock })
+
+abbrev pub event_of : event.Event → Event
+event_of (event.TheVariants.Received datagram) = Received datagram
+
+abbrev pub line_of : line.Line → ScriptLine
+line_of (line.TheVariants.Device line) = Device line
+line_of (line.TheVariants.Happens happened) = Happens (event_of happened)
+
+-- ---- what the lines so far have made
+
+abbrev pub state_of : Session → State
+state_of session.Empty = Empty
+state_of (session.Described line) = Described line
+state_of (session.Running device) = Running device
+
+-- ---- what functions return
+
+-- The refusal is the one that the definition says. Want of memory can come in place of anything.
+abbrev pub Fails : {Y : Type 0} → LineFault → Result Y Refusal → Type 0
+Fails fault.Bad said = said ≡ Err Bad
+Fails (fault.Build refused) said = said ≡ Err (Unbuilt refused)
+Fails fault.Memory said = Unit {0}
+
+-- what a function returned, seen by view, is what the definition says, unless memory ran out
+abbrev pub Meets : {X Y : Type 0} → (X → Y) → Result X LineFault → Result Y Refusal → Type 0
+Meets view (Ok x) said = said ≡ Ok (view x)
+Meets view (Err f) said = Fails f said

@@ -1,0 +1,103 @@
+//! What one line of a script says.
+
+ghost use Rattle.std.specs.Prelude.{◌≡◌, IfOk};
+ghost use Rattle.std.specs.Option.{option_map};
+ghost use Rattle.bac_wire.specs.OptionChain.{GivesSome};
+ghost use Rattle.bac_tools.specs.Line.{device_line, is_silent, line_in, rx_line};
+ghost use Rattle.bac_tools.specs.Views.{device_of, line_of};
+ghost use Rattle.bac_tools.specs.Words.{words_of};
+
+use crate::hexadecimal::octets_in;
+use crate::number::{u16_in, u32_in};
+use crate::stamp::stamp_in;
+use crate::words::{last_word, split_word, text_in};
+use bac_device::{DeviceLine, Name};
+use bac_wire::{Datagram, Stamp};
+use std::alloc::{AllocError, Global};
+
+/// What happens to a device.
+#[derive(Debug, Drop)]
+pub(crate) enum Event {
+    /// It receives a datagram.
+    Received(Datagram),
+}
+
+/// What a line says.
+#[derive(Debug, Drop)]
+pub(crate) enum Line {
+    /// The device.
+    Device(DeviceLine),
+    /// An event.
+    Happens(Event),
+}
+
+/// What the words of a device line say; its name still lies in the script.
+#[tactic(auto, unfolding(crate::specs::Line::device_line))]
+fn device_words(words: &[u8]) -> Option<(u32, &str, u16, u16, Stamp)>
+    ensures { GivesSome (λ x. device_of x.0 x.1.now x.2 x.3 x.4) result (device_line (words_of words.now)) }
+{
+    let (instance, rest) = split_word(words)?;
+    let (name, rest) = split_word(rest)?;
+    let (vendor, rest) = split_word(rest)?;
+    let (reply_size, rest) = split_word(rest)?;
+    let clock = last_word(rest)?;
+    Some((
+        u32_in(instance)?,
+        text_in(name)?,
+        u16_in(vendor)?,
+        u16_in(reply_size)?,
+        stamp_in(clock)?,
+    ))
+}
+
+/// The line of a device.
+fn device_line(alloc: Global, words: &[u8]) -> Result<Option<Line>, AllocError>
+    ensures { IfOk result (λ line. device_line (words_of words.now) ≡ option_map line_of line) }
+{
+    let Some((instance, name, vendor, reply_size, clock)) = device_words(words) else {
+        return Ok(None);
+    };
+    let name = Name::of(String::from_str(alloc, name)?);
+    Ok(Some(Line::Device(DeviceLine {
+        instance,
+        name,
+        vendor,
+        reply_size,
+        clock,
+    })))
+}
+
+/// The line of a datagram that is received.
+#[tactic(auto, unfolding(crate::specs::Line::rx_line))]
+fn rx_line(words: &[u8]) -> Option<Line>
+    ensures { rx_line (words_of words.now) ≡ option_map line_of result }
+{
+    let hex = last_word(words)?;
+    Some(Line::Happens(Event::Received(octets_in(hex)?)))
+}
+
+/// Whether a text is empty or a comment.
+pub(crate) fn is_silent(text: &[u8]) -> bool
+    ensures { result ≡ is_silent text.now }
+{
+    text.is_empty() || text[0] == b'#'
+}
+
+impl Line {
+    /// What a text says that is neither empty nor a comment, where it is a line of a script.
+    #[tactic(auto, unfolding(crate::specs::Line::line_in, crate::specs::Line::device_line, crate::specs::Line::rx_line))]
+    pub(crate) fn read(alloc: Global, text: &[u8]) -> Result<Option<Line>, AllocError>
+        ensures { IfOk result (λ line. line_in text.now ≡ option_map line_of line) }
+    {
+        let Some((word, words)) = split_word(text) else {
+            return Ok(None);
+        };
+        if word == b"device".as_slice() {
+            return device_line(alloc, words);
+        }
+        if word == b"rx".as_slice() {
+            return Ok(rx_line(words));
+        }
+        Ok(None)
+    }
+}
