@@ -1,1 +1,2 @@
 pub mod Announcements
+pub mod Builds

@@ -1,3 +1,4 @@
 pub mod State
 pub mod Build
+pub mod Clock
 pub mod Answer

@@ -1,6 +1,8 @@
 -- What a device is between two calls.
 use Rattle.std.specs.Prelude.{ℕ, List}
+use Rattle.bac_wire.specs.Primitive.{Id}
 use Rattle.bac_wire.specs.Stamp.{CivilTime}
+use Rattle.bac_device.specs.declared.object.Object.{Object}
 
 pub record State : Type 0 where
   -- the number of its identifier, its name in octets, and the number of its vendor
@@ -10,3 +12,5 @@ pub record State : Type 0 where
   -- the greatest number of octets of an APDU that it takes and sends
   pub reply_size : ℕ
   pub clock : CivilTime
+  -- its objects, in the order of their lines and without itself
+  pub objects : List (Id × Object)

@@ -1,20 +1,23 @@
 //! A device, and what it does with a datagram.
 
-ghost use Rattle.std.specs.Prelude.{◌≡◌, None, IfOk};
+ghost use Rattle.std.specs.Prelude.{◌≡◌, [], None, IfOk};
 ghost use Rattle.std.specs.Option.{option_copied};
 ghost use Rattle.bac_wire.specs.OptionChain.{GivesSome};
 ghost use Rattle.bac_apdu.specs.Npdu.{header_of};
 ghost use Rattle.bac_apdu.specs.Service.WhoIs.{who_is_items};
-ghost use Rattle.bac_device.specs.Build.{build_fault, built};
+ghost use Rattle.bac_device.specs.Build.{built, device_fault};
+ghost use Rattle.bac_device.specs.Clock.{Advances, advanced};
 ghost use Rattle.bac_device.specs.Answer.{npdu_at, is_heard, heard_at, who_is_at, asks_for, announcement, i_am_datagram, answer, handled};
 
 use crate::lines::DeviceLine;
 use crate::name::Name;
+use crate::object::Object;
 use crate::reply::{Receiver, Reply};
 use bac_apdu::{
     Apdu, Frame, IAm, Npdu, WhoIs, read_apdu, read_frame, read_npdu, write_apdu, write_datagram,
 };
 use bac_wire::{Datagram, ObjectId, Stamp};
+use indexmap::IndexMap;
 use std::alloc::{AllocError, Global};
 use std::marker::Model;
 
@@ -43,14 +46,19 @@ const PLAIN: Npdu = Npdu {
     hops: 0,
 };
 
+/// A clock isn't set back.
+#[derive(Clone, Copy, Debug, PartialEq, Eq)]
+pub struct ClockBack;
+
 /// A device, which contracts see as its state.
-#[derive(Debug, Drop)]
+#[derive(Drop)]
 pub struct Device {
     instance: u32,
     name: Name,
     vendor: u16,
     reply_size: u16,
     clock: Stamp,
+    objects: IndexMap<ObjectId, Object>,
 }
 
 impl Model for Device {
@@ -59,16 +67,20 @@ impl Model for Device {
 
     ghost Value = { State };
 
-    ghost view = { λ device. record { instance = device.instance; name = device.name; vendor = device.vendor; reply_size = device.reply_size; clock = device.clock } };
+    ghost view = { λ device. record { instance = device.instance; name = device.name; vendor = device.vendor; reply_size = device.reply_size; clock = device.clock; objects = device.objects.entries } };
 
     ghost invariant = { λ device. device.instance ≤ 4194302 };
 }
 
 impl Device {
-    /// The device of a line that has no fault.
-    pub(crate) fn of(alloc: Global, line: &DeviceLine) -> Result<Device, AllocError>
-        requires { build_fault line.now ≡ None }
-        ensures { IfOk result (λ device. device ≡ built line.now) }
+    /// The device of a line that has no fault, with these objects.
+    pub(crate) fn of(
+        alloc: Global,
+        line: &DeviceLine,
+        objects: IndexMap<ObjectId, Object>,
+    ) -> Result<Device, AllocError>
+        requires { device_fault line.now ≡ None }
+        ensures { IfOk result (λ device. device ≡ record (built line.now []) { objects = objects.entries }) }
     {
         Ok(Device {
             instance: line.instance,
@@ -76,7 +88,20 @@ impl Device {
             vendor: line.vendor,
             reply_size: line.reply_size,
             clock: line.clock,
+            objects,
         })
+    }
+
+    /// Sets the clock, and answers how many samples the logs took.
+    #[tactic(auto, unfolding(crate::specs::Clock::advanced))]
+    pub fn advance(&mut self, stamp: Stamp) -> Result<usize, ClockBack>
+        ensures { Advances result self.old self.new (advanced self.old stamp) }
+    {
+        if stamp.ticks() < self.clock.ticks() {
+            return Err(ClockBack);
+        }
+        self.clock = stamp;
+        Ok(0)
     }
 
     /// Takes a datagram, and gives its answer where there is one.

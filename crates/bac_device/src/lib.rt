@@ -11,10 +11,12 @@ mod build;
 mod device;
 mod lines;
 mod name;
+mod object;
 mod reply;
 
 pub use build::BuildFault;
-pub use device::Device;
-pub use lines::DeviceLine;
+pub use device::{ClockBack, Device};
+pub use lines::{DeviceLine, ObjectLine};
 pub use name::Name;
+pub use object::{Body, Object};
 pub use reply::{Receiver, Reply};

@@ -121,7 +121,7 @@ fn lines_are_counted_and_cut(rt: HostRuntime) -> Result<(), Fail> {
 }
 
 /// Lines that are bad as the second of a script whose first is the device.
-const BAD: [&[u8]; 12] = [
+const BAD: [&[u8]; 17] = [
     b"rx\n",
     b"rx \n",
     b"rx 0g\n",
@@ -132,12 +132,19 @@ const BAD: [&[u8]; 12] = [
     b"rx 00\r",
     b"rx 00 00\n",
     b"\r",
-    b"binary 1 pump 0\n",
+    b"integer 1 level 0\n",
+    b"binary 1 pump\n",
+    b"binary 1  0\n",
+    b"binary 4294967296 pump 0\n",
+    b"multistate 1 mode 3\n",
+    b"clock 2024-05-06\n",
     b"device 123 plant 0 1476 2024-05-06T07:08:09.10\n",
 ];
 
 /// Lines that are bad as the first.
-const NO_DEVICE: [&[u8]; 15] = [
+const NO_DEVICE: [&[u8]; 17] = [
+    b"binary 1 pump 0\n",
+    b"clock 2024-05-06T07:09:09.09\n",
     b"rx 00\n",
     b"device\n",
     b"device 123 plant 0 1476\n",
@@ -245,6 +252,78 @@ fn devices_are_built_at_the_first_event(rt: HostRuntime) -> Result<(), Fail> {
     // A bad event line comes before the device.
     let bad = Err(ReplayFault::BadLine(2));
     plays(&rt, rt.alloc(), &[line, CLOCK, b"rx 8\n"], &[], bad)
+}
+
+/// Object lines behind Device 123, and the fault of the device.
+const OBJECTS: [(&[u8], Option<BuildFault>); 16] = [
+    (
+        b"binary 1 pump 0\nbinary 2 fan 1\nmultistate 1 mode 3 3\n",
+        None,
+    ),
+    (b"binary 4194302 pump 0\n", None),
+    (b"binary 4194303 pump 0\n", Some(BuildFault::BadInstance)),
+    (
+        b"binary 1 pump 0\nbinary 1 fan 0\n",
+        Some(BuildFault::DuplicateId),
+    ),
+    (b"binary 1 p\x7f 0\n", Some(BuildFault::BadName)),
+    (
+        b"binary 1 pump 0\nbinary 2 pump 0\n",
+        Some(BuildFault::DuplicateName),
+    ),
+    (b"binary 1 plant 0\n", Some(BuildFault::DuplicateName)),
+    (b"binary 1 pump 2\n", Some(BuildFault::BadDefault)),
+    (b"multistate 1 mode 0 0\n", Some(BuildFault::BadStates)),
+    (b"multistate 1 mode 65535 65535\n", None),
+    (b"multistate 1 mode 65536 1\n", Some(BuildFault::BadStates)),
+    (b"multistate 1 mode 3 0\n", Some(BuildFault::BadDefault)),
+    (b"multistate 1 mode 3 4\n", Some(BuildFault::BadDefault)),
+    // The first faulty line comes first, and of a line the first test in their order.
+    (
+        b"multistate 1 mode 0 0\nbinary 4194303 pump 0\n",
+        Some(BuildFault::BadStates),
+    ),
+    (
+        b"binary 1 pump 0\nbinary 1 pump 2\n",
+        Some(BuildFault::DuplicateId),
+    ),
+    (b"binary 1 plant 2\n", Some(BuildFault::DuplicateName)),
+];
+
+#[test]
+fn objects_are_built(rt: HostRuntime) -> Result<(), Fail> {
+    for (lines, fault) in OBJECTS {
+        let (text, ended): (&[u8], _) = match fault {
+            Some(fault) => (b"", Err(ReplayFault::Build(fault))),
+            None => (I_AM, Ok(())),
+        };
+        plays(&rt, rt.alloc(), &[DEVICE, lines, WHO_IS], &[text], ended)?;
+        plays(&rt, rt.alloc(), &[DEVICE, lines], &[], ended)?;
+    }
+    // An object line behind an event.
+    let bad = Err(ReplayFault::BadLine(3));
+    plays(
+        &rt,
+        rt.alloc(),
+        &[DEVICE, WHO_IS, b"binary 1 pump 0\n"],
+        &[I_AM],
+        bad,
+    )
+}
+
+#[test]
+fn the_clock_is_not_set_back(rt: HostRuntime) -> Result<(), Fail> {
+    plays(
+        &rt,
+        rt.alloc(),
+        &[
+            DEVICE,
+            b"clock 2024-05-06T07:08:09.10\nclock 2024-05-06T07:08:09.09\n",
+            b"clock 2024-05-06T07:09:09.10\nclock 2024-05-06T07:09:09.09\n",
+        ],
+        &[b"sampled 0\nclock back\nsampled 0\nclock back\n"],
+        Ok(()),
+    )
 }
 
 /// A reader over memory that refuses the read after so many.

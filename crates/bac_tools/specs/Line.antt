@@ -2,18 +2,23 @@
 use Rattle.std.specs.Prelude.{ℕ, ◌^◌, ◌==◌, ◌||◌, Bool, if◌then◌else◌, List, [], ◌∷◌, length, slice_index, codes, Option, None, Some}
 use Rattle.std.specs.Str.{bytes_eq}
 use Rattle.bac_wire.specs.OptionChain.{◌>>=◌}
+use Rattle.bac_wire.specs.Stamp.{CivilTime}
 use Rattle.bac_device.specs.declared.lines.DeviceLine.{DeviceLine}
+use Rattle.bac_device.specs.declared.lines.ObjectLine.{ObjectLine}
+use Rattle.bac_device.specs.declared.lines.ObjectLine.TheVariants.{Binary, Multistate}
 use Rattle.bac_tools.specs.Hexadecimal.{octets_in}
 use Rattle.bac_tools.specs.Number.{number_in, below}
 use Rattle.bac_tools.specs.Stamp.{stamp_in}
 use Rattle.bac_tools.specs.Words.{words_of, text_in}
 
--- what happens to a device: it receives these octets
+-- what happens to a device: it receives these octets, or its clock comes to this moment
 pub data Event : Type 0 where
   Received : List ℕ → Event
+  Clocked : CivilTime → Event
 
 pub data ScriptLine : Type 0 where
   Device : DeviceLine → ScriptLine
+  Object : ObjectLine → ScriptLine
   Happens : Event → ScriptLine
 
 -- ---- what the words behind the first one say, by the kind of the line
@@ -29,12 +34,38 @@ device_line (instance ∷ name ∷ vendor ∷ reply ∷ clock ∷ []) = do
   Some (Device (record { instance = instance; name = name; vendor = vendor; reply_size = reply; clock = clock }))
 device_line words = None
 
+-- binary INSTANCE NAME DEFAULT
+unfoldable pub binary_line : List (List ℕ) → Option ScriptLine
+binary_line (instance ∷ name ∷ default ∷ []) = do
+  instance ← below (2 ^ 32) (number_in instance)
+  name ← text_in name
+  default ← below (2 ^ 32) (number_in default)
+  Some (Object (Binary instance name default))
+binary_line words = None
+
+-- multistate INSTANCE NAME STATES DEFAULT
+unfoldable pub multistate_line : List (List ℕ) → Option ScriptLine
+multistate_line (instance ∷ name ∷ states ∷ default ∷ []) = do
+  instance ← below (2 ^ 32) (number_in instance)
+  name ← text_in name
+  states ← below (2 ^ 32) (number_in states)
+  default ← below (2 ^ 32) (number_in default)
+  Some (Object (Multistate instance name states default))
+multistate_line words = None
+
 -- rx HEX
 unfoldable pub rx_line : List (List ℕ) → Option ScriptLine
 rx_line (hex ∷ []) = do
   datagram ← octets_in hex
   Some (Happens (Received datagram))
 rx_line words = None
+
+-- clock STAMP
+unfoldable pub clock_line : List (List ℕ) → Option ScriptLine
+clock_line (stamp ∷ []) = do
+  stamp ← stamp_in stamp
+  Some (Happens (Clocked stamp))
+clock_line words = None
 
 -- ---- any line
 
@@ -45,7 +76,10 @@ Kind = List ℕ × (List (List ℕ) → Option ScriptLine)
 abbrev pub kinds : List Kind
 kinds =
     (codes "device", device_line) ∷
-    (codes "rx", rx_line) ∷ []
+    (codes "binary", binary_line) ∷
+    (codes "multistate", multistate_line) ∷
+    (codes "rx", rx_line) ∷
+    (codes "clock", clock_line) ∷ []
 
 -- the first word says which kind a line is
 abbrev pub said_by : List Kind → List ℕ → List (List ℕ) → Option ScriptLine

@@ -1,19 +1,21 @@
 -- What one line of a script does.
-use Rattle.std.specs.Prelude.{ℕ, if◌then◌else◌, List, [], ◌∷◌, ◌++◌, codes, Option, None, Some, Result, Ok, Err}
+use Rattle.std.specs.Prelude.{ℕ, decimal, if◌then◌else◌, List, [], ◌∷◌, ◌++◌, codes, Option, None, Some, Result, Ok, Err}
 use Rattle.hex.specs.Hex.{encode_lower}
 use Rattle.bac_device.specs.Answer.{handled}
 use Rattle.bac_device.specs.Build.{build_fault, built}
+use Rattle.bac_device.specs.Clock.{advanced}
 use Rattle.bac_device.specs.State as device
 use Rattle.bac_device.specs.declared.build.BuildFault.{BuildFault}
 use Rattle.bac_device.specs.declared.lines.DeviceLine.{DeviceLine}
+use Rattle.bac_device.specs.declared.lines.ObjectLine.{ObjectLine}
 use Rattle.bac_device.specs.declared.reply.Reply.{Reply}
 use Rattle.bac_tools.specs.Fault.{Refusal, Bad, Unbuilt}
-use Rattle.bac_tools.specs.Line.{Event, Received, ScriptLine, Device, Happens, is_silent, line_in}
+use Rattle.bac_tools.specs.Line.{Event, Received, Clocked, ScriptLine, Device, Object, Happens, is_silent, line_in}
 
--- what the lines so far have made: nothing, a device that is described, or one that runs
+-- what the lines so far have made: nothing, a device that is described with its objects in the order of their lines, or one that runs
 pub data State : Type 0 where
   Empty : State
-  Described : DeviceLine → State
+  Described : DeviceLine → List ObjectLine → State
   Running : device.State → State
 
 -- what a line prints and the state after it, or why it is refused
@@ -24,8 +26,15 @@ Step = Result (List ℕ × State) Refusal
 
 -- it stands once, and before the first event
 abbrev pub on_device : State → DeviceLine → Step
-on_device Empty line = Ok ([], Described line)
+on_device Empty line = Ok ([], Described line [])
 on_device s line = Err Bad
+
+-- ---- an object's line
+
+-- it stands behind the device's, and before the first event
+abbrev pub on_object : State → ObjectLine → Step
+on_object (Described device lines) line = Ok ([], Described device (lines ++ line ∷ []))
+on_object s line = Err Bad
 
 -- ---- an event
 
@@ -34,9 +43,19 @@ abbrev pub answer_text : Option Reply → List ℕ
 answer_text None = codes "none" ++ 10 ∷ []
 answer_text (Some reply) = codes "tx " ++ (encode_lower reply.datagram ++ 10 ∷ [])
 
+-- what an advance of the clock prints: how many samples the logs took, or that it would go back
+abbrev pub clock_text : Option ℕ → List ℕ
+clock_text None = codes "clock back" ++ 10 ∷ []
+clock_text (Some count) = codes "sampled " ++ (decimal count ++ 10 ∷ [])
+
+abbrev pub clocked : device.State → Option (ℕ × device.State) → List ℕ × device.State
+clocked device None = (clock_text None, device)
+clocked device (Some taken) = (clock_text (Some taken.0), taken.1)
+
 -- what it prints, and the device after it
 abbrev pub happens : device.State → Event → List ℕ × device.State
 happens device (Received octets) = (answer_text (handled device octets).0, (handled device octets).1)
+happens device (Clocked stamp) = clocked device (advanced device stamp)
 
 abbrev pub running : List ℕ × device.State → Step
 running happened = Ok (happened.0, Running happened.1)
@@ -48,13 +67,14 @@ first_event (Some fault) device event = Err (Unbuilt fault)
 
 abbrev pub on_event : State → Event → Step
 on_event Empty event = Err Bad
-on_event (Described line) event = first_event (build_fault line) (built line) event
+on_event (Described device lines) event = first_event (build_fault device lines) (built device lines) event
 on_event (Running device) event = running (happens device event)
 
 -- ---- any line
 
 abbrev pub on_line : State → ScriptLine → Step
 on_line s (Device line) = on_device s line
+on_line s (Object line) = on_object s line
 on_line s (Happens event) = on_event s event
 
 -- the line that a text says, where it says one
@@ -68,5 +88,5 @@ step s text = if is_silent text then Ok ([], s) else on_read s (line_in text)
 -- what the end of a script finds: a device that no event had built
 abbrev pub end_fault : State → Option BuildFault
 end_fault Empty = None
-end_fault (Described line) = build_fault line
+end_fault (Described device lines) = build_fault device lines
 end_fault (Running device) = None

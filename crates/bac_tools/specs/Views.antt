@@ -1,8 +1,9 @@
 -- What the code keeps and returns, seen as the definitions see it. Only private calls cite these.
 use Rattle.std.specs.Prelude.{◌≡◌, ℕ, List, Result, Ok, Err}
 use Rattle.bac_wire.specs.Stamp.{CivilTime}
+use Rattle.bac_device.specs.declared.lines.ObjectLine.TheVariants.{Binary, Multistate}
 use Rattle.bac_tools.specs.Fault.{Refusal, Bad, Unbuilt}
-use Rattle.bac_tools.specs.Line.{Event, Received, ScriptLine, Device, Happens}
+use Rattle.bac_tools.specs.Line.{Event, Received, Clocked, ScriptLine, Device, Object, Happens}
 use Rattle.bac_tools.specs.Session.{State, Empty, Described, Running}
 use Rattle.bac_tools.specs.declared.fault.LineFault.{LineFault}
 use Rattle.bac_tools.specs.declared.fault.LineFault.TheVariants as fault
@@ -13,22 +14,30 @@ use Rattle.bac_tools.specs.declared.session.Session.TheVariants as session
 
 -- ---- a line
 
--- what a device line says
+-- what the words of a line say, by its kind
 abbrev pub device_of : ℕ → List ℕ → ℕ → ℕ → CivilTime → ScriptLine
 device_of instance name vendor reply clock = Device (record { instance = instance; name = name; vendor = vendor; reply_size = reply; clock = clock })
 
+abbrev pub binary_of : ℕ → List ℕ → ℕ → ScriptLine
+binary_of instance name default = Object (Binary instance name default)
+
+abbrev pub multistate_of : ℕ → List ℕ → ℕ → ℕ → ScriptLine
+multistate_of instance name states default = Object (Multistate instance name states default)
+
 abbrev pub event_of : event.Event → Event
 event_of (event.TheVariants.Received datagram) = Received datagram
+event_of (event.TheVariants.Clocked stamp) = Clocked stamp
 
 abbrev pub line_of : line.Line → ScriptLine
 line_of (line.TheVariants.Device line) = Device line
+line_of (line.TheVariants.Object line) = Object line
 line_of (line.TheVariants.Happens happened) = Happens (event_of happened)
 
 -- ---- what the lines so far have made
 
 abbrev pub state_of : Session → State
 state_of session.Empty = Empty
-state_of (session.Described line) = Described line
+state_of (session.Described device lines) = Described device lines.items
 state_of (session.Running device) = Running device
 
 -- ---- what functions return

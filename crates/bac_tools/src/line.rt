@@ -3,15 +3,15 @@
 ghost use Rattle.std.specs.Prelude.{◌≡◌, IfOk};
 ghost use Rattle.std.specs.Option.{option_map};
 ghost use Rattle.bac_wire.specs.OptionChain.{GivesSome};
-ghost use Rattle.bac_tools.specs.Line.{device_line, is_silent, line_in, rx_line};
-ghost use Rattle.bac_tools.specs.Views.{device_of, line_of};
+ghost use Rattle.bac_tools.specs.Line.{binary_line, clock_line, device_line, is_silent, line_in, multistate_line, rx_line};
+ghost use Rattle.bac_tools.specs.Views.{binary_of, device_of, line_of, multistate_of};
 ghost use Rattle.bac_tools.specs.Words.{words_of};
 
 use crate::hexadecimal::octets_in;
 use crate::number::{u16_in, u32_in};
 use crate::stamp::stamp_in;
 use crate::words::{last_word, split_word, text_in};
-use bac_device::{DeviceLine, Name};
+use bac_device::{DeviceLine, Name, ObjectLine};
 use bac_wire::{Datagram, Stamp};
 use std::alloc::{AllocError, Global};
 
@@ -20,6 +20,8 @@ use std::alloc::{AllocError, Global};
 pub(crate) enum Event {
     /// It receives a datagram.
     Received(Datagram),
+    /// Its clock comes to a moment.
+    Clocked(Stamp),
 }
 
 /// What a line says.
@@ -27,6 +29,8 @@ pub(crate) enum Event {
 pub(crate) enum Line {
     /// The device.
     Device(DeviceLine),
+    /// An object of the device.
+    Object(ObjectLine),
     /// An event.
     Happens(Event),
 }
@@ -67,6 +71,65 @@ fn device_line(alloc: Global, words: &[u8]) -> Result<Option<Line>, AllocError>
     })))
 }
 
+/// What the words of a binary line say; its name still lies in the script.
+#[tactic(auto, unfolding(crate::specs::Line::binary_line))]
+fn binary_words(words: &[u8]) -> Option<(u32, &str, u32)>
+    ensures { GivesSome (λ x. binary_of x.0 x.1.now x.2) result (binary_line (words_of words.now)) }
+{
+    let (instance, rest) = split_word(words)?;
+    let (name, rest) = split_word(rest)?;
+    let default = last_word(rest)?;
+    Some((u32_in(instance)?, text_in(name)?, u32_in(default)?))
+}
+
+/// The line of a Binary Value.
+fn binary_line(alloc: Global, words: &[u8]) -> Result<Option<Line>, AllocError>
+    ensures { IfOk result (λ line. binary_line (words_of words.now) ≡ option_map line_of line) }
+{
+    let Some((instance, name, default)) = binary_words(words) else {
+        return Ok(None);
+    };
+    let name = Name::of(String::from_str(alloc, name)?);
+    Ok(Some(Line::Object(ObjectLine::Binary {
+        instance,
+        name,
+        default,
+    })))
+}
+
+/// What the words of a multi-state line say; its name still lies in the script.
+#[tactic(auto, unfolding(crate::specs::Line::multistate_line))]
+fn multistate_words(words: &[u8]) -> Option<(u32, &str, u32, u32)>
+    ensures { GivesSome (λ x. multistate_of x.0 x.1.now x.2 x.3) result (multistate_line (words_of words.now)) }
+{
+    let (instance, rest) = split_word(words)?;
+    let (name, rest) = split_word(rest)?;
+    let (states, rest) = split_word(rest)?;
+    let default = last_word(rest)?;
+    Some((
+        u32_in(instance)?,
+        text_in(name)?,
+        u32_in(states)?,
+        u32_in(default)?,
+    ))
+}
+
+/// The line of a Multi-state Value.
+fn multistate_line(alloc: Global, words: &[u8]) -> Result<Option<Line>, AllocError>
+    ensures { IfOk result (λ line. multistate_line (words_of words.now) ≡ option_map line_of line) }
+{
+    let Some((instance, name, states, default)) = multistate_words(words) else {
+        return Ok(None);
+    };
+    let name = Name::of(String::from_str(alloc, name)?);
+    Ok(Some(Line::Object(ObjectLine::Multistate {
+        instance,
+        name,
+        states,
+        default,
+    })))
+}
+
 /// The line of a datagram that is received.
 #[tactic(auto, unfolding(crate::specs::Line::rx_line))]
 fn rx_line(words: &[u8]) -> Option<Line>
@@ -74,6 +137,15 @@ fn rx_line(words: &[u8]) -> Option<Line>
 {
     let hex = last_word(words)?;
     Some(Line::Happens(Event::Received(octets_in(hex)?)))
+}
+
+/// The line of a clock that comes to a moment.
+#[tactic(auto, unfolding(crate::specs::Line::clock_line))]
+fn clock_line(words: &[u8]) -> Option<Line>
+    ensures { clock_line (words_of words.now) ≡ option_map line_of result }
+{
+    let stamp = last_word(words)?;
+    Some(Line::Happens(Event::Clocked(stamp_in(stamp)?)))
 }
 
 /// Whether a text is empty or a comment.
@@ -85,7 +157,7 @@ pub(crate) fn is_silent(text: &[u8]) -> bool
 
 impl Line {
     /// What a text says that is neither empty nor a comment, where it is a line of a script.
-    #[tactic(auto, unfolding(crate::specs::Line::line_in, crate::specs::Line::device_line, crate::specs::Line::rx_line))]
+    #[tactic(auto, unfolding(crate::specs::Line::line_in, crate::specs::Line::device_line, crate::specs::Line::binary_line, crate::specs::Line::multistate_line, crate::specs::Line::rx_line, crate::specs::Line::clock_line))]
     pub(crate) fn read(alloc: Global, text: &[u8]) -> Result<Option<Line>, AllocError>
         ensures { IfOk result (λ line. line_in text.now ≡ option_map line_of line) }
     {
@@ -95,8 +167,17 @@ impl Line {
         if word == b"device".as_slice() {
             return device_line(alloc, words);
         }
+        if word == b"binary".as_slice() {
+            return binary_line(alloc, words);
+        }
+        if word == b"multistate".as_slice() {
+            return multistate_line(alloc, words);
+        }
         if word == b"rx".as_slice() {
             return Ok(rx_line(words));
+        }
+        if word == b"clock".as_slice() {
+            return Ok(clock_line(words));
         }
         Ok(None)
     }

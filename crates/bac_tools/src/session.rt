@@ -3,22 +3,22 @@
 ghost use Rattle.std.specs.Prelude.{◌≡◌, None, IfOk, OnOk, IfErr};
 ghost use Rattle.std.specs.Option.{option_copied};
 ghost use Rattle.bac_device.specs.Build.{Refuses};
-ghost use Rattle.bac_tools.specs.Session.{answer_text, end_fault, happens, on_device, on_event, on_line, step};
+ghost use Rattle.bac_tools.specs.Session.{answer_text, clock_text, end_fault, happens, on_device, on_event, on_line, on_object, step};
 ghost use Rattle.bac_tools.specs.Views.{Meets, event_of, line_of, state_of};
 
 use crate::fault::LineFault;
 use crate::hexadecimal::push_digits;
 use crate::line::{Event, Line, is_silent};
-use bac_device::{BuildFault, Device, DeviceLine, Reply};
+use bac_device::{BuildFault, Device, DeviceLine, ObjectLine, Reply};
 use std::alloc::{AllocError, Global};
 
 /// What the lines so far have made.
-#[derive(Debug, Drop)]
+#[derive(Drop)]
 pub(crate) enum Session {
     /// No device line.
     Empty,
-    /// A device line, and no event.
-    Described(DeviceLine),
+    /// A device line, the object lines behind it, and no event.
+    Described(DeviceLine, Vec<ObjectLine>),
     /// A device to which events happen.
     Running(Device),
 }
@@ -39,6 +39,21 @@ fn print_answer(alloc: Global, answer: Option<&Reply>) -> Result<Vec<u8>, AllocE
     Ok(text)
 }
 
+/// What an advance of the clock prints, where it isn't set back.
+fn print_advance(alloc: Global, count: Option<usize>) -> Result<Vec<u8>, AllocError>
+    ensures { IfOk result (λ text. text.items ≡ clock_text count) }
+{
+    let mut text = Vec::new(alloc);
+    match count {
+        Some(count) => {
+            let line = format!(in alloc; "sampled {count}\n")?;
+            text.extend_from_slice(line.as_bytes())?;
+        }
+        None => text.extend_from_slice(b"clock back\n")?,
+    }
+    Ok(text)
+}
+
 /// What an event at a device prints.
 fn happen(device: &mut Device, alloc: Global, event: &Event) -> Result<Vec<u8>, AllocError>
     ensures { IfOk result (λ text. happens device.old (event_of event.now) ≡ (text.items, device.new)) }
@@ -48,6 +63,10 @@ fn happen(device: &mut Device, alloc: Global, event: &Event) -> Result<Vec<u8>, 
             let reply = device.handle(datagram.octets());
             print_answer(alloc, reply.as_ref())
         }
+        Event::Clocked(stamp) => match device.advance(*stamp) {
+            Ok(count) => print_advance(alloc, Some(count)),
+            Err(_) => print_advance(alloc, None),
+        },
     }
 }
 
@@ -58,9 +77,22 @@ impl Session {
     {
         match self {
             Session::Empty => {
-                *self = Session::Described(line);
+                *self = Session::Described(line, Vec::new(alloc));
                 Ok(Vec::new(alloc))
             }
+            _ => Err(LineFault::Bad),
+        }
+    }
+
+    /// Plays an object line.
+    fn play_object(&mut self, alloc: Global, line: ObjectLine) -> Result<Vec<u8>, LineFault>
+        ensures { Meets (λ text. (text.items, state_of self.new)) result (on_object (state_of self.old) line) }
+    {
+        match self {
+            Session::Described(_, lines) => match lines.push(line) {
+                Ok(()) => Ok(Vec::new(alloc)),
+                Err(_) => Err(LineFault::Memory),
+            },
             _ => Err(LineFault::Bad),
         }
     }
@@ -71,8 +103,8 @@ impl Session {
     {
         match self {
             Session::Empty => Err(LineFault::Bad),
-            Session::Described(line) => {
-                let mut device = match Device::build(alloc, line) {
+            Session::Described(device, lines) => {
+                let mut device = match Device::build(alloc, device, lines.as_slice()) {
                     Ok(device) => device,
                     Err(fault) => return Err(LineFault::of_build(fault)),
                 };
@@ -97,6 +129,7 @@ impl Session {
     {
         match line {
             Line::Device(words) => self.play_device(alloc, words),
+            Line::Object(line) => self.play_object(alloc, line),
             Line::Happens(event) => self.play_event(alloc, &event),
         }
     }
@@ -121,8 +154,8 @@ impl Session {
         ensures ok { OnOk result (end_fault (state_of self.now) ≡ None) }
         ensures err { IfErr result (λ fault. Refuses fault (end_fault (state_of self.now))) }
     {
-        if let Session::Described(line) = self {
-            Device::build(alloc, line)?;
+        if let Session::Described(device, lines) = self {
+            Device::build(alloc, device, lines.as_slice())?;
         }
         Ok(())
     }
