@@ -6,7 +6,7 @@ use Rattle.std.proofs.lemmas.List.{take_at, drop_at, take-append-le}
 use Rattle.std.proofs.lemmas.Bool.{le-leb, lt-leb}
 use Rattle.bac_tools.proofs.LineLemmas.{ended_lines-longer, lines-parts}
 use Rattle.std.specs.Io.KnownBytes.{Appends, Consumes, IsAtEnd}
-use Rattle.bac_tools.specs.Lines.{last_if_any, ended_lines, open_line}
+use Rattle.bac_tools.specs.Script.Lines.{last_if_any, ended_lines, open_line}
 use Rattle.std.specs.Str.Lines.{lines}
 use Rattle.bac_tools.specs.Replay.{Played, play, then_play, at_end, past_limit, played_lines, text_of, fault_of_script, PlaysAll, Ends, Replays}
 use Rattle.bac_tools.specs.Fault.{replay_fault, Refusal}
@@ -16,8 +16,8 @@ use Rattle.bac_tools.specs.Output.{AppendsPart}
 use Rattle.bac_device.specs.Build.{Refuses}
 use Rattle.bac_device.specs.declared.build.BuildFault.{BuildFault}
 use Rattle.bac_device.specs.declared.build.BuildFault.TheVariants as build
-use Rattle.bac_tools.specs.declared.fault.ReplayFault.{ReplayFault}
-use Rattle.bac_tools.specs.declared.fault.ReplayFault.TheVariants.{BadLine, Build, Read, TooLong, Write, Memory}
+use Rattle.bac_tools.specs.declared.replay.fault.ReplayFault.{ReplayFault}
+use Rattle.bac_tools.specs.declared.replay.fault.ReplayFault.TheVariants.{BadLine, Build, Read, TooLong, Write, Memory}
 use Rattle.bac_tools.proofs.PlayLemmas.{Progress, Progress-more, Progress-end}
 
 -- ---- lines that are followed by more lines

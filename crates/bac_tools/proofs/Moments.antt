@@ -7,7 +7,7 @@ use Rattle.std.proofs.lemmas.Bool.Decides.{nat_tests}
 use Rattle.std.proofs.lemmas.Int.{ints}
 use Rattle.jiff.specs.Words.{IsDate, days_in_month}
 use Rattle.bac_wire.specs.Stamp.{CivilTime, IsCivilTime}
-use Rattle.bac_tools.specs.Stamp.{is_day, is_time, is_moment, checked}
+use Rattle.bac_tools.specs.Script.Stamp.{is_day, is_time, is_moment, checked}
 
 le-true : (a b : ℕ) → nat_le a b ≡ true → a ≤ b
 le-true a b h = grind (arith, nat_tests)

@@ -6,8 +6,8 @@ use Rattle.bac_tools.specs.Replay.{Played, play, then_play, PlaysAll}
 use Rattle.bac_tools.specs.Fault.{at_line, Refusal}
 use Rattle.bac_tools.specs.Session.{step, State}
 use Rattle.bac_tools.specs.Stops.{LineStops, FaultStops, Stops}
-use Rattle.bac_tools.specs.declared.fault.ReplayFault.{ReplayFault}
-use Rattle.bac_tools.specs.declared.fault.ReplayFault.TheVariants.{BadLine, Build, Read, TooLong, Write, Memory}
+use Rattle.bac_tools.specs.declared.replay.fault.ReplayFault.{ReplayFault}
+use Rattle.bac_tools.specs.declared.replay.fault.ReplayFault.TheVariants.{BadLine, Build, Read, TooLong, Write, Memory}
 
 -- what follows lines that were played whole is played from the state that they led to
 abbrev Follows : Played → Played → Played → Type 0

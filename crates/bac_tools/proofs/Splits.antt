@@ -3,7 +3,7 @@ use Rattle.std.proofs.Common.{◌≡◌, ℕ, Bool, true, false, cond, ◌+◌, 
 use Rattle.std.specs.List.{slice_split, onto_first}
 use Rattle.std.proofs.lemmas.Option.{cond_some}
 use Rattle.std.proofs.lemmas.List.Splits.{slice_split_first}
-use Rattle.bac_tools.specs.Words.{HasTwo}
+use Rattle.bac_tools.specs.Script.Words.{HasTwo}
 use borrow.Author.Tests.{ltb-true}
 
 -- the first part ends at the first place that passes

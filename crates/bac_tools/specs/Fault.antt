@@ -2,10 +2,10 @@
 use Rattle.std.specs.Prelude.{ℕ}
 use Rattle.bac_device.specs.declared.build.BuildFault.{BuildFault}
 use Rattle.bac_device.specs.declared.build.BuildFault.TheVariants as build
-use Rattle.bac_tools.specs.declared.fault.LineFault as line
-use Rattle.bac_tools.specs.declared.fault.LineFault.{LineFault}
-use Rattle.bac_tools.specs.declared.fault.ReplayFault.{ReplayFault}
-use Rattle.bac_tools.specs.declared.fault.ReplayFault.TheVariants.{BadLine, Build, Memory}
+use Rattle.bac_tools.specs.declared.replay.fault.LineFault as line
+use Rattle.bac_tools.specs.declared.replay.fault.LineFault.{LineFault}
+use Rattle.bac_tools.specs.declared.replay.fault.ReplayFault.{ReplayFault}
+use Rattle.bac_tools.specs.declared.replay.fault.ReplayFault.TheVariants.{BadLine, Build, Memory}
 
 -- the fault of a line whose event builds the device
 abbrev pub line_fault : BuildFault → LineFault

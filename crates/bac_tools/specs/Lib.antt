@@ -1,12 +1,7 @@
-pub mod Lines
-pub mod Words
-pub mod Number
-pub mod Hexadecimal
+pub mod Script
 pub mod Input
 pub mod Output
-pub mod Stamp
 pub mod Fault
-pub mod Line
 pub mod Session
 pub mod Views
 pub mod Replay

@@ -4,11 +4,11 @@ use Rattle.std.specs.Option.{option_map}
 use Rattle.std.specs.Io.KnownBytes.{Appends, Consumes}
 use Rattle.std.specs.Str.Lines.{lines}
 use Rattle.bac_tools.specs.Fault.{at_line, Refusal}
-use Rattle.bac_tools.specs.Lines.{ended_lines}
+use Rattle.bac_tools.specs.Script.Lines.{ended_lines}
 use Rattle.bac_tools.specs.Session.{step, end_fault, State, Empty}
 use Rattle.bac_tools.specs.Output.{AppendsPart}
-use Rattle.bac_tools.specs.declared.fault.ReplayFault.{ReplayFault}
-use Rattle.bac_tools.specs.declared.fault.ReplayFault.TheVariants.{BadLine, Build, Read, TooLong, Write, Memory}
+use Rattle.bac_tools.specs.declared.replay.fault.ReplayFault.{ReplayFault}
+use Rattle.bac_tools.specs.declared.replay.fault.ReplayFault.TheVariants.{BadLine, Build, Read, TooLong, Write, Memory}
 
 -- what is printed, and then the state or the fault
 abbrev pub Played : Type 0

@@ -10,7 +10,7 @@ use Rattle.bac_device.specs.declared.lines.DeviceLine.{DeviceLine}
 use Rattle.bac_device.specs.declared.lines.ObjectLine.{ObjectLine}
 use Rattle.bac_device.specs.declared.reply.Reply.{Reply}
 use Rattle.bac_tools.specs.Fault.{Refusal, Bad, Unbuilt}
-use Rattle.bac_tools.specs.Line.{Event, Received, Clocked, ScriptLine, Device, Object, Happens, is_silent, line_in}
+use Rattle.bac_tools.specs.Script.Line.{Event, Received, Clocked, ScriptLine, Device, Object, Happens, is_silent, line_in}
 
 -- what the lines so far have made: nothing, a device that is described with its objects in the order of their lines, or one that runs
 pub data State : Type 0 where

@@ -8,8 +8,8 @@ use Rattle.bac_tools.specs.Session.{step, end_fault, State, Empty}
 use Rattle.bac_device.specs.Build.{Refuses}
 use Rattle.bac_device.specs.declared.build.BuildFault.{BuildFault}
 use Rattle.bac_tools.specs.Output.{AppendsPart}
-use Rattle.bac_tools.specs.declared.fault.ReplayFault.{ReplayFault}
-use Rattle.bac_tools.specs.declared.fault.ReplayFault.TheVariants.{BadLine, Build, Read, TooLong, Write, Memory}
+use Rattle.bac_tools.specs.declared.replay.fault.ReplayFault.{ReplayFault}
+use Rattle.bac_tools.specs.declared.replay.fault.ReplayFault.TheVariants.{BadLine, Build, Read, TooLong, Write, Memory}
 
 -- line n has this fault, and nothing was written for it
 abbrev pub IsFaultOf : Option (List ℕ) → Option (List ℕ) → ℕ → State → List ℕ → ReplayFault → Type 0

@@ -3,14 +3,14 @@ use Rattle.std.specs.Prelude.{◌≡◌, ℕ, List, Result, Ok, Err}
 use Rattle.bac_wire.specs.Stamp.{CivilTime}
 use Rattle.bac_device.specs.declared.lines.ObjectLine.TheVariants.{Binary, Multistate}
 use Rattle.bac_tools.specs.Fault.{Refusal, Bad, Unbuilt}
-use Rattle.bac_tools.specs.Line.{Event, Received, Clocked, ScriptLine, Device, Object, Happens}
+use Rattle.bac_tools.specs.Script.Line.{Event, Received, Clocked, ScriptLine, Device, Object, Happens}
 use Rattle.bac_tools.specs.Session.{State, Empty, Described, Running}
-use Rattle.bac_tools.specs.declared.fault.LineFault.{LineFault}
-use Rattle.bac_tools.specs.declared.fault.LineFault.TheVariants as fault
-use Rattle.bac_tools.specs.declared.line.Event as event
-use Rattle.bac_tools.specs.declared.line.Line as line
-use Rattle.bac_tools.specs.declared.session.Session.{Session}
-use Rattle.bac_tools.specs.declared.session.Session.TheVariants as session
+use Rattle.bac_tools.specs.declared.replay.fault.LineFault.{LineFault}
+use Rattle.bac_tools.specs.declared.replay.fault.LineFault.TheVariants as fault
+use Rattle.bac_tools.specs.declared.script.line.Event as event
+use Rattle.bac_tools.specs.declared.script.line.Line as line
+use Rattle.bac_tools.specs.declared.replay.session.Session.{Session}
+use Rattle.bac_tools.specs.declared.replay.session.Session.TheVariants as session
 
 -- ---- a line
 

@@ -5,22 +5,14 @@
 //! line from specs/Session, and `run_replay` is proved to write that text and nothing else, also
 //! where the reader, the writer or memory refuses ([`ReplayFault`]).
 //!
-//! A line passes `lines` and `words`, then `number`, `stamp` or `hexadecimal`, and
-//! `session`, which holds what the lines so far have made. The device itself is in the crate
-//! bac_device; the program's words, its standard streams and its exit status are in the crate bac.
+//! `script` reads: a script is cut into lines, and `Line::read` tells what a line says, apart from
+//! what the lines before it have made. `replay` plays: a session holds what the lines so far have
+//! made, and answers what one more prints. The device itself is in the crate bac_device; the
+//! program's words, its standard streams and its exit status are in the crate bac.
 #![tactic(auto)]
 
-mod fault;
-mod hexadecimal;
-mod input;
-mod line;
-mod lines;
-mod number;
-mod output;
 mod replay;
-mod session;
-mod stamp;
-mod words;
+mod script;
 
-pub use fault::ReplayFault;
+pub use replay::fault::ReplayFault;
 pub use replay::{LIMIT, run_replay};

@@ -3,17 +3,22 @@ ghost use Rattle.std.specs.Prelude.{◌≡◌, ◌+◌, ◌<◌, ◌≤◌, ℕ,
 ghost use Rattle.std.specs.Io.KnownBytes.{Appends, IsAtEnd};
 ghost use Rattle.bac_tools.specs.Input.{ConsumesUpTo};
 ghost use Rattle.std.specs.Str.Lines.{lines};
-ghost use Rattle.bac_tools.specs.Lines.{ended_lines, open_line, last_if_any};
+ghost use Rattle.bac_tools.specs.Script.Lines.{ended_lines, open_line, last_if_any};
 ghost use Rattle.bac_tools.specs.Replay.{PlaysAll, Replays};
 ghost use Rattle.bac_tools.specs.Session.{State, Empty, step, end_fault};
 ghost use Rattle.bac_tools.specs.Views.{state_of};
 ghost use Rattle.bac_tools.specs.Stops.{LineStops, Stops, ScriptStops};
 
-use crate::fault::ReplayFault;
-use crate::input::{Ending, fill};
-use crate::lines::{split_line, without_return};
-use crate::output::write_text;
-use crate::session::Session;
+pub(crate) mod fault;
+mod input;
+mod output;
+mod session;
+
+use crate::replay::fault::ReplayFault;
+use crate::replay::input::{Ending, fill};
+use crate::replay::output::write_text;
+use crate::replay::session::Session;
+use crate::script::lines::{split_line, without_return};
 use std::alloc::Global;
 use std::io::{Read, Write};
 

@@ -1,7 +1,7 @@
 use Rattle.std.proofs.Common.{arith, take, length, sym, subst, ◌≡◌, ◌+◌, ◌≤◌, length-take-le}
 use lib.Seq.{take-take}
 use Rattle.std.proofs.lemmas.Result.{err_from_is_err_and}
-use Rattle.bac_tools.specs.Lines.{ended_lines}
+use Rattle.bac_tools.specs.Script.Lines.{ended_lines}
 use Rattle.bac_tools.specs.Replay.{PlaysAll}
 use Rattle.bac_tools.specs.Session.{Empty}
 use Rattle.bac_tools.specs.Stops.{Stops}

@@ -1,0 +1,7 @@
+-- The format of a script: how it is cut into lines, and what a line says.
+pub mod Lines
+pub mod Words
+pub mod Number
+pub mod Hexadecimal
+pub mod Stamp
+pub mod Line

@@ -1,0 +1,99 @@
+-- What a line of a script says. It says it apart from what the lines before it have made.
+use Rattle.std.specs.Prelude.{ℕ, ◌^◌, ◌==◌, ◌||◌, Bool, if◌then◌else◌, List, [], ◌∷◌, length, slice_index, codes, Option, None, Some}
+use Rattle.std.specs.Str.{bytes_eq}
+use Rattle.bac_wire.specs.OptionChain.{◌>>=◌}
+use Rattle.bac_wire.specs.Stamp.{CivilTime}
+use Rattle.bac_device.specs.declared.lines.DeviceLine.{DeviceLine}
+use Rattle.bac_device.specs.declared.lines.ObjectLine.{ObjectLine}
+use Rattle.bac_device.specs.declared.lines.ObjectLine.TheVariants.{Binary, Multistate}
+use Rattle.bac_tools.specs.Script.Hexadecimal.{octets_in}
+use Rattle.bac_tools.specs.Script.Number.{number_in, below}
+use Rattle.bac_tools.specs.Script.Stamp.{stamp_in}
+use Rattle.bac_tools.specs.Script.Words.{words_of, text_in}
+
+-- what happens to a device: it receives these octets, or its clock comes to this moment
+pub data Event : Type 0 where
+  Received : List ℕ → Event
+  Clocked : CivilTime → Event
+
+pub data ScriptLine : Type 0 where
+  Device : DeviceLine → ScriptLine
+  Object : ObjectLine → ScriptLine
+  Happens : Event → ScriptLine
+
+-- ---- what the words behind the first one say, by the kind of the line
+
+-- device INSTANCE NAME VENDOR REPLY STAMP
+unfoldable pub device_line : List (List ℕ) → Option ScriptLine
+device_line (instance ∷ name ∷ vendor ∷ reply ∷ clock ∷ []) = do
+  instance ← below (2 ^ 32) (number_in instance)
+  name ← text_in name
+  vendor ← below (2 ^ 16) (number_in vendor)
+  reply ← below (2 ^ 16) (number_in reply)
+  clock ← stamp_in clock
+  Some (Device (record { instance = instance; name = name; vendor = vendor; reply_size = reply; clock = clock }))
+device_line words = None
+
+-- binary INSTANCE NAME DEFAULT
+unfoldable pub binary_line : List (List ℕ) → Option ScriptLine
+binary_line (instance ∷ name ∷ default ∷ []) = do
+  instance ← below (2 ^ 32) (number_in instance)
+  name ← text_in name
+  default ← below (2 ^ 32) (number_in default)
+  Some (Object (Binary instance name default))
+binary_line words = None
+
+-- multistate INSTANCE NAME STATES DEFAULT
+unfoldable pub multistate_line : List (List ℕ) → Option ScriptLine
+multistate_line (instance ∷ name ∷ states ∷ default ∷ []) = do
+  instance ← below (2 ^ 32) (number_in instance)
+  name ← text_in name
+  states ← below (2 ^ 32) (number_in states)
+  default ← below (2 ^ 32) (number_in default)
+  Some (Object (Multistate instance name states default))
+multistate_line words = None
+
+-- rx HEX
+unfoldable pub rx_line : List (List ℕ) → Option ScriptLine
+rx_line (hex ∷ []) = do
+  datagram ← octets_in hex
+  Some (Happens (Received datagram))
+rx_line words = None
+
+-- clock STAMP
+unfoldable pub clock_line : List (List ℕ) → Option ScriptLine
+clock_line (stamp ∷ []) = do
+  stamp ← stamp_in stamp
+  Some (Happens (Clocked stamp))
+clock_line words = None
+
+-- ---- any line
+
+-- a kind of line: its first word, and what the words behind it say
+abbrev pub Kind : Type 0
+Kind = List ℕ × (List (List ℕ) → Option ScriptLine)
+
+abbrev pub kinds : List Kind
+kinds =
+    (codes "device", device_line) ∷
+    (codes "binary", binary_line) ∷
+    (codes "multistate", multistate_line) ∷
+    (codes "rx", rx_line) ∷
+    (codes "clock", clock_line) ∷ []
+
+-- the first word says which kind a line is
+abbrev pub said_by : List Kind → List ℕ → List (List ℕ) → Option ScriptLine
+said_by [] word words = None
+said_by (kind ∷ more) word words = if bytes_eq word kind.0 then kind.1 words else said_by more word words
+
+abbrev pub said : List (List ℕ) → Option ScriptLine
+said [] = None
+said (word ∷ words) = said_by kinds word words
+
+-- what a line says, where it is neither empty nor a comment
+unfoldable pub line_in : List ℕ → Option ScriptLine
+line_in text = said (words_of text)
+
+-- an empty line and a comment say nothing
+abbrev pub is_silent : List ℕ → Bool
+is_silent text = (length text == 0) || (slice_index text 0 == 35)

@@ -1,0 +1,162 @@
+//! What the lines so far have made, and what one line does.
+
+ghost use Rattle.std.specs.Prelude.{◌≡◌, None, IfOk, OnOk, IfErr};
+ghost use Rattle.std.specs.Option.{option_copied};
+ghost use Rattle.bac_device.specs.Build.{Refuses};
+ghost use Rattle.bac_tools.specs.Session.{answer_text, clock_text, end_fault, happens, on_device, on_event, on_line, on_object, step};
+ghost use Rattle.bac_tools.specs.Views.{Meets, event_of, line_of, state_of};
+
+use crate::replay::fault::LineFault;
+use crate::script::hexadecimal::push_digits;
+use crate::script::line::{Event, Line, is_silent};
+use bac_device::{BuildFault, Device, DeviceLine, ObjectLine, Reply};
+use std::alloc::{AllocError, Global};
+
+/// What the lines so far have made.
+#[derive(Drop)]
+pub(crate) enum Session {
+    /// No device line.
+    Empty,
+    /// A device line, the object lines behind it, and no event.
+    Described(DeviceLine, Vec<ObjectLine>),
+    /// A device to which events happen.
+    Running(Device),
+}
+
+/// What an answer prints.
+fn print_answer(alloc: Global, answer: Option<&Reply>) -> Result<Vec<u8>, AllocError>
+    ensures { IfOk result (λ text. text.items ≡ answer_text (option_copied answer.entry)) }
+{
+    let mut text = Vec::new(alloc);
+    match answer {
+        Some(reply) => {
+            text.extend_from_slice(b"tx ")?;
+            push_digits(&mut text, reply.datagram.octets())?;
+            text.push(b'\n')?;
+        }
+        None => text.extend_from_slice(b"none\n")?,
+    }
+    Ok(text)
+}
+
+/// What an advance of the clock prints, where it isn't set back.
+fn print_advance(alloc: Global, count: Option<usize>) -> Result<Vec<u8>, AllocError>
+    ensures { IfOk result (λ text. text.items ≡ clock_text count) }
+{
+    let mut text = Vec::new(alloc);
+    match count {
+        Some(count) => {
+            let line = format!(in alloc; "sampled {count}\n")?;
+            text.extend_from_slice(line.as_bytes())?;
+        }
+        None => text.extend_from_slice(b"clock back\n")?,
+    }
+    Ok(text)
+}
+
+/// What an event at a device prints.
+fn happen(device: &mut Device, alloc: Global, event: &Event) -> Result<Vec<u8>, AllocError>
+    ensures { IfOk result (λ text. happens device.old (event_of event.now) ≡ (text.items, device.new)) }
+{
+    match event {
+        Event::Received(datagram) => {
+            let reply = device.handle(datagram.octets());
+            print_answer(alloc, reply.as_ref())
+        }
+        Event::Clocked(stamp) => match device.advance(*stamp) {
+            Ok(count) => print_advance(alloc, Some(count)),
+            Err(_) => print_advance(alloc, None),
+        },
+    }
+}
+
+impl Session {
+    /// Plays a device line.
+    fn play_device(&mut self, alloc: Global, line: DeviceLine) -> Result<Vec<u8>, LineFault>
+        ensures { Meets (λ text. (text.items, state_of self.new)) result (on_device (state_of self.old) line) }
+    {
+        match self {
+            Session::Empty => {
+                *self = Session::Described(line, Vec::new(alloc));
+                Ok(Vec::new(alloc))
+            }
+            _ => Err(LineFault::Bad),
+        }
+    }
+
+    /// Plays an object line.
+    fn play_object(&mut self, alloc: Global, line: ObjectLine) -> Result<Vec<u8>, LineFault>
+        ensures { Meets (λ text. (text.items, state_of self.new)) result (on_object (state_of self.old) line) }
+    {
+        match self {
+            Session::Described(_, lines) => match lines.push(line) {
+                Ok(()) => Ok(Vec::new(alloc)),
+                Err(_) => Err(LineFault::Memory),
+            },
+            _ => Err(LineFault::Bad),
+        }
+    }
+
+    /// Plays an event.
+    fn play_event(&mut self, alloc: Global, event: &Event) -> Result<Vec<u8>, LineFault>
+        ensures { Meets (λ text. (text.items, state_of self.new)) result (on_event (state_of self.old) (event_of event.now)) }
+    {
+        match self {
+            Session::Empty => Err(LineFault::Bad),
+            Session::Described(device, lines) => {
+                let mut device = match Device::build(alloc, device, lines.as_slice()) {
+                    Ok(device) => device,
+                    Err(fault) => return Err(LineFault::of_build(fault)),
+                };
+                match happen(&mut device, alloc, event) {
+                    Ok(text) => {
+                        *self = Session::Running(device);
+                        Ok(text)
+                    }
+                    Err(_) => Err(LineFault::Memory),
+                }
+            }
+            Session::Running(device) => match happen(device, alloc, event) {
+                Ok(text) => Ok(text),
+                Err(_) => Err(LineFault::Memory),
+            },
+        }
+    }
+
+    /// Plays one line, and answers what it prints.
+    pub(crate) fn play(&mut self, alloc: Global, line: Line) -> Result<Vec<u8>, LineFault>
+        ensures { Meets (λ text. (text.items, state_of self.new)) result (on_line (state_of self.old) (line_of line)) }
+    {
+        match line {
+            Line::Device(words) => self.play_device(alloc, words),
+            Line::Object(line) => self.play_object(alloc, line),
+            Line::Happens(event) => self.play_event(alloc, &event),
+        }
+    }
+
+    /// Plays the line that a text says, and answers what it prints.
+    #[tactic(auto, unfolding(crate::specs::Session::step))]
+    pub(crate) fn play_text(&mut self, alloc: Global, text: &[u8]) -> Result<Vec<u8>, LineFault>
+        ensures { Meets (λ printed. (printed.items, state_of self.new)) result (step (state_of self.old) text.now) }
+    {
+        if is_silent(text) {
+            return Ok(Vec::new(alloc));
+        }
+        match Line::read(alloc, text) {
+            Ok(Some(line)) => self.play(alloc, line),
+            Ok(None) => Err(LineFault::Bad),
+            Err(_) => Err(LineFault::Memory),
+        }
+    }
+
+    /// Builds the device at the end of a script, where no event has.
+    pub(crate) fn finish(&self, alloc: Global) -> Result<(), BuildFault>
+        ensures ok { OnOk result (end_fault (state_of self.now) ≡ None) }
+        ensures err { IfErr result (λ fault. Refuses fault (end_fault (state_of self.now))) }
+    {
+        if let Session::Described(device, lines) = self {
+            Device::build(alloc, device, lines.as_slice())?;
+        }
+        Ok(())
+    }
+}

@@ -1,0 +1,8 @@
+//! The format of a script: how it is cut into lines, and what a line says.
+
+pub(crate) mod hexadecimal;
+pub(crate) mod line;
+pub(crate) mod lines;
+mod number;
+mod stamp;
+mod words;

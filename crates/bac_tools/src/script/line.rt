@@ -1,0 +1,184 @@
+//! What one line of a script says.
+
+ghost use Rattle.std.specs.Prelude.{◌≡◌, IfOk};
+ghost use Rattle.std.specs.Option.{option_map};
+ghost use Rattle.bac_wire.specs.OptionChain.{GivesSome};
+ghost use Rattle.bac_tools.specs.Script.Line.{binary_line, clock_line, device_line, is_silent, line_in, multistate_line, rx_line};
+ghost use Rattle.bac_tools.specs.Views.{binary_of, device_of, line_of, multistate_of};
+ghost use Rattle.bac_tools.specs.Script.Words.{words_of};
+
+use crate::script::hexadecimal::octets_in;
+use crate::script::number::{u16_in, u32_in};
+use crate::script::stamp::stamp_in;
+use crate::script::words::{last_word, split_word, text_in};
+use bac_device::{DeviceLine, Name, ObjectLine};
+use bac_wire::{Datagram, Stamp};
+use std::alloc::{AllocError, Global};
+
+/// What happens to a device.
+#[derive(Debug, Drop)]
+pub(crate) enum Event {
+    /// It receives a datagram.
+    Received(Datagram),
+    /// Its clock comes to a moment.
+    Clocked(Stamp),
+}
+
+/// What a line says.
+#[derive(Debug, Drop)]
+pub(crate) enum Line {
+    /// The device.
+    Device(DeviceLine),
+    /// An object of the device.
+    Object(ObjectLine),
+    /// An event.
+    Happens(Event),
+}
+
+/// What the words of a device line say; its name still lies in the script.
+#[tactic(auto, unfolding(crate::specs::Script::Line::device_line))]
+fn device_words(words: &[u8]) -> Option<(u32, &str, u16, u16, Stamp)>
+    ensures { GivesSome (λ x. device_of x.0 x.1.now x.2 x.3 x.4) result (device_line (words_of words.now)) }
+{
+    let (instance, rest) = split_word(words)?;
+    let (name, rest) = split_word(rest)?;
+    let (vendor, rest) = split_word(rest)?;
+    let (reply_size, rest) = split_word(rest)?;
+    let clock = last_word(rest)?;
+    Some((
+        u32_in(instance)?,
+        text_in(name)?,
+        u16_in(vendor)?,
+        u16_in(reply_size)?,
+        stamp_in(clock)?,
+    ))
+}
+
+/// The line of a device.
+fn device_line(alloc: Global, words: &[u8]) -> Result<Option<Line>, AllocError>
+    ensures { IfOk result (λ line. device_line (words_of words.now) ≡ option_map line_of line) }
+{
+    let Some((instance, name, vendor, reply_size, clock)) = device_words(words) else {
+        return Ok(None);
+    };
+    let name = Name::of(String::from_str(alloc, name)?);
+    Ok(Some(Line::Device(DeviceLine {
+        instance,
+        name,
+        vendor,
+        reply_size,
+        clock,
+    })))
+}
+
+/// What the words of a binary line say; its name still lies in the script.
+#[tactic(auto, unfolding(crate::specs::Script::Line::binary_line))]
+fn binary_words(words: &[u8]) -> Option<(u32, &str, u32)>
+    ensures { GivesSome (λ x. binary_of x.0 x.1.now x.2) result (binary_line (words_of words.now)) }
+{
+    let (instance, rest) = split_word(words)?;
+    let (name, rest) = split_word(rest)?;
+    let default = last_word(rest)?;
+    Some((u32_in(instance)?, text_in(name)?, u32_in(default)?))
+}
+
+/// The line of a Binary Value.
+fn binary_line(alloc: Global, words: &[u8]) -> Result<Option<Line>, AllocError>
+    ensures { IfOk result (λ line. binary_line (words_of words.now) ≡ option_map line_of line) }
+{
+    let Some((instance, name, default)) = binary_words(words) else {
+        return Ok(None);
+    };
+    let name = Name::of(String::from_str(alloc, name)?);
+    Ok(Some(Line::Object(ObjectLine::Binary {
+        instance,
+        name,
+        default,
+    })))
+}
+
+/// What the words of a multi-state line say; its name still lies in the script.
+#[tactic(auto, unfolding(crate::specs::Script::Line::multistate_line))]
+fn multistate_words(words: &[u8]) -> Option<(u32, &str, u32, u32)>
+    ensures { GivesSome (λ x. multistate_of x.0 x.1.now x.2 x.3) result (multistate_line (words_of words.now)) }
+{
+    let (instance, rest) = split_word(words)?;
+    let (name, rest) = split_word(rest)?;
+    let (states, rest) = split_word(rest)?;
+    let default = last_word(rest)?;
+    Some((
+        u32_in(instance)?,
+        text_in(name)?,
+        u32_in(states)?,
+        u32_in(default)?,
+    ))
+}
+
+/// The line of a Multi-state Value.
+fn multistate_line(alloc: Global, words: &[u8]) -> Result<Option<Line>, AllocError>
+    ensures { IfOk result (λ line. multistate_line (words_of words.now) ≡ option_map line_of line) }
+{
+    let Some((instance, name, states, default)) = multistate_words(words) else {
+        return Ok(None);
+    };
+    let name = Name::of(String::from_str(alloc, name)?);
+    Ok(Some(Line::Object(ObjectLine::Multistate {
+        instance,
+        name,
+        states,
+        default,
+    })))
+}
+
+/// The line of a datagram that is received.
+#[tactic(auto, unfolding(crate::specs::Script::Line::rx_line))]
+fn rx_line(words: &[u8]) -> Option<Line>
+    ensures { rx_line (words_of words.now) ≡ option_map line_of result }
+{
+    let hex = last_word(words)?;
+    Some(Line::Happens(Event::Received(octets_in(hex)?)))
+}
+
+/// The line of a clock that comes to a moment.
+#[tactic(auto, unfolding(crate::specs::Script::Line::clock_line))]
+fn clock_line(words: &[u8]) -> Option<Line>
+    ensures { clock_line (words_of words.now) ≡ option_map line_of result }
+{
+    let stamp = last_word(words)?;
+    Some(Line::Happens(Event::Clocked(stamp_in(stamp)?)))
+}
+
+/// Whether a text is empty or a comment.
+pub(crate) fn is_silent(text: &[u8]) -> bool
+    ensures { result ≡ is_silent text.now }
+{
+    text.is_empty() || text[0] == b'#'
+}
+
+impl Line {
+    /// What a text says that is neither empty nor a comment, where it is a line of a script.
+    #[tactic(auto, unfolding(crate::specs::Script::Line::line_in, crate::specs::Script::Line::device_line, crate::specs::Script::Line::binary_line, crate::specs::Script::Line::multistate_line, crate::specs::Script::Line::rx_line, crate::specs::Script::Line::clock_line))]
+    pub(crate) fn read(alloc: Global, text: &[u8]) -> Result<Option<Line>, AllocError>
+        ensures { IfOk result (λ line. line_in text.now ≡ option_map line_of line) }
+    {
+        let Some((word, words)) = split_word(text) else {
+            return Ok(None);
+        };
+        if word == b"device".as_slice() {
+            return device_line(alloc, words);
+        }
+        if word == b"binary".as_slice() {
+            return binary_line(alloc, words);
+        }
+        if word == b"multistate".as_slice() {
+            return multistate_line(alloc, words);
+        }
+        if word == b"rx".as_slice() {
+            return Ok(rx_line(words));
+        }
+        if word == b"clock".as_slice() {
+            return Ok(clock_line(words));
+        }
+        Ok(None)
+    }
+}

@@ -1,0 +1,32 @@
+//! The lines of a script.
+ghost use Rattle.std.specs.Prelude.{◌≡◌, ◌∷◌, [], ◌<◌, ◌≤◌, length, IfSome, IfNone, All, position, false};
+ghost use Rattle.std.specs.Str.Lines.{strip_carriage_return};
+ghost use Rattle.bac_tools.specs.Script.Lines.{is_line_feed, parts};
+
+/// The place of the first line feed.
+fn line_feed(text: &[u8]) -> Option<usize>
+    ensures place { result ≡ position is_line_feed text.now }
+    ensures none { IfNone result (All (λ b. is_line_feed b ≡ false) text.now) }
+{
+    text.iter().position(|b| *b == b'\n')
+}
+
+/// The text before the first line feed, and the text behind it.
+pub(crate) fn split_line(text: &[u8]) -> Option<(&[u8], &[u8])>
+    ensures parts { IfSome result (λ x. parts text.now ≡ x.0.now ∷ parts x.1.now) }
+    ensures shorter { IfSome result (λ x. length x.1.now < length text.now) }
+    ensures last { IfNone result (parts text.now ≡ text.now ∷ []) }
+{
+    let at = line_feed(text)?;
+    Some((&text[..at], &text[at + 1..]))
+}
+
+/// The line less one carriage return at its end.
+pub(crate) fn without_return(line: &[u8]) -> &[u8]
+    ensures { result.now ≡ strip_carriage_return line.now }
+{
+    match line {
+        [front @ .., b'\r'] => front,
+        _ => line,
+    }
+}
