@@ -1,5 +1,5 @@
 -- What one line of a script does.
-use Rattle.std.specs.Prelude.{ℕ, decimal, if◌then◌else◌, List, [], ◌∷◌, ◌++◌, codes, Option, None, Some, Result, Ok, Err}
+use Rattle.std.specs.Prelude.{ℕ, ◌+◌, ◌*◌, decimal, if◌then◌else◌, List, [], ◌∷◌, ◌++◌, codes, Option, None, Some, Result, Ok, Err}
 use Rattle.hex.specs.Hex.{encode_lower}
 use Rattle.bac_device.specs.Answer.{handled}
 use Rattle.bac_device.specs.Build.{build_fault, built}
@@ -8,6 +8,8 @@ use Rattle.bac_device.specs.State as device
 use Rattle.bac_device.specs.declared.build.BuildFault.{BuildFault}
 use Rattle.bac_device.specs.declared.lines.DeviceLine.{DeviceLine}
 use Rattle.bac_device.specs.declared.lines.ObjectLine.{ObjectLine}
+use Rattle.bac_device.specs.declared.reply.Receiver.{Receiver}
+use Rattle.bac_device.specs.declared.reply.Receiver.TheVariants.{Sender, Address}
 use Rattle.bac_device.specs.declared.reply.Reply.{Reply}
 use Rattle.bac_tools.specs.Fault.{Refusal, Bad, Unbuilt}
 use Rattle.bac_tools.specs.Script.Line.{Event, Received, Clocked, ScriptLine, Device, Object, Happens, is_silent, line_in}
@@ -38,10 +40,21 @@ on_object s line = Err Bad
 
 -- ---- an event
 
+-- A.B.C.D:PORT of the octets of an IPv4 address and of a port
+abbrev pub address_text : List ℕ → List ℕ
+address_text (a ∷ b ∷ c ∷ d ∷ high ∷ low ∷ []) =
+    decimal a ++ (46 ∷ (decimal b ++ (46 ∷ (decimal c ++ (46 ∷ (decimal d ++ (58 ∷ decimal (high * 256 + low))))))))
+address_text other = []
+
+-- to whom an answer goes, where that isn't who sent what it answers
+abbrev pub receiver_text : Receiver → List ℕ
+receiver_text Sender = []
+receiver_text (Address address) = codes " to " ++ address_text address
+
 -- what an answer prints
 abbrev pub answer_text : Option Reply → List ℕ
 answer_text None = codes "none" ++ 10 ∷ []
-answer_text (Some reply) = codes "tx " ++ (encode_lower reply.datagram ++ 10 ∷ [])
+answer_text (Some reply) = codes "tx " ++ (encode_lower reply.datagram ++ (receiver_text reply.to ++ 10 ∷ []))
 
 -- what an advance of the clock prints: how many samples the logs took, or that it would go back
 abbrev pub clock_text : Option ℕ → List ℕ

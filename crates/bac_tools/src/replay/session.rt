@@ -1,15 +1,15 @@
 //! What the lines so far have made, and what one line does.
 
-ghost use Rattle.std.specs.Prelude.{◌≡◌, None, IfOk, OnOk, IfErr};
+ghost use Rattle.std.specs.Prelude.{◌≡◌, ◌++◌, None, IfOk, OnOk, IfErr};
 ghost use Rattle.std.specs.Option.{option_copied};
 ghost use Rattle.bac_device.specs.Build.{Refuses};
-ghost use Rattle.bac_tools.specs.Session.{answer_text, clock_text, end_fault, happens, on_device, on_event, on_line, on_object, step};
+ghost use Rattle.bac_tools.specs.Session.{address_text, answer_text, clock_text, end_fault, happens, on_device, on_event, on_line, on_object, receiver_text, step};
 ghost use Rattle.bac_tools.specs.Views.{Meets, event_of, line_of, state_of};
 
 use crate::replay::fault::LineFault;
 use crate::script::hexadecimal::push_digits;
 use crate::script::line::{Event, Line, is_silent};
-use bac_device::{BuildFault, Device, DeviceLine, ObjectLine, Reply};
+use bac_device::{BuildFault, Device, DeviceLine, ObjectLine, Receiver, Reply};
 use std::alloc::{AllocError, Global};
 
 /// What the lines so far have made.
@@ -23,6 +23,29 @@ pub(crate) enum Session {
     Running(Device),
 }
 
+/// Writes an IPv4 address and a port.
+fn push_address(text: &mut Vec<u8>, alloc: Global, address: [u8; 6]) -> Result<(), AllocError>
+    ensures { OnOk result (text.new.items ≡ text.old.items ++ address_text address) }
+{
+    let [a, b, c, d, high, low] = address;
+    let port = u16::from(high) * 256 + u16::from(low);
+    let shown = format!(in alloc; "{a}.{b}.{c}.{d}:{port}")?;
+    text.extend_from_slice(shown.as_bytes())
+}
+
+/// Writes to whom an answer goes, where it isn't who sent what it answers.
+fn push_receiver(text: &mut Vec<u8>, alloc: Global, to: Receiver) -> Result<(), AllocError>
+    ensures { OnOk result (text.new.items ≡ text.old.items ++ receiver_text to) }
+{
+    match to {
+        Receiver::Sender => Ok(()),
+        Receiver::Address(address) => {
+            text.extend_from_slice(b" to ")?;
+            push_address(text, alloc, address)
+        }
+    }
+}
+
 /// What an answer prints.
 fn print_answer(alloc: Global, answer: Option<&Reply>) -> Result<Vec<u8>, AllocError>
     ensures { IfOk result (λ text. text.items ≡ answer_text (option_copied answer.entry)) }
@@ -32,6 +55,7 @@ fn print_answer(alloc: Global, answer: Option<&Reply>) -> Result<Vec<u8>, AllocE
         Some(reply) => {
             text.extend_from_slice(b"tx ")?;
             push_digits(&mut text, reply.datagram.octets())?;
+            push_receiver(&mut text, alloc, reply.to)?;
             text.push(b'\n')?;
         }
         None => text.extend_from_slice(b"none\n")?,
