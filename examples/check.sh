@@ -47,6 +47,15 @@ ended 'a name with a control character' 1 $'cannot build: bad name\n'
 bac replay <<< "${device/1476/49}"
 ended 'a reply of 49 octets' 1 $'cannot build: bad reply size\n'
 
+# Objects and the clock.
+objects=$'binary 1 pump 0\nmultistate 1 mode 3 3'
+printf '%s\n' "$device" "$objects" "$who_is" 'clock 2024-05-06T07:09:09.10' 'clock 2024-05-06T07:09:09.09' > "$room/objects"
+{ cat "$room/answer"; printf 'sampled 0\nclock back\n'; } > "$room/clocked"
+bac replay < "$room/objects"
+ended 'objects and a clock' 0 '' "$room/clocked"
+bac replay <<< "$device"$'\n'"${objects/mode/pump}"
+ended 'two objects of one name' 1 $'cannot build: duplicate name\n'
+
 # The longest script, and one octet more: empty lines fill it.
 { printf '%s\n' "$device" "$who_is"; yes ''; } 2> /dev/null | head -c 1048577 > "$room/longer"
 head -c 1048576 "$room/longer" > "$room/longest"

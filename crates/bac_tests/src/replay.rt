@@ -533,8 +533,24 @@ fn faults_have_their_texts(rt: HostRuntime) -> Result<(), Fail> {
             "cannot build: bad instance",
         ),
         (
+            ReplayFault::Build(BuildFault::DuplicateId),
+            "cannot build: duplicate object",
+        ),
+        (
             ReplayFault::Build(BuildFault::BadName),
             "cannot build: bad name",
+        ),
+        (
+            ReplayFault::Build(BuildFault::DuplicateName),
+            "cannot build: duplicate name",
+        ),
+        (
+            ReplayFault::Build(BuildFault::BadStates),
+            "cannot build: bad states",
+        ),
+        (
+            ReplayFault::Build(BuildFault::BadDefault),
+            "cannot build: bad default",
         ),
         (
             ReplayFault::Build(BuildFault::BadReplySize),
