@@ -9,4 +9,6 @@ mod log;
 #[cfg(test)]
 mod replay;
 #[cfg(test)]
+mod streams;
+#[cfg(test)]
 mod wire;
