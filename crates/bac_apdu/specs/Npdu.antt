@@ -100,3 +100,13 @@ HasHops (Some place) hops = Unit {0}
 -- the priority has two bits (6.2.2)
 abbrev pub IsHeader : Header → Type 0
 IsHeader h = (h.priority < 4) × IsPlace h.dest × IsPlace h.source × HasHops h.dest h.hops
+
+-- ---- the grammar
+
+-- The control octet states flags and priority. Its bits 6 and 4 are reserved: a writer clears them, and a reader ignores them (6.2.2).
+abbrev pub IsControl : Header → ℕ → Type 0
+IsControl h control = (six : Bool) × (four : Bool) × (control ≡ control_of h + 64 * from_bool six + 16 * from_bool four)
+
+-- a header with this control octet
+abbrev pub header_encoding : ℕ → Header → List ℕ
+header_encoding control h = (1 ∷ control ∷ []) ++ (place_octets h.dest ++ (place_octets h.source ++ hops_octets h.dest h.hops))
