@@ -7,6 +7,10 @@ mod apdu;
 #[cfg(test)]
 mod log;
 #[cfg(test)]
+mod log_answers;
+#[cfg(test)]
+mod log_records;
+#[cfg(test)]
 mod print;
 #[cfg(test)]
 mod replay;
