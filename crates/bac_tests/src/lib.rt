@@ -5,6 +5,8 @@
 #[cfg(test)]
 mod apdu;
 #[cfg(test)]
+mod device;
+#[cfg(test)]
 mod log;
 #[cfg(test)]
 mod log_answers;
@@ -12,6 +14,8 @@ mod log_answers;
 mod log_records;
 #[cfg(test)]
 mod print;
+#[cfg(test)]
+mod properties;
 #[cfg(test)]
 mod replay;
 #[cfg(test)]
