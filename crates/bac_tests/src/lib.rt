@@ -7,6 +7,8 @@ mod apdu;
 #[cfg(test)]
 mod log;
 #[cfg(test)]
+mod passage;
+#[cfg(test)]
 mod replay;
 #[cfg(test)]
 mod wire;
