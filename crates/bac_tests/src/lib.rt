@@ -13,6 +13,8 @@ mod log_answers;
 #[cfg(test)]
 mod log_records;
 #[cfg(test)]
+mod passage;
+#[cfg(test)]
 mod print;
 #[cfg(test)]
 mod properties;
