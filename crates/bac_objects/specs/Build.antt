@@ -66,14 +66,18 @@ own_tests (Multistate instance name states default) =
     (nat_lt states 1 || nat_lt 65535 states, BadStates) ∷ (nat_lt default 1 || nat_lt states default, BadDefault) ∷ []
 own_tests (Integer instance name default) = []
 
+-- the tests of an object line behind the device's line, where a line before it has the same identifier, or the same name
+abbrev pub line_tests : DeviceLine → ObjectLine → Bool → Bool → List (Bool × BuildFault)
+line_tests device line same_id same_name =
+    (nat_lt 4194302 (instance_of line), BadInstance)
+    ∷ (same_id, DuplicateId)
+    ∷ (not (is_name (name_of line)), BadName)
+    ∷ (bytes_eq (name_of line) device.name || same_name, DuplicateName)
+    ∷ own_tests line
+
 -- the first fault of an object line behind the device's line and these object lines
 abbrev pub object_fault : DeviceLine → List ObjectLine → ObjectLine → Option BuildFault
-object_fault device before line = first_of (
-    (nat_lt 4194302 (instance_of line), BadInstance)
-    ∷ (has_id (id_of line) before, DuplicateId)
-    ∷ (not (is_name (name_of line)), BadName)
-    ∷ (bytes_eq (name_of line) device.name || has_name (name_of line) before, DuplicateName)
-    ∷ own_tests line)
+object_fault device before line = first_of (line_tests device line (has_id (id_of line) before) (has_name (name_of line) before))
 
 abbrev pub objects_fault : DeviceLine → List ObjectLine → List ObjectLine → Option BuildFault
 objects_fault device before [] = None

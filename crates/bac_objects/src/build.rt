@@ -1,9 +1,11 @@
 //! Building a device of lines.
 
-ghost use Rattle.std.specs.Prelude.{◌≡◌, ◌<◌, ◌++◌, ◌∷◌, [], map, None, OnOk, IfOk, IfErr};
+ghost use Rattle.std.specs.Prelude.{◌≡◌, ◌<◌, ◌++◌, ◌∷◌, [], map, None, OnOk, IfOk, IfErr, IfSome, IsTrue};
 ghost use Rattle.std.specs.List.{list_any};
 ghost use Rattle.std.specs.Map.{lookup};
-ghost use Rattle.bac_objects.specs.Build.{Builds, body_of, build_fault, device_fault, entry_of, first_of, has_id, has_name, id_of, instance_of, is_control, is_name, object_fault, objects_fault, own_tests};
+ghost use Rattle.std.specs.Str.{bytes_eq};
+ghost use Rattle.indexmap.specs.IndexSet.{insert_key};
+ghost use Rattle.bac_objects.specs.Build.{Builds, body_of, build_fault, device_fault, entry_of, first_of, has_id, has_name, id_of, instance_of, is_control, is_name, line_tests, objects_fault, own_tests};
 ghost use Rattle.bac_objects.specs.State.{is_id};
 
 use crate::command::{Command, Range, Setting};
@@ -11,7 +13,7 @@ use crate::database::Database;
 use crate::lines::{DeviceLine, ObjectLine};
 use crate::object::{Body, Object};
 use bac_wire::ObjectId;
-use indexmap::IndexMap;
+use indexmap::{IndexMap, IndexSet};
 use std::alloc::Global;
 use thiserror::Error;
 
@@ -129,21 +131,22 @@ impl ObjectLine {
         }
     }
 
-    /// The first fault of the line behind the device's line and these.
-    fn fault(&self, device: &DeviceLine, before: &[ObjectLine]) -> Option<BuildFault>
-        ensures { result ≡ object_fault device.now before.now self.now }
+    /// The first fault of the line behind the device's line, where lines before it have the same
+    /// identifier or the same name.
+    fn fault(&self, device: &DeviceLine, same_id: bool, same_name: bool) -> Option<BuildFault>
+        ensures { result ≡ first_of (line_tests device.now self.now same_id same_name) }
     {
         if 4_194_302 < self.instance() {
             return Some(BuildFault::BadInstance);
         }
-        if has_id(before, self.kind(), self.instance()) {
+        if same_id {
             return Some(BuildFault::DuplicateId);
         }
         let name = self.name().octets();
         if !is_name(name) {
             return Some(BuildFault::BadName);
         }
-        if name == device.name.octets() || has_name(before, name) {
+        if name == device.name.octets() || same_name {
             return Some(BuildFault::DuplicateName);
         }
         self.own_fault()
@@ -172,25 +175,79 @@ impl ObjectLine {
     }
 }
 
-/// The first fault of the object lines.
-fn objects_fault(device: &DeviceLine, lines: &[ObjectLine]) -> Option<BuildFault>
+/// The first fault of the object lines, where each line is compared with all before it.
+fn compared_fault(device: &DeviceLine, lines: &[ObjectLine]) -> Option<BuildFault>
     ensures { result ≡ objects_fault device.now [] lines.now }
 {
     for place in 0..lines.len() {
-        if let Some(fault) = lines[place].fault(device, &lines[..place]) {
+        let line = &lines[place];
+        let before = &lines[..place];
+        let same_id = has_id(before, line.kind(), line.instance());
+        let same_name = has_name(before, line.name().octets());
+        if let Some(fault) = line.fault(device, same_id, same_name) {
             return Some(fault);
         }
     }
     None
 }
 
+/// Notes the identifier and the name of a line that has no fault.
+fn note<'a>(
+    ids: &mut IndexSet<ObjectId>,
+    names: &mut IndexSet<&'a str>,
+    id: ObjectId,
+    name: &'a str,
+) -> bool
+    ensures ids { IsTrue result → ids.new.keys ≡ insert_key is_id ids.old.keys id }
+    ensures names { IsTrue result → names.new.keys ≡ insert_key (λ a b. bytes_eq a.now b.now) names.old.keys name.entry }
+{
+    ids.insert(id).is_ok() && names.insert(name).is_ok()
+}
+
+/// The first fault of the object lines, found by tables of identifiers and names in which each line
+/// is looked up once; `None` where there is no memory for them.
+fn tabled_fault(
+    alloc: Global,
+    device: &DeviceLine,
+    lines: &[ObjectLine],
+) -> Option<Option<BuildFault>>
+    ensures { IfSome result (λ fault. fault ≡ objects_fault device.now [] lines.now) }
+{
+    let mut ids: IndexSet<ObjectId> = IndexSet::with_capacity(alloc, lines.len()).ok()?;
+    let mut names: IndexSet<&str> = IndexSet::with_capacity(alloc, lines.len()).ok()?;
+    for place in 0..lines.len() {
+        let line = &lines[place];
+        let Some(id) = ObjectId::new(line.kind(), line.instance()) else {
+            return Some(Some(BuildFault::BadInstance));
+        };
+        let name = line.name().text();
+        if let Some(fault) = line.fault(device, ids.contains(&id), names.contains(&name)) {
+            return Some(Some(fault));
+        }
+        if !note(&mut ids, &mut names, id, name) {
+            return None;
+        }
+    }
+    Some(None)
+}
+
+/// The first fault of the object lines.
+fn objects_fault(alloc: Global, device: &DeviceLine, lines: &[ObjectLine]) -> Option<BuildFault>
+    ensures { result ≡ objects_fault device.now [] lines.now }
+{
+    match tabled_fault(alloc, device, lines) {
+        Some(fault) => fault,
+        None => compared_fault(device, lines),
+    }
+}
+
 /// The first fault of all the lines.
-fn build_fault(device: &DeviceLine, lines: &[ObjectLine]) -> Option<BuildFault>
+fn build_fault(alloc: Global, device: &DeviceLine, lines: &[ObjectLine]) -> Option<BuildFault>
     ensures { result ≡ build_fault device.now lines.now }
 {
     match device.fault() {
         Some(fault) => Some(fault),
-        None => objects_fault(device, lines),
+        None => objects_fault(alloc, device, lines),
     }
 }
 
@@ -250,7 +307,7 @@ impl Database {
     ) -> Result<Database, BuildFault>
         ensures { Builds result device.now lines.now }
     {
-        if let Some(fault) = build_fault(device, lines) {
+        if let Some(fault) = build_fault(alloc, device, lines) {
             return Err(fault);
         }
         let objects = objects_of(alloc, device, lines)?;

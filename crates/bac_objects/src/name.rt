@@ -36,6 +36,13 @@ impl Name {
         self.text.as_bytes()
     }
 
+    /// The text itself.
+    pub(crate) fn text(&self) -> &str
+        ensures { result.now ≡ self.now }
+    {
+        self.text.as_str()
+    }
+
     /// The same name once more.
     pub(crate) fn copy(&self, alloc: Global) -> Result<Name, AllocError>
         ensures { IfOk result (λ name. name ≡ self.now) }
