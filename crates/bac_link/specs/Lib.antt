@@ -1,0 +1,4 @@
+pub mod Answer
+pub mod Datagrams
+pub mod Requests
+pub mod Transactions
