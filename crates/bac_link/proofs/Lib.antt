@@ -1,1 +1,2 @@
 pub mod Datagrams
+pub mod Delivers

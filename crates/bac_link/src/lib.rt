@@ -2,9 +2,13 @@
 #![tactic(auto)]
 
 mod answer;
+mod item;
+mod laws;
 mod request;
 mod transactions;
 
 pub use answer::{Answer, answers};
+pub use item::Item;
+pub use laws::{can_be_joined, can_be_resumed, delivers_each_once};
 pub use request::Request;
 pub use transactions::{Pending, Received, Timeout, Transactions};
