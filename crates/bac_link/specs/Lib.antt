@@ -4,3 +4,6 @@ pub mod Requests
 pub mod Transactions
 pub mod Delivery
 pub mod Laws
+pub mod Moments
+pub mod Links
+pub mod Exchanges

@@ -2,13 +2,17 @@
 #![tactic(auto)]
 
 mod answer;
+mod exchange;
 mod item;
 mod laws;
+mod link;
 mod request;
 mod transactions;
 
 pub use answer::{Answer, answers};
+pub use exchange::{ExchangeFault, Refusal, Verdict, exchange, judge};
 pub use item::Item;
 pub use laws::{can_be_joined, can_be_resumed, delivers_each_once};
+pub use link::{LogLink, Lost};
 pub use request::Request;
 pub use transactions::{Pending, Received, Timeout, Transactions};
