@@ -1,10 +1,10 @@
 -- Requests as datagrams: how long they are, and that they are read back.
-use Rattle.std.proofs.Common.{◌≡◌, ℕ, ◌+◌, ◌<◌, ◌≤◌, Bool, true, false, List, [], ◌∷◌, ◌++◌, length, Option, Some, None, refl, ap, arith, inl, inr}
+use Rattle.std.proofs.Common.{◌≡◌, ℕ, ◌+◌, ◌<◌, ◌≤◌, true, false, List, [], ◌∷◌, ◌++◌, length, Option, Some, None, refl, ap, arith, inr}
 use Rattle.std.proofs.lemmas.Bool.{eq-eqb}
 use Rattle.std.proofs.lemmas.List.{length-append}
-use Rattle.bac_apdu.specs.Apdu.{Apdu, Confirmed, Complex, apdu_octets, apdu_at}
-use Rattle.bac_apdu.specs.Frame.{frame_octets, frame_at}
-use Rattle.bac_apdu.specs.Npdu.{Header, header_octets, header_at, place_octets, IsHeader}
+use Rattle.bac_apdu.specs.Apdu.{Apdu, Confirmed, Complex, Error, apdu_octets}
+use Rattle.bac_apdu.specs.Frame.{frame_octets}
+use Rattle.bac_apdu.specs.Npdu.{Header, header_octets, place_octets, IsHeader}
 use Rattle.bac_apdu.proofs.Heads.{frame_again, header_again, message_again}
 use Rattle.bac_link.specs.Datagrams.{is_local, apdu_octets_in, apdu_in, asked_id, answer_in, same_id, answers_to}
 use Rattle.bac_link.specs.Requests.{asking, service_of, parameters_of, request_apdu, request_octets}
@@ -49,6 +49,11 @@ request_again invoke r small =
 pub ack_answers : (invoke : ℕ) (r : Request) (datagram : List ℕ) (service : ℕ) (parameters : List ℕ) → length (request_apdu invoke r) ≤ 1476 → apdu_in datagram ≡ Some (Complex false invoke service parameters) → answers_to (request_octets invoke r) datagram ≡ true
 unfolding answers_to
 ack_answers invoke r datagram service parameters small e = rw (request_again invoke r small, e) (eq-eqb invoke invoke refl)
+
+-- and so does an Error with it
+pub error_answers : (invoke : ℕ) (r : Request) (datagram : List ℕ) (service class code : ℕ) → length (request_apdu invoke r) ≤ 1476 → apdu_in datagram ≡ Some (Error invoke service class code) → answers_to (request_octets invoke r) datagram ≡ true
+unfolding answers_to
+error_answers invoke r datagram service class code small e = rw (request_again invoke r small, e) (eq-eqb invoke invoke refl)
 
 same_none : (invoke : Option ℕ) → same_id invoke None ≡ false
 same_none None = refl

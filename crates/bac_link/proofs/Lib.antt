@@ -1,2 +1,4 @@
 pub mod Datagrams
 pub mod Delivers
+pub mod Fitting
+pub mod Verdicts

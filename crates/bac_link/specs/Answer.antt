@@ -1,5 +1,5 @@
 -- What is answered to a confirmed request (clause 5.4), apart from where it lies in memory.
-use Rattle.std.specs.Prelude.{ℕ, List, Option, Some, None}
+use Rattle.std.specs.Prelude.{ℕ, List}
 use Rattle.bac_link.specs.declared.answer.Answer.{Answer as AnswerCode}
 use Rattle.bac_link.specs.declared.answer.Answer.TheVariants as code
 

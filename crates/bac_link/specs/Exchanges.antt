@@ -1,20 +1,20 @@
 -- An exchange: a request is sent until an answer comes, and what it then brings.
-use Rattle.std.specs.Prelude.{◌≡◌, ℕ, ◌+◌, Bool, true, not, ◌&&◌, ◌==◌, if◌then◌else◌, Option, Some, None, Result, Ok, Err, List}
+use Rattle.std.specs.Prelude.{◌≡◌, ℕ, ◌+◌, true, not, ◌&&◌, ◌==◌, if◌then◌else◌, Option, Some, None, Result, Ok, Err, List}
 use Rattle.bac_apdu.specs.Apdu.{Apdu}
 use Rattle.bac_apdu.specs.Apdu as apdu
 use Rattle.bac_apdu.specs.declared.service.extent.Extent.{Extent}
 use Rattle.bac_wire.specs.Primitive.{Id}
-use Rattle.bac_link.specs.declared.exchange.ExchangeFault.{ExchangeFault}
-use Rattle.bac_link.specs.declared.exchange.ExchangeFault.TheVariants as fault
-use Rattle.bac_link.specs.declared.exchange.Refusal.TheVariants as refusal
-use Rattle.bac_link.specs.declared.exchange.Verdict.{Verdict}
-use Rattle.bac_link.specs.declared.exchange.Verdict.TheVariants.{Ack, Refused, BadReply}
+use Rattle.bac_link.specs.declared.exchanges.ExchangeFault.{ExchangeFault}
+use Rattle.bac_link.specs.declared.exchanges.ExchangeFault.TheVariants as fault
+use Rattle.bac_link.specs.declared.exchanges.Refusal.TheVariants as refusal
+use Rattle.bac_link.specs.declared.exchanges.Verdict.{Verdict}
+use Rattle.bac_link.specs.declared.exchanges.Verdict.TheVariants.{Ack, Refused, BadReply}
 use Rattle.bac_link.specs.declared.request.Request.{Request}
 use Rattle.bac_link.specs.declared.transactions.Transactions.{Transactions}
 use Rattle.bac_link.specs.Datagrams.{answers_to, apdu_in}
 use Rattle.bac_link.specs.Delivery.{History, Moment, now, later}
 use Rattle.bac_link.specs.Links.{IsReply, IsUnknown, RisesBy}
-use Rattle.bac_link.specs.Requests.{has_result, next_invoke, request_octets, service_of}
+use Rattle.bac_link.specs.Requests.{has_result, request_octets, service_of}
 use Rattle.bac_link.specs.Transactions.{begun_with, closed}
 
 -- What an answer is to its request (clause 5.4.4): the ACK of the request's service, which is a SimpleACK for a service

@@ -1,5 +1,5 @@
 -- What is asked of a log, what it answers at a moment, and what a link makes of it: all as datagrams.
-use Rattle.std.specs.Prelude.{◌≡◌, ℕ, ◌+◌, ◌≤◌, min, false, Option, Some, None, Result, Ok, Err, List, All}
+use Rattle.std.specs.Prelude.{◌≡◌, ℕ, ◌+◌, ◌≤◌, min, false, Some, None, Result, Ok, Err, List, All}
 use Rattle.bac_wire.specs.Primitive.{Id, Object}
 use Rattle.bac_wire.specs.Canon.{IsValid}
 use Rattle.bac_apdu.specs.Apdu.{Complex, Error}

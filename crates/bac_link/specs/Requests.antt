@@ -1,5 +1,5 @@
 -- Confirmed requests, and the datagrams that carry them.
-use Rattle.std.specs.Prelude.{◌≡◌, ℕ, ◌+◌, ◌%◌, ◌<◌, Bool, true, false, List, ◌++◌, length, None}
+use Rattle.std.specs.Prelude.{ℕ, ◌+◌, ◌%◌, ◌<◌, Bool, true, false, List, ◌++◌, length, None}
 use Rattle.bac_wire.specs.View.{IsWellFormed}
 use Rattle.bac_apdu.specs.Apdu.{Confirmed, apdu_octets}
 use Rattle.bac_apdu.specs.FormCanon.{canon_form}

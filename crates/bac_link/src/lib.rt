@@ -2,7 +2,7 @@
 #![tactic(auto)]
 
 mod answer;
-mod exchange;
+mod exchanges;
 mod item;
 mod laws;
 mod link;
@@ -10,7 +10,7 @@ mod request;
 mod transactions;
 
 pub use answer::{Answer, answers};
-pub use exchange::{ExchangeFault, Refusal, Verdict, exchange, judge};
+pub use exchanges::{ExchangeFault, Refusal, Verdict, exchange, judge};
 pub use item::Item;
 pub use laws::{can_be_joined, can_be_resumed, delivers_each_once};
 pub use link::{LogLink, Lost};

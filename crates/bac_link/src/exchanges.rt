@@ -64,9 +64,13 @@ pub fn judge(request: &Request, datagram: &[u8]) -> Verdict
                 Verdict::BadReply
             }
         }
-        Some(Apdu::Complex {
-            segmented, service, ..
-        }) => {
+        Some(
+            Apdu::Complex {
+                segmented,
+                service,
+                ..
+            },
+        ) => {
             if request.has_result() && !segmented && service == request.service() {
                 Verdict::Ack
             } else {
