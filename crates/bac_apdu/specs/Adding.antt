@@ -1,21 +1,8 @@
 -- How each single parameter is written, and what a writer of several does.
 use Rattle.std.specs.Prelude.{ℕ, ◌+◌, ◌<◌, ◌≡◌, List, ◌++◌, length, Result}
 use Rattle.std.specs.Result.{MatchResult}
-use Rattle.bac_wire.specs.Primitive.{Primitive}
-use Rattle.bac_wire.specs.Canon.{tag_octets, canon, canon_context}
-
--- They stay closed in proofs about lists of parameters.
-unfoldable pub context_octets : ℕ → Primitive → List ℕ
-context_octets tag value = canon_context tag value
-
-unfoldable pub value_octets : Primitive → List ℕ
-value_octets value = canon value
-
-unfoldable pub open_octets : ℕ → List ℕ
-open_octets tag = tag_octets 8 tag 6
-
-unfoldable pub close_octets : ℕ → List ℕ
-close_octets tag = tag_octets 8 tag 7
+-- the encodings of single parameters, which stay closed in proofs about lists of parameters
+unfoldable pub use Rattle.bac_wire.specs.Encoding.{context_octets, value_octets, open_octets, close_octets}
 
 -- The text is appended, or it doesn't fit.
 abbrev pub Adds : {E : Type 0} → List ℕ → List ℕ → Result (Unit {0}) E → List ℕ → Type 0

@@ -7,11 +7,8 @@ use Rattle.bac_wire.specs.Reading.{context_at, mark_at, contents_as, value_at}
 use Rattle.bac_apdu.specs.declared.reason.Reason.{Reason}
 use Rattle.bac_apdu.specs.declared.reason.Reason.TheVariants.{InvalidTag, OutOfRange, TooManyArguments}
 use Rattle.bac_apdu.specs.Reason.{reasoned}
+pub use Rattle.bac_wire.specs.Next.{other_next}
 use Rattle.bac_apdu.specs.Form.{Absent, Form, Inside, Item, Mark, Part, SpellsPart, Value, any, application, choice, closing, context, enclosed, end, if_tag, next_tag, nothing_or, opening, opening_next, optional, part, value_next}
-
--- an application tag of another type
-abbrev pub other_next : ℕ → List ℕ → Bool
-other_next type bytes = if_tag (λ tag. nat_le tag.0 5 && not (tag.1 == type)) (next_tag bytes)
 
 -- ---- reading, and the reason of the first parameter that isn't spelled or not in range
 

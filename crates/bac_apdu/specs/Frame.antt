@@ -1,5 +1,5 @@
 -- Frames (Annex J.2): what a whole datagram is, and how a frame to one device is written.
-use Rattle.std.specs.Prelude.{ℕ, ◌+◌, ◌&&◌, ◌==◌, List, ◌∷◌, ◌++◌, length, Option, Some, None, if◌then◌else◌}
+use Rattle.std.specs.Prelude.{ℕ, ◌+◌, ◌&&◌, ◌==◌, List, [], ◌∷◌, ◌++◌, length, Option, Some, None, if◌then◌else◌}
 use Rattle.std.specs.Int.{w16, to_be_bytes}
 use Rattle.bac_apdu.specs.declared.frame.Frame.{Frame as FrameCode}
 use Rattle.bac_apdu.specs.declared.frame.Frame.TheVariants as code
@@ -36,6 +36,10 @@ frame_at bytes = do
   function ← octet_at kind.1
   len ← word_at function.1
   if kind.0 == 0x81 && len.0 == length bytes then body_at function.0 len.1 else None
+
+-- a BVLC-Result (J.2.1): the function 00, and a code in two octets
+abbrev pub result_octets : ℕ → List ℕ
+result_octets code = (0x81 ∷ 0x00 ∷ 0x00 ∷ 0x06 ∷ []) ++ to_be_bytes w16 code
 
 -- an Original-Unicast-NPDU (J.2.11)
 unfoldable pub frame_octets : List ℕ → List ℕ

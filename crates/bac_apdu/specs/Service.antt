@@ -1,4 +1,5 @@
 -- The services, one file each: its list of parameters, and what it shows of its fields.
+pub mod Choice
 pub mod WhoIs
 pub mod IAm
 pub mod ReadProperty

@@ -1,6 +1,7 @@
 //! The services (clauses 15 and 16), one file each: the fields of its parameters, how they are read
 //! and how they are written.
 
+pub mod choice;
 mod extent;
 mod i_am;
 mod read_property;

@@ -1,4 +1,3 @@
 pub mod Datagrams
 pub mod Delivers
-pub mod Fitting
 pub mod Verdicts

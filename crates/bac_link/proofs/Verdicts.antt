@@ -1,8 +1,9 @@
 -- What an exchange makes of what it heard.
-use Rattle.std.proofs.Common.{◌≡◌, ℕ, ◌+◌, ◌≤◌, true, List, length, ap, arith}
+use Rattle.std.proofs.Common.{◌≡◌, ℕ, ◌+◌, ◌<◌, ◌≤◌, true, List, length, None, ap, arith}
 use Rattle.bac_wire.specs.Primitive.{Id}
 use Rattle.bac_apdu.specs.declared.service.extent.Extent.{Extent}
-use Rattle.bac_log.specs.Ack.{read_range_service}
+use Rattle.bac_apdu.proofs.Shorts.{range_apdu_short}
+use Rattle.bac_log.specs.Ack.{log_buffer, read_range_service}
 use Rattle.bac_log.specs.TrendLog.{Log}
 use Rattle.bac_link.specs.declared.exchanges.Refusal.TheVariants as refusal
 use Rattle.bac_link.specs.declared.exchanges.Verdict.TheVariants.{Ack, Refused}
@@ -10,28 +11,28 @@ use Rattle.bac_link.specs.declared.request.Request.{Request}
 use Rattle.bac_link.specs.Datagrams.{answers_to, apdu_in}
 use Rattle.bac_link.specs.Exchanges.{verdict_of}
 use Rattle.bac_link.specs.Links.{HasReply, IsUnknown, IsQuestion, question, reply_parameters, RisesBy}
-use Rattle.bac_link.specs.Requests.{request_apdu, IsTooLong}
+use Rattle.bac_link.specs.Requests.{parameters_of, request_apdu, IsTooLong}
 use Rattle.bac_link.proofs.Datagrams.{ack_answers, error_answers}
-use Rattle.bac_link.proofs.Fitting.{question_fits}
 
-short : (invoke : ℕ) (r : Request) → (IsTooLong r → ⊥) → length (request_apdu invoke r) ≤ 1476
-unfolding request_apdu
-short invoke r fits = omega (arith, fits)
+-- a question has at most 51 octets
+question_short : (id : Id) (extent : Extent) (invoke : ℕ) → length (request_apdu invoke (question id extent)) ≤ 1476
+unfolding request_apdu parameters_of
+question_short id extent invoke = omega (arith, range_apdu_short (record { object = id; property = log_buffer; index = None; extent = extent }) 1476 invoke)
 
-question_short : (id : Id) (extent : Extent) (invoke : ℕ) (octets : List ℕ) → IsQuestion id extent invoke octets → length (request_apdu invoke (question id extent)) ≤ 1476
-question_short id extent invoke octets asks = short invoke (question id extent) (question_fits id extent asks.1)
+pub question_fits : (id : Id) (extent : Extent) → IsTooLong (question id extent) → ⊥
+question_fits id extent long = omega (arith, long, question_short id extent 0)
 
 -- an honest reply answers the question
 pub honest_answers : (r : ℕ) (log : Log) (id : Id) (extent : Extent) (invoke : ℕ) (octets datagram : List ℕ) →
     IsQuestion id extent invoke octets → HasReply r log id extent invoke datagram → answers_to octets datagram ≡ true
 honest_answers r log id extent invoke octets datagram asks h =
-    rw asks.0 (ack_answers invoke (question id extent) datagram read_range_service (reply_parameters id log extent r) (question_short id extent invoke octets asks) h)
+    rw asks.0 (ack_answers invoke (question id extent) datagram read_range_service (reply_parameters id log extent r) (question_short id extent invoke) h)
 
 -- and so does the Error of a device without the log
 pub unknown_answers : (id : Id) (extent : Extent) (invoke : ℕ) (octets datagram : List ℕ) →
     IsQuestion id extent invoke octets → IsUnknown invoke datagram → answers_to octets datagram ≡ true
 unknown_answers id extent invoke octets datagram asks h =
-    rw asks.0 (error_answers invoke (question id extent) datagram read_range_service 1 31 (question_short id extent invoke octets asks) h)
+    rw asks.0 (error_answers invoke (question id extent) datagram read_range_service 1 31 (question_short id extent invoke) h)
 
 -- an honest reply is the ACK of the question
 pub honest_verdict : (r : ℕ) (log : Log) (id : Id) (extent : Extent) (invoke : ℕ) (datagram : List ℕ) →

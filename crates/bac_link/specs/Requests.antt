@@ -5,6 +5,7 @@ use Rattle.bac_apdu.specs.Apdu.{Confirmed, apdu_octets}
 use Rattle.bac_apdu.specs.FormCanon.{canon_form}
 use Rattle.bac_apdu.specs.Frame.{frame_octets}
 use Rattle.bac_apdu.specs.Npdu.{Header, header_octets}
+use Rattle.bac_apdu.specs.Service.Choice.{read_property_service, write_property_service, read_range_service}
 use Rattle.bac_apdu.specs.Service.ReadProperty.{read_property, property_items}
 use Rattle.bac_apdu.specs.Service.WriteProperty.{write_property, write_items}
 use Rattle.bac_apdu.specs.Service.ReadRange.{read_range, range_items}
@@ -13,9 +14,9 @@ use Rattle.bac_link.specs.declared.request.Request.TheVariants as request
 
 -- the service choice (BACnetConfirmedServiceChoice of clause 21)
 abbrev pub service_of : Request → ℕ
-service_of (request.ReadProperty r) = 12
-service_of (request.WriteProperty w) = 15
-service_of (request.ReadRange r) = 26
+service_of (request.ReadProperty r) = read_property_service
+service_of (request.WriteProperty w) = write_property_service
+service_of (request.ReadRange r) = read_range_service
 
 unfoldable pub parameters_of : Request → List ℕ
 parameters_of (request.ReadProperty r) = canon_form read_property (property_items r)

@@ -4,6 +4,7 @@ ghost use Rattle.std.specs.Prelude.{◌≡◌, ◌≤◌, ◌↔◌, length, IfO
 ghost use Rattle.bac_wire.specs.Datagram.{Writes};
 ghost use Rattle.bac_link.specs.Requests.{service_of, parameters_of, has_result as has_result_of, request_apdu, request_octets, IsSendable, IsTooLong};
 
+use bac_apdu::choice::{READ_PROPERTY, READ_RANGE, WRITE_PROPERTY};
 use bac_apdu::{Apdu, Npdu, ReadProperty, ReadRange, WriteProperty, write_apdu, write_datagram};
 use bac_wire::{Datagram, Full};
 
@@ -23,9 +24,9 @@ impl<'a> Request<'a> {
         ensures { result ≡ service_of self.now }
     {
         match self {
-            Request::ReadProperty(_) => 12,
-            Request::WriteProperty(_) => 15,
-            Request::ReadRange(_) => 26,
+            Request::ReadProperty(_) => READ_PROPERTY,
+            Request::WriteProperty(_) => WRITE_PROPERTY,
+            Request::ReadRange(_) => READ_RANGE,
         }
     }
 

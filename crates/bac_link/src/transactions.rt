@@ -46,16 +46,6 @@ pub struct Transactions {
     pending: Option<Pending>,
 }
 
-/// The same octets.
-fn copy(datagram: &Datagram) -> Datagram
-    ensures { result ≡ datagram.now }
-{
-    match Datagram::of(datagram.octets()) {
-        Some(copy) => copy,
-        None => unreachable!(),
-    }
-}
-
 impl Transactions {
     /// None begun, each to be repeated so many times.
     pub fn new(retries: u8) -> Transactions
@@ -84,7 +74,7 @@ impl Transactions {
         self.invoke = invoke;
         self.begun = self.begun.saturating_add(1);
         self.pending = Some(Pending {
-            request: copy(&datagram),
+            request: datagram.copy(),
             repeats: 0,
         });
         Ok(datagram)
@@ -125,7 +115,7 @@ impl Transactions {
             Some(pending) => {
                 if pending.repeats < self.retries {
                     pending.repeats += 1;
-                    return Timeout::Resend(copy(&pending.request));
+                    return Timeout::Resend(pending.request.copy());
                 }
             }
             None => {}

@@ -11,3 +11,8 @@ abbrev pub ◌>>=◌ : {A B F : Type 0} → Result A F → (A → Result B F) �
 abbrev pub Gives : {X Y F : Type 0} → (X → Y) → Result X F → Result Y F → Type 0
 Gives view (Ok x) read = read ≡ Ok (view x)
 Gives view (Err e) read = read ≡ Err e
+
+-- what is made of what a step gave
+abbrev pub result_map : {A B F : Type 0} → (A → B) → Result A F → Result B F
+result_map f (Ok x) = Ok (f x)
+result_map f (Err e) = Err e

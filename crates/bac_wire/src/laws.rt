@@ -1,9 +1,10 @@
 //! Laws of spelling, reading and writing together (clause 20.2). Each function does nothing: what it
 //! ensures is the law.
 
-ghost use Rattle.std.specs.Prelude.{◌≡◌, ◌<◌, ◌≤◌, ℕ, List, [], ◌++◌, length, Ok, slice_index_or};
+ghost use Rattle.std.specs.Prelude.{◌≡◌, ◌<◌, ◌≤◌, ◌+◌, ℕ, ℤ, List, [], ◌++◌, length, Ok, slice_index_or};
 ghost use Rattle.bac_wire.specs.Level.{IsLevel};
-ghost use Rattle.bac_wire.specs.Canon.{tag_octets, contents_of, canon, canon_context, IsValid};
+ghost use Rattle.bac_wire.specs.Canon.{tag_octets, unsigned_octets, signed_octets, contents_of, canon, canon_context, IsValid};
+ghost use Rattle.bac_wire.specs.Encoding.{value_octets, context_octets};
 ghost use Rattle.bac_wire.specs.Primitive.{Primitive};
 ghost use Rattle.bac_wire.specs.Reading.{value_at, context_at, contents_as, mark_at};
 ghost use Rattle.bac_wire.specs.Spelling.{IsTag, IsTagged, Spells, StandsFor, tag_of};
@@ -66,4 +67,15 @@ pub fn levels_are_made()
     ensures context { (tag : ℕ) (value : Primitive) → tag < 255 → IsValid value → IsLevel (canon_context tag value) }
     ensures joined { (a b : List ℕ) → IsLevel a → IsLevel b → IsLevel (a ++ b) }
     ensures enclosed { (tag : ℕ) (inside : List ℕ) → tag < 255 → IsLevel inside → IsLevel (tag_octets 8 tag 6 ++ (inside ++ tag_octets 8 tag 7)) }
+{}
+
+/// How many octets an encoding has at most, where its contents have fewer than 254: one for its tag,
+/// and one for a length of five and more. The numbers of context tags are below 15.
+pub fn encodings_are_short()
+    ensures unsigned { (n : ℕ) → length (unsigned_octets n) ≤ 8 }
+    ensures signed { (z : ℤ) → length (signed_octets z) ≤ 8 }
+    ensures few { (value : Primitive) → length (contents_of value) < 5 → length (value_octets value) ≤ 1 + length (contents_of value) }
+    ensures value { (value : Primitive) → length (contents_of value) < 254 → length (value_octets value) ≤ 2 + length (contents_of value) }
+    ensures few_behind { (tag : ℕ) (value : Primitive) → tag < 15 → length (contents_of value) < 5 → length (context_octets tag value) ≡ 1 + length (contents_of value) }
+    ensures context { (tag : ℕ) (value : Primitive) → tag < 15 → length (contents_of value) < 254 → length (context_octets tag value) ≤ 2 + length (contents_of value) }
 {}

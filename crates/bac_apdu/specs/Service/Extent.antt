@@ -1,10 +1,11 @@
 -- The range of ReadRange (clauses 15.8 and 21): its parameters, and what an extent shows of its fields.
-use Rattle.std.specs.Prelude.{ℕ, pos, negsuc, ◌^◌, ◌<◌, ◌≡◌, ◌&&◌, nat_lt, nat_le, Bool, true, false, List, [], ◌∷◌}
+use Rattle.std.specs.Prelude.{ℕ, pos, negsuc, ◌^◌, ◌<◌, ◌≡◌, ◌&&◌, nat_lt, nat_le, ◌==◌, if◌then◌else◌, Bool, true, false, List, [], ◌∷◌}
 use Rattle.bac_wire.specs.Primitive.{Primitive, Unsigned, Signed, Date, Time}
 use Rattle.bac_wire.specs.Stamp.{date_octets, time_octets}
 use Rattle.bac_apdu.specs.declared.service.extent.Extent.{Extent}
 use Rattle.bac_apdu.specs.declared.service.extent.Extent.TheVariants.{All, ByPosition, ByNumber, ByTime}
 use Rattle.bac_apdu.specs.Form.{Form, end, part, choice, application, opening, closing, is_u32, unsigned, signed, date, time, Item, Value, Mark}
+use Rattle.bac_apdu.specs.Fields.{item_at, unsigned_in, signed_in, date_in, time_in, mark_in}
 
 -- ---- ranges
 
@@ -69,3 +70,16 @@ IsExtent All = Unit {0}
 IsExtent (ByPosition reference count) = (reference < 2 ^ 32) × (is_count (Signed count) ≡ true)
 IsExtent (ByNumber reference count) = (reference < 2 ^ 32) × (is_count (Signed count) ≡ true)
 IsExtent (ByTime date time count) = (date_fits (date_octets date) ≡ true) × (time_fits (time_octets time) ≡ true) × (is_count (Signed count) ≡ true)
+
+-- ---- with named fields
+
+-- by the number of the opening tag: 3 by position, 6 by sequence number, 7 by time
+abbrev pub extent_behind : ℕ → List Item → Extent
+extent_behind tag items =
+    if tag == 3 then ByPosition (unsigned_in (item_at 0 items)) (signed_in (item_at 1 items)) else
+    if tag == 6 then ByNumber (unsigned_in (item_at 0 items)) (signed_in (item_at 1 items)) else
+    ByTime (date_in (item_at 0 items)) (time_in (item_at 1 items)) (signed_in (item_at 2 items))
+
+abbrev pub extent_in : List Item → Extent
+extent_in [] = All
+extent_in (mark ∷ items) = extent_behind (mark_in mark) items

@@ -1,8 +1,13 @@
 -- The ACK of ReadProperty (clauses 15.5 and 21): its parameters, and what it shows of its fields.
-use Rattle.std.specs.Prelude.{List, [], ◌∷◌}
-use Rattle.bac_wire.specs.Primitive.{Enumerated, Object}
+use Rattle.std.specs.Prelude.{ℕ, List, [], ◌∷◌, Option}
+use Rattle.bac_wire.specs.Primitive.{Id, Enumerated, Object}
 use Rattle.bac_apdu.specs.declared.service.read_property_ack.ReadPropertyAck.{ReadPropertyAck}
+use Rattle.bac_apdu.specs.FormCanon.{canon_form}
 use Rattle.bac_apdu.specs.Form.{Form, end, part, optional, context, opening, enclosed, anything, is_u32, unsigned, enumerated, object_identifier, Item, Value, Mark, Inside, number_item}
+use Rattle.std.specs.Option.{option_map}
+use Rattle.std.specs.Result.{result_ok}
+use Rattle.bac_apdu.specs.FormReading.{form_at}
+use Rattle.bac_apdu.specs.Fields.{item_at, id_in, enumerated_in, number_in, octets_in}
 
 abbrev pub values : Form
 values =
@@ -22,3 +27,32 @@ value_items a = Mark 3 ∷ Inside a.values.now ∷ []
 
 abbrev pub property_ack_items : ReadPropertyAck → List Item
 property_ack_items a = Value (Object a.object) ∷ Value (Enumerated a.property) ∷ number_item a.index ∷ value_items a
+
+-- ---- with named fields
+
+-- an answer, apart from where its values lie in memory
+pub record PropertyAck : Type 0 where
+  pub object : Id
+  pub property : ℕ
+  pub index : Option ℕ
+  pub values : List ℕ
+
+abbrev pub property_ack_of : ReadPropertyAck → PropertyAck
+property_ack_of a = record { object = a.object; property = a.property; index = a.index; values = a.values.now }
+
+abbrev pub property_ack_in : List Item → PropertyAck
+property_ack_in items =
+    record { object = id_in (item_at 0 items); property = enumerated_in (item_at 1 items); index = number_in (item_at 2 items); values = octets_in (item_at 4 items) }
+
+-- the answer that parameters are the encoding of
+unfoldable pub read_property_ack_at : List ℕ → Option PropertyAck
+read_property_ack_at bytes = option_map property_ack_in (result_ok (form_at read_property_ack bytes))
+
+-- ---- written
+
+abbrev pub property_ack_fields : PropertyAck → List Item
+property_ack_fields a = Value (Object a.object) ∷ Value (Enumerated a.property) ∷ number_item a.index ∷ Mark 3 ∷ Inside a.values ∷ []
+
+-- the parameters of an answer, each as short as can be
+abbrev pub property_ack_octets : PropertyAck → List ℕ
+property_ack_octets a = canon_form read_property_ack (property_ack_fields a)

@@ -1,9 +1,13 @@
 -- ReadRange (clauses 15.8 and 21): its parameters, and what a request shows of its fields.
-use Rattle.std.specs.Prelude.{List, ◌∷◌}
+use Rattle.std.specs.Prelude.{ℕ, List, ◌∷◌, drop, Result}
 use Rattle.bac_wire.specs.Primitive.{Enumerated, Object}
 use Rattle.bac_apdu.specs.declared.service.read_range.ReadRange.{ReadRange}
 use Rattle.bac_apdu.specs.Form.{Form, part, optional, context, anything, is_u32, unsigned, enumerated, object_identifier, Item, Value, number_item}
-use Rattle.bac_apdu.specs.Service.Extent.{range, extent_items}
+use Rattle.bac_apdu.specs.Service.Extent.{range, extent_items, extent_in}
+use Rattle.bac_wire.specs.Chain.{result_map}
+use Rattle.bac_apdu.specs.declared.reason.Reason.{Reason}
+use Rattle.bac_apdu.specs.FormReading.{form_at}
+use Rattle.bac_apdu.specs.Fields.{item_at, id_in, enumerated_in, number_in}
 
 abbrev pub read_range : Form
 read_range =
@@ -14,3 +18,13 @@ read_range =
 
 abbrev pub range_items : ReadRange → List Item
 range_items r = Value (Object r.object) ∷ Value (Enumerated r.property) ∷ number_item r.index ∷ extent_items r.extent
+
+-- ---- with named fields
+
+abbrev pub range_in : List Item → ReadRange
+range_in items =
+    record { object = id_in (item_at 0 items); property = enumerated_in (item_at 1 items); index = number_in (item_at 2 items); extent = extent_in (drop 3 items) }
+
+-- the request that parameters are the encoding of, or the reason of the first that is wrong
+unfoldable pub read_range_at : List ℕ → Result ReadRange Reason
+read_range_at bytes = result_map range_in (form_at read_range bytes)

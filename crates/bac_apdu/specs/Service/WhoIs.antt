@@ -3,6 +3,10 @@ use Rattle.std.specs.Prelude.{ℕ, ◌≤◌, Bool, false, nat_le, List, [], ◌
 use Rattle.bac_wire.specs.Primitive.{Primitive, Unsigned}
 use Rattle.bac_apdu.specs.declared.service.who_is.WhoIs.{WhoIs}
 use Rattle.bac_apdu.specs.Form.{Form, end, part, nothing_or, context, unsigned, Item, Value}
+use Rattle.std.specs.Option.{option_map}
+use Rattle.std.specs.Result.{result_ok}
+use Rattle.bac_apdu.specs.FormReading.{form_at}
+use Rattle.bac_apdu.specs.Fields.{item_at, number_in}
 
 -- an instance number: at most 4194303
 abbrev pub is_instance : Primitive → Bool
@@ -27,3 +31,16 @@ who_is_items w = limit_items w.limits
 abbrev pub AreLimits : Option (ℕ × ℕ) → Type 0
 AreLimits None = Unit {0}
 AreLimits (Some limits) = (limits.0 ≤ 4194303) × (limits.1 ≤ 4194303)
+
+-- ---- with named fields
+
+abbrev pub both : Option ℕ → Option ℕ → Option (ℕ × ℕ)
+both (Some low) (Some high) = Some (low, high)
+both low high = None
+
+abbrev pub who_is_in : List Item → WhoIs
+who_is_in items = record { limits = both (number_in (item_at 0 items)) (number_in (item_at 1 items)) }
+
+-- the request that parameters are the encoding of
+unfoldable pub who_is_at : List ℕ → Option WhoIs
+who_is_at bytes = option_map who_is_in (result_ok (form_at who_is bytes))

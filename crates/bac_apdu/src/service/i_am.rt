@@ -1,6 +1,6 @@
 //! I-Am (clause 16.10).
 
-ghost use Rattle.std.specs.Prelude.{◌≡◌, List, ℕ, IfSome, IsSomeAnd};
+ghost use Rattle.std.specs.Prelude.{◌≡◌, ◌≤◌, Some, length, List, ℕ, IfSome, IsSomeAnd};
 ghost use Rattle.std.specs.Result.{result_ok};
 ghost use Rattle.bac_wire.specs.Datagram.{Writes};
 ghost use Rattle.bac_wire.specs.Chain.{Gives};
@@ -8,7 +8,7 @@ ghost use Rattle.bac_apdu.specs.Adding.{Adds};
 ghost use Rattle.bac_apdu.specs.Form.{Item, Reads};
 ghost use Rattle.bac_apdu.specs.FormReading.{form_at};
 ghost use Rattle.bac_apdu.specs.FormCanon.{canon_form};
-ghost use Rattle.bac_apdu.specs.Service.IAm.{i_am, i_am_items, IsAnnouncement};
+ghost use Rattle.bac_apdu.specs.Service.IAm.{i_am, i_am_items, i_am_at, IsAnnouncement};
 ghost use Rattle.bac_wire.specs.OptionChain.{GivesSome};
 
 use crate::adding::add_value;
@@ -38,6 +38,8 @@ impl IAm {
         ensures only { (items : List Item) → Reads i_am bytes.now items → IsSomeAnd result (λ a. i_am_items a ≡ items) }
         // The same as a function, on which callers build.
         ensures exact { GivesSome i_am_items result (result_ok (form_at i_am bytes.now)) }
+        // The same with named fields.
+        ensures named { result ≡ i_am_at bytes.now }
     {
         IAm::parts(bytes).ok()
     }
@@ -82,6 +84,16 @@ impl IAm {
     /// What is written is read back.
     pub fn canon_is_read()
         ensures { (a : IAm) → IsAnnouncement a → Reads i_am (canon_form i_am (i_am_items a)) (i_am_items a) }
+    {}
+
+    /// What is written is read back, with named fields.
+    pub fn fields_are_read_back()
+        ensures { (a : IAm) → IsAnnouncement a → i_am_at (canon_form i_am (i_am_items a)) ≡ Some a }
+    {}
+
+    /// An announcement has at most 35 octets of parameters.
+    pub fn canon_is_short()
+        ensures { (a : IAm) → length (canon_form i_am (i_am_items a)) ≤ 35 }
     {}
 
     /// Two different announcements never show the same parameters.

@@ -1,13 +1,13 @@
 //! ReadProperty (clause 15.5).
 
-ghost use Rattle.std.specs.Prelude.{◌≡◌, List, ℕ, IfOk, IfErr, IsOkAnd};
+ghost use Rattle.std.specs.Prelude.{◌≡◌, ◌≤◌, Ok, length, List, ℕ, IfOk, IfErr, IsOkAnd};
 ghost use Rattle.bac_wire.specs.Chain.{Gives};
 ghost use Rattle.bac_wire.specs.Datagram.{Writes};
 ghost use Rattle.bac_apdu.specs.Adding.{Adds};
 ghost use Rattle.bac_apdu.specs.Form.{Item, Reads};
 ghost use Rattle.bac_apdu.specs.FormReading.{form_at, Stops};
 ghost use Rattle.bac_apdu.specs.FormCanon.{canon_form};
-ghost use Rattle.bac_apdu.specs.Service.ReadProperty.{read_property, property_items, IsProperty};
+ghost use Rattle.bac_apdu.specs.Service.ReadProperty.{read_property, property_items, read_property_at, IsProperty};
 
 use crate::adding::add_context;
 use crate::parts::Parts;
@@ -34,6 +34,8 @@ impl ReadProperty {
         ensures refused { IfErr result (λ reason. (count : ℕ) × Stops read_property bytes.now count reason) }
         // The same as a function, on which callers build.
         ensures exact { Gives property_items result (form_at read_property bytes.now) }
+        // The same with named fields.
+        ensures named { result ≡ read_property_at bytes.now }
     {
         ReadProperty::parts(bytes)
     }
@@ -77,6 +79,16 @@ impl ReadProperty {
     /// What is written is read back.
     pub fn canon_is_read()
         ensures { (p : ReadProperty) → IsProperty p.object p.property p.index → Reads read_property (canon_form read_property (property_items p)) (property_items p) }
+    {}
+
+    /// What is written is read back, with named fields.
+    pub fn fields_are_read_back()
+        ensures { (p : ReadProperty) → IsProperty p.object p.property p.index → read_property_at (canon_form read_property (property_items p)) ≡ Ok p }
+    {}
+
+    /// A request has at most 25 octets of parameters.
+    pub fn canon_is_short()
+        ensures { (p : ReadProperty) → length (canon_form read_property (property_items p)) ≤ 25 }
     {}
 
     /// Two different requests never show the same parameters.

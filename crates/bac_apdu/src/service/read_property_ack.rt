@@ -1,6 +1,6 @@
 //! The ACK of ReadProperty (clause 15.5).
 
-ghost use Rattle.std.specs.Prelude.{◌≡◌, List, ℕ, IfSome, IsSomeAnd};
+ghost use Rattle.std.specs.Prelude.{◌≡◌, Some, List, ℕ, IfSome, IsSomeAnd};
 ghost use Rattle.std.specs.Result.{result_ok};
 ghost use Rattle.bac_wire.specs.Datagram.{Writes};
 ghost use Rattle.bac_wire.specs.Chain.{Gives};
@@ -11,7 +11,7 @@ ghost use Rattle.bac_apdu.specs.FormReading.{form_at};
 ghost use Rattle.bac_apdu.specs.FormCanon.{canon_form};
 ghost use Rattle.bac_wire.specs.OptionChain.{GivesSome};
 ghost use Rattle.bac_apdu.specs.Service.ReadProperty.{IsProperty};
-ghost use Rattle.bac_apdu.specs.Service.ReadPropertyAck.{read_property_ack, property_ack_items, values, value_items};
+ghost use Rattle.bac_apdu.specs.Service.ReadPropertyAck.{read_property_ack, property_ack_items, PropertyAck, property_ack_of, property_ack_octets, read_property_ack_at, values, value_items};
 
 use crate::adding::{add_close, add_context, add_open};
 use crate::parts::Parts;
@@ -38,6 +38,8 @@ impl<'a> ReadPropertyAck<'a> {
         ensures only { (items : List Item) → Reads read_property_ack bytes.now items → IsSomeAnd result (λ a. property_ack_items a ≡ items) }
         // The same as a function, on which callers build.
         ensures exact { GivesSome property_ack_items result (result_ok (form_at read_property_ack bytes.now)) }
+        // The same with named fields.
+        ensures named { GivesSome property_ack_of result (read_property_ack_at bytes.now) }
     {
         match ReadPropertyAck::parts(bytes) {
             Ok(ack) => Some(ack),
@@ -96,6 +98,11 @@ impl<'a> ReadPropertyAck<'a> {
     /// What is written is read back.
     pub fn canon_is_read()
         ensures { (a : ReadPropertyAck) → IsProperty a.object a.property a.index → IsLevel a.values.now → Reads read_property_ack (canon_form read_property_ack (property_ack_items a)) (property_ack_items a) }
+    {}
+
+    /// What is written is read back, with named fields.
+    pub fn fields_are_read_back()
+        ensures { (a : PropertyAck) → IsProperty a.object a.property a.index → IsLevel a.values → read_property_ack_at (property_ack_octets a) ≡ Some a }
     {}
 
     /// Two different answers never show the same parameters.

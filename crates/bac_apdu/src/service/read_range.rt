@@ -1,15 +1,17 @@
 //! ReadRange (clause 15.8).
 
-ghost use Rattle.std.specs.Prelude.{◌≡◌, List, ℕ, IfOk, IfErr, IsOkAnd, OnOk};
+ghost use Rattle.std.specs.Prelude.{◌≡◌, ◌≤◌, Ok, false, length, List, ℕ, IfOk, IfErr, IsOkAnd, OnOk};
 ghost use Rattle.bac_wire.specs.Datagram.{Writes};
 ghost use Rattle.bac_wire.specs.Chain.{Gives};
 ghost use Rattle.bac_apdu.specs.Adding.{Adds};
+ghost use Rattle.bac_apdu.specs.Apdu.{Confirmed, apdu_octets};
+ghost use Rattle.bac_apdu.specs.Service.Choice.{read_range_service};
 ghost use Rattle.bac_apdu.specs.Service.Extent.{IsExtent};
 ghost use Rattle.bac_apdu.specs.Form.{Item, Reads};
 ghost use Rattle.bac_apdu.specs.FormReading.{form_at, Stops};
 ghost use Rattle.bac_apdu.specs.FormCanon.{canon_form};
 ghost use Rattle.bac_apdu.specs.Service.ReadProperty.{IsProperty};
-ghost use Rattle.bac_apdu.specs.Service.ReadRange.{read_range, range_items};
+ghost use Rattle.bac_apdu.specs.Service.ReadRange.{read_range, range_items, read_range_at};
 
 use crate::adding::add_context;
 use crate::parts::Parts;
@@ -38,6 +40,8 @@ impl ReadRange {
         ensures refused { IfErr result (λ reason. (count : ℕ) × Stops read_range bytes.now count reason) }
         // The same as a function, on which callers build.
         ensures exact { Gives range_items result (form_at read_range bytes.now) }
+        // The same with named fields.
+        ensures named { result ≡ read_range_at bytes.now }
     {
         ReadRange::parts(bytes)
     }
@@ -84,6 +88,17 @@ impl ReadRange {
     /// What is written is read back.
     pub fn canon_is_read()
         ensures { (r : ReadRange) → IsProperty r.object r.property r.index → IsExtent r.extent → Reads read_range (canon_form read_range (range_items r)) (range_items r) }
+    {}
+
+    /// What is written is read back, with named fields.
+    pub fn fields_are_read_back()
+        ensures { (r : ReadRange) → IsProperty r.object r.property r.index → IsExtent r.extent → read_range_at (canon_form read_range (range_items r)) ≡ Ok r }
+    {}
+
+    /// A request has at most 47 octets of parameters, and 51 as an APDU: it fits every datagram.
+    pub fn canon_is_short()
+        ensures parameters { (r : ReadRange) → length (canon_form read_range (range_items r)) ≤ 47 }
+        ensures apdu { (r : ReadRange) (size invoke : ℕ) → length (apdu_octets (Confirmed false size invoke read_range_service (canon_form read_range (range_items r)))) ≤ 51 }
     {}
 
     /// Two different requests never show the same parameters.

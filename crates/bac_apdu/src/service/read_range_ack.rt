@@ -14,7 +14,7 @@ ghost use Rattle.bac_apdu.specs.FormReading.{part_at, optional_at, form_at};
 ghost use Rattle.bac_apdu.specs.FormCanon.{canon_form};
 ghost use Rattle.bac_wire.specs.OptionChain.{GivesSome};
 ghost use Rattle.bac_apdu.specs.Service.ReadProperty.{IsProperty};
-ghost use Rattle.bac_apdu.specs.Service.ReadRangeAck.{read_range_ack, ack_items, records, record_items, is_three, is_first, flag_bits, IsFirst, IsSmall, optional_size, ack_size};
+ghost use Rattle.bac_apdu.specs.Service.ReadRangeAck.{read_range_ack, ack_items, RangeAck, range_ack_of, range_ack_octets, range_ack_size, read_range_ack_at, records, record_items, is_three, is_first, flag_bits, IsFirst, IsSmall, optional_size, ack_size};
 
 use crate::adding::{add_close, add_context, add_flags, add_open};
 use crate::parts::Parts;
@@ -47,6 +47,8 @@ impl<'a> ReadRangeAck<'a> {
         ensures only { (items : List Item) → Reads read_range_ack bytes.now items → IsSomeAnd result (λ a. ack_items a ≡ items) }
         // The same as a function, on which callers build.
         ensures exact { GivesSome ack_items result (result_ok (form_at read_range_ack bytes.now)) }
+        // The same with named fields.
+        ensures named { GivesSome range_ack_of result (read_range_ack_at bytes.now) }
         // Nothing stands in the low bits of the flags.
         ensures low { IfSome result (λ a. a.flags % 32 ≡ 0) }
     {
@@ -119,6 +121,16 @@ impl<'a> ReadRangeAck<'a> {
     /// What is written is read back.
     pub fn canon_is_read()
         ensures { (a : ReadRangeAck) → IsProperty a.object a.property a.index → a.count < 2 ^ 64 → IsFirst a.first_number → IsLevel a.items.now → Reads read_range_ack (canon_form read_range_ack (ack_items a)) (ack_items a) }
+    {}
+
+    /// What is written is read back, with named fields.
+    pub fn fields_are_read_back()
+        ensures { (a : RangeAck) → IsProperty a.object a.property a.index → a.count < 2 ^ 64 → IsFirst a.first_number → IsLevel a.items → read_range_ack_at (range_ack_octets a) ≡ Some a }
+    {}
+
+    /// How many octets the parameters of an answer have, by its fields.
+    pub fn fields_have_a_size()
+        ensures { (a : RangeAck) → a.property < 2 ^ 32 → IsSmall a.index → a.count < 2 ^ 32 → IsSmall a.first_number → length (range_ack_octets a) ≡ range_ack_size a }
     {}
 
     /// Two different answers never show the same parameters, as long as nothing stands in the low

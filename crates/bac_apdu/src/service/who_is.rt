@@ -1,6 +1,6 @@
 //! Who-Is (clause 16.10).
 
-ghost use Rattle.std.specs.Prelude.{◌≡◌, List, ℕ, IfSome, IsSomeAnd};
+ghost use Rattle.std.specs.Prelude.{◌≡◌, Some, List, ℕ, IfSome, IsSomeAnd};
 ghost use Rattle.std.specs.Result.{result_ok};
 ghost use Rattle.bac_wire.specs.Datagram.{Writes};
 ghost use Rattle.bac_wire.specs.Primitive.{Unsigned};
@@ -9,7 +9,7 @@ ghost use Rattle.bac_apdu.specs.Adding.{Adds};
 ghost use Rattle.bac_apdu.specs.Form.{Item, Value as ItemValue, context, unsigned, Reads};
 ghost use Rattle.bac_apdu.specs.FormReading.{part_at, form_at};
 ghost use Rattle.bac_apdu.specs.FormCanon.{canon_form};
-ghost use Rattle.bac_apdu.specs.Service.WhoIs.{is_instance, who_is, who_is_items, AreLimits};
+ghost use Rattle.bac_apdu.specs.Service.WhoIs.{is_instance, who_is, who_is_items, who_is_at, AreLimits};
 ghost use Rattle.bac_wire.specs.OptionChain.{GivesSome};
 
 use crate::adding::add_context;
@@ -34,6 +34,8 @@ impl WhoIs {
         ensures only { (items : List Item) → Reads who_is bytes.now items → IsSomeAnd result (λ w. who_is_items w ≡ items) }
         // The same as a function, on which callers build.
         ensures exact { GivesSome who_is_items result (result_ok (form_at who_is bytes.now)) }
+        // The same with named fields.
+        ensures named { result ≡ who_is_at bytes.now }
     {
         WhoIs::parts(bytes).ok()
     }
@@ -78,6 +80,11 @@ impl WhoIs {
     /// What is written is read back.
     pub fn canon_is_read()
         ensures { (w : WhoIs) → AreLimits w.limits → Reads who_is (canon_form who_is (who_is_items w)) (who_is_items w) }
+    {}
+
+    /// What is written is read back, with named fields.
+    pub fn fields_are_read_back()
+        ensures { (w : WhoIs) → AreLimits w.limits → who_is_at (canon_form who_is (who_is_items w)) ≡ Some w }
     {}
 
     /// Two different requests never show the same parameters.

@@ -1,6 +1,6 @@
 //! WriteProperty (clause 15.9).
 
-ghost use Rattle.std.specs.Prelude.{◌≡◌, List, ℕ, IfOk, IfErr, IsOkAnd, OnOk};
+ghost use Rattle.std.specs.Prelude.{◌≡◌, Ok, List, ℕ, IfOk, IfErr, IsOkAnd, OnOk};
 ghost use Rattle.bac_wire.specs.Datagram.{Writes};
 ghost use Rattle.bac_wire.specs.Canon.{IsValid};
 ghost use Rattle.bac_wire.specs.Primitive.{Unsigned};
@@ -11,7 +11,7 @@ ghost use Rattle.bac_apdu.specs.Form.{Item, Value as ItemValue, context, unsigne
 ghost use Rattle.bac_apdu.specs.FormReading.{part_at, optional_at, form_at, Stops};
 ghost use Rattle.bac_apdu.specs.FormCanon.{canon_form};
 ghost use Rattle.bac_apdu.specs.Service.ReadProperty.{IsProperty};
-ghost use Rattle.bac_apdu.specs.Service.WriteProperty.{write_property, write_items, setting, setting_items, is_priority, IsPriority};
+ghost use Rattle.bac_apdu.specs.Service.WriteProperty.{write_property, write_items, PropertyWrite, write_of_code, write_property_at, setting, setting_items, is_priority, IsPriority};
 
 use crate::adding::{add_close, add_context, add_open, add_value};
 use crate::parts::Parts;
@@ -41,6 +41,10 @@ impl<'a> WriteProperty<'a> {
         ensures refused { IfErr result (λ reason. (count : ℕ) × Stops write_property bytes.now count reason) }
         // The same as a function, on which callers build.
         ensures exact { Gives write_items result (form_at write_property bytes.now) }
+        // The same with named fields.
+        ensures named { Gives write_of_code result (write_property_at bytes.now) }
+        // A priority is from 1 to 16.
+        ensures bound { IfOk result (λ w. IsPriority w.priority) }
         // It may be written.
         ensures well_formed { IfOk result (λ w. IsWellFormed w.value) }
     {
@@ -116,6 +120,16 @@ impl<'a> WriteProperty<'a> {
     /// What is written is read back.
     pub fn canon_is_read()
         ensures { (w : WriteProperty) → IsProperty w.object w.property w.index → IsValid (view w.value) → IsPriority w.priority → Reads write_property (canon_form write_property (write_items w)) (write_items w) }
+    {}
+
+    /// What is written is read back, with named fields.
+    pub fn fields_are_read_back()
+        ensures { (w : WriteProperty) → IsProperty w.object w.property w.index → IsValid (view w.value) → IsPriority w.priority → write_property_at (canon_form write_property (write_items w)) ≡ Ok (write_of_code w) }
+    {}
+
+    /// Parameters are never read as a request with a priority outside 1 to 16.
+    pub fn priorities_are_in_range()
+        ensures { (bytes : List ℕ) (w : PropertyWrite) → write_property_at bytes ≡ Ok w → IsPriority w.priority }
     {}
 
     /// Two different requests never show the same parameters, up to the octets in which a value

@@ -5,15 +5,14 @@ use Rattle.bac_link.specs.Requests.{request_octets, next_invoke, IsTooLong}
 use Rattle.bac_link.specs.Links.{IsQuestion}
 use Rattle.bac_link.specs.Delivery.{now}
 use Rattle.bac_link.specs.Moments.{log_at}
-use Rattle.bac_link.proofs.Fitting.{question_fits}
-use Rattle.bac_link.proofs.Verdicts.{honest_verdict, rises_more}
+use Rattle.bac_link.proofs.Verdicts.{question_fits, honest_verdict, rises_more}
 use Rattle.bac_link.proofs.exchanges.exchange.Goals as goal
 
 pub returns-in_default-clause-honest : goal.returns-in_default-clause-honest
-returns-in_default-clause-honest g c = λ id r M H extent h asks. absurd (question_fits id extent asks.1 (subst IsTooLong asks.0 ((c.in_default.ensures {u = tt}).full.0 refl)))
+returns-in_default-clause-honest g c = λ id r M H extent h asks. absurd (question_fits id extent (subst IsTooLong asks.0 ((c.in_default.ensures {u = tt}).full.0 refl)))
 
 pub returns-in_default-clause-lacking : goal.returns-in_default-clause-lacking
-returns-in_default-clause-lacking g c = λ id extent h asks. absurd (question_fits id extent asks.1 (subst IsTooLong asks.0 ((c.in_default.ensures {u = tt}).full.0 refl)))
+returns-in_default-clause-lacking g c = λ id extent h asks. absurd (question_fits id extent (subst IsTooLong asks.0 ((c.in_default.ensures {u = tt}).full.0 refl)))
 
 pub returns-in-Ack-clause-honest : goal.returns-in-Ack-clause-honest
 returns-in-Ack-clause-honest g c = λ id r M H extent h asks.

@@ -1,7 +1,12 @@
-use Rattle.std.proofs.Common.{arith, rules, Ok, Err}
+use Rattle.std.proofs.Common.{arith, rules, refl, Ok, Err}
 use Rattle.bac_apdu.specs.declared.service.read_property_ack.ReadPropertyAck.{ReadPropertyAck}
 use Rattle.bac_apdu.specs.Service.ReadPropertyAck.{read_property_ack, property_ack_items}
 use Rattle.bac_apdu.proofs.Forms.{is_found, is_only}
+use Rattle.std.proofs.Common.{Some, None}
+use Rattle.std.specs.Result.{result_ok}
+use Rattle.bac_apdu.specs.FormReading.{form_at}
+use Rattle.bac_apdu.specs.Service.ReadPropertyAck.{property_ack_of, property_ack_in, read_property_ack_at}
+use Rattle.bac_apdu.proofs.Named.{is_named_some, gives_ok, property_ack_shown}
 use Rattle.bac_apdu.proofs.service.read_property_ack.ReadPropertyAck.read.Goals as goal
 
 pub returns-in-Ok-clause-found : goal.returns-in-Ok-clause-found
@@ -12,3 +17,11 @@ returns-in-Ok-clause-only c = is_only ReadPropertyAck property_ack_items read_pr
 
 pub returns-in-Err-clause-only : goal.returns-in-Err-clause-only
 returns-in-Err-clause-only c = is_only ReadPropertyAck property_ack_items read_property_ack c.args.bytes.now (Err c.in-Err.field-0) c.in-Err.ensures
+
+pub returns-in-Ok-clause-named : goal.returns-in-Ok-clause-named
+unfolding read_property_ack_at
+returns-in-Ok-clause-named c = is_named_some property_ack_items property_ack_in property_ack_of property_ack_shown (Some c.in-Ok.ack) (result_ok (form_at read_property_ack c.args.bytes.now)) (gives_ok property_ack_items (Ok c.in-Ok.ack) (form_at read_property_ack c.args.bytes.now) (Some c.in-Ok.ack) refl c.in-Ok.ensures)
+
+pub returns-in-Err-clause-named : goal.returns-in-Err-clause-named
+unfolding read_property_ack_at
+returns-in-Err-clause-named c = is_named_some property_ack_items property_ack_in property_ack_of property_ack_shown None (result_ok (form_at read_property_ack c.args.bytes.now)) (gives_ok property_ack_items (Err c.in-Err.field-0) (form_at read_property_ack c.args.bytes.now) None refl c.in-Err.ensures)

@@ -2,6 +2,9 @@ use Rattle.std.proofs.Common.{arith, rules}
 use Rattle.bac_apdu.specs.declared.service.read_range.ReadRange.{ReadRange}
 use Rattle.bac_apdu.specs.Service.ReadRange.{read_range, range_items}
 use Rattle.bac_apdu.proofs.Forms.{is_found, is_only, is_refused}
+use Rattle.bac_apdu.specs.FormReading.{form_at}
+use Rattle.bac_apdu.specs.Service.ReadRange.{range_in, read_range_at}
+use Rattle.bac_apdu.proofs.Named.{is_named, is_same, range_back}
 use Rattle.bac_apdu.proofs.service.read_range.ReadRange.read.Goals as goal
 
 pub returns-clause-found : goal.returns-clause-found
@@ -12,3 +15,7 @@ returns-clause-only c = is_only ReadRange range_items read_range c.args.bytes.no
 
 pub returns-clause-refused : goal.returns-clause-refused
 returns-clause-refused c = is_refused ReadRange range_items read_range c.args.bytes.now c.parts.result (search rules) (λ i. omega (arith, c.type_inv.bytes i)) c.parts.ensures
+
+pub returns-clause-named : goal.returns-clause-named
+unfolding read_range_at
+returns-clause-named c = is_same c.parts.result (read_range_at c.args.bytes.now) (is_named range_items range_in (λ x. x) range_back c.parts.result (form_at read_range c.args.bytes.now) c.parts.ensures)

@@ -1,7 +1,12 @@
-use Rattle.std.proofs.Common.{arith, rules, Ok, Err}
+use Rattle.std.proofs.Common.{arith, rules, refl, Ok, Err}
 use Rattle.bac_apdu.specs.declared.service.read_range_ack.ReadRangeAck.{ReadRangeAck}
 use Rattle.bac_apdu.specs.Service.ReadRangeAck.{read_range_ack, ack_items}
 use Rattle.bac_apdu.proofs.Forms.{is_found, is_only}
+use Rattle.std.proofs.Common.{Some, None}
+use Rattle.std.specs.Result.{result_ok}
+use Rattle.bac_apdu.specs.FormReading.{form_at}
+use Rattle.bac_apdu.specs.Service.ReadRangeAck.{range_ack_of, range_ack_in, read_range_ack_at}
+use Rattle.bac_apdu.proofs.Named.{is_named_some, gives_ok, range_ack_shown}
 use Rattle.bac_apdu.proofs.service.read_range_ack.ReadRangeAck.read.Goals as goal
 
 pub returns-in-Ok-clause-found : goal.returns-in-Ok-clause-found
@@ -12,3 +17,11 @@ returns-in-Ok-clause-only c = is_only ReadRangeAck ack_items read_range_ack c.ar
 
 pub returns-in-Err-clause-only : goal.returns-in-Err-clause-only
 returns-in-Err-clause-only c = is_only ReadRangeAck ack_items read_range_ack c.args.bytes.now (Err c.in-Err.field-0) c.in-Err.ensures.exact
+
+pub returns-in-Ok-clause-named : goal.returns-in-Ok-clause-named
+unfolding read_range_ack_at
+returns-in-Ok-clause-named c = is_named_some ack_items range_ack_in range_ack_of range_ack_shown (Some c.in-Ok.ack) (result_ok (form_at read_range_ack c.args.bytes.now)) (gives_ok ack_items (Ok c.in-Ok.ack) (form_at read_range_ack c.args.bytes.now) (Some c.in-Ok.ack) refl c.in-Ok.ensures.exact)
+
+pub returns-in-Err-clause-named : goal.returns-in-Err-clause-named
+unfolding read_range_ack_at
+returns-in-Err-clause-named c = is_named_some ack_items range_ack_in range_ack_of range_ack_shown None (result_ok (form_at read_range_ack c.args.bytes.now)) (gives_ok ack_items (Err c.in-Err.field-0) (form_at read_range_ack c.args.bytes.now) None refl c.in-Err.ensures.exact)

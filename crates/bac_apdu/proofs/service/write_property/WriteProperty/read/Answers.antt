@@ -1,7 +1,13 @@
-use Rattle.std.proofs.Common.{arith, rules}
+use Rattle.std.proofs.Common.{ℕ, List, Result, arith, rules}
+use Rattle.bac_wire.specs.Chain.{Gives}
+use Rattle.bac_apdu.specs.declared.reason.Reason.{Reason}
 use Rattle.bac_apdu.specs.declared.service.write_property.WriteProperty.{WriteProperty}
 use Rattle.bac_apdu.specs.Service.WriteProperty.{write_property, write_items}
 use Rattle.bac_apdu.proofs.Forms.{is_found, is_only, is_refused}
+use Rattle.bac_apdu.specs.FormReading.{form_at}
+use Rattle.bac_apdu.specs.Service.WriteProperty.{write_of_code, write_in, write_property_at}
+use Rattle.bac_apdu.proofs.Priorities.{bounded}
+use Rattle.bac_apdu.proofs.Named.{is_named, write_back}
 use Rattle.bac_apdu.proofs.service.write_property.WriteProperty.read.Goals as goal
 
 pub returns-clause-found : goal.returns-clause-found
@@ -12,3 +18,14 @@ returns-clause-only c = is_only WriteProperty write_items write_property c.args.
 
 pub returns-clause-refused : goal.returns-clause-refused
 returns-clause-refused c = is_refused WriteProperty write_items write_property c.args.bytes.now c.parts.result (search rules) (λ i. omega (arith, c.type_inv.bytes i)) c.parts.ensures.exact
+
+-- what was read, with named fields
+named : (bytes : List ℕ) (r : Result WriteProperty Reason) → Gives write_items r (form_at write_property bytes) → Gives write_of_code r (write_property_at bytes)
+unfolding write_property_at
+named bytes r e = is_named write_items write_in write_of_code write_back r (form_at write_property bytes) e
+
+pub returns-clause-named : goal.returns-clause-named
+returns-clause-named c = named c.args.bytes.now c.parts.result c.parts.ensures.exact
+
+pub returns-clause-bound : goal.returns-clause-bound
+returns-clause-bound c = bounded c.args.bytes.now c.parts.result (named c.args.bytes.now c.parts.result c.parts.ensures.exact)

@@ -1,0 +1,17 @@
+-- The numbers of services (clause 21, BACnetConfirmedServiceChoice and BACnetUnconfirmedServiceChoice).
+use Rattle.std.specs.Prelude.{ℕ}
+
+abbrev pub read_property_service : ℕ
+read_property_service = 12
+
+abbrev pub write_property_service : ℕ
+write_property_service = 15
+
+abbrev pub read_range_service : ℕ
+read_range_service = 26
+
+abbrev pub i_am_service : ℕ
+i_am_service = 0
+
+abbrev pub who_is_service : ℕ
+who_is_service = 8
