@@ -1,8 +1,8 @@
 -- A walk's question is in range.
-use Rattle.std.proofs.Common.{◌≡◌, ℕ, ◌^◌, ◌<◌, Bool, true, false, None, Err, refl, sym, ap, ◌∙◌, arith}
+use Rattle.std.proofs.Common.{◌≡◌, ℕ, ◌^◌, ◌<◌, Bool, true, false, None, Err, refl, sym, ap, ◌∙◌}
 use Rattle.bac_apdu.specs.Service.Extent.{IsExtent}
 use Rattle.bac_walk.specs.Place.{Place}
-use Rattle.bac_walk.specs.Replies.{Wanted, FromNumber, FromOldest, extent_of}
+use Rattle.bac_walk.specs.Replies.{FromNumber, FromOldest, extent_of}
 use Rattle.bac_walk.specs.Walks.{asks_oldest_now, wanted_of}
 use Rattle.std.specs.Prelude.{if◌then◌else◌}
 use Rattle.bac_wire.specs.Primitive.{Id}

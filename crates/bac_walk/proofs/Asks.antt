@@ -1,22 +1,20 @@
 -- What a question by number brings, in the words of a walk.
-use Rattle.std.proofs.Common.{◌≡◌, ℕ, zero, suc, ◌+◌, ◌-◌, ◌*◌, ◌^◌, ◌<◌, ◌≤◌, pos, max, Bool, true, false, List, [], ◌∷◌, length, take, drop, Option, Some, None, refl, sym, ap, ◌∙◌, arith, inl, inr, ◌⊎◌}
+use Rattle.std.proofs.Common.{◌≡◌, ℕ, zero, suc, ◌+◌, ◌-◌, ◌^◌, ◌<◌, ◌≤◌, pos, max, Bool, true, false, List, [], ◌∷◌, length, take, drop, Some, refl, sym, ap, ◌∙◌, arith, inl, inr}
 use Rattle.std.specs.Prelude.{nat_le, nat_lt, ◌&&◌, All, sum_by}
 use Rattle.std.proofs.lemmas.Bool.{cases_Bool, cases_lt, cond-true, cond-false, le-leb}
 use Rattle.std.proofs.lemmas.Bool.Decides.{nat_tests}
 use Rattle.std.proofs.lemmas.List.{length-take-le, length-take, length-drop}
 use Rattle.std.proofs.lemmas.List.Sums.{sum_by-cons}
 use Rattle.std.proofs.lemmas.List.Elements.{All-take, All-drop}
-use Rattle.bac_apdu.specs.declared.service.extent.Extent.{Extent}
 use Rattle.bac_apdu.specs.declared.service.extent.Extent.TheVariants.{ByNumber}
-use Rattle.bac_apdu.specs.Service.ReadRangeAck.{number_size, optional_size}
+use Rattle.bac_apdu.specs.Service.ReadRangeAck.{optional_size}
 use Rattle.bac_apdu.proofs.Sizes.{first_size}
 use Rattle.bac_log.specs.declared.entry.Entry.{Entry}
 use Rattle.bac_log.specs.Entry.{IsLoggable}
 use Rattle.bac_log.specs.Record.{entry_octets}
-use Rattle.bac_log.specs.Run.{first_octets, record_size}
+use Rattle.bac_log.specs.Run.{record_size}
 use Rattle.bac_log.specs.Select.{Logged, numbered, selected, packed, is_asked, greatest, reply_length, first_shown, entries_in}
 use Rattle.bac_log.specs.TrendLog.{Log, oldest, number}
-use Rattle.bac_log.specs.TrendLog.{newest}
 use Rattle.bac_log.proofs.Packs.{length-numbered, take-numbered, ack-total}
 use Rattle.bac_log.proofs.Runs.{filter_run}
 use Rattle.bac_log.proofs.Sizes.{entry_sized}

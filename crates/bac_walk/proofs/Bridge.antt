@@ -1,13 +1,11 @@
 -- A reply to a walk's question brings the whole reply of the moment.
-use Rattle.std.proofs.Common.{◌≡◌, ℕ, zero, suc, ◌+◌, ◌-◌, ◌^◌, ◌<◌, ◌≤◌, pos, max, min, Bool, true, false, List, [], ◌∷◌, length, take, drop, Option, Some, None, refl, sym, ap, subst, ◌∙◌, arith, inl, inr}
-use Rattle.std.specs.Prelude.{nat_le, nat_lt, ◌&&◌, All, sum_by, if◌then◌else◌}
+use Rattle.std.proofs.Common.{◌≡◌, ℕ, zero, suc, ◌+◌, ◌-◌, ◌^◌, ◌<◌, ◌≤◌, max, min, Bool, true, false, List, [], ◌∷◌, length, take, drop, Option, Some, None, refl, sym, ap, subst, ◌∙◌, arith, inl, inr}
+use Rattle.std.specs.Prelude.{nat_le, All, sum_by, if◌then◌else◌}
 use Rattle.std.proofs.lemmas.Bool.{cases_Bool, cases_lt, cond-true, cond-false, le-leb}
 use Rattle.std.proofs.lemmas.List.{length-take-le, length-take, length-drop, take-take, take_all, drop-take, drop-drop, drop_all}
 use Rattle.std.proofs.lemmas.List.Sums.{sum_by-cons}
 use Rattle.std.proofs.lemmas.List.Elements.{All-take, All-drop}
-use Rattle.bac_apdu.specs.declared.service.extent.Extent.{Extent}
-use Rattle.bac_apdu.specs.declared.service.extent.Extent.TheVariants.{ByNumber, ByTime}
-use Rattle.bac_apdu.specs.Service.ReadRangeAck.{number_size, optional_size}
+use Rattle.bac_apdu.specs.Service.ReadRangeAck.{number_size}
 use Rattle.bac_apdu.proofs.Sizes.{first_size}
 use Rattle.bac_log.specs.Ack.{ack_length}
 use Rattle.bac_log.specs.declared.entry.Entry.{Entry}
@@ -16,7 +14,6 @@ use Rattle.bac_log.specs.Record.{entry_octets}
 use Rattle.bac_log.specs.Run.{record_size}
 use Rattle.bac_log.specs.Select.{Logged, numbered, selected, packed, greatest, reply_length, first_shown, entries_in, shows_number}
 use Rattle.bac_log.specs.TrendLog.{Log, oldest, number}
-use Rattle.bac_log.specs.TrendLog.{newest}
 use Rattle.bac_log.proofs.Packs.{length-numbered, take-numbered}
 use Rattle.bac_log.proofs.Acks.{length-ack_length}
 use Rattle.bac_log.proofs.Sizes.{entry_sized}

@@ -1,11 +1,11 @@
 -- Laws of lists of answers.
-use Rattle.std.proofs.Common.{◌≡◌, ℕ, suc, ◌+◌, ◌<◌, ◌⊎◌, inl, inr, List, [], ◌∷◌, ◌++◌, length, refl, sym, ap, subst, ◌∙◌, append_assoc, append-nil, arith, length-append}
+use Rattle.std.proofs.Common.{◌≡◌, ℕ, ◌+◌, ◌⊎◌, inl, inr, List, [], ◌∷◌, ◌++◌, length, refl, sym, ap, subst, ◌∙◌, append_assoc, arith, length-append}
 use Rattle.bac_log.specs.declared.entry.Entry.{Entry}
 use Rattle.bac_link.specs.declared.item.Item.{Item}
 use Rattle.bac_link.specs.declared.item.Item.TheVariants.{Gap, Logged}
 use Rattle.bac_walk.specs.Ordinals.{distance}
 use Rattle.bac_link.specs.Delivery.{History, Moment, Holds, now, later, items_of}
-use Rattle.bac_link.specs.Laws.{after_answers, moment_at}
+use Rattle.bac_link.specs.Laws.{after_answers}
 use Rattle.bac_walk.specs.Turns.{Covers, AreRecords, IsBatch}
 use Rattle.bac_walk.specs.Delivers.{end_of, AreAnswers}
 

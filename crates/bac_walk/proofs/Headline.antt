@@ -1,14 +1,11 @@
 -- How the answers of a run lead from one ordinal to another.
-use Rattle.std.proofs.Common.{◌≡◌, ℕ, suc, ◌+◌, ◌<◌, inl, inr, List, [], ◌∷◌, ◌++◌, length, refl, sym, ap, subst, ◌∙◌, append_assoc, append-nil, arith, length-append}
-use Rattle.bac_log.specs.declared.entry.Entry.{Entry}
+use Rattle.std.proofs.Common.{ℕ, ◌+◌, List, [], ◌∷◌, refl, sym, subst, arith}
 use Rattle.bac_link.specs.declared.item.Item.{Item}
 use Rattle.bac_link.specs.declared.item.Item.TheVariants.{Gap, Logged}
-use Rattle.bac_log.specs.TrendLog.{number}
-use Rattle.bac_link.specs.Delivery.{History, Moment, Holds, now, later, items_of, AreHeld, Brings, Leads, DeliversTo}
-use Rattle.bac_link.specs.Laws.{after_answers, moment_at}
+use Rattle.bac_link.specs.Delivery.{History, Moment, now, later, items_of, AreHeld, Brings, Leads}
 use Rattle.bac_walk.specs.Delivers.{end_of, AreAnswers}
 use Rattle.bac_walk.specs.Turns.{AreRecords, IsBatch}
-use Rattle.bac_walk.proofs.Cuts.{items_of-append, split_of, end_of-append}
+use Rattle.bac_walk.proofs.Cuts.{end_of-append}
 
 -- the forms that the runs are proved in
 held : (H : History) (m : Moment) (s : ℕ) (items : List Item) → AreRecords H m s items → AreHeld H m s items (end_of s items)

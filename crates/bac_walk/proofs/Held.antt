@@ -1,8 +1,7 @@
 -- Facts of the moments of one log.
-use Rattle.std.proofs.Common.{◌≡◌, ℕ, zero, suc, Bool, true, false, ◌+◌, ◌-◌, ◌<◌, ◌≤◌, if◌then◌else◌, nat_lt, Some, List, [], ◌∷◌, ◌++◌, length, slice_get, drop, refl, sym, ap, subst, arith}
+use Rattle.std.proofs.Common.{◌≡◌, ℕ, Bool, true, false, ◌+◌, ◌<◌, ◌≤◌, if◌then◌else◌, nat_lt, List, [], ◌∷◌, ◌++◌, length, refl, sym, subst, arith}
 use Rattle.std.proofs.lemmas.Bool.{ltb-true}
-use Rattle.std.proofs.lemmas.List.{take-append-drop}
-use Rattle.bac_link.specs.Moments.{AreServed, entries_from, IsMoment, Change, Append, Purge, changed, changed_all}
+use Rattle.bac_link.specs.Moments.{AreServed, IsMoment, Change, Append, Purge, changed, changed_all}
 use Rattle.bac_link.specs.Delivery.{History, Moment, now, later}
 
 

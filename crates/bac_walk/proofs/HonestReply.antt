@@ -1,5 +1,5 @@
 -- What a walk hears of an honest reply is the whole reply of the moment.
-use Rattle.std.proofs.Common.{Bor, suc, ◌≡◌, ℕ, ◌+◌, ◌≤◌, true, List, [], ◌∷◌, length, Option, Some, None, Result, Ok, refl, sym, ap, subst, ◌∙◌, arith}
+use Rattle.std.proofs.Common.{Bor, suc, ◌≡◌, ℕ, ◌≤◌, true, List, [], ◌∷◌, length, Option, Some, None, Ok, refl, sym, ap, subst, ◌∙◌, arith}
 use Rattle.std.specs.Prelude.{All, IsSomeAnd}
 use Rattle.std.specs.Result.{result_ok}
 use Rattle.std.proofs.lemmas.Bool.{eq-eqb}
@@ -7,26 +7,25 @@ use Rattle.std.proofs.lemmas.List.{length-append}
 use Rattle.bac_wire.specs.Canon.{IsValid}
 use Rattle.bac_wire.specs.Primitive.{Id, Object}
 use Rattle.bac_apdu.specs.declared.service.extent.Extent.{Extent}
-use Rattle.bac_apdu.specs.Apdu.{Complex}
 use Rattle.bac_wire.specs.OptionChain.{GivesSome}
-use Rattle.bac_apdu.specs.FormReading.{form_at}
-use Rattle.bac_apdu.specs.Form.{number_item}
-use Rattle.bac_apdu.specs.Service.ReadRangeAck.{read_range_ack}
+use Rattle.std.specs.Option.{option_map}
+use Rattle.bac_apdu.specs.Service.ReadRangeAck.{range_ack_in, read_range_ack_at}
 use Rattle.bac_log.specs.declared.entry.Entry.{Entry}
 use Rattle.bac_log.specs.Ack.{shown_items}
 use Rattle.bac_log.specs.Entry.{IsLoggable}
-use Rattle.bac_log.specs.Record.{entry_octets, entries_octets, entries_at}
+use Rattle.bac_log.specs.Record.{entry_octets, entries_octets}
 use Rattle.bac_log.specs.Select.{selected, packed, reply_of}
 use Rattle.bac_log.specs.TrendLog.{Log}
 use Rattle.bac_log.proofs.Records.{entries_back}
 use Rattle.bac_log.proofs.Sizes.{entry_sized}
 use Rattle.bac_walk.specs.Replies.{Wanted, extent_of, IsShown}
 use Rattle.bac_link.specs.Datagrams.{apdu_in}
-use Rattle.bac_walk.specs.Heard.{Heard, heard_at, heard_if, heard_of, records_in, number_in, same_id}
+use Rattle.bac_walk.specs.Heard.{Heard, heard_at, heard_if, heard_of, records_in, same_id}
 use Rattle.bac_link.specs.Links.{IsReply, reply_parameters}
 use Rattle.bac_link.specs.Delivery.{History, Moment, now}
-use Rattle.bac_link.specs.Moments.{AreServed, IsMoment, log_at}
+use Rattle.bac_link.specs.Moments.{AreServed, log_at}
 use Rattle.bac_walk.specs.Takes.{records_of, first_of, parameters_in, Says}
+use Rattle.bac_walk.proofs.Heards.{number_back}
 use Rattle.bac_walk.proofs.Bridge.{shown, answer_is}
 use Rattle.bac_walk.proofs.Held.{Sound-now, In-now}
 use Rattle.bac_walk.proofs.ReadBack.{reply_reads, packed_loggable}
@@ -43,18 +42,15 @@ records_back es l = entries_back es (length (entries_octets es)) l (text_large e
 same_self : (id : Id) → same_id id id ≡ true
 same_self id = rw (eq-eqb id.kind id.kind refl, eq-eqb id.instance id.instance refl) refl
 
-number_back : (n : Option ℕ) → number_in (number_item n) ≡ n
-number_back None = refl
-number_back (Some n) = refl
-
-heard_shown : (id : Id) (flags : ℕ) (first : Option ℕ) (es : List Entry) → All IsLoggable es → heard_of id (shown_items id flags first es) ≡ Some (record { first = first; count = length es; entries = es })
+heard_shown : (id : Id) (flags : ℕ) (first : Option ℕ) (es : List Entry) → All IsLoggable es →
+    heard_of id (range_ack_in (shown_items id flags first es)) ≡ Some (record { first = first; count = length es; entries = es })
 heard_shown id flags first es l = rw (same_self id, number_back first, records_back es l) refl
 
 pub heard_reply : (id : Id) (log : Log) (extent : Extent) (r : ℕ) → IsShown log → r ≤ 1476 → IsValid (Object id) →
     heard_at id (reply_parameters id log extent r) ≡ Some (record { first = first_of r log extent; count = length (records_of r log extent); entries = records_of r log extent })
-unfolding heard_at
+unfolding heard_at read_range_ack_at
 heard_reply id log extent r is most valid =
-    ap (λ x. heard_if id (result_ok x)) (reply_reads log extent r is most id valid)
+    ap (λ x. heard_if id (option_map range_ack_in (result_ok x))) (reply_reads log extent r is most id valid)
     ∙ heard_shown id (reply_of log extent (selected log extent) (packed extent r (selected log extent))).flags (first_of r log extent) (records_of r log extent) (packed_loggable log extent r is most)
 
 pub says_reply : (result : Option (List ℕ)) (datagram : List ℕ) (r : ℕ) (M : List Moment) (H : History) (id : Id) (wanted : Wanted) (invoke : ℕ) → result ≡ parameters_in (apdu_in datagram) → AreServed r M H → IsValid (Object id) →

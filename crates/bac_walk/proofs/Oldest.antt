@@ -1,13 +1,11 @@
 -- What a question by time from 1900 on brings: the oldest records held.
-use Rattle.std.proofs.Common.{◌≡◌, ℕ, zero, suc, ◌+◌, ◌-◌, ◌*◌, ◌^◌, ◌<◌, ◌≤◌, pos, max, Bool, true, false, List, [], ◌∷◌, length, take, drop, Option, Some, None, refl, sym, ap, ◌∙◌, arith, inl, inr}
-use Rattle.std.specs.Prelude.{nat_le, nat_lt, ◌&&◌, All, find, option_map, filter}
+use Rattle.std.proofs.Common.{◌≡◌, ℕ, ◌+◌, ◌-◌, ◌<◌, pos, true, List, [], ◌∷◌, length, take, drop, Option, Some, refl, ap, ◌∙◌, arith}
+use Rattle.std.specs.Prelude.{All, find, option_map}
 use Rattle.std.specs.Ordering.{nat_cmp, ordering_then, is_gt}
 use Rattle.std.specs.declared.cmp.Ordering.{Ordering}
 use Rattle.std.proofs.lemmas.Bool.{cond-true, le-ltb, ne_eqb}
-use Rattle.std.proofs.lemmas.List.{drop_all, take_all}
 use Rattle.bac_wire.specs.Stamp.{order_of}
 use Rattle.bac_wire.specs.declared.stamp.Date4.{Date4}
-use Rattle.bac_wire.specs.declared.stamp.Time4.{Time4}
 use Rattle.bac_apdu.specs.declared.service.extent.Extent.{Extent}
 use Rattle.bac_apdu.specs.declared.service.extent.Extent.TheVariants.{ByTime}
 use Rattle.bac_log.specs.declared.entry.Entry.{Entry}

@@ -1,7 +1,6 @@
 -- What a run of a walk over an honest link delivers, and how it ends.
-use Rattle.std.specs.Prelude.{◌++◌, min, max, ◌-◌, nat_lt, ◌≡◌, ℕ, suc, Bool, true, false, ◌+◌, ◌*◌, ◌<◌, ◌≤◌, ◌⊎◌, if◌then◌else◌, Result, Ok, Err, List, [], ◌∷◌, length, drop}
+use Rattle.std.specs.Prelude.{◌++◌, ◌≡◌, ℕ, suc, Bool, true, false, ◌+◌, ◌*◌, ◌<◌, ◌≤◌, Result, Ok, Err, List, [], ◌∷◌, length, drop}
 use Rattle.bac_link.specs.declared.item.Item.{Item}
-use Rattle.bac_walk.specs.Place.{Place}
 use Rattle.bac_walk.specs.declared.outcome.Progress.{Progress}
 use Rattle.bac_walk.specs.declared.outcome.Progress.TheVariants.{Batch as BatchOf, AskOldest, CaughtUp as IsUp}
 use Rattle.bac_walk.specs.declared.outcome.Step.{Step}
@@ -11,15 +10,14 @@ use Rattle.bac_walk.specs.declared.outcome.WalkFault.TheVariants.{Lost, Refused,
 use Rattle.bac_link.specs.declared.exchanges.Refusal.TheVariants as said
 use Rattle.bac_walk.specs.declared.outcome.Ended.{Ended}
 use Rattle.bac_walk.specs.declared.outcome.Ended.TheVariants.{CaughtUp, StepLimit, Stopped, Fault}
-use Rattle.bac_link.specs.Delivery.{History, Moment, Holds, now, later, items_of}
+use Rattle.bac_link.specs.Delivery.{History, Moment, now, later, items_of}
 use Rattle.bac_link.specs.Laws.{moment_at}
-use Rattle.bac_link.specs.Moments.{entries_from}
-use Rattle.bac_walk.specs.Turns.{Covers, IsBatch, NoneOfHundred, whole_reply}
+use Rattle.bac_walk.specs.Turns.{Covers, NoneOfHundred, whole_reply}
 use Rattle.bac_walk.specs.Delivers.{end_of, AreAnswers, NoneFrom}
 use Rattle.bac_link.specs.Links.{RisesBy}
 use Rattle.bac_link.specs.declared.item.Item.TheVariants.{Gap, Logged}
 use Rattle.bac_log.specs.TrendLog.{number}
-use Rattle.bac_walk.specs.Walks.{items_in, asks_oldest_now, numbered}
+use Rattle.bac_walk.specs.Walks.{items_in}
 
 -- how many answers brought a batch
 abbrev pub batches : List (List Item) → ℕ

@@ -1,12 +1,9 @@
 -- What a walk over the moments of a log delivers. All that is counted are ordinals; items show numbers.
-use Rattle.std.specs.Prelude.{◌≡◌, ℕ, ◌+◌, ◌<◌, ◌≤◌, List, [], ◌∷◌, ◌++◌, length}
-use Rattle.bac_log.specs.declared.entry.Entry.{Entry}
+use Rattle.std.specs.Prelude.{ℕ, ◌+◌, ◌≤◌, List, [], ◌∷◌}
 use Rattle.bac_link.specs.declared.item.Item.{Item}
 use Rattle.bac_link.specs.declared.item.Item.TheVariants.{Gap, Logged}
-use Rattle.bac_log.specs.TrendLog.{number}
 use Rattle.bac_walk.specs.Ordinals.{distance}
-use Rattle.bac_link.specs.Delivery.{History, IsEntry, Moment, Holds, now, later}
-use Rattle.bac_link.specs.Laws.{after_answers, moment_at}
+use Rattle.bac_link.specs.Delivery.{History, Moment, Holds, now, later}
 use Rattle.bac_walk.specs.Turns.{IsBatch}
 
 -- the ordinal that follows these items, where they begin at s

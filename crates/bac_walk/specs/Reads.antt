@@ -1,18 +1,10 @@
 -- What a walk read of an ACK.
-use Rattle.std.specs.Prelude.{Bool, ◌==◌, ◌&&◌, ◌≡◌, ℕ, ◌≤◌, List, length, take, Option, Some, None, Result, Ok, Err}
+use Rattle.std.specs.Prelude.{◌≡◌, List, length, take, Option, Some, None, Result, Ok, Err}
 use Rattle.bac_wire.specs.declared.fault.WireFault.{WireFault}
 use Rattle.bac_log.specs.declared.entry.Entry.{Entry}
 use Rattle.bac_walk.specs.declared.read.Records.{Records}
 use Rattle.bac_walk.specs.declared.read.Said.{Said}
-use Rattle.bac_wire.specs.Primitive.{Id}
-use Rattle.bac_apdu.specs.Form.{number_item}
-use Rattle.bac_apdu.specs.declared.service.read_range_ack.ReadRangeAck.{ReadRangeAck}
-use Rattle.bac_log.specs.Ack.{log_buffer}
-use Rattle.bac_walk.specs.Heard.{Heard, same_id, is_absent}
-
--- whether an ACK is that of a log's records
-abbrev pub is_of : Id → ReadRangeAck → Bool
-is_of log a = same_id a.object log && ((a.property == log_buffer) && is_absent (number_item a.index))
+use Rattle.bac_walk.specs.Heard.{Heard}
 
 -- the first hundred records, and how many there are
 abbrev pub Kept : Records → List Entry → Type 0

@@ -1,5 +1,5 @@
 -- What a log answers to the questions of a walk, at a moment.
-use Rattle.std.specs.Prelude.{◌≡◌, ℕ, ◌+◌, ◌-◌, ◌<◌, ◌≤◌, min, max, nat_le, Option, Some, List, [], ◌∷◌, length, take, drop, pos, All}
+use Rattle.std.specs.Prelude.{◌≡◌, ℕ, ◌+◌, ◌-◌, ◌<◌, ◌≤◌, min, max, nat_le, Option, Some, List, length, take, pos, All}
 use Rattle.bac_log.specs.Entry.{IsLoggable}
 use Rattle.bac_log.specs.TrendLog.{Log, last_ordinal, number}
 use Rattle.bac_log.specs.TrendLog.{newest}

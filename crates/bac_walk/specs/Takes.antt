@@ -1,15 +1,8 @@
 -- What is read of an answer.
-use Rattle.std.specs.Prelude.{◌≡◌, ℕ, Bool, ◌==◌, List, Option, Some, None, Result, Ok, Err, length, if◌then◌else◌}
-use Rattle.std.specs.Result.{result_ok}
-use Rattle.bac_wire.specs.declared.fault.WireFault.{WireFault}
-use Rattle.bac_wire.specs.Primitive.{Id}
+use Rattle.std.specs.Prelude.{◌≡◌, ℕ, ◌==◌, List, Option, Some, None, length, if◌then◌else◌}
 use Rattle.bac_apdu.specs.Apdu.{Apdu, Complex}
-use Rattle.bac_apdu.specs.Form.{Item}
-use Rattle.bac_apdu.specs.FormReading.{form_at}
-use Rattle.bac_apdu.specs.Service.ReadRangeAck.{read_range_ack}
 use Rattle.bac_apdu.specs.declared.service.extent.Extent.{Extent}
 use Rattle.bac_log.specs.declared.entry.Entry.{Entry}
-use Rattle.bac_log.specs.Record.{entries_at}
 use Rattle.bac_log.specs.Select.{selected, packed, first_shown, entries_in}
 use Rattle.bac_log.specs.TrendLog.{Log}
 use Rattle.bac_link.specs.Delivery.{History, Moment}

@@ -1,5 +1,5 @@
 -- What one honest answer means to a walk.
-use Rattle.std.specs.Prelude.{◌++◌, min, max, ◌-◌, nat_lt, ◌≡◌, ℕ, Bool, true, false, ◌+◌, ◌<◌, ◌≤◌, ◌⊎◌, if◌then◌else◌, Result, Ok, Err, List, [], ◌∷◌, length}
+use Rattle.std.specs.Prelude.{◌++◌, min, max, ◌-◌, nat_lt, ◌≡◌, ℕ, Bool, true, false, ◌+◌, ◌<◌, ◌≤◌, ◌⊎◌, if◌then◌else◌, List, [], ◌∷◌, length}
 use Rattle.bac_log.specs.TrendLog.{number}
 use Rattle.bac_link.specs.declared.item.Item.{Item}
 use Rattle.bac_link.specs.declared.item.Item.TheVariants.{Gap, Logged}

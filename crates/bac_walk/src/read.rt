@@ -12,8 +12,9 @@ ghost use Rattle.bac_walk.specs.Replies.{Wanted, extent_of};
 ghost use Rattle.bac_log.specs.declared.entry.Entry.{Entry as EntryOf};
 ghost use Rattle.std.specs.Result.{result_ok};
 ghost use Rattle.bac_log.specs.Record.{entry_at};
-ghost use Rattle.bac_walk.specs.Heard.{heard_at, records_in, same_id};
-ghost use Rattle.bac_walk.specs.Reads.{IsRead, IsSaid, is_of};
+ghost use Rattle.bac_walk.specs.Heard.{heard_at, is_of_log, records_in, same_id};
+ghost use Rattle.bac_walk.specs.Reads.{IsRead, IsSaid};
+ghost use Rattle.bac_apdu.specs.Service.ReadRangeAck.{range_ack_of};
 
 use arrayvec::ArrayVec;
 use bac_apdu::{Apdu, ReadRangeAck};
@@ -125,7 +126,7 @@ pub(crate) fn is_same(a: ObjectId, b: ObjectId) -> bool
 
 /// Whether an ACK is that of a log's records.
 fn is_of(ack: &ReadRangeAck, log: ObjectId) -> bool
-    ensures { result ≡ is_of log ack.now }
+    ensures { result ≡ is_of_log log (range_ack_of ack.now) }
 {
     is_same(ack.object, log) && ack.property == 131 && ack.index.is_none()
 }

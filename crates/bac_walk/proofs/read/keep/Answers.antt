@@ -1,4 +1,4 @@
-use Rattle.std.proofs.Common.{◌≡◌, length, sym, ◌∙◌, arith}
+use Rattle.std.proofs.Common.{arith}
 
 use Rattle.bac_walk.proofs.Keeping.{kept_full, kept_room}
 use Rattle.bac_walk.proofs.read.keep.Goals as goal

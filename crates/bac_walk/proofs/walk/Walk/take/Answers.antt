@@ -1,8 +1,7 @@
-use Rattle.std.proofs.Common.{◌≡◌, Bool, true, ap, sym, ◌∙◌, length, arith}
+use Rattle.std.proofs.Common.{ap, sym, ◌∙◌, length, arith}
 use Rattle.bac_wire.specs.Primitive.{Id}
 use Rattle.bac_walk.specs.Heard.{heard_at}
 use Rattle.bac_walk.specs.Walks.{fits, with_numbers}
-use Rattle.bac_walk.proofs.Numbers.{length-with_numbers}
 use Rattle.bac_walk.proofs.WalkTakes.{taken, fits_few, kept_whole}
 use Rattle.bac_walk.proofs.walk.Walk.take.Goals as goal
 

@@ -1,6 +1,4 @@
-use Rattle.std.proofs.Common.{◌≡◌, ℕ, ◌<◌, ◌^◌, List, Ok, Err, sym, subst, arith}
-use Rattle.bac_wire.specs.Canon.{IsValid}
-use Rattle.bac_wire.specs.Primitive.{Object}
+use Rattle.std.proofs.Common.{ℕ, List, Ok, Err, sym, subst}
 use Rattle.bac_walk.specs.Replies.{extent_of}
 use Rattle.bac_walk.specs.Heard.{heard_at}
 use Rattle.bac_link.specs.Links.{IsReply}
