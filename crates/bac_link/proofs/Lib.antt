@@ -1,0 +1,3 @@
+pub mod Datagrams
+pub mod Delivers
+pub mod Verdicts

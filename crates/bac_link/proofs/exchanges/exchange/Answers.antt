@@ -1,0 +1,81 @@
+use Rattle.std.proofs.Common.{refl, subst, ap, ◌∙◌, arith}
+use Rattle.std.proofs.lemmas.Bool.{false≢true}
+use Rattle.bac_link.specs.declared.transactions.Transactions.{Transactions}
+use Rattle.bac_link.specs.Requests.{request_octets, next_invoke, IsTooLong}
+use Rattle.bac_link.specs.Links.{IsQuestion}
+use Rattle.bac_link.specs.Delivery.{now}
+use Rattle.bac_link.specs.Moments.{log_at}
+use Rattle.bac_link.proofs.Verdicts.{question_fits, honest_verdict, rises_more}
+use Rattle.bac_link.proofs.exchanges.exchange.Goals as goal
+
+pub returns-in_default-clause-honest : goal.returns-in_default-clause-honest
+returns-in_default-clause-honest g c = λ id r M H extent h asks. absurd (question_fits id extent (subst IsTooLong asks.0 ((c.in_default.ensures {u = tt}).full.0 refl)))
+
+pub returns-in_default-clause-lacking : goal.returns-in_default-clause-lacking
+returns-in_default-clause-lacking g c = λ id extent h asks. absurd (question_fits id extent (subst IsTooLong asks.0 ((c.in_default.ensures {u = tt}).full.0 refl)))
+
+pub returns-in-Ack-clause-honest : goal.returns-in-Ack-clause-honest
+returns-in-Ack-clause-honest g c = λ id r M H extent h asks.
+    let i = c.loop-tried.invariant.honest id r M H extent h asks in
+    let n = next_invoke c.args.transactions.now.invoke in
+    let is : IsQuestion id extent n c.octets.result.now = (c.octets.ensures.value ∙ (c.in-Ok.ensures {u = tt}).datagram ∙ ap (request_octets n) asks.0, asks.1, asks.2) in
+    let a = (c.in-Some.ensures {u = tt}).honest id r M H extent n i.1 is in
+    (((n, a.0.0), a.0.1), λ sure. tt)
+
+pub returns-in-Refused-clause-honest : goal.returns-in-Refused-clause-honest
+returns-in-Refused-clause-honest g c = λ id r M H extent h asks.
+    let i = c.loop-tried.invariant.honest id r M H extent h asks in
+    let n = next_invoke c.args.transactions.now.invoke in
+    let is : IsQuestion id extent n c.octets.result.now = (c.octets.ensures.value ∙ (c.in-Ok.ensures {u = tt}).datagram ∙ ap (request_octets n) asks.0, asks.1, asks.2) in
+    let a = (c.in-Some.ensures {u = tt}).honest id r M H extent n i.1 is in
+    let v = honest_verdict r (log_at (now M) H) id extent n c.in-Some.reply a.0.0.1 in
+    absurd (cc (v, asks.0, c.octets-in-Some.ensures.value, c.in-Refused.ensures {u = tt}))
+
+pub returns-in-BadReply-clause-honest : goal.returns-in-BadReply-clause-honest
+returns-in-BadReply-clause-honest g c = λ id r M H extent h asks.
+    let i = c.loop-tried.invariant.honest id r M H extent h asks in
+    let n = next_invoke c.args.transactions.now.invoke in
+    let is : IsQuestion id extent n c.octets.result.now = (c.octets.ensures.value ∙ (c.in-Ok.ensures {u = tt}).datagram ∙ ap (request_octets n) asks.0, asks.1, asks.2) in
+    let a = (c.in-Some.ensures {u = tt}).honest id r M H extent n i.1 is in
+    let v = honest_verdict r (log_at (now M) H) id extent n c.in-Some.reply a.0.0.1 in
+    absurd (cc (v, asks.0, c.octets-in-Some.ensures.value, c.in-BadReply.ensures {u = tt}))
+
+pub loop-tried-preserved : goal.loop-tried-preserved
+loop-tried-preserved g c =
+    let n = next_invoke c.args.transactions.now.invoke in
+    let heard = c.in_default-heard.ensures {u = tt} in
+    let before = g.L.LogLink.failures c.args.link.now in
+    let mid = g.L.LogLink.failures c.loop-tried.link in
+    let after = g.L.LogLink.failures c.heard.new.link in
+    record {
+      begun = c.loop-tried.invariant.begun;
+      never_falls = omega (arith, c.loop-tried.invariant.never_falls, heard.never_falls);
+      sure = λ s. heard.stays_sure (c.loop-tried.invariant.sure s);
+      honest = λ id r M H extent h asks.
+          let i = c.loop-tried.invariant.honest id r M H extent h asks in
+          let is : IsQuestion id extent n c.octets.result.now = (c.octets.ensures.value ∙ (c.in-Ok.ensures {u = tt}).datagram ∙ ap (request_octets n) asks.0, asks.1, asks.2) in
+          let a = heard.honest id r M H extent n i.1 is in
+          (rises_more c.loop-tried.tried before mid after i.0 a.0.0, a.0.1, λ s. absurd (false≢true (a.1 (c.loop-tried.invariant.sure s))));
+      lacking = λ id extent h asks.
+          let i = c.loop-tried.invariant.lacking id extent h asks in
+          let is : IsQuestion id extent n c.octets.result.now = (c.octets.ensures.value ∙ (c.in-Ok.ensures {u = tt}).datagram ∙ ap (request_octets n) asks.0, asks.1, asks.2) in
+          let a = heard.lacking id extent n i.1 is in
+          (rises_more c.loop-tried.tried before mid after i.0 a.0, a.1, λ s. absurd (false≢true (a.2 (c.loop-tried.invariant.sure s))));
+    }
+
+pub returns-clause-honest : goal.returns-clause-honest
+returns-clause-honest g c = λ id r M H extent h asks.
+    let i = c.loop-tried.invariant.honest id r M H extent h asks in
+    let kept = ap (λ (t : Transactions). t.retries) (c.in-Ok.ensures {u = tt}).opened in (
+      (omega (arith, i.0, c.loop-tried.auto.tried-end, c.loop-tried-test.false, c.from-tries.ensures, c.retries.ensures, kept), i.1),
+      λ s. omega (arith, i.2 s, c.loop-tried.auto.tried-end, c.loop-tried-test.false),
+    )
+
+pub returns-clause-lacking : goal.returns-clause-lacking
+returns-clause-lacking g c = λ id extent h asks.
+    let i = c.loop-tried.invariant.lacking id extent h asks in
+    let kept = ap (λ (t : Transactions). t.retries) (c.in-Ok.ensures {u = tt}).opened in (
+      omega (arith, i.0, c.loop-tried.auto.tried-end, c.loop-tried-test.false, c.from-tries.ensures, c.retries.ensures, kept),
+      i.1,
+      λ s. omega (arith, i.2 s, c.loop-tried.auto.tried-end, c.loop-tried-test.false),
+    )

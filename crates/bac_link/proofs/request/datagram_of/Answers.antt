@@ -1,0 +1,5 @@
+use Rattle.bac_link.proofs.Datagrams.{frame_fits}
+use Rattle.bac_link.proofs.request.datagram_of.Goals as goal
+
+pub unreachable-requires : goal.unreachable-requires
+unreachable-requires c = frame_fits c.new-datagram.result c.octets.result.now c.new-datagram.ensures (rw c.octets.ensures.value (c.in_ok-apdu.ensures {u = tt}).ok.1) (c.in-Err.ensures {u = tt}).1

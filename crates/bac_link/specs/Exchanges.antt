@@ -1,0 +1,91 @@
+-- An exchange: a request is sent until an answer comes, and what it then brings.
+use Rattle.std.specs.Prelude.{◌≡◌, ℕ, ◌+◌, true, not, ◌&&◌, ◌==◌, if◌then◌else◌, Option, Some, None, Result, Ok, Err, List}
+use Rattle.bac_apdu.specs.Apdu.{Apdu}
+use Rattle.bac_apdu.specs.Apdu as apdu
+use Rattle.bac_apdu.specs.declared.service.extent.Extent.{Extent}
+use Rattle.bac_wire.specs.Primitive.{Id}
+use Rattle.bac_link.specs.declared.exchanges.ExchangeFault.{ExchangeFault}
+use Rattle.bac_link.specs.declared.exchanges.ExchangeFault.TheVariants as fault
+use Rattle.bac_link.specs.declared.exchanges.Refusal.TheVariants as refusal
+use Rattle.bac_link.specs.declared.exchanges.Verdict.{Verdict}
+use Rattle.bac_link.specs.declared.exchanges.Verdict.TheVariants.{Ack, Refused, BadReply}
+use Rattle.bac_link.specs.declared.request.Request.{Request}
+use Rattle.bac_link.specs.declared.transactions.Transactions.{Transactions}
+use Rattle.bac_link.specs.Datagrams.{answers_to, apdu_in}
+use Rattle.bac_link.specs.Delivery.{History, Moment, now, later}
+use Rattle.bac_link.specs.Links.{IsReply, IsUnknown, RisesBy}
+use Rattle.bac_link.specs.Requests.{has_result, request_octets, service_of}
+use Rattle.bac_link.specs.Transactions.{begun_with, closed}
+
+-- What an answer is to its request (clause 5.4.4): the ACK of the request's service, which is a SimpleACK for a service
+-- without a result and a whole ComplexACK for one with a result; a refusal; or nothing that belongs to the request.
+abbrev pub verdict_of : Request → Option Apdu → Verdict
+verdict_of r (Some (apdu.Simple invoke service)) = if not (has_result r) && service == service_of r then Ack else BadReply
+verdict_of r (Some (apdu.Complex segmented invoke service parameters)) =
+    if has_result r && (not segmented && service == service_of r) then Ack else BadReply
+verdict_of r (Some (apdu.Error invoke service class code)) = Refused (refusal.Error class code)
+verdict_of r (Some (apdu.Reject invoke reason)) = Refused (refusal.Reject reason)
+verdict_of r (Some (apdu.Abort by_server invoke reason)) = Refused (refusal.Abort reason)
+verdict_of r _ = BadReply
+
+-- a datagram that answers the request, and this is the verdict on it
+abbrev pub IsAnswer : ℕ → Request → Verdict → List ℕ → Type 0
+IsAnswer invoke r verdict datagram =
+    (answers_to (request_octets invoke r) datagram ≡ true) × (verdict_of r (apdu_in datagram) ≡ verdict)
+
+-- what is returned is the verdict on a datagram that came and answers the request
+abbrev pub Concludes : ℕ → Request → Result (List ℕ) ExchangeFault → Type 0
+Concludes invoke r (Ok datagram) = IsAnswer invoke r Ack datagram
+Concludes invoke r (Err (fault.Refused refusal)) = (datagram : List ℕ) × IsAnswer invoke r (Refused refusal) datagram
+Concludes invoke r (Err fault.BadReply) = (datagram : List ℕ) × IsAnswer invoke r BadReply datagram
+Concludes invoke r (Err fault.Lost) = Unit {0}
+Concludes invoke r (Err fault.TooLong) = Unit {0}
+
+-- one more transaction was begun, and nothing is open; where the request doesn't fit, nothing changes
+abbrev pub Leaves : Request → Transactions → Result (List ℕ) ExchangeFault → Transactions → Type 0
+Leaves r old (Err fault.TooLong) new = new ≡ old
+Leaves r old (Err fault.Lost) new = new ≡ closed (begun_with r old)
+Leaves r old (Err fault.BadReply) new = new ≡ closed (begun_with r old)
+Leaves r old (Err (fault.Refused refusal)) new = new ≡ closed (begun_with r old)
+Leaves r old (Ok datagram) new = new ≡ closed (begun_with r old)
+
+-- ---- over an honest link
+
+-- the reply of the next moment, or Lost where the count of failures rose by more than the retries, and nothing else
+abbrev pub IsExchanged : (List Moment → Type 0) → ℕ → List Moment → History → Id → Extent → ℕ → ℕ → ℕ → Result (List ℕ) ExchangeFault → Type 0
+IsExchanged stays r M H id extent retries old new (Ok datagram) =
+    ((invoke : ℕ) × IsReply r (now M) H id extent invoke datagram) × stays (later M)
+IsExchanged stays r M H id extent retries old new (Err fault.Lost) = RisesBy (retries + 1) old new × stays M
+IsExchanged stays r M H id extent retries old new (Err (fault.Refused refusal)) = ⊥
+IsExchanged stays r M H id extent retries old new (Err fault.BadReply) = ⊥
+IsExchanged stays r M H id extent retries old new (Err fault.TooLong) = ⊥
+
+-- over a link that lacks the log: it is refused as unknown, or Lost likewise
+abbrev pub IsExchangedOfNone : ℕ → ℕ → ℕ → Result (List ℕ) ExchangeFault → Type 0
+IsExchangedOfNone retries old new (Ok datagram) = ⊥
+IsExchangedOfNone retries old new (Err fault.Lost) = RisesBy (retries + 1) old new
+IsExchangedOfNone retries old new (Err (fault.Refused (refusal.Error class code))) = (class ≡ 1) × (code ≡ 31)
+IsExchangedOfNone retries old new (Err (fault.Refused (refusal.Reject reason))) = ⊥
+IsExchangedOfNone retries old new (Err (fault.Refused (refusal.Abort reason))) = ⊥
+IsExchangedOfNone retries old new (Err fault.BadReply) = ⊥
+IsExchangedOfNone retries old new (Err fault.TooLong) = ⊥
+
+-- any end but Lost
+abbrev pub IsNotLost : Result (List ℕ) ExchangeFault → Type 0
+IsNotLost (Ok datagram) = Unit {0}
+IsNotLost (Err fault.Lost) = ⊥
+IsNotLost (Err (fault.Refused refusal)) = Unit {0}
+IsNotLost (Err fault.BadReply) = Unit {0}
+IsNotLost (Err fault.TooLong) = Unit {0}
+
+-- ---- one try
+
+-- over an honest link: the reply of the next moment, or a failure
+abbrev pub IsHeard : (List Moment → Type 0) → ℕ → List Moment → History → Id → Extent → ℕ → ℕ → ℕ → Option (List ℕ) → Type 0
+IsHeard stays r M H id extent invoke old new (Some datagram) = IsReply r (now M) H id extent invoke datagram × stays (later M)
+IsHeard stays r M H id extent invoke old new None = RisesBy 1 old new × stays M
+
+-- over a link that lacks the log
+abbrev pub IsHeardOfNone : ℕ → ℕ → ℕ → Option (List ℕ) → Type 0
+IsHeardOfNone invoke old new (Some datagram) = IsUnknown invoke datagram
+IsHeardOfNone invoke old new None = RisesBy 1 old new

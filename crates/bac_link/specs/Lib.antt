@@ -1,0 +1,9 @@
+pub mod Answer
+pub mod Datagrams
+pub mod Requests
+pub mod Transactions
+pub mod Delivery
+pub mod Laws
+pub mod Moments
+pub mod Links
+pub mod Exchanges

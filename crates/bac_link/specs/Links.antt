@@ -1,0 +1,69 @@
+-- What is asked of a log, what it answers at a moment, and what a link makes of it: all as datagrams.
+use Rattle.std.specs.Prelude.{◌≡◌, ℕ, ◌+◌, ◌≤◌, min, false, Some, None, Result, Ok, Err, List, All}
+use Rattle.bac_wire.specs.Primitive.{Id, Object}
+use Rattle.bac_wire.specs.Canon.{IsValid}
+use Rattle.bac_apdu.specs.Apdu.{Complex, Error}
+use Rattle.bac_apdu.specs.Service.Extent.{IsExtent}
+use Rattle.bac_apdu.specs.declared.service.extent.Extent.{Extent}
+use Rattle.bac_log.specs.Ack.{ack_parameters, log_buffer, read_range_service}
+use Rattle.bac_log.specs.Entry.{IsLoggable}
+use Rattle.bac_log.specs.Select.{answer_of, entries_in, first_shown, packed, selected}
+use Rattle.bac_log.specs.TrendLog.{Log}
+use Rattle.bac_link.specs.declared.link.Lost.{Lost}
+use Rattle.bac_link.specs.declared.request.Request.{Request}
+use Rattle.bac_link.specs.declared.request.Request.TheVariants as request
+use Rattle.bac_link.specs.Datagrams.{apdu_in}
+use Rattle.bac_link.specs.Delivery.{History, Moment, now, later}
+use Rattle.bac_link.specs.Moments.{log_at}
+use Rattle.bac_link.specs.Requests.{request_octets}
+
+-- ---- questions
+
+-- a ReadRange of the log's Log_Buffer
+abbrev pub question : Id → Extent → Request
+question log extent = request.ReadRange (record { object = log; property = log_buffer; index = None; extent = extent })
+
+abbrev pub AsksFor : Id → Extent → Request → Type 0
+AsksFor log extent r = (r ≡ question log extent) × IsExtent extent × IsValid (Object log)
+
+-- the same as the datagram that `begin` gives
+abbrev pub IsQuestion : Id → Extent → ℕ → List ℕ → Type 0
+IsQuestion log extent invoke octets = (octets ≡ request_octets invoke (question log extent)) × IsExtent extent × IsValid (Object log)
+
+-- ---- replies
+
+-- the parameters of the ACK that a log gives within so many octets
+unfoldable pub reply_parameters : Id → Log → Extent → ℕ → List ℕ
+reply_parameters id log extent limit =
+    let records = packed extent limit (selected log extent) in
+    ack_parameters id (answer_of log extent limit).flags (first_shown extent records) (entries_in records)
+
+-- that ACK, in a datagram to one device that names no other network
+abbrev pub HasReply : ℕ → Log → Id → Extent → ℕ → List ℕ → Type 0
+HasReply r log id extent invoke datagram =
+    apdu_in datagram ≡ Some (Complex false invoke read_range_service (reply_parameters id log extent r))
+
+-- the reply of the log at a moment, whose entries are loggable
+abbrev pub IsReply : ℕ → Moment → History → Id → Extent → ℕ → List ℕ → Type 0
+IsReply r m H id extent invoke datagram =
+    All IsLoggable (log_at m H).entries × HasReply r (log_at m H) id extent invoke datagram
+
+-- the Error of a device that has no such log: class object, code unknown-object (clause 18)
+abbrev pub IsUnknown : ℕ → List ℕ → Type 0
+IsUnknown invoke datagram = apdu_in datagram ≡ Some (Error invoke read_range_service 1 31)
+
+-- ---- one ask
+
+-- a count that stays at its greatest value, and stands for any number there
+abbrev pub RisesBy : ℕ → ℕ → ℕ → Type 0
+RisesBy k old new = min (old + k) 18446744073709551615 ≤ new
+
+-- of an honest link: the reply of the next moment, which is then used up; a loss leaves the moments
+abbrev pub IsAsked : (List Moment → Type 0) → ℕ → List Moment → History → Id → Extent → ℕ → Result (List ℕ) Lost → Type 0
+IsAsked stays r M H id extent invoke (Ok datagram) = IsReply r (now M) H id extent invoke datagram × stays (later M)
+IsAsked stays r M H id extent invoke (Err lost) = stays M
+
+-- of a link that lacks the log
+abbrev pub IsAskedOfNone : ℕ → Result (List ℕ) Lost → Type 0
+IsAskedOfNone invoke (Ok datagram) = IsUnknown invoke datagram
+IsAskedOfNone invoke (Err lost) = Unit {0}

@@ -1,0 +1,156 @@
+//! The exchange of a request for its answer, over any link.
+
+ghost use Rattle.std.specs.Prelude.{◌≡◌, ℕ, ◌≤◌, ◌↔◌, true, List, Err, IfSome, IsSome};
+ghost use Rattle.bac_wire.specs.Primitive.{Id};
+ghost use Rattle.bac_apdu.specs.declared.service.extent.Extent.{Extent as AnyExtent};
+ghost use Rattle.bac_link.specs.Datagrams.{answers_to, apdu_in};
+ghost use Rattle.bac_link.specs.Delivery.{History, Moment};
+ghost use Rattle.bac_link.specs.Exchanges.{verdict_of, Concludes, Leaves, IsExchanged, IsExchangedOfNone, IsNotLost, IsHeard, IsHeardOfNone};
+ghost use Rattle.bac_link.specs.Links.{AsksFor, IsQuestion};
+ghost use Rattle.bac_link.specs.Requests.{next_invoke, IsSendable, IsTooLong};
+
+use crate::answer::{answers, read_datagram};
+use crate::link::{LogLink, Lost};
+use crate::request::Request;
+use crate::transactions::Transactions;
+use bac_apdu::Apdu;
+use bac_wire::Datagram;
+
+/// How a device refused a request.
+#[derive(Clone, Copy, Debug, PartialEq, Eq)]
+pub enum Refusal {
+    /// Error class and error code (clause 18).
+    Error(u32, u32),
+    /// The reject reason (clause 18.9).
+    Reject(u8),
+    /// The abort reason (clause 18.10).
+    Abort(u8),
+}
+
+/// Why an exchange brought no ACK.
+#[derive(Clone, Copy, Debug, PartialEq, Eq)]
+pub enum ExchangeFault {
+    /// No answer came to the request, nor to any of its repeats.
+    Lost,
+    /// The device refused the request.
+    Refused(Refusal),
+    /// An answer came that doesn't belong to the request: the ACK of another service, a SimpleACK
+    /// in place of a ComplexACK or the reverse, or one in segments.
+    BadReply,
+    /// The request's APDU has over 1476 octets; nothing was sent.
+    TooLong,
+}
+
+/// What an answer is to its request.
+#[derive(Clone, Copy, Debug, PartialEq, Eq)]
+pub enum Verdict {
+    /// The ACK that belongs to the request.
+    Ack,
+    /// The device refused the request.
+    Refused(Refusal),
+    /// It doesn't belong to the request.
+    BadReply,
+}
+
+/// What a datagram, which answers the request, is to it.
+pub fn judge(request: &Request, datagram: &[u8]) -> Verdict
+    ensures { result ≡ verdict_of request.now (apdu_in datagram.now) }
+{
+    match read_datagram(datagram) {
+        Some(Apdu::Simple { service, .. }) => {
+            if !request.has_result() && service == request.service() {
+                Verdict::Ack
+            } else {
+                Verdict::BadReply
+            }
+        }
+        Some(
+            Apdu::Complex {
+                segmented,
+                service,
+                ..
+            },
+        ) => {
+            if request.has_result() && !segmented && service == request.service() {
+                Verdict::Ack
+            } else {
+                Verdict::BadReply
+            }
+        }
+        Some(Apdu::Error { class, code, .. }) => Verdict::Refused(Refusal::Error(class, code)),
+        Some(Apdu::Reject { reason, .. }) => Verdict::Refused(Refusal::Reject(reason)),
+        Some(Apdu::Abort { reason, .. }) => Verdict::Refused(Refusal::Abort(reason)),
+        _ => Verdict::BadReply,
+    }
+}
+
+/// One try: the datagram that answers the request, where one came.
+fn heard<L: LogLink>(link: &mut L, request: &[u8]) -> Option<Datagram>
+    ensures never_falls { L.failures link.old ≤ L.failures link.new }
+    ensures answers { IfSome result (λ d. answers_to request.now d ≡ true) }
+    ensures honest { (id : Id) (r : ℕ) (M : List Moment) (H : History) (extent : AnyExtent) (invoke : ℕ) →
+        L.is_honest link.old id r M H → IsQuestion id extent invoke request.now →
+        IsHeard (λ N. L.is_honest link.new id r N H) r M H id extent invoke (L.failures link.old) (L.failures link.new) result
+        × (L.is_sure link.old → IsSome result) }
+    ensures lacking { (id : Id) (extent : AnyExtent) (invoke : ℕ) →
+        L.lacks link.old id → IsQuestion id extent invoke request.now →
+        IsHeardOfNone invoke (L.failures link.old) (L.failures link.new) result × L.lacks link.new id
+        × (L.is_sure link.old → IsSome result) }
+    ensures stays_sure { L.is_sure link.old → L.is_sure link.new }
+{
+    match link.ask(request) {
+        Ok(reply) => {
+            if answers(request, reply.octets()) {
+                return Some(reply);
+            }
+            None
+        }
+        Err(Lost) => None,
+    }
+}
+
+/// Sends a request until an answer to it comes, once and then as often as the transactions' retries
+/// say, each time the same octets. A datagram that doesn't answer the request counts as none.
+/// It gives the datagram with the ACK that belongs to the request. `TooLong` exactly where the
+/// request doesn't fit, and then nothing is sent and no transaction is begun.
+pub fn exchange<L: LogLink>(
+    link: &mut L,
+    transactions: &mut Transactions,
+    request: &Request,
+) -> Result<Datagram, ExchangeFault>
+    requires { IsSendable request.now }
+    // What is returned is the verdict on a datagram that answers the request.
+    ensures answers { Concludes (next_invoke transactions.old.invoke) request.now result }
+    ensures too_long { (result ≡ Err ExchangeFault.TooLong) ↔ IsTooLong request.now }
+    ensures leaves { Leaves request.now transactions.old result transactions.new }
+    ensures never_falls { L.failures link.old ≤ L.failures link.new }
+    // Over an honest link: the reply of the next moment, or Lost after more failures than retries.
+    ensures honest { (id : Id) (r : ℕ) (M : List Moment) (H : History) (extent : AnyExtent) →
+        L.is_honest link.old id r M H → AsksFor id extent request.now →
+        IsExchanged (λ N. L.is_honest link.new id r N H) r M H id extent
+        transactions.old.retries (L.failures link.old) (L.failures link.new) result
+        × (L.is_sure link.old → IsNotLost result) }
+    // Over a link without the log: the Error that says so, or Lost likewise.
+    ensures lacking { (id : Id) (extent : AnyExtent) →
+        L.lacks link.old id → AsksFor id extent request.now →
+        IsExchangedOfNone transactions.old.retries (L.failures link.old) (L.failures link.new) result × L.lacks link.new id
+        × (L.is_sure link.old → IsNotLost result) }
+    ensures stays_sure { L.is_sure link.old → L.is_sure link.new }
+{
+    let Ok(datagram) = transactions.begin(request) else {
+        return Err(ExchangeFault::TooLong);
+    };
+    let tries = u16::from(transactions.retries()) + 1;
+    for tried in 0..tries {
+        if let Some(reply) = heard(link, datagram.octets()) {
+            transactions.close();
+            return match judge(request, reply.octets()) {
+                Verdict::Ack => Ok(reply),
+                Verdict::Refused(refusal) => Err(ExchangeFault::Refused(refusal)),
+                Verdict::BadReply => Err(ExchangeFault::BadReply),
+            };
+        }
+    }
+    transactions.close();
+    Err(ExchangeFault::Lost)
+}

@@ -1,0 +1,60 @@
+//! Links that carry datagrams.
+
+ghost use Rattle.std.specs.Prelude.{ℕ, ◌≤◌, List, IsOk, OnErr};
+ghost use Rattle.bac_wire.specs.Primitive.{Id};
+ghost use Rattle.bac_apdu.specs.declared.service.extent.Extent.{Extent as AnyExtent};
+ghost use Rattle.bac_link.specs.Delivery.{History, Moment};
+ghost use Rattle.bac_link.specs.Links.{IsAsked, IsAskedOfNone, IsQuestion, RisesBy};
+ghost use Rattle.bac_link.specs.Moments.{AreServed};
+
+use bac_wire::Datagram;
+
+/// No answer came.
+#[derive(Clone, Copy, Debug, PartialEq, Eq)]
+pub struct Lost;
+
+/// Carries a request to a device and brings its answer, or loses either.
+///
+/// What a link must promise to be *honest* for a trend log: a question for the log's records (a
+/// ReadRange of its Log_Buffer, as [`Transactions::begin`](crate::Transactions::begin) gives it)
+/// is answered as that log answers it at some moment, with as many records as a reply of the link's
+/// size holds, and the reply arrives unchanged; or it is lost, and the link counts a failure. The
+/// moments are those of one log that records and purges as it goes on, and never go back. Nothing
+/// is promised of other requests, of when an answer comes, or of how often one is lost.
+///
+/// That a link is honest is a premise of what is proved over it. A link straight to a device in
+/// memory is proved to be honest. A socket is not claimed to be: datagrams there may be altered,
+/// repeated, or sent by someone else.
+pub trait LogLink {
+    /// How many asks have failed, up to the greatest `u64`, where the count stays.
+    ghost failures: { Self → ℕ };
+
+    /// For this log it is honest: with replies of at most so many octets, at these moments, the
+    /// last of which stays, of a log with this history.
+    ghost is_honest: { Self → Id → ℕ → List Moment → History → Type 0 };
+
+    /// It knows no log of this identifier.
+    ghost lacks: { Self → Id → Type 0 };
+
+    /// No question for a log's records is lost.
+    ghost is_sure: { Self → Type 0 };
+
+    /// Sends the datagram and waits for one that answers it.
+    fn ask(&mut self, request: &[u8]) -> Result<Datagram, Lost>
+        ensures never_falls { failures self.old ≤ failures self.new }
+        ensures lost { OnErr result (RisesBy 1 (failures self.old) (failures self.new)) }
+        ensures honest { (id : Id) (r : ℕ) (M : List Moment) (H : History) (extent : AnyExtent) (invoke : ℕ) →
+            is_honest self.old id r M H → IsQuestion id extent invoke request.now →
+            IsAsked (λ N. is_honest self.new id r N H) r M H id extent invoke result }
+        ensures lacking { (id : Id) (extent : AnyExtent) (invoke : ℕ) →
+            lacks self.old id → IsQuestion id extent invoke request.now →
+            IsAskedOfNone invoke result × lacks self.new id }
+        ensures stays_sure { is_sure self.old → is_sure self.new }
+        ensures answered { (id : Id) (extent : AnyExtent) (invoke : ℕ) →
+            is_sure self.old → IsQuestion id extent invoke request.now → IsOk result };
+
+    /// A reply has room for a record at least, and the moments are those of one log, whose history
+    /// has their entries.
+    ghost serves: { (link : Self) (id : Id) (r : ℕ) (M : List Moment) (H : History) →
+        is_honest link id r M H → AreServed r M H };
+}

@@ -1,0 +1,103 @@
+//! Confirmed requests as datagrams.
+
+ghost use Rattle.std.specs.Prelude.{◌≡◌, ◌≤◌, ◌↔◌, length, IfOk, IsErr};
+ghost use Rattle.bac_wire.specs.Datagram.{Writes};
+ghost use Rattle.bac_link.specs.Requests.{service_of, parameters_of, has_result as has_result_of, request_apdu, request_octets, IsSendable, IsTooLong};
+
+use bac_apdu::choice::{READ_PROPERTY, READ_RANGE, WRITE_PROPERTY};
+use bac_apdu::{Apdu, Npdu, ReadProperty, ReadRange, WriteProperty, write_apdu, write_datagram};
+use bac_wire::{Datagram, Full};
+
+/// The most octets that an APDU may have, which is also what a request says that it takes.
+const MAX_APDU: usize = 1476;
+
+/// A confirmed request.
+#[derive(Clone, Copy, Debug)]
+pub enum Request<'a> {
+    ReadProperty(ReadProperty),
+    WriteProperty(WriteProperty<'a>),
+    ReadRange(ReadRange),
+}
+
+impl<'a> Request<'a> {
+    pub(crate) fn service(&self) -> u8
+        ensures { result ≡ service_of self.now }
+    {
+        match self {
+            Request::ReadProperty(_) => READ_PROPERTY,
+            Request::WriteProperty(_) => WRITE_PROPERTY,
+            Request::ReadRange(_) => READ_RANGE,
+        }
+    }
+
+    /// Whether the service is acknowledged with a result.
+    pub(crate) fn has_result(&self) -> bool
+        ensures { result ≡ has_result_of self.now }
+    {
+        match self {
+            Request::ReadProperty(_) => true,
+            Request::WriteProperty(_) => false,
+            Request::ReadRange(_) => true,
+        }
+    }
+
+    #[tactic(auto, unfolding(crate::specs::Requests::parameters_of))]
+    fn write(&self, out: &mut Datagram) -> Result<(), Full>
+        requires { IsSendable self.now }
+        ensures { Writes out.old (parameters_of self.now) result out.new }
+    {
+        match self {
+            Request::ReadProperty(request) => request.write(out),
+            Request::WriteProperty(request) => request.write(out),
+            Request::ReadRange(request) => request.write(out),
+        }
+    }
+}
+
+#[tactic(auto, unfolding(crate::specs::Requests::request_apdu))]
+fn apdu_of(invoke: u8, request: &Request) -> Result<Datagram, Full>
+    requires { IsSendable request.now }
+    ensures ok { IfOk result (λ d. (d ≡ request_apdu invoke request.now) × (length d ≤ 1476)) }
+    ensures full { IsErr result ↔ IsTooLong request.now }
+{
+    let mut parameters = Datagram::new();
+    request.write(&mut parameters)?;
+    let mut apdu = Datagram::new();
+    write_apdu(
+        &mut apdu,
+        &Apdu::Confirmed {
+            segmented: false,
+            max_response: MAX_APDU as u16,
+            invoke,
+            service: request.service(),
+            parameters: parameters.octets(),
+        },
+    )?;
+    if apdu.octets().len() > MAX_APDU {
+        return Err(Full);
+    }
+    Ok(apdu)
+}
+
+/// The datagram that carries the request to one device.
+#[tactic(auto, unfolding(crate::specs::Requests::request_octets, bac_apdu::specs::Frame::frame_octets))]
+pub(crate) fn datagram_of(invoke: u8, request: &Request) -> Result<Datagram, Full>
+    requires { IsSendable request.now }
+    ensures ok { IfOk result (λ d. d ≡ request_octets invoke request.now) }
+    ensures full { IsErr result ↔ IsTooLong request.now }
+{
+    let apdu = apdu_of(invoke, request)?;
+    let npdu = Npdu {
+        network: false,
+        reply: true,
+        priority: 0,
+        dest: None,
+        source: None,
+        hops: 0,
+    };
+    let mut datagram = Datagram::new();
+    match write_datagram(&mut datagram, &npdu, apdu.octets()) {
+        Ok(()) => Ok(datagram),
+        Err(_) => unreachable!(),
+    }
+}

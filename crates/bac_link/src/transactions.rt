@@ -1,0 +1,139 @@
+//! One transaction at a time (clause 5.4.4).
+
+ghost use Rattle.std.specs.Prelude.{◌≡◌, ◌↔◌, None, IfOk, IsErr, OnErr};
+ghost use Rattle.bac_link.specs.Requests.{request_octets, next_invoke, IsSendable, IsTooLong};
+ghost use Rattle.bac_link.specs.Transactions.{begun_with, closed, is_awaited as is_awaited_by, Receives, TimesOut};
+
+use crate::answer::{Answer, answer_in, answers};
+use crate::request::{Request, datagram_of};
+use bac_wire::{Datagram, Full};
+
+/// A request that waits for its answer.
+#[derive(Debug, Drop)]
+pub struct Pending {
+    request: Datagram,
+    /// How often it was sent again.
+    repeats: u8,
+}
+
+/// What is done when an answer didn't come in time.
+#[derive(Debug, Drop)]
+pub enum Timeout {
+    /// This datagram is sent again.
+    Resend(Datagram),
+    /// The request is given up.
+    GaveUp,
+}
+
+/// What a datagram is to the open request.
+#[derive(Clone, Copy, Debug, PartialEq, Eq)]
+pub enum Received<'a> {
+    /// Its answer.
+    Done(Answer<'a>),
+    /// Nothing.
+    Ignored,
+}
+
+/// The client's side of confirmed services: at most one request is open.
+#[derive(Debug, Drop)]
+pub struct Transactions {
+    /// How often a request is repeated.
+    retries: u8,
+    /// The invoke ID of the last request.
+    invoke: u8,
+    /// How many requests were begun; at its greatest value it stays.
+    begun: u64,
+    pending: Option<Pending>,
+}
+
+impl Transactions {
+    /// None begun, each to be repeated so many times.
+    pub fn new(retries: u8) -> Transactions
+        ensures { result ≡ record { retries = retries; invoke = 0; begun = 0; pending = None } }
+    {
+        Transactions {
+            retries,
+            invoke: 0,
+            begun: 0,
+            pending: None,
+        }
+    }
+
+    /// Opens a request, in place of one that is open, and gives the datagram to be sent. Invoke IDs
+    /// are 1, 2 and so on; after 255 comes 0. `Full` where the request's APDU has over 1476 octets;
+    /// then nothing changes.
+    pub fn begin(&mut self, request: &Request) -> Result<Datagram, Full>
+        requires { IsSendable request.now }
+        ensures datagram { IfOk result (λ d. d ≡ request_octets (next_invoke self.old.invoke) request.now) }
+        ensures opened { IfOk result (λ d. self.new ≡ begun_with request.now self.old) }
+        ensures full { IsErr result ↔ IsTooLong request.now }
+        ensures err { OnErr result (self.new ≡ self.old) }
+    {
+        let invoke = self.invoke.wrapping_add(1);
+        let datagram = datagram_of(invoke, request)?;
+        self.invoke = invoke;
+        self.begun = self.begun.saturating_add(1);
+        self.pending = Some(Pending {
+            request: datagram.copy(),
+            repeats: 0,
+        });
+        Ok(datagram)
+    }
+
+    /// Takes a datagram that came: the answer to the open request, which closes it, or `Ignored`,
+    /// and nothing changes.
+    pub fn receive<'a>(&mut self, datagram: &'a [u8]) -> Received<'a>
+        ensures { Receives self.old datagram.now result self.new }
+    {
+        if !self.is_awaited(datagram) {
+            return Received::Ignored;
+        }
+        match answer_in(datagram) {
+            Some((_, answer)) => {
+                self.pending = None;
+                Received::Done(answer)
+            }
+            None => Received::Ignored,
+        }
+    }
+
+    fn is_awaited(&self, datagram: &[u8]) -> bool
+        ensures { result ≡ is_awaited_by self.now.pending datagram.now }
+    {
+        match &self.pending {
+            Some(pending) => answers(pending.request.octets(), datagram),
+            None => false,
+        }
+    }
+
+    /// No answer came in time: the same octets again, as long as fewer than `retries` repeats were
+    /// given; else the request is closed. With nothing open it is `GaveUp`.
+    pub fn timeout(&mut self) -> Timeout
+        ensures { TimesOut self.old result self.new }
+    {
+        match &mut self.pending {
+            Some(pending) => {
+                if pending.repeats < self.retries {
+                    pending.repeats += 1;
+                    return Timeout::Resend(pending.request.copy());
+                }
+            }
+            None => {}
+        }
+        self.pending = None;
+        Timeout::GaveUp
+    }
+
+    pub(crate) fn retries(&self) -> u8
+        ensures { result ≡ self.now.retries }
+    {
+        self.retries
+    }
+
+    /// Nothing is open any more.
+    pub(crate) fn close(&mut self)
+        ensures { self.new ≡ closed self.old }
+    {
+        self.pending = None;
+    }
+}
