@@ -185,11 +185,27 @@ fn the_last_numbers_are_selected(rt: HostRuntime) -> Result<(), Fail> {
     let log = log_of(&rt, 2, 4294967291, &[9, 10, 11])?;
     // the first number takes 5 octets
     let rows = [
-        (by_number(4294967293, 2), 60, selected(1, 2, 0xc0, Some(4294967293))),
-        (by_number(4294967293, 2), 59, selected(1, 1, 0xa0, Some(4294967293))),
-        (by_number(4294967294, 2147483647), 1476, selected(2, 1, 0x40, Some(4294967294))),
+        (
+            by_number(4294967293, 2),
+            60,
+            selected(1, 2, 0xc0, Some(4294967293)),
+        ),
+        (
+            by_number(4294967293, 2),
+            59,
+            selected(1, 1, 0xa0, Some(4294967293)),
+        ),
+        (
+            by_number(4294967294, 2147483647),
+            1476,
+            selected(2, 1, 0x40, Some(4294967294)),
+        ),
         (by_number(4294967295, -1), 1476, NOTHING),
-        (by_number(4294967295, -2), 1476, selected(2, 1, 0x40, Some(4294967294))),
+        (
+            by_number(4294967295, -2),
+            1476,
+            selected(2, 1, 0x40, Some(4294967294)),
+        ),
     ];
     for (extent, limit, want) in rows {
         assert_eq!(rt; log.answer(&extent, limit), Ok(want), "{extent:?} {limit}");
@@ -201,12 +217,17 @@ fn the_last_numbers_are_selected(rt: HostRuntime) -> Result<(), Fail> {
 fn a_full_log_of_65535_records_answers(rt: HostRuntime) -> Result<(), Fail> {
     let mut log = TrendLog::new(rt.alloc(), 65535, 0)?;
     for index in 0u32..65535 {
-        log.append(sample((index / 1100) as u8)?).ok().ok_or("cycle full")?;
+        log.append(sample((index / 1100) as u8)?)
+            .ok()
+            .ok_or("cycle full")?;
     }
     // 60 seconds of 1,100 records each, but 635 in the last
     let rows = [
         (by_position(65535, 1), selected(65535, 1, 0x40, None)),
-        (by_number(65436, 100), selected(65436, 76, 0x20, Some(65436))),
+        (
+            by_number(65436, 100),
+            selected(65436, 76, 0x20, Some(65436)),
+        ),
         (by_time(58, 1), selected(64901, 1, 0x00, Some(64901))),
         (by_time(1, -1), selected(1100, 1, 0x00, Some(1100))),
         (Extent::All, selected(1, 76, 0xa0, None)),
