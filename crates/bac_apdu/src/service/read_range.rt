@@ -30,11 +30,11 @@ pub struct ReadRange {
 }
 
 impl ReadRange {
-    /// The request that the parameters spell, or the reason of the first that is wrong.
+    /// The request that the parameters encode, or the reason of the first that is wrong.
     pub fn read(bytes: &[u8]) -> Result<ReadRange, Reason>
-        // What is read is spelled so.
+        // What is read is encoded so.
         ensures found { IfOk result (λ r. Reads read_range bytes.now (range_items r)) }
-        // What is spelled so is read.
+        // What is encoded so is read.
         ensures only { (items : List Item) → Reads read_range bytes.now items → IsOkAnd result (λ r. range_items r ≡ items) }
         // The reason is that of the parameter after the longest run of those that are right.
         ensures refused { IfErr result (λ reason. (count : ℕ) × Stops read_range bytes.now count reason) }
@@ -46,7 +46,7 @@ impl ReadRange {
         ReadRange::parts(bytes)
     }
 
-    /// Appends the parameters, or nothing where they don't fit.
+    /// Appends the parameters, or nothing if they don't fit.
     pub fn write(&self, out: &mut Datagram) -> Result<(), Full>
         ensures written { Writes out.old (canon_form read_range (range_items self.now)) result out.new }
         ensures in_range { OnOk result (IsProperty self.now.object self.now.property self.now.index) }
@@ -101,7 +101,7 @@ impl ReadRange {
         ensures apdu { (r : ReadRange) (size invoke : ℕ) → length (apdu_octets (Confirmed false size invoke read_range_service (canon_form read_range (range_items r)))) ≤ 51 }
     {}
 
-    /// Two different requests never show the same parameters.
+    /// Requests that differ in any field have different parameters.
     pub fn items_tell_fields()
         ensures { (r s : ReadRange) → range_items r ≡ range_items s → r ≡ s }
     {}
