@@ -42,6 +42,8 @@ impl ReadRange {
         ensures exact { Gives range_items result (form_at read_range bytes.now) }
         // The same with named fields.
         ensures named { result ≡ read_range_at bytes.now }
+        // It may be written.
+        ensures in_range { IfOk result (λ r. IsExtent r.extent) }
     {
         ReadRange::parts(bytes)
     }
@@ -93,6 +95,11 @@ impl ReadRange {
     /// What is written is read back, with named fields.
     pub fn fields_are_read_back()
         ensures { (r : ReadRange) → IsProperty r.object r.property r.index → IsExtent r.extent → read_range_at (canon_form read_range (range_items r)) ≡ Ok r }
+    {}
+
+    /// Parameters are never read as a request with a range whose numbers are out of range.
+    pub fn extents_are_in_range()
+        ensures { (bytes : List ℕ) (r : ReadRange) → read_range_at bytes ≡ Ok r → IsExtent r.extent }
     {}
 
     /// A request has at most 47 octets of parameters, and 51 as an APDU: it fits every datagram.

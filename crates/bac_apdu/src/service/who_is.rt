@@ -36,6 +36,8 @@ impl WhoIs {
         ensures exact { GivesSome who_is_items result (result_ok (form_at who_is bytes.now)) }
         // The same with named fields.
         ensures named { result ≡ who_is_at bytes.now }
+        // It may be written.
+        ensures in_range { IfSome result (λ w. AreLimits w.limits) }
     {
         WhoIs::parts(bytes).ok()
     }
