@@ -311,3 +311,48 @@ pub limits_bounded : (bytes : List ℕ) (r : Option WhoIs) → r ≡ who_is_at b
 unfolding who_is_at
 limits_bounded bytes (Some w) e = who_is_read bytes (form_at who_is bytes) w refl (sym e)
 limits_bounded bytes None e = tt
+
+-- ---- the first number in an ACK of ReadRange
+
+first_in : (v : Primitive) → is_first v ≡ true → IsFirst (number_in (Value v))
+first_in (Unsigned n) h = let p = and_parts (ltb 0 n) (ltb n (2 ^ 32)) h in (ltb-true _ _ p.0, ltb-true _ _ p.1)
+first_in Null h = tt
+first_in (Boolean b) h = tt
+first_in (Signed z) h = tt
+first_in (Real octets) h = tt
+first_in (Double octets) h = tt
+first_in (Octets octets) h = tt
+first_in (Chars set octets) h = tt
+first_in (Bits bits) h = tt
+first_in (Enumerated n) h = tt
+first_in (Date octets) h = tt
+first_in (Time octets) h = tt
+first_in (Object id) h = tt
+
+optional_first : (item : Item) → IsValue is_first item ⊎ (item ≡ Absent) → IsFirst (number_in item)
+optional_first item (inl v) = rw v.1 (first_in v.0 v.2)
+optional_first item (inr e) = rw e tt
+
+ack_valid : (bytes : List ℕ) (items : List Item) → form_at read_range_ack bytes ≡ Ok items → IsFirst ((range_ack_in items).first_number)
+ack_valid bytes items h =
+    let a = behind_part _ _ bytes items h in
+    let b = behind_part _ _ a.bytes a.tail a.rest in
+    let c = behind_optional _ _ _ _ b.bytes b.tail b.rest in
+    let d = behind_part _ _ c.bytes c.tail c.rest in
+    let e = behind_part _ _ d.bytes d.tail d.rest in
+    let f = behind_part _ _ e.bytes e.tail e.rest in
+    let g = behind_part _ _ f.bytes f.tail f.rest in
+    let k = behind_optional 6 unsigned is_first end g.bytes g.tail g.rest in
+    let first = optional_first k.item (optional_is 6 unsigned is_first k.front (k.item, k.bytes) k.at) in
+    let all : items ≡ a.item ∷ b.item ∷ c.item ∷ d.item ∷ e.item ∷ f.item ∷ g.item ∷ k.item ∷ k.tail =
+    a.is ∙ ap (λ l. a.item ∷ l) (b.is ∙ ap (λ l. b.item ∷ l) (c.is ∙ ap (λ l. c.item ∷ l) (d.is ∙ ap (λ l. d.item ∷ l) (e.is ∙ ap (λ l. e.item ∷ l) (f.is ∙ ap (λ l. f.item ∷ l) (g.is ∙ ap (λ l. g.item ∷ l) k.is)))))) in
+    rw all first
+
+ack_read : (bytes : List ℕ) (read : Result (List Item) Reason) (a : RangeAck) → form_at read_range_ack bytes ≡ read → option_map range_ack_in (result_ok read) ≡ Some a → IsFirst a.first_number
+ack_read bytes (Ok items) a e h = subst (λ (x : RangeAck). IsFirst x.first_number) (let same : range_ack_in items ≡ a = cc in same) (ack_valid bytes items e)
+ack_read bytes (Err reason) a e h = absurd cc
+
+pub first_bounded : (bytes : List ℕ) (r : Option ReadRangeAck) → GivesSome range_ack_of r (read_range_ack_at bytes) → IfSome r (λ a. IsFirst a.first_number)
+unfolding read_range_ack_at
+first_bounded bytes (Some a) e = ack_read bytes (form_at read_range_ack bytes) (range_ack_of a) refl e
+first_bounded bytes None e = tt

@@ -49,6 +49,8 @@ impl<'a> ReadRangeAck<'a> {
         ensures exact { GivesSome ack_items result (result_ok (form_at read_range_ack bytes.now)) }
         // The same with named fields.
         ensures named { GivesSome range_ack_of result (read_range_ack_at bytes.now) }
+        // The first number isn't 0.
+        ensures in_range { IfSome result (λ a. IsFirst a.first_number) }
         // The five unused low bits of the flags are 0.
         ensures low { IfSome result (λ a. a.flags % 32 ≡ 0) }
     {
