@@ -6,7 +6,7 @@ use Rattle.bac_apdu.specs.declared.frame.Frame.TheVariants as code
 use Rattle.bac_wire.specs.OptionChain.{◌>>=◌}
 use Rattle.bac_apdu.specs.Octets.{octet_at, word_at, octets_at}
 
--- A frame, apart from where it lies in memory. Forwarded has an address and an NPDU, Function its number and what follows.
+-- A frame, whatever memory holds it. Forwarded has an address and an NPDU, Function its number and what follows.
 pub data Frame : Type 0 where
   Unicast : List ℕ → Frame
   Broadcast : List ℕ → Frame
