@@ -1,0 +1,4 @@
+pub mod Builds
+pub mod Encodings
+pub mod Listing
+pub mod Writes

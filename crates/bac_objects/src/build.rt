@@ -1,0 +1,262 @@
+//! Building a device of lines.
+
+ghost use Rattle.std.specs.Prelude.{◌≡◌, ◌<◌, ◌++◌, ◌∷◌, [], map, None, OnOk, IfOk, IfErr};
+ghost use Rattle.std.specs.List.{list_any};
+ghost use Rattle.std.specs.Map.{lookup};
+ghost use Rattle.bac_objects.specs.Build.{Builds, body_of, build_fault, device_fault, entry_of, first_of, has_id, has_name, id_of, instance_of, is_control, is_name, object_fault, objects_fault, own_tests};
+ghost use Rattle.bac_objects.specs.State.{is_id};
+
+use crate::command::{Command, Range, Setting};
+use crate::database::Database;
+use crate::lines::{DeviceLine, ObjectLine};
+use crate::object::{Body, Object};
+use bac_wire::ObjectId;
+use indexmap::IndexMap;
+use std::alloc::Global;
+use thiserror::Error;
+
+/// Why a device can't be built.
+#[derive(Clone, Copy, Debug, PartialEq, Eq, Error)]
+pub enum BuildFault {
+    /// The instance is over 4194302.
+    #[error("bad instance")]
+    BadInstance,
+    /// Two objects have the same type and instance.
+    #[error("duplicate object")]
+    DuplicateId,
+    /// The name is empty, has over 64 octets, or a character below 32 or 127.
+    #[error("bad name")]
+    BadName,
+    /// Two objects, or an object and the device, have the same name.
+    #[error("duplicate name")]
+    DuplicateName,
+    /// The number of states isn't 1 to 65535.
+    #[error("bad states")]
+    BadStates,
+    /// The default of a binary object isn't 0 or 1, or that of a multi-state one none of its states.
+    #[error("bad default")]
+    BadDefault,
+    /// The reply size isn't 50 to 1476.
+    #[error("bad reply size")]
+    BadReplySize,
+    /// No memory for the device.
+    #[error("out of memory")]
+    Memory,
+}
+
+/// Whether a name has a character below 32 or 127.
+fn has_control(name: &[u8]) -> bool
+    ensures { result ≡ list_any is_control name.now }
+{
+    name.iter().any(|octet| *octet < 32 || *octet == 127)
+}
+
+/// Whether a name has 1 to 64 octets and no control character.
+fn is_name(name: &[u8]) -> bool
+    ensures { result ≡ is_name name.now }
+{
+    !name.is_empty() && name.len() <= 64 && !has_control(name)
+}
+
+impl DeviceLine {
+    /// The first fault of the line.
+    fn fault(&self) -> Option<BuildFault>
+        ensures { result ≡ device_fault self.now }
+    {
+        if 4_194_302 < self.instance {
+            return Some(BuildFault::BadInstance);
+        }
+        if !is_name(self.name.octets()) {
+            return Some(BuildFault::BadName);
+        }
+        if self.reply_size < 50 || 1476 < self.reply_size {
+            return Some(BuildFault::BadReplySize);
+        }
+        None
+    }
+}
+
+/// Whether one of the lines has this type and instance.
+fn has_id(lines: &[ObjectLine], kind: u16, instance: u32) -> bool
+    ensures { result ≡ has_id (record { kind = kind; instance = instance }) lines.now }
+{
+    for line in lines {
+        if kind == line.kind() && instance == line.instance() {
+            return true;
+        }
+    }
+    false
+}
+
+/// Whether one of the lines has this name.
+fn has_name(lines: &[ObjectLine], name: &[u8]) -> bool
+    ensures { result ≡ has_name name.now lines.now }
+{
+    for line in lines {
+        if name == line.name().octets() {
+            return true;
+        }
+    }
+    false
+}
+
+impl ObjectLine {
+    /// The first fault of what only lines of this kind say.
+    fn own_fault(&self) -> Option<BuildFault>
+        ensures { result ≡ first_of (own_tests self.now) }
+    {
+        match self {
+            ObjectLine::Binary { default, .. } => {
+                if 1 < *default {
+                    return Some(BuildFault::BadDefault);
+                }
+                None
+            }
+            ObjectLine::Multistate {
+                states,
+                default,
+                ..
+            } => {
+                if *states < 1 || 65535 < *states {
+                    return Some(BuildFault::BadStates);
+                }
+                if *default < 1 || *states < *default {
+                    return Some(BuildFault::BadDefault);
+                }
+                None
+            }
+            ObjectLine::Integer { .. } => None,
+        }
+    }
+
+    /// The first fault of the line behind the device's line and these.
+    fn fault(&self, device: &DeviceLine, before: &[ObjectLine]) -> Option<BuildFault>
+        ensures { result ≡ object_fault device.now before.now self.now }
+    {
+        if 4_194_302 < self.instance() {
+            return Some(BuildFault::BadInstance);
+        }
+        if has_id(before, self.kind(), self.instance()) {
+            return Some(BuildFault::DuplicateId);
+        }
+        let name = self.name().octets();
+        if !is_name(name) {
+            return Some(BuildFault::BadName);
+        }
+        if name == device.name.octets() || has_name(before, name) {
+            return Some(BuildFault::DuplicateName);
+        }
+        self.own_fault()
+    }
+
+    /// What the object is.
+    fn body(&self) -> Body
+        ensures { result ≡ body_of self.now }
+    {
+        Body::Command(match self {
+            ObjectLine::Binary { default, .. } => {
+                Command::new(Range::Binary, Setting::Enumerated(*default))
+            }
+            ObjectLine::Multistate {
+                states,
+                default,
+                ..
+            } => Command::new(
+                Range::Multistate { states: *states },
+                Setting::Unsigned(*default),
+            ),
+            ObjectLine::Integer { default, .. } => {
+                Command::new(Range::Integer, Setting::Signed(*default))
+            }
+        })
+    }
+}
+
+/// The first fault of the object lines.
+fn objects_fault(device: &DeviceLine, lines: &[ObjectLine]) -> Option<BuildFault>
+    ensures { result ≡ objects_fault device.now [] lines.now }
+{
+    for place in 0..lines.len() {
+        if let Some(fault) = lines[place].fault(device, &lines[..place]) {
+            return Some(fault);
+        }
+    }
+    None
+}
+
+/// The first fault of all the lines.
+fn build_fault(device: &DeviceLine, lines: &[ObjectLine]) -> Option<BuildFault>
+    ensures { result ≡ build_fault device.now lines.now }
+{
+    match device.fault() {
+        Some(fault) => Some(fault),
+        None => objects_fault(device, lines),
+    }
+}
+
+/// Adds the object of a line.
+fn add(
+    objects: &mut IndexMap<ObjectId, Object>,
+    alloc: Global,
+    line: &ObjectLine,
+) -> Result<(), BuildFault>
+    requires within { instance_of line.now < 4194304 }
+    requires fresh { lookup (is_id (id_of line.now)) objects.old.entries ≡ None }
+    ensures ok { OnOk result (objects.new.entries ≡ objects.old.entries ++ entry_of line.now ∷ []) }
+    ensures err { IfErr result (λ fault. fault ≡ BuildFault.Memory) }
+{
+    let Some(id) = ObjectId::new(line.kind(), line.instance()) else {
+        unreachable!()
+    };
+    let Ok(name) = line.name().copy(alloc) else {
+        return Err(BuildFault::Memory);
+    };
+    let object = Object {
+        name,
+        body: line.body(),
+    };
+    match objects.insert(id, object) {
+        Ok(_) => Ok(()),
+        Err(_) => Err(BuildFault::Memory),
+    }
+}
+
+/// The objects of lines that have no fault.
+pub(crate) fn objects_of(
+    alloc: Global,
+    device: &DeviceLine,
+    lines: &[ObjectLine],
+) -> Result<IndexMap<ObjectId, Object>, BuildFault>
+    requires { objects_fault device.now [] lines.now ≡ None }
+    ensures ok { IfOk result (λ objects. objects.entries ≡ map entry_of lines.now) }
+    ensures err { IfErr result (λ fault. fault ≡ BuildFault.Memory) }
+{
+    let Ok(mut objects) = IndexMap::with_capacity(alloc, lines.len()) else {
+        return Err(BuildFault::Memory);
+    };
+    for line in lines {
+        add(&mut objects, alloc, line)?;
+    }
+    Ok(objects)
+}
+
+impl Database {
+    /// The device that lines describe, or their first fault. Only lines without a fault make
+    /// anything grow, so want of memory comes last.
+    pub fn build(
+        alloc: Global,
+        device: &DeviceLine,
+        lines: &[ObjectLine],
+    ) -> Result<Database, BuildFault>
+        ensures { Builds result device.now lines.now }
+    {
+        if let Some(fault) = build_fault(device, lines) {
+            return Err(fault);
+        }
+        let objects = objects_of(alloc, device, lines)?;
+        match Database::of(alloc, device, objects) {
+            Ok(database) => Ok(database),
+            Err(_) => Err(BuildFault::Memory),
+        }
+    }
+}
