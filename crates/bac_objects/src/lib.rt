@@ -26,4 +26,4 @@ pub use database::Database;
 pub use fault::{Fault, Refused};
 pub use lines::{DeviceLine, ObjectLine};
 pub use name::Name;
-pub use object::{Body, Object};
+pub use object::{Body, Logger, Object};
