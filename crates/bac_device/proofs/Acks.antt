@@ -23,8 +23,13 @@ ack-len object property None values =
     omega (arith, tail-len values, length-append (context_octets 0 (Object object)) (context_octets 1 (Enumerated property) ++ tail), length-append (context_octets 1 (Enumerated property)) tail)
 ack-len object property (Some index) values =
     let tail = open_octets 3 ++ ((values ++ close_octets 3) ++ []) in
-    omega (arith, tail-len values, length-append (context_octets 0 (Object object)) (context_octets 1 (Enumerated property) ++ (context_octets 2 (Unsigned index) ++ tail)),
-      length-append (context_octets 1 (Enumerated property)) (context_octets 2 (Unsigned index) ++ tail), length-append (context_octets 2 (Unsigned index)) tail)
+    omega (
+      arith,
+      tail-len values,
+      length-append (context_octets 0 (Object object)) (context_octets 1 (Enumerated property) ++ (context_octets 2 (Unsigned index) ++ tail)),
+      length-append (context_octets 1 (Enumerated property)) (context_octets 2 (Unsigned index) ++ tail),
+      length-append (context_octets 2 (Unsigned index)) tail,
+    )
 
 over : (limit n : ℕ) → limit < n → nat_lt limit n ≡ true
 over limit n lt = grind (arith, nat_tests)

@@ -99,12 +99,12 @@ abbrev written_slots : PropertyWrite → List (Option Setting) → List (Option 
 written_slots w slots = slice_set slots (priority_of w - 1) (set_to w.value)
 
 -- what an accepted write did
-record Wrote (d : State) (w : PropertyWrite) (new : State) : Type 0 where
-  o : object.Object
-  n : object.Object
-  at : lookup (is_id w.object) d.objects ≡ Some o
-  did : object_written w o ≡ Ok n
-  is : new ≡ record d { objects = set_value (is_id w.object) d.objects n }
+pub record Wrote (d : State) (w : PropertyWrite) (new : State) : Type 0 where
+  pub o : object.Object
+  pub n : object.Object
+  pub at : lookup (is_id w.object) d.objects ≡ Some o
+  pub did : object_written w o ≡ Ok n
+  pub is : new ≡ record d { objects = set_value (is_id w.object) d.objects n }
 
 ok_same : {X : Type 0} (a b : X) → (let r : Result X Fault = Ok a in r) ≡ Ok b → a ≡ b
 ok_same a b e = cc
@@ -189,7 +189,7 @@ wrote_at true l f d w new at e = absurd (err_ok _ new e)
 wrote_at false None f d w new at e = absurd (err_ok _ new e)
 wrote_at false (Some o) f d w new at e = write_end d w new o (object_written w o) at refl e
 
-wrote : (d : State) (w : PropertyWrite) (new : State) → write_of d w ≡ Ok new → Wrote d w new
+pub wrote : (d : State) (w : PropertyWrite) (new : State) → write_of d w ≡ Ok new → Wrote d w new
 wrote d w new e = wrote_at (is_device d w.object) (lookup (is_id w.object) d.objects) _ d w new refl e
 
 -- ---- slots after writes
@@ -290,6 +290,11 @@ stands_at id slots (w ∷ ws) p are low lt =
     stands_at id (cond (is_id id w.object) (written_slots w slots) slots) ws p are.1 low (omega (arith, lt, size))
     ∙ joined (last_at id p ws) (is_id id w.object) (priority_of w == p) slots (priority_of w - 1) (p - 1) (set_to w.value) (sym (same_place (priority_of w) p are.0 low)) lt
 
+kept_size : (id : Id) (slots : List (Option Setting)) (ws : List PropertyWrite) → length (slots_after id slots ws) ≡ length slots
+kept_size id slots [] = refl
+kept_size id slots (w ∷ ws) =
+    kept_size id (cond (is_id id w.object) (written_slots w slots) slots) ws ∙ size_kept (is_id id w.object) slots (priority_of w - 1) (set_to w.value)
+
 -- ---- the writes among datagrams
 
 from_apdu : (m : Apdu) (w : PropertyWrite) → write_in_apdu m ≡ Some w → 1 ≤ priority_of w
@@ -342,6 +347,8 @@ stands d xs id o c h is size k =
     let held = all_writes xs d id o c c.slots (h ∙ ap (λ (m : object.Object). let r : Option object.Object = Some m in r) same) in
     record {
       slots = slots_after id c.slots (writes d xs);
+      size = kept_size id c.slots (writes d xs) ∙ size;
       last = λ p low high. stands_at id c.slots (writes d xs) p (are_writes xs d) low (omega (arith, low, high, size));
       held = held;
-      read = present_read (after d xs) id o c (slots_after id c.slots (writes d xs)) k held }
+      read = present_read (after d xs) id o c (slots_after id c.slots (writes d xs)) k held;
+    }

@@ -6,3 +6,4 @@ pub mod ReadBack
 pub mod Asking
 pub mod Told
 pub mod History
+pub mod Built

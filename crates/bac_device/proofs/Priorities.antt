@@ -112,7 +112,7 @@ items_prioritized bytes items h =
     let f = behind_part _ _ e.bytes e.tail e.read in
     let g = last_item f.bytes f.tail f.read in
     let all : items ≡ a.item ∷ b.item ∷ c.item ∷ d.item ∷ e.item ∷ f.item ∷ g.0 ∷ g.1 =
-        a.is ∙ ap (λ l. a.item ∷ l) (b.is ∙ ap (λ l. b.item ∷ l) (c.is ∙ ap (λ l. c.item ∷ l) (d.is ∙ ap (λ l. d.item ∷ l) (e.is ∙ ap (λ l. e.item ∷ l) (f.is ∙ ap (λ l. f.item ∷ l) g.2))))) in
+    a.is ∙ ap (λ l. a.item ∷ l) (b.is ∙ ap (λ l. b.item ∷ l) (c.is ∙ ap (λ l. c.item ∷ l) (d.is ∙ ap (λ l. d.item ∷ l) (e.is ∙ ap (λ l. e.item ∷ l) (f.is ∙ ap (λ l. f.item ∷ l) g.2))))) in
     rw all g.3
 
 read_prioritized : (bytes : List ℕ) (r : Result (List Item) Reason) (w : PropertyWrite) → form_at write_property bytes ≡ r → result_map write_in r ≡ Ok w → IsPrioritized w.priority

@@ -1,13 +1,15 @@
 -- What a device is after datagrams, and which writes among them it accepted.
-use Rattle.std.specs.Prelude.{◌≡◌, ◌≤◌, ◌-◌, ℕ, Bool, true, false, not, ◌&&◌, ◌==◌, if◌then◌else◌, List, [], ◌∷◌, slice_get, Option, None, Some, Ok}
+use Rattle.std.specs.Prelude.{◌≡◌, ◌≤◌, ◌-◌, ℕ, Bool, true, false, not, ◌&&◌, ◌==◌, if◌then◌else◌, List, [], ◌∷◌, length, map, slice_get, Option, None, Some, Ok}
+use Rattle.std.specs.List.{range_with_len}
 use Rattle.std.specs.Map.{lookup}
-use Rattle.std.specs.Option.{option_or}
+use Rattle.std.specs.Option.{option_or, unwrap_or}
 use Rattle.std.specs.Result.{result_ok}
-use Rattle.bac_wire.specs.Primitive.{Primitive, Unsigned, Signed, Enumerated, Id}
+use Rattle.bac_wire.specs.Primitive.{Primitive, Unsigned, Signed, Enumerated, Object, Id}
 use Rattle.bac_apdu.specs.Apdu.{Apdu, Confirmed, Simple}
 use Rattle.bac_apdu.specs.Frame.{Frame, Unicast, Broadcast, Forwarded, Function, frame_at}
+use Rattle.bac_objects.specs.Build.{id_of}
 use Rattle.bac_objects.specs.Command.{present}
-use Rattle.bac_objects.specs.Properties.{value_of}
+use Rattle.bac_objects.specs.Properties.{slot_value, value_of}
 use Rattle.bac_objects.specs.Reading.{read_of}
 use Rattle.bac_objects.specs.Requests.{PropertyWrite, write_property_at}
 use Rattle.bac_objects.specs.State.{State, is_id}
@@ -15,6 +17,9 @@ use Rattle.bac_objects.specs.Writing.{priority_of}
 use Rattle.bac_objects.specs.declared.command.Command as command
 use Rattle.bac_objects.specs.declared.command.Setting.{Setting}
 use Rattle.bac_objects.specs.declared.command.Setting.TheVariants as setting
+use Rattle.bac_objects.specs.declared.lines.DeviceLine.{DeviceLine}
+use Rattle.bac_objects.specs.declared.lines.ObjectLine.{ObjectLine}
+use Rattle.bac_objects.specs.declared.lines.ObjectLine.TheVariants.{Binary, Multistate, Integer}
 use Rattle.bac_objects.specs.declared.object.Body.TheVariants as body
 use Rattle.bac_objects.specs.declared.object.Object as object
 use Rattle.bac_device.specs.Answer.{answer, write_property_service}
@@ -97,10 +102,34 @@ last_at id priority (w ∷ ws) = option_or (last_at id priority ws) (if sets id 
 abbrev pub with_slots : object.Object → command.Command → List (Option Setting) → object.Object
 with_slots o c slots = record o { body = body.Command (record c { slots = slots }) }
 
+-- what the last of the writes set, or else Null
+abbrev pub slot_after : Id → List PropertyWrite → ℕ → Option Setting
+slot_after id ws priority = unwrap_or (last_at id priority ws) None
+
 -- At each priority the object has what the last accepted write at it set, or what it had; nothing else of the object has changed;
 -- and Present_Value is read as the value at the lowest-numbered priority that isn't Null, else as Relinquish_Default.
 pub record Stands (d : State) (datagrams : List (List ℕ)) (id : Id) (o : object.Object) (c : command.Command) : Type 0 where
   pub slots : List (Option Setting)
+  pub size : length slots ≡ 16
   pub last : (priority : ℕ) → 1 ≤ priority → priority ≤ 16 → slice_get slots (priority - 1) ≡ option_or (last_at id priority (writes d datagrams)) (slice_get c.slots (priority - 1))
   pub held : lookup (is_id id) (after d datagrams).objects ≡ Some (with_slots o c slots)
   pub read : read_of (after d datagrams) (record { object = id; property = 85; index = None }) ≡ Ok (value_of (present slots c.default) ∷ [])
+
+-- ---- devices that were built
+
+-- what a line says of a commandable object
+abbrev pub default_of : ObjectLine → Setting
+default_of (Binary instance name default) = setting.Enumerated default
+default_of (Multistate instance name states default) = setting.Unsigned default
+default_of (Integer instance name default) = setting.Signed default
+
+-- After these writes each priority of the object is read as what the last of them at it set, else as Null;
+-- Present_Value as the value at the lowest-numbered priority that isn't Null, else as Relinquish_Default; and that as the line had it.
+pub record IsCommanded (d : State) (id : Id) (ws : List PropertyWrite) (default : Setting) : Type 0 where
+  pub array : read_of d (record { object = id; property = 87; index = None }) ≡ Ok (map (λ priority. slot_value (slot_after id ws priority)) (range_with_len 1 16))
+  pub present_value : read_of d (record { object = id; property = 85; index = None }) ≡ Ok (value_of (present (map (slot_after id ws) (range_with_len 1 16)) default) ∷ [])
+  pub default_value : read_of d (record { object = id; property = 104; index = None }) ≡ Ok (value_of default ∷ [])
+
+-- the device of a line first, then the objects of lines in their order
+abbrev pub ids_in_order : DeviceLine → List ObjectLine → List Primitive
+ids_in_order device lines = Object (record { kind = 8; instance = device.instance }) ∷ map (λ line. Object (id_of line)) lines

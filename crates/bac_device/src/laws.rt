@@ -1,6 +1,6 @@
 //! Laws of answers. Each function does nothing: what it ensures is the law.
 
-ghost use Rattle.std.specs.Prelude.{◌≡◌, ◌==◌, ◌<◌, ℕ, List, [], ◌∷◌, Option, Ok, Some, None, false, length, min};
+ghost use Rattle.std.specs.Prelude.{◌≡◌, ◌==◌, ◌<◌, ℕ, List, [], ◌∷◌, Option, Ok, Some, None, false, length, min, slice_get};
 ghost use Rattle.std.specs.Map.{lookup};
 ghost use Rattle.bac_wire.specs.Primitive.{Primitive, Id, Object as ObjectValue, Enumerated};
 ghost use Rattle.bac_apdu.specs.Form.{Value, Mark, Inside, number_item};
@@ -11,7 +11,10 @@ ghost use Rattle.bac_objects.specs.State.{State, is_id};
 ghost use Rattle.bac_objects.specs.Reading.{read_of, AreValid, values_octets};
 ghost use Rattle.bac_device.specs.Answer.{answer, ack_octets, ack};
 ghost use Rattle.bac_device.specs.Reply.{limited, reply};
-ghost use Rattle.bac_device.specs.History.{heard_in, is_done, write_asked, Stands};
+ghost use Rattle.bac_device.specs.History.{after, default_of, heard_in, ids_in_order, is_done, write_asked, writes, IsCommanded, Stands};
+ghost use Rattle.bac_objects.specs.Build.{build_fault, built, id_of};
+ghost use Rattle.bac_objects.specs.declared.lines.DeviceLine.{DeviceLine};
+ghost use Rattle.bac_objects.specs.declared.lines.ObjectLine.{ObjectLine};
 ghost use Rattle.bac_objects.specs.declared.command.Command.{Command};
 ghost use Rattle.bac_objects.specs.declared.object.Body.TheVariants as Body;
 ghost use Rattle.bac_objects.specs.declared.object.Object.{Object};
@@ -32,6 +35,19 @@ pub fn refusals_change_nothing()
 /// present value is that of the first slot that isn't Null.
 pub fn accepted_writes_stand()
     ensures { (d : State) (datagrams : List (List ℕ)) (id : Id) (o : Object) (c : Command) → lookup (is_id id) d.objects ≡ Some o → o.body ≡ Body.Command c → length c.slots ≡ 16 → (id.kind == 8) ≡ false → Stands d datagrams id o c }
+{}
+
+/// After any datagrams to a device that was built of lines, each object has at each priority what
+/// the last accepted write at it set, else Null, and its present value is that of the least priority
+/// that isn't Null, else its line's default.
+pub fn built_objects_are_commanded()
+    ensures { (device : DeviceLine) (lines : List ObjectLine) (datagrams : List (List ℕ)) (i : ℕ) (line : ObjectLine) → build_fault device lines ≡ None → slice_get lines i ≡ Some line → IsCommanded (after (built device lines) datagrams) (id_of line) (writes (built device lines) datagrams) (default_of line) }
+{}
+
+/// After any datagrams to a device that was built of lines, its object list has the device and then
+/// the objects in the order of their lines.
+pub fn object_list_keeps_the_order_of_lines()
+    ensures { (device : DeviceLine) (lines : List ObjectLine) (datagrams : List (List ℕ)) → read_of (after (built device lines) datagrams) (record { object = record { kind = 8; instance = device.instance }; property = 76; index = None }) ≡ Ok (ids_in_order device lines) }
 {}
 
 /// What an ACK has is read back.

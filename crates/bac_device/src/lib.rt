@@ -23,6 +23,7 @@ mod service;
 pub use bac_objects::{BuildFault, DeviceLine, Name, ObjectLine};
 pub use device::{ClockBack, Device};
 pub use laws::{
-    accepted_writes_stand, acks_are_read_back, reads_are_answered, refusals_change_nothing,
+    accepted_writes_stand, acks_are_read_back, built_objects_are_commanded,
+    object_list_keeps_the_order_of_lines, reads_are_answered, refusals_change_nothing,
 };
 pub use reply::{Receiver, Reply};

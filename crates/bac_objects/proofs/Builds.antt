@@ -1,5 +1,6 @@
 -- Lines without a fault.
-use Rattle.std.proofs.Common.{◌≡◌, refl, subst, ap, sym, rules, arith, ℕ, zero, suc, ◌<◌, ◌++◌, Bool, true, false, ◌||◌, not, List, [], ◌∷◌, length, map, take, slice_get, get_or, Option, Some, None, nat_lt}
+use Rattle.std.proofs.Common.{◌≡◌, refl, subst, ap, sym, rules, arith, ℕ, zero, suc, ◌<◌, ◌++◌, Bool, true, false, ◌||◌, not, List, [], ◌∷◌, length, map, take, slice_get, get_or, Option, Some, None, nat_lt, append-nil}
+use Rattle.std.specs.List.{list_any}
 use Rattle.std.specs.Option.{option_or}
 use Rattle.std.specs.Map.{lookup}
 use Rattle.std.specs.Str.{bytes_eq}
@@ -82,8 +83,15 @@ right_none : (a b : Option BuildFault) → option_or a b ≡ None → b ≡ None
 right_none None b h = h
 right_none (Some x) b h = search rules
 
+left_none : (a b : Option BuildFault) → option_or a b ≡ None → a ≡ None
+left_none None b h = refl
+left_none (Some x) b h = absurd cc
+
 first_none : (device : DeviceLine) (before : List ObjectLine) (x : ObjectLine) (lines : List ObjectLine) (line : ObjectLine) → objects_fault device before (x ∷ lines) ≡ None → Some x ≡ Some line → object_fault device (before ++ []) line ≡ None
-first_none device before x lines line h at = search rules
+first_none device before x lines line h at =
+    let same : x ≡ line = cc in
+    let none : object_fault device before x ≡ None = left_none (object_fault device before x) (objects_fault device (before ++ x ∷ []) lines) h in
+    subst (λ (l : ObjectLine). object_fault device (before ++ []) l ≡ None) same (subst (λ (m : List ObjectLine). object_fault device m x ≡ None) (sym (append-nil before)) none)
 
 append_one : (before : List ObjectLine) (line : ObjectLine) (n : ℕ) (lines : List ObjectLine) → (before ++ line ∷ []) ++ take n lines ≡ before ++ line ∷ take n lines
 append_one [] line n lines = refl
@@ -133,3 +141,35 @@ at_index (x ∷ lines) (suc i) line lt e = at_index lines i line (omega (arith, 
 
 pub line_sound : (device : DeviceLine) (lines : List ObjectLine) (i : ℕ) (line : ObjectLine) → objects_fault device [] lines ≡ None → i < length lines → line ≡ get_or lines i line → IsSound (take i lines) line
 line_sound device lines i line h lt e = is_sound device (take i lines) line (line_none device [] lines i line h (at_index lines i line lt e))
+
+-- ---- the object of a line in the table
+
+any_in : {X : Type 0} (test : X → Bool) (b : Bool) (before : List X) (x : X) (rest : List X) → test x ≡ b → list_any test (before ++ x ∷ rest) ≡ false → test x ≡ false
+any_in test true [] x rest e h = search rules
+any_in test false [] x rest e h = e
+any_in test b (y ∷ before) x rest e h = any_in test b before x rest e (or_right (test y) (list_any test (before ++ x ∷ rest)) h)
+  where
+    or_right : (a c : Bool) → (a || c) ≡ false → c ≡ false
+    or_right true c k = search rules
+    or_right false c k = k
+
+same_id : (a : Id) → is_id a a ≡ true
+same_id a = grind (arith, nat_tests)
+
+is_first : (x line : ObjectLine) → Some x ≡ Some line → x ≡ line
+is_first x line e = cc
+
+other_id : (device : DeviceLine) (before : List ObjectLine) (x : ObjectLine) (lines : List ObjectLine) (i : ℕ) (line : ObjectLine)
+    → objects_fault device before (x ∷ lines) ≡ None → slice_get lines i ≡ Some line → is_id (id_of line) (id_of x) ≡ false
+other_id device before x lines i line h at =
+    let none : object_fault device (before ++ x ∷ take i lines) line ≡ None =
+    subst (λ m. object_fault device m line ≡ None) (append_one before x i lines) (line_none device (before ++ x ∷ []) lines i line (right_none _ _ h) at) in
+    any_in (λ l. is_id (id_of line) (id_of l)) (is_id (id_of line) (id_of x)) before x (take i lines) refl (is_sound device (before ++ x ∷ take i lines) line none).other
+
+-- each line's object is found under its identifier
+pub found : (device : DeviceLine) (before lines : List ObjectLine) (i : ℕ) (line : ObjectLine) → objects_fault device before lines ≡ None → slice_get lines i ≡ Some line
+    → lookup (is_id (id_of line)) (map entry_of lines) ≡ Some (entry_of line).1
+found device before [] i line h at = search rules
+found device before (x ∷ lines) zero line h at = let e : x ≡ line = is_first x line at in rw (e, same_id (id_of line)) refl
+found device before (x ∷ lines) (suc i) line h at =
+    rw (other_id device before x lines i line h at) (found device (before ++ x ∷ []) lines i line (right_none _ _ h) at)

@@ -57,7 +57,8 @@ write_in items = record {
   property = enumerated_in (get_or items 1 Absent);
   index = number_in (get_or items 2 Absent);
   value = value_in (get_or items 4 Absent);
-  priority = number_in (get_or items 6 Absent) }
+  priority = number_in (get_or items 6 Absent);
+}
 
 -- the request, or the reason of its first wrong parameter
 unfoldable pub write_property_at : List ℕ → Result PropertyWrite Reason

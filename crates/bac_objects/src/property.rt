@@ -193,7 +193,9 @@ impl Database {
             PROTOCOL_SERVICES_SUPPORTED => Some(Property::One(services_supported())),
             PROTOCOL_OBJECT_TYPES_SUPPORTED => Some(Property::One(types_supported())),
             OBJECT_LIST => Some(Property::Objects(self)),
-            MAX_APDU_LENGTH_ACCEPTED => Some(Property::One(Value::Unsigned(self.reply_size as u64))),
+            MAX_APDU_LENGTH_ACCEPTED => Some(Property::One(Value::Unsigned(
+                self.reply_size as u64,
+            ))),
             SEGMENTATION_SUPPORTED => Some(Property::One(Value::Enumerated(NO_SEGMENTATION))),
             APDU_TIMEOUT => Some(Property::One(Value::Unsigned(3000))),
             NUMBER_OF_APDU_RETRIES => Some(Property::One(Value::Unsigned(3))),

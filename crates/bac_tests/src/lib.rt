@@ -5,7 +5,11 @@
 #[cfg(test)]
 mod apdu;
 #[cfg(test)]
+mod device;
+#[cfg(test)]
 mod log;
+#[cfg(test)]
+mod properties;
 #[cfg(test)]
 mod replay;
 #[cfg(test)]

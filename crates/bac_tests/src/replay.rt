@@ -49,22 +49,21 @@ const ANSWERED: [&[u8]; 5] = [
 ];
 
 /// Datagrams that it doesn't answer.
-const NOT_ANSWERED: [&[u8]; 11] = [
+const NOT_ANSWERED: [&[u8]; 10] = [
     // Limits 124 to 200; one limit only.
     b"rx 810b00100120ffff00ff1008097c19c8",
     b"rx 810b000e0120ffff00ff1008097b",
     // The length of the frame is one too large; another function; another version of the header.
     b"rx 810b000d0120ffff00ff1008",
-    b"rx 8109000c0120ffff00ff1008",
+    b"rx 8103000c0120ffff00ff1008",
     b"rx 810b000c0220ffff00ff1008",
     // A network message; from network 5; to network 5; to one device of all networks.
     b"rx 810b000801801200",
     b"rx 810b000c0108000501071008",
     b"rx 810b000c0120000500ff1008",
     b"rx 810b000d0120ffff0107ff1008",
-    // I-Am, and a ReadProperty of Device 123's name.
+    // I-Am.
     b"rx 810a001401001000c40200007b2205c491032100",
-    b"rx 810a001101040005010c0c0200007b194d",
 ];
 
 #[test]
@@ -120,7 +119,7 @@ fn lines_are_counted_and_cut(rt: HostRuntime) -> Result<(), Fail> {
 }
 
 /// Lines that are bad as the second of a script whose first is the device.
-const BAD: [&[u8]; 17] = [
+const BAD: [&[u8]; 20] = [
     b"rx\n",
     b"rx \n",
     b"rx 0g\n",
@@ -131,7 +130,10 @@ const BAD: [&[u8]; 17] = [
     b"rx 00\r",
     b"rx 00 00\n",
     b"\r",
-    b"integer 1 level 0\n",
+    b"integer 1 level 2147483648\n",
+    b"integer 1 level -2147483649\n",
+    b"integer 1 level --5\n",
+    b"integer 1 level -\n",
     b"binary 1 pump\n",
     b"binary 1  0\n",
     b"binary 4294967296 pump 0\n",

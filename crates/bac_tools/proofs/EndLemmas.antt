@@ -13,9 +13,9 @@ use Rattle.bac_tools.specs.Fault.{replay_fault, Refusal}
 use Rattle.bac_tools.specs.Session.{step, end_fault, State, Empty}
 use Rattle.bac_tools.specs.Stops.{FaultStops, Stops, ScriptStops}
 use Rattle.bac_tools.specs.Output.{AppendsPart}
-use Rattle.bac_device.specs.Build.{Refuses}
-use Rattle.bac_device.specs.declared.build.BuildFault.{BuildFault}
-use Rattle.bac_device.specs.declared.build.BuildFault.TheVariants as build
+use Rattle.bac_objects.specs.Build.{Refuses}
+use Rattle.bac_objects.specs.declared.build.BuildFault.{BuildFault}
+use Rattle.bac_objects.specs.declared.build.BuildFault.TheVariants as build
 use Rattle.bac_tools.specs.declared.replay.fault.ReplayFault.{ReplayFault}
 use Rattle.bac_tools.specs.declared.replay.fault.ReplayFault.TheVariants.{BadLine, Build, Read, TooLong, Write, Memory}
 use Rattle.bac_tools.proofs.PlayLemmas.{Progress, Progress-more, Progress-end}

@@ -44,7 +44,11 @@ impl Device {
     fn own_id(&self, id: ObjectId) -> ObjectId
         ensures { result ≡ own_id self.now id }
     {
-        if self.database.is_here(id) { self.database.id() } else { id }
+        if self.database.is_here(id) {
+            self.database.id()
+        } else {
+            id
+        }
     }
 
     /// The answer to what is asked for.

@@ -7,4 +7,5 @@ use Rattle.bac_objects.proofs.reading.all_slots.Given as goal
 abbrev pub invariant-loop-slot : goal.invariant-loop-slot
 invariant-loop-slot l = record {
   whole : l.out ++ values_octets (map slot_value (drop l.slot-index l.slots)) ≡ values_octets (map slot_value l.slots);
-  fits : length l.out < 1502; }
+  fits : length l.out < 1502;
+}

@@ -19,7 +19,7 @@ loop-id-init c =
     let d = c.args.self.now in
     let keys : c.into_iter-id-iterator.result ≡ keys_of d.objects = search rules in
     let text = one_more (Object (device_id d)) (map (λ id. Object id) (keys_of d.objects)) c.new-out.result c.add.new.out (values_octets (object_list d)) (start (object_list d) c.new-out.result c.new-out.ensures)
-        (w.0 ∙ ap (λ (id : Id). c.new-out.result ++ value_octets (Object id)) c.id.ensures) in
+    (w.0 ∙ ap (λ (id : Id). c.new-out.result ++ value_octets (Object id)) c.id.ensures) in
     (tt, tt, ap (λ (l : List Id). c.add.new.out ++ values_octets (map (λ id. Object id) l)) keys ∙ text, w.1)
 
 pub returns-in-Err-add : goal.returns-in-Err-add
@@ -28,15 +28,19 @@ returns-in-Err-add c =
     let d = c.args.self.now in
     let next : c.loop-id.id-iterator ≡ c.in-Some.id.now ∷ c.next.new.self = search rules in
     object_long (Object c.in-Some.id.now) (map (λ id. Object id) c.next.new.self) (object_list d) c.loop-id.out c.in-Err-add.fault
-        (sym (ap (λ (l : List Id). c.loop-id.out ++ values_octets (map (λ id. Object id) l)) next) ∙ c.loop-id.invariant.2) w.0 w.1
+    (sym (ap (λ (l : List Id). c.loop-id.out ++ values_octets (map (λ id. Object id) l)) next) ∙ c.loop-id.invariant.2) w.0 w.1
 
 pub loop-id-preserved : goal.loop-id-preserved
 loop-id-preserved c =
     let w = c.in_default-add.ensures {u = tt} in
     let d = c.args.self.now in
-    let next : c.loop-id.id-iterator ≡ c.in-Some.id.now ∷ c.next.new.self = search rules in
-    (tt, tt, one_more (Object c.in-Some.id.now) (map (λ id. Object id) c.next.new.self) c.loop-id.out c.add-in-loop-id.new.out (values_octets (object_list d))
-        (sym (ap (λ (l : List Id). c.loop-id.out ++ values_octets (map (λ id. Object id) l)) next) ∙ c.loop-id.invariant.2) w.0, w.1)
+    let next : c.loop-id.id-iterator ≡ c.in-Some.id.now ∷ c.next.new.self = search rules in (
+      tt,
+      tt,
+      one_more (Object c.in-Some.id.now) (map (λ id. Object id) c.next.new.self) c.loop-id.out c.add-in-loop-id.new.out (values_octets (object_list d))
+          (sym (ap (λ (l : List Id). c.loop-id.out ++ values_octets (map (λ id. Object id) l)) next) ∙ c.loop-id.invariant.2) w.0,
+      w.1,
+    )
 
 pub returns : goal.returns
 returns c =
