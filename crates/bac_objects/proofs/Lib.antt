@@ -2,3 +2,4 @@ pub mod Builds
 pub mod Encodings
 pub mod Listing
 pub mod Writes
+pub mod Samples

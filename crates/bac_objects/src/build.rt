@@ -260,7 +260,9 @@ fn add(
     let Ok(name) = line.name().copy(alloc) else {
         return Err(BuildFault::Memory);
     };
-    let body = line.body(alloc)?;
+    let Ok(body) = line.body(alloc) else {
+        return Err(BuildFault::Memory);
+    };
     let object = Object { name, body };
     match objects.insert(id, object) {
         Ok(_) => Ok(()),

@@ -97,13 +97,6 @@ impl Database {
         self.clock
     }
 
-    /// Sets the clock.
-    pub fn set_clock(&mut self, stamp: Stamp)
-        ensures { self.new ≡ record self.old { clock = stamp } }
-    {
-        self.clock = stamp;
-    }
-
     /// The device's own identifier.
     pub fn id(&self) -> ObjectId
         ensures { result ≡ device_id self.now }

@@ -18,6 +18,8 @@ mod object;
 mod property;
 mod property_id;
 mod reading;
+mod records;
+mod sampling;
 mod writing;
 
 pub use build::BuildFault;
@@ -27,3 +29,4 @@ pub use fault::{Fault, Refused};
 pub use lines::{DeviceLine, ObjectLine};
 pub use name::Name;
 pub use object::{Body, Logger, Object};
+pub use sampling::SampleFault;

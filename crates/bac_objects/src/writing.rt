@@ -73,7 +73,7 @@ impl<'a> Property<'a> {
 }
 
 /// Whether the property is there, and an index only where it is an array.
-fn checked(property: &Option<Property>, index: Option<u32>) -> Result<(), Fault>
+pub(crate) fn checked(property: &Option<Property>, index: Option<u32>) -> Result<(), Fault>
     ensures { result ≡ checked (option_map shown_of property.now) index }
 {
     match property {
