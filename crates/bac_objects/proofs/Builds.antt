@@ -1,5 +1,5 @@
 -- Lines without a fault.
-use Rattle.std.proofs.Common.{◌≡◌, refl, subst, ap, sym, rules, arith, ℕ, zero, suc, ◌<◌, ◌++◌, Bool, true, false, ◌||◌, not, List, [], ◌∷◌, length, map, take, slice_get, get_or, Option, Some, None, nat_lt}
+use Rattle.std.proofs.Common.{◌≡◌, refl, subst, ap, sym, rules, arith, ℕ, zero, suc, ◌<◌, ◌++◌, Bool, true, false, ◌||◌, not, List, [], ◌∷◌, length, map, take, slice_get, get_or, Option, Some, None, nat_lt, append-nil}
 use Rattle.std.specs.List.{list_any}
 use Rattle.std.specs.Option.{option_or}
 use Rattle.std.specs.Map.{lookup}
@@ -12,11 +12,11 @@ use Rattle.bac_objects.specs.Build.{is_name, first_of, id_of, instance_of, name_
 use Rattle.bac_objects.specs.State.{is_id}
 use Rattle.bac_objects.specs.declared.lines.DeviceLine.{DeviceLine}
 use Rattle.bac_objects.specs.declared.lines.ObjectLine.{ObjectLine}
-use Rattle.bac_objects.specs.declared.lines.ObjectLine.TheVariants.{Binary, Multistate, Integer}
+use Rattle.bac_objects.specs.declared.lines.ObjectLine.TheVariants.{Binary, Multistate, Integer, Log}
 use Rattle.bac_objects.specs.declared.object.Body.{Body}
 use Rattle.bac_objects.specs.declared.object.Object.{Object}
 use Rattle.bac_objects.specs.declared.build.BuildFault.{BuildFault}
-use Rattle.bac_objects.specs.declared.build.BuildFault.TheVariants.{BadInstance, DuplicateId, BadName, DuplicateName, BadStates, BadDefault, BadReplySize, Memory}
+use Rattle.bac_objects.specs.declared.build.BuildFault.TheVariants.{BadInstance, DuplicateId, BadName, DuplicateName, BadStates, BadDefault, BadCapacity, BadInterval, BadLogged, BadReplySize, Memory}
 
 -- ---- no line is faulty for want of memory
 
@@ -36,10 +36,17 @@ never_one : (a : Bool) → Never (first_of ((a, BadDefault) ∷ []))
 never_one true h = search rules
 never_one false h = search rules
 
+never_log : (a b c : Bool) → Never (first_of ((a, BadCapacity) ∷ (b, BadInterval) ∷ (c, BadLogged) ∷ []))
+never_log true b c h = search rules
+never_log false true c h = search rules
+never_log false false true h = search rules
+never_log false false false h = search rules
+
 never_own : (line : ObjectLine) → Never (first_of (own_tests line))
 never_own (Binary instance name default) = never_one _
 never_own (Multistate instance name states default) = never_two _ _
 never_own (Integer instance name default) = λ h. search rules
+never_own (Log instance name source capacity interval logged) = never_log _ _ _
 
 never_four : (a b c d : Bool) (rest : List (Bool × BuildFault)) → Never (first_of rest) → Never (first_of ((a, BadInstance) ∷ (b, DuplicateId) ∷ (c, BadName) ∷ (d, DuplicateName) ∷ rest))
 never_four true b c d rest k h = search rules
@@ -76,8 +83,15 @@ right_none : (a b : Option BuildFault) → option_or a b ≡ None → b ≡ None
 right_none None b h = h
 right_none (Some x) b h = search rules
 
+left_none : (a b : Option BuildFault) → option_or a b ≡ None → a ≡ None
+left_none None b h = refl
+left_none (Some x) b h = absurd cc
+
 first_none : (device : DeviceLine) (before : List ObjectLine) (x : ObjectLine) (lines : List ObjectLine) (line : ObjectLine) → objects_fault device before (x ∷ lines) ≡ None → Some x ≡ Some line → object_fault device (before ++ []) line ≡ None
-first_none device before x lines line h at = search rules
+first_none device before x lines line h at =
+    let same : x ≡ line = cc in
+    let none : object_fault device before x ≡ None = left_none (object_fault device before x) (objects_fault device (before ++ x ∷ []) lines) h in
+    subst (λ (l : ObjectLine). object_fault device (before ++ []) l ≡ None) same (subst (λ (m : List ObjectLine). object_fault device m x ≡ None) (sym (append-nil before)) none)
 
 append_one : (before : List ObjectLine) (line : ObjectLine) (n : ℕ) (lines : List ObjectLine) → (before ++ line ∷ []) ++ take n lines ≡ before ++ line ∷ take n lines
 append_one [] line n lines = refl

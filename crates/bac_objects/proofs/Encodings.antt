@@ -16,15 +16,15 @@ long : (n : ℕ) → 1501 < n → nat_lt 1501 n ≡ true
 long n lt = grind (arith, nat_tests)
 
 -- what is there fits
-pub all_fit : (vs : List Primitive) (out : List ℕ) → out ≡ values_octets vs → length out < 1502 → fitted (Ok vs) ≡ Ok out
+pub all_fit : (vs : List Primitive) (out : List ℕ) → out ≡ values_octets vs → length out < 1502 → fitted (Ok (values_octets vs)) ≡ Ok out
 all_fit vs out e fits = rw (← e, short (length out) fits) refl
 
 -- what is there and one more don't fit
-pub too_long : (vs : List Primitive) → 1501 < length (values_octets vs) → fitted (Ok vs) ≡ Err refused.TooLong
+pub too_long : (vs : List Primitive) → 1501 < length (values_octets vs) → fitted (Ok (values_octets vs)) ≡ Err refused.TooLong
 too_long vs lt = rw (long (length (values_octets vs)) lt) refl
 
 -- a part that doesn't fit
-pub part_long : (vs : List Primitive) (out text rest : List ℕ) → out ++ (text ++ rest) ≡ values_octets vs → 1501 < length out + length text → fitted (Ok vs) ≡ Err refused.TooLong
+pub part_long : (vs : List Primitive) (out text rest : List ℕ) → out ++ (text ++ rest) ≡ values_octets vs → 1501 < length out + length text → fitted (Ok (values_octets vs)) ≡ Err refused.TooLong
 part_long vs out text rest e lt = too_long vs (omega (arith, lt, sym (ap (λ (l : List ℕ). length l) e), length-append out (text ++ rest), length-append text rest))
 
 -- what isn't written yet, one value less
@@ -32,12 +32,12 @@ pub one_more : (v : Primitive) (vs : List Primitive) (out new whole : List ℕ) 
 unfolding values_octets
 one_more v vs out new whole e is = ap (λ (l : List ℕ). l ++ values_octets vs) is ∙ append_assoc out (value_octets v) (values_octets vs) ∙ e
 
-pub more_long : (v : Primitive) (vs all : List Primitive) (out : List ℕ) → out ++ values_octets (v ∷ vs) ≡ values_octets all → 1501 < length out + length (value_octets v) → Err refused.TooLong ≡ fitted (Ok all)
+pub more_long : (v : Primitive) (vs all : List Primitive) (out : List ℕ) → out ++ values_octets (v ∷ vs) ≡ values_octets all → 1501 < length out + length (value_octets v) → Err refused.TooLong ≡ fitted (Ok (values_octets all))
 unfolding values_octets
 more_long v vs all out e lt = sym (part_long all out (value_octets v) (values_octets vs) e lt)
 
 -- everything is written
-pub done : (all : List Primitive) (out : List ℕ) → out ++ values_octets [] ≡ values_octets all → length out < 1502 → Ok out ≡ fitted (Ok all)
+pub done : (all : List Primitive) (out : List ℕ) → out ++ values_octets [] ≡ values_octets all → length out < 1502 → Ok out ≡ fitted (Ok (values_octets all))
 unfolding values_octets
 done all out e fits = sym (all_fit all out (sym (append-nil out) ∙ e) fits)
 
@@ -71,29 +71,29 @@ fitted_ok : (b : Bool) (out text : List ℕ) → Ok out ≡ cond b (Err refused.
 fitted_ok true out text e = absurd cc
 fitted_ok false out text e = cc
 
-pub of_fault : (x : Result (List Primitive) Fault) (f : Fault) → Err (refused.Fault f) ≡ fitted x → x ≡ Err f
-of_fault (Ok vs) f e = absurd (fitted_fault (nat_lt 1501 (length (values_octets vs))) (values_octets vs) f e)
+pub of_fault : (x : Result (List ℕ) Fault) (f : Fault) → Err (refused.Fault f) ≡ fitted x → x ≡ Err f
+of_fault (Ok text) f e = absurd (fitted_fault (nat_lt 1501 (length text)) text f e)
 of_fault (Err g) f e = let same : f ≡ g = cc in rw same refl
 
-pub of_long : (x : Result (List Primitive) Fault) → Err refused.TooLong ≡ fitted x → (vs : List Primitive) × (x ≡ Ok vs) × (1501 < length (values_octets vs))
-of_long (Ok vs) e = (vs, refl, (let b : nat_lt 1501 (length (values_octets vs)) ≡ true = fitted_long (nat_lt 1501 (length (values_octets vs))) (values_octets vs) e in grind (arith, nat_tests)))
+pub of_long : (x : Result (List ℕ) Fault) → Err refused.TooLong ≡ fitted x → (text : List ℕ) × (x ≡ Ok text) × (1501 < length text)
+of_long (Ok text) e = (text, refl, (let b : nat_lt 1501 (length text) ≡ true = fitted_long (nat_lt 1501 (length text)) text e in grind (arith, nat_tests)))
 of_long (Err g) e = absurd cc
 
-pub of_ok : (x : Result (List Primitive) Fault) (out : List ℕ) → Ok out ≡ fitted x → (vs : List Primitive) × (x ≡ Ok vs) × (out ≡ values_octets vs)
-of_ok (Ok vs) out e = (vs, refl, fitted_ok (nat_lt 1501 (length (values_octets vs))) out (values_octets vs) e)
+pub of_ok : (x : Result (List ℕ) Fault) (out : List ℕ) → Ok out ≡ fitted x → x ≡ Ok out
+of_ok (Ok text) out e = ap (λ (l : List ℕ). let y : Result (List ℕ) Fault = Ok l in y) (sym (fitted_ok (nat_lt 1501 (length text)) out text e))
 of_ok (Err g) out e = absurd cc
 
-pub nothing : (out : List ℕ) → out ≡ [] → Ok out ≡ fitted (Ok [])
+pub nothing : (out : List ℕ) → out ≡ [] → Ok out ≡ fitted (Ok (values_octets []))
 unfolding values_octets
 nothing out e = rw e refl
 
 pub appended : (v : Primitive) (old new : List ℕ) → new ≡ old ++ value_octets v → length old + length (value_octets v) < 1502 → length new < 1502
 appended v old new is lt = omega (arith, lt, ap (λ (l : List ℕ). length l) is, length-append old (value_octets v))
 
-pub single_ok : (v : Primitive) (old new : List ℕ) → old ≡ [] → new ≡ old ++ value_octets v → length new < 1502 → Ok new ≡ fitted (Ok (v ∷ []))
+pub single_ok : (v : Primitive) (old new : List ℕ) → old ≡ [] → new ≡ old ++ value_octets v → length new < 1502 → Ok new ≡ fitted (Ok (values_octets (v ∷ [])))
 single_ok v old new none is fits = done (v ∷ []) new (one_more v [] old new (values_octets (v ∷ [])) (start (v ∷ []) old none) is) fits
 
-pub single_long : (v : Primitive) (old : List ℕ) (fault : Refused) → old ≡ [] → fault ≡ refused.TooLong → 1501 < length old + length (value_octets v) → Err fault ≡ fitted (Ok (v ∷ []))
+pub single_long : (v : Primitive) (old : List ℕ) (fault : Refused) → old ≡ [] → fault ≡ refused.TooLong → 1501 < length old + length (value_octets v) → Err fault ≡ fitted (Ok (values_octets (v ∷ [])))
 single_long v old fault none is lt = rw is (more_long v [] (v ∷ []) old (start (v ∷ []) old none) lt)
 
 module _ {X : Type 0} (f : X → Primitive) where
@@ -102,9 +102,9 @@ module _ {X : Type 0} (f : X → Primitive) where
       one_more v (map f (drop (i + 1) xs)) out new whole (ap (λ (w : Primitive). out ++ values_octets (w ∷ map f (drop (i + 1) xs))) same ∙ at_drop f xs i x out whole lt e) is
 
   pub slot_long : (xs : List X) (i : ℕ) (x : X) (v : Primitive) (out : List ℕ) (fault : Refused) → i < length xs → out ++ values_octets (map f (drop i xs)) ≡ values_octets (map f xs) → v ≡ f (get_or xs i x)
-      → fault ≡ refused.TooLong → 1501 < length out + length (value_octets v) → Err fault ≡ fitted (Ok (map f xs))
+      → fault ≡ refused.TooLong → 1501 < length out + length (value_octets v) → Err fault ≡ fitted (Ok (values_octets (map f xs)))
   slot_long xs i x v out fault lt e same is long =
       rw is (more_long v (map f (drop (i + 1) xs)) (map f xs) out (ap (λ (w : Primitive). out ++ values_octets (w ∷ map f (drop (i + 1) xs))) same ∙ at_drop f xs i x out (values_octets (map f xs)) lt e) long)
 
-pub object_long : (v : Primitive) (vs all : List Primitive) (out : List ℕ) (fault : Refused) → out ++ values_octets (v ∷ vs) ≡ values_octets all → fault ≡ refused.TooLong → 1501 < length out + length (value_octets v) → Err fault ≡ fitted (Ok all)
+pub object_long : (v : Primitive) (vs all : List Primitive) (out : List ℕ) (fault : Refused) → out ++ values_octets (v ∷ vs) ≡ values_octets all → fault ≡ refused.TooLong → 1501 < length out + length (value_octets v) → Err fault ≡ fitted (Ok (values_octets all))
 object_long v vs all out fault e is lt = rw is (more_long v vs all out e lt)

@@ -3,3 +3,4 @@ pub mod Encodings
 pub mod Listing
 pub mod Writes
 pub mod Tables
+pub mod Samples

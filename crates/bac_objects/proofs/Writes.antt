@@ -32,8 +32,8 @@ ends d w o new es (Err f) said at e h =
 
 pub writes : (d : State) (w : PropertyWrite) (o new : object.Object) (es : List (Id × object.Object)) (r : Result (Unit {0}) Fault) →
     is_device d w.object ≡ false → lookup (is_id w.object) d.objects ≡ Some o → es ≡ set_value (is_id w.object) d.objects new →
-    Leaves r o new (object_written w o) → Leaves r d (record d { objects = es }) (write_of d w)
-writes d w o new es r other at e h = rw (other, at) (ends d w o new es r (object_written w o) at e h)
+    Leaves r o new (object_written d.clock w o) → Leaves r d (record d { objects = es }) (write_of d w)
+writes d w o new es r other at e h = rw (other, at) (ends d w o new es r (object_written d.clock w o) at e h)
 
 -- without the object
 pub missing : (d : State) (w : PropertyWrite) → is_device d w.object ≡ false → lookup (is_id w.object) d.objects ≡ None → write_of d w ≡ Err UnknownObject

@@ -4,15 +4,16 @@ use Rattle.std.specs.List.{list_any}
 use Rattle.std.specs.Option.{option_or}
 use Rattle.std.specs.Str.{bytes_eq}
 use Rattle.bac_wire.specs.Primitive.{Id}
+use Rattle.bac_log.specs.TrendLog.{empty_log, last_ordinal}
 use Rattle.bac_objects.specs.Command.{commanded}
 use Rattle.bac_objects.specs.State.{State, is_id}
 use Rattle.bac_objects.specs.declared.command.Setting.TheVariants as setting
 use Rattle.bac_objects.specs.declared.command.Range.TheVariants as range
 use Rattle.bac_objects.specs.declared.build.BuildFault.{BuildFault}
-use Rattle.bac_objects.specs.declared.build.BuildFault.TheVariants.{BadInstance, DuplicateId, BadName, DuplicateName, BadStates, BadDefault, BadReplySize, Memory}
+use Rattle.bac_objects.specs.declared.build.BuildFault.TheVariants.{BadInstance, DuplicateId, BadName, DuplicateName, BadStates, BadDefault, BadCapacity, BadInterval, BadLogged, BadReplySize, Memory}
 use Rattle.bac_objects.specs.declared.lines.DeviceLine.{DeviceLine}
 use Rattle.bac_objects.specs.declared.lines.ObjectLine.{ObjectLine}
-use Rattle.bac_objects.specs.declared.lines.ObjectLine.TheVariants.{Binary, Multistate, Integer}
+use Rattle.bac_objects.specs.declared.lines.ObjectLine.TheVariants.{Binary, Multistate, Integer, Log}
 use Rattle.bac_objects.specs.declared.object.Body.{Body}
 use Rattle.bac_objects.specs.declared.object.Body.TheVariants as body
 use Rattle.bac_objects.specs.declared.object.Object.{Object}
@@ -32,16 +33,19 @@ abbrev pub kind_of : ObjectLine → ℕ
 kind_of (Binary instance name default) = 5
 kind_of (Multistate instance name states default) = 19
 kind_of (Integer instance name default) = 45
+kind_of (Log instance name source capacity interval logged) = 20
 
 abbrev pub instance_of : ObjectLine → ℕ
 instance_of (Binary instance name default) = instance
 instance_of (Multistate instance name states default) = instance
 instance_of (Integer instance name default) = instance
+instance_of (Log instance name source capacity interval logged) = instance
 
 abbrev pub name_of : ObjectLine → List ℕ
 name_of (Binary instance name default) = name
 name_of (Multistate instance name states default) = name
 name_of (Integer instance name default) = name
+name_of (Log instance name source capacity interval logged) = name
 
 abbrev pub id_of : ObjectLine → Id
 id_of line = record { kind = kind_of line; instance = instance_of line }
@@ -59,12 +63,21 @@ has_id id lines = list_any (λ line. is_id id (id_of line)) lines
 abbrev pub has_name : List ℕ → List ObjectLine → Bool
 has_name name lines = list_any (λ line. bytes_eq name (name_of line)) lines
 
+-- A log holds 1 to 65535 records, is sampled every second at most, and has a sequence number left.
+abbrev pub log_tests : ℕ → ℕ → ℕ → List (Bool × BuildFault)
+log_tests capacity interval logged =
+    (nat_lt capacity 1 || nat_lt 65535 capacity, BadCapacity)
+    ∷ (nat_lt 0 interval && nat_lt interval 100, BadInterval)
+    ∷ (nat_lt last_ordinal logged, BadLogged)
+    ∷ []
+
 -- the tests of what only lines of this kind say
 abbrev pub own_tests : ObjectLine → List (Bool × BuildFault)
 own_tests (Binary instance name default) = (nat_lt 1 default, BadDefault) ∷ []
 own_tests (Multistate instance name states default) =
     (nat_lt states 1 || nat_lt 65535 states, BadStates) ∷ (nat_lt default 1 || nat_lt states default, BadDefault) ∷ []
 own_tests (Integer instance name default) = []
+own_tests (Log instance name source capacity interval logged) = log_tests capacity interval logged
 
 -- the tests of an object line behind the device's line, where a line before it has the same identifier, or the same name
 abbrev pub line_tests : DeviceLine → ObjectLine → Bool → Bool → List (Bool × BuildFault)
@@ -99,6 +112,7 @@ abbrev pub body_of : ObjectLine → Body
 body_of (Binary instance name default) = body.Command (commanded range.Binary (setting.Enumerated default))
 body_of (Multistate instance name states default) = body.Command (commanded (range.Multistate states) (setting.Unsigned default))
 body_of (Integer instance name default) = body.Command (commanded range.Integer (setting.Signed default))
+body_of (Log instance name source capacity interval logged) = body.Log (record { source = source; interval = interval; log = empty_log capacity logged })
 
 abbrev pub entry_of : ObjectLine → Id × Object
 entry_of line = (id_of line, record { name = name_of line; body = body_of line })
@@ -106,7 +120,7 @@ entry_of line = (id_of line, record { name = name_of line; body = body_of line }
 -- the device that lines without a fault describe
 abbrev pub built : DeviceLine → List ObjectLine → State
 built device lines =
-    record { instance = device.instance; name = device.name; vendor = device.vendor; reply_size = device.reply_size; clock = device.clock; objects = map entry_of lines }
+    record { instance = device.instance; name = device.name; vendor = device.vendor; reply_size = device.reply_size; origin = device.clock; clock = device.clock; objects = map entry_of lines }
 
 -- Lines with this fault are refused so. Want of memory is met only by lines without a fault.
 abbrev pub Refuses : BuildFault → Option BuildFault → Type 0

@@ -11,6 +11,11 @@ abbrev pub result_map : {A B F : Type 0} → (A → B) → Result A F → Result
 result_map f (Ok x) = Ok (f x)
 result_map f (Err e) = Err e
 
+-- The answer and the state after are those that are said; or the fault is, and nothing has changed.
+abbrev pub LeavesWith : {X Y F : Type 0} → Result Y F → X → X → Result (Y × X) F → Type 0
+LeavesWith (Ok y) old new said = said ≡ Ok (y, new)
+LeavesWith (Err e) old new said = (said ≡ Err e) × (new ≡ old)
+
 -- The state after is the one that is said; or the fault is, and nothing has changed.
 abbrev pub Leaves : {X Y F : Type 0} → Result Y F → X → X → Result X F → Type 0
 Leaves (Ok x) old new said = said ≡ Ok new

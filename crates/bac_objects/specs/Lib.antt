@@ -8,3 +8,6 @@ pub mod Properties
 pub mod Reading
 pub mod Writing
 pub mod Build
+pub mod Sampling
+pub mod Steps
+pub mod Records

@@ -1,9 +1,10 @@
 -- The properties of each object (clause 12), a row for each, in the order of the standard's tables.
-use Rattle.std.specs.Prelude.{ℕ, ◌==◌, ◌&&◌, ◌||◌, Bool, false, List, [], ◌∷◌, map, codes, if◌then◌else◌, Option, Some, None, Result, Ok}
+use Rattle.std.specs.Prelude.{ℕ, ◌==◌, ◌&&◌, ◌||◌, Bool, false, List, [], ◌∷◌, length, map, codes, if◌then◌else◌, Option, Some, None, Result, Ok}
 use Rattle.std.specs.Map.{lookup, keys_of}
 use Rattle.bac_wire.specs.Chain.{◌>>=◌}
 use Rattle.bac_wire.specs.Primitive.{Primitive, Null, Boolean, Unsigned, Signed, Enumerated, Bits, Chars, Date, Time, Object, Id}
 use Rattle.bac_wire.specs.Stamp.{date_of, time_of, date_octets, time_octets}
+use Rattle.bac_log.specs.TrendLog.{total_of}
 use Rattle.bac_objects.specs.Bits.{services_supported, types_supported}
 use Rattle.bac_objects.specs.Chain.{or_fault}
 use Rattle.bac_objects.specs.Command.{present}
@@ -17,13 +18,17 @@ use Rattle.bac_objects.specs.declared.fault.Fault.{Fault}
 use Rattle.bac_objects.specs.declared.fault.Fault.TheVariants.{UnknownObject}
 use Rattle.bac_objects.specs.declared.object.Body.{Body}
 use Rattle.bac_objects.specs.declared.object.Body.TheVariants as body
+use Rattle.bac_objects.specs.declared.object.Logger.{Logger}
 use Rattle.bac_objects.specs.declared.object.Object as object
 
--- what a property is: one value, a list, or an array, whose elements have an index
+-- What a property is: one value, a list, or an array, whose elements have an index; the object and the property of a reference
+-- (BACnetDeviceObjectPropertyReference, clause 21); or records, which ReadRange alone reads.
 pub data Shown : Type 0 where
   One : Primitive → Shown
   Several : List Primitive → Shown
   Array : List Primitive → Shown
+  Reference : Id → ℕ → Shown
+  Records : Shown
 
 -- the number of a property (clause 21, BACnetPropertyIdentifier), and what it is
 abbrev pub Row : Type 0
@@ -71,8 +76,26 @@ command_rows c =
     ∷ (104, One (value_of c.default))  -- Relinquish_Default
     ∷ further c.range
 
+-- ---- trend logs (12.25)
+
+abbrev pub log_rows : Logger → List Row
+log_rows l =
+    (133, One (Boolean l.log.enabled))  -- Enable
+    ∷ (144, One (Boolean false))  -- Stop_When_Full
+    ∷ (126, One (Unsigned l.log.capacity))  -- Buffer_Size
+    ∷ (131, Records)  -- Log_Buffer
+    ∷ (141, One (Unsigned (length l.log.entries)))  -- Record_Count
+    ∷ (145, One (Unsigned (total_of l.log)))  -- Total_Record_Count
+    ∷ (197, One (Enumerated 0))  -- Logging_Type: polled
+    ∷ (132, Reference l.source 85)  -- Log_DeviceObjectProperty: the Present_Value of the source
+    ∷ (134, One (Unsigned l.interval))  -- Log_Interval, in hundredths of a second
+    ∷ (111, One (Bits (false ∷ false ∷ false ∷ false ∷ [])))  -- Status_Flags
+    ∷ (36, One (Enumerated 0))  -- Event_State: normal
+    ∷ []
+
 abbrev pub body_rows : Body → List Row
 body_rows (body.Command c) = command_rows c
+body_rows (body.Log l) = log_rows l
 
 abbrev pub object_table : Id → object.Object → List Row
 object_table id o = common id o.name (body_rows o.body)

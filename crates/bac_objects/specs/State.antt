@@ -11,6 +11,8 @@ pub record State : Type 0 where
   pub vendor : ℕ
   -- the greatest number of octets of an APDU that it takes and sends
   pub reply_size : ℕ
+  -- where its clock began, and what it shows
+  pub origin : CivilTime
   pub clock : CivilTime
   -- its objects, in the order of their lines and without itself
   pub objects : List (Id × Object)

@@ -3,7 +3,10 @@ use Rattle.std.specs.Prelude.{ℕ, ℤ, pos, negsuc, ◌-◌, ◌^◌, Bool, tru
 use Rattle.std.specs.Map.{lookup, set_value}
 use Rattle.std.specs.Option.{unwrap_or}
 use Rattle.bac_wire.specs.Chain.{◌>>=◌}
-use Rattle.bac_wire.specs.Primitive.{Primitive, Null, Unsigned, Signed, Enumerated, Id}
+use Rattle.bac_wire.specs.Primitive.{Primitive, Null, Boolean, Unsigned, Signed, Enumerated, Id}
+use Rattle.bac_wire.specs.Stamp.{CivilTime}
+use Rattle.bac_log.specs.History.{is_change}
+use Rattle.bac_log.specs.TrendLog.{Log, newest, last_ordinal, purges, enables}
 use Rattle.bac_objects.specs.Chain.{or_fault}
 use Rattle.bac_objects.specs.Properties.{Shown, Array, row, object_table, device_table}
 use Rattle.bac_objects.specs.Requests.{PropertyWrite}
@@ -17,6 +20,7 @@ use Rattle.bac_objects.specs.declared.fault.Fault.{Fault}
 use Rattle.bac_objects.specs.declared.fault.Fault.TheVariants.{UnknownObject, UnknownProperty, NotArray, WriteDenied, BadType, BadValue}
 use Rattle.bac_objects.specs.declared.object.Body.{Body}
 use Rattle.bac_objects.specs.declared.object.Body.TheVariants as body
+use Rattle.bac_objects.specs.declared.object.Logger.{Logger}
 use Rattle.bac_objects.specs.declared.object.Object as object
 
 -- ---- Present_Value
@@ -44,12 +48,42 @@ command_written w c = if not (w.property == 85) || (priority_of w == 6) then Err
   slot ← setting_of c.range w.value
   Ok (record c { slots = slice_set c.slots (priority_of w - 1) slot }))
 
+-- ---- Enable and Record_Count (12.25)
+
+-- a step that logs a record, as long as a sequence number is left
+abbrev pub unless_full : Log → Log → Result Log Fault
+unless_full log next = if newest log == last_ordinal then Err WriteDenied else Ok next
+
+-- A changed Enable is logged; the value that is there changes nothing.
+abbrev pub enabled : CivilTime → Primitive → Log → Result Log Fault
+enabled clock (Boolean value) log = if is_change log.enabled value then unless_full log (enables value clock log) else Ok log
+enabled clock value log = Err BadType
+
+-- Record_Count is set to 0 alone, and that empties the log and is logged.
+abbrev pub purged : CivilTime → Primitive → Log → Result Log Fault
+purged clock (Unsigned n) log = if n == 0 then unless_full log (purges clock log) else Err BadValue
+purged clock value log = Err BadType
+
+-- Without regard to the priority, and what is logged has the device's clock.
+abbrev pub records_written : CivilTime → PropertyWrite → Log → Result Log Fault
+records_written clock w log =
+    if w.property == 133 then enabled clock w.value log else
+    if w.property == 141 then purged clock w.value log else Err WriteDenied
+
+abbrev pub log_written : CivilTime → PropertyWrite → Logger → Result Logger Fault
+log_written clock w l = do
+  log ← records_written clock w l.log
+  Ok (record l { log = log })
+
 -- ---- objects
 
-abbrev pub body_written : PropertyWrite → Body → Result Body Fault
-body_written w (body.Command c) = do
+abbrev pub body_written : CivilTime → PropertyWrite → Body → Result Body Fault
+body_written clock w (body.Command c) = do
   new ← command_written w c
   Ok (body.Command new)
+body_written clock w (body.Log l) = do
+  new ← log_written clock w l
+  Ok (body.Log new)
 
 -- whether an index may be given
 abbrev pub is_array : Shown → Bool
@@ -65,10 +99,10 @@ abbrev pub checked : Option Shown → Option ℕ → Result (Unit {0}) Fault
 checked None index = Err UnknownProperty
 checked (Some shown) index = unindexed shown index
 
-abbrev pub object_written : PropertyWrite → object.Object → Result object.Object Fault
-object_written w o = do
+abbrev pub object_written : CivilTime → PropertyWrite → object.Object → Result object.Object Fault
+object_written clock w o = do
   ok ← checked (row w.property (object_table w.object o)) w.index
-  new ← body_written w o.body
+  new ← body_written clock w o.body
   Ok (record o { body = new })
 
 -- ---- the device
@@ -85,5 +119,5 @@ refusal (Err fault) = fault
 abbrev pub write_of : State → PropertyWrite → Result State Fault
 write_of d w = if is_device d w.object then Err (refusal (checked (row w.property (device_table d)) w.index)) else (do
   o ← or_fault (lookup (is_id w.object) d.objects) UnknownObject
-  new ← object_written w o
+  new ← object_written d.clock w o
   Ok (record d { objects = set_value (is_id w.object) d.objects new }))

@@ -5,13 +5,14 @@ ghost use Rattle.std.specs.List.{list_any};
 ghost use Rattle.std.specs.Map.{lookup};
 ghost use Rattle.std.specs.Str.{bytes_eq};
 ghost use Rattle.indexmap.specs.IndexSet.{insert_key};
-ghost use Rattle.bac_objects.specs.Build.{Builds, body_of, build_fault, device_fault, entry_of, first_of, has_id, has_name, id_of, instance_of, is_control, is_name, line_tests, objects_fault, own_tests};
+ghost use Rattle.bac_objects.specs.Build.{Builds, body_of, build_fault, device_fault, entry_of, first_of, has_id, has_name, id_of, instance_of, is_control, is_name, line_tests, log_tests, objects_fault, own_tests};
 ghost use Rattle.bac_objects.specs.State.{is_id};
 
 use crate::command::{Command, Range, Setting};
 use crate::database::Database;
 use crate::lines::{DeviceLine, ObjectLine};
-use crate::object::{Body, Object};
+use crate::object::{Body, Logger, Object};
+use bac_log::TrendLog;
 use bac_wire::ObjectId;
 use indexmap::{IndexMap, IndexSet};
 use std::alloc::Global;
@@ -38,6 +39,15 @@ pub enum BuildFault {
     /// The default of a binary object isn't 0 or 1, or that of a multi-state one none of its states.
     #[error("bad default")]
     BadDefault,
+    /// The capacity of a log isn't 1 to 65535.
+    #[error("bad capacity")]
+    BadCapacity,
+    /// The interval of a log is 1 to 99 hundredths of a second.
+    #[error("bad interval")]
+    BadInterval,
+    /// So many records were logged before that no sequence number is left.
+    #[error("bad logged count")]
+    BadLogged,
     /// The reply size isn't 50 to 1476.
     #[error("bad reply size")]
     BadReplySize,
@@ -102,6 +112,22 @@ fn has_name(lines: &[ObjectLine], name: &[u8]) -> bool
     false
 }
 
+/// The first fault of what a log's line says of its records.
+fn log_fault(capacity: u32, interval: u32, logged: u32) -> Option<BuildFault>
+    ensures { result ≡ first_of (log_tests capacity interval logged) }
+{
+    if capacity < 1 || 65535 < capacity {
+        return Some(BuildFault::BadCapacity);
+    }
+    if 0 < interval && interval < 100 {
+        return Some(BuildFault::BadInterval);
+    }
+    if 4_294_967_294 < logged {
+        return Some(BuildFault::BadLogged);
+    }
+    None
+}
+
 impl ObjectLine {
     /// The first fault of what only lines of this kind say.
     fn own_fault(&self) -> Option<BuildFault>
@@ -128,6 +154,12 @@ impl ObjectLine {
                 None
             }
             ObjectLine::Integer { .. } => None,
+            ObjectLine::Log {
+                capacity,
+                interval,
+                logged,
+                ..
+            } => log_fault(*capacity, *interval, *logged),
         }
     }
 
@@ -152,26 +184,43 @@ impl ObjectLine {
         self.own_fault()
     }
 
-    /// What the object is.
-    fn body(&self) -> Body
-        ensures { result ≡ body_of self.now }
+    /// What the object is. A log takes memory for all its records.
+    fn body(&self, alloc: Global) -> Result<Body, BuildFault>
+        ensures ok { IfOk result (λ body. body ≡ body_of self.now) }
+        ensures err { IfErr result (λ fault. fault ≡ BuildFault.Memory) }
     {
-        Body::Command(match self {
-            ObjectLine::Binary { default, .. } => {
-                Command::new(Range::Binary, Setting::Enumerated(*default))
-            }
+        match self {
+            ObjectLine::Binary { default, .. } => Ok(Body::Command(Command::new(
+                Range::Binary,
+                Setting::Enumerated(*default),
+            ))),
             ObjectLine::Multistate {
                 states,
                 default,
                 ..
-            } => Command::new(
+            } => Ok(Body::Command(Command::new(
                 Range::Multistate { states: *states },
                 Setting::Unsigned(*default),
-            ),
-            ObjectLine::Integer { default, .. } => {
-                Command::new(Range::Integer, Setting::Signed(*default))
-            }
-        })
+            ))),
+            ObjectLine::Integer { default, .. } => Ok(Body::Command(Command::new(
+                Range::Integer,
+                Setting::Signed(*default),
+            ))),
+            ObjectLine::Log {
+                source,
+                capacity,
+                interval,
+                logged,
+                ..
+            } => match TrendLog::new(alloc, *capacity, *logged) {
+                Ok(log) => Ok(Body::Log(Logger {
+                    source: *source,
+                    interval: *interval,
+                    log,
+                })),
+                Err(_) => Err(BuildFault::Memory),
+            },
+        }
     }
 }
 
@@ -268,10 +317,10 @@ fn add(
     let Ok(name) = line.name().copy(alloc) else {
         return Err(BuildFault::Memory);
     };
-    let object = Object {
-        name,
-        body: line.body(),
+    let Ok(body) = line.body(alloc) else {
+        return Err(BuildFault::Memory);
     };
+    let object = Object { name, body };
     match objects.insert(id, object) {
         Ok(_) => Ok(()),
         Err(_) => Err(BuildFault::Memory),

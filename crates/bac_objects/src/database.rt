@@ -29,6 +29,8 @@ pub struct Database {
     pub(crate) name: Name,
     pub(crate) vendor: u16,
     pub(crate) reply_size: u16,
+    /// Where the clock began.
+    pub(crate) origin: Stamp,
     pub(crate) clock: Stamp,
     pub(crate) objects: IndexMap<ObjectId, Object>,
 }
@@ -39,7 +41,7 @@ impl Model for Database {
 
     ghost Value = { State };
 
-    ghost view = { λ d. record { instance = d.instance; name = d.name; vendor = d.vendor; reply_size = d.reply_size; clock = d.clock; objects = d.objects.entries } };
+    ghost view = { λ d. record { instance = d.instance; name = d.name; vendor = d.vendor; reply_size = d.reply_size; origin = d.origin; clock = d.clock; objects = d.objects.entries } };
 
     ghost invariant = { λ d. (d.instance ≤ 4194302) × (50 ≤ d.reply_size) × (d.reply_size ≤ 1476) };
 }
@@ -59,6 +61,7 @@ impl Database {
             name: line.name.copy(alloc)?,
             vendor: line.vendor,
             reply_size: line.reply_size,
+            origin: line.clock,
             clock: line.clock,
             objects,
         })
@@ -92,13 +95,6 @@ impl Database {
         ensures { result ≡ self.now.clock }
     {
         self.clock
-    }
-
-    /// Sets the clock.
-    pub fn set_clock(&mut self, stamp: Stamp)
-        ensures { self.new ≡ record self.old { clock = stamp } }
-    {
-        self.clock = stamp;
     }
 
     /// The device's own identifier.

@@ -14,7 +14,11 @@ pub enum Fault {
     NotArray,
     /// The array has no such element.
     BadIndex,
-    /// The property can't be written, or not at this priority.
+    /// The property can't be read by this service.
+    ReadDenied,
+    /// The property has no records of a log.
+    NotList,
+    /// The property can't be written, or not at this priority, or its log takes no more records.
     WriteDenied,
     /// The value has another type than the property.
     BadType,
@@ -23,12 +27,13 @@ pub enum Fault {
 }
 
 impl Fault {
-    /// The number of its class: object or property (clause 21, BACnet-Error).
+    /// The number of its class: object, services or property (clause 21, BACnet-Error).
     pub fn class(self) -> u32
         ensures { result ≡ class_of self }
     {
         match self {
             Fault::UnknownObject => 1,
+            Fault::NotList => 5,
             _ => 2,
         }
     }
@@ -42,6 +47,8 @@ impl Fault {
             Fault::UnknownProperty => 32,
             Fault::NotArray => 50,
             Fault::BadIndex => 42,
+            Fault::ReadDenied => 27,
+            Fault::NotList => 22,
             Fault::WriteDenied => 40,
             Fault::BadType => 9,
             Fault::BadValue => 37,

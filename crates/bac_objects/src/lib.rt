@@ -18,6 +18,8 @@ mod object;
 mod property;
 mod property_id;
 mod reading;
+mod records;
+mod sampling;
 mod writing;
 
 pub use build::BuildFault;
@@ -26,4 +28,5 @@ pub use database::Database;
 pub use fault::{Fault, Refused};
 pub use lines::{DeviceLine, ObjectLine};
 pub use name::Name;
-pub use object::{Body, Object};
+pub use object::{Body, Logger, Object};
+pub use sampling::SampleFault;

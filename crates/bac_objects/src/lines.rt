@@ -4,7 +4,7 @@ ghost use Rattle.std.specs.Prelude.{◌≡◌, ◌<◌};
 ghost use Rattle.bac_objects.specs.Build.{instance_of, kind_of, name_of};
 
 use crate::name::Name;
-use bac_wire::Stamp;
+use bac_wire::{ObjectId, Stamp};
 
 /// What is said of a device itself.
 #[derive(Debug, Drop)]
@@ -46,6 +46,19 @@ pub enum ObjectLine {
         /// What its Present_Value is without a command.
         default: i32,
     },
+    /// A Trend Log.
+    Log {
+        instance: u32,
+        name: Name,
+        /// The object whose Present_Value is sampled, which need not be there.
+        source: ObjectId,
+        /// The most records that are held, 1 to 65535.
+        capacity: u32,
+        /// Hundredths of a second between two samples, at least 100; 0 for samples on demand alone.
+        interval: u32,
+        /// How many records were logged before.
+        logged: u32,
+    },
 }
 
 impl ObjectLine {
@@ -58,6 +71,7 @@ impl ObjectLine {
             ObjectLine::Binary { .. } => 5,
             ObjectLine::Multistate { .. } => 19,
             ObjectLine::Integer { .. } => 45,
+            ObjectLine::Log { .. } => 20,
         }
     }
 
@@ -69,6 +83,7 @@ impl ObjectLine {
             ObjectLine::Binary { instance, .. } => *instance,
             ObjectLine::Multistate { instance, .. } => *instance,
             ObjectLine::Integer { instance, .. } => *instance,
+            ObjectLine::Log { instance, .. } => *instance,
         }
     }
 
@@ -80,6 +95,7 @@ impl ObjectLine {
             ObjectLine::Binary { name, .. } => name,
             ObjectLine::Multistate { name, .. } => name,
             ObjectLine::Integer { name, .. } => name,
+            ObjectLine::Log { name, .. } => name,
         }
     }
 }

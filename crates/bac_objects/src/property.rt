@@ -5,19 +5,21 @@ ghost use Rattle.std.specs.Option.{option_map};
 ghost use Rattle.bac_wire.specs.Primitive.{Bits, Chars};
 ghost use Rattle.bac_wire.specs.View.{IsWellFormed, view};
 ghost use Rattle.bac_objects.specs.Bits.{services_supported, types_supported};
-ghost use Rattle.bac_objects.specs.Properties.{body_rows, command_rows, device_table, further, object_table, row};
+ghost use Rattle.bac_objects.specs.Properties.{body_rows, command_rows, device_table, further, log_rows, object_table, row};
 ghost use Rattle.bac_objects.specs.Reading.{IsSound, shown_of};
 
 use crate::command::{Command, Range, Setting};
 use crate::database::{DEVICE, Database};
-use crate::object::{Body, Object};
+use crate::object::{Body, Logger, Object};
 use crate::property_id::{
-    APDU_TIMEOUT, APPLICATION_SOFTWARE_VERSION, DATABASE_REVISION, DEVICE_ADDRESS_BINDING,
-    EVENT_STATE, FIRMWARE_REVISION, LOCAL_DATE, LOCAL_TIME, MAX_APDU_LENGTH_ACCEPTED, MODEL_NAME,
-    NUMBER_OF_APDU_RETRIES, NUMBER_OF_STATES, OBJECT_IDENTIFIER, OBJECT_LIST, OBJECT_NAME,
-    OBJECT_TYPE, OUT_OF_SERVICE, PRESENT_VALUE, PRIORITY_ARRAY, PROTOCOL_OBJECT_TYPES_SUPPORTED,
-    PROTOCOL_REVISION, PROTOCOL_SERVICES_SUPPORTED, PROTOCOL_VERSION, RELINQUISH_DEFAULT,
-    SEGMENTATION_SUPPORTED, STATUS_FLAGS, SYSTEM_STATUS, UNITS, VENDOR_IDENTIFIER, VENDOR_NAME,
+    APDU_TIMEOUT, APPLICATION_SOFTWARE_VERSION, BUFFER_SIZE, DATABASE_REVISION,
+    DEVICE_ADDRESS_BINDING, ENABLE, EVENT_STATE, FIRMWARE_REVISION, LOCAL_DATE, LOCAL_TIME,
+    LOGGING_TYPE, LOG_BUFFER, LOG_DEVICE_OBJECT_PROPERTY, LOG_INTERVAL, MAX_APDU_LENGTH_ACCEPTED,
+    MODEL_NAME, NUMBER_OF_APDU_RETRIES, NUMBER_OF_STATES, OBJECT_IDENTIFIER, OBJECT_LIST,
+    OBJECT_NAME, OBJECT_TYPE, OUT_OF_SERVICE, PRESENT_VALUE, PRIORITY_ARRAY,
+    PROTOCOL_OBJECT_TYPES_SUPPORTED, PROTOCOL_REVISION, PROTOCOL_SERVICES_SUPPORTED,
+    PROTOCOL_VERSION, RECORD_COUNT, RELINQUISH_DEFAULT, SEGMENTATION_SUPPORTED, STATUS_FLAGS,
+    STOP_WHEN_FULL, SYSTEM_STATUS, TOTAL_RECORD_COUNT, UNITS, VENDOR_IDENTIFIER, VENDOR_NAME,
 };
 use bac_wire::{ObjectId, Value};
 
@@ -38,6 +40,10 @@ pub enum Property<'a> {
     Slots(&'a [Option<Setting>; 16]),
     /// The object list.
     Objects(&'a Database),
+    /// A property of an object, by their numbers.
+    Reference { object: ObjectId, property: u32 },
+    /// The records of a log.
+    Records,
 }
 
 /// A character string in UTF-8.
@@ -109,6 +115,35 @@ impl Command {
     }
 }
 
+impl Logger {
+    /// A property of a Trend Log.
+    fn property(&self, property: u32) -> Option<Property>
+        ensures value { option_map shown_of result ≡ row property (log_rows self.now) }
+        ensures sound { IfSome result IsSound }
+    {
+        match property {
+            ENABLE => Some(Property::One(Value::Boolean(self.log.enabled()))),
+            STOP_WHEN_FULL => Some(Property::One(Value::Boolean(false))),
+            BUFFER_SIZE => Some(Property::One(Value::Unsigned(self.log.capacity() as u64))),
+            LOG_BUFFER => Some(Property::Records),
+            RECORD_COUNT => Some(Property::One(Value::Unsigned(self.log.count() as u64))),
+            TOTAL_RECORD_COUNT => Some(Property::One(Value::Unsigned(self.log.total() as u64))),
+            LOGGING_TYPE => Some(Property::One(Value::Enumerated(0))),
+            LOG_DEVICE_OBJECT_PROPERTY => Some(Property::Reference {
+                object: self.source,
+                property: PRESENT_VALUE,
+            }),
+            LOG_INTERVAL => Some(Property::One(Value::Unsigned(self.interval as u64))),
+            STATUS_FLAGS => Some(Property::One(Value::Bits {
+                unused: 4,
+                octets: &[0],
+            })),
+            EVENT_STATE => Some(Property::One(Value::Enumerated(0))),
+            _ => None,
+        }
+    }
+}
+
 impl Body {
     /// A property that not every object has.
     fn property(&self, property: u32) -> Option<Property>
@@ -117,6 +152,7 @@ impl Body {
     {
         match self {
             Body::Command(command) => command.property(property),
+            Body::Log(logger) => logger.property(property),
         }
     }
 }

@@ -56,6 +56,24 @@ pub(crate) const VENDOR_IDENTIFIER: u32 = 120;
 
 pub(crate) const VENDOR_NAME: u32 = 121;
 
+pub(crate) const BUFFER_SIZE: u32 = 126;
+
+pub(crate) const LOG_BUFFER: u32 = 131;
+
+pub(crate) const LOG_DEVICE_OBJECT_PROPERTY: u32 = 132;
+
+pub(crate) const ENABLE: u32 = 133;
+
+pub(crate) const LOG_INTERVAL: u32 = 134;
+
 pub(crate) const PROTOCOL_REVISION: u32 = 139;
 
+pub(crate) const RECORD_COUNT: u32 = 141;
+
+pub(crate) const STOP_WHEN_FULL: u32 = 144;
+
+pub(crate) const TOTAL_RECORD_COUNT: u32 = 145;
+
 pub(crate) const DATABASE_REVISION: u32 = 155;
+
+pub(crate) const LOGGING_TYPE: u32 = 197;

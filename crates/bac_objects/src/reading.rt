@@ -5,14 +5,14 @@ ghost use Rattle.std.specs.Option.{option_map};
 ghost use Rattle.bac_wire.specs.Primitive.{Object};
 ghost use Rattle.bac_wire.specs.View.{IsWellFormed, view};
 ghost use Rattle.bac_objects.specs.Properties.{Array, object_list, slot_value};
-ghost use Rattle.bac_objects.specs.Reading.{Appends, IsSound, elements, elements_of, fitted, read_of, shown_of};
+ghost use Rattle.bac_objects.specs.Reading.{Appends, IsSound, elements, elements_of, fitted, read_of, reference_octets, shown_of, values_octets};
 
 use crate::command::{Setting, slot_value};
 use crate::database::Database;
 use crate::fault::{Fault, Refused};
 use crate::property::Property;
 use bac_apdu::ReadProperty;
-use bac_wire::{Datagram, ObjectId, Value, write_value};
+use bac_wire::{Datagram, ObjectId, Value, write_context, write_value};
 
 /// Appends a value.
 fn add(out: &mut Datagram, value: &Value) -> Result<(), Refused>
@@ -28,7 +28,7 @@ fn add(out: &mut Datagram, value: &Value) -> Result<(), Refused>
 /// One value.
 fn single(value: &Value) -> Result<Datagram, Refused>
     requires { IsWellFormed value.now }
-    ensures { result ≡ fitted (Ok (view value.now ∷ [])) }
+    ensures { result ≡ fitted (Ok (values_octets (view value.now ∷ []))) }
 {
     let mut out = Datagram::new();
     match add(&mut out, value) {
@@ -40,14 +40,29 @@ fn single(value: &Value) -> Result<Datagram, Refused>
 /// No value.
 #[tactic(auto, using(crate::proofs::Encodings::nothing))]
 fn none() -> Result<Datagram, Refused>
-    ensures { result ≡ fitted (Ok []) }
+    ensures { result ≡ fitted (Ok (values_octets [])) }
 {
     Ok(Datagram::new())
 }
 
+/// A reference to a property of this device that is no array.
+#[tactic(auto, unfolding(crate::specs::Reading::reference_octets))]
+fn reference(object: ObjectId, property: u32) -> Result<Datagram, Refused>
+    ensures { result ≡ fitted (Ok (reference_octets object property)) }
+{
+    let mut out = Datagram::new();
+    if write_context(&mut out, 0, &Value::Object(object)).is_err() {
+        return Err(Refused::TooLong);
+    }
+    if write_context(&mut out, 1, &Value::Enumerated(property)).is_err() {
+        return Err(Refused::TooLong);
+    }
+    Ok(out)
+}
+
 /// The values of all priorities.
 fn all_slots(slots: &[Option<Setting>; 16]) -> Result<Datagram, Refused>
-    ensures { result ≡ fitted (Ok (map slot_value slots.now)) }
+    ensures { result ≡ fitted (Ok (values_octets (map slot_value slots.now))) }
 {
     let mut out = Datagram::new();
     for slot in slots {
@@ -89,6 +104,14 @@ impl<'a> Property<'a> {
             },
             Property::Slots(slots) => slots_at(slots, index),
             Property::Objects(database) => database.objects_at(index),
+            Property::Reference { object, property } => match index {
+                None => reference(*object, *property),
+                Some(_) => Err(Refused::Fault(Fault::NotArray)),
+            },
+            Property::Records => match index {
+                None => Err(Refused::Fault(Fault::ReadDenied)),
+                Some(_) => Err(Refused::Fault(Fault::NotArray)),
+            },
         }
     }
 }
@@ -135,7 +158,7 @@ impl Database {
 
     /// The whole object list.
     fn all_objects(&self) -> Result<Datagram, Refused>
-        ensures { result ≡ fitted (Ok (object_list self.now)) }
+        ensures { result ≡ fitted (Ok (values_octets (object_list self.now))) }
     {
         let mut out = Datagram::new();
         if let Err(fault) = add(&mut out, &Value::Object(self.id())) {
@@ -151,7 +174,7 @@ impl Database {
 
     /// The octets of the values that a request asks for, each in its shortest encoding. The first
     /// fault decides: no such object, no such property, an index into what is no array, no such
-    /// element (clause 15.5.2).
+    /// element, records of a log, which ReadRange reads (clause 15.5.2).
     pub fn read(&self, request: &ReadProperty) -> Result<Datagram, Refused>
         ensures { result ≡ fitted (read_of self.now request.now) }
     {

@@ -8,16 +8,17 @@ ghost use Rattle.bac_objects.specs.Chain.{Leaves};
 ghost use Rattle.bac_objects.specs.Properties.{device_table, row};
 ghost use Rattle.bac_objects.specs.Reading.{shown_of};
 ghost use Rattle.bac_objects.specs.Requests.{write_of_code};
-ghost use Rattle.bac_objects.specs.Writing.{body_written, checked, command_written, is_array, object_written, priority_of, refusal, setting_of, write_of};
+ghost use Rattle.bac_objects.specs.Writing.{body_written, checked, command_written, enabled, is_array, log_written, object_written, priority_of, purged, records_written, refusal, setting_of, write_of};
 
 use crate::command::{Command, Range, Setting};
 use crate::database::Database;
 use crate::fault::Fault;
-use crate::object::{Body, Object};
+use crate::object::{Body, Logger, Object};
 use crate::property::Property;
-use crate::property_id::PRESENT_VALUE;
+use crate::property_id::{ENABLE, PRESENT_VALUE, RECORD_COUNT};
 use bac_apdu::WriteProperty;
-use bac_wire::Value;
+use bac_log::TrendLog;
+use bac_wire::{Stamp, Value};
 
 /// The priority of minimum on and off times, at which nobody writes (clause 19.2).
 const MINIMUM_ON_OFF: u8 = 6;
@@ -72,7 +73,7 @@ impl<'a> Property<'a> {
 }
 
 /// Whether the property is there, and an index only where it is an array.
-fn checked(property: &Option<Property>, index: Option<u32>) -> Result<(), Fault>
+pub(crate) fn checked(property: &Option<Property>, index: Option<u32>) -> Result<(), Fault>
     ensures { result ≡ checked (option_map shown_of property.now) index }
 {
     match property {
@@ -106,26 +107,69 @@ impl Command {
     }
 }
 
+/// Writes Enable: a change logs a record that says so.
+fn enable(log: &mut TrendLog, clock: Stamp, value: &Value) -> Result<(), Fault>
+    ensures { Leaves result log.old log.new (enabled clock (view value.now) log.old) }
+{
+    let Value::Boolean(value) = *value else {
+        return Err(Fault::BadType);
+    };
+    match log.set_enabled(value, clock) {
+        Ok(_) => Ok(()),
+        Err(_) => Err(Fault::WriteDenied),
+    }
+}
+
+/// Writes Record_Count: 0 empties the log, and is logged.
+fn purge(log: &mut TrendLog, clock: Stamp, value: &Value) -> Result<(), Fault>
+    ensures { Leaves result log.old log.new (purged clock (view value.now) log.old) }
+{
+    let Value::Unsigned(count) = *value else {
+        return Err(Fault::BadType);
+    };
+    if count != 0 {
+        return Err(Fault::BadValue);
+    }
+    match log.purge(clock) {
+        Ok(_) => Ok(()),
+        Err(_) => Err(Fault::WriteDenied),
+    }
+}
+
+impl Logger {
+    /// Writes a property of a Trend Log.
+    fn write(&mut self, clock: Stamp, write: &WriteProperty) -> Result<(), Fault>
+        ensures { Leaves result self.old self.new (log_written clock (write_of_code write.now) self.old) }
+    {
+        match write.property {
+            ENABLE => enable(&mut self.log, clock, &write.value),
+            RECORD_COUNT => purge(&mut self.log, clock, &write.value),
+            _ => Err(Fault::WriteDenied),
+        }
+    }
+}
+
 impl Body {
     /// Writes a property that not every object has.
-    fn write(&mut self, write: &WriteProperty) -> Result<(), Fault>
+    fn write(&mut self, clock: Stamp, write: &WriteProperty) -> Result<(), Fault>
         requires { IsPriority write.now.priority }
-        ensures { Leaves result self.old self.new (body_written (write_of_code write.now) self.old) }
+        ensures { Leaves result self.old self.new (body_written clock (write_of_code write.now) self.old) }
     {
         match self {
             Body::Command(command) => command.write(write),
+            Body::Log(logger) => logger.write(clock, write),
         }
     }
 }
 
 impl Object {
     /// Writes a property.
-    fn write(&mut self, write: &WriteProperty) -> Result<(), Fault>
+    fn write(&mut self, clock: Stamp, write: &WriteProperty) -> Result<(), Fault>
         requires { IsPriority write.now.priority }
-        ensures { Leaves result self.old self.new (object_written (write_of_code write.now) self.old) }
+        ensures { Leaves result self.old self.new (object_written clock (write_of_code write.now) self.old) }
     {
         checked(&self.property(write.object, write.property), write.index)?;
-        self.body.write(write)
+        self.body.write(clock, write)
     }
 }
 
@@ -142,7 +186,8 @@ impl Database {
 
     /// Writes a property, or tells the first fault and changes nothing: no such object, no such
     /// property, an index into what is no array, a property that can't be written (also
-    /// Present_Value at priority 6), another type, a value outside the range (clause 15.9.2).
+    /// Present_Value at priority 6), another type, a value outside the range, a log without a
+    /// sequence number for the record of the change (clause 15.9.2).
     pub fn write(&mut self, write: &WriteProperty) -> Result<(), Fault>
         requires { IsPriority write.now.priority }
         ensures { Leaves result self.old self.new (write_of self.old (write_of_code write.now)) }
@@ -150,9 +195,10 @@ impl Database {
         if self.is_device(write.object) {
             return Err(self.refusal(write));
         }
+        let clock = self.clock;
         let Some(object) = self.objects.get_mut(&write.object) else {
             return Err(Fault::UnknownObject);
         };
-        object.write(write)
+        object.write(clock, write)
     }
 }
