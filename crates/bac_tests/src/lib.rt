@@ -2,6 +2,8 @@
 //! happy path, and the faults of readers, writers and memory that no contract can tell.
 #![tactic(auto)]
 
+pub mod log_callers;
+
 #[cfg(test)]
 mod apdu;
 #[cfg(test)]
