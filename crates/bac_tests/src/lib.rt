@@ -11,6 +11,8 @@ mod log;
 #[cfg(test)]
 mod log_answers;
 #[cfg(test)]
+mod log_callers;
+#[cfg(test)]
 mod log_records;
 #[cfg(test)]
 mod passage;
