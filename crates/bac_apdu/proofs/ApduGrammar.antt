@@ -1,6 +1,5 @@
 -- APDUs are read if and only if the octets are their encodings.
-use Rattle.std.proofs.Common.{◌≡◌, ℕ, zero, suc, ◌+◌, ◌*◌, ◌/◌, ◌%◌, ◌^◌, ◌<◌, eqb, Bool, true, false, cond, List, [], ◌∷◌, ◌++◌, length, Option, Some, None, Result, Ok, Err, refl, sym, ap, subst, ◌∙◌, append_assoc, append-nil, arith, ◌⊎◌, inl, inr}
-use Rattle.std.specs.Int.{from_bool}
+use Rattle.std.proofs.Common.{◌≡◌, ℕ, suc, ◌/◌, ◌%◌, ◌^◌, ◌<◌, eqb, Bool, true, false, List, [], ◌∷◌, ◌++◌, Some, Result, Ok, Err, refl, sym, ap, subst, ◌∙◌, append-nil, arith, inl, inr}
 use Rattle.std.proofs.lemmas.Bool.{eqb-true}
 use Rattle.std.proofs.lemmas.Option.{none-some, same_Some}
 use Rattle.bac_wire.specs.declared.fault.WireFault.{WireFault}
@@ -13,7 +12,6 @@ use Rattle.bac_wire.proofs.Numbers.{IsBytes}
 use Rattle.bac_wire.proofs.Values.{IsBytes-after, at_takes, at_again}
 use Rattle.bac_wire.proofs.Canonical.{canon_spells}
 use Rattle.bac_apdu.specs.Adding.{value_octets}
-use Rattle.bac_apdu.specs.Octets.{octet_at}
 use Rattle.bac_apdu.specs.Apdu.{Apdu, Confirmed, Unconfirmed, Simple, Complex, SegmentAck, Error, Reject, Abort, size_of, segment_at, confirmed_at, complex_at, unconfirmed_at, segment_ack_at, number_of, number_in, number_at, error_at, pair_at, apdu_behind, apdu_at, code_of, apdu_octets, IsApdu, IsSegment, IsEncoding}
 use Rattle.bac_apdu.proofs.Heads.{size_again}
 use Rattle.bac_apdu.proofs.Grammar.{bind_some, chosen_some}

@@ -1,13 +1,9 @@
 -- What was read as a list of items, read as a record with named fields.
-use Rattle.std.proofs.Common.{◌≡◌, ℕ, List, [], ◌∷◌, Option, Some, None, Result, Ok, Err, Bool, refl, sym, ap, ◌∙◌, true, false}
+use Rattle.std.proofs.Common.{◌≡◌, ℕ, List, Option, Some, None, Result, Ok, Err, refl, sym, ap}
 use Rattle.std.specs.Option.{option_map}
 use Rattle.std.specs.Result.{result_ok}
-use Rattle.bac_wire.specs.Number.{bit}
-use Rattle.bac_wire.specs.Primitive.{Unsigned, Signed, Enumerated, Object, Date, Time, Bits}
 use Rattle.bac_wire.specs.Chain.{Gives, result_map}
 use Rattle.bac_wire.specs.OptionChain.{GivesSome}
-use Rattle.bac_wire.specs.Stamp.{date_octets, time_octets}
-use Rattle.bac_wire.specs.View.{view}
 use Rattle.bac_apdu.specs.declared.reason.Reason.{Reason}
 use Rattle.bac_apdu.specs.declared.service.who_is.WhoIs.{WhoIs}
 use Rattle.bac_apdu.specs.declared.service.i_am.IAm.{IAm}
@@ -18,14 +14,14 @@ use Rattle.bac_apdu.specs.declared.service.extent.Extent.{Extent}
 use Rattle.bac_apdu.specs.declared.service.extent.Extent.TheVariants.{All, ByPosition, ByNumber, ByTime}
 use Rattle.bac_apdu.specs.declared.service.read_range.ReadRange.{ReadRange}
 use Rattle.bac_apdu.specs.declared.service.read_range_ack.ReadRangeAck.{ReadRangeAck}
-use Rattle.bac_apdu.specs.Form.{Form, Item, Value, Mark, Inside, Absent, number_item, Reads}
+use Rattle.bac_apdu.specs.Form.{Form, Item, number_item, Reads}
 use Rattle.bac_apdu.specs.FormReading.{form_at}
 use Rattle.bac_apdu.specs.Fields.{number_in}
 use Rattle.bac_apdu.specs.Service.WhoIs.{who_is_items, limit_items, who_is_in}
 use Rattle.bac_apdu.specs.Service.IAm.{i_am_items, i_am_in}
 use Rattle.bac_apdu.specs.Service.ReadProperty.{property_items, property_in}
 use Rattle.bac_apdu.specs.Service.ReadPropertyAck.{PropertyAck, property_ack_items, property_ack_of, property_ack_in, property_ack_fields}
-use Rattle.bac_apdu.specs.Service.WriteProperty.{PropertyWrite, write_items, write_of_code, write_in}
+use Rattle.bac_apdu.specs.Service.WriteProperty.{write_items, write_of_code, write_in}
 use Rattle.bac_apdu.specs.Service.Extent.{extent_items, extent_in}
 use Rattle.bac_apdu.specs.Service.ReadRange.{range_items, range_in}
 use Rattle.bac_apdu.specs.Service.ReadRangeAck.{RangeAck, ack_items, range_ack_of, range_ack_in, range_ack_fields}

@@ -1,5 +1,5 @@
 -- The priority of a WriteProperty that was read is from 1 to 16.
-use Rattle.std.proofs.Common.{◌≡◌, ℕ, ◌<◌, ltb, Bool, true, false, ◌&&◌, cond, List, [], ◌∷◌, Option, Some, None, Result, Ok, Err, refl, ap, subst, sym, ◌∙◌, arith, inl, inr}
+use Rattle.std.proofs.Common.{◌≡◌, ℕ, ltb, Bool, true, List, ◌∷◌, Result, Ok, Err, refl, ap, subst, sym, ◌∙◌, inl, inr}
 use Rattle.std.proofs.lemmas.Bool.{ltb-true, and_parts}
 use Rattle.std.specs.Prelude.{IfOk}
 use Rattle.bac_wire.specs.Primitive.{Primitive, Null, Boolean, Unsigned, Signed, Real, Double, Octets, Chars, Bits, Enumerated, Date, Time, Object}
@@ -10,7 +10,7 @@ use Rattle.bac_apdu.specs.declared.reason.Reason.{Reason}
 use Rattle.bac_apdu.specs.declared.reason.Reason.TheVariants.{OutOfRange}
 use Rattle.bac_apdu.specs.declared.service.write_property.WriteProperty.{WriteProperty}
 use Rattle.bac_apdu.specs.Reason.{reasoned}
-use Rattle.bac_apdu.specs.Form.{Form, Part, Item, Value, Mark, Inside, Absent, end, part, optional, context, unsigned, value_next}
+use Rattle.bac_apdu.specs.Form.{Form, Part, Item, Value, Absent, end, part, optional, context, unsigned, value_next}
 use Rattle.bac_apdu.specs.FormReading.{form_at, part_at, optional_at, ranged}
 use Rattle.bac_apdu.specs.Fields.{number_in}
 use Rattle.bac_apdu.specs.Service.WriteProperty.{PropertyWrite, write_property, write_property_at, write_in, write_of_code, is_priority, IsPriority}

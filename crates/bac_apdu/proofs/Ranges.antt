@@ -1,5 +1,5 @@
 -- What was read is in range, so that it may be written.
-use Rattle.std.proofs.Common.{◌≡◌, ℕ, ◌^◌, ◌<◌, ◌≤◌, ltb, leb, Bool, true, false, ◌&&◌, cond, List, [], ◌∷◌, Option, Some, None, Result, Ok, Err, refl, ap, subst, sym, ◌∙◌, ◌⊎◌, arith, inl, inr}
+use Rattle.std.proofs.Common.{◌≡◌, ℕ, ◌^◌, ◌<◌, ltb, Bool, true, false, List, [], ◌∷◌, Option, Some, None, Result, Ok, Err, refl, ap, subst, sym, ◌∙◌, ◌⊎◌, inl, inr}
 use Rattle.std.proofs.lemmas.Bool.{ltb-true, leb-true, and_parts}
 use Rattle.std.specs.Prelude.{IfOk, IfSome}
 use Rattle.std.specs.Option.{option_map}
@@ -16,8 +16,8 @@ use Rattle.bac_apdu.specs.declared.service.read_range.ReadRange.{ReadRange}
 use Rattle.bac_apdu.specs.declared.service.read_range_ack.ReadRangeAck.{ReadRangeAck}
 use Rattle.bac_apdu.specs.declared.service.who_is.WhoIs.{WhoIs}
 use Rattle.bac_apdu.specs.Reason.{reasoned}
-use Rattle.bac_apdu.specs.Form.{Form, Part, Item, Value, Mark, Absent, end, part, optional, choice, nothing_or, context, application, opening, unsigned, signed, date, time, is_u32, value_next, opening_next}
-use Rattle.bac_apdu.specs.FormReading.{form_at, part_at, optional_at, typed_at, end_at, ranged}
+use Rattle.bac_apdu.specs.Form.{Form, Part, Item, Value, Mark, Absent, end, part, optional, choice, context, application, opening, unsigned, signed, date, time, is_u32, value_next, opening_next}
+use Rattle.bac_apdu.specs.FormReading.{form_at, part_at, optional_at, typed_at, ranged}
 use Rattle.bac_apdu.specs.Fields.{number_in, unsigned_in, signed_in, date_in, time_in}
 use Rattle.bac_apdu.specs.Service.Extent.{range, by_reference, by_time, extent_in, is_count, is_date, is_time, date_fits, time_fits, IsExtent}
 use Rattle.bac_apdu.specs.Service.ReadRange.{read_range, read_range_at, range_in}

@@ -1,6 +1,5 @@
 -- Requests and short APDUs fit a datagram.
-use Rattle.std.proofs.Common.{◌≡◌, ℕ, ◌+◌, ◌<◌, ◌≤◌, ℤ, Bool, true, false, List, [], ◌∷◌, ◌++◌, length, Option, Some, None, refl, arith, length-append}
-use Rattle.std.specs.Int.{from_bool}
+use Rattle.std.proofs.Common.{◌≡◌, ℕ, ◌+◌, ◌<◌, ◌≤◌, ℤ, Bool, false, List, [], ◌∷◌, ◌++◌, length, Option, Some, None, refl, arith, length-append}
 use Rattle.bac_wire.specs.Primitive.{Id, Primitive, Unsigned, Signed, Enumerated, Object, Date, Time}
 use Rattle.bac_wire.specs.Stamp.{date_octets, time_octets}
 use Rattle.bac_wire.proofs.Sizes.{length-unsigned, length-signed, few_octets, some_octets, few_behind, some_behind}
@@ -10,7 +9,7 @@ use Rattle.bac_apdu.specs.declared.service.i_am.IAm.{IAm}
 use Rattle.bac_apdu.specs.declared.service.extent.Extent.{Extent}
 use Rattle.bac_apdu.specs.declared.service.extent.Extent.TheVariants.{All, ByPosition, ByNumber, ByTime}
 use Rattle.bac_apdu.specs.Adding.{context_octets, value_octets, open_octets, close_octets}
-use Rattle.bac_apdu.specs.Apdu.{Apdu, Confirmed, Simple, Error, Reject, Abort, apdu_octets}
+use Rattle.bac_apdu.specs.Apdu.{Confirmed, Error, apdu_octets}
 use Rattle.bac_apdu.specs.Form.{Form, end, optional, unsigned, is_u32, Item, number_item}
 use Rattle.bac_apdu.specs.FormCanon.{canon_form}
 use Rattle.bac_apdu.specs.Frame.{frame_octets}

@@ -1,5 +1,5 @@
 -- A parameter as a field of its service: its value if it has the type that the service wants, and a default otherwise. In a service that was read, each has its type.
-use Rattle.std.specs.Prelude.{ℕ, ℤ, pos, Bool, false, List, [], ◌∷◌, get_or, slice_index, Option, Some, None}
+use Rattle.std.specs.Prelude.{ℕ, ℤ, pos, Bool, false, List, [], get_or, slice_index, Option, Some, None}
 use Rattle.bac_wire.specs.Primitive.{Id, Primitive, Null, Unsigned, Signed, Bits, Enumerated, Date, Time, Object}
 use Rattle.bac_wire.specs.declared.stamp.Date4.{Date4}
 use Rattle.bac_wire.specs.declared.stamp.Time4.{Time4}

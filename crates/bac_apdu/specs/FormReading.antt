@@ -1,5 +1,5 @@
 -- Reading parameters from left to right: the first check that fails is the reason, and at which parameter reading stops.
-use Rattle.std.specs.Prelude.{◌≡◌, ◌⊎◌, ℕ, zero, suc, ◌+◌, ◌-◌, ◌≤◌, Bool, true, false, not, ◌&&◌, nat_le, ◌==◌, List, [], ◌∷◌, ◌++◌, length, take, Result, Ok, Err, if◌then◌else◌}
+use Rattle.std.specs.Prelude.{◌≡◌, ◌⊎◌, ℕ, zero, suc, ◌+◌, ◌-◌, ◌≤◌, Bool, true, false, List, [], ◌∷◌, ◌++◌, length, take, Result, Ok, Err, if◌then◌else◌}
 use Rattle.bac_wire.specs.Primitive.{Primitive}
 use Rattle.bac_wire.specs.Level.{close_at}
 use Rattle.bac_wire.specs.Chain.{◌>>=◌}
@@ -8,7 +8,7 @@ use Rattle.bac_apdu.specs.declared.reason.Reason.{Reason}
 use Rattle.bac_apdu.specs.declared.reason.Reason.TheVariants.{InvalidTag, OutOfRange, TooManyArguments}
 use Rattle.bac_apdu.specs.Reason.{reasoned}
 pub use Rattle.bac_wire.specs.Next.{other_next}
-use Rattle.bac_apdu.specs.Form.{Absent, Form, Inside, Item, Mark, Part, SpellsPart, Value, any, application, choice, closing, context, enclosed, end, if_tag, next_tag, nothing_or, opening, opening_next, optional, part, value_next}
+use Rattle.bac_apdu.specs.Form.{Absent, Form, Inside, Item, Mark, Part, SpellsPart, Value, any, application, choice, closing, context, enclosed, end, nothing_or, opening, opening_next, optional, part, value_next}
 
 -- ---- reading, and the reason of the first wrong parameter
 

@@ -4,9 +4,9 @@ ghost use Rattle.bac_wire.specs.View.{IsWellFormed};
 
 use bac_wire::{
     Datagram, Date4, Full, ObjectId, Stamp, Time4, Value, WireFault, as_bits, as_boolean,
-    as_enumerated, as_object, as_signed, as_unsigned, octets_to_close, read_close, read_context,
-    read_open, read_value, stamp_order, write_close, write_context, write_octets, write_open,
-    write_value,
+    as_enumerated, as_object, as_signed, as_unsigned, is_opening_next, is_other_type_next,
+    is_value_next, octets_to_close, read_close, read_context, read_open, read_value, stamp_order,
+    write_close, write_context, write_octets, write_open, write_value,
 };
 use jiff::civil::DateTime;
 use std::alloc::AllocError;
@@ -277,6 +277,34 @@ fn full(rt: HostRuntime) -> Result<(), Fail> {
     assert_eq!(rt; &out.octets()[1499..], [0x3e, 0x3f].as_slice());
     assert!(rt; Datagram::default() == Datagram::new());
     Ok(())
+}
+
+#[test]
+fn octets_change_in_place(rt: HostRuntime) -> Result<(), Fail> {
+    let mut octets = Datagram::of(&[1, 2, 3, 4]).ok_or("four octets fit")?;
+    let before = octets.copy();
+    octets.set(2, 9);
+    octets.cut(3);
+    assert_eq!(rt; octets.octets(), [1, 2, 9].as_slice());
+    octets.cut(5);
+    assert_eq!(rt; octets.octets(), [1, 2, 9].as_slice());
+    assert_eq!(rt; before.octets(), [1, 2, 3, 4].as_slice());
+    Ok(())
+}
+
+#[test]
+fn next_tags(rt: HostRuntime) {
+    // [2] with a length octet that is missing
+    assert!(rt; is_value_next(&[0x2d], 2));
+    // [2] opened, [2] closed, [3], and an application Unsigned
+    assert!(rt; !is_value_next(&[0x2e], 2) && is_opening_next(&[0x2e], 2));
+    assert!(rt; !is_value_next(&[0x2f], 2) && !is_opening_next(&[0x2f], 2));
+    assert!(rt; !is_value_next(&[0x39], 2) && !is_opening_next(&[0x3e], 2));
+    assert!(rt; !is_value_next(&[0x21], 2) && !is_other_type_next(&[0x21], 2));
+    assert!(rt; is_other_type_next(&[0x21], 9) && !is_other_type_next(&[0x29], 9));
+    // number 254 in an octet of its own, and without it
+    assert!(rt; is_value_next(&[0xf9, 254], 254) && !is_value_next(&[0xf9], 254));
+    assert!(rt; !is_value_next(&[], 0));
 }
 
 #[test]

@@ -1,10 +1,9 @@
 -- How many octets an encoding has at most.
-use Rattle.std.proofs.Common.{◌≡◌, ℕ, ◌+◌, ◌<◌, ◌≤◌, ℤ, Bool, true, false, cond, ltb, List, [], ◌∷◌, ◌++◌, length, refl, arith, inl, inr, length-append}
+use Rattle.std.proofs.Common.{◌≡◌, ℕ, ◌+◌, ◌<◌, ◌≤◌, ℤ, Bool, true, false, cond, ltb, List, [], ◌∷◌, length, arith, inl, inr}
 use Rattle.std.proofs.lemmas.Bool.{cases_lt, lt-ltb, le-ltb}
-use Rattle.std.specs.Int.{w64, to_be_bytes, cast_unsigned, from_bool}
+use Rattle.std.specs.Int.{w64, to_be_bytes, cast_unsigned}
 use Rattle.bac_wire.specs.Primitive.{Primitive, Null, Boolean, Unsigned, Signed, Real, Double, Octets, Chars, Bits, Enumerated, Date, Time, Object}
-use Rattle.bac_wire.specs.Spelling.{tag_of}
-use Rattle.bac_wire.specs.Canon.{shortened, without_needless, is_zero, is_sign, unsigned_octets, signed_octets, contents_of, tagged, canon}
+use Rattle.bac_wire.specs.Canon.{shortened, without_needless, is_zero, is_sign, unsigned_octets, signed_octets, contents_of, tagged}
 use Rattle.bac_wire.specs.Encoding.{value_octets, context_octets}
 
 length-shortened : (needless : ℕ → ℕ → Bool) (a : ℕ) (bs : List ℕ) → length (shortened needless a bs) ≤ 1 + length bs

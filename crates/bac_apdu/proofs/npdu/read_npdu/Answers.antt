@@ -1,5 +1,5 @@
 -- A header that was read may be written.
-use Rattle.std.proofs.Common.{◌≡◌, ℕ, List, Option, Some, None, arith, Bor}
+use Rattle.std.proofs.Common.{ℕ, List, Option, Some, None, arith, Bor}
 use Rattle.std.specs.Prelude.{IfSome}
 use Rattle.bac_wire.specs.OptionChain.{GivesSome}
 use Rattle.bac_wire.proofs.Numbers.{IsBytes}
