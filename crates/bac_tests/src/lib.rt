@@ -5,6 +5,9 @@
 #[cfg(test)]
 mod apdu;
 #[cfg(test)]
+mod link;
+mod link_callers;
+#[cfg(test)]
 mod log;
 #[cfg(test)]
 mod replay;
