@@ -42,7 +42,7 @@ fn apdu_octets_of(bytes: &[u8]) -> Option<&[u8]>
 
 /// The APDU in a frame to one device that names no other network.
 #[tactic(auto, unfolding(crate::specs::Datagrams::apdu_in))]
-pub(crate) fn read_datagram(bytes: &[u8]) -> Option<Apdu>
+pub fn read_datagram(bytes: &[u8]) -> Option<Apdu>
     ensures { GivesSome apdu_of result (apdu_in bytes.now) }
 {
     let apdu = apdu_octets_of(bytes)?;

@@ -9,7 +9,7 @@ mod link;
 mod request;
 mod transactions;
 
-pub use answer::{Answer, answers};
+pub use answer::{Answer, answers, read_datagram};
 pub use exchanges::{ExchangeFault, Refusal, Verdict, exchange, judge};
 pub use item::Item;
 pub use laws::{can_be_joined, can_be_resumed, delivers_each_once};

@@ -1,0 +1,353 @@
+-- A step whose batch is put into a sink is a run of one step.
+use Rattle.std.proofs.Common.{◌≡◌, ℕ, suc, Bool, true, false, ◌+◌, ◌<◌, ◌≤◌, inl, inr, Option, Some, None, Result, Ok, Err, List, [], ◌∷◌, ◌++◌, length, map, refl, sym, ap, subst, ◌∙◌, arith, length-append, append-nil, append_assoc}
+use Rattle.bac_log.specs.declared.entry.Entry.{Entry}
+use Rattle.bac_link.specs.declared.item.Item.{Item}
+use Rattle.bac_link.specs.declared.item.Item.TheVariants.{Gap, Logged}
+use Rattle.bac_walk.specs.declared.batch.Gap.{Gap as GapOf}
+use Rattle.bac_walk.specs.declared.batch.Numbered.{Numbered}
+use Rattle.bac_walk.specs.declared.batch.Batch.{Batch}
+use Rattle.bac_walk.specs.Place.{Place}
+use Rattle.bac_walk.specs.declared.outcome.Step.{Step}
+use Rattle.bac_walk.specs.declared.outcome.Step.TheVariants.{Batch as StepOf, CaughtUp as NoStep}
+use Rattle.bac_walk.specs.declared.outcome.WalkFault.{WalkFault}
+use Rattle.bac_walk.specs.declared.outcome.Ended.{Ended}
+use Rattle.bac_walk.specs.declared.outcome.Ended.TheVariants.{CaughtUp, StepLimit, Stopped, Fault}
+use Rattle.bac_log.specs.TrendLog.{number}
+use Rattle.bac_walk.specs.Ordinals.{distance, number_after}
+use Rattle.bac_link.specs.Delivery.{History, Moment, now, later}
+use Rattle.bac_link.specs.Laws.{after_answers}
+use Rattle.bac_walk.specs.Turns.{Covers, IsBatch}
+use Rattle.bac_walk.specs.Delivers.{end_of}
+use Rattle.bac_walk.specs.Walks.{gap_items, item_of, items_in}
+use Rattle.bac_walk.specs.Collects.{Goes, Collected, IsFreshAfter, batches, step_items, step_ended, is_fresh_after}
+use Rattle.bac_walk.specs.Sinks.{Call, put_items, gaps, Takes, PutAll, IsRun, Delivery}
+use Rattle.bac_walk.specs.Handing.{walk_after, ended_after, HandedOn, HasNext}
+use Rattle.bac_walk.proofs.Cuts.{Covers-cut, IsBatch-cut, Covers-end, end_of-append}
+use Rattle.bac_walk.proofs.Shown.{after-number}
+use Rattle.bac_walk.proofs.Joins.{step_fresh, whole_some}
+
+-- the calls that put so many records, the first with the gap
+abbrev pub calls_of : Option GapOf → List Numbered → List Call
+calls_of gap [] = []
+calls_of gap (x ∷ xs) = record { gap = gap; record_put = x } ∷ calls_of None xs
+
+length-calls : (gap : Option GapOf) (xs : List Numbered) → length (calls_of gap xs) ≡ length xs
+length-calls gap [] = refl
+length-calls gap (x ∷ xs) = ap suc (length-calls None xs)
+
+gaps-none : (xs : List Numbered) → gaps (calls_of None xs) ≡ 0
+gaps-none [] = refl
+gaps-none (x ∷ xs) = omega (arith, gaps-none xs)
+
+gaps-one : (gap : Option GapOf) (xs : List Numbered) → gaps (calls_of gap xs) ≤ 1
+gaps-one gap [] = omega arith
+gaps-one None (x ∷ xs) = omega (arith, gaps-none xs)
+gaps-one (Some g) (x ∷ xs) = omega (arith, gaps-none xs)
+
+items-none : (xs : List Numbered) → put_items (calls_of None xs) ≡ map item_of xs
+items-none [] = refl
+items-none (x ∷ xs) = ap (λ l. item_of x ∷ l) (items-none xs)
+
+items-calls : (gap : Option GapOf) (xs : List Numbered) → 0 < length xs → put_items (calls_of gap xs) ≡ gap_items gap ++ map item_of xs
+items-calls gap [] some = absurd (omega arith)
+items-calls gap (x ∷ xs) some = ap (λ l. gap_items gap ++ item_of x ∷ l) (items-none xs)
+
+-- all records of a batch were put
+put_whole : {S : Type 0} (puts : S → Option GapOf → Numbered → Bool → S → Type 0) (old : S) (gap : Option GapOf) (xs : List Numbered) (new : S) →
+    PutAll puts old gap xs None new → Takes puts old (calls_of gap xs) false new
+put_whole puts old gap [] new put = (put.0, refl)
+put_whole puts old gap (x ∷ xs) new put =
+    elim put [
+      | inl stopped ↦ absurd (let e = stopped.1 in cc)
+      | inr more ↦ inr (more.0, more.1, put_whole puts more.0 None xs new more.2)
+    ]
+
+-- the records of a batch up to one
+record UpTo {S : Type 0} (puts : S → Option GapOf → Numbered → Bool → S → Type 0) (old : S) (gap : Option GapOf) (xs : List Numbered) (n : ℕ) (new : S) : Type 0 where
+  before : List Numbered
+  last : Numbered
+  after : List Numbered
+  is : xs ≡ before ++ last ∷ after
+  shown : last.number ≡ n
+  takes : Takes puts old (calls_of gap (before ++ last ∷ [])) true new
+
+put_up_to : {S : Type 0} (puts : S → Option GapOf → Numbered → Bool → S → Type 0) (old : S) (gap : Option GapOf) (xs : List Numbered) (n : ℕ) (new : S) →
+    PutAll puts old gap xs (Some n) new → UpTo puts old gap xs n new
+put_up_to puts old gap [] n new put = absurd (let e = put.1 in cc)
+put_up_to puts old gap (x ∷ xs) n new put =
+    elim put [
+      | inl stopped ↦ record { before = []; last = x; after = xs; is = refl; shown = (let e = stopped.1 in cc); takes = inl (stopped.0, refl, refl) }
+      | inr more ↦
+          let rest = put_up_to puts more.0 None xs n new more.2 in
+          record { before = x ∷ rest.before; last = rest.last; after = rest.after; is = ap (λ l. x ∷ l) rest.is; shown = rest.shown; takes = inr (more.0, more.1, rest.takes) }
+    ]
+
+-- the number of the record that stopped has one after it
+pub has_next : {S : Type 0} (puts : S → Option GapOf → Numbered → Bool → S → Type 0) (old : S) (z : Result Step WalkFault) (b : Batch) (refused : Option ℕ) (n : ℕ) (new : S) →
+    HasNext z → z ≡ Ok (StepOf b) → PutAll puts old b.gap b.entries.items refused new → refused ≡ Some n → n + 1 < 4294967296
+has_next puts old z b refused n new next is put some =
+    let P : Result Step WalkFault → Type 0 = λ x. HasNext x in
+    let Q : Option ℕ → Type 0 = λ x. PutAll puts old b.gap b.entries.items x new in
+    let c = put_up_to puts old b.gap b.entries.items n new (subst Q some put) in
+    omega (arith, subst P is next c.before c.last c.after c.is, c.shown)
+
+-- an entry shows the number of the ordinal where it stands
+pub shows : (s t k : ℕ) (e : Entry) (before after : List Item) → Covers s (before ++ Logged k e ∷ after) t → k ≡ number (end_of s before)
+shows s t k e [] after h = h.0
+shows s t k e (Gap f b ∷ before) after h = shows (s + distance f b) t k e before after h.2
+shows s t k e (Logged l d ∷ before) after h = shows (s + 1) t k e before after h.1
+
+-- what is left of the items of any answer
+cut_goes : (fresh : Bool) (before s k : ℕ) (e : Entry) (pre post : List Item) (after : Bool) (next : ℕ) →
+    Goes fresh before s (pre ++ Logged k e ∷ post) after next → Goes fresh before s (pre ++ Logged k e ∷ []) after (number_after k 1)
+cut_goes false before s k e [] post after next goes =
+    ((λ here. let t = goes.0 here in
+      (s + 1, ap (λ n. number_after n 1) (shows s t.0 k e [] post t.2) ∙ after-number s 1, Covers-cut s t.0 k e [] post t.2)), goes.1)
+cut_goes true before s k e [] post after next goes =
+    ((λ here. let t = goes.0 here in
+      (s + 1, ap (λ n. number_after n 1) (shows s t.0 k e [] post t.2) ∙ after-number s 1, Covers-cut s t.0 k e [] post t.2)), goes.1)
+cut_goes false before s k e (p ∷ pre) post after next goes =
+    ((λ here. let t = goes.0 here in
+      (end_of s (p ∷ pre) + 1, ap (λ n. number_after n 1) (shows s t.0 k e (p ∷ pre) post t.2) ∙ after-number (end_of s (p ∷ pre)) 1,
+      Covers-cut s t.0 k e (p ∷ pre) post t.2)), goes.1)
+cut_goes true before s k e (Gap f b ∷ pre) post after next goes = absurd goes
+cut_goes true before s k e (Logged l d ∷ pre) post after next goes =
+    ((λ here. let t = goes.0 here in
+      (end_of s (Logged l d ∷ pre) + 1, ap (λ n. number_after n 1) (shows s t.0 k e (Logged l d ∷ pre) post t.2) ∙ after-number (end_of s (Logged l d ∷ pre)) 1,
+      Covers-cut s t.0 k e (Logged l d ∷ pre) post t.2)), goes.1)
+
+-- the first item of a batch that was cut
+first_of : (pre : List Item) (z : Item) → (y : Item) × (ys : List Item) × (pre ++ z ∷ [] ≡ y ∷ ys)
+first_of [] z = (z, [], refl)
+first_of (p ∷ pre) z = (p, pre ++ z ∷ [], refl)
+
+-- the answers of a run of one step, cut after an entry
+record CutRun (r : ℕ) (H : History) (M : List Moment) (fresh : Bool) (next retries old new k : ℕ) (items : List Item) (answers : List (List Item)) : Type 0 where
+  t : ℕ
+  shown : number_after k 1 ≡ number t
+  cut : List (List Item)
+  count : length cut ≡ length answers
+  some : 0 < batches cut
+  run : Collected r H M fresh next 1 retries old new items t Stopped cut
+
+-- one batch, from an ordinal
+cut_batch : (H : History) (m : Moment) (s0 t k : ℕ) (e : Entry) (pre post : List Item) (x : Item) (b : List Item) (y : Item) (ys : List Item) →
+    (x ∷ b) ≡ pre ++ Logged k e ∷ post → pre ++ Logged k e ∷ [] ≡ y ∷ ys → Covers s0 (pre ++ Logged k e ∷ post) t → IsBatch H m s0 (x ∷ b) →
+    Covers s0 (y ∷ ys) (end_of s0 pre + 1) × IsBatch H m s0 (y ∷ ys) × ((y ∷ ys) ++ post ≡ x ∷ b) × (number_after k 1 ≡ number (end_of s0 pre + 1))
+cut_batch H m s0 t k e pre post x b y ys is cut covers batch =
+    let P : List Item → Type 0 = λ l. IsBatch H m s0 l in
+    let Q : List Item → Type 0 = λ l. Covers s0 l (end_of s0 pre + 1) in (
+      subst Q cut (Covers-cut s0 t k e pre post covers),
+      subst P cut (IsBatch-cut H m s0 k e pre post (subst P is batch)).0,
+      ap (λ l. l ++ post) (sym cut) ∙ append_assoc pre (Logged k e ∷ []) post ∙ sym is,
+      ap (λ n. number_after n 1) (shows s0 t k e pre post covers) ∙ after-number (end_of s0 pre) 1,
+    )
+
+cut_run : (r : ℕ) (H : History) (M : List Moment) (fresh : Bool) (next retries old new t k : ℕ) (e : Entry) (pre post : List Item) (answers : List (List Item)) →
+    Collected r H M fresh next 1 retries old new (pre ++ Logged k e ∷ post) t StepLimit answers →
+    CutRun r H M fresh next retries old new k (pre ++ Logged k e ∷ []) answers
+cut_run r H M fresh next retries old new t k e [] post [] run = absurd (let h = run.all in cc)
+cut_run r H M fresh next retries old new t k e (p ∷ pre) post [] run = absurd (let h = run.all in cc)
+cut_run r H M fresh next retries old new t k e pre post ([] ∷ []) run = absurd run.end.1
+cut_run r H M fresh next retries old new t k e pre post ([] ∷ [] ∷ answers) run = absurd run.end.1
+cut_run r H M fresh next retries old new t k e pre post ((x ∷ b) ∷ z ∷ answers) run = absurd (omega (arith, run.end.0, whole_some z answers run.end.1))
+cut_run r H M fresh next retries old new t k e pre post ([] ∷ (x ∷ b) ∷ z ∷ answers) run = absurd (omega (arith, run.end.0, whole_some z answers run.end.1))
+cut_run r H M true next retries old new t k e pre post ((x ∷ b) ∷ []) run =
+    let f = first_of pre (Logged k e) in
+    let c = cut_batch H (now M) (now M).oldest t k e pre post x b f.0 f.1 (sym (append-nil (x ∷ b)) ∙ run.all) f.2 run.covers run.each.0 in
+    let P : List Item → Type 0 = λ l. CutRun r H M true next retries old new k l ((x ∷ b) ∷ []) in
+    subst P (sym f.2) (record {
+      t = end_of (now M).oldest pre + 1;
+      shown = c.3;
+      cut = (f.0 ∷ f.1) ∷ [];
+      count = refl;
+      some = omega arith;
+      run = record {
+        covers = c.0; all = append-nil (f.0 ∷ f.1); each = (c.1, tt); twice_steps = omega arith; twice_batches = omega arith; paced = tt;
+        whole = (post, c.2 ∙ run.whole); end = (omega arith, omega arith, tt);
+      };
+    })
+cut_run r H M false next retries old new t k e pre post ((x ∷ b) ∷ []) run =
+    let f = first_of pre (Logged k e) in
+    let c = cut_batch H (now M) next t k e pre post x b f.0 f.1 (sym (append-nil (x ∷ b)) ∙ run.all) f.2 run.covers run.each.0 in
+    let P : List Item → Type 0 = λ l. CutRun r H M false next retries old new k l ((x ∷ b) ∷ []) in
+    subst P (sym f.2) (record {
+      t = end_of next pre + 1;
+      shown = c.3;
+      cut = (f.0 ∷ f.1) ∷ [];
+      count = refl;
+      some = omega arith;
+      run = record {
+        covers = c.0; all = append-nil (f.0 ∷ f.1); each = (c.1, tt); twice_steps = omega arith; twice_batches = omega arith; paced = tt;
+        whole = (post, c.2 ∙ run.whole); end = (omega arith, omega arith, tt);
+      };
+    })
+cut_run r H M true next retries old new t k e pre post ([] ∷ (x ∷ b) ∷ []) run =
+    let f = first_of pre (Logged k e) in
+    let c = cut_batch H (now (later M)) (now (later M)).oldest t k e pre post x b f.0 f.1 (sym (append-nil (x ∷ b)) ∙ run.all) f.2 run.covers run.each.0 in
+    let P : List Item → Type 0 = λ l. CutRun r H M true next retries old new k l ([] ∷ (x ∷ b) ∷ []) in
+    subst P (sym f.2) (record {
+      t = end_of (now (later M)).oldest pre + 1;
+      shown = c.3;
+      cut = [] ∷ (f.0 ∷ f.1) ∷ [];
+      count = refl;
+      some = omega arith;
+      run = record {
+        covers = c.0; all = append-nil (f.0 ∷ f.1); each = (c.1, tt); twice_steps = omega arith; twice_batches = omega arith; paced = (run.paced.0, tt);
+        whole = (post, c.2 ∙ run.whole); end = (omega arith, omega arith, tt);
+      };
+    })
+cut_run r H M false next retries old new t k e pre post ([] ∷ (x ∷ b) ∷ []) run =
+    let f = first_of pre (Logged k e) in
+    let c = cut_batch H (now (later M)) next t k e pre post x b f.0 f.1 (sym (append-nil (x ∷ b)) ∙ run.all) f.2 run.covers run.each.0 in
+    let P : List Item → Type 0 = λ l. CutRun r H M false next retries old new k l ([] ∷ (x ∷ b) ∷ []) in
+    subst P (sym f.2) (record {
+      t = end_of next pre + 1;
+      shown = c.3;
+      cut = [] ∷ (f.0 ∷ f.1) ∷ [];
+      count = refl;
+      some = omega arith;
+      run = record {
+        covers = c.0; all = append-nil (f.0 ∷ f.1); each = (c.1, tt); twice_steps = omega arith; twice_batches = omega arith; paced = (run.paced.0, tt);
+        whole = (post, c.2 ∙ run.whole); end = (omega arith, omega arith, tt);
+      };
+    })
+
+-- what a step ensures
+abbrev pub IsStep : (ℕ → List Moment → History → Type 0) → (ℕ → List Moment → History → Type 0) → ℕ → ℕ → ℕ → Place → Place → Result Step WalkFault → Type 0
+IsStep was is retries old new before after z =
+    ((s : ℕ) → Goes before.fresh before.next s (step_items z) after.fresh after.next)
+    × ((r : ℕ) (M : List Moment) (H : History) (s : ℕ) → was r M H → before.next ≡ number s →
+        (answers : List (List Item)) × (t : ℕ) × (after.next ≡ number t)
+        × Collected r H M before.fresh s 1 retries old new (step_items z) t (step_ended z) answers
+        × is r (after_answers (length answers) M) H × (after.fresh ≡ is_fresh_after before.fresh z))
+
+-- a step is a run of one step
+run_of_step : (was is : ℕ → List Moment → History → Type 0) (retries old new : ℕ) (before after : Place) (z : Result Step WalkFault) →
+    IsStep was is retries old new before after z → IsRun was is retries old new before after 1 (step_ended z) (step_items z)
+run_of_step was is retries old new before after z step =
+    (step.0, λ r M H s honest next.
+      let run = step.1 r M H s honest next in
+      (run.0, run.1, run.2, run.3, run.4, step_fresh r H M before.fresh after.fresh s retries old new run.1 z run.0 run.3 run.5))
+
+-- a batch ends what is special about a walk from the oldest record
+old_after : (fresh : Bool) (before s k : ℕ) (e : Entry) (pre post : List Item) (after : Bool) (next : ℕ) →
+    Goes fresh before s (pre ++ Logged k e ∷ post) after next → after ≡ false
+old_after true before s k e [] post after next goes = goes.1
+old_after true before s k e (Gap f b ∷ pre) post after next goes = absurd goes
+old_after true before s k e (Logged n d ∷ pre) post after next goes = goes.1
+old_after false before s k e [] post after next goes = goes.1
+old_after false before s k e (x ∷ pre) post after next goes = goes.1
+
+-- a step whose batch was cut
+run_of_cut : (was is : ℕ → List Moment → History → Type 0) (retries old new k : ℕ) (e : Entry) (before after : Place) (pre post : List Item) →
+    IsRun was is retries old new before after 1 StepLimit (pre ++ Logged k e ∷ post) →
+    IsRun was is retries old new before (record { log = after.log; next = number_after k 1; fresh = false; asks_oldest = false }) 1 Stopped (pre ++ Logged k e ∷ [])
+run_of_cut was is retries old new k e before after pre post run = (
+  (λ s.
+    let P : Bool → Type 0 = λ f. Goes before.fresh before.next s (pre ++ Logged k e ∷ []) f (number_after k 1) in
+    subst P (old_after before.fresh before.next s k e pre post after.fresh after.next (run.0 s))
+    (cut_goes before.fresh before.next s k e pre post after.fresh after.next (run.0 s))),
+  (λ r M H s honest next.
+    let whole = run.1 r M H s honest next in
+    let c = cut_run r H M before.fresh s retries old new whole.1 k e pre post whole.0 whole.3 in
+    let P : ℕ → Type 0 = λ a. is r (after_answers a M) H in
+    let some : 0 < batches whole.0 = omega (arith, whole.3.end.0) in
+    let fresh : IsFreshAfter before.fresh c.cut false = record { none = λ h. absurd (omega (arith, h, c.some)); some = λ h. refl } in
+    (c.cut, c.t, c.shown, c.run, subst P (sym c.count) whole.4, fresh)),
+)
+
+map-append : (xs ys : List Numbered) → map item_of (xs ++ ys) ≡ map item_of xs ++ map item_of ys
+map-append [] ys = refl
+map-append (x ∷ xs) ys = ap (λ l. item_of x ∷ l) (map-append xs ys)
+
+-- a batch that was put, as far as it was
+of_batch : {S : Type 0} (puts : S → Option GapOf → Numbered → Bool → S → Type 0) (sink left : S) (was is : ℕ → List Moment → History → Type 0)
+    (retries old new : ℕ) (before mid : Place) (b : Batch) (refused : Option ℕ) → length b.entries.items ≤ 100 → 0 < length b.entries.items →
+    IsRun was is retries old new before mid 1 StepLimit (items_in b) → PutAll puts sink b.gap b.entries.items refused left →
+    Delivery puts sink left was is retries old new before (walk_after mid refused) 1 (ended_after refused)
+of_batch puts sink left was is retries old new before mid b None most some run put =
+    let P : List Item → Type 0 = λ l. IsRun was is retries old new before mid 1 StepLimit l in
+    (calls_of b.gap b.entries.items, put_whole puts sink b.gap b.entries.items left put,
+    omega (arith, length-calls b.gap b.entries.items), gaps-one b.gap b.entries.items,
+    subst P (sym (items-calls b.gap b.entries.items some)) run)
+of_batch puts sink left was is retries old new before mid b (Some n) most some run put =
+    let c = put_up_to puts sink b.gap b.entries.items n left put in
+    let pre = gap_items b.gap ++ map item_of c.before in
+    let post = map item_of c.after in
+    let one = Logged c.last.number c.last.entry in
+    let whole : items_in b ≡ pre ++ one ∷ post =
+    ap (λ l. gap_items b.gap ++ map item_of l) c.is ∙ ap (λ l. gap_items b.gap ++ l) (map-append c.before (c.last ∷ c.after))
+    ∙ sym (append_assoc (gap_items b.gap) (map item_of c.before) (one ∷ post)) in
+    let cut : put_items (calls_of b.gap (c.before ++ c.last ∷ [])) ≡ pre ++ one ∷ [] =
+    items-calls b.gap (c.before ++ c.last ∷ []) (omega (arith, length-append c.before (c.last ∷ [])))
+    ∙ ap (λ l. gap_items b.gap ++ l) (map-append c.before (c.last ∷ []))
+    ∙ sym (append_assoc (gap_items b.gap) (map item_of c.before) (one ∷ [])) in
+    let P : List Item → Type 0 = λ l. IsRun was is retries old new before mid 1 StepLimit l in
+    let Q : ℕ → Type 0 = λ m. IsRun was is retries old new before (record { log = mid.log; next = number_after m 1; fresh = false; asks_oldest = false }) 1 Stopped (pre ++ one ∷ []) in
+    let R : List Item → Type 0 = λ l. IsRun was is retries old new before (record { log = mid.log; next = number_after n 1; fresh = false; asks_oldest = false }) 1 Stopped l in
+    (calls_of b.gap (c.before ++ c.last ∷ []), c.takes,
+    omega (arith, length-calls b.gap (c.before ++ c.last ∷ []), ap length c.is, length-append c.before (c.last ∷ c.after), length-append c.before (c.last ∷ [])),
+    gaps-one b.gap (c.before ++ c.last ∷ []),
+    subst R (sym cut) (subst Q c.shown (run_of_cut was is retries old new c.last.number c.last.entry before mid pre post (subst P whole run))))
+
+-- a step and what was made of it
+pub handed : {S : Type 0} (puts : S → Option GapOf → Numbered → Bool → S → Type 0) (sink left : S) (was is : ℕ → List Moment → History → Type 0)
+    (retries old new : ℕ) (before mid after : Place) (z : Result Step WalkFault) (ended : Ended) →
+    IsStep was is retries old new before mid z → HandedOn puts sink mid z ended after left →
+    Delivery puts sink left was is retries old new before after 1 ended
+handed puts sink left was is retries old new before mid after (Err e) ended step put =
+    let run = run_of_step was is retries old new before mid (Err e) step in
+    let P : Place → Type 0 = λ w. IsRun was is retries old new before w 1 (Fault e) [] in
+    let Q : Ended → Type 0 = λ x. Delivery puts sink left was is retries old new before after 1 x in
+    subst Q (sym put.2) ([], (put.0, refl), omega arith, omega arith, subst P (sym put.1) run)
+handed puts sink left was is retries old new before mid after (Ok NoStep) ended step put =
+    let run = run_of_step was is retries old new before mid (Ok NoStep) step in
+    let P : Place → Type 0 = λ w. IsRun was is retries old new before w 1 CaughtUp [] in
+    let Q : Ended → Type 0 = λ x. Delivery puts sink left was is retries old new before after 1 x in
+    subst Q (sym put.2) ([], (put.0, refl), omega arith, omega arith, subst P (sym put.1) run)
+handed puts sink left was is retries old new before mid after (Ok (StepOf b)) ended step put =
+    let run = run_of_step was is retries old new before mid (Ok (StepOf b)) step in
+    let done = of_batch puts sink left was is retries old new before mid b put.0 b.most b.some run put.1 in
+    let P : Place → Type 0 = λ w. Delivery puts sink left was is retries old new before w 1 (ended_after put.0) in
+    let Q : Ended → Type 0 = λ x. Delivery puts sink left was is retries old new before after 1 x in
+    subst Q (sym put.3) (subst P (sym put.2) done)
+
+below : (s t k : ℕ) (e : Entry) (before after : List Item) → Covers s (before ++ Logged k e ∷ after) t → end_of s before < t
+below s t k e before after h =
+    let e1 : end_of s (before ++ Logged k e ∷ after) ≡ t = Covers-end s t (before ++ Logged k e ∷ after) h in
+    let e2 : end_of s (before ++ Logged k e ∷ after) ≡ end_of (end_of s before) (Logged k e ∷ after) = end_of-append s before (Logged k e ∷ after) in
+    omega (arith, e1, e2, end_up (end_of s before + 1) after)
+  where
+    end_up : (u : ℕ) (xs : List Item) → u ≤ end_of u xs
+    end_up u [] = omega arith
+    end_up u (Gap f b ∷ xs) = omega (arith, end_up (u + distance f b) xs)
+    end_up u (Logged l d ∷ xs) = omega (arith, end_up (u + 1) xs)
+
+-- an entry among the items of a step is below the walk's next number
+goes_below : (fresh : Bool) (before k : ℕ) (e : Entry) (pre post : List Item) (after : Bool) (next : ℕ) →
+    ((s : ℕ) → Goes fresh before s (pre ++ Logged k e ∷ post) after next) → k < next
+goes_below false before k e [] post after next goes =
+    let t = (goes before).0 refl in
+    omega (arith, t.1, shows before t.0 k e [] post t.2, below before t.0 k e [] post t.2)
+goes_below false before k e (p ∷ pre) post after next goes =
+    let t = (goes before).0 refl in
+    omega (arith, t.1, shows before t.0 k e (p ∷ pre) post t.2, below before t.0 k e (p ∷ pre) post t.2)
+goes_below true before k e [] post after next goes =
+    let t = (goes k).0 refl in
+    omega (arith, t.1, shows k t.0 k e [] post t.2, below k t.0 k e [] post t.2)
+goes_below true before k e (Gap f b ∷ pre) post after next goes = absurd (goes 0)
+goes_below true before k e (Logged l d ∷ pre) post after next goes =
+    let t = (goes l).0 refl in
+    omega (arith, t.1, shows l t.0 k e (Logged l d ∷ pre) post t.2, below l t.0 k e (Logged l d ∷ pre) post t.2)
+
+pub next_of_step : (fresh : Bool) (before : ℕ) (z : Result Step WalkFault) (after : Bool) (next : ℕ) → next < 4294967296 →
+    ((s : ℕ) → Goes fresh before s (step_items z) after next) → HasNext z
+next_of_step fresh before (Err e) after next most goes = tt
+next_of_step fresh before (Ok NoStep) after next most goes = tt
+next_of_step fresh before (Ok (StepOf b)) after next most goes = λ pre x post is.
+    let whole : items_in b ≡ (gap_items b.gap ++ map item_of pre) ++ item_of x ∷ map item_of post =
+    ap (λ l. gap_items b.gap ++ map item_of l) is ∙ ap (λ l. gap_items b.gap ++ l) (map-append pre (x ∷ post))
+    ∙ sym (append_assoc (gap_items b.gap) (map item_of pre) (item_of x ∷ map item_of post)) in
+    let P : List Item → Type 0 = λ l. (s : ℕ) → Goes fresh before s l after next in
+    omega (arith, most, goes_below fresh before x.number x.entry (gap_items b.gap ++ map item_of pre) (map item_of post) after next (subst P whole goes))

@@ -1,0 +1,278 @@
+-- A run and the step after it are one run.
+use Rattle.std.proofs.Common.{◌≡◌, ℕ, zero, suc, Bool, true, false, ◌+◌, ◌*◌, ◌<◌, ◌≤◌, List, [], ◌∷◌, ◌++◌, length, drop, refl, sym, ap, subst, ◌∙◌, arith, length-append, zero-add, append-nil, ◌≢◌, Result, Ok, Err}
+use Rattle.bac_link.specs.declared.item.Item.{Item}
+use Rattle.bac_walk.specs.declared.outcome.Step.{Step}
+use Rattle.bac_walk.specs.declared.outcome.Step.TheVariants.{Batch as StepOf, CaughtUp as NoStep}
+use Rattle.bac_walk.specs.declared.outcome.WalkFault.{WalkFault}
+use Rattle.bac_walk.specs.declared.outcome.WalkFault.TheVariants.{Lost, Refused, BadReply}
+use Rattle.bac_walk.specs.declared.outcome.Ended.{Ended}
+use Rattle.bac_walk.specs.declared.outcome.Ended.TheVariants.{CaughtUp, StepLimit, Stopped, Fault}
+use Rattle.bac_link.specs.Delivery.{History, Moment, now, later, items_of}
+use Rattle.bac_link.specs.Laws.{after_answers}
+use Rattle.bac_walk.specs.Turns.{Covers}
+use Rattle.bac_walk.specs.Delivers.{end_of, AreAnswers, NoneFrom}
+use Rattle.bac_walk.specs.Collects.{IsOfReply, AreWhole, batches, IsWhole, IsPaced, start_of, IsEnded, Collected, IsFreshAfter, step_items, step_ended, is_fresh_after}
+use Rattle.bac_walk.proofs.Cuts.{Covers-append, Covers-end, items_of-append, end_of-append, AreAnswers-append}
+
+batches-append : (xs ys : List (List Item)) → batches (xs ++ ys) ≡ batches xs + batches ys
+batches-append [] ys = omega arith
+batches-append ([] ∷ xs) ys = batches-append xs ys
+batches-append ((x ∷ b) ∷ xs) ys = omega (arith, batches-append xs ys)
+
+IsWhole-append : (xs ys : List (List Item)) → IsWhole xs → IsWhole ys → IsWhole (xs ++ ys)
+IsWhole-append [] ys first rest = rest
+IsWhole-append ([] ∷ []) ys first rest = absurd first
+IsWhole-append ([] ∷ [] ∷ xs) ys first rest = absurd first
+IsWhole-append ([] ∷ (x ∷ b) ∷ xs) ys first rest = IsWhole-append xs ys first rest
+IsWhole-append ((x ∷ b) ∷ xs) ys first rest = IsWhole-append xs ys first rest
+
+whole_twice : (xs : List (List Item)) → IsWhole xs → length xs ≤ 2 * batches xs
+whole_twice [] h = omega arith
+whole_twice ([] ∷ []) h = absurd h
+whole_twice ([] ∷ [] ∷ xs) h = absurd h
+whole_twice ([] ∷ (x ∷ b) ∷ xs) h = omega (arith, whole_twice xs h)
+whole_twice ((x ∷ b) ∷ xs) h = omega (arith, whole_twice xs h)
+
+IsPaced-append : (why : Ended) (M : List Moment) (s : ℕ) (xs ys : List (List Item)) → IsWhole xs → IsPaced StepLimit M s xs →
+    IsPaced why (after_answers (length xs) M) (end_of s (items_of xs)) ys → IsPaced why M s (xs ++ ys)
+IsPaced-append why M s [] ys whole first rest = rest
+IsPaced-append why M s ([] ∷ []) ys whole first rest = absurd whole
+IsPaced-append why M s ([] ∷ [] ∷ xs) ys whole first rest = absurd whole
+IsPaced-append why M s ([] ∷ (x ∷ b) ∷ xs) ys whole first rest = (
+  first.0,
+  IsPaced-append why (later (later M)) (end_of s (x ∷ b)) xs ys whole first.1
+      (let P : ℕ → Type 0 = λ n. IsPaced why (after_answers (length xs) (later (later M))) n ys in
+      subst P (end_of-append s (x ∷ b) (items_of xs)) rest),
+)
+IsPaced-append why M s ((x ∷ b) ∷ xs) ys whole first rest =
+    IsPaced-append why (later M) (end_of s (x ∷ b)) xs ys whole first
+    (let P : ℕ → Type 0 = λ n. IsPaced why (after_answers (length xs) (later M)) n ys in
+    subst P (end_of-append s (x ∷ b) (items_of xs)) rest)
+
+IsPaced-whole : (why : Ended) (M : List Moment) (s : ℕ) (xs : List (List Item)) → IsWhole xs → IsPaced StepLimit M s xs → IsPaced why M s xs
+IsPaced-whole why M s [] whole h = tt
+IsPaced-whole why M s ([] ∷ []) whole h = absurd whole
+IsPaced-whole why M s ([] ∷ [] ∷ xs) whole h = absurd whole
+IsPaced-whole why M s ([] ∷ (x ∷ b) ∷ xs) whole h = (h.0, IsPaced-whole why (later (later M)) (end_of s (x ∷ b)) xs whole h.1)
+IsPaced-whole why M s ((x ∷ b) ∷ xs) whole h = IsPaced-whole why (later M) (end_of s (x ∷ b)) xs whole h
+
+-- the whole of a reply is of it in any run
+whole_of : (why : Ended) (xs ys : List Item) → xs ≡ ys → IsOfReply why xs ys
+whole_of CaughtUp xs ys is = is
+whole_of StepLimit xs ys is = is
+whole_of Stopped xs ys is = ([], append-nil xs ∙ is)
+whole_of (Fault e) xs ys is = is
+
+-- whole replies after whole replies
+AreWhole-append : (why : Ended) (r : ℕ) (H : History) (M : List Moment) (s : ℕ) (xs ys : List (List Item)) → IsWhole xs → AreWhole StepLimit r H M false s xs →
+    AreWhole why r H (after_answers (length xs) M) false (end_of s (items_of xs)) ys → AreWhole why r H M false s (xs ++ ys)
+AreWhole-append why r H M s [] ys whole first rest = rest
+AreWhole-append why r H M s ([] ∷ []) ys whole first rest = absurd whole
+AreWhole-append why r H M s ([] ∷ [] ∷ xs) ys whole first rest = absurd whole
+AreWhole-append why r H M s ([] ∷ (x ∷ b) ∷ []) [] whole first rest = whole_of why _ _ first
+AreWhole-append why r H M s ([] ∷ (x ∷ b) ∷ []) (y ∷ ys) whole first rest =
+    (first,
+    (let P : ℕ → Type 0 = λ n. AreWhole why r H (later (later M)) false n (y ∷ ys) in
+    subst P (ap (λ l. end_of s l) (append-nil (x ∷ b))) rest))
+AreWhole-append why r H M s ([] ∷ (x ∷ b) ∷ z ∷ xs) ys whole first rest = (
+  first.0,
+  AreWhole-append why r H (later (later M)) (end_of s (x ∷ b)) (z ∷ xs) ys whole first.1
+      (let P : ℕ → Type 0 = λ n. AreWhole why r H (after_answers (length (z ∷ xs)) (later (later M))) false n ys in
+      subst P (end_of-append s (x ∷ b) (items_of (z ∷ xs))) rest),
+)
+AreWhole-append why r H M s ((x ∷ b) ∷ []) [] whole first rest = whole_of why _ _ first
+AreWhole-append why r H M s ((x ∷ b) ∷ []) (y ∷ ys) whole first rest =
+    (first,
+    (let P : ℕ → Type 0 = λ n. AreWhole why r H (later M) false n (y ∷ ys) in
+    subst P (ap (λ l. end_of s l) (append-nil (x ∷ b))) rest))
+AreWhole-append why r H M s ((x ∷ b) ∷ z ∷ xs) ys whole first rest = (
+  first.0,
+  AreWhole-append why r H (later M) (end_of s (x ∷ b)) (z ∷ xs) ys whole first.1
+      (let P : ℕ → Type 0 = λ n. AreWhole why r H (after_answers (length (z ∷ xs)) (later M)) false n ys in
+      subst P (end_of-append s (x ∷ b) (items_of (z ∷ xs))) rest),
+)
+
+pub whole_some : (y : List Item) (ys : List (List Item)) → IsWhole (y ∷ ys) → 0 < batches (y ∷ ys)
+whole_some [] [] h = absurd h
+whole_some [] ([] ∷ ys) h = absurd h
+whole_some [] ((x ∷ b) ∷ ys) h = omega arith
+whole_some (x ∷ b) ys h = omega arith
+
+start_of-append : (fresh : Bool) (next : ℕ) (M : List Moment) (x : List Item) (xs ys : List (List Item)) → IsWhole (x ∷ xs) →
+    start_of fresh next M ((x ∷ xs) ++ ys) ≡ start_of fresh next M (x ∷ xs)
+start_of-append false next M x xs ys h = refl
+start_of-append true next M [] [] ys h = absurd h
+start_of-append true next M [] ([] ∷ xs) ys h = absurd h
+start_of-append true next M [] ((x ∷ b) ∷ xs) ys h = refl
+start_of-append true next M (x ∷ b) xs ys h = refl
+
+start_of-nil : (fresh : Bool) (next : ℕ) (M : List Moment) → start_of fresh next M [] ≡ next
+start_of-nil true next M = refl
+start_of-nil false next M = refl
+
+pub after_answers-add : (a b : ℕ) (M : List Moment) → after_answers (a + b) M ≡ after_answers b (after_answers a M)
+after_answers-add zero b M = rw zero-add refl
+after_answers-add (suc a) b M =
+    let e : suc a + b ≡ suc (a + b) = omega arith in
+    rw e (after_answers-add a b (later M))
+
+drop-past : (xs ys : List (List Item)) (i : ℕ) → drop (length xs + i) (xs ++ ys) ≡ drop i ys
+drop-past [] ys i = rw zero-add refl
+drop-past (x ∷ xs) ys i =
+    let e : suc (length xs) + i ≡ suc (length xs + i) = omega arith in
+    rw e (drop-past xs ys i)
+
+no_items : (ys : List (List Item)) → items_of ys ≡ [] → batches ys ≡ 0
+no_items [] h = refl
+no_items ([] ∷ ys) h = no_items ys h
+no_items ((x ∷ b) ∷ ys) h = absurd (cc)
+
+ended_after : (why : Ended) (fresh mid_fresh : Bool) (t : ℕ) (M : List Moment) (xs ys : List (List Item)) (i retries old mid new : ℕ) →
+    (batches xs ≡ 0 → mid_fresh ≡ fresh) → batches xs ≡ i → IsWhole xs → old ≤ mid →
+    IsEnded why mid_fresh t (after_answers (length xs) M) ys 1 retries mid new → IsEnded why fresh t M (xs ++ ys) (i + 1) retries old new
+ended_after CaughtUp fresh mid_fresh t M xs ys i retries old mid new same count whole up ended =
+    let P : List (List Item) → Type 0 = λ l. batches l ≡ 0 in
+    let Q : List Moment → Type 0 = λ N. NoneFrom t (now N) in
+    let R : List Moment → Type 0 = λ N. (now N).newest < (now N).oldest in (
+      omega (arith, batches-append xs ys, count, ended.0),
+      (length xs + ended.1.0,
+      omega (arith, length-append xs ys, ended.1.1),
+      subst P (sym (drop-past xs ys ended.1.0)) ended.1.2,
+      subst Q (sym (after_answers-add (length xs) ended.1.0 M)) ended.1.3,
+      λ f none. subst R (sym (after_answers-add (length xs) ended.1.0 M))
+          (ended.1.4 (same (omega (arith, batches-append xs ys, none)) ∙ f) (omega (arith, batches-append xs ys, none)))),
+    )
+ended_after StepLimit fresh mid_fresh t M xs ys i retries old mid new same count whole up ended =
+    (omega (arith, batches-append xs ys, count, ended.0), IsWhole-append xs ys whole ended.1)
+ended_after Stopped fresh mid_fresh t M xs ys i retries old mid new same count whole up ended =
+    (omega (arith, batches-append xs ys, count, ended.0), omega (arith, batches-append xs ys, count, ended.1), IsWhole-append xs ys whole ended.2)
+ended_after (Fault Lost) fresh mid_fresh t M xs ys i retries old mid new same count whole up ended = omega arith
+ended_after (Fault (Refused refusal)) fresh mid_fresh t M xs ys i retries old mid new same count whole up ended = ended
+ended_after (Fault BadReply) fresh mid_fresh t M xs ys i retries old mid new same count whole up ended = ended
+
+-- a run that brought something, and a step after it
+join_some : (r : ℕ) (H : History) (M : List Moment) (fresh : Bool) (next i retries old mid new : ℕ) (items more : List Item) (t u : ℕ) (why : Ended)
+    (x : List Item) (xs ys : List (List Item)) →
+    Collected r H M fresh next i retries old mid items t StepLimit (x ∷ xs) →
+    Collected r H (after_answers (length (x ∷ xs)) M) false t 1 retries mid new more u why ys → old ≤ mid →
+    Collected r H M fresh next (i + 1) retries old new (items ++ more) u why ((x ∷ xs) ++ ys)
+join_some r H M fresh next i retries old mid new items more t u why x xs ys first rest up =
+    let whole : IsWhole (x ∷ xs) = first.end.1 in
+    let start : start_of fresh next M ((x ∷ xs) ++ ys) ≡ start_of fresh next M (x ∷ xs) = start_of-append fresh next M x xs ys whole in
+    let end : end_of (start_of fresh next M (x ∷ xs)) (items_of (x ∷ xs)) ≡ t =
+    ap (λ n. end_of (start_of fresh next M (x ∷ xs)) n) first.all ∙ Covers-end (start_of fresh next M (x ∷ xs)) t items first.covers in
+    let C : ℕ → Type 0 = λ n. Covers n (items ++ more) u in
+    let E : ℕ → Type 0 = λ n. AreAnswers H M n ((x ∷ xs) ++ ys) in
+    let F : ℕ → Type 0 = λ n. AreAnswers H (after_answers (length (x ∷ xs)) M) n ys in
+    let W : ℕ → Type 0 = λ n. AreWhole why r H (after_answers (length (x ∷ xs)) M) false n ys in
+    let X : ℕ → Type 0 = λ n. AreWhole why r H M false n ((x ∷ xs) ++ ys) in
+    let Y : ℕ → Type 0 = λ n. IsPaced why M n ((x ∷ xs) ++ ys) in
+    let G : ℕ → Type 0 = λ n. IsPaced why (after_answers (length (x ∷ xs)) M) n ys in
+    record {
+      covers = subst C (sym start) (Covers-append (start_of fresh next M (x ∷ xs)) t u items more first.covers rest.covers);
+      all = items_of-append (x ∷ xs) ys ∙ ap (λ n. n ++ items_of ys) first.all ∙ ap (λ n. items ++ n) rest.all;
+      each = subst E (sym start) (AreAnswers-append H M (start_of fresh next M (x ∷ xs)) (x ∷ xs) ys first.each (subst F (sym end) rest.each));
+      twice_steps = omega (arith, length-append (x ∷ xs) ys, first.twice_steps, rest.twice_steps);
+      twice_batches = omega (arith, length-append (x ∷ xs) ys, batches-append (x ∷ xs) ys, whole_twice (x ∷ xs) whole, rest.twice_batches);
+      whole = subst X (sym start) (AreWhole-append why r H M (start_of fresh next M (x ∷ xs)) (x ∷ xs) ys whole first.whole (subst W (sym end) rest.whole));
+      paced = subst Y (sym start) (IsPaced-append why M (start_of fresh next M (x ∷ xs)) (x ∷ xs) ys whole first.paced (subst G (sym end) rest.paced));
+      end = ended_after why fresh false u M (x ∷ xs) ys i retries old mid new (λ h. absurd (omega (arith, h, whole_some x xs whole))) first.end.0 whole up rest.end;
+    }
+
+-- a first step
+join_none : (r : ℕ) (H : History) (M : List Moment) (fresh : Bool) (next i retries old mid new : ℕ) (items more : List Item) (t u : ℕ) (why : Ended)
+    (ys : List (List Item)) →
+    Collected r H M fresh next i retries old mid items t StepLimit [] →
+    Collected r H M fresh t 1 retries mid new more u why ys → old ≤ mid →
+    Collected r H M fresh next (i + 1) retries old new (items ++ more) u why ys
+join_none r H M fresh next i retries old mid new [] more t u why ys first rest up =
+    let same : t ≡ next = first.covers ∙ start_of-nil fresh next M in
+    let S : ℕ → Type 0 = λ n. Collected r H M fresh n 1 retries mid new more u why ys in
+    let moved = subst S same rest in
+    record {
+      covers = moved.covers;
+      all = moved.all;
+      each = moved.each;
+      twice_steps = omega (arith, moved.twice_steps);
+      twice_batches = moved.twice_batches;
+      paced = moved.paced;
+      whole = moved.whole;
+      end = ended_after why fresh fresh u M [] ys i retries old mid new (λ h. refl) first.end.0 tt up moved.end;
+    }
+join_none r H M fresh next i retries old mid new (x ∷ items) more t u why ys first rest up = absurd (let e = first.all in cc)
+
+pub join : (r : ℕ) (H : History) (M : List Moment) (fresh mid_fresh : Bool) (next i retries old mid new : ℕ) (items more : List Item) (t u : ℕ) (why : Ended)
+    (xs ys : List (List Item)) →
+    Collected r H M fresh next i retries old mid items t StepLimit xs → IsFreshAfter fresh xs mid_fresh →
+    Collected r H (after_answers (length xs) M) mid_fresh t 1 retries mid new more u why ys → old ≤ mid →
+    Collected r H M fresh next (i + 1) retries old new (items ++ more) u why (xs ++ ys)
+join r H M fresh mid_fresh next i retries old mid new items more t u why [] ys first left rest up =
+    let P : Bool → Type 0 = λ b. Collected r H M b t 1 retries mid new more u why ys in
+    join_none r H M fresh next i retries old mid new items more t u why ys first (subst P (left.none refl) rest) up
+join r H M fresh mid_fresh next i retries old mid new items more t u why (x ∷ xs) ys first left rest up =
+    let P : Bool → Type 0 = λ b. Collected r H (after_answers (length (x ∷ xs)) M) b t 1 retries mid new more u why ys in
+    join_some r H M fresh next i retries old mid new items more t u why x xs ys first (subst P (left.some (whole_some x xs first.end.1)) rest) up
+
+pub fresh_join : (fresh mid_fresh new_fresh : Bool) (xs ys : List (List Item)) →
+    IsFreshAfter fresh xs mid_fresh → IsFreshAfter mid_fresh ys new_fresh → IsFreshAfter fresh (xs ++ ys) new_fresh
+fresh_join fresh mid_fresh new_fresh xs ys first rest = record {
+  none = λ h. rest.none (omega (arith, batches-append xs ys, h)) ∙ first.none (omega (arith, batches-append xs ys, h));
+  some = λ h. fresh_some fresh mid_fresh new_fresh xs ys first rest (batches ys) refl (omega (arith, batches-append xs ys, h));
+}
+  where
+    fresh_some : (fresh mid_fresh new_fresh : Bool) (xs ys : List (List Item)) →
+        IsFreshAfter fresh xs mid_fresh → IsFreshAfter mid_fresh ys new_fresh → (n : ℕ) → batches ys ≡ n → 0 < batches xs + n → new_fresh ≡ false
+    fresh_some fresh mid_fresh new_fresh xs ys first rest zero is h = rest.none is ∙ first.some (omega arith)
+    fresh_some fresh mid_fresh new_fresh xs ys first rest (suc n) is h = rest.some (omega arith)
+
+-- a run of no steps
+pub no_steps : (r : ℕ) (H : History) (M : List Moment) (fresh : Bool) (next retries old : ℕ) → Collected r H M fresh next 0 retries old old [] next StepLimit []
+no_steps r H M fresh next retries old = record {
+  covers = sym (start_of-nil fresh next M);
+  all = refl;
+  each = tt;
+  twice_steps = omega arith;
+  twice_batches = omega arith;
+  paced = tt;
+  whole = tt;
+  end = (refl, tt);
+}
+
+-- a run that ended before its last step
+pub ended_early : (r : ℕ) (H : History) (M : List Moment) (fresh : Bool) (next i n retries old new : ℕ) (items : List Item) (t : ℕ) (why : Ended) (xs : List (List Item)) →
+    why ≢ StepLimit → i ≤ n → Collected r H M fresh next i retries old new items t why xs → Collected r H M fresh next n retries old new items t why xs
+ended_early r H M fresh next i n retries old new items t why xs not_limit le run = record {
+  covers = run.covers;
+  all = run.all;
+  each = run.each;
+  twice_steps = omega (arith, run.twice_steps);
+  twice_batches = run.twice_batches;
+  paced = run.paced;
+  whole = run.whole;
+  end = early why fresh t M xs i n retries old new not_limit le run.end;
+}
+  where
+    early : (why : Ended) (fresh : Bool) (t : ℕ) (M : List Moment) (xs : List (List Item)) (i n retries old new : ℕ) → why ≢ StepLimit → i ≤ n →
+        IsEnded why fresh t M xs i retries old new → IsEnded why fresh t M xs n retries old new
+    early CaughtUp fresh t M xs i n retries old new not_limit le e = (omega (arith, e.0), e.1)
+    early StepLimit fresh t M xs i n retries old new not_limit le e = absurd (not_limit refl)
+    early Stopped fresh t M xs i n retries old new not_limit le e = (e.0, omega (arith, e.1), e.2)
+    early (Fault Lost) fresh t M xs i n retries old new not_limit le e = e
+    early (Fault (Refused refusal)) fresh t M xs i n retries old new not_limit le e = e
+    early (Fault BadReply) fresh t M xs i n retries old new not_limit le e = e
+
+pub step_fresh : (r : ℕ) (H : History) (M : List Moment) (before after : Bool) (t retries old new u : ℕ) (s : Result Step WalkFault) (ys : List (List Item)) →
+    Collected r H M before t 1 retries old new (step_items s) u (step_ended s) ys → after ≡ is_fresh_after before s → IsFreshAfter before ys after
+step_fresh r H M before after t retries old new u (Ok (StepOf b)) ys run is = record {
+  none = λ h. absurd (omega (arith, run.end.0));
+  some = λ h. is;
+}
+step_fresh r H M before after t retries old new u (Ok NoStep) ys run is = record {
+  none = λ h. is;
+  some = λ h. absurd (omega (arith, no_items ys run.all));
+}
+step_fresh r H M before after t retries old new u (Err e) ys run is = record {
+  none = λ h. is;
+  some = λ h. absurd (omega (arith, no_items ys run.all));
+}
+

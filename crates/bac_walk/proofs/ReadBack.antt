@@ -1,0 +1,157 @@
+-- The ACK that a log gives is read back, and its items are exactly the log's records.
+use Rattle.std.proofs.Common.{◌≡◌, ℕ, zero, suc, ◌+◌, ◌*◌, ◌^◌, ◌<◌, ◌≤◌, Bool, true, false, List, [], ◌∷◌, length, take, Option, Some, None, Ok, refl, sym, ap, subst, ◌∙◌, arith, ◌⊎◌, inl, inr}
+use Rattle.std.specs.Prelude.{All, filter, nat_le, sum_by, if◌then◌else◌}
+use Rattle.std.proofs.lemmas.Bool.{cases_Bool, leb-true, cond-true, cond-false}
+use Rattle.std.proofs.lemmas.List.{length-take-le}
+use Rattle.std.proofs.lemmas.List.Sums.{sum_by-cons}
+use Rattle.bac_wire.specs.Canon.{IsValid}
+use Rattle.bac_wire.specs.Primitive.{Id, Object}
+use Rattle.bac_apdu.specs.declared.service.extent.Extent.{Extent}
+use Rattle.bac_apdu.specs.FormReading.{form_at}
+use Rattle.bac_apdu.specs.Service.ReadRangeAck.{read_range_ack, IsFirst, IsSmall}
+use Rattle.bac_apdu.proofs.Forms.{form_again}
+use Rattle.bac_log.specs.declared.entry.Entry.{Entry}
+use Rattle.bac_log.specs.Ack.{shown_items, ack_parameters}
+use Rattle.bac_log.specs.Entry.{IsLoggable}
+use Rattle.bac_log.specs.Record.{entry_octets, entries_octets, entries_at}
+use Rattle.bac_log.specs.Select.{Logged, numbered, held, selected, packed, reply_of, reply_length, first_shown, entries_in, shows_number, is_asked, greatest}
+use Rattle.bac_log.specs.TrendLog.{Log, oldest, number}
+use Rattle.bac_log.specs.TrendLog.{newest}
+use Rattle.bac_log.proofs.Acks.{ack_reads, length-ack_length}
+use Rattle.bac_log.proofs.Records.{entries_back}
+use Rattle.bac_log.proofs.Sizes.{entry_sized}
+use Rattle.bac_log.proofs.Packs.{length-numbered}
+use Rattle.bac_link.specs.Links.{reply_parameters}
+use Rattle.bac_walk.specs.Replies.{IsShown}
+
+-- what holds of each record that a log holds
+record IsOf (last : ℕ) (r : Logged) : Type 0 where
+  pub some : 0 < r.ordinal
+  pub within : r.ordinal ≤ last
+  pub loggable : IsLoggable r.entry
+
+abbrev Each : ℕ → List Logged → Type 0
+Each last [] = Unit {0}
+Each last (r ∷ rs) = IsOf last r × Each last rs
+
+each_numbered : (last first : ℕ) (es : List Entry) → All IsLoggable es → 0 < first → first + length es ≤ last + 1 → Each last (numbered first es)
+each_numbered last first [] l some within = tt
+each_numbered last first (e ∷ es) l some within =
+    (record { some = some; within = omega arith; loggable = l 0 e (omega arith) }, each_numbered last (first + 1) es (λ k d lt. l (suc k) d (omega arith)) (omega arith) (omega arith))
+
+each_filter : (last : ℕ) (test : Logged → Bool) (rs : List Logged) → Each last rs → Each last (filter test rs)
+each_filter last test [] e = tt
+each_filter last test (r ∷ rs) e =
+    let rest : Each last (filter test rs) = each_filter last test rs e.1 in
+    elim (cases_Bool (test r)) [
+      | inl p ↦ subst (Each last) (sym (cond-true (test r) (r ∷ filter test rs) (filter test rs) p)) (e.0, rest)
+      | inr p ↦ subst (Each last) (sym (cond-false (test r) (r ∷ filter test rs) (filter test rs) p)) rest
+    ]
+
+each_take : (last n : ℕ) (rs : List Logged) → Each last rs → Each last (take n rs)
+each_take last zero rs e = tt
+each_take last (suc n) [] e = tt
+each_take last (suc n) (r ∷ rs) e = (e.0, each_take last n rs e.1)
+
+all_cons : (e : Entry) (es : List Entry) → IsLoggable e → All IsLoggable es → All IsLoggable (e ∷ es)
+all_cons e es one rest zero d lt = one
+all_cons e es one rest (suc k) d lt = rest k d (omega arith)
+
+each_loggable : (last : ℕ) (rs : List Logged) → Each last rs → All IsLoggable (entries_in rs)
+each_loggable last [] e = λ k d lt. absurd (omega arith)
+each_loggable last (r ∷ rs) e = all_cons r.entry (entries_in rs) e.0.loggable (each_loggable last rs e.1)
+
+first_valid : (last : ℕ) (extent : Extent) (rs : List Logged) → last < 2 ^ 32 → Each last rs → IsFirst (first_shown extent rs)
+first_valid last extent [] lt e = tt
+first_valid last extent (r ∷ rs) lt e = shown (shows_number extent)
+  where
+    shown : (b : Bool) → IsFirst (if b then Some (number r.ordinal) else None)
+    shown true = (e.0.some, omega (arith, e.0.within))
+    shown false = tt
+
+length-entries_in : (rs : List Logged) → length (entries_in rs) ≡ length rs
+length-entries_in [] = refl
+length-entries_in (r ∷ rs) = ap suc (length-entries_in rs)
+
+-- the greatest that passes does pass
+greatest_passes : (passes : ℕ → Bool) (most : ℕ) → (greatest passes most ≡ 0) ⊎ (passes (greatest passes most) ≡ true)
+greatest_passes passes zero = inl refl
+greatest_passes passes (suc n) = elim (cases_Bool (passes (suc n))) [
+  | inl p ↦ inr (ap passes (cond-true (passes (suc n)) (suc n) (greatest passes n) p) ∙ p)
+  | inr p ↦
+      let same = cond-false (passes (suc n)) (suc n) (greatest passes n) p in
+      elim (greatest_passes passes n) [ inl z ↦ inl (same ∙ z) | inr q ↦ inr (ap passes same ∙ q) ]
+]
+
+pub greatest_within : (passes : ℕ → Bool) (most : ℕ) → greatest passes most ≤ most
+greatest_within passes zero = omega arith
+greatest_within passes (suc n) = elim (cases_Bool (passes (suc n))) [
+  | inl p ↦ let same = cond-true (passes (suc n)) (suc n) (greatest passes n) p in omega (arith, same)
+  | inr p ↦ let same = cond-false (passes (suc n)) (suc n) (greatest passes n) p in omega (arith, same, greatest_within passes n)
+]
+
+sum_large : (es : List Entry) → All IsLoggable es → 17 * length es ≤ sum_by (λ e. length (entry_octets e)) es
+sum_large [] l = omega arith
+sum_large (e ∷ es) l = omega (arith, sum_by-cons (λ (x : Entry). length (entry_octets x)) e es, (entry_sized e (l 0 e (omega arith))).least_of, sum_large es (λ k d lt. l (suc k) d (omega arith)))
+
+first_small : (first : Option ℕ) → IsFirst first → IsSmall first
+first_small None f = tt
+first_small (Some n) f = f.1
+
+length_filter : (test : Logged → Bool) (rs : List Logged) → length (filter test rs) ≤ length rs
+length_filter test [] = omega arith
+length_filter test (r ∷ rs) =
+    let rest = length_filter test rs in
+    elim (cases_Bool (test r)) [
+      | inl p ↦ omega (arith, rest, ap (λ (l : List Logged). length l) (cond-true (test r) (r ∷ filter test rs) (filter test rs) p))
+      | inr p ↦ omega (arith, rest, ap (λ (l : List Logged). length l) (cond-false (test r) (r ∷ filter test rs) (filter test rs) p))
+    ]
+
+module _ (log : Log) (extent : Extent) (limit : ℕ) (is : IsShown log) (most : limit ≤ 1476) where
+  abbrev records : List Logged
+  records = packed extent limit (selected log extent)
+
+  each_packed : Each (newest log) records
+  each_packed = each_take (newest log) _ (selected log extent) (each_filter (newest log) (λ r. is_asked log extent r.ordinal) (held log) (each_numbered (newest log) (oldest log) log.entries is.loggable (omega arith) (omega arith)))
+
+  low : newest log < 2 ^ 32
+  low = omega (arith, is.numbered)
+
+  pub packed_loggable : All IsLoggable (entries_in records)
+  packed_loggable = each_loggable (newest log) records each_packed
+
+  pub packed_first : IsFirst (first_shown extent records)
+  packed_first = first_valid (newest log) extent records low each_packed
+
+  -- at most 85 fit into 1476 octets
+  pub packed_few : length (entries_in records) ≤ 85
+  packed_few =
+      let passes : ℕ → Bool = λ n. nat_le (reply_length extent (take n (selected log extent))) limit in
+      let n : ℕ = greatest passes (length (selected log extent)) in
+      let part : length records ≡ n = length-take-le n (selected log extent) (greatest_within passes (length (selected log extent))) in
+      elim (greatest_passes passes (length (selected log extent))) [
+        | inl none ↦ omega (arith, length-entries_in records, part, none)
+        | inr fits ↦
+            let size = length-ack_length (first_shown extent records) (entries_in records) (first_small (first_shown extent records) packed_first) few in
+            omega (arith, leb-true _ _ fits, size, sum_large (entries_in records) packed_loggable)
+      ]
+    where
+      few : length (entries_in records) < 2 ^ 32
+      few =
+          let passes : ℕ → Bool = λ n. nat_le (reply_length extent (take n (selected log extent))) limit in
+          let n : ℕ = greatest passes (length (selected log extent)) in
+          let part : length records ≡ n = length-take-le n (selected log extent) (greatest_within passes (length (selected log extent))) in
+          let whole : length (selected log extent) ≤ length (held log) = length_filter (λ r. is_asked log extent r.ordinal) (held log) in
+          omega (arith, length-entries_in records, part, greatest_within passes (length (selected log extent)), whole, length-numbered (oldest log) log.entries, is.numbered)
+
+  -- the ACK's parameters are read back
+  pub reply_reads : (id : Id) → IsValid (Object id) → form_at read_range_ack (reply_parameters id log extent limit) ≡ Ok (shown_items id (reply_of log extent (selected log extent) records).flags (first_shown extent records) (entries_in records))
+  unfolding reply_parameters
+  reply_reads id valid =
+      let flags : ℕ = (reply_of log extent (selected log extent) records).flags in
+      form_again read_range_ack (ack_parameters id flags (first_shown extent records) (entries_in records)) (shown_items id flags (first_shown extent records) (entries_in records))
+      (ack_reads id flags (first_shown extent records) (entries_in records) valid packed_first (omega (arith, packed_few)) packed_loggable)
+
+  -- and its items are exactly the log's records
+  pub items_read : entries_at 100 (entries_octets (entries_in records)) ≡ Ok (entries_in records)
+  items_read = entries_back (entries_in records) 100 packed_loggable (omega (arith, packed_few))

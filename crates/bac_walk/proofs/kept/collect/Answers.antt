@@ -1,0 +1,169 @@
+use Rattle.std.proofs.Common.{◌≡◌, ◌+◌, ◌++◌, ℕ, List, [], ◌∷◌, length, vec_capacity, inr, refl, sym, ap, subst, ◌∙◌, arith}
+use Rattle.bac_wire.specs.Primitive.{Id}
+use Rattle.bac_link.specs.declared.item.Item.{Item}
+use Rattle.bac_walk.specs.declared.kept.Kept.{Kept}
+use Rattle.bac_walk.specs.declared.outcome.Ended.{Ended}
+use Rattle.bac_walk.specs.declared.outcome.Ended.TheVariants.{StepLimit}
+use Rattle.bac_walk.specs.declared.outcome.Why.TheVariants.{StepLimit as WasLimit}
+use Rattle.bac_link.specs.Delivery.{History, Moment}
+use Rattle.bac_link.specs.Laws.{after_answers}
+use Rattle.bac_walk.specs.Sinks.{put_items, is_stopped, IsRun}
+use Rattle.bac_walk.specs.Outcomes.{IsRunOf}
+use Rattle.bac_walk.specs.Rests.{rest, Rests}
+use Rattle.bac_walk.specs.Collects.{MissingEnd}
+use Rattle.bac_walk.proofs.Runs.{headline_of, join_run, run_early, ends_run, not_limit, not_stopped, goes_on}
+use Rattle.bac_walk.proofs.Keeps.{kept_all}
+use Rattle.bac_walk.proofs.Rests.{rested}
+use Rattle.bac_walk.proofs.kept.collect.Goals as goal
+
+abbrev room : Kept → ℕ
+room k = vec_capacity k.items
+
+abbrev items_in_sink : Kept → List Item
+items_in_sink k = k.items.items
+
+pub returns-then-not-make_room-clause-delivers : goal.returns-then-not-make_room-clause-delivers
+returns-then-not-make_room-clause-delivers g c =
+    let P : List Item → Type 0 = λ l. IsRun (λ r M H. g.L.LogLink.is_honest c.args.link.now c.args.walk.now.log r M H)
+    (λ r M H. g.L.LogLink.is_honest c.loop-done.link c.args.walk.now.log r M H) c.args.transactions.now.retries
+    (g.L.LogLink.failures c.args.link.now) (g.L.LogLink.failures c.loop-done.link) c.args.walk.now c.loop-done.walk c.loop-done.done StepLimit l in
+    (c.loop-done.done, StepLimit, (omega arith, refl), subst P (sym c.make_room.ensures.items) c.loop-done.invariant.run)
+
+pub returns-in-Some-clause-delivers : goal.returns-in-Some-clause-delivers
+returns-in-Some-clause-delivers g c =
+    let was : ℕ → List Moment → History → Type 0 = λ r M H. g.L.LogLink.is_honest c.args.link.now c.args.walk.now.log r M H in
+    let mid : ℕ → List Moment → History → Type 0 = λ r M H. g.L.LogLink.is_honest c.loop-done.link c.args.walk.now.log r M H in
+    let is : ℕ → List Moment → History → Type 0 = λ r M H. g.L.LogLink.is_honest c.deliver-ended.new.link c.args.walk.now.log r M H in
+    let put = c.deliver-ended.ensures.delivers in
+    let all = kept_all room items_in_sink c.make_room.new.kept put.0 (is_stopped c.deliver-ended.result) c.deliver-ended.new.sink put.1
+    (omega (arith, put.2, put.3, c.make_room.ensures.room (cc))) in
+    let P : Id → Type 0 = λ n. IsRun (λ r M H. g.L.LogLink.is_honest c.loop-done.link n r M H) (λ r M H. g.L.LogLink.is_honest c.deliver-ended.new.link n r M H)
+    c.loop-done.transactions.retries (g.L.LogLink.failures c.loop-done.link) (g.L.LogLink.failures c.deliver-ended.new.link)
+    c.loop-done.walk c.deliver-ended.new.walk 1 c.deliver-ended.result (put_items put.0) in
+    let Q : ℕ → Type 0 = λ n. IsRun mid is n (g.L.LogLink.failures c.loop-done.link) (g.L.LogLink.failures c.deliver-ended.new.link)
+    c.loop-done.walk c.deliver-ended.new.walk 1 c.deliver-ended.result (put_items put.0) in
+    let step = subst Q c.loop-done.invariant.retries (subst P c.loop-done.invariant.log put.4) in
+    let joined = join_run was mid is c.args.transactions.now.retries (g.L.LogLink.failures c.args.link.now) (g.L.LogLink.failures c.loop-done.link)
+    (g.L.LogLink.failures c.deliver-ended.new.link) c.args.walk.now c.loop-done.walk c.deliver-ended.new.walk c.loop-done.done c.deliver-ended.result
+    c.loop-done.kept.items.items (put_items put.0) c.loop-done.invariant.run step c.loop-done.invariant.never_falls in
+    let same : c.loop-done.kept.items.items ++ put_items put.0 ≡ c.deliver-ended.new.sink.items.items =
+    ap (λ l. l ++ put_items put.0) (sym c.make_room.ensures.items) ∙ sym all.1 in
+    let R : List Item → Type 0 = λ l. IsRun was is c.args.transactions.now.retries (g.L.LogLink.failures c.args.link.now) (g.L.LogLink.failures c.deliver-ended.new.link)
+    c.args.walk.now c.deliver-ended.new.walk (c.loop-done.done + 1) c.deliver-ended.result l in
+    let run = subst R same joined in
+    let some = sym c.why_of.ensures ∙ c.in-Some.is in
+    (c.args.steps, c.deliver-ended.result, ends_run c.deliver-ended.result c.in-Some.why c.args.steps all.0 some,
+    run_early was is c.args.transactions.now.retries (g.L.LogLink.failures c.args.link.now) (g.L.LogLink.failures c.deliver-ended.new.link)
+    c.args.walk.now c.deliver-ended.new.walk (c.loop-done.done + 1) c.args.steps c.deliver-ended.result c.deliver-ended.new.sink.items.items
+    (not_limit c.deliver-ended.result c.in-Some.why some) (omega arith) run)
+
+pub returns-in-Some-clause-resting : goal.returns-in-Some-clause-resting
+returns-in-Some-clause-resting g c r m H s sure honest next =
+    let was : ℕ → List Moment → History → Type 0 = λ r M H. g.L.LogLink.is_honest c.args.link.now c.args.walk.now.log r M H in
+    let mid : ℕ → List Moment → History → Type 0 = λ r M H. g.L.LogLink.is_honest c.loop-done.link c.args.walk.now.log r M H in
+    let is : ℕ → List Moment → History → Type 0 = λ r M H. g.L.LogLink.is_honest c.deliver-ended.new.link c.args.walk.now.log r M H in
+    let put = c.deliver-ended.ensures.delivers in
+    let all = kept_all room items_in_sink c.make_room.new.kept put.0 (is_stopped c.deliver-ended.result) c.deliver-ended.new.sink put.1
+    (omega (arith, put.2, put.3, c.make_room.ensures.room (cc))) in
+    let P : Id → Type 0 = λ n. IsRun (λ r M H. g.L.LogLink.is_honest c.loop-done.link n r M H) (λ r M H. g.L.LogLink.is_honest c.deliver-ended.new.link n r M H)
+    c.loop-done.transactions.retries (g.L.LogLink.failures c.loop-done.link) (g.L.LogLink.failures c.deliver-ended.new.link)
+    c.loop-done.walk c.deliver-ended.new.walk 1 c.deliver-ended.result (put_items put.0) in
+    let Q : ℕ → Type 0 = λ n. IsRun mid is n (g.L.LogLink.failures c.loop-done.link) (g.L.LogLink.failures c.deliver-ended.new.link)
+    c.loop-done.walk c.deliver-ended.new.walk 1 c.deliver-ended.result (put_items put.0) in
+    let step = subst Q c.loop-done.invariant.retries (subst P c.loop-done.invariant.log put.4) in
+    let joined = join_run was mid is c.args.transactions.now.retries (g.L.LogLink.failures c.args.link.now) (g.L.LogLink.failures c.loop-done.link)
+    (g.L.LogLink.failures c.deliver-ended.new.link) c.args.walk.now c.loop-done.walk c.deliver-ended.new.walk c.loop-done.done c.deliver-ended.result
+    c.loop-done.kept.items.items (put_items put.0) c.loop-done.invariant.run step c.loop-done.invariant.never_falls in
+    let same : c.loop-done.kept.items.items ++ put_items put.0 ≡ c.deliver-ended.new.sink.items.items =
+    ap (λ l. l ++ put_items put.0) (sym c.make_room.ensures.items) ∙ sym all.1 in
+    let R : List Item → Type 0 = λ l. IsRun was is c.args.transactions.now.retries (g.L.LogLink.failures c.args.link.now) (g.L.LogLink.failures c.deliver-ended.new.link)
+    c.args.walk.now c.deliver-ended.new.walk (c.loop-done.done + 1) c.deliver-ended.result l in
+    let run = subst R same joined in
+    let some = sym c.why_of.ensures ∙ c.in-Some.is in
+    let early = run_early was is c.args.transactions.now.retries (g.L.LogLink.failures c.args.link.now) (g.L.LogLink.failures c.deliver-ended.new.link)
+    c.args.walk.now c.deliver-ended.new.walk (c.loop-done.done + 1) c.args.steps c.deliver-ended.result c.deliver-ended.new.sink.items.items
+    (not_limit c.deliver-ended.result c.in-Some.why some) (omega arith) run in
+    let half = c.loop-done.invariant.run.1 r (m ∷ []) H s honest next in
+    let N : Id → Type 0 = λ n. g.L.LogLink.is_honest c.loop-done.link n r (after_answers (length half.0) (m ∷ [])) H in
+    let found = c.deliver-ended.ensures.answered r (after_answers (length half.0) (m ∷ [])) H half.1 (c.loop-done.invariant.sure sure)
+    (subst N (sym c.loop-done.invariant.log) half.4) half.2 in
+    let whole = early.1 r (m ∷ []) H s honest next in
+    let rests = rested r H m c.args.walk.now.fresh s c.args.steps c.args.transactions.now.retries (g.L.LogLink.failures c.args.link.now)
+    (g.L.LogLink.failures c.deliver-ended.new.link) c.deliver-ended.new.sink.items.items whole.1 c.deliver-ended.new.walk.next c.deliver-ended.result whole.0
+    found (not_stopped c.deliver-ended.result all.0) whole.3 whole.2 in
+    let E : Ended → Type 0 = λ e. IsRunOf c.in-Some.why c.args.steps c.args.steps e in
+    inr (rests.0, c.next_number-in-Some.ensures.next ∙ rests.1, subst E rests.2 (ends_run c.deliver-ended.result c.in-Some.why c.args.steps all.0 some))
+
+pub loop-done-preserved : goal.loop-done-preserved
+loop-done-preserved g c =
+    let was : ℕ → List Moment → History → Type 0 = λ r M H. g.L.LogLink.is_honest c.args.link.now c.args.walk.now.log r M H in
+    let mid : ℕ → List Moment → History → Type 0 = λ r M H. g.L.LogLink.is_honest c.loop-done.link c.args.walk.now.log r M H in
+    let is : ℕ → List Moment → History → Type 0 = λ r M H. g.L.LogLink.is_honest c.deliver-ended.new.link c.args.walk.now.log r M H in
+    let put = c.deliver-ended.ensures.delivers in
+    let all = kept_all room items_in_sink c.make_room.new.kept put.0 (is_stopped c.deliver-ended.result) c.deliver-ended.new.sink put.1
+    (omega (arith, put.2, put.3, c.make_room.ensures.room (cc))) in
+    let P : Id → Type 0 = λ n. IsRun (λ r M H. g.L.LogLink.is_honest c.loop-done.link n r M H) (λ r M H. g.L.LogLink.is_honest c.deliver-ended.new.link n r M H)
+    c.loop-done.transactions.retries (g.L.LogLink.failures c.loop-done.link) (g.L.LogLink.failures c.deliver-ended.new.link)
+    c.loop-done.walk c.deliver-ended.new.walk 1 c.deliver-ended.result (put_items put.0) in
+    let Q : ℕ → Type 0 = λ n. IsRun mid is n (g.L.LogLink.failures c.loop-done.link) (g.L.LogLink.failures c.deliver-ended.new.link)
+    c.loop-done.walk c.deliver-ended.new.walk 1 c.deliver-ended.result (put_items put.0) in
+    let step = subst Q c.loop-done.invariant.retries (subst P c.loop-done.invariant.log put.4) in
+    let joined = join_run was mid is c.args.transactions.now.retries (g.L.LogLink.failures c.args.link.now) (g.L.LogLink.failures c.loop-done.link)
+    (g.L.LogLink.failures c.deliver-ended.new.link) c.args.walk.now c.loop-done.walk c.deliver-ended.new.walk c.loop-done.done c.deliver-ended.result
+    c.loop-done.kept.items.items (put_items put.0) c.loop-done.invariant.run step c.loop-done.invariant.never_falls in
+    let same : c.loop-done.kept.items.items ++ put_items put.0 ≡ c.deliver-ended.new.sink.items.items =
+    ap (λ l. l ++ put_items put.0) (sym c.make_room.ensures.items) ∙ sym all.1 in
+    let R : List Item → Type 0 = λ l. IsRun was is c.args.transactions.now.retries (g.L.LogLink.failures c.args.link.now) (g.L.LogLink.failures c.deliver-ended.new.link)
+    c.args.walk.now c.deliver-ended.new.walk (c.loop-done.done + 1) c.deliver-ended.result l in
+    let run = subst R same joined in
+    let limit = goes_on c.deliver-ended.result (sym c.why_of.ensures ∙ c.in_default.is) in
+    let S : Ended → Type 0 = λ e. IsRun was is c.args.transactions.now.retries (g.L.LogLink.failures c.args.link.now) (g.L.LogLink.failures c.deliver-ended.new.link)
+    c.args.walk.now c.deliver-ended.new.walk (c.loop-done.done + 1) e c.deliver-ended.new.sink.items.items in
+    let K : Id → Type 0 = λ n. g.L.LogLink.lacks c.loop-done.link n in
+    let E : Ended → Type 0 = λ e. MissingEnd 1 e in
+    record {
+      log = c.deliver-ended.ensures.log ∙ c.loop-done.invariant.log;
+      retries = c.deliver-ended.ensures.retries ∙ c.loop-done.invariant.retries;
+      begun = omega (arith, c.loop-done.invariant.begun, c.deliver-ended.ensures.begun);
+      never_falls = omega (arith, c.loop-done.invariant.never_falls, c.deliver-ended.ensures.never_falls);
+      sure = λ h. c.deliver-ended.ensures.sure (c.loop-done.invariant.sure h);
+      missing = λ lacks.
+          let gone = c.deliver-ended.ensures.lacking (subst K (sym c.loop-done.invariant.log) (c.loop-done.invariant.missing lacks).0) in
+          absurd (omega (arith, subst E limit gone.0));
+      none = λ h. absurd (omega (arith, h));
+      run = subst S limit run;
+    }
+
+pub returns-clause-delivers : goal.returns-clause-delivers
+returns-clause-delivers g c =
+    let all : c.loop-done.done ≡ c.args.steps = omega arith in
+    (c.loop-done.done, StepLimit, (all, refl), c.loop-done.invariant.run)
+
+pub returns-clause-resting : goal.returns-clause-resting
+returns-clause-resting g c r m H s sure honest next =
+    let all : c.loop-done.done ≡ c.args.steps = omega arith in
+    let whole = c.loop-done.invariant.run.1 r (m ∷ []) H s honest next in
+    let rests = rested r H m c.args.walk.now.fresh s c.loop-done.done c.args.transactions.now.retries (g.L.LogLink.failures c.args.link.now)
+    (g.L.LogLink.failures c.loop-done.link) c.loop-done.kept.items.items whole.1 c.loop-done.walk.next StepLimit whole.0
+    tt (λ e. cc) whole.3 whole.2 in
+    let E : Ended → Type 0 = λ e. IsRunOf WasLimit c.args.steps c.args.steps e in
+    let R : ℕ → Type 0 = λ n. Rests (rest r H m c.args.walk.now.fresh s n) c.args.steps c.loop-done.kept.items.items c.next_number-2.result WasLimit in
+    subst R all (inr (rests.0, c.next_number-2.ensures.next ∙ rests.1, subst E rests.2 (refl, refl)))
+
+pub returns-then-not-make_room-clause-headline : goal.returns-then-not-make_room-clause-headline
+returns-then-not-make_room-clause-headline g c r M H s honest next =
+    let d = returns-then-not-make_room-clause-delivers g c in
+    headline_of (λ r M H. g.L.LogLink.is_honest c.args.link.now c.args.walk.now.log r M H) (λ r M H. g.L.LogLink.is_honest c.loop-done.link c.args.walk.now.log r M H)
+    c.args.transactions.now.retries (g.L.LogLink.failures c.args.link.now) (g.L.LogLink.failures c.loop-done.link) c.args.walk.now c.loop-done.walk d.0 d.1 c.make_room.new.kept.items.items d.3 r M H s honest next
+
+pub returns-in-Some-clause-headline : goal.returns-in-Some-clause-headline
+returns-in-Some-clause-headline g c r M H s honest next =
+    let d = returns-in-Some-clause-delivers g c in
+    headline_of (λ r M H. g.L.LogLink.is_honest c.args.link.now c.args.walk.now.log r M H) (λ r M H. g.L.LogLink.is_honest c.deliver-ended.new.link c.args.walk.now.log r M H)
+    c.args.transactions.now.retries (g.L.LogLink.failures c.args.link.now) (g.L.LogLink.failures c.deliver-ended.new.link) c.args.walk.now c.deliver-ended.new.walk d.0 d.1 c.deliver-ended.new.sink.items.items d.3 r M H s honest next
+
+pub returns-clause-headline : goal.returns-clause-headline
+returns-clause-headline g c r M H s honest next =
+    let d = returns-clause-delivers g c in
+    headline_of (λ r M H. g.L.LogLink.is_honest c.args.link.now c.args.walk.now.log r M H) (λ r M H. g.L.LogLink.is_honest c.loop-done.link c.args.walk.now.log r M H)
+    c.args.transactions.now.retries (g.L.LogLink.failures c.args.link.now) (g.L.LogLink.failures c.loop-done.link) c.args.walk.now c.loop-done.walk d.0 d.1 c.loop-done.kept.items.items d.3 r M H s honest next

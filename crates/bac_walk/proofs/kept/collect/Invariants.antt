@@ -1,0 +1,18 @@
+use Rattle.std.proofs.Common.{[], ◌≡◌, ◌+◌, ◌*◌, ◌≤◌}
+use Rattle.bac_walk.specs.declared.outcome.Ended.TheVariants.{StepLimit}
+use Rattle.bac_walk.specs.Sinks.{IsRun}
+use Rattle.bac_walk.proofs.kept.collect.Given as goal
+
+-- so far it was a run of so many steps
+abbrev pub invariant-loop-done : goal.invariant-loop-done
+invariant-loop-done g l = record {
+  log : l.walk.log ≡ l.fn.walk.log;
+  retries : l.transactions.retries ≡ l.fn.transactions.retries;
+  begun : l.transactions.begun ≤ l.fn.transactions.begun + 2 * l.done;
+  never_falls : g.L.LogLink.failures l.fn.link ≤ g.L.LogLink.failures l.link;
+  sure : g.L.LogLink.is_sure l.fn.link → g.L.LogLink.is_sure l.link;
+  missing : g.L.LogLink.lacks l.fn.link l.fn.walk.log → g.L.LogLink.lacks l.link l.fn.walk.log × (l.done ≡ 0);
+  none : l.done ≡ 0 → (l.kept.items.items ≡ []) × (l.walk.next ≡ l.fn.walk.next);
+  run : IsRun (λ r M H. g.L.LogLink.is_honest l.fn.link l.fn.walk.log r M H) (λ r M H. g.L.LogLink.is_honest l.link l.fn.walk.log r M H)
+      l.fn.transactions.retries (g.L.LogLink.failures l.fn.link) (g.L.LogLink.failures l.link) l.fn.walk l.walk l.done StepLimit l.kept.items.items;
+}

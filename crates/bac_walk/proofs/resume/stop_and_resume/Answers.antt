@@ -1,0 +1,36 @@
+use Rattle.std.proofs.Common.{◌+◌, ℕ, sym, ap, ◌∙◌, subst}
+use Rattle.bac_wire.specs.Primitive.{Id}
+use Rattle.bac_walk.specs.Place.{Place}
+use Rattle.bac_link.specs.Laws.{after_answers}
+use Rattle.bac_link.specs.Delivery.{DeliversTo}
+use Rattle.bac_walk.specs.Sinks.{put_items}
+use Rattle.bac_link.proofs.Delivers.{joined}
+use Rattle.bac_walk.proofs.Runs.{headline_of}
+use Rattle.bac_walk.proofs.Numbers.{started_is}
+use Rattle.bac_walk.proofs.resume.stop_and_resume.Goals as goal
+
+pub returns : goal.returns
+returns g c = record {
+  resumed = λ r M H s old honest next.
+      let walk : Place = c.in-Some.resumed in
+      let is = started_is c.log.result c.next_number.result walk (c.in-Some.ensures {u = tt}) in
+      let log = ap (λ (w : Place). w.log) is ∙ c.log.ensures.log in
+      let here = ap (λ (w : Place). w.next) is ∙ c.next_number.ensures.next in
+      let x = c.deliver-first.ensures.delivers in
+      let y = c.deliver-second.ensures.delivers in
+      let a = headline_of (λ r M H. g.L.LogLink.is_honest c.args.link.now c.args.walk.now.log r M H)
+      (λ r M H. g.L.LogLink.is_honest c.deliver-first.new.link c.args.walk.now.log r M H) c.args.transactions.now.retries
+      (g.L.LogLink.failures c.args.link.now) (g.L.LogLink.failures c.deliver-first.new.link) c.args.walk.now c.deliver-first.new.walk
+      c.args.steps c.deliver-first.result (put_items x.0) x.4 r M H s honest next in
+      let K : Id → Type 0 = λ n. g.L.LogLink.is_honest c.deliver-first.new.link n r (after_answers a.1 M) H in
+      let b = headline_of (λ r M H. g.L.LogLink.is_honest c.deliver-first.new.link walk.log r M H)
+      (λ r M H. g.L.LogLink.is_honest c.deliver-second.new.link walk.log r M H) c.deliver-first.new.transactions.retries
+      (g.L.LogLink.failures c.deliver-first.new.link) (g.L.LogLink.failures c.deliver-second.new.link) walk c.deliver-second.new.walk
+      c.args.more c.deliver-second.result (put_items y.0) y.4 r (after_answers a.1 M) H a.2
+      (subst K (sym (log ∙ c.deliver-first.ensures.log)) a.6) (here ∙ a.4) in
+      let P : ℕ → Type 0 = λ n. DeliversTo H n (put_items x.0) a.2 M a.1 in
+      let Q : ℕ → Type 0 = λ n. DeliversTo H n (put_items y.0) b.2 (after_answers a.1 M) b.1 in
+      (x.0, y.0, a.1 + b.1, b.2, b.4, x.1, y.1,
+      joined H s a.2 b.2 a.1 b.1 M (put_items x.0) (put_items y.0) (subst P (a.3 old) a.5)
+      (subst Q (b.3 (ap (λ (w : Place). w.fresh) is)) b.5));
+}

@@ -1,0 +1,115 @@
+use Rattle.std.proofs.Common.{◌≡◌, ◌≢◌, ◌+◌, ◌<◌, ℕ, List, length, refl, sym, subst, ◌∙◌, arith}
+use Rattle.bac_wire.specs.Primitive.{Id}
+use Rattle.bac_walk.specs.declared.outcome.Ended.{Ended}
+use Rattle.bac_walk.specs.declared.outcome.Ended.TheVariants.{CaughtUp, StepLimit, Stopped, Fault}
+use Rattle.bac_link.specs.Delivery.{History, Moment}
+use Rattle.bac_link.specs.Laws.{after_answers}
+use Rattle.bac_walk.specs.Sinks.{Delivery}
+use Rattle.bac_walk.specs.Collects.{MissingEnd}
+use Rattle.bac_walk.proofs.Runs.{no_delivery, join_delivers, delivers_early}
+use Rattle.bac_walk.proofs.sink.deliver.Goals as goal
+
+missing_more : (n : ℕ) (ended : Ended) → ended ≢ StepLimit → 0 < n → MissingEnd 1 ended → MissingEnd n ended
+missing_more n CaughtUp not_limit some h = absurd h
+missing_more n StepLimit not_limit some h = absurd (not_limit refl)
+missing_more n Stopped not_limit some h = absurd h
+missing_more n (Fault e) not_limit some h = (some, h.1)
+
+pub loop-done-init : goal.loop-done-init
+loop-done-init g c = record {
+  log = refl;
+  retries = refl;
+  begun = omega arith;
+  never_falls = omega arith;
+  sure = λ h. h;
+  missing = λ h. (h, refl);
+  none = λ h. (refl, refl);
+  delivers = no_delivery g.S.Sink.puts c.args.sink.now (λ r M H. g.L.LogLink.is_honest c.args.link.now c.args.walk.now.log r M H)
+      c.args.transactions.now.retries (g.L.LogLink.failures c.args.link.now) c.args.walk.now;
+}
+
+pub returns-in_default : goal.returns-in_default
+returns-in_default g c =
+    let was : ℕ → List Moment → History → Type 0 = λ r M H. g.L.LogLink.is_honest c.args.link.now c.args.walk.now.log r M H in
+    let mid : ℕ → List Moment → History → Type 0 = λ r M H. g.L.LogLink.is_honest c.loop-done.link c.args.walk.now.log r M H in
+    let is : ℕ → List Moment → History → Type 0 = λ r M H. g.L.LogLink.is_honest c.deliver_step.new.link c.args.walk.now.log r M H in
+    let P : Id → Type 0 = λ n. Delivery g.S.Sink.puts c.loop-done.sink c.deliver_step.new.sink
+    (λ r M H. g.L.LogLink.is_honest c.loop-done.link n r M H) (λ r M H. g.L.LogLink.is_honest c.deliver_step.new.link n r M H)
+    c.loop-done.transactions.retries (g.L.LogLink.failures c.loop-done.link) (g.L.LogLink.failures c.deliver_step.new.link)
+    c.loop-done.walk c.deliver_step.new.walk 1 c.deliver_step.result in
+    let Q : ℕ → Type 0 = λ n. Delivery g.S.Sink.puts c.loop-done.sink c.deliver_step.new.sink mid is
+    n (g.L.LogLink.failures c.loop-done.link) (g.L.LogLink.failures c.deliver_step.new.link)
+    c.loop-done.walk c.deliver_step.new.walk 1 c.deliver_step.result in
+    let step = subst Q c.loop-done.invariant.retries (subst P c.loop-done.invariant.log c.deliver_step.ensures.delivers) in
+    let not_limit : c.deliver_step.result ≢ StepLimit = c.in_default.not-StepLimit in
+    let K : Id → Type 0 = λ n. g.L.LogLink.lacks c.loop-done.link n in
+    let L : Id → Type 0 = λ n. g.L.LogLink.lacks c.deliver_step.new.link n in
+    record {
+      never_falls = omega (arith, c.loop-done.invariant.never_falls, c.deliver_step.ensures.never_falls);
+      retries = c.deliver_step.ensures.retries ∙ c.loop-done.invariant.retries;
+      begun = omega (arith, c.loop-done.invariant.begun, c.deliver_step.ensures.begun);
+      log = c.deliver_step.ensures.log ∙ c.loop-done.invariant.log;
+      delivers = delivers_early g.S.Sink.puts c.args.sink.now c.deliver_step.new.sink was is c.args.transactions.now.retries
+          (g.L.LogLink.failures c.args.link.now) (g.L.LogLink.failures c.deliver_step.new.link) c.args.walk.now c.deliver_step.new.walk
+          (c.loop-done.done + 1) c.args.steps c.deliver_step.result not_limit (omega arith)
+          (join_delivers g.S.Sink.puts c.args.sink.now c.loop-done.sink c.deliver_step.new.sink was mid is c.args.transactions.now.retries
+          (g.L.LogLink.failures c.args.link.now) (g.L.LogLink.failures c.loop-done.link) (g.L.LogLink.failures c.deliver_step.new.link)
+          c.args.walk.now c.loop-done.walk c.deliver_step.new.walk c.loop-done.done c.deliver_step.result
+          c.loop-done.invariant.delivers step c.loop-done.invariant.never_falls);
+      sure = λ h. c.deliver_step.ensures.sure (c.loop-done.invariant.sure h);
+      answered = λ r M H s sure honest next.
+          let run = c.loop-done.invariant.delivers.4.1 r M H s honest next in
+          let N : Id → Type 0 = λ n. g.L.LogLink.is_honest c.loop-done.link n r (after_answers (length run.0) M) H in
+          c.deliver_step.ensures.answered r (after_answers (length run.0) M) H run.1 (c.loop-done.invariant.sure sure)
+          (subst N (sym c.loop-done.invariant.log) run.4) run.2;
+      lacking = λ lacks.
+          let here = c.loop-done.invariant.missing lacks in
+          let gone = c.deliver_step.ensures.lacking (subst K (sym c.loop-done.invariant.log) here.0) in
+          let same = c.loop-done.invariant.none here.1 in
+          (missing_more c.args.steps c.deliver_step.result not_limit (omega arith) gone.0, gone.1 ∙ same.0, gone.2 ∙ same.1, subst L c.loop-done.invariant.log gone.3);
+      refused = λ lacks sure.
+          c.deliver_step.ensures.refused (subst K (sym c.loop-done.invariant.log) (c.loop-done.invariant.missing lacks).0) (c.loop-done.invariant.sure sure);
+    }
+
+pub loop-done-preserved : goal.loop-done-preserved
+loop-done-preserved g c =
+    let was : ℕ → List Moment → History → Type 0 = λ r M H. g.L.LogLink.is_honest c.args.link.now c.args.walk.now.log r M H in
+    let mid : ℕ → List Moment → History → Type 0 = λ r M H. g.L.LogLink.is_honest c.loop-done.link c.args.walk.now.log r M H in
+    let is : ℕ → List Moment → History → Type 0 = λ r M H. g.L.LogLink.is_honest c.deliver_step.new.link c.args.walk.now.log r M H in
+    let P : Id → Type 0 = λ n. Delivery g.S.Sink.puts c.loop-done.sink c.deliver_step.new.sink
+    (λ r M H. g.L.LogLink.is_honest c.loop-done.link n r M H) (λ r M H. g.L.LogLink.is_honest c.deliver_step.new.link n r M H)
+    c.loop-done.transactions.retries (g.L.LogLink.failures c.loop-done.link) (g.L.LogLink.failures c.deliver_step.new.link)
+    c.loop-done.walk c.deliver_step.new.walk 1 c.deliver_step.result in
+    let Q : ℕ → Type 0 = λ n. Delivery g.S.Sink.puts c.loop-done.sink c.deliver_step.new.sink mid is
+    n (g.L.LogLink.failures c.loop-done.link) (g.L.LogLink.failures c.deliver_step.new.link)
+    c.loop-done.walk c.deliver_step.new.walk 1 c.deliver_step.result in
+    let R : Ended → Type 0 = λ e. Delivery g.S.Sink.puts c.loop-done.sink c.deliver_step.new.sink mid is
+    c.args.transactions.now.retries (g.L.LogLink.failures c.loop-done.link) (g.L.LogLink.failures c.deliver_step.new.link)
+    c.loop-done.walk c.deliver_step.new.walk 1 e in
+    let step = subst R c.in-StepLimit.is (subst Q c.loop-done.invariant.retries (subst P c.loop-done.invariant.log c.deliver_step.ensures.delivers)) in
+    let K : Id → Type 0 = λ n. g.L.LogLink.lacks c.loop-done.link n in
+    let E : Ended → Type 0 = λ e. MissingEnd 1 e in
+    record {
+      log = c.deliver_step.ensures.log ∙ c.loop-done.invariant.log;
+      retries = c.deliver_step.ensures.retries ∙ c.loop-done.invariant.retries;
+      begun = omega (arith, c.loop-done.invariant.begun, c.deliver_step.ensures.begun);
+      never_falls = omega (arith, c.loop-done.invariant.never_falls, c.deliver_step.ensures.never_falls);
+      sure = λ h. c.deliver_step.ensures.sure (c.loop-done.invariant.sure h);
+      missing = λ lacks.
+          let gone = c.deliver_step.ensures.lacking (subst K (sym c.loop-done.invariant.log) (c.loop-done.invariant.missing lacks).0) in
+          absurd (omega (arith, subst E c.in-StepLimit.is gone.0));
+      none = λ h. absurd (omega (arith, h));
+      delivers = join_delivers g.S.Sink.puts c.args.sink.now c.loop-done.sink c.deliver_step.new.sink was mid is c.args.transactions.now.retries
+          (g.L.LogLink.failures c.args.link.now) (g.L.LogLink.failures c.loop-done.link) (g.L.LogLink.failures c.deliver_step.new.link)
+          c.args.walk.now c.loop-done.walk c.deliver_step.new.walk c.loop-done.done StepLimit
+          c.loop-done.invariant.delivers step c.loop-done.invariant.never_falls;
+    }
+
+pub returns-clause-delivers : goal.returns-clause-delivers
+returns-clause-delivers g c =
+    let all : c.loop-done.done ≡ c.args.steps = omega arith in
+    let P : ℕ → Type 0 = λ n. Delivery g.S.Sink.puts c.args.sink.now c.loop-done.sink
+    (λ r M H. g.L.LogLink.is_honest c.args.link.now c.args.walk.now.log r M H) (λ r M H. g.L.LogLink.is_honest c.loop-done.link c.args.walk.now.log r M H)
+    c.args.transactions.now.retries (g.L.LogLink.failures c.args.link.now) (g.L.LogLink.failures c.loop-done.link)
+    c.args.walk.now c.loop-done.walk n StepLimit in
+    subst P all c.loop-done.invariant.delivers

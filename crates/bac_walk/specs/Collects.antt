@@ -1,0 +1,189 @@
+-- What a run of a walk over an honest link delivers, and how it ends.
+use Rattle.std.specs.Prelude.{◌++◌, ◌≡◌, ℕ, suc, Bool, true, false, ◌+◌, ◌*◌, ◌<◌, ◌≤◌, Result, Ok, Err, List, [], ◌∷◌, length, drop}
+use Rattle.bac_link.specs.declared.item.Item.{Item}
+use Rattle.bac_walk.specs.declared.outcome.Progress.{Progress}
+use Rattle.bac_walk.specs.declared.outcome.Progress.TheVariants.{Batch as BatchOf, AskOldest, CaughtUp as IsUp}
+use Rattle.bac_walk.specs.declared.outcome.Step.{Step}
+use Rattle.bac_walk.specs.declared.outcome.Step.TheVariants.{Batch as StepOf, CaughtUp as NoStep}
+use Rattle.bac_walk.specs.declared.outcome.WalkFault.{WalkFault}
+use Rattle.bac_walk.specs.declared.outcome.WalkFault.TheVariants.{Lost, Refused, BadReply}
+use Rattle.bac_link.specs.declared.exchanges.Refusal.TheVariants as said
+use Rattle.bac_walk.specs.declared.outcome.Ended.{Ended}
+use Rattle.bac_walk.specs.declared.outcome.Ended.TheVariants.{CaughtUp, StepLimit, Stopped, Fault}
+use Rattle.bac_link.specs.Delivery.{History, Moment, now, later, items_of}
+use Rattle.bac_link.specs.Laws.{moment_at}
+use Rattle.bac_walk.specs.Turns.{Covers, NoneOfHundred, whole_reply}
+use Rattle.bac_walk.specs.Delivers.{end_of, AreAnswers, NoneFrom}
+use Rattle.bac_link.specs.Links.{RisesBy}
+use Rattle.bac_link.specs.declared.item.Item.TheVariants.{Gap, Logged}
+use Rattle.bac_log.specs.TrendLog.{number}
+use Rattle.bac_walk.specs.Walks.{items_in}
+
+-- how many answers brought a batch
+abbrev pub batches : List (List Item) → ℕ
+batches [] = 0
+batches ([] ∷ answers) = batches answers
+batches ((x ∷ xs) ∷ answers) = suc (batches answers)
+
+-- each answer without a batch stands alone, with a batch after it
+abbrev pub IsWhole : List (List Item) → Type 0
+IsWhole [] = Unit {0}
+IsWhole ([] ∷ []) = ⊥
+IsWhole ([] ∷ [] ∷ answers) = ⊥
+IsWhole ([] ∷ (x ∷ xs) ∷ answers) = IsWhole answers
+IsWhole ((x ∷ xs) ∷ answers) = IsWhole answers
+
+-- none is held of the hundred numbers that were asked for, wherever an answer without a batch comes first or
+-- right after a batch; two such answers in a row are the last two, and the walk is caught up
+abbrev pub IsPaced : Ended → List Moment → ℕ → List (List Item) → Type 0
+IsPaced why M s [] = Unit {0}
+IsPaced why M s ([] ∷ []) = NoneOfHundred s (now M)
+IsPaced why M s ([] ∷ [] ∷ answers) = NoneOfHundred s (now M) × (answers ≡ []) × (why ≡ CaughtUp)
+IsPaced why M s ([] ∷ (x ∷ xs) ∷ answers) =
+    NoneOfHundred s (now M) × IsPaced why (later (later M)) (end_of s (x ∷ xs)) answers
+IsPaced why M s ((x ∷ xs) ∷ answers) = IsPaced why (later M) (end_of s (x ∷ xs)) answers
+
+-- the items of one reply: all of them, or in a run that was stopped those up to the record that stopped it
+abbrev pub IsOfReply : Ended → List Item → List Item → Type 0
+IsOfReply CaughtUp items reply = items ≡ reply
+IsOfReply StepLimit items reply = items ≡ reply
+IsOfReply Stopped items reply = (dropped : List Item) × (items ++ dropped ≡ reply)
+IsOfReply (Fault e) items reply = items ≡ reply
+
+-- each batch is the whole of one reply, but for the last of a run that was stopped; after an answer without a batch
+-- the oldest entries are asked for
+abbrev pub AreWhole : Ended → ℕ → History → List Moment → Bool → ℕ → List (List Item) → Type 0
+AreWhole ended r H M by_oldest s [] = Unit {0}
+AreWhole ended r H M by_oldest s ([] ∷ answers) = AreWhole ended r H (later M) true s answers
+AreWhole ended r H M by_oldest s ((x ∷ xs) ∷ []) = IsOfReply ended (x ∷ xs) (whole_reply r H (now M) by_oldest s)
+AreWhole ended r H M by_oldest s ((x ∷ xs) ∷ y ∷ answers) =
+    ((x ∷ xs) ≡ whole_reply r H (now M) by_oldest s) × AreWhole ended r H (later M) false (end_of s (x ∷ xs)) (y ∷ answers)
+
+-- the ordinal where a run begins: that of the next number, or for a walk from the oldest entry at the oldest of its first batch's moment
+abbrev pub start_of : Bool → ℕ → List Moment → List (List Item) → ℕ
+start_of false next M answers = next
+start_of true next M [] = next
+start_of true next M ([] ∷ answers) = start_of true next (later M) answers
+start_of true next M ((x ∷ xs) ∷ answers) = (now M).oldest
+
+-- at some answer after the last batch no entry from t on was held, and for a walk from the oldest entry without a
+-- batch none at all
+abbrev pub IsCaughtUp : Bool → ℕ → List Moment → List (List Item) → Type 0
+IsCaughtUp fresh t M answers =
+    (i : ℕ) × (i < length answers) × (batches (drop i answers) ≡ 0) × NoneFrom t (moment_at M i)
+    × (fresh ≡ true → batches answers ≡ 0 → (moment_at M i).newest < (moment_at M i).oldest)
+
+-- why a run of so many steps may end
+abbrev pub IsEnded : Ended → Bool → ℕ → List Moment → List (List Item) → ℕ → ℕ → ℕ → ℕ → Type 0
+IsEnded CaughtUp fresh t M answers steps retries old new = (batches answers < steps) × IsCaughtUp fresh t M answers
+IsEnded StepLimit fresh t M answers steps retries old new = (batches answers ≡ steps) × IsWhole answers
+IsEnded Stopped fresh t M answers steps retries old new = (0 < batches answers) × (batches answers ≤ steps) × IsWhole answers
+IsEnded (Fault Lost) fresh t M answers steps retries old new = RisesBy (retries + 1) old new
+IsEnded (Fault (Refused refusal)) fresh t M answers steps retries old new = ⊥
+IsEnded (Fault BadReply) fresh t M answers steps retries old new = ⊥
+
+-- what the answers of a run of at most so many steps over an honest link brought, and how it ended. The walk was at
+-- ordinal next, and is at t
+pub record Collected (r : ℕ) (H : History) (M : List Moment) (fresh : Bool) (next : ℕ) (steps retries old new : ℕ)
+    (items : List Item) (t : ℕ) (ended : Ended) (answers : List (List Item)) : Type 0 where
+  pub covers : Covers (start_of fresh next M answers) items t
+  pub all : items_of answers ≡ items
+  pub each : AreAnswers H M (start_of fresh next M answers) answers
+  pub twice_steps : length answers ≤ 2 * steps
+  pub twice_batches : length answers ≤ 2 * batches answers + 2
+  pub paced : IsPaced ended M (start_of fresh next M answers) answers
+  pub whole : AreWhole ended r H M false (start_of fresh next M answers) answers
+  pub end : IsEnded ended fresh t M answers steps retries old new
+
+-- a walk from the oldest entry is one until its first batch
+pub record IsFreshAfter (before : Bool) (answers : List (List Item)) (after : Bool) : Type 0 where
+  pub none : batches answers ≡ 0 → after ≡ before
+  pub some : 0 < batches answers → after ≡ false
+
+-- whether there is a second question to ask
+abbrev pub asks_next : Result Progress WalkFault → Bool
+asks_next (Ok AskOldest) = true
+asks_next (Ok IsUp) = false
+asks_next (Ok (BatchOf b)) = false
+asks_next (Err e) = false
+
+-- the step that ends with this answer
+abbrev pub finished : Result Progress WalkFault → Result Step WalkFault
+finished (Ok (BatchOf b)) = Ok (StepOf b)
+finished (Ok IsUp) = Ok NoStep
+finished (Ok AskOldest) = Ok NoStep
+finished (Err e) = Err e
+
+-- the items of a step, and how a run of one step ends
+abbrev pub step_items : Result Step WalkFault → List Item
+step_items (Ok (StepOf b)) = items_in b
+step_items (Ok NoStep) = []
+step_items (Err e) = []
+
+abbrev pub step_ended : Result Step WalkFault → Ended
+step_ended (Ok (StepOf b)) = StepLimit
+step_ended (Ok NoStep) = CaughtUp
+step_ended (Err e) = Fault e
+
+-- a batch ends what is special about a walk from the oldest entry
+abbrev pub is_fresh_after : Bool → Result Step WalkFault → Bool
+is_fresh_after fresh (Ok (StepOf b)) = false
+is_fresh_after fresh (Ok NoStep) = fresh
+is_fresh_after fresh (Err e) = fresh
+
+-- the items of an answer, whatever it was worth: none but for a batch
+abbrev pub turn_items : Result Progress WalkFault → List Item
+turn_items (Ok (BatchOf b)) = items_in b
+turn_items (Ok AskOldest) = []
+turn_items (Ok IsUp) = []
+turn_items (Err e) = []
+
+-- over any link: items that begin at an ordinal of the walk's number cover what lies up to one of the new number.
+-- A walk from the oldest entry begins at any ordinal of the number that its first item shows
+abbrev pub Goes : Bool → ℕ → ℕ → List Item → Bool → ℕ → Type 0
+Goes fresh before s [] after next = (next ≡ before) × (after ≡ fresh)
+Goes false before s (x ∷ xs) after next =
+    (before ≡ number s → (t : ℕ) × (next ≡ number t) × Covers s (x ∷ xs) t) × (after ≡ false)
+Goes true before s (Gap first until ∷ xs) after next = ⊥
+Goes true before s (Logged shown entry ∷ xs) after next =
+    (shown ≡ number s → (t : ℕ) × (next ≡ number t) × Covers s (Logged shown entry ∷ xs) t) × (after ≡ false)
+
+-- a turn and a step that aren't lost, and those of a log that the device doesn't have
+abbrev pub IsFound : WalkFault → Type 0
+IsFound Lost = ⊥
+IsFound (Refused refusal) = Unit {0}
+IsFound BadReply = Unit {0}
+
+abbrev pub IsMissing : WalkFault → Type 0
+IsMissing Lost = Unit {0}
+IsMissing (Refused refusal) = refusal ≡ said.Error 1 31
+IsMissing BadReply = ⊥
+
+abbrev pub FoundTurn : Result Progress WalkFault → Type 0
+FoundTurn (Ok p) = Unit {0}
+FoundTurn (Err e) = IsFound e
+
+abbrev pub FoundStep : Result Step WalkFault → Type 0
+FoundStep (Ok p) = Unit {0}
+FoundStep (Err e) = IsFound e
+
+abbrev pub MissingTurn : Result Progress WalkFault → Type 0
+MissingTurn (Ok p) = ⊥
+MissingTurn (Err e) = IsMissing e
+
+abbrev pub MissingStep : Result Step WalkFault → Type 0
+MissingStep (Ok p) = ⊥
+MissingStep (Err e) = IsMissing e
+
+-- an end of a run that isn't lost, and one of a log that the device doesn't have
+abbrev pub FoundEnd : Ended → Type 0
+FoundEnd CaughtUp = Unit {0}
+FoundEnd StepLimit = Unit {0}
+FoundEnd Stopped = Unit {0}
+FoundEnd (Fault e) = IsFound e
+
+abbrev pub MissingEnd : ℕ → Ended → Type 0
+MissingEnd steps CaughtUp = ⊥
+MissingEnd steps StepLimit = steps ≡ 0
+MissingEnd steps Stopped = ⊥
+MissingEnd steps (Fault e) = (0 < steps) × IsMissing e

@@ -1,0 +1,34 @@
+-- What is made of a step: its batch is put into a sink.
+use Rattle.std.specs.Prelude.{◌≡◌, ℕ, ◌<◌, Bool, false, Option, Some, None, Result, Ok, Err, List, ◌∷◌, ◌++◌}
+use Rattle.bac_walk.specs.declared.batch.Gap.{Gap as GapOf}
+use Rattle.bac_walk.specs.declared.batch.Numbered.{Numbered}
+use Rattle.bac_walk.specs.Place.{Place}
+use Rattle.bac_walk.specs.declared.outcome.WalkFault.{WalkFault}
+use Rattle.bac_walk.specs.declared.outcome.Step.{Step}
+use Rattle.bac_walk.specs.declared.outcome.Step.TheVariants.{Batch as StepOf, CaughtUp as NoStep}
+use Rattle.bac_walk.specs.declared.outcome.Ended.{Ended}
+use Rattle.bac_walk.specs.declared.outcome.Ended.TheVariants.{CaughtUp, StepLimit, Stopped, Fault}
+use Rattle.bac_walk.specs.Ordinals.{number_after}
+use Rattle.bac_walk.specs.Sinks.{PutAll}
+
+-- where the walk is after a batch whose record of this number was refused, and how the step ended
+abbrev pub walk_after : Place → Option ℕ → Place
+walk_after w None = w
+walk_after w (Some n) = record { log = w.log; next = number_after n 1; fresh = false; asks_oldest = false }
+
+abbrev pub ended_after : Option ℕ → Ended
+ended_after None = StepLimit
+ended_after (Some n) = Stopped
+
+abbrev pub HandedOn : {S : Type 0} → (S → Option GapOf → Numbered → Bool → S → Type 0) → S → Place → Result Step WalkFault → Ended → Place → S → Type 0
+HandedOn puts sink w (Err e) ended after left = (left ≡ sink) × (after ≡ w) × (ended ≡ Fault e)
+HandedOn puts sink w (Ok NoStep) ended after left = (left ≡ sink) × (after ≡ w) × (ended ≡ CaughtUp)
+HandedOn puts sink w (Ok (StepOf b)) ended after left =
+    (refused : Option ℕ) × PutAll puts sink b.gap b.entries.items refused left
+    × (after ≡ walk_after w refused) × (ended ≡ ended_after refused)
+
+-- each number of a batch has one after it
+abbrev pub HasNext : Result Step WalkFault → Type 0
+HasNext (Err e) = Unit {0}
+HasNext (Ok NoStep) = Unit {0}
+HasNext (Ok (StepOf b)) = (before : List Numbered) (x : Numbered) (after : List Numbered) → b.entries.items ≡ before ++ x ∷ after → x.number < 4294967295

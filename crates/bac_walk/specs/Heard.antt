@@ -1,0 +1,46 @@
+-- What the parameters of an ACK say to a walk of a log.
+use Rattle.std.specs.Prelude.{ℕ, Bool, true, false, ◌==◌, ◌&&◌, List, length, Option, Some, None, Result, if◌then◌else◌}
+use Rattle.std.specs.Result.{result_ok}
+use Rattle.bac_wire.specs.declared.fault.WireFault.{WireFault}
+use Rattle.bac_wire.specs.Primitive.{Id}
+use Rattle.bac_apdu.specs.Service.ReadRangeAck.{RangeAck, read_range_ack_at}
+use Rattle.bac_log.specs.declared.entry.Entry.{Entry}
+use Rattle.bac_log.specs.Ack.{log_buffer}
+use Rattle.bac_log.specs.Record.{entries_at}
+
+-- the first number, the count and the records
+pub record Heard : Type 0 where
+  pub first : Option ℕ
+  pub count : ℕ
+  pub entries : List Entry
+
+-- all octets as records
+abbrev pub records_in : List ℕ → Result (List Entry) WireFault
+records_in octets = entries_at (length octets) octets
+
+abbrev pub same_id : Id → Id → Bool
+same_id a b = (a.kind == b.kind) && (a.instance == b.instance)
+
+abbrev pub is_absent : Option ℕ → Bool
+is_absent None = true
+is_absent (Some index) = false
+
+-- an ACK for the Log_Buffer of this log, without an index
+abbrev pub is_of_log : Id → RangeAck → Bool
+is_of_log log a = same_id a.object log && ((a.property == log_buffer) && is_absent a.index)
+
+abbrev pub heard_with : Option ℕ → ℕ → Option (List Entry) → Option Heard
+heard_with first count None = None
+heard_with first count (Some es) = Some (record { first = first; count = count; entries = es })
+
+-- nothing, where it is that of another object or property, has an index, or an item is no record; its flags don't count
+abbrev pub heard_of : Id → RangeAck → Option Heard
+heard_of log a = if is_of_log log a then heard_with a.first_number a.count (result_ok (records_in a.items)) else None
+
+abbrev pub heard_if : Id → Option RangeAck → Option Heard
+heard_if log None = None
+heard_if log (Some a) = heard_of log a
+
+-- and nothing, where they are no parameters of an ACK of ReadRange
+unfoldable pub heard_at : Id → List ℕ → Option Heard
+heard_at log bytes = heard_if log (read_range_ack_at bytes)

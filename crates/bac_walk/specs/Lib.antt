@@ -1,0 +1,16 @@
+pub mod Ordinals
+pub mod Place
+pub mod Heard
+pub mod Replies
+pub mod Walks
+pub mod Reads
+pub mod Takes
+pub mod Turns
+pub mod Turned
+pub mod Delivers
+pub mod Collects
+pub mod Outcomes
+pub mod Rests
+pub mod Sinks
+pub mod Handing
+pub mod Kept

@@ -1,0 +1,62 @@
+-- What a log answers to the questions of a walk, at a moment.
+use Rattle.std.specs.Prelude.{◌≡◌, ℕ, ◌+◌, ◌-◌, ◌<◌, ◌≤◌, min, max, nat_le, Option, Some, List, length, take, pos, All}
+use Rattle.bac_log.specs.Entry.{IsLoggable}
+use Rattle.bac_log.specs.TrendLog.{Log, last_ordinal, number}
+use Rattle.bac_log.specs.TrendLog.{newest}
+use Rattle.bac_wire.specs.declared.stamp.Date4.{Date4}
+use Rattle.bac_wire.specs.declared.stamp.Time4.{Time4}
+use Rattle.bac_apdu.specs.declared.service.extent.Extent.{Extent}
+use Rattle.bac_apdu.specs.declared.service.extent.Extent.TheVariants.{ByNumber, ByTime}
+use Rattle.bac_log.specs.declared.entry.Entry.{Entry}
+use Rattle.bac_log.specs.Ack.{ack_length}
+use Rattle.bac_log.specs.Select.{greatest}
+use Rattle.bac_link.specs.Delivery.{History, Moment}
+use Rattle.bac_link.specs.Moments.{entries_from}
+
+-- 1900-01-01T00:00:00.00
+abbrev pub first_date : Date4
+first_date = record { year = 0; month = 1; day = 1; weekday = 1 }
+
+abbrev pub first_time : Time4
+first_time = record { hour = 0; minute = 0; second = 0; hundredth = 0 }
+
+-- what a walk asks for: a hundred numbers from one on, or a hundred entries from the oldest held on
+pub data Wanted : Type 0 where
+  FromNumber : ℕ → Wanted
+  FromOldest : Wanted
+
+abbrev pub extent_of : Wanted → Extent
+extent_of (FromNumber n) = ByNumber n (pos 100)
+extent_of FromOldest = ByTime first_date first_time (pos 100)
+
+-- the first and the last ordinal that are held and asked for; where the first is above the last, there is none
+abbrev pub first_asked : Wanted → Moment → ℕ
+first_asked (FromNumber n) m = max n m.oldest
+first_asked FromOldest m = m.oldest
+
+abbrev pub last_asked : Wanted → Moment → ℕ
+last_asked (FromNumber n) m = min (n + 99) m.newest
+last_asked FromOldest m = min (m.oldest + 99) m.newest
+
+abbrev pub asked_count : Wanted → Moment → ℕ
+asked_count wanted m = (last_asked wanted m + 1) - first_asked wanted m
+
+-- how many of these entries, the first of which has this ordinal, are in the longest prefix whose ACK is within r octets
+abbrev pub fitting : ℕ → ℕ → List Entry → ℕ
+fitting r first es = greatest (λ n. nat_le (ack_length (Some (number first)) (take n es)) r) (length es)
+
+-- how many a reply of r octets holds of those that are asked for
+abbrev pub how_many : ℕ → History → Wanted → Moment → ℕ
+how_many r H wanted m = fitting r (first_asked wanted m) (entries_from H (first_asked wanted m) (asked_count wanted m))
+
+-- the records and the first number of the answer to a question at a moment
+pub record IsAnswer (r : ℕ) (m : Moment) (H : History) (wanted : Wanted) (first : Option ℕ) (es : List Entry) : Type 0 where
+  pub entries : es ≡ entries_from H (first_asked wanted m) (how_many r H wanted m)
+  pub first_is : 0 < how_many r H wanted m → first ≡ Some (number (first_asked wanted m))
+  pub some : 0 < asked_count wanted m → 0 < how_many r H wanted m
+  pub most : how_many r H wanted m ≤ asked_count wanted m
+
+-- what a log's answers rest on
+pub record IsShown (log : Log) : Type 0 where
+  pub numbered : newest log ≤ last_ordinal
+  pub loggable : All IsLoggable log.entries

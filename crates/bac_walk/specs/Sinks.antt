@@ -1,0 +1,69 @@
+-- Records that are put into a sink one after the other.
+use Rattle.std.specs.Prelude.{◌≡◌, ℕ, ◌+◌, ◌*◌, ◌≤◌, Bool, true, false, ◌⊎◌, Option, Some, None, List, [], ◌∷◌, ◌++◌, length}
+use Rattle.bac_link.specs.declared.item.Item.{Item}
+use Rattle.bac_walk.specs.declared.batch.Gap.{Gap as GapOf}
+use Rattle.bac_walk.specs.declared.batch.Numbered.{Numbered}
+use Rattle.bac_walk.specs.Place.{Place}
+use Rattle.bac_walk.specs.declared.outcome.Ended.{Ended}
+use Rattle.bac_walk.specs.declared.outcome.Ended.TheVariants.{CaughtUp, StepLimit, Stopped, Fault}
+use Rattle.bac_log.specs.TrendLog.{number}
+use Rattle.bac_link.specs.Delivery.{History, Moment}
+use Rattle.bac_link.specs.Laws.{after_answers}
+use Rattle.bac_walk.specs.Walks.{gap_items, item_of}
+use Rattle.bac_walk.specs.Collects.{Goes, Collected, IsFreshAfter}
+
+-- one call of put: a record, with the gap before it
+pub record Call : Type 0 where
+  pub gap : Option GapOf
+  pub record_put : Numbered
+
+-- the items that were put
+abbrev pub put_items : List Call → List Item
+put_items [] = []
+put_items (c ∷ calls) = gap_items c.gap ++ item_of c.record_put ∷ put_items calls
+
+-- how many of them had a gap
+abbrev pub gaps_in : Option GapOf → ℕ
+gaps_in None = 0
+gaps_in (Some g) = 1
+
+abbrev pub gaps : List Call → ℕ
+gaps [] = 0
+gaps (c ∷ calls) = gaps_in c.gap + gaps calls
+
+-- the sink after these calls of put, in order, each answered true but for the last where it was stopped
+abbrev pub Takes : {S : Type 0} → (S → Option GapOf → Numbered → Bool → S → Type 0) → S → List Call → Bool → S → Type 0
+Takes {S = S} puts old [] stopped new = (new ≡ old) × (stopped ≡ false)
+Takes {S = S} puts old (c ∷ calls) stopped new =
+    (puts old c.gap c.record_put false new × (calls ≡ []) × (stopped ≡ true))
+    ⊎ ((mid : S) × puts old c.gap c.record_put true mid × Takes puts mid calls stopped new)
+
+-- the records of a batch, put up to one that was answered false, whose number this is
+abbrev pub PutAll : {S : Type 0} → (S → Option GapOf → Numbered → Bool → S → Type 0) → S → Option GapOf → List Numbered → Option ℕ → S → Type 0
+PutAll {S = S} puts old gap [] refused new = (new ≡ old) × (refused ≡ None)
+PutAll {S = S} puts old gap (x ∷ xs) refused new =
+    (puts old gap x false new × (refused ≡ Some x.number))
+    ⊎ ((mid : S) × puts old gap x true mid × PutAll puts mid None xs refused new)
+
+abbrev pub is_stopped : Ended → Bool
+is_stopped CaughtUp = false
+is_stopped StepLimit = false
+is_stopped Stopped = true
+is_stopped (Fault e) = false
+
+-- a run of at most so many steps: over any link its items cover all from the walk's number up to the new one; over one
+-- that was honest, they are what its answers brought, and it is honest still
+abbrev pub IsRun : (ℕ → List Moment → History → Type 0) → (ℕ → List Moment → History → Type 0) → ℕ → ℕ → ℕ → Place → Place → ℕ → Ended → List Item → Type 0
+IsRun was is retries old new before after steps ended items =
+    ((s : ℕ) → Goes before.fresh before.next s items after.fresh after.next)
+    × ((r : ℕ) (M : List Moment) (H : History) (s : ℕ) → was r M H → before.next ≡ number s →
+        (answers : List (List Item)) × (t : ℕ) × (after.next ≡ number t)
+        × Collected r H M before.fresh s steps retries old new items t ended answers
+        × is r (after_answers (length answers) M) H × IsFreshAfter before.fresh answers after.fresh)
+
+-- such a run into a sink
+abbrev pub Delivery : {S : Type 0} → (S → Option GapOf → Numbered → Bool → S → Type 0) → S → S → (ℕ → List Moment → History → Type 0) → (ℕ → List Moment → History → Type 0) → ℕ → ℕ → ℕ → Place → Place → ℕ → Ended → Type 0
+Delivery {S = S} puts sink left was is retries old new before after steps ended =
+    (calls : List Call) × Takes puts sink calls (is_stopped ended) left
+    × (length calls ≤ 100 * steps) × (gaps calls ≤ steps)
+    × IsRun was is retries old new before after steps ended (put_items calls)

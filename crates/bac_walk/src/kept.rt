@@ -1,0 +1,124 @@
+//! Walks whose items are kept.
+
+ghost use Rattle.std.specs.Prelude.{true, false, [], ◌∷◌, ◌≡◌, ℕ, ◌+◌, ◌*◌, ◌≤◌, List, length, vec_capacity};
+ghost use Rattle.bac_log.specs.TrendLog.{number};
+ghost use Rattle.bac_link.specs.Delivery.{History, Moment, DeliversTo};
+ghost use Rattle.bac_link.specs.Laws.{after_answers};
+ghost use Rattle.bac_walk.specs.declared.outcome.Ended.{Ended as EndedOf};
+ghost use Rattle.bac_walk.specs.Sinks.{IsRun};
+ghost use Rattle.bac_walk.specs.Kept.{IsKept};
+ghost use Rattle.bac_walk.specs.Outcomes.{IsRunOf, why_of};
+ghost use Rattle.bac_walk.specs.Rests.{rest, Rests, Misses};
+
+use crate::batch::{Gap, Numbered};
+use crate::outcome::{Ended, Outcome, Why};
+use crate::sink::{Sink, deliver};
+use crate::walk::Walk;
+use bac_link::{Item, LogLink, Transactions};
+use std::alloc::Global;
+
+// A sink that keeps what it is given, as far as it has room.
+#[derive(Drop)]
+struct Kept {
+    items: Vec<Item>,
+}
+
+impl Sink for Kept {
+    ghost puts = { λ old gap item taken new.
+        IsKept (vec_capacity old.items) old.items.items gap item taken (vec_capacity new.items) new.items.items };
+
+    fn put(&mut self, gap: Option<Gap>, item: Numbered) -> bool {
+        let needed = match gap {
+            Some(_) => 2,
+            None => 1,
+        };
+        if self.items.capacity() - self.items.len() < needed {
+            return false;
+        }
+        if let Some(gap) = gap {
+            self.items.push_reserved(Item::Gap {
+                first: gap.first,
+                before: gap.before,
+            });
+        }
+        self.items.push_reserved(Item::Logged {
+            number: item.number,
+            entry: item.entry,
+        });
+        true
+    }
+}
+
+/// At most so many steps of a walk. Room for a step is made before it.
+pub fn collect<L: LogLink>(
+    alloc: Global,
+    link: &mut L,
+    transactions: &mut Transactions,
+    walk: &mut Walk,
+    steps: u32,
+) -> Outcome
+    ensures next { result.next ≡ walk.new.next }
+    ensures log { walk.new.log ≡ walk.old.log }
+    ensures begun { transactions.new.begun ≤ transactions.old.begun + 2 * steps }
+    // It delivers the entries from its ordinal on that the log holds when each is reached, with gaps.
+    ensures headline { (r : ℕ) (M : List Moment) (H : History) (s : ℕ) →
+        L.is_honest link.old walk.old.log r M H → walk.old.next ≡ number s →
+        (b : ℕ) × (a : ℕ) × (t : ℕ) × (walk.old.fresh ≡ false → b ≡ s) × (walk.new.next ≡ number t)
+        × DeliversTo H b result.items.items t M a × L.is_honest link.new walk.old.log r (after_answers a M) H }
+    // It is a run of so many steps, or of fewer that had no memory for the next.
+    ensures delivers { (n : ℕ) × (ended : EndedOf) × IsRunOf result.why steps n ended
+        × IsRun (λ r M H. L.is_honest link.old walk.old.log r M H) (λ r M H. L.is_honest link.new walk.old.log r M H)
+        transactions.old.retries (L.failures link.old) (L.failures link.new) walk.old walk.new n ended result.items.items }
+    // Over a log that doesn't change, and a link that loses nothing.
+    ensures resting { (r : ℕ) (m : Moment) (H : History) (s : ℕ) →
+        L.is_sure link.old → L.is_honest link.old walk.old.log r (m ∷ []) H → walk.old.next ≡ number s →
+        Rests (rest r H m walk.old.fresh s steps) steps result.items.items result.next result.why }
+    ensures missing { L.lacks link.old walk.old.log → L.is_sure link.old →
+        Misses steps walk.old.next result.items.items result.next result.why }
+{
+    let mut kept = Kept {
+        items: Vec::new(alloc),
+    };
+    for done in 0..steps {
+        if !make_room(&mut kept) {
+            return Outcome {
+                items: kept.items,
+                next: walk.next_number(),
+                why: Why::Memory,
+            };
+        }
+        let ended = deliver(link, transactions, walk, 1, &mut kept);
+        if let Some(why) = why_of(ended) {
+            return Outcome {
+                items: kept.items,
+                next: walk.next_number(),
+                why,
+            };
+        }
+    }
+    Outcome {
+        items: kept.items,
+        next: walk.next_number(),
+        why: Why::StepLimit,
+    }
+}
+
+// Makes room for the items of a step; false where there is no memory.
+fn make_room(kept: &mut Kept) -> bool
+    ensures items { kept.new.items.items ≡ kept.old.items.items }
+    ensures room { result ≡ true → length kept.new.items.items + 101 ≤ vec_capacity kept.new.items }
+{
+    kept.items.reserve(101).is_ok()
+}
+
+// Why a run ends with a step that ended so; a whole batch doesn't end it.
+fn why_of(ended: Ended) -> Option<Why>
+    ensures { result ≡ why_of ended }
+{
+    match ended {
+        Ended::StepLimit => None,
+        Ended::CaughtUp => Some(Why::CaughtUp),
+        Ended::Fault(fault) => Some(Why::Fault(fault)),
+        Ended::Stopped => Some(Why::Memory),
+    }
+}

@@ -1,0 +1,13 @@
+//! Laws of what a walk delivers, on lists alone.
+ghost use Rattle.bac_walk.specs.Rests.{RestsAll, RestResumes};
+
+/// With steps enough, a walk over a log that doesn't change delivers all that is held from there on.
+pub fn rests_all()
+    ensures { RestsAll }
+{}
+
+/// Stopped after any record of a log that doesn't change, and resumed at the next number, a walk
+/// delivers what was left.
+pub fn rest_resumes()
+    ensures { RestResumes }
+{}

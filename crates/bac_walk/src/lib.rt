@@ -1,0 +1,26 @@
+//! The walk of a trend log: which question comes next, what an answer brings, and what is delivered.
+//!
+//! A [`Walk`] is a place in a log. It asks for the records from its next number on, and where none
+//! of them is held, for the oldest ([`Walk::question`], [`Walk::take`], [`Walk::step`]). [`deliver`]
+//! puts record after record into a [`Sink`], with a gap before each that doesn't follow its
+//! predecessor; [`collect`] keeps them. Over an honest link they deliver exactly the records that
+//! the log holds when each is reached, each once, in rising order.
+#![tactic(auto)]
+
+mod batch;
+mod kept;
+mod laws;
+mod outcome;
+mod read;
+mod resume;
+mod sink;
+mod step;
+mod walk;
+
+pub use batch::{Batch, Gap, Numbered};
+pub use kept::collect;
+pub use laws::{rest_resumes, rests_all};
+pub use outcome::{BadReply, Ended, Outcome, Progress, Step, WalkFault, Why};
+pub use resume::stop_and_resume;
+pub use sink::{Sink, deliver};
+pub use walk::Walk;

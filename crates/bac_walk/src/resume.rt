@@ -1,0 +1,36 @@
+//! Walks that are stopped and gone on with.
+
+ghost use Rattle.std.specs.Prelude.{false, ◌≡◌, ◌≤◌, ◌++◌, ℕ, List};
+ghost use Rattle.bac_log.specs.TrendLog.{number};
+ghost use Rattle.bac_link.specs.Delivery.{History, Moment, DeliversTo};
+ghost use Rattle.bac_walk.specs.Sinks.{Call, Takes, put_items, is_stopped};
+
+use crate::outcome::Ended;
+use crate::sink::{Sink, deliver};
+use crate::walk::Walk;
+use bac_link::{LogLink, Transactions};
+
+/// A walk into one sink, and a new walk from where it stopped into another: together they deliver as one.
+pub fn stop_and_resume<L: LogLink, S: Sink, R: Sink>(
+    link: &mut L,
+    transactions: &mut Transactions,
+    walk: &mut Walk,
+    steps: u32,
+    sink: &mut S,
+    more: u32,
+    rest: &mut R,
+) -> (Ended, Ended)
+    ensures resumed { (r : ℕ) (M : List Moment) (H : History) (s : ℕ) →
+        walk.old.fresh ≡ false → L.is_honest link.old walk.old.log r M H → walk.old.next ≡ number s →
+        (first : List Call) × (second : List Call) × (a : ℕ) × (t : ℕ) × (walk.new.next ≡ number t)
+        × Takes S.puts sink.old first (is_stopped result.0) sink.new × Takes R.puts rest.old second (is_stopped result.1) rest.new
+        × DeliversTo H s (put_items first ++ put_items second) t M a }
+{
+    let first = deliver(link, transactions, walk, steps, sink);
+    let Some(resumed) = Walk::from_number(walk.log(), walk.next_number()) else {
+        unreachable!()
+    };
+    *walk = resumed;
+    let second = deliver(link, transactions, walk, more, rest);
+    (first, second)
+}

@@ -1,0 +1,117 @@
+//! Walks that hand on one record at a time.
+
+ghost use Rattle.std.specs.Prelude.{◌≡◌, ◌≤◌, ◌+◌, ◌*◌, ℕ, Bool, Option, List};
+ghost use Rattle.bac_log.specs.TrendLog.{number};
+ghost use Rattle.bac_link.specs.Delivery.{History, Moment};
+ghost use Rattle.bac_walk.specs.declared.batch.Gap.{Gap as GapOf};
+ghost use Rattle.bac_walk.specs.declared.batch.Numbered.{Numbered as NumberedOf};
+ghost use Rattle.bac_walk.specs.Sinks.{PutAll, Delivery};
+ghost use Rattle.bac_walk.specs.Handing.{HandedOn, HasNext};
+ghost use Rattle.bac_walk.specs.Collects.{FoundEnd, MissingEnd};
+
+use crate::batch::{Batch, Gap, Numbered};
+use crate::outcome::{Ended, Step, WalkFault};
+use crate::walk::{Walk, number_after};
+use bac_link::{LogLink, Transactions};
+
+/// Takes records one at a time.
+pub trait Sink {
+    /// What putting a record makes of it: the sink before, the gap, the record, the answer, the sink after.
+    ghost puts: { Self → Option GapOf → NumberedOf → Bool → Self → Type 0 };
+
+    /// Takes a record, with the gap before it; false where it wants no more.
+    fn put(&mut self, gap: Option<Gap>, item: Numbered) -> bool
+        ensures { puts self.old gap item result self.new };
+}
+
+/// At most so many steps of a walk, whose records are put into a sink until one is answered with false.
+pub fn deliver<L: LogLink, S: Sink>(
+    link: &mut L,
+    transactions: &mut Transactions,
+    walk: &mut Walk,
+    steps: u32,
+    sink: &mut S,
+) -> Ended
+    ensures never_falls { L.failures link.old ≤ L.failures link.new }
+    ensures retries { transactions.new.retries ≡ transactions.old.retries }
+    ensures begun { transactions.new.begun ≤ transactions.old.begun + 2 * steps }
+    ensures log { walk.new.log ≡ walk.old.log }
+    ensures delivers { Delivery S.puts sink.old sink.new
+        (λ r M H. L.is_honest link.old walk.old.log r M H) (λ r M H. L.is_honest link.new walk.old.log r M H)
+        transactions.old.retries (L.failures link.old) (L.failures link.new) walk.old walk.new steps result }
+    // Over a link that loses nothing, nothing is lost.
+    ensures sure { L.is_sure link.old → L.is_sure link.new }
+    ensures answered { (r : ℕ) (M : List Moment) (H : History) (s : ℕ) →
+        L.is_sure link.old → L.is_honest link.old walk.old.log r M H → walk.old.next ≡ number s → FoundEnd result }
+    // A device without the log says so.
+    ensures lacking { L.lacks link.old walk.old.log →
+        MissingEnd steps result × (sink.new ≡ sink.old) × (walk.new.next ≡ walk.old.next) × L.lacks link.new walk.old.log }
+    ensures refused { L.lacks link.old walk.old.log → L.is_sure link.old → FoundEnd result }
+{
+    for done in 0..steps {
+        match deliver_step(link, transactions, walk, sink) {
+            Ended::StepLimit => {}
+            ended => return ended,
+        }
+    }
+    Ended::StepLimit
+}
+
+// One step of a walk into a sink.
+fn deliver_step<L: LogLink, S: Sink>(
+    link: &mut L,
+    transactions: &mut Transactions,
+    walk: &mut Walk,
+    sink: &mut S,
+) -> Ended
+    ensures never_falls { L.failures link.old ≤ L.failures link.new }
+    ensures retries { transactions.new.retries ≡ transactions.old.retries }
+    ensures begun { transactions.new.begun ≤ transactions.old.begun + 2 }
+    ensures log { walk.new.log ≡ walk.old.log }
+    ensures delivers { Delivery S.puts sink.old sink.new
+        (λ r M H. L.is_honest link.old walk.old.log r M H) (λ r M H. L.is_honest link.new walk.old.log r M H)
+        transactions.old.retries (L.failures link.old) (L.failures link.new) walk.old walk.new 1 result }
+    ensures sure { L.is_sure link.old → L.is_sure link.new }
+    ensures answered { (r : ℕ) (M : List Moment) (H : History) (s : ℕ) →
+        L.is_sure link.old → L.is_honest link.old walk.old.log r M H → walk.old.next ≡ number s → FoundEnd result }
+    ensures lacking { L.lacks link.old walk.old.log →
+        MissingEnd 1 result × (sink.new ≡ sink.old) × (walk.new.next ≡ walk.old.next) × L.lacks link.new walk.old.log }
+    ensures refused { L.lacks link.old walk.old.log → L.is_sure link.old → FoundEnd result }
+{
+    let stepped = walk.step(link, transactions);
+    let _next = walk.next_number();
+    hand_on(walk, stepped, sink)
+}
+
+// Puts the batch of a step into a sink. The walk goes back to the record that stops it.
+fn hand_on<S: Sink>(walk: &mut Walk, stepped: Result<Step, WalkFault>, sink: &mut S) -> Ended
+    requires { HasNext stepped }
+    ensures { HandedOn S.puts sink.old walk.old stepped result walk.new sink.new }
+{
+    let batch = match stepped {
+        Err(fault) => return Ended::Fault(fault),
+        Ok(Step::CaughtUp) => return Ended::CaughtUp,
+        Ok(Step::Batch(batch)) => batch,
+    };
+    match put_all(sink, &batch) {
+        None => Ended::StepLimit,
+        Some(number) => {
+            walk.go_on_at(number_after(number, 1));
+            Ended::Stopped
+        }
+    }
+}
+
+// Puts the records of a batch, until one is answered with false: the number of that one.
+fn put_all<S: Sink>(sink: &mut S, batch: &Batch) -> Option<u32>
+    ensures { PutAll S.puts sink.old batch.now.gap batch.now.entries.items result sink.new }
+{
+    let mut gap = batch.gap;
+    for entry in batch.entries.as_slice() {
+        if !sink.put(gap, *entry) {
+            return Some(entry.number);
+        }
+        gap = None;
+    }
+    None
+}

@@ -1,0 +1,267 @@
+//! A walk of a log: which question comes next, and what an answer brings.
+ghost use Rattle.std.specs.Prelude.{ℕ, ◌≡◌, ◌+◌, ◌^◌, ◌<◌, ◌≤◌, true, false, length};
+ghost use Rattle.bac_walk.specs.Replies.{extent_of};
+ghost use Rattle.bac_walk.specs.Heard.{heard_at};
+ghost use Rattle.bac_link.specs.Links.{AsksFor};
+ghost use Rattle.bac_link.specs.Requests.{IsTooLong};
+ghost use Rattle.bac_walk.specs.Ordinals.{distance, number_after, is_ahead};
+ghost use Rattle.bac_walk.specs.Place.{Place, IsWalk, start_at, start_oldest};
+ghost use Rattle.bac_walk.specs.Walks.{asks_oldest_now, wanted_of, is_past, fits, gap_items, gap_of, IsTakenFrom, with_numbers};
+
+use crate::batch::{Batch, Gap, Numbered};
+use crate::outcome::{BadReply, Progress};
+use crate::read::said_of;
+use arrayvec::ArrayVec;
+use bac_apdu::{Extent, ReadRange};
+use bac_link::Request;
+use bac_log::Entry;
+use bac_wire::{Date4, ObjectId, Time4};
+use std::marker::Model;
+
+/// A place in a trend log, from which its records are asked for.
+#[derive(Drop)]
+pub struct Walk {
+    log: ObjectId,
+    next: u32,
+    // It begins at the oldest record, and had no batch yet.
+    fresh: bool,
+    // The oldest records are asked for in place of the next.
+    asks_oldest: bool,
+}
+
+impl Model for Walk {
+    ghost Value = { Place };
+
+    ghost view = { λ w. record { log = w.log; next = w.next; fresh = w.fresh; asks_oldest = w.asks_oldest } };
+
+    ghost invariant = { λ w. IsWalk w.log w.next w.fresh };
+}
+
+impl Walk {
+    /// A walk from this number on; `None` where it is 0, or the object isn't a trend log.
+    pub fn from_number(log: ObjectId, s: u32) -> Option<Walk>
+        ensures { result ≡ start_at log s }
+    {
+        if s == 0 || log.kind() != 20 {
+            return None;
+        }
+        Some(Walk {
+            log,
+            next: s,
+            fresh: false,
+            asks_oldest: false,
+        })
+    }
+
+    /// A walk from the oldest record on; `None` where the object isn't a trend log.
+    pub fn oldest(log: ObjectId) -> Option<Walk>
+        ensures { result ≡ start_oldest log }
+    {
+        if log.kind() != 20 {
+            return None;
+        }
+        Some(Walk {
+            log,
+            next: 1,
+            fresh: true,
+            asks_oldest: false,
+        })
+    }
+
+    /// The number that the walk asks for next; 1 where it begins at the oldest record and had no
+    /// batch yet.
+    pub fn next_number(&self) -> u32
+        ensures next { result ≡ self.now.next }
+        ensures some { 0 < result }
+        ensures first { self.now.fresh ≡ true → result ≡ 1 }
+    {
+        self.next
+    }
+
+    /// What to ask next: a hundred records from the next number on, or from the oldest. It always
+    /// fits a request.
+    pub fn question(&self) -> Request
+        ensures asks { AsksFor self.now.log (extent_of (wanted_of self.now)) result }
+        ensures fits { IsTooLong result → ⊥ }
+    {
+        let object = self.log();
+        let _kind = object.kind();
+        let _instance = object.instance();
+        let _next = self.next_number();
+        let extent = self.extent();
+        Request::ReadRange(ReadRange {
+            object,
+            property: 131,
+            index: None,
+            extent,
+        })
+    }
+
+    // The hundred records that are asked for: from the next number on, or from the oldest held on,
+    // as those newer than 1900-01-01T00:00:00.00.
+    fn extent(&self) -> Extent
+        ensures { result ≡ extent_of (wanted_of self.now) }
+    {
+        if self.asks_oldest_now() {
+            Extent::ByTime {
+                date: Date4 {
+                    year: 0,
+                    month: 1,
+                    day: 1,
+                    weekday: 1,
+                },
+                time: Time4 {
+                    hour: 0,
+                    minute: 0,
+                    second: 0,
+                    hundredth: 0,
+                },
+                count: 100,
+            }
+        } else {
+            Extent::ByNumber {
+                reference: self.next,
+                count: 100,
+            }
+        }
+    }
+
+    /// Back to the first question.
+    pub fn restart(&mut self)
+        ensures { self.new ≡ record self.old { asks_oldest = false } }
+    {
+        self.asks_oldest = false;
+    }
+
+    /// Takes the service parameters of the ACK that answers the question.
+    pub fn take(&mut self, ack: &[u8]) -> Result<Progress, BadReply>
+        ensures { IsTakenFrom self.old (heard_at self.old.log ack.now) result self.new }
+    {
+        let Some(said) = said_of(self.log(), ack) else {
+            return Err(BadReply);
+        };
+        let total = said.records.total;
+        if total == 0 {
+            if self.asks_oldest_now() {
+                return Ok(Progress::CaughtUp);
+            }
+            self.ask_oldest();
+            return Ok(Progress::AskOldest);
+        }
+        let Some(first) = said.first else {
+            return Err(BadReply);
+        };
+        if self.is_past(first) {
+            return Ok(Progress::CaughtUp);
+        }
+        if said.count != total as u64 || !self.fits(first, total) {
+            return Err(BadReply);
+        }
+        let gap = self.gap_up_to(first);
+        let entries = numbered_from(first, &said.records.kept);
+        self.go_on_at(number_after(first, total as u32));
+        Ok(Progress::Batch(Batch { gap, entries }))
+    }
+
+    /// The trend log.
+    pub fn log(&self) -> ObjectId
+        ensures log { result ≡ self.now.log }
+        ensures kind { result.kind ≡ 20 }
+    {
+        self.log
+    }
+
+    // It goes on at this number.
+    pub(crate) fn go_on_at(&mut self, next: u32)
+        requires { 0 < next }
+        ensures { self.new ≡ record { log = self.old.log; next = next; fresh = false; asks_oldest = false } }
+    {
+        self.next = next;
+        self.fresh = false;
+        self.asks_oldest = false;
+    }
+
+    // It asks for the oldest records next.
+    fn ask_oldest(&mut self)
+        ensures { self.new ≡ record self.old { asks_oldest = true } }
+    {
+        self.asks_oldest = true;
+    }
+
+    fn asks_oldest_now(&self) -> bool
+        ensures { result ≡ asks_oldest_now self.now }
+    {
+        self.fresh || self.asks_oldest
+    }
+
+    // Whether the oldest entries were asked for, and those that came begin before the next number.
+    fn is_past(&self, first: u32) -> bool
+        ensures { result ≡ is_past self.now first }
+    {
+        self.asks_oldest_now() && !self.fresh && !is_ahead(self.next, first)
+    }
+
+    // Whether so many entries from this number on were asked for.
+    fn fits(&self, first: u32, count: usize) -> bool
+        ensures { result ≡ fits self.now first count }
+    {
+        count <= 100
+            && u64::from(first) + count as u64 <= 4294967295
+            && (self.asks_oldest_now()
+                || (is_ahead(self.next, first)
+                    && u64::from(distance(self.next, first)) + count as u64 <= 100))
+    }
+
+    // The gap before this number.
+    fn gap_up_to(&self, first: u32) -> Option<Gap>
+        ensures { gap_items result ≡ gap_of self.now first }
+    {
+        if !self.fresh && distance(self.next, first) > 0 {
+            Some(Gap {
+                first: self.next,
+                before: first,
+            })
+        } else {
+            None
+        }
+    }
+}
+
+// Whether a number is that of the next entry, or of a later one.
+fn is_ahead(next: u32, first: u32) -> bool
+    ensures { result ≡ is_ahead next first }
+{
+    next <= first
+}
+
+// How many numbers lie from one up to another.
+fn distance(first: u32, before: u32) -> u32
+    ensures { result ≡ distance first before }
+{
+    before.saturating_sub(first)
+}
+
+// The number so many places after another.
+pub(crate) fn number_after(first: u32, count: u32) -> u32
+    requires { first + count < 2 ^ 32 }
+    ensures { result ≡ number_after first count }
+{
+    first + count
+}
+
+/// The entries, each with its number.
+fn numbered_from(first: u32, entries: &ArrayVec<Entry, 100>) -> ArrayVec<Numbered, 100>
+    requires { first + length entries.now.items < 2 ^ 32 }
+    ensures { result.items ≡ with_numbers first entries.now.items }
+{
+    let mut numbered = ArrayVec::new();
+    let mut number = first;
+    for entry in entries.as_slice() {
+        numbered.push(Numbered {
+            number,
+            entry: *entry,
+        });
+        number = number_after(number, 1);
+    }
+    numbered
+}
