@@ -7,6 +7,10 @@ mod apdu;
 #[cfg(test)]
 mod device;
 #[cfg(test)]
+mod link;
+#[cfg(test)]
+mod link_callers;
+#[cfg(test)]
 mod log;
 #[cfg(test)]
 mod log_answers;
