@@ -18,7 +18,14 @@ use bac_log::Entry;
 use bac_wire::{Date4, ObjectId, Time4};
 use std::marker::Model;
 
-/// A place in a trend log, from which its records are asked for.
+/// The object type of trend logs (clause 21, BACnetObjectType).
+const TREND_LOG: u16 = 20;
+
+/// The property that holds a log's records (clause 12.25, BACnetPropertyIdentifier).
+pub(crate) const LOG_BUFFER: u32 = 131;
+
+/// A place in a trend log, from which its records are asked for: a hundred at a time, by their
+/// numbers, and where none of these is held, the oldest.
 #[derive(Drop)]
 pub struct Walk {
     log: ObjectId,
@@ -42,7 +49,7 @@ impl Walk {
     pub fn from_number(log: ObjectId, s: u32) -> Option<Walk>
         ensures { result ≡ start_at log s }
     {
-        if s == 0 || log.kind() != 20 {
+        if s == 0 || log.kind() != TREND_LOG {
             return None;
         }
         Some(Walk {
@@ -57,7 +64,7 @@ impl Walk {
     pub fn oldest(log: ObjectId) -> Option<Walk>
         ensures { result ≡ start_oldest log }
     {
-        if log.kind() != 20 {
+        if log.kind() != TREND_LOG {
             return None;
         }
         Some(Walk {
@@ -91,7 +98,7 @@ impl Walk {
         let extent = self.extent();
         Request::ReadRange(ReadRange {
             object,
-            property: 131,
+            property: LOG_BUFFER,
             index: None,
             extent,
         })
@@ -126,14 +133,20 @@ impl Walk {
         }
     }
 
-    /// Back to the first question.
+    /// Back to the question by number, or for a walk from the oldest record without a batch to the
+    /// one by time.
     pub fn restart(&mut self)
         ensures { self.new ≡ record self.old { asks_oldest = false } }
     {
         self.asks_oldest = false;
     }
 
-    /// Takes the service parameters of the ACK that answers the question.
+    /// Takes the service parameters of the ACK that answers the question (clause 15.8). Records that
+    /// were asked for are a batch, with a gap before them where they begin behind the next number.
+    /// Without records, the oldest are asked for next; where none newer than the walk is there
+    /// either, it is caught up. `BadReply`, with the walk as it was, where the ACK is that of
+    /// another object or property or has an index, an item is no record, records have no first
+    /// number, or count, records and what was asked for don't agree. The flags aren't looked at.
     pub fn take(&mut self, ack: &[u8]) -> Result<Progress, BadReply>
         ensures { IsTakenFrom self.old (heard_at self.old.log ack.now) result self.new }
     {
