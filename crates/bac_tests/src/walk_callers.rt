@@ -27,7 +27,9 @@ pub fn records_from<L: LogLink>(
         (count : ℕ) × (t : ℕ) × (outcome.next ≡ number t) × DeliversTo H s outcome.items.items t M count
         × L.is_honest link.new log r (after_answers count M) H) }
 {
-    let mut walk = Walk::from_number(log, s)?;
+    let Some(mut walk) = Walk::from_number(log, s) else {
+        return None;
+    };
     let mut transactions = Transactions::new(3);
     Some(collect(alloc, link, &mut transactions, &mut walk, steps))
 }
@@ -47,7 +49,9 @@ pub fn all_records_from<L: LogLink>(
         (outcome.why ≡ why.Memory) ⊎ (outcome.items.items ≡ (rest_all H m s).items)) }
 {
     rests_all();
-    let mut walk = Walk::from_number(log, s)?;
+    let Some(mut walk) = Walk::from_number(log, s) else {
+        return None;
+    };
     let mut transactions = Transactions::new(0);
     Some(collect(alloc, link, &mut transactions, &mut walk, steps))
 }

@@ -1,11 +1,11 @@
 //! A walk of a log: which question comes next, and what an answer brings.
-ghost use Rattle.std.specs.Prelude.{ℕ, ◌≡◌, ◌+◌, ◌^◌, ◌<◌, ◌≤◌, true, false, length};
+ghost use Rattle.std.specs.Prelude.{ℕ, ◌≡◌, ◌+◌, ◌^◌, ◌<◌, ◌≤◌, ◌↔◌, true, false, length, IfSome, IsSome};
 ghost use Rattle.bac_walk.specs.Replies.{extent_of};
 ghost use Rattle.bac_walk.specs.Heard.{heard_at};
 ghost use Rattle.bac_link.specs.Links.{AsksFor};
 ghost use Rattle.bac_link.specs.Requests.{IsTooLong};
 ghost use Rattle.bac_walk.specs.Ordinals.{distance, number_after, is_ahead};
-ghost use Rattle.bac_walk.specs.Place.{Place, IsWalk, start_at, start_oldest};
+ghost use Rattle.bac_walk.specs.Place.{Place, IsWalk, walk_at, walk_from_oldest};
 ghost use Rattle.bac_walk.specs.Walks.{asks_oldest_now, wanted_of, is_past, fits, gap_items, gap_of, IsTakenFrom, with_numbers};
 
 use crate::batch::{Batch, Gap, Numbered};
@@ -47,7 +47,8 @@ impl Model for Walk {
 impl Walk {
     /// A walk from this number on; `None` where it is 0, or the object isn't a trend log.
     pub fn from_number(log: ObjectId, s: u32) -> Option<Walk>
-        ensures { result ≡ start_at log s }
+        ensures some { IfSome result (λ w. w ≡ walk_at log s) }
+        ensures is_some { IsSome result ↔ (0 < s) × (log.kind ≡ 20) }
     {
         if s == 0 || log.kind() != TREND_LOG {
             return None;
@@ -62,7 +63,8 @@ impl Walk {
 
     /// A walk from the oldest record on; `None` where the object isn't a trend log.
     pub fn oldest(log: ObjectId) -> Option<Walk>
-        ensures { result ≡ start_oldest log }
+        ensures some { IfSome result (λ w. w ≡ walk_from_oldest log) }
+        ensures is_some { IsSome result ↔ log.kind ≡ 20 }
     {
         if log.kind() != TREND_LOG {
             return None;
