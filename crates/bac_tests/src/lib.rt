@@ -29,4 +29,8 @@ mod replay;
 #[cfg(test)]
 mod streams;
 #[cfg(test)]
+mod walk;
+#[cfg(test)]
+mod walk_callers;
+#[cfg(test)]
 mod wire;

@@ -3,9 +3,6 @@ use Rattle.std.proofs.Common.{◌≡◌, ℕ, suc, ◌+◌, List, [], ◌∷◌,
 use Rattle.bac_log.specs.declared.entry.Entry.{Entry}
 use Rattle.bac_walk.specs.declared.batch.Numbered.{Numbered}
 use Rattle.bac_walk.specs.Walks.{with_numbers, shown_from, item_of}
-use Rattle.std.specs.Prelude.{Bool, true, false, not, ◌==◌, ◌||◌, if◌then◌else◌, Some, None}
-use Rattle.bac_wire.specs.Primitive.{Id}
-use Rattle.bac_walk.specs.Place.{Place, start_at}
 
 pub with_numbers-push : (k : ℕ) (es : List Entry) (e : Entry) →
     with_numbers k (es ++ e ∷ []) ≡ with_numbers k es ++ record { number = k + length es; entry = e } ∷ []
@@ -25,12 +22,3 @@ length-with_numbers n es xs is = ap length is ∙ counted n es
     counted : (k : ℕ) (ys : List Entry) → length (with_numbers k ys) ≡ length ys
     counted k [] = refl
     counted k (y ∷ ys) = ap suc (counted (k + 1) ys)
-
--- where a walk that was begun is
-pub started_is : (log : Id) (s : ℕ) (w : Place) → Some w ≡ start_at log s → w ≡ record { log = log; next = s; fresh = false; asks_oldest = false }
-started_is log s w is = at ((s == 0) || not (log.kind == 20)) is
-  where
-    at : (b : Bool) → Some w ≡ (if b then None else Some (record { log = log; next = s; fresh = false; asks_oldest = false })) →
-        w ≡ record { log = log; next = s; fresh = false; asks_oldest = false }
-    at true e = absurd (cc)
-    at false e = cc

@@ -1,5 +1,5 @@
 -- Where a walk of a log is.
-use Rattle.std.specs.Prelude.{ℕ, Bool, true, false, ◌==◌, ◌||◌, not, ◌≡◌, ◌<◌, Option, Some, None, if◌then◌else◌}
+use Rattle.std.specs.Prelude.{ℕ, Bool, true, false, ◌≡◌, ◌<◌}
 use Rattle.bac_wire.specs.Primitive.{Id}
 
 -- the log, the next number, whether the walk begins at the oldest record and had no batch yet, and whether the oldest
@@ -17,15 +17,9 @@ pub record IsWalk (log : Id) (next : ℕ) (fresh : Bool) : Type 0 where
   pub some : 0 < next
   pub first : fresh ≡ true → next ≡ 1
 
--- where a walk of a trend log, object type 20, begins: at a number from 1 on, or at the oldest record
-abbrev pub start_at : Id → ℕ → Option Place
-start_at log s =
-    if (s == 0) || not (log.kind == 20)
-    then None
-    else Some (record { log = log; next = s; fresh = false; asks_oldest = false })
+-- where a walk from a number, and one from the oldest record, begin
+abbrev pub walk_at : Id → ℕ → Place
+walk_at log s = record { log = log; next = s; fresh = false; asks_oldest = false }
 
-abbrev pub start_oldest : Id → Option Place
-start_oldest log =
-    if not (log.kind == 20)
-    then None
-    else Some (record { log = log; next = 1; fresh = true; asks_oldest = false })
+abbrev pub walk_from_oldest : Id → Place
+walk_from_oldest log = record { log = log; next = 1; fresh = true; asks_oldest = false }

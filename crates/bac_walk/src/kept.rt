@@ -49,7 +49,11 @@ impl Sink for Kept {
     }
 }
 
-/// At most so many steps of a walk. Room for a step is made before it.
+/// At most so many steps of a walk, and what they brought: a step is one batch, or the finding that
+/// there is none. Room for 101 items is made before each step, so where there is none (`Memory`)
+/// nothing of that step was asked, and the next number is right. After a fault the items and the
+/// next number of all steps before it stand. "Caught up" says that at some answer after the last
+/// batch no record was as new as the next number, not that nothing was logged since.
 pub fn collect<L: LogLink>(
     alloc: Global,
     link: &mut L,
@@ -58,18 +62,21 @@ pub fn collect<L: LogLink>(
     steps: u32,
 ) -> Outcome
     ensures next { result.next ≡ walk.new.next }
+    ensures oldest { walk.new.fresh ≡ true → result.next ≡ 1 }
     ensures log { walk.new.log ≡ walk.old.log }
     ensures begun { transactions.new.begun ≤ transactions.old.begun + 2 * steps }
-    // It delivers the entries from its ordinal on that the log holds when each is reached, with gaps.
+    // Over an honest link it delivers the records from its number on that the log holds when each is
+    // reached, each once, in rising order, with one exact gap for what is gone.
     ensures headline { (r : ℕ) (M : List Moment) (H : History) (s : ℕ) →
         L.is_honest link.old walk.old.log r M H → walk.old.next ≡ number s →
         (b : ℕ) × (a : ℕ) × (t : ℕ) × (walk.old.fresh ≡ false → b ≡ s) × (walk.new.next ≡ number t)
         × DeliversTo H b result.items.items t M a × L.is_honest link.new walk.old.log r (after_answers a M) H }
-    // It is a run of so many steps, or of fewer that had no memory for the next.
+    // It is a run of so many steps, or of fewer that had no memory for the next: over any link, and
+    // over an honest one with all that its answers brought and how it ended.
     ensures delivers { (n : ℕ) × (ended : EndedOf) × IsRunOf result.why steps n ended
         × IsRun (λ r M H. L.is_honest link.old walk.old.log r M H) (λ r M H. L.is_honest link.new walk.old.log r M H)
         transactions.old.retries (L.failures link.old) (L.failures link.new) walk.old walk.new n ended result.items.items }
-    // Over a log that doesn't change, and a link that loses nothing.
+    // Over a link that loses nothing, of a log that doesn't change, or that the link lacks.
     ensures resting { (r : ℕ) (m : Moment) (H : History) (s : ℕ) →
         L.is_sure link.old → L.is_honest link.old walk.old.log r (m ∷ []) H → walk.old.next ≡ number s →
         Rests (rest r H m walk.old.fresh s steps) steps result.items.items result.next result.why }

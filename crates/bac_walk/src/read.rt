@@ -16,11 +16,15 @@ ghost use Rattle.bac_walk.specs.Heard.{heard_at, is_of_log, records_in, same_id}
 ghost use Rattle.bac_walk.specs.Reads.{IsRead, IsSaid};
 ghost use Rattle.bac_apdu.specs.Service.ReadRangeAck.{range_ack_of};
 
+use crate::walk::LOG_BUFFER;
 use arrayvec::ArrayVec;
 use bac_apdu::{Apdu, ReadRangeAck};
 use bac_link::read_datagram;
 use bac_log::{Entry, read_entry};
 use bac_wire::ObjectId;
+
+/// The service choice of ReadRange (clause 21, BACnetConfirmedServiceChoice).
+const READ_RANGE: u8 = 26;
 
 /// The service parameters of the ACK of ReadRange in a datagram.
 pub(crate) fn ack_parameters(datagram: &[u8]) -> Option<&[u8]>
@@ -46,7 +50,7 @@ fn parameters_inside(datagram: &[u8]) -> Option<&[u8]>
             if segmented {
                 return None;
             }
-            if service != 26 {
+            if service != READ_RANGE {
                 return None;
             }
             Some(parameters)
@@ -128,7 +132,7 @@ pub(crate) fn is_same(a: ObjectId, b: ObjectId) -> bool
 fn is_of(ack: &ReadRangeAck, log: ObjectId) -> bool
     ensures { result ≡ is_of_log log (range_ack_of ack.now) }
 {
-    is_same(ack.object, log) && ack.property == 131 && ack.index.is_none()
+    is_same(ack.object, log) && ack.property == LOG_BUFFER && ack.index.is_none()
 }
 
 /// What the parameters of an ACK say of a log.

@@ -10,7 +10,8 @@ use crate::sink::{Sink, deliver};
 use crate::walk::Walk;
 use bac_link::{LogLink, Transactions};
 
-/// A walk into one sink, and a new walk from where it stopped into another: together they deliver as one.
+/// A walk into one sink, and a new walk from the number where it ended into another: over an honest
+/// link the two together deliver as one.
 pub fn stop_and_resume<L: LogLink, S: Sink, R: Sink>(
     link: &mut L,
     transactions: &mut Transactions,

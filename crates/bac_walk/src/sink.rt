@@ -24,7 +24,10 @@ pub trait Sink {
         ensures { puts self.old gap item result self.new };
 }
 
-/// At most so many steps of a walk, whose records are put into a sink until one is answered with false.
+/// At most so many steps of a walk, whose records are put into a sink one after the other, until one
+/// is answered with false: then it ends as `Stopped`, drops the rest of that reply, and the walk goes
+/// on behind that record. It takes no memory. Over every link it puts at most 100 records a step, at
+/// most one of them with a gap, and begins at most two transactions a step.
 pub fn deliver<L: LogLink, S: Sink>(
     link: &mut L,
     transactions: &mut Transactions,

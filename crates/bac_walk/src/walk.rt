@@ -1,11 +1,11 @@
 //! A walk of a log: which question comes next, and what an answer brings.
-ghost use Rattle.std.specs.Prelude.{ℕ, ◌≡◌, ◌+◌, ◌^◌, ◌<◌, ◌≤◌, true, false, length};
+ghost use Rattle.std.specs.Prelude.{ℕ, ◌≡◌, ◌+◌, ◌^◌, ◌<◌, ◌≤◌, ◌↔◌, true, false, length, IfSome, IsSome};
 ghost use Rattle.bac_walk.specs.Replies.{extent_of};
 ghost use Rattle.bac_walk.specs.Heard.{heard_at};
 ghost use Rattle.bac_link.specs.Links.{AsksFor};
 ghost use Rattle.bac_link.specs.Requests.{IsTooLong};
 ghost use Rattle.bac_walk.specs.Ordinals.{distance, number_after, is_ahead};
-ghost use Rattle.bac_walk.specs.Place.{Place, IsWalk, start_at, start_oldest};
+ghost use Rattle.bac_walk.specs.Place.{Place, IsWalk, walk_at, walk_from_oldest};
 ghost use Rattle.bac_walk.specs.Walks.{asks_oldest_now, wanted_of, is_past, fits, gap_items, gap_of, IsTakenFrom, with_numbers};
 
 use crate::batch::{Batch, Gap, Numbered};
@@ -18,7 +18,14 @@ use bac_log::Entry;
 use bac_wire::{Date4, ObjectId, Time4};
 use std::marker::Model;
 
-/// A place in a trend log, from which its records are asked for.
+/// The object type of trend logs (clause 21, BACnetObjectType).
+const TREND_LOG: u16 = 20;
+
+/// The property that holds a log's records (clause 12.25, BACnetPropertyIdentifier).
+pub(crate) const LOG_BUFFER: u32 = 131;
+
+/// A place in a trend log, from which its records are asked for: a hundred at a time, by their
+/// numbers, and where none of these is held, the oldest.
 #[derive(Drop)]
 pub struct Walk {
     log: ObjectId,
@@ -40,9 +47,10 @@ impl Model for Walk {
 impl Walk {
     /// A walk from this number on; `None` where it is 0, or the object isn't a trend log.
     pub fn from_number(log: ObjectId, s: u32) -> Option<Walk>
-        ensures { result ≡ start_at log s }
+        ensures some { IfSome result (λ w. w ≡ walk_at log s) }
+        ensures is_some { IsSome result ↔ (0 < s) × (log.kind ≡ 20) }
     {
-        if s == 0 || log.kind() != 20 {
+        if s == 0 || log.kind() != TREND_LOG {
             return None;
         }
         Some(Walk {
@@ -55,9 +63,10 @@ impl Walk {
 
     /// A walk from the oldest record on; `None` where the object isn't a trend log.
     pub fn oldest(log: ObjectId) -> Option<Walk>
-        ensures { result ≡ start_oldest log }
+        ensures some { IfSome result (λ w. w ≡ walk_from_oldest log) }
+        ensures is_some { IsSome result ↔ log.kind ≡ 20 }
     {
-        if log.kind() != 20 {
+        if log.kind() != TREND_LOG {
             return None;
         }
         Some(Walk {
@@ -91,7 +100,7 @@ impl Walk {
         let extent = self.extent();
         Request::ReadRange(ReadRange {
             object,
-            property: 131,
+            property: LOG_BUFFER,
             index: None,
             extent,
         })
@@ -126,14 +135,20 @@ impl Walk {
         }
     }
 
-    /// Back to the first question.
+    /// Back to the question by number, or for a walk from the oldest record without a batch to the
+    /// one by time.
     pub fn restart(&mut self)
         ensures { self.new ≡ record self.old { asks_oldest = false } }
     {
         self.asks_oldest = false;
     }
 
-    /// Takes the service parameters of the ACK that answers the question.
+    /// Takes the service parameters of the ACK that answers the question (clause 15.8). Records that
+    /// were asked for are a batch, with a gap before them where they begin behind the next number.
+    /// Without records, the oldest are asked for next; where none newer than the walk is there
+    /// either, it is caught up. `BadReply`, with the walk as it was, where the ACK is that of
+    /// another object or property or has an index, an item is no record, records have no first
+    /// number, or count, records and what was asked for don't agree. The flags aren't looked at.
     pub fn take(&mut self, ack: &[u8]) -> Result<Progress, BadReply>
         ensures { IsTakenFrom self.old (heard_at self.old.log ack.now) result self.new }
     {

@@ -6,14 +6,13 @@ use Rattle.bac_link.specs.Delivery.{DeliversTo}
 use Rattle.bac_walk.specs.Sinks.{put_items}
 use Rattle.bac_link.proofs.Delivers.{joined}
 use Rattle.bac_walk.proofs.Runs.{headline_of}
-use Rattle.bac_walk.proofs.Numbers.{started_is}
 use Rattle.bac_walk.proofs.resume.stop_and_resume.Goals as goal
 
 pub returns : goal.returns
 returns g c = record {
   resumed = λ r M H s old honest next.
       let walk : Place = c.in-Some.resumed in
-      let is = started_is c.log.result c.next_number.result walk (c.in-Some.ensures {u = tt}) in
+      let is = (c.in-Some.ensures {u = tt}).some in
       let log = ap (λ (w : Place). w.log) is ∙ c.log.ensures.log in
       let here = ap (λ (w : Place). w.next) is ∙ c.next_number.ensures.next in
       let x = c.deliver-first.ensures.delivers in
