@@ -97,6 +97,8 @@ fn heard<L: LogLink>(link: &mut L, request: &[u8]) -> Option<Datagram>
         IsHeardOfNone invoke (L.failures link.old) (L.failures link.new) result × L.lacks link.new id
         × (L.is_sure link.old → IsSome result) }
     ensures stays_sure { L.is_sure link.old → L.is_sure link.new }
+    ensures kept { (id : Id) (extent : AnyExtent) (invoke : ℕ) →
+        L.is_sure link.old → IsQuestion id extent invoke request.now → L.keeps link.old link.new }
 {
     match link.ask(request) {
         Ok(reply) => {
@@ -136,6 +138,9 @@ pub fn exchange<L: LogLink>(
         IsExchangedOfNone transactions.old.retries (L.failures link.old) (L.failures link.new) result × L.lacks link.new id
         × (L.is_sure link.old → IsNotLost result) }
     ensures stays_sure { L.is_sure link.old → L.is_sure link.new }
+    // A question changes nothing.
+    ensures kept { (id : Id) (extent : AnyExtent) →
+        L.is_sure link.old → AsksFor id extent request.now → L.keeps link.old link.new }
 {
     let Ok(datagram) = transactions.begin(request) else {
         return Err(ExchangeFault::TooLong);

@@ -39,6 +39,9 @@ pub trait LogLink {
     /// No question for a log's records is lost.
     ghost is_sure: { Self → Type 0 };
 
+    /// What questions leave as it is, where none of them is lost: for a device in memory, the device.
+    ghost keeps: { Self → Self → Type 0 };
+
     /// Sends the datagram and waits for one that answers it.
     fn ask(&mut self, request: &[u8]) -> Result<Datagram, Lost>
         ensures never_falls { failures self.old ≤ failures self.new }
@@ -51,10 +54,18 @@ pub trait LogLink {
             IsAskedOfNone invoke result × lacks self.new id }
         ensures stays_sure { is_sure self.old → is_sure self.new }
         ensures answered { (id : Id) (extent : AnyExtent) (invoke : ℕ) →
-            is_sure self.old → IsQuestion id extent invoke request.now → IsOk result };
+            is_sure self.old → IsQuestion id extent invoke request.now → IsOk result }
+        ensures kept { (id : Id) (extent : AnyExtent) (invoke : ℕ) →
+            is_sure self.old → IsQuestion id extent invoke request.now → keeps self.old self.new };
 
     /// A reply has room for a record at least, and the moments are those of one log, whose history
     /// has their entries.
     ghost serves: { (link : Self) (id : Id) (r : ℕ) (M : List Moment) (H : History) →
         is_honest link id r M H → AreServed r M H };
+
+    /// What nothing happens to is kept.
+    ghost keeps_itself: { (link : Self) → keeps link link };
+
+    /// What is kept twice is kept.
+    ghost keeps_on: { (a b c : Self) → keeps a b → keeps b c → keeps a c };
 }

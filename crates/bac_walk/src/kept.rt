@@ -82,6 +82,8 @@ pub fn collect<L: LogLink>(
         Rests (rest r H m walk.old.fresh s steps) steps result.items.items result.next result.why }
     ensures missing { L.lacks link.old walk.old.log → L.is_sure link.old →
         Misses steps walk.old.next result.items.items result.next result.why }
+    // Asking over such a link changes nothing.
+    ensures kept { L.is_sure link.old → L.keeps link.old link.new }
 {
     let mut kept = Kept {
         items: Vec::new(alloc),

@@ -42,8 +42,9 @@ pub fn deliver<L: LogLink, S: Sink>(
     ensures delivers { Delivery S.puts sink.old sink.new
         (λ r M H. L.is_honest link.old walk.old.log r M H) (λ r M H. L.is_honest link.new walk.old.log r M H)
         transactions.old.retries (L.failures link.old) (L.failures link.new) walk.old walk.new steps result }
-    // Over a link that loses nothing, nothing is lost.
+    // Over a link that loses nothing, nothing is lost, and asking changes nothing.
     ensures sure { L.is_sure link.old → L.is_sure link.new }
+    ensures kept { L.is_sure link.old → L.keeps link.old link.new }
     ensures answered { (r : ℕ) (M : List Moment) (H : History) (s : ℕ) →
         L.is_sure link.old → L.is_honest link.old walk.old.log r M H → walk.old.next ≡ number s → FoundEnd result }
     // A device without the log says so.
@@ -75,6 +76,7 @@ fn deliver_step<L: LogLink, S: Sink>(
         (λ r M H. L.is_honest link.old walk.old.log r M H) (λ r M H. L.is_honest link.new walk.old.log r M H)
         transactions.old.retries (L.failures link.old) (L.failures link.new) walk.old walk.new 1 result }
     ensures sure { L.is_sure link.old → L.is_sure link.new }
+    ensures kept { L.is_sure link.old → L.keeps link.old link.new }
     ensures answered { (r : ℕ) (M : List Moment) (H : History) (s : ℕ) →
         L.is_sure link.old → L.is_honest link.old walk.old.log r M H → walk.old.next ≡ number s → FoundEnd result }
     ensures lacking { L.lacks link.old walk.old.log →

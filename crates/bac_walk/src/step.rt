@@ -27,6 +27,7 @@ impl Walk {
         ensures asks { asks_next result ≡ true → self.new.next ≡ self.old.next }
         ensures log { self.new.log ≡ self.old.log }
         ensures sure { L.is_sure link.old → L.is_sure link.new }
+        ensures kept { L.is_sure link.old → L.keeps link.old link.new }
         ensures answered { (r : ℕ) (M : List Moment) (H : History) →
             L.is_sure link.old → L.is_honest link.old self.old.log r M H → FoundTurn result }
         ensures lacking { L.lacks link.old self.old.log →
@@ -65,8 +66,9 @@ impl Walk {
         ensures begun { transactions.new.begun ≤ transactions.old.begun + 2 }
         ensures fault { OnErr result (self.new.next ≡ self.old.next) }
         ensures log { self.new.log ≡ self.old.log }
-        // Over a link that loses nothing, nothing is lost.
+        // Over a link that loses nothing, nothing is lost, and asking changes nothing.
         ensures sure { L.is_sure link.old → L.is_sure link.new }
+        ensures kept { L.is_sure link.old → L.keeps link.old link.new }
         ensures answered { (r : ℕ) (M : List Moment) (H : History) (s : ℕ) →
             L.is_sure link.old → L.is_honest link.old self.old.log r M H → self.old.next ≡ number s → FoundStep result }
         // Over a log that doesn't change it is one step of a walk of it.

@@ -51,6 +51,10 @@ loop-tried-preserved g c =
       begun = c.loop-tried.invariant.begun;
       never_falls = omega (arith, c.loop-tried.invariant.never_falls, heard.never_falls);
       sure = λ s. heard.stays_sure (c.loop-tried.invariant.sure s);
+      kept = λ id extent s asks.
+          let is : IsQuestion id extent n c.octets.result.now = (c.octets.ensures.value ∙ (c.in-Ok.ensures {u = tt}).datagram ∙ ap (request_octets n) asks.0, asks.1, asks.2) in
+          g.met.L.LogLink.keeps_on c.args.link.now c.loop-tried.link c.heard.new.link
+          (c.loop-tried.invariant.kept id extent s asks) (heard.kept id extent n (c.loop-tried.invariant.sure s) is);
       honest = λ id r M H extent h asks.
           let i = c.loop-tried.invariant.honest id r M H extent h asks in
           let is : IsQuestion id extent n c.octets.result.now = (c.octets.ensures.value ∙ (c.in-Ok.ensures {u = tt}).datagram ∙ ap (request_octets n) asks.0, asks.1, asks.2) in

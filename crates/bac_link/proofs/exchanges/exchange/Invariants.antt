@@ -12,6 +12,7 @@ invariant-loop-tried g l = record {
   begun : l.transactions ≡ begun_with l.fn.request l.fn.transactions;
   never_falls : g.L.LogLink.failures l.fn.link ≤ g.L.LogLink.failures l.link;
   sure : g.L.LogLink.is_sure l.fn.link → g.L.LogLink.is_sure l.link;
+  kept : (id : Id) (extent : Extent) → g.L.LogLink.is_sure l.fn.link → AsksFor id extent l.fn.request → g.L.LogLink.keeps l.fn.link l.link;
   honest : (id : Id) (r : ℕ) (M : List Moment) (H : History) (extent : Extent) → g.L.LogLink.is_honest l.fn.link id r M H → AsksFor id extent l.fn.request →
       RisesBy l.tried (g.L.LogLink.failures l.fn.link) (g.L.LogLink.failures l.link) × g.L.LogLink.is_honest l.link id r M H
       × (g.L.LogLink.is_sure l.fn.link → l.tried ≡ 0);

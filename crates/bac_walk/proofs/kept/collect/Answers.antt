@@ -127,6 +127,8 @@ loop-done-preserved g c =
       begun = omega (arith, c.loop-done.invariant.begun, c.deliver-ended.ensures.begun);
       never_falls = omega (arith, c.loop-done.invariant.never_falls, c.deliver-ended.ensures.never_falls);
       sure = λ h. c.deliver-ended.ensures.sure (c.loop-done.invariant.sure h);
+      unchanged = λ h. g.met.L.LogLink.keeps_on c.args.link.now c.loop-done.link c.deliver-ended.new.link
+          (c.loop-done.invariant.unchanged h) (c.deliver-ended.ensures.kept (c.loop-done.invariant.sure h));
       missing = λ lacks.
           let gone = c.deliver-ended.ensures.lacking (subst K (sym c.loop-done.invariant.log) (c.loop-done.invariant.missing lacks).0) in
           absurd (omega (arith, subst E limit gone.0));

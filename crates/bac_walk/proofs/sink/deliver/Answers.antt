@@ -22,6 +22,7 @@ loop-done-init g c = record {
   begun = omega arith;
   never_falls = omega arith;
   sure = λ h. h;
+  unchanged = λ h. g.met.L.LogLink.keeps_itself c.args.link.now;
   missing = λ h. (h, refl);
   none = λ h. (refl, refl);
   delivers = no_delivery g.S.Sink.puts c.args.sink.now (λ r M H. g.L.LogLink.is_honest c.args.link.now c.args.walk.now.log r M H)
@@ -57,6 +58,8 @@ returns-in_default g c =
           c.args.walk.now c.loop-done.walk c.deliver_step.new.walk c.loop-done.done c.deliver_step.result
           c.loop-done.invariant.delivers step c.loop-done.invariant.never_falls);
       sure = λ h. c.deliver_step.ensures.sure (c.loop-done.invariant.sure h);
+      kept = λ h. g.met.L.LogLink.keeps_on c.args.link.now c.loop-done.link c.deliver_step.new.link
+          (c.loop-done.invariant.unchanged h) (c.deliver_step.ensures.kept (c.loop-done.invariant.sure h));
       answered = λ r M H s sure honest next.
           let run = c.loop-done.invariant.delivers.4.1 r M H s honest next in
           let N : Id → Type 0 = λ n. g.L.LogLink.is_honest c.loop-done.link n r (after_answers (length run.0) M) H in
@@ -95,6 +98,8 @@ loop-done-preserved g c =
       begun = omega (arith, c.loop-done.invariant.begun, c.deliver_step.ensures.begun);
       never_falls = omega (arith, c.loop-done.invariant.never_falls, c.deliver_step.ensures.never_falls);
       sure = λ h. c.deliver_step.ensures.sure (c.loop-done.invariant.sure h);
+      unchanged = λ h. g.met.L.LogLink.keeps_on c.args.link.now c.loop-done.link c.deliver_step.new.link
+          (c.loop-done.invariant.unchanged h) (c.deliver_step.ensures.kept (c.loop-done.invariant.sure h));
       missing = λ lacks.
           let gone = c.deliver_step.ensures.lacking (subst K (sym c.loop-done.invariant.log) (c.loop-done.invariant.missing lacks).0) in
           absurd (omega (arith, subst E c.in-StepLimit.is gone.0));

@@ -11,6 +11,7 @@ invariant-loop-done g l = record {
   begun : l.transactions.begun ≤ l.fn.transactions.begun + 2 * l.done;
   never_falls : g.L.LogLink.failures l.fn.link ≤ g.L.LogLink.failures l.link;
   sure : g.L.LogLink.is_sure l.fn.link → g.L.LogLink.is_sure l.link;
+  unchanged : g.L.LogLink.is_sure l.fn.link → g.L.LogLink.keeps l.fn.link l.link;
   missing : g.L.LogLink.lacks l.fn.link l.fn.walk.log → g.L.LogLink.lacks l.link l.fn.walk.log × (l.done ≡ 0);
   none : l.done ≡ 0 → (l.sink ≡ l.fn.sink) × (l.walk.next ≡ l.fn.walk.next);
   delivers : Delivery g.S.Sink.puts l.fn.sink l.sink (λ r M H. g.L.LogLink.is_honest l.fn.link l.fn.walk.log r M H)
