@@ -8,7 +8,8 @@ abbrev pub class_of : Fault → ℕ
 class_of UnknownObject = 1
 class_of fault = 2
 
--- unknown-object, unknown-property, property-is-not-an-array, invalid-array-index, write-access-denied, invalid-data-type, value-out-of-range
+-- unknown-object, unknown-property, property-is-not-an-array, invalid-array-index, write-access-denied,
+-- invalid-data-type, value-out-of-range
 abbrev pub code_of : Fault → ℕ
 code_of UnknownObject = 31
 code_of UnknownProperty = 32

@@ -33,7 +33,8 @@ abbrev pub elements_of : Option Shown → Option ℕ → Result (List Primitive)
 elements_of None index = Err UnknownProperty
 elements_of (Some shown) index = elements shown index
 
--- The values that a request asks for, or the first fault: the object isn't there, it lacks the property, an index into what is no array, no such element.
+-- The values that a request asks for, or the first fault: the object isn't there, it lacks the property, an index into
+-- what is no array, no such element.
 abbrev pub read_of : State → ReadProperty → Result (List Primitive) Fault
 read_of d r = do
   table ← table_at d r.object

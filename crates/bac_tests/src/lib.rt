@@ -4,6 +4,7 @@
 
 #[cfg(test)]
 mod apdu;
+mod commanding;
 #[cfg(test)]
 mod device;
 #[cfg(test)]
@@ -14,3 +15,5 @@ mod properties;
 mod replay;
 #[cfg(test)]
 mod wire;
+
+pub use commanding::{ask, build_and_give, give_all};
