@@ -53,7 +53,8 @@ printf '%s\n' "$device" "$objects" "$who_is" 'clock 2024-05-06T07:09:09.10' 'clo
 { cat "$room/answer"; printf 'sampled 0\nclock back\n'; } > "$room/clocked"
 bac replay < "$room/objects"
 ended 'objects and a clock' 0 '' "$room/clocked"
-bac replay <<< "$device"$'\n'"${objects/mode/pump}"
+printf '%s\n' "$device" 'binary 1 pump 0' 'binary 2 pump 0' "$who_is" > "$room/named"
+bac replay < "$room/named"
 ended 'two objects of one name' 1 $'cannot build: duplicate name\n'
 
 # The longest script, and one octet more: empty lines fill it.

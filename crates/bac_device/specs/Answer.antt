@@ -1,5 +1,5 @@
 -- What a device answers to a datagram, and what it is afterwards.
--- Read from the end: a frame (Annex J), what it has for the device (clause 6), an APDU (20.1), a request, a service (15, 16).
+-- Read from the end: a frame (Annex J), what it has for the device (clause 6), an APDU (20.1), a request, a service.
 use Rattle.std.specs.Prelude.{ℕ, ◌==◌, ◌&&◌, nat_le, Bool, true, false, if◌then◌else◌, List, [], ◌∷◌, min, Option, None, Some, Result, Ok, Err}
 use Rattle.std.specs.Option.{option_map}
 use Rattle.bac_wire.specs.Primitive.{Primitive, Object, Enumerated, Id}
@@ -50,10 +50,12 @@ own_id d id = if is_here d id then device_id d else id
 
 abbrev pub ack_octets : Id → ℕ → Option ℕ → List ℕ → List ℕ
 ack_octets object property index values =
-    canon_form read_property_ack (Value (Object object) ∷ Value (Enumerated property) ∷ number_item index ∷ Mark 3 ∷ Inside values ∷ [])
+    canon_form read_property_ack
+    (Value (Object object) ∷ Value (Enumerated property) ∷ number_item index ∷ Mark 3 ∷ Inside values ∷ [])
 
 abbrev pub ack : ℕ → State → ReadProperty → List Primitive → Apdu
-ack invoke d r values = Complex false invoke read_property_service (ack_octets (own_id d r.object) r.property r.index (values_octets values))
+ack invoke d r values =
+    Complex false invoke read_property_service (ack_octets (own_id d r.object) r.property r.index (values_octets values))
 
 abbrev pub read_said : State → ℕ → ℕ → ReadProperty → Result (List Primitive) Fault → Apdu
 read_said d limit invoke r (Ok values) = limited limit invoke (ack invoke d r values)
@@ -79,7 +81,8 @@ answer_write d invoke (Err reason) = (reject invoke reason, d)
 abbrev pub answer_request : State → Bool → ℕ → ℕ → ℕ → List ℕ → Apdu × State
 answer_request d segmented size invoke service parameters =
     if segmented then (abort invoke, d) else
-    if service == read_property_service then (answer_read d (min size d.reply_size) invoke (read_property_at parameters), d) else
+    if service == read_property_service
+    then (answer_read d (min size d.reply_size) invoke (read_property_at parameters), d) else
     if service == write_property_service then answer_write d invoke (write_property_at parameters) else
     (Reject invoke unrecognized_service, d)
 
@@ -110,7 +113,8 @@ replied said = (Some said.0, said.1)
 abbrev pub answer_apdu : State → Bool → Apdu → Option Apdu × State
 answer_apdu d to_all (Confirmed segmented size invoke service parameters) =
     if to_all then (None, d) else replied (answer_request d segmented size invoke service parameters)
-answer_apdu d to_all (Unconfirmed service parameters) = (if service == who_is_service then announced d (who_is_at parameters) else None, d)
+answer_apdu d to_all (Unconfirmed service parameters) =
+    (if service == who_is_service then announced d (who_is_at parameters) else None, d)
 answer_apdu d to_all other = (None, d)
 
 abbrev pub answer_heard : State → Option Heard → Option Apdu × State
@@ -125,9 +129,10 @@ sent to said = (option_map (reply to) said.0, said.1)
 
 -- what refuses a function of broadcast management
 abbrev pub nak : ℕ → Option Reply
-nak function = option_map (λ code. let r : Reply = record { datagram = nak_octets code; to = Sender } in r) (nak_code function)
+nak function =
+    option_map (λ code. let r : Reply = record { datagram = nak_octets code; to = Sender } in r) (nak_code function)
 
--- Original-Unicast-NPDU and Original-Broadcast-NPDU are answered to their sender, Forwarded-NPDU to the address in it (J.2.5).
+-- Original-Unicast-NPDU and Original-Broadcast-NPDU are answered to their sender, Forwarded-NPDU to its address (J.2.5).
 abbrev pub answer_frame : State → Option Frame → Option Reply × State
 answer_frame d None = (None, d)
 answer_frame d (Some (Unicast npdu)) = sent Sender (answer_heard d (heard_at false npdu))

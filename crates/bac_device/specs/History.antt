@@ -96,7 +96,8 @@ sets id priority w = is_id id w.object && (priority_of w == priority)
 -- what the last of the writes to this object at this priority set, if there is one
 abbrev pub last_at : Id → ℕ → List PropertyWrite → Option (Option Setting)
 last_at id priority [] = None
-last_at id priority (w ∷ ws) = option_or (last_at id priority ws) (if sets id priority w then Some (set_to w.value) else None)
+last_at id priority (w ∷ ws) =
+    option_or (last_at id priority ws) (if sets id priority w then Some (set_to w.value) else None)
 
 -- the same object with other slots
 abbrev pub with_slots : object.Object → command.Command → List (Option Setting) → object.Object
@@ -106,14 +107,17 @@ with_slots o c slots = record o { body = body.Command (record c { slots = slots 
 abbrev pub slot_after : Id → List PropertyWrite → ℕ → Option Setting
 slot_after id ws priority = unwrap_or (last_at id priority ws) None
 
--- At each priority the object has what the last accepted write at it set, or what it had; nothing else of the object has changed;
--- and Present_Value is read as the value at the lowest-numbered priority that isn't Null, else as Relinquish_Default.
-pub record Stands (d : State) (datagrams : List (List ℕ)) (id : Id) (o : object.Object) (c : command.Command) : Type 0 where
+-- At each priority the object has what the last accepted write at it set, or what it had; nothing else of the object
+-- has changed; and Present_Value is read as the value at the lowest-numbered priority that isn't Null, else as Relinquish_Default.
+pub record Stands (d : State) (datagrams : List (List ℕ)) (id : Id) (o : object.Object) (c : command.Command)
+    : Type 0 where
   pub slots : List (Option Setting)
   pub size : length slots ≡ 16
-  pub last : (priority : ℕ) → 1 ≤ priority → priority ≤ 16 → slice_get slots (priority - 1) ≡ option_or (last_at id priority (writes d datagrams)) (slice_get c.slots (priority - 1))
+  pub last : (priority : ℕ) → 1 ≤ priority → priority ≤ 16
+      → slice_get slots (priority - 1) ≡ option_or (last_at id priority (writes d datagrams)) (slice_get c.slots (priority - 1))
   pub held : lookup (is_id id) (after d datagrams).objects ≡ Some (with_slots o c slots)
-  pub read : read_of (after d datagrams) (record { object = id; property = 85; index = None }) ≡ Ok (value_of (present slots c.default) ∷ [])
+  pub read : read_of (after d datagrams) (record { object = id; property = 85; index = None })
+      ≡ Ok (value_of (present slots c.default) ∷ [])
 
 -- ---- devices that were built
 
@@ -124,12 +128,16 @@ default_of (Multistate instance name states default) = setting.Unsigned default
 default_of (Integer instance name default) = setting.Signed default
 
 -- After these writes each priority of the object is read as what the last of them at it set, else as Null;
--- Present_Value as the value at the lowest-numbered priority that isn't Null, else as Relinquish_Default; and that as the line had it.
+-- Present_Value as the value at the lowest-numbered priority that isn't Null, else as Relinquish_Default; and that as
+-- the line had it.
 pub record IsCommanded (d : State) (id : Id) (ws : List PropertyWrite) (default : Setting) : Type 0 where
-  pub array : read_of d (record { object = id; property = 87; index = None }) ≡ Ok (map (λ priority. slot_value (slot_after id ws priority)) (range_with_len 1 16))
-  pub present_value : read_of d (record { object = id; property = 85; index = None }) ≡ Ok (value_of (present (map (slot_after id ws) (range_with_len 1 16)) default) ∷ [])
+  pub array : read_of d (record { object = id; property = 87; index = None })
+      ≡ Ok (map (λ priority. slot_value (slot_after id ws priority)) (range_with_len 1 16))
+  pub present_value : read_of d (record { object = id; property = 85; index = None })
+      ≡ Ok (value_of (present (map (slot_after id ws) (range_with_len 1 16)) default) ∷ [])
   pub default_value : read_of d (record { object = id; property = 104; index = None }) ≡ Ok (value_of default ∷ [])
 
 -- the device of a line first, then the objects of lines in their order
 abbrev pub ids_in_order : DeviceLine → List ObjectLine → List Primitive
-ids_in_order device lines = Object (record { kind = 8; instance = device.instance }) ∷ map (λ line. Object (id_of line)) lines
+ids_in_order device lines =
+    Object (record { kind = 8; instance = device.instance }) ∷ map (λ line. Object (id_of line)) lines

@@ -79,7 +79,7 @@ own_tests (Multistate instance name states default) =
 own_tests (Integer instance name default) = []
 own_tests (Log instance name source capacity interval logged) = log_tests capacity interval logged
 
--- the tests of an object line behind the device's line, where a line before it has the same identifier, or the same name
+-- the tests of an object line behind the device's line; whether a line before it has the same identifier, or name
 abbrev pub line_tests : DeviceLine → ObjectLine → Bool → Bool → List (Bool × BuildFault)
 line_tests device line same_id same_name =
     (nat_lt 4194302 (instance_of line), BadInstance)
@@ -90,11 +90,13 @@ line_tests device line same_id same_name =
 
 -- the first fault of an object line behind the device's line and these object lines
 abbrev pub object_fault : DeviceLine → List ObjectLine → ObjectLine → Option BuildFault
-object_fault device before line = first_of (line_tests device line (has_id (id_of line) before) (has_name (name_of line) before))
+object_fault device before line =
+    first_of (line_tests device line (has_id (id_of line) before) (has_name (name_of line) before))
 
 abbrev pub objects_fault : DeviceLine → List ObjectLine → List ObjectLine → Option BuildFault
 objects_fault device before [] = None
-objects_fault device before (line ∷ lines) = option_or (object_fault device before line) (objects_fault device (before ++ line ∷ []) lines)
+objects_fault device before (line ∷ lines) =
+    option_or (object_fault device before line) (objects_fault device (before ++ line ∷ []) lines)
 
 abbrev pub device_fault : DeviceLine → Option BuildFault
 device_fault device = first_of (
@@ -120,7 +122,15 @@ entry_of line = (id_of line, record { name = name_of line; body = body_of line }
 -- the device that lines without a fault describe
 abbrev pub built : DeviceLine → List ObjectLine → State
 built device lines =
-    record { instance = device.instance; name = device.name; vendor = device.vendor; reply_size = device.reply_size; origin = device.clock; clock = device.clock; objects = map entry_of lines }
+    record {
+      instance = device.instance;
+      name = device.name;
+      vendor = device.vendor;
+      reply_size = device.reply_size;
+      origin = device.clock;
+      clock = device.clock;
+      objects = map entry_of lines;
+    }
 
 -- Lines with this fault are refused so. Want of memory is met only by lines without a fault.
 abbrev pub Refuses : BuildFault → Option BuildFault → Type 0

@@ -9,8 +9,8 @@ class_of UnknownObject = 1
 class_of NotList = 5
 class_of fault = 2
 
--- unknown-object, unknown-property, property-is-not-an-array, invalid-array-index, read-access-denied, property-is-not-a-list, write-access-denied, invalid-data-type,
--- value-out-of-range
+-- unknown-object, unknown-property, property-is-not-an-array, invalid-array-index, read-access-denied,
+-- property-is-not-a-list, write-access-denied, invalid-data-type, value-out-of-range
 abbrev pub code_of : Fault → ℕ
 code_of UnknownObject = 31
 code_of UnknownProperty = 32

@@ -35,7 +35,11 @@ value_in item = Null
 -- ---- ReadProperty (15.5)
 
 abbrev pub property_in : List Item → ReadProperty
-property_in items = record { object = id_in (get_or items 0 Absent); property = enumerated_in (get_or items 1 Absent); index = number_in (get_or items 2 Absent) }
+property_in items = record {
+  object = id_in (get_or items 0 Absent);
+  property = enumerated_in (get_or items 1 Absent);
+  index = number_in (get_or items 2 Absent);
+}
 
 -- the request, or the reason of its first wrong parameter
 unfoldable pub read_property_at : List ℕ → Result ReadProperty Reason
@@ -65,7 +69,8 @@ unfoldable pub write_property_at : List ℕ → Result PropertyWrite Reason
 write_property_at bytes = result_map write_in (form_at write_property bytes)
 
 abbrev pub write_of_code : WriteProperty → PropertyWrite
-write_of_code w = record { object = w.object; property = w.property; index = w.index; value = view w.value; priority = w.priority }
+write_of_code w =
+    record { object = w.object; property = w.property; index = w.index; value = view w.value; priority = w.priority }
 
 -- ---- Who-Is (16.10): its limits
 

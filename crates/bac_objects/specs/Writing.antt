@@ -34,7 +34,8 @@ is_i32 (negsuc n) = nat_lt n (2 ^ 31)
 abbrev pub setting_of : Range → Primitive → Result (Option Setting) Fault
 setting_of r Null = Ok None
 setting_of range.Binary (Enumerated n) = if nat_lt n 2 then Ok (Some (setting.Enumerated n)) else Err BadValue
-setting_of (range.Multistate states) (Unsigned n) = if nat_le 1 n && nat_le n states then Ok (Some (setting.Unsigned n)) else Err BadValue
+setting_of (range.Multistate states) (Unsigned n) =
+    if nat_le 1 n && nat_le n states then Ok (Some (setting.Unsigned n)) else Err BadValue
 setting_of range.Integer (Signed z) = if is_i32 z then Ok (Some (setting.Signed z)) else Err BadValue
 setting_of r value = Err BadType
 

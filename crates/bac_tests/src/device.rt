@@ -86,33 +86,46 @@ fn the_first_fault_of_object_lines(rt: HostRuntime) -> Result<(), Fail> {
     // A line's least fault, and the first line that has one.
     let twice = [binary(a, 1, "pump", 0)?, binary(a, 1, "pump", 2)?];
     is_refused(&rt, a, &device, &twice, Some(BuildFault::DuplicateId))?;
-    let names = [binary(a, 1, "pump", 0)?, binary(a, 2, "pump", 2)?, binary(a, 4_194_303, "", 0)?];
+    let names = [
+        binary(a, 1, "pump", 0)?,
+        binary(a, 2, "pump", 2)?,
+        binary(a, 4_194_303, "", 0)?,
+    ];
     is_refused(&rt, a, &device, &names, Some(BuildFault::DuplicateName))?;
     let own = [integer(a, "plant", 0)?];
     is_refused(&rt, a, &device, &own, Some(BuildFault::DuplicateName))?;
     // One instance of three types, and the least integer.
-    let good = [binary(a, 1, "pump", 1)?, multistate(a, "mode", 3, 3)?, integer(a, "level", -2_147_483_648)?];
+    let good = [
+        binary(a, 1, "pump", 1)?,
+        multistate(a, "mode", 3, 3)?,
+        integer(a, "level", -2_147_483_648)?,
+    ];
     is_refused(&rt, a, &device, &good, None)
 }
 
 /// Who-Is without limits, as a broadcast.
-const WHO_IS: [u8; 12] = [0x81, 0x0b, 0x00, 0x0c, 0x01, 0x20, 0xff, 0xff, 0x00, 0xff, 0x10, 0x08];
+const WHO_IS: [u8; 12] = [
+    0x81, 0x0b, 0x00, 0x0c, 0x01, 0x20, 0xff, 0xff, 0x00, 0xff, 0x10, 0x08,
+];
 
 /// The same, forwarded for 127.0.0.1:47809.
 const FORWARDED: [u8; 18] = [
-    0x81, 0x04, 0x00, 0x12, 127, 0, 0, 1, 0xba, 0xc1, 0x01, 0x20, 0xff, 0xff, 0x00, 0xff, 0x10, 0x08,
+    0x81, 0x04, 0x00, 0x12, 127, 0, 0, 1, 0xba, 0xc1, 0x01, 0x20, 0xff, 0xff, 0x00, 0xff, 0x10,
+    0x08,
 ];
 
 /// I-Am of Device 123: 1476 octets, no segmentation, vendor 0.
 const I_AM: [u8; 20] = [
-    0x81, 0x0a, 0x00, 0x14, 0x01, 0x00, 0x10, 0x00, 0xc4, 0x02, 0x00, 0x00, 0x7b, 0x22, 0x05, 0xc4, 0x91, 0x03,
-    0x21, 0x00,
+    0x81, 0x0a, 0x00, 0x14, 0x01, 0x00, 0x10, 0x00, 0xc4, 0x02, 0x00, 0x00, 0x7b, 0x22, 0x05, 0xc4,
+    0x91, 0x03, 0x21, 0x00,
 ];
 
 #[test]
 fn a_reply_goes_to_its_receiver(rt: HostRuntime) -> Result<(), Fail> {
     let a = rt.alloc();
-    let mut device = Device::build(a, &plant(a, 123, "plant", 1476)?, &[]).ok().ok_or("not built")?;
+    let mut device = Device::build(a, &plant(a, 123, "plant", 1476)?, &[])
+        .ok()
+        .ok_or("not built")?;
     let near = device.handle(&WHO_IS).ok_or("no reply")?;
     assert_eq!(rt; near.datagram.octets(), I_AM.as_slice());
     assert_eq!(rt; near.to, Receiver::Sender);
@@ -126,7 +139,9 @@ fn a_reply_goes_to_its_receiver(rt: HostRuntime) -> Result<(), Fail> {
 #[test]
 fn a_clock_goes_forwards(rt: HostRuntime) -> Result<(), Fail> {
     let a = rt.alloc();
-    let mut device = Device::build(a, &plant(a, 123, "plant", 1476)?, &[]).ok().ok_or("not built")?;
+    let mut device = Device::build(a, &plant(a, 123, "plant", 1476)?, &[])
+        .ok()
+        .ok_or("not built")?;
     assert_eq!(rt; device.clock(), at(7)?);
     assert_eq!(rt; device.advance(at(9)?), Ok(0));
     assert_eq!(rt; device.advance(at(8)?), Err(ClockBack));

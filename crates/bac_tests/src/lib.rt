@@ -5,6 +5,8 @@
 #[cfg(test)]
 mod apdu;
 #[cfg(test)]
+mod commanding;
+#[cfg(test)]
 mod device;
 #[cfg(test)]
 mod link;
