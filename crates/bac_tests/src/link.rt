@@ -126,6 +126,8 @@ impl LogLink for Scripted<'_> {
 
     ghost is_sure = { λ link. ⊥ };
 
+    ghost keeps = { λ a b. Unit {0} };
+
     fn ask(&mut self, _request: &[u8]) -> Result<Datagram, Lost> {
         if self.losses > 0 {
             self.losses -= 1;
@@ -142,6 +144,10 @@ impl LogLink for Scripted<'_> {
     }
 
     ghost serves = { λ link id r M H h. absurd h };
+
+    ghost keeps_itself = { λ link. tt };
+
+    ghost keeps_on = { λ a b c h k. tt };
 }
 
 /// What an exchange of the question brings, with three retries, and how many failures it met.

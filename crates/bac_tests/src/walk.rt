@@ -109,6 +109,8 @@ impl LogLink for Scripted<'_> {
 
     ghost is_sure = { λ link. ⊥ };
 
+    ghost keeps = { λ a b. Unit {0} };
+
     fn ask(&mut self, _request: &[u8]) -> Result<Datagram, Lost> {
         if let [reply, rest @ ..] = self.replies {
             self.replies = rest;
@@ -123,6 +125,10 @@ impl LogLink for Scripted<'_> {
     }
 
     ghost serves = { λ link id r M H h. absurd h };
+
+    ghost keeps_itself = { λ link. tt };
+
+    ghost keeps_on = { λ a b c h k. tt };
 }
 
 /// Keeps what it is given, and wants no more after the record of this number.
