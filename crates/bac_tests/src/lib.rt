@@ -2,14 +2,13 @@
 //! happy path, and the faults of readers, writers and memory that no contract can tell.
 #![tactic(auto)]
 
-pub mod log_callers;
-
 #[cfg(test)]
 mod apdu;
 #[cfg(test)]
 mod log;
 #[cfg(test)]
 mod log_answers;
+pub mod log_callers;
 #[cfg(test)]
 mod log_records;
 #[cfg(test)]
