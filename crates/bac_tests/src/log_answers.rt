@@ -156,7 +156,9 @@ fn a_reply_holds_what_fits(rt: HostRuntime) -> Result<(), Fail> {
         (Extent::All, 112, selected(1, 5, 0xc0, None)),
         (by_number(1, 3), 76, selected(1, 3, 0x80, Some(1))),
         (by_number(1, 3), 75, selected(1, 2, 0xa0, Some(1))),
+        (by_number(1, 100), 50, selected(1, 1, 0xa0, Some(1))),
         (by_number(3, 100), 50, selected(3, 1, 0x20, Some(3))),
+        (by_position(3, -2), 55, selected(2, 2, 0x00, None)),
         // the first of them is taken, for a count below 0 too
         (by_number(5, -3), 57, selected(3, 2, 0x20, Some(3))),
         (by_time(9, 4), 38, selected(2, 1, 0x20, Some(2))),
