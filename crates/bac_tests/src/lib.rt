@@ -11,4 +11,6 @@ mod passage;
 #[cfg(test)]
 mod replay;
 #[cfg(test)]
+mod results;
+#[cfg(test)]
 mod wire;
