@@ -5,7 +5,7 @@ use Rattle.std.specs.Prelude.{IfOk, IfSome}
 use Rattle.std.specs.Option.{option_map}
 use Rattle.std.specs.Result.{result_ok}
 use Rattle.bac_wire.specs.Primitive.{Primitive, Null, Boolean, Unsigned, Signed, Real, Double, Octets, Chars, Bits, Enumerated, Date, Time, Object}
-use Rattle.bac_wire.specs.Chain.{◌>>=◌, result_map}
+use Rattle.bac_wire.specs.Chain.{◌>>=◌, Gives, result_map}
 use Rattle.bac_wire.specs.OptionChain.{GivesSome}
 use Rattle.bac_wire.specs.Reading.{context_at, contents_as, mark_at}
 use Rattle.bac_wire.specs.Stamp.{date_octets, time_octets}
@@ -22,6 +22,8 @@ use Rattle.bac_apdu.specs.Fields.{number_in, unsigned_in, signed_in, date_in, ti
 use Rattle.bac_apdu.specs.Service.Extent.{range, by_reference, by_time, extent_in, is_count, is_date, is_time, date_fits, time_fits, IsExtent}
 use Rattle.bac_apdu.specs.Service.ReadRange.{read_range, read_range_at, range_in}
 use Rattle.bac_apdu.specs.Service.ReadRangeAck.{RangeAck, read_range_ack, read_range_ack_at, range_ack_in, range_ack_of, is_first, IsFirst}
+use Rattle.bac_apdu.specs.declared.service.write_property.WriteProperty.{WriteProperty}
+use Rattle.bac_apdu.specs.Service.WriteProperty.{PropertyWrite, write_property, write_property_at, write_in, write_of_code, is_priority, IsPriority}
 use Rattle.bac_apdu.specs.Service.WhoIs.{who_is, who_is_at, who_is_in, both, is_instance, AreLimits}
 
 -- ---- one parameter off the front
@@ -356,3 +358,50 @@ pub first_bounded : (bytes : List ℕ) (r : Option ReadRangeAck) → GivesSome r
 unfolding read_range_ack_at
 first_bounded bytes (Some a) e = ack_read bytes (form_at read_range_ack bytes) (range_ack_of a) refl e
 first_bounded bytes None e = tt
+
+-- ---- the priority of WriteProperty
+
+priority_in : (v : Primitive) → is_priority v ≡ true → IsPriority (number_in (Value v))
+priority_in (Unsigned n) h = let p = and_parts (ltb 0 n) (ltb n 17) h in (ltb-true _ _ p.0, ltb-true _ _ p.1)
+priority_in Null h = tt
+priority_in (Boolean b) h = tt
+priority_in (Signed z) h = tt
+priority_in (Real octets) h = tt
+priority_in (Double octets) h = tt
+priority_in (Octets octets) h = tt
+priority_in (Chars set octets) h = tt
+priority_in (Bits bits) h = tt
+priority_in (Enumerated n) h = tt
+priority_in (Date octets) h = tt
+priority_in (Time octets) h = tt
+priority_in (Object id) h = tt
+
+optional_priority : (item : Item) → IsValue is_priority item ⊎ (item ≡ Absent) → IsPriority (number_in item)
+optional_priority item (inl v) = rw v.1 (priority_in v.0 v.2)
+optional_priority item (inr e) = rw e tt
+
+write_valid : (bytes : List ℕ) (items : List Item) → form_at write_property bytes ≡ Ok items → IsPriority ((write_in items).priority)
+write_valid bytes items h =
+    let a = behind_part _ _ bytes items h in
+    let b = behind_part _ _ a.bytes a.tail a.rest in
+    let c = behind_optional _ _ _ _ b.bytes b.tail b.rest in
+    let d = behind_part _ _ c.bytes c.tail c.rest in
+    let e = behind_part _ _ d.bytes d.tail d.rest in
+    let f = behind_part _ _ e.bytes e.tail e.rest in
+    let g = behind_optional 4 unsigned is_priority end f.bytes f.tail f.rest in
+    let last = optional_priority g.item (optional_is 4 unsigned is_priority g.front (g.item, g.bytes) g.at) in
+    let all : items ≡ a.item ∷ b.item ∷ c.item ∷ d.item ∷ e.item ∷ f.item ∷ g.item ∷ g.tail =
+    a.is ∙ ap (λ l. a.item ∷ l) (b.is ∙ ap (λ l. b.item ∷ l) (c.is ∙ ap (λ l. c.item ∷ l) (d.is ∙ ap (λ l. d.item ∷ l) (e.is ∙ ap (λ l. e.item ∷ l) (f.is ∙ ap (λ l. f.item ∷ l) g.is))))) in
+    rw all last
+
+write_read : (bytes : List ℕ) (read : Result (List Item) Reason) (w : PropertyWrite) → form_at write_property bytes ≡ read → result_map write_in read ≡ Ok w → IsPriority w.priority
+write_read bytes (Ok items) w e h = subst (λ (v : PropertyWrite). IsPriority v.priority) (ok_is {F = Reason} (write_in items) w h) (write_valid bytes items e)
+write_read bytes (Err reason) w e h = absurd cc
+
+pub priorities_valid : (bytes : List ℕ) (w : PropertyWrite) → write_property_at bytes ≡ Ok w → IsPriority w.priority
+unfolding write_property_at
+priorities_valid bytes w h = write_read bytes (form_at write_property bytes) w refl h
+
+pub priority_bounded : (bytes : List ℕ) (r : Result WriteProperty Reason) → Gives write_of_code r (write_property_at bytes) → IfOk r (λ w. IsPriority w.priority)
+priority_bounded bytes (Ok w) e = priorities_valid bytes (write_of_code w) e
+priority_bounded bytes (Err reason) e = tt

@@ -4,7 +4,6 @@
 use bac_apdu::{
     Apdu, Extent, Far, Frame, IAm, Npdu, ReadProperty, ReadPropertyAck, ReadRange, ReadRangeAck,
     Reason, WhoIs, WriteProperty, read_apdu, read_frame, read_npdu, write_apdu, write_datagram,
-    write_result,
 };
 use bac_wire::{Datagram, Date4, ObjectId, Time4, Value};
 use std::test::Fail;
@@ -488,16 +487,5 @@ fn limits_are_written(rt: HostRuntime) -> Result<(), Fail> {
     };
     request.write(&mut limits).ok().ok_or("full")?;
     assert_eq!(rt; limits.octets(), [0x09, 124, 0x19, 200].as_slice());
-    Ok(())
-}
-
-#[test]
-fn results_are_written(rt: HostRuntime) -> Result<(), Fail> {
-    // the NAK of Register-Foreign-Device
-    let mut nak = Datagram::new();
-    write_result(&mut nak, 0x0030).ok().ok_or("full")?;
-    let octets: [u8; 6] = [0x81, 0, 0, 6, 0, 0x30];
-    assert_eq!(rt; nak.octets(), octets.as_slice());
-    assert!(rt; matches!(read_frame(&octets), Some(Frame::Function(0, [0, 0x30]))));
     Ok(())
 }

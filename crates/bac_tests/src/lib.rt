@@ -29,6 +29,8 @@ mod properties;
 #[cfg(test)]
 mod replay;
 #[cfg(test)]
+mod results;
+#[cfg(test)]
 mod streams;
 #[cfg(test)]
 mod walk;

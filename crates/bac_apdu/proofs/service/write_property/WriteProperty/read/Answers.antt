@@ -6,7 +6,7 @@ use Rattle.bac_apdu.specs.Service.WriteProperty.{write_property, write_items}
 use Rattle.bac_apdu.proofs.Forms.{is_found, is_only, is_refused}
 use Rattle.bac_apdu.specs.FormReading.{form_at}
 use Rattle.bac_apdu.specs.Service.WriteProperty.{write_of_code, write_in, write_property_at}
-use Rattle.bac_apdu.proofs.Priorities.{bounded}
+use Rattle.bac_apdu.proofs.Ranges.{priority_bounded}
 use Rattle.bac_apdu.proofs.Named.{is_named, write_back}
 use Rattle.bac_apdu.proofs.service.write_property.WriteProperty.read.Goals as goal
 
@@ -28,4 +28,4 @@ pub returns-clause-named : goal.returns-clause-named
 returns-clause-named c = named c.args.bytes.now c.parts.result c.parts.ensures.exact
 
 pub returns-clause-bound : goal.returns-clause-bound
-returns-clause-bound c = bounded c.args.bytes.now c.parts.result (named c.args.bytes.now c.parts.result c.parts.ensures.exact)
+returns-clause-bound c = priority_bounded c.args.bytes.now c.parts.result (named c.args.bytes.now c.parts.result c.parts.ensures.exact)
