@@ -4,3 +4,4 @@ pub mod Reply
 pub mod Answer
 pub mod Views
 pub mod History
+pub mod Logs

@@ -16,6 +16,7 @@ ghost use Rattle.bac_objects.specs.Build.{build_fault, built, id_of};
 ghost use Rattle.bac_objects.specs.declared.lines.DeviceLine.{DeviceLine};
 ghost use Rattle.bac_objects.specs.declared.lines.ObjectLine.{ObjectLine};
 ghost use Rattle.bac_objects.specs.declared.command.Command.{Command};
+ghost use Rattle.bac_objects.specs.declared.command.Setting.{Setting};
 ghost use Rattle.bac_objects.specs.declared.object.Body.TheVariants as Body;
 ghost use Rattle.bac_objects.specs.declared.object.Object.{Object};
 ghost use Rattle.bac_device.specs.declared.reply.Receiver.{Receiver};
@@ -41,13 +42,13 @@ pub fn accepted_writes_stand()
 /// the last accepted write at it set, else Null, and its present value is that of the least priority
 /// that isn't Null, else its line's default.
 pub fn built_objects_are_commanded()
-    ensures { (device : DeviceLine) (lines : List ObjectLine) (datagrams : List (List ℕ)) (i : ℕ) (line : ObjectLine) → build_fault device lines ≡ None → slice_get lines i ≡ Some line → IsCommanded (after (built device lines) datagrams) (id_of line) (writes (built device lines) datagrams) (default_of line) }
+    ensures { (device : DeviceLine) (lines : List ObjectLine) (datagrams : List (List ℕ)) (i : ℕ) (line : ObjectLine) (default : Setting) → build_fault device lines ≡ None → slice_get lines i ≡ Some line → default_of line ≡ Some default → IsCommanded (after (built device lines) datagrams) (id_of line) (writes (built device lines) datagrams) default }
 {}
 
 /// After any datagrams to a device that was built of lines, its object list has the device and then
 /// the objects in the order of their lines.
 pub fn object_list_keeps_the_order_of_lines()
-    ensures { (device : DeviceLine) (lines : List ObjectLine) (datagrams : List (List ℕ)) → read_of (after (built device lines) datagrams) (record { object = record { kind = 8; instance = device.instance }; property = 76; index = None }) ≡ Ok (ids_in_order device lines) }
+    ensures { (device : DeviceLine) (lines : List ObjectLine) (datagrams : List (List ℕ)) → read_of (after (built device lines) datagrams) (record { object = record { kind = 8; instance = device.instance }; property = 76; index = None }) ≡ Ok (values_octets (ids_in_order device lines)) }
 {}
 
 /// What an ACK has is read back.
@@ -58,5 +59,5 @@ pub fn acks_are_read_back()
 /// A ReadProperty to this device alone is answered by the ACK with the values that are read, within
 /// the limit: so what stands after writes is what is sent.
 pub fn reads_are_answered()
-    ensures { (d : State) (datagram : List ℕ) (size invoke : ℕ) (parameters : List ℕ) (r : ReadProperty) (values : List Primitive) → heard_in (frame_at datagram) ≡ Some (record { to_all = false; apdu = Confirmed false size invoke 12 parameters }) → read_property_at parameters ≡ Ok r → read_of d r ≡ Ok values → (to : Receiver) × ((answer d datagram).0 ≡ Some (reply to (limited (min size d.reply_size) invoke (ack invoke d r values)))) }
+    ensures { (d : State) (datagram : List ℕ) (size invoke : ℕ) (parameters : List ℕ) (r : ReadProperty) (values : List ℕ) → heard_in (frame_at datagram) ≡ Some (record { to_all = false; apdu = Confirmed false size invoke 12 parameters }) → read_property_at parameters ≡ Ok r → read_of d r ≡ Ok values → (to : Receiver) × ((answer d datagram).0 ≡ Some (reply to (limited (min size d.reply_size) invoke (ack invoke d r values)))) }
 {}
