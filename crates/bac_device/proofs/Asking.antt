@@ -17,7 +17,7 @@ use Rattle.bac_device.specs.declared.reply.Receiver.TheVariants.{Sender, Address
 none_some : (h : Heard) → None ≡ Some h → ⊥
 none_some h e = cc
 
-answered : (d : State) (f : Option Frame) (size invoke : ℕ) (parameters : List ℕ) (r : ReadProperty) (values : List Primitive)
+answered : (d : State) (f : Option Frame) (size invoke : ℕ) (parameters : List ℕ) (r : ReadProperty) (values : List ℕ)
     → heard_in f ≡ Some (record { to_all = false; apdu = Confirmed false size invoke 12 parameters }) → read_property_at parameters ≡ Ok r → read_of d r ≡ Ok values
     → (to : Receiver) × ((answer_frame d f).0 ≡ Some (reply to (limited (min size d.reply_size) invoke (ack invoke d r values))))
 answered d None size invoke parameters r values h e v = absurd (none_some _ h)
@@ -26,7 +26,7 @@ answered d (Some (Broadcast npdu)) size invoke parameters r values h e v = (Send
 answered d (Some (Forwarded address npdu)) size invoke parameters r values h e v = (Address address, rw (h, e, v) refl)
 answered d (Some (Function function rest)) size invoke parameters r values h e v = absurd (none_some _ h)
 
-pub read_answered : (d : State) (datagram : List ℕ) (size invoke : ℕ) (parameters : List ℕ) (r : ReadProperty) (values : List Primitive)
+pub read_answered : (d : State) (datagram : List ℕ) (size invoke : ℕ) (parameters : List ℕ) (r : ReadProperty) (values : List ℕ)
     → heard_in (frame_at datagram) ≡ Some (record { to_all = false; apdu = Confirmed false size invoke 12 parameters }) → read_property_at parameters ≡ Ok r → read_of d r ≡ Ok values
     → (to : Receiver) × ((answer d datagram).0 ≡ Some (reply to (limited (min size d.reply_size) invoke (ack invoke d r values))))
 unfolding answer

@@ -9,7 +9,7 @@ use Rattle.bac_wire.specs.Primitive.{Id, Object, Primitive}
 use Rattle.bac_objects.specs.Build.{build_fault, built, device_fault, entry_of, id_of, objects_fault}
 use Rattle.bac_objects.specs.Command.{commanded, present}
 use Rattle.bac_objects.specs.Properties.{slot_value, value_of}
-use Rattle.bac_objects.specs.Reading.{read_of}
+use Rattle.bac_objects.specs.Reading.{read_of, values_octets}
 use Rattle.bac_objects.specs.Requests.{PropertyWrite}
 use Rattle.bac_objects.specs.State.{State, is_id}
 use Rattle.bac_objects.specs.declared.build.BuildFault.{BuildFault}
@@ -20,7 +20,7 @@ use Rattle.bac_objects.specs.declared.command.Setting.{Setting}
 use Rattle.bac_objects.specs.declared.command.Setting.TheVariants as setting
 use Rattle.bac_objects.specs.declared.lines.DeviceLine.{DeviceLine}
 use Rattle.bac_objects.specs.declared.lines.ObjectLine.{ObjectLine}
-use Rattle.bac_objects.specs.declared.lines.ObjectLine.TheVariants.{Binary, Multistate, Integer}
+use Rattle.bac_objects.specs.declared.lines.ObjectLine.TheVariants.{Binary, Multistate, Integer, Log}
 use Rattle.bac_objects.specs.declared.object.Body.TheVariants as body
 use Rattle.bac_objects.specs.declared.object.Object as object
 use Rattle.bac_objects.proofs.Builds.{found}
@@ -55,15 +55,15 @@ keys_of_lines : (lines : List ObjectLine) → map (λ id. Object id) (keys_of (m
 keys_of_lines [] = refl
 keys_of_lines (line ∷ lines) = ap (λ (l : List Primitive). Object (id_of line) ∷ l) (keys_of_lines lines)
 
-list_read : (d : State) (n : ℕ) → d.instance ≡ n → read_of d (record { object = record { kind = 8; instance = n }; property = 76; index = None }) ≡ Ok (Object (record { kind = 8; instance = n }) ∷ map (λ id. Object id) (keys_of d.objects))
+list_read : (d : State) (n : ℕ) → d.instance ≡ n → read_of d (record { object = record { kind = 8; instance = n }; property = 76; index = None }) ≡ Ok (values_octets (Object (record { kind = 8; instance = n }) ∷ map (λ id. Object id) (keys_of d.objects)))
 list_read d n e = let same : (n == d.instance) ≡ true = eq-eqb n d.instance (sym e) in rw (same, e) refl
 
 pub in_order : (device : DeviceLine) (lines : List ObjectLine) (xs : List (List ℕ))
-    → read_of (after (built device lines) xs) (record { object = record { kind = 8; instance = device.instance }; property = 76; index = None }) ≡ Ok (ids_in_order device lines)
+    → read_of (after (built device lines) xs) (record { object = record { kind = 8; instance = device.instance }; property = 76; index = None }) ≡ Ok (values_octets (ids_in_order device lines))
 in_order device lines xs =
     let keeps = keeps_all xs (built device lines) in
     list_read (after (built device lines) xs) device.instance keeps.instance
-    ∙ ap (λ (ids : List Primitive). Ok (Object (record { kind = 8; instance = device.instance }) ∷ ids)) (ap (λ (ids : List Id). map (λ id. Object id) ids) keeps.keys ∙ keys_of_lines lines)
+    ∙ ap (λ (ids : List Primitive). Ok (values_octets (Object (record { kind = 8; instance = device.instance }) ∷ ids))) (ap (λ (ids : List Id). map (λ id. Object id) ids) keeps.keys ∙ keys_of_lines lines)
 
 -- ---- commandable objects
 
@@ -102,11 +102,11 @@ map_map f [] = refl
 map_map f (n ∷ ns) = ap (λ (vs : List Primitive). slot_value (f n) ∷ vs) (map_map f ns)
 
 array_read : (d : State) (id : Id) (o : object.Object) (c : Command) (slots : List (Option Setting)) → (id.kind == 8) ≡ false → lookup (is_id id) d.objects ≡ Some (with_slots o c slots)
-    → read_of d (record { object = id; property = 87; index = None }) ≡ Ok (map slot_value slots)
+    → read_of d (record { object = id; property = 87; index = None }) ≡ Ok (values_octets (map slot_value slots))
 array_read d id o c slots k h = rw (k, h) refl
 
 default_read : (d : State) (id : Id) (o : object.Object) (c : Command) (slots : List (Option Setting)) → (id.kind == 8) ≡ false → lookup (is_id id) d.objects ≡ Some (with_slots o c slots)
-    → read_of d (record { object = id; property = 104; index = None }) ≡ Ok (value_of c.default ∷ [])
+    → read_of d (record { object = id; property = 104; index = None }) ≡ Ok (values_octets (value_of c.default ∷ []))
 default_read d id o c slots k h = rw (k, h) refl
 
 commanded_at : (d : State) (xs : List (List ℕ)) (id : Id) (o : object.Object) (r : Range) (default : Setting) → lookup (is_id id) d.objects ≡ Some o → o.body ≡ body.Command (commanded r default) → (id.kind == 8) ≡ false
@@ -120,16 +120,31 @@ commanded_at d xs id o r default h is k =
     ∙ ap (option_or (last_at id (1 + i) (writes d xs))) (ap (slice_get c.slots) (let e : 1 + i - 1 ≡ i = omega arith in e) ∙ nulls 16 i lt)
     ∙ or_null (last_at id (1 + i) (writes d xs))) in
     record {
-      array = array_read (after d xs) id o c s.slots k s.held ∙ ap (λ (l : List (Option Setting)). Ok (map slot_value l)) slots ∙ ap (λ (vs : List Primitive). Ok vs) (map_map (slot_after id (writes d xs)) (range_with_len 1 16));
-      present_value = s.read ∙ ap (λ (l : List (Option Setting)). Ok (value_of (present l default) ∷ [])) slots;
+      array = array_read (after d xs) id o c s.slots k s.held ∙ ap (λ (l : List (Option Setting)). Ok (values_octets (map slot_value l))) slots ∙ ap (λ (vs : List Primitive). Ok (values_octets vs)) (map_map (slot_after id (writes d xs)) (range_with_len 1 16));
+      present_value = s.read ∙ ap (λ (l : List (Option Setting)). Ok (values_octets (value_of (present l default) ∷ []))) slots;
       default_value = default_read (after d xs) id o c s.slots k s.held;
     }
 
-of_line : (d : State) (xs : List (List ℕ)) (line : ObjectLine) → lookup (is_id (id_of line)) d.objects ≡ Some (entry_of line).1 → IsCommanded (after d xs) (id_of line) (writes d xs) (default_of line)
-of_line d xs (Binary instance name default) h = commanded_at d xs (id_of (Binary instance name default)) (entry_of (Binary instance name default)).1 range.Binary (setting.Enumerated default) h refl refl
-of_line d xs (Multistate instance name states default) h = commanded_at d xs (id_of (Multistate instance name states default)) (entry_of (Multistate instance name states default)).1 (range.Multistate states) (setting.Unsigned default) h refl refl
-of_line d xs (Integer instance name default) h = commanded_at d xs (id_of (Integer instance name default)) (entry_of (Integer instance name default)).1 range.Integer (setting.Signed default) h refl refl
+setting_same : (a b : Setting) → (let r : Option Setting = Some a in r) ≡ Some b → a ≡ b
+setting_same a b e = cc
 
-pub are_commanded : (device : DeviceLine) (lines : List ObjectLine) (xs : List (List ℕ)) (i : ℕ) (line : ObjectLine) → build_fault device lines ≡ None → slice_get lines i ≡ Some line
-    → IsCommanded (after (built device lines) xs) (id_of line) (writes (built device lines) xs) (default_of line)
-are_commanded device lines xs i line h at = of_line (built device lines) xs line (found device [] lines i line (right_none (device_fault device) (objects_fault device [] lines) h) at)
+no_setting : (a : Setting) → (let none : Option Setting = None in none) ≡ Some a → ⊥
+no_setting a e = cc
+
+abbrev is_so : State → List (List ℕ) → ObjectLine → Setting → Type 0
+is_so d xs line default = IsCommanded (after d xs) (id_of line) (writes d xs) default
+
+of_line : (d : State) (xs : List (List ℕ)) (line : ObjectLine) (default : Setting) → lookup (is_id (id_of line)) d.objects ≡ Some (entry_of line).1 → default_of line ≡ Some default → is_so d xs line default
+of_line d xs (Binary instance name value) default h e =
+    subst (is_so d xs (Binary instance name value)) (setting_same _ default e) (commanded_at d xs (id_of (Binary instance name value)) (entry_of (Binary instance name value)).1 range.Binary (setting.Enumerated value) h refl refl)
+of_line d xs (Multistate instance name states value) default h e =
+    subst (is_so d xs (Multistate instance name states value)) (setting_same _ default e)
+    (commanded_at d xs (id_of (Multistate instance name states value)) (entry_of (Multistate instance name states value)).1 (range.Multistate states) (setting.Unsigned value) h refl refl)
+of_line d xs (Integer instance name value) default h e =
+    subst (is_so d xs (Integer instance name value)) (setting_same _ default e) (commanded_at d xs (id_of (Integer instance name value)) (entry_of (Integer instance name value)).1 range.Integer (setting.Signed value) h refl refl)
+of_line d xs (Log instance name source capacity interval logged) default h e = absurd (no_setting default e)
+
+pub are_commanded : (device : DeviceLine) (lines : List ObjectLine) (xs : List (List ℕ)) (i : ℕ) (line : ObjectLine) (default : Setting) → build_fault device lines ≡ None → slice_get lines i ≡ Some line → default_of line ≡ Some default
+    → IsCommanded (after (built device lines) xs) (id_of line) (writes (built device lines) xs) default
+are_commanded device lines xs i line default h at e =
+    of_line (built device lines) xs line default (found device [] lines i line (right_none (device_fault device) (objects_fault device [] lines) h) at) e

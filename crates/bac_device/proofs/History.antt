@@ -17,7 +17,8 @@ use Rattle.bac_objects.specs.Command.{present}
 use Rattle.bac_objects.specs.State.{State, is_id}
 use Rattle.bac_objects.specs.Requests.{PropertyWrite, write_property_at}
 use Rattle.bac_objects.specs.Properties.{row, object_table, device_table, value_of}
-use Rattle.bac_objects.specs.Reading.{read_of}
+use Rattle.bac_objects.specs.Reading.{read_of, values_octets}
+use Rattle.bac_wire.specs.Stamp.{CivilTime}
 use Rattle.bac_objects.specs.Writing.{priority_of, is_i32, setting_of, checked, command_written, object_written, is_device, write_of}
 use Rattle.bac_objects.specs.declared.command.Command.{Command}
 use Rattle.bac_objects.specs.declared.command.Range.{Range}
@@ -61,7 +62,7 @@ no_write d datagram e = of (told d datagram)
 
 -- ---- one write
 
-same_id : (a b : Id) → is_id a b ≡ true → a ≡ b
+pub same_id : (a b : Id) → is_id a b ≡ true → a ≡ b
 same_id a b e =
     let kind : a.kind ≡ b.kind = grind (arith, nat_tests) in
     let instance : a.instance ≡ b.instance = grind (arith, nat_tests) in
@@ -70,7 +71,7 @@ same_id a b e =
 id_same : (a : Id) → is_id a a ≡ true
 id_same a = grind (arith, nat_tests)
 
-apart : (a b k : Id) → is_id a b ≡ false → is_id b k ≡ true → is_id a k ≡ false
+pub apart : (a b k : Id) → is_id a b ≡ false → is_id b k ≡ true → is_id a k ≡ false
 apart a b k e h = let same : b ≡ k = same_id b k h in rw (← same) e
 
 nothing_there : {X : Type 0} (v : X) → (let none : Option X = None in none) ≡ Some v → ⊥
@@ -103,7 +104,7 @@ pub record Wrote (d : State) (w : PropertyWrite) (new : State) : Type 0 where
   pub o : object.Object
   pub n : object.Object
   pub at : lookup (is_id w.object) d.objects ≡ Some o
-  pub did : object_written w o ≡ Ok n
+  pub did : object_written d.clock w o ≡ Ok n
   pub is : new ≡ record d { objects = set_value (is_id w.object) d.objects n }
 
 ok_same : {X : Type 0} (a b : X) → (let r : Result X Fault = Ok a in r) ≡ Ok b → a ≡ b
@@ -174,20 +175,20 @@ object_end w o n c (Ok u) (Ok new) s e =
     sym (ok_same _ n e) ∙ ap (λ (k : Command). let m : object.Object = record o { body = body.Command k } in m) (command_end w c new (not (w.property == 85) || (priority_of w == 6)) (setting_of c.range w.value) refl s)
 
 -- of a commandable object
-commanded_end : (w : PropertyWrite) (o n : object.Object) (c : Command) (slots : List (Option Setting)) → object_written w (with_slots o c slots) ≡ Ok n → n ≡ with_slots o c (written_slots w slots)
-commanded_end w o n c slots e =
+commanded_end : (clock : CivilTime) (w : PropertyWrite) (o n : object.Object) (c : Command) (slots : List (Option Setting)) → object_written clock w (with_slots o c slots) ≡ Ok n → n ≡ with_slots o c (written_slots w slots)
+commanded_end clock w o n c slots e =
     object_end w o n (record c { slots = slots }) (checked (row w.property (object_table w.object (with_slots o c slots))) w.index) (command_written w (record c { slots = slots })) refl e
 
-write_end : (d : State) (w : PropertyWrite) (new : State) (o : object.Object) (x : Result object.Object Fault) → lookup (is_id w.object) d.objects ≡ Some o → object_written w o ≡ x
+write_end : (d : State) (w : PropertyWrite) (new : State) (o : object.Object) (x : Result object.Object Fault) → lookup (is_id w.object) d.objects ≡ Some o → object_written d.clock w o ≡ x
     → (x >>= (λ n. Ok (let s : State = record d { objects = set_value (is_id w.object) d.objects n } in s))) ≡ Ok new → Wrote d w new
 write_end d w new o (Err f) at s e = absurd (err_ok _ new e)
 write_end d w new o (Ok n) at s e = record { o = o; n = n; at = at; did = s; is = sym (ok_same _ new e) }
 
 wrote_at : (b : Bool) (l : Option object.Object) (f : Fault) (d : State) (w : PropertyWrite) (new : State) → lookup (is_id w.object) d.objects ≡ l
-    → cond b (Err f) (or_fault l UnknownObject >>= (λ o. object_written w o >>= (λ n. Ok (let s : State = record d { objects = set_value (is_id w.object) d.objects n } in s)))) ≡ Ok new → Wrote d w new
+    → cond b (Err f) (or_fault l UnknownObject >>= (λ o. object_written d.clock w o >>= (λ n. Ok (let s : State = record d { objects = set_value (is_id w.object) d.objects n } in s)))) ≡ Ok new → Wrote d w new
 wrote_at true l f d w new at e = absurd (err_ok _ new e)
 wrote_at false None f d w new at e = absurd (err_ok _ new e)
-wrote_at false (Some o) f d w new at e = write_end d w new o (object_written w o) at refl e
+wrote_at false (Some o) f d w new at e = write_end d w new o (object_written d.clock w o) at refl e
 
 pub wrote : (d : State) (w : PropertyWrite) (new : State) → write_of d w ≡ Ok new → Wrote d w new
 wrote d w new e = wrote_at (is_device d w.object) (lookup (is_id w.object) d.objects) _ d w new refl e
@@ -204,8 +205,8 @@ one_write true d w new id o c slots e t h =
     let same : w.object ≡ id = sym (same_id id w.object e) in
     let at : lookup (is_id id) d.objects ≡ Some t.o = subst (λ (x : Id). lookup (is_id x) d.objects ≡ Some t.o) same t.at in
     let found : t.o ≡ with_slots o c slots = some_same t.o (with_slots o c slots) (sym at ∙ h) in
-    let did : object_written w (with_slots o c slots) ≡ Ok t.n = subst (λ (x : object.Object). object_written w x ≡ Ok t.n) found t.did in
-    let n : t.n ≡ with_slots o c (written_slots w slots) = commanded_end w o t.n c slots did in
+    let did : object_written d.clock w (with_slots o c slots) ≡ Ok t.n = subst (λ (x : object.Object). object_written d.clock w x ≡ Ok t.n) found t.did in
+    let n : t.n ≡ with_slots o c (written_slots w slots) = commanded_end d.clock w o t.n c slots did in
     ap (λ (s : State). lookup (is_id id) s.objects) t.is
     ∙ ap (λ (x : Id). lookup (is_id id) (set_value (is_id x) d.objects t.n)) same
     ∙ ap (λ (x : object.Object). lookup (is_id id) (set_value (is_id id) d.objects x)) n
@@ -338,7 +339,7 @@ are_writes (x ∷ xs) d = are_first (accepted d x) (writes (answer d x).1 xs) (�
 -- ---- and Present_Value
 
 present_read : (d : State) (id : Id) (o : object.Object) (c : Command) (slots : List (Option Setting)) → (id.kind == 8) ≡ false → lookup (is_id id) d.objects ≡ Some (with_slots o c slots)
-    → read_of d (record { object = id; property = 85; index = None }) ≡ Ok (value_of (present slots c.default) ∷ [])
+    → read_of d (record { object = id; property = 85; index = None }) ≡ Ok (values_octets (value_of (present slots c.default) ∷ []))
 present_read d id o c slots k h = rw (k, h) refl
 
 pub stands : (d : State) (xs : List (List ℕ)) (id : Id) (o : object.Object) (c : Command) → lookup (is_id id) d.objects ≡ Some o → o.body ≡ body.Command c → length c.slots ≡ 16 → (id.kind == 8) ≡ false → Stands d xs id o c

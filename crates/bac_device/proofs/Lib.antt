@@ -7,3 +7,6 @@ pub mod Asking
 pub mod Told
 pub mod History
 pub mod Built
+pub mod Ranges
+pub mod Moves
+pub mod Questions

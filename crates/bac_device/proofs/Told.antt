@@ -16,7 +16,7 @@ use Rattle.bac_objects.specs.Fault.{class_of, code_of}
 use Rattle.bac_device.specs.Reply.{plain, datagram_octets, error, reply}
 use Rattle.bac_device.specs.History.{heard_in, write_in_apdu, write_heard, is_simple, heard_simple, is_done}
 use Rattle.bac_objects.specs.declared.fault.Fault.{Fault}
-use Rattle.bac_objects.specs.declared.fault.Fault.TheVariants.{UnknownObject, UnknownProperty, NotArray, BadIndex, WriteDenied, BadType, BadValue}
+use Rattle.bac_objects.specs.declared.fault.Fault.TheVariants.{UnknownObject, UnknownProperty, NotArray, BadIndex, ReadDenied, NotList, WriteDenied, BadType, BadValue}
 use Rattle.bac_device.specs.declared.reply.Reply.{Reply}
 use Rattle.bac_device.specs.declared.reply.Receiver.{Receiver}
 use Rattle.bac_device.specs.declared.reply.Receiver.TheVariants.{Sender, Address}
@@ -46,6 +46,8 @@ small UnknownObject = (omega arith, omega arith)
 small UnknownProperty = (omega arith, omega arith)
 small NotArray = (omega arith, omega arith)
 small BadIndex = (omega arith, omega arith)
+small ReadDenied = (omega arith, omega arith)
+small NotList = (omega arith, omega arith)
 small WriteDenied = (omega arith, omega arith)
 small BadType = (omega arith, omega arith)
 small BadValue = (omega arith, omega arith)
@@ -76,20 +78,25 @@ told_write d to invoke (Err reason) = inl (unasked _, refl)
 is_read : (n : ℕ) → (n == 12) ≡ true → (n == 15) ≡ false
 is_read n e = grind (arith, nat_tests)
 
-told_other : (b : Bool) (d : State) (to : Receiver) (invoke : ℕ) (parameters : List ℕ) →
-    Told d (sent to (replied (cond b (answer_write d invoke (write_property_at parameters)) (Reject invoke 9, d)))) (cond b (result_ok (write_property_at parameters)) None)
-told_other true d to invoke parameters = told_write d to invoke (write_property_at parameters)
-told_other false d to invoke parameters = inl (unasked _, refl)
+-- records, or a service that isn't there
+told_last : (b : Bool) (d : State) (to : Receiver) (m n : Apdu) → Told d (sent to (replied (cond b (m, d) (n, d)))) None
+told_last true d to m n = inl (unasked _, refl)
+told_last false d to m n = inl (unasked _, refl)
 
-told_service : (b : Bool) (d : State) (to : Receiver) (m : Apdu) (invoke service : ℕ) (parameters : List ℕ) → (service == 12) ≡ b →
-    Told d (sent to (replied (cond b (m, d) (cond (service == 15) (answer_write d invoke (write_property_at parameters)) (Reject invoke 9, d))))) (cond (service == 15) (result_ok (write_property_at parameters)) None)
-told_service true d to m invoke service parameters e = rw (is_read service e) (inl (unasked _, refl))
-told_service false d to m invoke service parameters e = told_other (service == 15) d to invoke parameters
+told_other : (b : Bool) (d : State) (to : Receiver) (m : Apdu) (range : Bool) (invoke : ℕ) (parameters : List ℕ) →
+    Told d (sent to (replied (cond b (answer_write d invoke (write_property_at parameters)) (cond range (m, d) (Reject invoke 9, d))))) (cond b (result_ok (write_property_at parameters)) None)
+told_other true d to m range invoke parameters = told_write d to invoke (write_property_at parameters)
+told_other false d to m range invoke parameters = told_last range d to m (Reject invoke 9)
+
+told_service : (b : Bool) (d : State) (to : Receiver) (m n : Apdu) (invoke service : ℕ) (parameters : List ℕ) → (service == 12) ≡ b →
+    Told d (sent to (replied (cond b (m, d) (cond (service == 15) (answer_write d invoke (write_property_at parameters)) (cond (service == 26) (n, d) (Reject invoke 9, d)))))) (cond (service == 15) (result_ok (write_property_at parameters)) None)
+told_service true d to m n invoke service parameters e = rw (is_read service e) (inl (unasked _, refl))
+told_service false d to m n invoke service parameters e = told_other (service == 15) d to n (service == 26) invoke parameters
 
 told_request : (segmented : Bool) (d : State) (to : Receiver) (size invoke service : ℕ) (parameters : List ℕ) →
     Told d (sent to (replied (answer_request d segmented size invoke service parameters))) (write_in_apdu (Confirmed segmented size invoke service parameters))
 told_request true d to size invoke service parameters = inl (unasked _, refl)
-told_request false d to size invoke service parameters = told_service (service == 12) d to _ invoke service parameters refl
+told_request false d to size invoke service parameters = told_service (service == 12) d to _ _ invoke service parameters refl
 
 told_apdu : (d : State) (to : Receiver) (to_all : Bool) (m : Apdu) → Told d (sent to (answer_apdu d to_all m)) (cond to_all None (write_in_apdu m))
 told_apdu d to true (Confirmed segmented size invoke service parameters) = inl (refl, refl)

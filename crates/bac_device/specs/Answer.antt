@@ -1,8 +1,8 @@
 -- What a device answers to a datagram, and what it is afterwards.
 -- Read from the end: a frame (Annex J), what it has for the device (clause 6), an APDU (20.1), a request, a service.
-use Rattle.std.specs.Prelude.{ℕ, ◌==◌, ◌&&◌, nat_le, Bool, true, false, if◌then◌else◌, List, [], ◌∷◌, min, Option, None, Some, Result, Ok, Err}
+use Rattle.std.specs.Prelude.{ℕ, ◌==◌, ◌&&◌, not, nat_le, Bool, true, false, if◌then◌else◌, List, [], ◌∷◌, min, Option, None, Some, Result, Ok, Err}
 use Rattle.std.specs.Option.{option_map}
-use Rattle.bac_wire.specs.Primitive.{Primitive, Object, Enumerated, Id}
+use Rattle.bac_wire.specs.Primitive.{Object, Enumerated, Id}
 use Rattle.bac_apdu.specs.Apdu.{Apdu, Confirmed, Unconfirmed, Simple, Complex, Reject}
 use Rattle.bac_apdu.specs.Form.{Value, Mark, Inside, number_item}
 use Rattle.bac_apdu.specs.FormCanon.{canon_form}
@@ -13,7 +13,14 @@ use Rattle.bac_apdu.specs.declared.reason.Reason.{Reason}
 use Rattle.bac_apdu.specs.declared.service.i_am.IAm.{IAm}
 use Rattle.bac_apdu.specs.declared.service.read_property.ReadProperty.{ReadProperty}
 use Rattle.bac_objects.specs.Properties.{device_id, is_here}
-use Rattle.bac_objects.specs.Reading.{read_of, values_octets}
+use Rattle.bac_apdu.specs.Service.ReadRange.{read_range_at}
+use Rattle.bac_apdu.specs.declared.service.extent.Extent.{Extent}
+use Rattle.bac_apdu.specs.declared.service.read_range.ReadRange.{ReadRange}
+use Rattle.bac_log.specs.Ack.{ack_parameters, read_range_service}
+use Rattle.bac_log.specs.Select.{Logged, answer_of, entries_in, first_shown, packed, selected}
+use Rattle.bac_log.specs.TrendLog.{Log}
+use Rattle.bac_objects.specs.Reading.{read_of}
+use Rattle.bac_objects.specs.Records.{records_of}
 use Rattle.bac_objects.specs.Requests.{PropertyWrite, read_property_at, write_property_at, who_is_at}
 use Rattle.bac_objects.specs.State.{State}
 use Rattle.bac_objects.specs.Writing.{write_of}
@@ -53,11 +60,11 @@ ack_octets object property index values =
     canon_form read_property_ack
     (Value (Object object) ∷ Value (Enumerated property) ∷ number_item index ∷ Mark 3 ∷ Inside values ∷ [])
 
-abbrev pub ack : ℕ → State → ReadProperty → List Primitive → Apdu
+abbrev pub ack : ℕ → State → ReadProperty → List ℕ → Apdu
 ack invoke d r values =
-    Complex false invoke read_property_service (ack_octets (own_id d r.object) r.property r.index (values_octets values))
+    Complex false invoke read_property_service (ack_octets (own_id d r.object) r.property r.index values)
 
-abbrev pub read_said : State → ℕ → ℕ → ReadProperty → Result (List Primitive) Fault → Apdu
+abbrev pub read_said : State → ℕ → ℕ → ReadProperty → Result (List ℕ) Fault → Apdu
 read_said d limit invoke r (Ok values) = limited limit invoke (ack invoke d r values)
 read_said d limit invoke r (Err fault) = error invoke read_property_service fault
 
@@ -75,6 +82,33 @@ abbrev pub answer_write : State → ℕ → Result PropertyWrite Reason → Apdu
 answer_write d invoke (Ok w) = write_said d invoke (write_of d w)
 answer_write d invoke (Err reason) = (reject invoke reason, d)
 
+-- ---- ReadRange (15.8)
+
+-- the ACK of as many of the records asked for, from the first on, as a limit holds
+abbrev pub records_ack : ℕ → ℕ → Id → Extent → Log → Apdu
+records_ack limit invoke object extent log =
+    let records = packed extent limit (selected log extent) in
+    Complex false invoke read_range_service (ack_parameters object (answer_of log extent limit).flags (first_shown extent records) (entries_in records))
+
+abbrev pub is_empty : List Logged → Bool
+is_empty [] = true
+is_empty (r ∷ rs) = false
+
+-- records are asked for, and not one of them fits
+abbrev pub is_too_small : ℕ → Extent → Log → Bool
+is_too_small limit extent log = not (is_empty (selected log extent)) && is_empty (packed extent limit (selected log extent))
+
+abbrev pub records_said : ℕ → ℕ → Id → Extent → Log → Apdu
+records_said limit invoke object extent log = if is_too_small limit extent log then abort invoke else limited limit invoke (records_ack limit invoke object extent log)
+
+abbrev pub range_said : ℕ → ℕ → ReadRange → Result Log Fault → Apdu
+range_said limit invoke r (Ok log) = records_said limit invoke r.object r.extent log
+range_said limit invoke r (Err fault) = error invoke read_range_service fault
+
+abbrev pub answer_range : State → ℕ → ℕ → Result ReadRange Reason → Apdu
+answer_range d limit invoke (Ok r) = range_said limit invoke r (records_of d r)
+answer_range d limit invoke (Err reason) = reject invoke reason
+
 -- ---- confirmed requests
 
 -- The answer to a request has at most the octets that the device sends, and that the request takes.
@@ -84,6 +118,7 @@ answer_request d segmented size invoke service parameters =
     if service == read_property_service
     then (answer_read d (min size d.reply_size) invoke (read_property_at parameters), d) else
     if service == write_property_service then answer_write d invoke (write_property_at parameters) else
+    if service == read_range_service then (answer_range d (min size d.reply_size) invoke (read_range_at parameters), d) else
     (Reject invoke unrecognized_service, d)
 
 -- ---- Who-Is (16.10)

@@ -10,7 +10,7 @@ use Rattle.bac_apdu.specs.Frame.{Frame, Unicast, Broadcast, Forwarded, Function,
 use Rattle.bac_objects.specs.Build.{id_of}
 use Rattle.bac_objects.specs.Command.{present}
 use Rattle.bac_objects.specs.Properties.{slot_value, value_of}
-use Rattle.bac_objects.specs.Reading.{read_of}
+use Rattle.bac_objects.specs.Reading.{read_of, values_octets}
 use Rattle.bac_objects.specs.Requests.{PropertyWrite, write_property_at}
 use Rattle.bac_objects.specs.State.{State, is_id}
 use Rattle.bac_objects.specs.Writing.{priority_of}
@@ -19,7 +19,7 @@ use Rattle.bac_objects.specs.declared.command.Setting.{Setting}
 use Rattle.bac_objects.specs.declared.command.Setting.TheVariants as setting
 use Rattle.bac_objects.specs.declared.lines.DeviceLine.{DeviceLine}
 use Rattle.bac_objects.specs.declared.lines.ObjectLine.{ObjectLine}
-use Rattle.bac_objects.specs.declared.lines.ObjectLine.TheVariants.{Binary, Multistate, Integer}
+use Rattle.bac_objects.specs.declared.lines.ObjectLine.TheVariants.{Binary, Multistate, Integer, Log}
 use Rattle.bac_objects.specs.declared.object.Body.TheVariants as body
 use Rattle.bac_objects.specs.declared.object.Object as object
 use Rattle.bac_device.specs.Answer.{answer, write_property_service}
@@ -117,25 +117,27 @@ pub record Stands (d : State) (datagrams : List (List ℕ)) (id : Id) (o : objec
       → slice_get slots (priority - 1) ≡ option_or (last_at id priority (writes d datagrams)) (slice_get c.slots (priority - 1))
   pub held : lookup (is_id id) (after d datagrams).objects ≡ Some (with_slots o c slots)
   pub read : read_of (after d datagrams) (record { object = id; property = 85; index = None })
-      ≡ Ok (value_of (present slots c.default) ∷ [])
+      ≡ Ok (values_octets (value_of (present slots c.default) ∷ []))
 
 -- ---- devices that were built
 
 -- what a line says of a commandable object
-abbrev pub default_of : ObjectLine → Setting
-default_of (Binary instance name default) = setting.Enumerated default
-default_of (Multistate instance name states default) = setting.Unsigned default
-default_of (Integer instance name default) = setting.Signed default
+abbrev pub default_of : ObjectLine → Option Setting
+default_of (Binary instance name default) = Some (setting.Enumerated default)
+default_of (Multistate instance name states default) = Some (setting.Unsigned default)
+default_of (Integer instance name default) = Some (setting.Signed default)
+default_of (Log instance name source capacity interval logged) = None
 
 -- After these writes each priority of the object is read as what the last of them at it set, else as Null;
 -- Present_Value as the value at the lowest-numbered priority that isn't Null, else as Relinquish_Default; and that as
 -- the line had it.
 pub record IsCommanded (d : State) (id : Id) (ws : List PropertyWrite) (default : Setting) : Type 0 where
   pub array : read_of d (record { object = id; property = 87; index = None })
-      ≡ Ok (map (λ priority. slot_value (slot_after id ws priority)) (range_with_len 1 16))
+      ≡ Ok (values_octets (map (λ priority. slot_value (slot_after id ws priority)) (range_with_len 1 16)))
   pub present_value : read_of d (record { object = id; property = 85; index = None })
-      ≡ Ok (value_of (present (map (slot_after id ws) (range_with_len 1 16)) default) ∷ [])
-  pub default_value : read_of d (record { object = id; property = 104; index = None }) ≡ Ok (value_of default ∷ [])
+      ≡ Ok (values_octets (value_of (present (map (slot_after id ws) (range_with_len 1 16)) default) ∷ []))
+  pub default_value : read_of d (record { object = id; property = 104; index = None })
+      ≡ Ok (values_octets (value_of default ∷ []))
 
 -- the device of a line first, then the objects of lines in their order
 abbrev pub ids_in_order : DeviceLine → List ObjectLine → List Primitive

@@ -14,6 +14,7 @@ use Rattle.bac_objects.specs.Reading.{AreValid, read_of, values_octets}
 use Rattle.bac_objects.specs.Requests.{read_property_at}
 use Rattle.bac_objects.specs.State.{State, is_id}
 use Rattle.bac_objects.specs.declared.command.Command.{Command}
+use Rattle.bac_objects.specs.declared.command.Setting.{Setting}
 use Rattle.bac_objects.specs.declared.lines.DeviceLine.{DeviceLine}
 use Rattle.bac_objects.specs.declared.lines.ObjectLine.{ObjectLine}
 use Rattle.bac_objects.specs.declared.object.Body.TheVariants as body
@@ -42,12 +43,12 @@ AcceptedWritesStand =
     → lookup (is_id id) d.objects ≡ Some o → o.body ≡ body.Command c → length c.slots ≡ 16 → (id.kind == 8) ≡ false
     → Stands d datagrams id o c
 
--- the same of each object of a device that was built of lines
+-- the same of each commandable object of a device that was built of lines
 abbrev pub BuiltObjectsAreCommanded : Type 0
 BuiltObjectsAreCommanded =
-    (device : DeviceLine) (lines : List ObjectLine) (datagrams : List (List ℕ)) (i : ℕ) (line : ObjectLine)
-    → build_fault device lines ≡ None → slice_get lines i ≡ Some line
-    → IsCommanded (after (built device lines) datagrams) (id_of line) (writes (built device lines) datagrams) (default_of line)
+    (device : DeviceLine) (lines : List ObjectLine) (datagrams : List (List ℕ)) (i : ℕ) (line : ObjectLine) (default : Setting)
+    → build_fault device lines ≡ None → slice_get lines i ≡ Some line → default_of line ≡ Some default
+    → IsCommanded (after (built device lines) datagrams) (id_of line) (writes (built device lines) datagrams) default
 
 -- ---- reads
 
@@ -57,12 +58,12 @@ ObjectListKeepsTheOrderOfLines =
     (device : DeviceLine) (lines : List ObjectLine) (datagrams : List (List ℕ))
     → read_of (after (built device lines) datagrams)
     (record { object = record { kind = 8; instance = device.instance }; property = 76; index = None })
-    ≡ Ok (ids_in_order device lines)
+    ≡ Ok (values_octets (ids_in_order device lines))
 
 -- a ReadProperty to this device alone is answered by the ACK with the values that are read, within the limit
 abbrev pub ReadsAreAnswered : Type 0
 ReadsAreAnswered =
-    (d : State) (datagram : List ℕ) (size invoke : ℕ) (parameters : List ℕ) (r : ReadProperty) (values : List Primitive)
+    (d : State) (datagram : List ℕ) (size invoke : ℕ) (parameters : List ℕ) (r : ReadProperty) (values : List ℕ)
     → heard_in (frame_at datagram)
     ≡ Some (record { to_all = false; apdu = Confirmed false size invoke read_property_service parameters })
     → read_property_at parameters ≡ Ok r → read_of d r ≡ Ok values

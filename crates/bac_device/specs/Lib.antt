@@ -5,3 +5,4 @@ pub mod Answer
 pub mod Views
 pub mod History
 pub mod Laws
+pub mod Logs

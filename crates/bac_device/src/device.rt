@@ -1,10 +1,14 @@
 //! A device.
 
 ghost use Rattle.std.specs.Prelude.{◌≡◌};
+ghost use Rattle.bac_wire.specs.OptionChain.{GivesSome};
 ghost use Rattle.bac_objects.specs.Build.{Builds};
+ghost use Rattle.bac_objects.specs.Chain.{LeavesWith};
+ghost use Rattle.bac_objects.specs.Sampling.{log_of, sampled};
 ghost use Rattle.bac_device.specs.Clock.{Advances, advanced};
 
-use bac_objects::{BuildFault, Database, DeviceLine, ObjectLine};
+use bac_log::TrendLog;
+use bac_objects::{BuildFault, Database, DeviceLine, ObjectLine, SampleFault};
 use bac_wire::Stamp;
 use std::alloc::Global;
 use std::marker::Model;
@@ -51,7 +55,25 @@ impl Device {
         self.database.clock()
     }
 
-    /// Sets the clock, and answers how many samples the logs took.
+    /// Takes one sample into the Trend Log with an instance, and gives its sequence number. The
+    /// sample has the clock and the source's present value, or an error where the source isn't
+    /// there (object, unknown-object) or has none (property, unknown-property). The first fault
+    /// decides: no such log, a disabled one, no sequence number left.
+    pub fn sample(&mut self, instance: u32) -> Result<u32, SampleFault>
+        ensures { LeavesWith result self.old self.new (sampled self.old instance) }
+    {
+        self.database.sample(instance)
+    }
+
+    /// The records of the Trend Log with an instance.
+    pub fn log(&self, instance: u32) -> Option<&TrendLog>
+        ensures { GivesSome (λ log. log.now) result (log_of self.now instance) }
+    {
+        self.database.log(instance)
+    }
+
+    /// Sets the clock, and each Trend Log that is due takes one sample of what its source was
+    /// before; answers how many did.
     #[tactic(auto, unfolding(crate::specs::Clock::advanced))]
     pub fn advance(&mut self, stamp: Stamp) -> Result<usize, ClockBack>
         ensures { Advances result self.old self.new (advanced self.old stamp) }
@@ -59,7 +81,6 @@ impl Device {
         if stamp.ticks() < self.database.clock().ticks() {
             return Err(ClockBack);
         }
-        self.database.set_clock(stamp);
-        Ok(0)
+        Ok(self.database.advance(stamp))
     }
 }

@@ -22,6 +22,9 @@ pub(crate) const READ_PROPERTY: u8 = 12;
 /// WriteProperty (clause 21, BACnetConfirmedServiceChoice).
 pub(crate) const WRITE_PROPERTY: u8 = 15;
 
+/// ReadRange (clause 21, BACnetConfirmedServiceChoice).
+pub(crate) const READ_RANGE: u8 = 26;
+
 /// The reason that a service isn't there (clause 21, BACnetRejectReason).
 const UNRECOGNIZED_SERVICE: u8 = 9;
 
@@ -47,6 +50,10 @@ impl Device {
                 self.answer_read(limit, invoke, parameters)
             }
             WRITE_PROPERTY => self.answer_write(invoke, parameters),
+            READ_RANGE => {
+                let limit = size.min(self.database.reply_size());
+                self.answer_range(limit, invoke, parameters)
+            }
             _ => reject(invoke, UNRECOGNIZED_SERVICE),
         }
     }

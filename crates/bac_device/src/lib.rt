@@ -15,15 +15,20 @@
 mod device;
 mod handle;
 mod laws;
+mod logs;
 mod receiving;
 mod reply;
 mod requests;
 mod service;
 
-pub use bac_objects::{BuildFault, DeviceLine, Name, ObjectLine};
+pub use bac_objects::{BuildFault, DeviceLine, Name, ObjectLine, SampleFault};
 pub use device::{ClockBack, Device};
 pub use laws::{
     accepted_writes_stand, acks_are_read_back, built_objects_are_commanded,
     object_list_keeps_the_order_of_lines, reads_are_answered, refusals_change_nothing,
+};
+pub use logs::{
+    built_devices_have_logs, logs_move_by_steps, questions_are_answered,
+    questions_for_no_log_are_refused,
 };
 pub use reply::{Receiver, Reply};

@@ -1,0 +1,161 @@
+-- Questions for the records of a trend log.
+use Rattle.std.proofs.Common.{◌≡◌, refl, ap, sym, subst, ◌∙◌, arith, ℕ, ◌+◌, ◌^◌, ◌<◌, ◌≤◌, ◌==◌, ◌&&◌, nat_lt, min, Bool, true, false, cond, List, [], ◌∷◌, ◌++◌, map, length, Option, Some, None, Result, Ok, Err, inl, inr, length-append}
+use Rattle.std.specs.Map.{lookup}
+use Rattle.std.proofs.lemmas.Bool.Decides.{nat_tests}
+use Rattle.bac_wire.specs.Primitive.{Id}
+use Rattle.bac_apdu.specs.Apdu.{Apdu, Confirmed, IsApdu, apdu_octets, apdu_at}
+use Rattle.bac_apdu.specs.FormCanon.{canon_form}
+use Rattle.bac_apdu.specs.Frame.{Unicast, frame_at, frame_octets}
+use Rattle.bac_apdu.specs.Npdu.{IsHeader, header_at, header_octets, place_octets}
+use Rattle.bac_apdu.specs.Service.Extent.{IsExtent}
+use Rattle.bac_apdu.specs.Service.ReadRange.{read_range, range_items, range_in, read_range_at}
+use Rattle.bac_apdu.specs.declared.service.extent.Extent.{Extent}
+use Rattle.bac_apdu.specs.declared.service.read_range.ReadRange.{ReadRange}
+use Rattle.bac_apdu.proofs.Heads.{frame_again, header_again, message_again}
+use Rattle.bac_apdu.proofs.Named.{fields_again, range_back}
+use Rattle.bac_apdu.proofs.Services.{range_again}
+use Rattle.bac_apdu.proofs.Shorts.{range_apdu_short}
+use Rattle.bac_log.specs.TrendLog.{Log}
+use Rattle.bac_objects.specs.Build.{built, entry_of, id_of}
+use Rattle.bac_objects.specs.Records.{records_of}
+use Rattle.bac_objects.specs.Sampling.{log_id, log_in, log_of, logger_in, records_in}
+use Rattle.bac_objects.specs.State.{State, is_id}
+use Rattle.bac_objects.specs.declared.fault.Fault.TheVariants.{UnknownObject}
+use Rattle.bac_objects.specs.declared.lines.DeviceLine.{DeviceLine}
+use Rattle.bac_objects.specs.declared.lines.ObjectLine.{ObjectLine}
+use Rattle.bac_objects.specs.declared.lines.ObjectLine.TheVariants as line
+use Rattle.bac_objects.specs.declared.object.Body.{Body}
+use Rattle.bac_objects.specs.declared.object.Body.TheVariants as body
+use Rattle.bac_objects.specs.declared.object.Logger.{Logger}
+use Rattle.bac_objects.specs.declared.object.Object as object
+use Rattle.bac_device.specs.Answer.{answer, answer_range, range_said, records_said}
+use Rattle.bac_device.specs.Logs.{HasLogs, asking, question, question_octets}
+use Rattle.bac_device.specs.Receiving.{Heard, heard_at}
+use Rattle.bac_device.specs.Reply.{error, reply}
+use Rattle.bac_device.specs.declared.reply.Receiver.TheVariants.{Sender}
+
+-- ---- the question is read back
+
+asking_is : header_octets asking ≡ 1 ∷ 4 ∷ []
+unfolding place_octets
+asking_is = refl
+
+asking_valid : IsHeader asking
+asking_valid = (omega arith, tt, tt, refl)
+
+abbrev asked : ℕ → ℕ → Extent → Apdu
+asked invoke n extent = Confirmed false 1476 invoke 26 (canon_form read_range (range_items (question n extent)))
+
+frame_is : (invoke n : ℕ) (extent : Extent) → frame_at (question_octets invoke n extent) ≡ Some (Unicast (header_octets asking ++ apdu_octets (asked invoke n extent)))
+frame_is invoke n extent =
+    let two : length (header_octets asking) ≡ 2 = ap (λ (l : List ℕ). length l) asking_is in
+    frame_again (header_octets asking ++ apdu_octets (asked invoke n extent)) (omega (arith, two, range_apdu_short (question n extent) 1476 invoke, length-append (header_octets asking) (apdu_octets (asked invoke n extent))))
+
+heard_is : (invoke n : ℕ) (extent : Extent) → heard_at false (header_octets asking ++ apdu_octets (asked invoke n extent)) ≡ Some (record { to_all = false; apdu = asked invoke n extent })
+unfolding heard_at
+heard_is invoke n extent = rw (header_again asking (apdu_octets (asked invoke n extent)) asking_valid, message_again (asked invoke n extent) (refl, inr (inr (inr (inr (inr refl)))))) refl
+
+read_is : (n : ℕ) (extent : Extent) → n < 4194304 → IsExtent extent → read_range_at (canon_form read_range (range_items (question n extent))) ≡ Ok (question n extent)
+unfolding read_range_at
+read_is n extent lt valid =
+    let q : ReadRange = question n extent in
+    fields_again range_in read_range (canon_form read_range (range_items q)) (range_items q) q (range_again q ((omega arith, lt), omega arith, tt) valid) (range_back q)
+
+answer_is : (d : State) (invoke n : ℕ) (extent : Extent) → n < 4194304 → IsExtent extent
+    → answer d (question_octets invoke n extent) ≡ (Some (reply Sender (range_said (min 1476 d.reply_size) invoke (question n extent) (records_of d (question n extent)))), d)
+unfolding answer
+answer_is d invoke n extent lt valid = rw (frame_is invoke n extent, heard_is invoke n extent, read_is n extent lt valid) refl
+
+-- ---- the log
+
+record Shows (d : State) (n : ℕ) (log : Log) : Type 0 where
+  o : object.Object
+  l : Logger
+  low : n < 4194304
+  at : lookup (is_id (log_id n)) d.objects ≡ Some o
+  is : o.body ≡ body.Log l
+  records : l.log ≡ log
+
+no_log : (log : Log) → (let none : Option Log = None in none) ≡ Some log → ⊥
+no_log log e = cc
+
+log_is : (a b : Log) → (let some : Option Log = Some a in some) ≡ Some b → a ≡ b
+log_is a b e = cc
+
+in_range : (n : ℕ) → nat_lt 4194303 n ≡ false → n < 4194304
+in_range n e = grind (arith, nat_tests)
+
+shows_body : (d : State) (n : ℕ) (log : Log) (o : object.Object) (b : Body) → n < 4194304 → lookup (is_id (log_id n)) d.objects ≡ Some o → o.body ≡ b → records_in (logger_in b) ≡ Some log → Shows d n log
+shows_body d n log o (body.Command c) lt at is e = absurd (no_log log e)
+shows_body d n log o (body.Log l) lt at is e = record { o = o; l = l; low = lt; at = at; is = is; records = log_is l.log log e }
+
+shows_object : (far : Bool) (d : State) (n : ℕ) (log : Log) (x : Option object.Object) → nat_lt 4194303 n ≡ far → lookup (is_id (log_id n)) d.objects ≡ x → log_in (cond far None x) ≡ Some log → Shows d n log
+shows_object true d n log x far at e = absurd (no_log log e)
+shows_object false d n log None far at e = absurd (no_log log e)
+shows_object false d n log (Some o) far at e = shows_body d n log o o.body (in_range n far) at refl e
+
+shows : (d : State) (n : ℕ) (log : Log) → log_of d n ≡ Some log → Shows d n log
+shows d n log e = shows_object (nat_lt 4194303 n) d n log (lookup (is_id (log_id n)) d.objects) refl refl e
+
+found : (d : State) (n : ℕ) (extent : Extent) (o : object.Object) (l : Logger) → lookup (is_id (log_id n)) d.objects ≡ Some o → o.body ≡ body.Log l → records_of d (question n extent) ≡ Ok l.log
+found d n extent o l at is = rw at (rw is refl)
+
+pub question_answered : (d : State) (n : ℕ) (log : Log) (invoke : ℕ) (extent : Extent) → log_of d n ≡ Some log → IsExtent extent
+    → answer d (question_octets invoke n extent) ≡ (Some (reply Sender (records_said (min 1476 d.reply_size) invoke (log_id n) extent log)), d)
+question_answered d n log invoke extent e valid =
+    let s = shows d n log e in
+    answer_is d invoke n extent s.low valid
+    ∙ ap (λ x. (Some (reply Sender (range_said (min 1476 d.reply_size) invoke (question n extent) x)), d)) (found d n extent s.o s.l s.at s.is)
+    ∙ ap (λ (x : Log). (Some (reply Sender (records_said (min 1476 d.reply_size) invoke (log_id n) extent x)), d)) s.records
+
+-- ---- without the log
+
+missing : (d : State) (n : ℕ) (extent : Extent) → lookup (is_id (log_id n)) d.objects ≡ None → records_of d (question n extent) ≡ Err UnknownObject
+missing d n extent at = rw at refl
+
+some_log : (log : Log) → (let some : Option Log = Some log in some) ≡ None → ⊥
+some_log log e = cc
+
+low : (n : ℕ) → n < 4194304 → nat_lt 4194303 n ≡ false
+low n lt = grind (arith, nat_tests)
+
+lacks_object : (d : State) (n : ℕ) (x : Option object.Object) → ((o : object.Object) → x ≡ Some o → (l : Logger) × (o.body ≡ body.Log l)) → log_in x ≡ None → x ≡ None
+lacks_object d n None has e = refl
+lacks_object d n (Some o) has e =
+    let l = has o refl in
+    let log : log_in (Some o) ≡ Some l.0.log = ap (λ (b : Body). records_in (logger_in b)) l.1 in
+    absurd (some_log l.0.log (sym log ∙ e))
+
+pub question_refused : (d : State) (n : ℕ) (invoke : ℕ) (extent : Extent) → HasLogs d → log_of d n ≡ None → n < 4194304 → IsExtent extent
+    → answer d (question_octets invoke n extent) ≡ (Some (reply Sender (error invoke 26 UnknownObject)), d)
+question_refused d n invoke extent has e lt valid =
+    let none : log_in (lookup (is_id (log_id n)) d.objects) ≡ None = sym (ap (λ (b : Bool). log_in (cond b None (lookup (is_id (log_id n)) d.objects))) (low n lt)) ∙ e in
+    answer_is d invoke n extent lt valid
+    ∙ ap (λ x. (Some (reply Sender (range_said (min 1476 d.reply_size) invoke (question n extent) x)), d)) (missing d n extent (lacks_object d n (lookup (is_id (log_id n)) d.objects) (has n) none))
+
+-- ---- built devices
+
+none_object : (o : object.Object) → (let none : Option object.Object = None in none) ≡ Some o → ⊥
+none_object o e = cc
+
+object_is : (a b : object.Object) → (let some : Option object.Object = Some a in some) ≡ Some b → a ≡ b
+object_is a b e = cc
+
+abbrev IsLogged : object.Object → Type 0
+IsLogged o = (l : Logger) × (o.body ≡ body.Log l)
+
+log_here : (b : Bool) (o p : object.Object) (rest : Option object.Object) → IsLogged p → (rest ≡ Some o → IsLogged o) → cond b (Some p) rest ≡ Some o → IsLogged o
+log_here true o p rest is more e = (is.0, ap (λ (x : object.Object). x.body) (sym (object_is p o e)) ∙ is.1)
+log_here false o p rest is more e = more e
+
+in_lines : (lines : List ObjectLine) (n : ℕ) (o : object.Object) → lookup (is_id (log_id n)) (map entry_of lines) ≡ Some o → IsLogged o
+in_lines [] n o e = absurd (none_object o e)
+in_lines (line.Binary instance name default ∷ lines) n o e = in_lines lines n o e
+in_lines (line.Multistate instance name states default ∷ lines) n o e = in_lines lines n o e
+in_lines (line.Integer instance name default ∷ lines) n o e = in_lines lines n o e
+in_lines (line.Log instance name source capacity interval logged ∷ lines) n o e =
+    let p = entry_of (line.Log instance name source capacity interval logged) in
+    log_here (is_id (log_id n) p.0) o p.1 (lookup (is_id (log_id n)) (map entry_of lines)) (_, refl) (in_lines lines n o) e
+
+pub built_has : (device : DeviceLine) (lines : List ObjectLine) → HasLogs (built device lines)
+built_has device lines = λ n o e. in_lines lines n o e

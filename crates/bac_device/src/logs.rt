@@ -1,0 +1,42 @@
+//! Laws of a device's trend logs. Each function does nothing: what it ensures is the law.
+
+ghost use Rattle.std.specs.Prelude.{◌≡◌, ◌<◌, ℕ, List, Ok, Some, None, min};
+ghost use Rattle.bac_wire.specs.Stamp.{CivilTime};
+ghost use Rattle.bac_apdu.specs.Service.Extent.{IsExtent};
+ghost use Rattle.bac_apdu.specs.declared.service.extent.Extent.{Extent as AnyExtent};
+ghost use Rattle.bac_log.specs.TrendLog.{Log};
+ghost use Rattle.bac_objects.specs.Build.{built};
+ghost use Rattle.bac_objects.specs.Sampling.{log_id, log_of, sampled, ticked};
+ghost use Rattle.bac_objects.specs.State.{State};
+ghost use Rattle.bac_objects.specs.declared.fault.Fault.TheVariants as Fault;
+ghost use Rattle.bac_objects.specs.declared.lines.DeviceLine.{DeviceLine};
+ghost use Rattle.bac_objects.specs.declared.lines.ObjectLine.{ObjectLine};
+ghost use Rattle.bac_device.specs.Answer.{answer, records_said};
+ghost use Rattle.bac_device.specs.Logs.{HasLogs, Keeps, question_octets};
+ghost use Rattle.bac_device.specs.Reply.{error, reply};
+ghost use Rattle.bac_device.specs.declared.reply.Receiver.TheVariants as Receiver;
+
+/// A datagram, a sample and the passing of time move each trend log by at most one step, and leave
+/// the device's identifier, its reply size and the identifiers of its objects.
+pub fn logs_move_by_steps()
+    ensures answer { (d : State) (datagram : List ℕ) → Keeps d (answer d datagram).1 }
+    ensures sample { (d : State) (instance : ℕ) (said : ℕ × State) → sampled d instance ≡ Ok said → Keeps d said.1 }
+    ensures advance { (d : State) (stamp : CivilTime) → Keeps d (ticked d stamp) }
+{}
+
+/// In a device that was built of lines each object of the type Trend Log has records.
+pub fn built_devices_have_logs()
+    ensures { (device : DeviceLine) (lines : List ObjectLine) → HasLogs (built device lines) }
+{}
+
+/// A question for the records of a log of the device is answered by that log, within the reply size
+/// and 1476 octets, and changes nothing.
+pub fn questions_are_answered()
+    ensures { (d : State) (n : ℕ) (log : Log) (invoke : ℕ) (extent : AnyExtent) → log_of d n ≡ Some log → IsExtent extent → answer d (question_octets invoke n extent) ≡ (Some (reply Receiver.Sender (records_said (min 1476 d.reply_size) invoke (log_id n) extent log)), d) }
+{}
+
+/// A question for the records of a log that isn't there is answered by the Error object,
+/// unknown-object, and changes nothing.
+pub fn questions_for_no_log_are_refused()
+    ensures { (d : State) (n : ℕ) (invoke : ℕ) (extent : AnyExtent) → HasLogs d → log_of d n ≡ None → n < 4194304 → IsExtent extent → answer d (question_octets invoke n extent) ≡ (Some (reply Receiver.Sender (error invoke 26 Fault.UnknownObject)), d) }
+{}
