@@ -1,4 +1,13 @@
-//! Confirmed requests, their transactions, and links that carry them.
+//! Confirmed requests, their transactions, and links that carry them (clause 5.4).
+//!
+//! [`Transactions`] keeps one request open at a time: `begin` gives its datagram, `receive` takes
+//! the datagram that [`answers`] it, `timeout` gives the same octets again. A [`LogLink`] carries a
+//! datagram and brings one back, or loses either; [`exchange`] sends a request over any link until
+//! an answer comes, and gives the ACK that belongs to it.
+//!
+//! What a walk of a trend log delivers is said here too, on lists alone, since it is said of the
+//! answers that a link brings: specs/Delivery is the file to read first, and the laws of
+//! [`can_be_resumed`] and [`delivers_each_once`] are true of all that is so delivered.
 #![tactic(auto)]
 
 mod answer;
