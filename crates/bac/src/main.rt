@@ -8,8 +8,8 @@
 ghost use Rattle.std.specs.Prelude.{◌≡◌};
 ghost use Rattle.bac.specs.Status.{exit_status};
 
-use bac_tools::{ReplayFault, run_replay};
-use std::io::{BufWriter, Write};
+use bac_tools::{ReplayFault, run_replay_buffered};
+use std::io::BufWriter;
 use std::process::ExitCode;
 use std::{env, io};
 
@@ -48,14 +48,7 @@ fn replay(rt: &HostRuntime) -> Result<(), ReplayFault> {
     let Ok(mut output) = BufWriter::new(rt.alloc(), io::writer(rt)) else {
         return Err(ReplayFault::Memory);
     };
-    let ended = run_replay(rt.alloc(), &mut rt.reader(), &mut output);
-    if ended == Err(ReplayFault::Write) {
-        return ended;
-    }
-    match output.flush() {
-        Ok(()) => ended,
-        Err(_) => Err(ReplayFault::Write),
-    }
+    run_replay_buffered(rt.alloc(), &mut rt.reader(), &mut output)
 }
 
 /// The exit status of a fault.

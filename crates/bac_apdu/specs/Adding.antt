@@ -1,7 +1,7 @@
 -- How each single parameter is written, and what a writer of several does.
 use Rattle.std.specs.Prelude.{ℕ, ◌+◌, ◌<◌, ◌≡◌, List, ◌++◌, length, Result}
 use Rattle.std.specs.Result.{MatchResult}
--- the encodings of single parameters, which stay closed in proofs about lists of parameters
+-- the encodings of single parameters, kept opaque (`unfoldable`) so that proofs about lists of parameters don't open them
 unfoldable pub use Rattle.bac_wire.specs.Encoding.{context_octets, value_octets, open_octets, close_octets}
 
 -- The text is appended, or it doesn't fit.

@@ -1,4 +1,4 @@
--- A parameter as a field of its service: its value where it has the type that the service wants, and a default otherwise. Where a service was read, each has its type.
+-- A parameter as a field of its service: its value if it has the type that the service wants, and a default otherwise. In a service that was read, each has its type.
 use Rattle.std.specs.Prelude.{ℕ, ℤ, pos, Bool, false, List, [], ◌∷◌, get_or, slice_index, Option, Some, None}
 use Rattle.bac_wire.specs.Primitive.{Id, Primitive, Null, Unsigned, Signed, Bits, Enumerated, Date, Time, Object}
 use Rattle.bac_wire.specs.declared.stamp.Date4.{Date4}
@@ -39,7 +39,7 @@ abbrev pub bit_in : ℕ → Item → Bool
 bit_in place (Value (Bits bits)) = get_or bits place false
 bit_in place item = false
 
--- what stands between an opening and a closing tag
+-- what comes between an opening and a closing tag
 abbrev pub octets_in : Item → List ℕ
 octets_in (Inside octets) = octets
 octets_in item = []

@@ -1,4 +1,4 @@
--- Reading parameters from left to right: the first check that fails is the reason, and where reading stops.
+-- Reading parameters from left to right: the first check that fails is the reason, and at which parameter reading stops.
 use Rattle.std.specs.Prelude.{◌≡◌, ◌⊎◌, ℕ, zero, suc, ◌+◌, ◌-◌, ◌≤◌, Bool, true, false, not, ◌&&◌, nat_le, ◌==◌, List, [], ◌∷◌, ◌++◌, length, take, Result, Ok, Err, if◌then◌else◌}
 use Rattle.bac_wire.specs.Primitive.{Primitive}
 use Rattle.bac_wire.specs.Level.{close_at}
@@ -10,12 +10,12 @@ use Rattle.bac_apdu.specs.Reason.{reasoned}
 pub use Rattle.bac_wire.specs.Next.{other_next}
 use Rattle.bac_apdu.specs.Form.{Absent, Form, Inside, Item, Mark, Part, SpellsPart, Value, any, application, choice, closing, context, enclosed, end, if_tag, next_tag, nothing_or, opening, opening_next, optional, part, value_next}
 
--- ---- reading, and the reason of the first parameter that isn't spelled or not in range
+-- ---- reading, and the reason of the first wrong parameter
 
 abbrev pub ranged : {A : Type 0} → (Primitive → Bool) → Primitive → A → Result (Item × A) Reason
 ranged fits value rest = if fits value then Ok (Value value, rest) else Err OutOfRange
 
--- Where one application type is wanted, another type is a fault of the tag, before all that is said of length and contents.
+-- If one application type is wanted, another type is a fault of the tag, whatever its length and contents.
 abbrev pub typed_at : ℕ → List ℕ → Result (Primitive × List ℕ) Reason
 typed_at type bytes = if other_next type bytes then Err InvalidTag else reasoned (value_at bytes)
 
@@ -76,18 +76,18 @@ IsForm (optional tag type fits form) = (type ≤ 12) × IsForm form
 IsForm (choice tag there otherwise) = IsForm there × IsForm otherwise
 IsForm (nothing_or form) = IsForm form
 
--- ---- where reading stops
+-- ---- at which parameter reading stops
 
--- No front of the text spells the parameter; the reason is that of the first check of it that fails.
+-- No prefix of the text encodes the parameter; the reason is that of its first check that fails.
 abbrev pub IsFault : Part → List ℕ → Reason → Type 0
 IsFault p text reason = ((front rest : List ℕ) (item : Item) → text ≡ front ++ rest → SpellsPart p front item → ⊥) × (part_at p text ≡ Err reason)
 
--- the parameter is at fault, or it is spelled and reading stops after it
+-- the parameter is wrong, or it is encoded and reading stops after it
 abbrev pub StopsPart : Part → (List ℕ → ℕ → Reason → Type 0) → List ℕ → ℕ → Reason → Type 0
 StopsPart p after text zero reason = IsFault p text reason
 StopsPart p after text (suc count) reason = (front : List ℕ) × (rest : List ℕ) × (item : Item) × (text ≡ front ++ rest) × SpellsPart p front item × after rest count reason
 
--- After the longest run of leading parameters that are spelled and in range, count of them, the next one is at fault for this reason, or none is wanted and octets are left.
+-- After the longest run of leading parameters that are encoded and in range, count of them, the next one is wrong for this reason, or none is wanted and octets are left.
 abbrev pub Stops : Form → List ℕ → ℕ → Reason → Type 0
 Stops end [] count reason = ⊥
 Stops end (octet ∷ text) count reason = (count ≡ 0) × (reason ≡ TooManyArguments)

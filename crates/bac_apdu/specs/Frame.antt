@@ -1,12 +1,12 @@
 -- Frames (Annex J.2): what a whole datagram is, and how a frame to one device is written.
-use Rattle.std.specs.Prelude.{ℕ, ◌+◌, ◌&&◌, ◌==◌, List, [], ◌∷◌, ◌++◌, length, Option, Some, None, if◌then◌else◌}
+use Rattle.std.specs.Prelude.{◌≡◌, ◌≢◌, ◌<◌, ℕ, ◌+◌, ◌&&◌, ◌==◌, List, [], ◌∷◌, ◌++◌, length, Option, Some, None, if◌then◌else◌}
 use Rattle.std.specs.Int.{w16, to_be_bytes}
 use Rattle.bac_apdu.specs.declared.frame.Frame.{Frame as FrameCode}
 use Rattle.bac_apdu.specs.declared.frame.Frame.TheVariants as code
 use Rattle.bac_wire.specs.OptionChain.{◌>>=◌}
 use Rattle.bac_apdu.specs.Octets.{octet_at, word_at, octets_at}
 
--- A frame, apart from where it lies in memory. Forwarded has an address and an NPDU, Function its number and what follows.
+-- A frame, whatever memory holds it. Forwarded has an address and an NPDU, Function its number and what follows.
 pub data Frame : Type 0 where
   Unicast : List ℕ → Frame
   Broadcast : List ℕ → Frame
@@ -44,3 +44,36 @@ result_octets code = (0x81 ∷ 0x00 ∷ 0x00 ∷ 0x06 ∷ []) ++ to_be_bytes w16
 -- an Original-Unicast-NPDU (J.2.11)
 unfoldable pub frame_octets : List ℕ → List ℕ
 frame_octets body = (0x81 ∷ 0x0A ∷ to_be_bytes w16 (length body + 4)) ++ body
+
+-- ---- the grammar
+
+-- 81, the function, the length of the whole in two octets, high octet first, and what the function has (J.2)
+abbrev pub framed : ℕ → List ℕ → List ℕ
+framed function body = (0x81 ∷ function ∷ to_be_bytes w16 (length body + 4)) ++ body
+
+abbrev pub function_of : Frame → ℕ
+function_of (Unicast npdu) = 0x0A
+function_of (Broadcast npdu) = 0x0B
+function_of (Forwarded address npdu) = 0x04
+function_of (Function function body) = function
+
+abbrev pub body_of : Frame → List ℕ
+body_of (Unicast npdu) = npdu
+body_of (Broadcast npdu) = npdu
+body_of (Forwarded address npdu) = address ++ npdu
+body_of (Function function body) = body
+
+-- the octets of each frame
+abbrev pub frame_encoding : Frame → List ℕ
+frame_encoding frame = framed (function_of frame) (body_of frame)
+
+-- an address has six octets, and a function with a name of its own is no other function
+abbrev pub IsKind : Frame → Type 0
+IsKind (Unicast npdu) = Unit {0}
+IsKind (Broadcast npdu) = Unit {0}
+IsKind (Forwarded address npdu) = length address ≡ 6
+IsKind (Function function body) = (function ≢ 0x0A) × (function ≢ 0x0B) × (function ≢ 0x04)
+
+-- and its length has two octets
+abbrev pub IsFrame : Frame → Type 0
+IsFrame frame = IsKind frame × (length (body_of frame) + 4 < 65536)

@@ -7,14 +7,14 @@ use Rattle.bac_apdu.specs.declared.npdu.Far.{Far}
 use Rattle.bac_wire.specs.OptionChain.{◌>>=◌}
 use Rattle.bac_apdu.specs.Octets.{octet_at, word_at, octets_at}
 
--- ---- headers, apart from where they lie in memory
+-- ---- headers, whatever memory holds them
 
 -- a network and an address on it (6.2.2.1, 6.2.2.2)
 pub record Place : Type 0 where
   pub net : ℕ
   pub address : List ℕ
 
--- what stands before an APDU or a network message (6.2.1, 6.2.2)
+-- what comes before an APDU or a network layer message: the NPCI (6.2.1, 6.2.2)
 pub record Header : Type 0 where
   pub network : Bool
   pub reply : Bool
@@ -51,7 +51,7 @@ maybe_place_at there bytes = if there then (do
 unfoldable pub hops_at : Bool → List ℕ → Option (ℕ × List ℕ)
 hops_at there bytes = if there then octet_at bytes else Some (0, bytes)
 
--- 6.2.2: 01, the control octet, the destination where bit 5 is set, the source where bit 3 is, and the hop count where there is a destination.
+-- 6.2.2: 01, the control octet, the destination (DNET, DADR) if bit 5 is set, the source (SNET, SADR) if bit 3 is, and the hop count if there is a destination.
 -- Bit 7 says a network message, bit 2 that a reply is expected, bits 1 and 0 the priority.
 unfoldable pub header_at : List ℕ → Option (Header × List ℕ)
 header_at bytes = do
@@ -92,7 +92,7 @@ abbrev pub IsPlace : Option Place → Type 0
 IsPlace None = Unit {0}
 IsPlace (Some place) = (place.net < 65536) × (length place.address < 256)
 
--- the hop count is there where a destination is (6.2.3)
+-- the hop count is there if a destination is (6.2.3)
 abbrev pub HasHops : Option Place → ℕ → Type 0
 HasHops None hops = hops ≡ 0
 HasHops (Some place) hops = Unit {0}
@@ -100,3 +100,13 @@ HasHops (Some place) hops = Unit {0}
 -- the priority has two bits (6.2.2)
 abbrev pub IsHeader : Header → Type 0
 IsHeader h = (h.priority < 4) × IsPlace h.dest × IsPlace h.source × HasHops h.dest h.hops
+
+-- ---- the grammar
+
+-- The control octet states flags and priority. Its bits 6 and 4 are reserved: a writer clears them, and a reader ignores them (6.2.2).
+abbrev pub IsControl : Header → ℕ → Type 0
+IsControl h control = (six : Bool) × (four : Bool) × (control ≡ control_of h + 64 * from_bool six + 16 * from_bool four)
+
+-- a header with this control octet
+abbrev pub header_encoding : ℕ → Header → List ℕ
+header_encoding control h = (1 ∷ control ∷ []) ++ (place_octets h.dest ++ (place_octets h.source ++ hops_octets h.dest h.hops))

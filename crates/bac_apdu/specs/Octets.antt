@@ -1,4 +1,4 @@
--- Octets read from left to right, where nothing says why there is no reading.
+-- Octets read from left to right; nothing says why they can't be read.
 use Rattle.std.specs.Prelude.{ℕ, ◌+◌, ◌*◌, List, [], ◌∷◌, length, take, drop, nat_lt, Option, Some, None, if◌then◌else◌}
 use Rattle.bac_wire.specs.OptionChain.{◌>>=◌}
 

@@ -1,2 +1,9 @@
-pub mod Announcements
-pub mod Builds
+pub mod Replies
+pub mod Asked
+pub mod Acks
+pub mod Priorities
+pub mod ReadBack
+pub mod Asking
+pub mod Told
+pub mod History
+pub mod Built

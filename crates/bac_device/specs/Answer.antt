@@ -1,114 +1,140 @@
--- What a device answers to a datagram: it takes Who-Is and gives I-Am (clause 16.10).
-use Rattle.std.specs.Prelude.{ℕ, ◌==◌, ◌&&◌, not, nat_le, Bool, true, false, is_none, if◌then◌else◌, List, [], ◌∷◌, ◌++◌, length, Option, None, Some}
+-- What a device answers to a datagram, and what it is afterwards.
+-- Read from the end: a frame (Annex J), what it has for the device (clause 6), an APDU (20.1), a request, a service (15, 16).
+use Rattle.std.specs.Prelude.{ℕ, ◌==◌, ◌&&◌, nat_le, Bool, true, false, if◌then◌else◌, List, [], ◌∷◌, min, Option, None, Some, Result, Ok, Err}
 use Rattle.std.specs.Option.{option_map}
-use Rattle.std.specs.Result.{result_ok}
-use Rattle.bac_wire.specs.Primitive.{Unsigned}
-use Rattle.bac_apdu.specs.Apdu.{Apdu, Unconfirmed, apdu_at, apdu_octets}
-use Rattle.bac_apdu.specs.Form.{Item, Value}
-use Rattle.bac_apdu.specs.FormReading.{form_at}
+use Rattle.bac_wire.specs.Primitive.{Primitive, Object, Enumerated, Id}
+use Rattle.bac_apdu.specs.Apdu.{Apdu, Confirmed, Unconfirmed, Simple, Complex, Reject}
+use Rattle.bac_apdu.specs.Form.{Value, Mark, Inside, number_item}
 use Rattle.bac_apdu.specs.FormCanon.{canon_form}
-use Rattle.bac_apdu.specs.Frame.{Frame, Unicast, Broadcast, frame_at, frame_octets}
+use Rattle.bac_apdu.specs.Frame.{Frame, Unicast, Broadcast, Forwarded, Function, frame_at}
 use Rattle.bac_apdu.specs.Service.IAm.{i_am, i_am_items}
-use Rattle.bac_apdu.specs.Npdu.{Header, Place, header_at, header_octets}
-use Rattle.bac_wire.specs.OptionChain.{◌>>=◌}
-use Rattle.bac_apdu.specs.Service.WhoIs.{who_is}
+use Rattle.bac_apdu.specs.Service.ReadPropertyAck.{read_property_ack}
+use Rattle.bac_apdu.specs.declared.reason.Reason.{Reason}
 use Rattle.bac_apdu.specs.declared.service.i_am.IAm.{IAm}
-use Rattle.bac_device.specs.State.{State}
+use Rattle.bac_apdu.specs.declared.service.read_property.ReadProperty.{ReadProperty}
+use Rattle.bac_objects.specs.Properties.{device_id, is_here}
+use Rattle.bac_objects.specs.Reading.{read_of, values_octets}
+use Rattle.bac_objects.specs.Requests.{PropertyWrite, read_property_at, write_property_at, who_is_at}
+use Rattle.bac_objects.specs.State.{State}
+use Rattle.bac_objects.specs.Writing.{write_of}
+use Rattle.bac_objects.specs.declared.fault.Fault.{Fault}
+use Rattle.bac_device.specs.Receiving.{Heard, heard_at, nak_code, nak_octets}
+use Rattle.bac_device.specs.Reply.{abort, error, limited, reject, reply}
+use Rattle.bac_device.specs.declared.reply.Receiver.{Receiver}
+use Rattle.bac_device.specs.declared.reply.Receiver.TheVariants.{Sender, Address}
 use Rattle.bac_device.specs.declared.reply.Reply.{Reply}
-use Rattle.bac_device.specs.declared.reply.Receiver.TheVariants.{Sender}
 
--- ---- numbers of the standard
+-- ---- numbers of services (clause 21, BACnetConfirmedServiceChoice and BACnetUnconfirmedServiceChoice)
 
--- the type of a device's object (clause 12.11)
-abbrev pub device : ℕ
-device = 8
+abbrev pub read_property_service : ℕ
+read_property_service = 12
 
--- the unconfirmed services Who-Is and I-Am (clause 21, BACnetUnconfirmedServiceChoice)
-abbrev pub who_is_service : ℕ
-who_is_service = 8
+abbrev pub write_property_service : ℕ
+write_property_service = 15
 
 abbrev pub i_am_service : ℕ
 i_am_service = 0
 
--- no segmentation in either direction (clause 21, BACnetSegmentation)
-abbrev pub no_segmentation : ℕ
-no_segmentation = 3
+abbrev pub who_is_service : ℕ
+who_is_service = 8
 
--- the network number that stands for all networks (clause 6.2.2)
-abbrev pub all_networks : ℕ
-all_networks = 65535
+-- the reason of a Reject that the service isn't there (clause 21, BACnetRejectReason)
+abbrev pub unrecognized_service : ℕ
+unrecognized_service = 9
 
--- ---- what is asked
+-- ---- ReadProperty (15.5)
 
--- the NPDU of a frame to one device or to all
-abbrev pub npdu_in : Frame → Option (List ℕ)
-npdu_in (Unicast npdu) = Some npdu
-npdu_in (Broadcast npdu) = Some npdu
-npdu_in other = None
+-- the ACK has the device's own identifier where the device is asked
+abbrev pub own_id : State → Id → Id
+own_id d id = if is_here d id then device_id d else id
 
-unfoldable pub npdu_at : List ℕ → Option (List ℕ)
-npdu_at datagram = do
-  frame ← frame_at datagram
-  npdu_in frame
+abbrev pub ack_octets : Id → ℕ → Option ℕ → List ℕ → List ℕ
+ack_octets object property index values =
+    canon_form read_property_ack (Value (Object object) ∷ Value (Enumerated property) ∷ number_item index ∷ Mark 3 ∷ Inside values ∷ [])
 
--- without a destination, or with the global broadcast address: all networks and no address there
-abbrev pub is_for_all : Option Place → Bool
-is_for_all None = true
-is_for_all (Some place) = place.net == all_networks && length place.address == 0
+abbrev pub ack : ℕ → State → ReadProperty → List Primitive → Apdu
+ack invoke d r values = Complex false invoke read_property_service (ack_octets (own_id d r.object) r.property r.index (values_octets values))
 
--- no network message, none from another network, and none to another network
-abbrev pub is_heard : Header → Bool
-is_heard header = not header.network && is_none header.source && is_for_all header.dest
+abbrev pub read_said : State → ℕ → ℕ → ReadProperty → Result (List Primitive) Fault → Apdu
+read_said d limit invoke r (Ok values) = limited limit invoke (ack invoke d r values)
+read_said d limit invoke r (Err fault) = error invoke read_property_service fault
 
-unfoldable pub heard_at : List ℕ → Option (List ℕ)
-heard_at npdu = do
-  header ← header_at npdu
-  if is_heard header.0 then Some header.1 else None
+abbrev pub answer_read : State → ℕ → ℕ → Result ReadProperty Reason → Apdu
+answer_read d limit invoke (Ok r) = read_said d limit invoke r (read_of d r)
+answer_read d limit invoke (Err reason) = reject invoke reason
 
--- the parameters of a Who-Is
-abbrev pub who_is_parameters : Apdu → Option (List ℕ)
-who_is_parameters (Unconfirmed service parameters) = if service == who_is_service then Some parameters else None
-who_is_parameters other = None
+-- ---- WriteProperty (15.9)
 
-unfoldable pub who_is_at : List ℕ → Option (List Item)
-who_is_at apdu = do
-  message ← apdu_at apdu
-  parameters ← who_is_parameters message
-  result_ok (form_at who_is parameters)
+abbrev pub write_said : State → ℕ → Result State Fault → Apdu × State
+write_said d invoke (Ok new) = (Simple invoke write_property_service, new)
+write_said d invoke (Err fault) = (error invoke write_property_service fault, d)
 
--- a Who-Is asks for this instance where it has no limits, or where the instance lies within them
-abbrev pub asks_for : ℕ → List Item → Bool
-asks_for instance [] = true
-asks_for instance (Value (Unsigned low) ∷ Value (Unsigned high) ∷ []) = nat_le low instance && nat_le instance high
-asks_for instance other = false
+abbrev pub answer_write : State → ℕ → Result PropertyWrite Reason → Apdu × State
+answer_write d invoke (Ok w) = write_said d invoke (write_of d w)
+answer_write d invoke (Err reason) = (reject invoke reason, d)
 
--- ---- what is answered
+-- ---- confirmed requests
+
+-- The answer to a request has at most the octets that the device sends, and that the request takes.
+abbrev pub answer_request : State → Bool → ℕ → ℕ → ℕ → List ℕ → Apdu × State
+answer_request d segmented size invoke service parameters =
+    if segmented then (abort invoke, d) else
+    if service == read_property_service then (answer_read d (min size d.reply_size) invoke (read_property_at parameters), d) else
+    if service == write_property_service then answer_write d invoke (write_property_at parameters) else
+    (Reject invoke unrecognized_service, d)
+
+-- ---- Who-Is (16.10)
+
+-- without limits, or with the instance between them
+abbrev pub asks_for : ℕ → Option (ℕ × ℕ) → Bool
+asks_for instance None = true
+asks_for instance (Some limits) = nat_le limits.0 instance && nat_le instance limits.1
 
 -- its identifier, the greatest APDU that it takes, that it doesn't segment, its vendor
 abbrev pub announcement : State → IAm
-announcement state =
-    record { device = record { kind = device; instance = state.instance }; max_apdu = state.reply_size; segmentation = no_segmentation; vendor = state.vendor }
+announcement d = record { device = device_id d; max_apdu = d.reply_size; segmentation = 3; vendor = d.vendor }
 
--- no destination, no source, no reply expected, normal priority
-abbrev pub plain : Header
-plain = record { network = false; reply = false; priority = 0; dest = None; source = None; hops = 0 }
+abbrev pub i_am_apdu : State → Apdu
+i_am_apdu d = Unconfirmed i_am_service (canon_form i_am (i_am_items (announcement d)))
 
--- the I-Am of a device in a datagram to one receiver
-unfoldable pub i_am_datagram : State → List ℕ
-i_am_datagram state = frame_octets (header_octets plain ++ apdu_octets (Unconfirmed i_am_service (canon_form i_am (i_am_items (announcement state)))))
+abbrev pub announced : State → Result (Option (ℕ × ℕ)) Reason → Option Apdu
+announced d (Ok limits) = if asks_for d.instance limits then Some (i_am_apdu d) else None
+announced d (Err reason) = None
 
--- the datagram that answers this one
-unfoldable pub answer : State → List ℕ → Option (List ℕ)
-answer state datagram = do
-  npdu ← npdu_at datagram
-  apdu ← heard_at npdu
-  items ← who_is_at apdu
-  if asks_for state.instance items then Some (i_am_datagram state) else None
+-- ---- APDUs
 
--- an answer to who sent what it answers
-abbrev pub to_sender : List ℕ → Reply
-to_sender datagram = record { datagram = datagram; to = Sender }
+abbrev pub replied : Apdu × State → Option Apdu × State
+replied said = (Some said.0, said.1)
 
--- what a device does with a datagram: its answer, and the state after
-abbrev pub handled : State → List ℕ → Option Reply × State
-handled state datagram = (option_map to_sender (answer state datagram), state)
+-- A confirmed request to all devices isn't answered, nor is any other APDU but Who-Is.
+abbrev pub answer_apdu : State → Bool → Apdu → Option Apdu × State
+answer_apdu d to_all (Confirmed segmented size invoke service parameters) =
+    if to_all then (None, d) else replied (answer_request d segmented size invoke service parameters)
+answer_apdu d to_all (Unconfirmed service parameters) = (if service == who_is_service then announced d (who_is_at parameters) else None, d)
+answer_apdu d to_all other = (None, d)
+
+abbrev pub answer_heard : State → Option Heard → Option Apdu × State
+answer_heard d None = (None, d)
+answer_heard d (Some heard) = answer_apdu d heard.to_all heard.apdu
+
+-- ---- datagrams
+
+-- the answer goes to where the frame says
+abbrev pub sent : Receiver → Option Apdu × State → Option Reply × State
+sent to said = (option_map (reply to) said.0, said.1)
+
+-- what refuses a function of broadcast management
+abbrev pub nak : ℕ → Option Reply
+nak function = option_map (λ code. let r : Reply = record { datagram = nak_octets code; to = Sender } in r) (nak_code function)
+
+-- Original-Unicast-NPDU and Original-Broadcast-NPDU are answered to their sender, Forwarded-NPDU to the address in it (J.2.5).
+abbrev pub answer_frame : State → Option Frame → Option Reply × State
+answer_frame d None = (None, d)
+answer_frame d (Some (Unicast npdu)) = sent Sender (answer_heard d (heard_at false npdu))
+answer_frame d (Some (Broadcast npdu)) = sent Sender (answer_heard d (heard_at true npdu))
+answer_frame d (Some (Forwarded address npdu)) = sent (Address address) (answer_heard d (heard_at true npdu))
+answer_frame d (Some (Function function rest)) = (nak function, d)
+
+-- the reply to a datagram, where there is one, and the device after it
+unfoldable pub answer : State → List ℕ → Option Reply × State
+answer d datagram = answer_frame d (frame_at datagram)

@@ -1,7 +1,7 @@
 -- What the passing of time does to a device.
 use Rattle.std.specs.Prelude.{◌≡◌, ℕ, nat_lt, if◌then◌else◌, Option, None, Some, Result, Ok, Err}
 use Rattle.bac_wire.specs.Stamp.{CivilTime, ticks_of}
-use Rattle.bac_device.specs.State.{State}
+use Rattle.bac_objects.specs.State.{State}
 
 -- how many samples its logs take, and the device after it; None where the clock would go back
 unfoldable pub advanced : State → CivilTime → Option (ℕ × State)

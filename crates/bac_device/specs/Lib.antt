@@ -1,4 +1,6 @@
-pub mod State
-pub mod Build
 pub mod Clock
+pub mod Receiving
+pub mod Reply
 pub mod Answer
+pub mod Views
+pub mod History

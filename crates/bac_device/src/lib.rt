@@ -1,22 +1,29 @@
 //! A BACnet/IP device: it is built of lines, and answers datagrams.
 //!
-//! [`Device::build`] makes a device of a [`DeviceLine`], or tells the first fault
-//! ([`BuildFault`]). [`Device::handle`] takes a datagram and gives the [`Reply`], where there is
-//! one. Contracts see a device as the record `State` of specs/State, and each call is a function of
-//! it: specs/Build says which state is built, specs/Answer what is answered and which state is left.
-//! So far the device answers Who-Is and nothing else.
+//! [`Device::build`] makes a device of a [`DeviceLine`] and [`ObjectLine`]s, or tells the first
+//! fault ([`BuildFault`]). [`Device::handle`] takes a datagram and gives the [`Reply`], where there
+//! is one; [`Device::advance`] sets the clock. Contracts see a device as the record `State` of
+//! bac_objects, and each call is a function of it: specs/Answer says what is answered and which
+//! state is left, specs/Clock what the passing of time does.
+//!
+//! A datagram goes through Annex J (specs/Receiving, frames and the functions that a device
+//! refuses), clause 6 (network headers), clause 20.1 (APDUs) and one service of clauses 15 and 16;
+//! objects and properties are in bac_objects below. Nothing is segmented, and what a device doesn't
+//! hear it doesn't answer.
 #![tactic(auto)]
 
-mod build;
 mod device;
-mod lines;
-mod name;
-mod object;
+mod handle;
+mod laws;
+mod receiving;
 mod reply;
+mod requests;
+mod service;
 
-pub use build::BuildFault;
+pub use bac_objects::{BuildFault, DeviceLine, Name, ObjectLine};
 pub use device::{ClockBack, Device};
-pub use lines::{DeviceLine, ObjectLine};
-pub use name::Name;
-pub use object::{Body, Object};
+pub use laws::{
+    accepted_writes_stand, acks_are_read_back, built_objects_are_commanded,
+    object_list_keeps_the_order_of_lines, reads_are_answered, refusals_change_nothing,
+};
 pub use reply::{Receiver, Reply};

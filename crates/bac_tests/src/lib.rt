@@ -5,8 +5,28 @@
 #[cfg(test)]
 mod apdu;
 #[cfg(test)]
+mod device;
+#[cfg(test)]
+mod link;
+mod link_callers;
+#[cfg(test)]
 mod log;
 #[cfg(test)]
+mod log_answers;
+#[cfg(test)]
+mod log_records;
+#[cfg(test)]
+mod passage;
+#[cfg(test)]
+mod print;
+#[cfg(test)]
+mod properties;
+#[cfg(test)]
 mod replay;
+#[cfg(test)]
+mod streams;
+#[cfg(test)]
+mod walk;
+mod walk_callers;
 #[cfg(test)]
 mod wire;

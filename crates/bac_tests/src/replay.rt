@@ -3,22 +3,21 @@
 use bac_device::BuildFault;
 use bac_tools::{LIMIT, ReplayFault, run_replay};
 use std::alloc::Global;
-use std::io::{self, Read, Write};
 use std::process::Abort;
 use std::test::Fail;
 
 /// Device 123 with a reply size of 1476.
-const DEVICE: &[u8] = b"device 123 plant 0 1476 2024-05-06T07:08:09.10\n";
+pub(crate) const DEVICE: &[u8] = b"device 123 plant 0 1476 2024-05-06T07:08:09.10\n";
 
 /// Who-Is without limits, as a broadcast: 810b000c is the frame's head, 0120ffff00ff the header of a
 /// datagram to all devices, 1008 the service.
-const WHO_IS: &[u8] = b"rx 810b000c0120ffff00ff1008\n";
+pub(crate) const WHO_IS: &[u8] = b"rx 810b000c0120ffff00ff1008\n";
 
 /// I-Am of Device 123, to one receiver: 810a0014 is the frame's head, 0100 a plain header, 1000 the
 /// service, c40200007b the device, 2205c4 its 1476 octets, 9103 no segmentation, 2100 vendor 0.
-const I_AM: &[u8] = b"tx 810a001401001000c40200007b2205c491032100\n";
+pub(crate) const I_AM: &[u8] = b"tx 810a001401001000c40200007b2205c491032100\n";
 
-const NONE: &[u8] = b"none\n";
+pub(crate) const NONE: &[u8] = b"none\n";
 
 /// Plays a script, and compares what it wrote and how it ended.
 fn plays(
@@ -50,22 +49,21 @@ const ANSWERED: [&[u8]; 5] = [
 ];
 
 /// Datagrams that it doesn't answer.
-const NOT_ANSWERED: [&[u8]; 11] = [
+const NOT_ANSWERED: [&[u8]; 10] = [
     // Limits 124 to 200; one limit only.
     b"rx 810b00100120ffff00ff1008097c19c8",
     b"rx 810b000e0120ffff00ff1008097b",
     // The length of the frame is one too large; another function; another version of the header.
     b"rx 810b000d0120ffff00ff1008",
-    b"rx 8109000c0120ffff00ff1008",
+    b"rx 8103000c0120ffff00ff1008",
     b"rx 810b000c0220ffff00ff1008",
     // A network message; from network 5; to network 5; to one device of all networks.
     b"rx 810b000801801200",
     b"rx 810b000c0108000501071008",
     b"rx 810b000c0120000500ff1008",
     b"rx 810b000d0120ffff0107ff1008",
-    // I-Am, and a ReadProperty of Device 123's name.
+    // I-Am.
     b"rx 810a001401001000c40200007b2205c491032100",
-    b"rx 810a001101040005010c0c0200007b194d",
 ];
 
 #[test]
@@ -121,7 +119,7 @@ fn lines_are_counted_and_cut(rt: HostRuntime) -> Result<(), Fail> {
 }
 
 /// Lines that are bad as the second of a script whose first is the device.
-const BAD: [&[u8]; 17] = [
+const BAD: [&[u8]; 20] = [
     b"rx\n",
     b"rx \n",
     b"rx 0g\n",
@@ -132,7 +130,10 @@ const BAD: [&[u8]; 17] = [
     b"rx 00\r",
     b"rx 00 00\n",
     b"\r",
-    b"integer 1 level 0\n",
+    b"integer 1 level 2147483648\n",
+    b"integer 1 level -2147483649\n",
+    b"integer 1 level --5\n",
+    b"integer 1 level -\n",
     b"binary 1 pump\n",
     b"binary 1  0\n",
     b"binary 4294967296 pump 0\n",
@@ -324,148 +325,6 @@ fn the_clock_is_not_set_back(rt: HostRuntime) -> Result<(), Fail> {
         &[b"sampled 0\nclock back\nsampled 0\nclock back\n"],
         Ok(()),
     )
-}
-
-/// A reader over memory that refuses the read after so many.
-#[derive(Drop)]
-struct Failing<'a> {
-    rest: &'a [u8],
-    reads: usize,
-}
-
-impl Read for Failing<'_> {
-    ghost use Rattle.std.specs.Prelude.{Some};
-
-    ghost remaining = { λ s. Some s.rest.now };
-
-    fn read(&mut self, buf: &mut [u8]) -> io::Result<usize> {
-        if self.reads == 0 {
-            return Err(io::Error::from(io::ErrorKind::Other));
-        }
-        self.reads -= 1;
-        self.rest.read(buf)
-    }
-}
-
-/// A writer over memory that takes so many octets, and then refuses.
-#[derive(Drop)]
-struct Short {
-    text: Vec<u8>,
-    room: usize,
-}
-
-impl Write for Short {
-    ghost use Rattle.std.specs.Prelude.{Some};
-
-    ghost contents = { λ s. Some s.text.items };
-
-    fn write(&mut self, buf: &[u8]) -> io::Result<usize> {
-        if self.room == 0 {
-            return Err(io::Error::from(io::ErrorKind::Other));
-        }
-        let n = buf.len().min(self.room);
-        self.text.extend_from_slice(&buf[..n])?;
-        self.room -= n;
-        Ok(n)
-    }
-
-    fn flush(&mut self) -> io::Result<()> {
-        Ok(())
-    }
-}
-
-#[test]
-fn a_refused_read_is_answered_last(rt: HostRuntime) -> Result<(), Fail> {
-    // The last line has no line feed yet, and isn't played.
-    let script = [DEVICE, WHO_IS, b"rx 00"].concat(rt.alloc())?;
-    let mut reader = Failing {
-        rest: script.as_slice(),
-        reads: 1,
-    };
-    let mut text = Vec::new(rt.alloc());
-    let ended = run_replay(rt.alloc(), &mut reader, &mut text);
-    assert_eq!(rt; ended, Err(ReplayFault::Read));
-    assert_eq!(rt; text.as_slice(), I_AM);
-    // A bad line before it is the fault.
-    let script = [DEVICE, WHO_IS, b"rx 8\n"].concat(rt.alloc())?;
-    let mut reader = Failing {
-        rest: script.as_slice(),
-        reads: 1,
-    };
-    let mut text = Vec::new(rt.alloc());
-    let ended = run_replay(rt.alloc(), &mut reader, &mut text);
-    assert_eq!(rt; ended, Err(ReplayFault::BadLine(3)));
-    assert_eq!(rt; text.as_slice(), I_AM);
-    Ok(())
-}
-
-#[test]
-fn a_refused_write_ends_the_replay(rt: HostRuntime) -> Result<(), Fail> {
-    let script = [DEVICE, WHO_IS, b"rx 8\n"].concat(rt.alloc())?;
-    let mut reader = script.as_slice();
-    let mut writer = Short {
-        text: Vec::new(rt.alloc()),
-        room: 10,
-    };
-    let ended = run_replay(rt.alloc(), &mut reader, &mut writer);
-    assert_eq!(rt; ended, Err(ReplayFault::Write));
-    assert_eq!(rt; writer.text.as_slice(), b"tx 810a001".as_slice());
-    Ok(())
-}
-
-/// A reader over memory that gives one octet a read, as a slow pipe may.
-#[derive(Drop)]
-struct Dripping<'a> {
-    rest: &'a [u8],
-}
-
-impl Read for Dripping<'_> {
-    fn read(&mut self, buf: &mut [u8]) -> io::Result<usize> {
-        if self.rest.is_empty() || buf.is_empty() {
-            return Ok(0);
-        }
-        buf[0] = self.rest[0];
-        self.rest = &self.rest[1..];
-        Ok(1)
-    }
-}
-
-/// A writer over memory that takes one octet a write.
-#[derive(Drop)]
-struct Narrow {
-    text: Vec<u8>,
-}
-
-impl Write for Narrow {
-    fn write(&mut self, buf: &[u8]) -> io::Result<usize> {
-        match buf.first() {
-            Some(octet) => {
-                self.text.push(*octet)?;
-                Ok(1)
-            }
-            None => Ok(0),
-        }
-    }
-
-    fn flush(&mut self) -> io::Result<()> {
-        Ok(())
-    }
-}
-
-#[test]
-fn octets_may_come_and_go_one_at_a_time(rt: HostRuntime) -> Result<(), Fail> {
-    let script = [DEVICE, WHO_IS, b"rx 00\n", WHO_IS].concat(rt.alloc())?;
-    let want = [I_AM, NONE, I_AM].concat(rt.alloc())?;
-    let mut reader = Dripping {
-        rest: script.as_slice(),
-    };
-    let mut writer = Narrow {
-        text: Vec::new(rt.alloc()),
-    };
-    let ended = run_replay(rt.alloc(), &mut reader, &mut writer);
-    assert_eq!(rt; ended, Ok(()));
-    assert_eq!(rt; writer.text.as_slice(), want.as_slice());
-    Ok(())
 }
 
 #[test]

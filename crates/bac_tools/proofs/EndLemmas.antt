@@ -1,11 +1,11 @@
 -- From the lines that were played to the script that was read.
 use Rattle.std.proofs.Common.{◌≡◌, ℕ, ◌+◌, ◌-◌, ◌≤◌, ◌<◌, Bool, true, false, cond, nat_le, List, [], ◌∷◌, ◌++◌, length, take, drop, Option, None, Some, Result, Ok, Err, refl, sym, ap, subst, ◌∙◌, arith, append_assoc, append-nil, inl, inr, OnOk, IfErr, length-append, option_map}
-use Rattle.std.proofs.KnownBytes.{Appends-nil}
+use Rattle.std.proofs.KnownBytes.{Appends-nil, Appends-kept}
 use Rattle.std.proofs.Math.Seq.{take-add}
 use Rattle.std.proofs.lemmas.List.{take_at, drop_at, take-append-le}
 use Rattle.std.proofs.lemmas.Bool.{le-leb, lt-leb}
 use Rattle.bac_tools.proofs.LineLemmas.{ended_lines-longer, lines-parts}
-use Rattle.std.specs.Io.KnownBytes.{Appends, Consumes, IsAtEnd}
+use Rattle.std.specs.Io.KnownBytes.{Appends, Consumes, IsAtEnd, Keeps}
 use Rattle.bac_tools.specs.Script.Lines.{last_if_any, ended_lines, open_line}
 use Rattle.std.specs.Str.Lines.{lines}
 use Rattle.bac_tools.specs.Replay.{Played, play, then_play, at_end, past_limit, played_lines, text_of, fault_of_script, PlaysAll, Ends, Replays}
@@ -13,9 +13,9 @@ use Rattle.bac_tools.specs.Fault.{replay_fault, Refusal}
 use Rattle.bac_tools.specs.Session.{step, end_fault, State, Empty}
 use Rattle.bac_tools.specs.Stops.{FaultStops, Stops, ScriptStops}
 use Rattle.bac_tools.specs.Output.{AppendsPart}
-use Rattle.bac_device.specs.Build.{Refuses}
-use Rattle.bac_device.specs.declared.build.BuildFault.{BuildFault}
-use Rattle.bac_device.specs.declared.build.BuildFault.TheVariants as build
+use Rattle.bac_objects.specs.Build.{Refuses}
+use Rattle.bac_objects.specs.declared.build.BuildFault.{BuildFault}
+use Rattle.bac_objects.specs.declared.build.BuildFault.TheVariants as build
 use Rattle.bac_tools.specs.declared.replay.fault.ReplayFault.{ReplayFault}
 use Rattle.bac_tools.specs.declared.replay.fault.ReplayFault.TheVariants.{BadLine, Build, Read, TooLong, Write, Memory}
 use Rattle.bac_tools.proofs.PlayLemmas.{Progress, Progress-more, Progress-end}
@@ -242,3 +242,55 @@ pub Ends-refused : (limit : ℕ) (have left old : Option (List ℕ)) → Replays
 unfolding Replays
 Ends-refused limit None left old = tt
 Ends-refused limit (Some script) left old = Ends-no_memory limit script left old
+
+-- ---- a buffer that is written out at the end
+
+AppendsPart-kept : (old mid new : Option (List ℕ)) (text : List ℕ) → AppendsPart old mid text → Keeps mid new → AppendsPart old new text
+AppendsPart-kept old mid new text (written, left, cut, appended) kept = (written, left, cut, Appends-kept old mid new written appended kept)
+
+PlaysAll-kept : (old mid new : Option (List ℕ)) (all : List (List ℕ)) (t : State) → PlaysAll old mid Empty all t → Keeps mid new → PlaysAll old new Empty all t
+PlaysAll-kept old mid new all t played kept = record { state = played.state; text = Appends-kept old mid new _ played.text kept }
+
+Ends-kept : (limit : ℕ) (script : List ℕ) (left old mid new : Option (List ℕ)) (r : Result (Unit {0}) ReplayFault) → Ends limit script left old mid r → Keeps mid new → Ends limit script left old new r
+unfolding Ends
+Ends-kept limit script left old mid new (Ok x) (none, text) kept = (none, Appends-kept old mid new _ text kept)
+Ends-kept limit script left old mid new (Err (BadLine n)) (fault, text) kept = (fault, Appends-kept old mid new _ text kept)
+Ends-kept limit script left old mid new (Err (Build f)) (fault, text) kept = (fault, Appends-kept old mid new _ text kept)
+Ends-kept limit script left old mid new (Err TooLong) (long, fault, text) kept = (long, fault, Appends-kept old mid new _ text kept)
+Ends-kept limit script left old mid new (Err Read) (read, t, consumed, short, played) kept = (read, t, consumed, short, PlaysAll-kept old mid new _ t played kept)
+Ends-kept limit script left old mid new (Err Write) part kept = AppendsPart-kept old mid new _ part kept
+Ends-kept limit script left old mid new (Err Memory) (before, after, t, split, played) kept = (before, after, t, split, PlaysAll-kept old mid new before t played kept)
+
+-- what came is still there after the buffer was written out
+pub Replays-kept : (limit : ℕ) (have left old mid new : Option (List ℕ)) (r : Result (Unit {0}) ReplayFault) → Replays limit have left old mid r → Keeps mid new → Replays limit have left old new r
+unfolding Replays
+Replays-kept limit None left old mid new r ends kept = tt
+Replays-kept limit (Some script) left old mid new r ends kept = Ends-kept limit script left old mid new r ends kept
+
+whole_part : (old new : Option (List ℕ)) (text : List ℕ) → Appends old new text → AppendsPart old new text
+whole_part old new text written = (text, [], sym (append-nil text), written)
+
+-- the text of some first lines is a front part of that of all
+first_part : (old new : Option (List ℕ)) (all before after : List (List ℕ)) (t : State) → all ≡ before ++ after → PlaysAll old new Empty before t → AppendsPart old new (play 1 Empty all).0
+first_part old new all before after t split played =
+    subst (λ l. AppendsPart old new (play 1 Empty l).0) (sym split)
+    (AppendsPart-longer old new (play 1 Empty before).0 (play 1 Empty (before ++ after)).0 (play-longer before after 1 Empty) (whole_part old new _ played.text))
+
+Ends-unwritten : (limit : ℕ) (script : List ℕ) (left old new : Option (List ℕ)) (r : Result (Unit {0}) ReplayFault) → Ends limit script left old new r → Ends limit script left old new (Err Write)
+unfolding Ends
+Ends-unwritten limit script left old new (Ok x) (none, text) = whole_part old new _ text
+Ends-unwritten limit script left old new (Err (BadLine n)) (fault, text) = whole_part old new _ text
+Ends-unwritten limit script left old new (Err (Build f)) (fault, text) = whole_part old new _ text
+Ends-unwritten limit script left old new (Err TooLong) (long, fault, text) = whole_part old new _ text
+Ends-unwritten limit script None old new (Err Read) (read, t, consumed, short, played) = absurd consumed
+Ends-unwritten limit script (Some rest) old new (Err Read) (read, t, consumed, short, played) =
+    let (more, e) = played-longer limit read rest short in
+    first_part old new (played_lines limit script) (ended_lines read) more t (ap (played_lines limit) consumed ∙ e) played
+Ends-unwritten limit script left old new (Err Write) part = part
+Ends-unwritten limit script left old new (Err Memory) (before, after, t, split, played) = first_part old new (played_lines limit script) before after t split played
+
+-- output that can't be written out is a failed write
+pub Replays-unwritten : (limit : ℕ) (have left old mid new : Option (List ℕ)) (r : Result (Unit {0}) ReplayFault) → Replays limit have left old mid r → Keeps mid new → Replays limit have left old new (Err Write)
+unfolding Replays
+Replays-unwritten limit None left old mid new r ends kept = tt
+Replays-unwritten limit (Some script) left old mid new r ends kept = Ends-unwritten limit script left old new r (Ends-kept limit script left old mid new r ends kept)

@@ -1,7 +1,7 @@
 -- Faults of lines and of replays.
 use Rattle.std.specs.Prelude.{ℕ}
-use Rattle.bac_device.specs.declared.build.BuildFault.{BuildFault}
-use Rattle.bac_device.specs.declared.build.BuildFault.TheVariants as build
+use Rattle.bac_objects.specs.declared.build.BuildFault.{BuildFault}
+use Rattle.bac_objects.specs.declared.build.BuildFault.TheVariants as build
 use Rattle.bac_tools.specs.declared.replay.fault.LineFault as line
 use Rattle.bac_tools.specs.declared.replay.fault.LineFault.{LineFault}
 use Rattle.bac_tools.specs.declared.replay.fault.ReplayFault.{ReplayFault}

@@ -1,13 +1,13 @@
 -- What one line of a script does.
 use Rattle.std.specs.Prelude.{ℕ, ◌+◌, ◌*◌, decimal, if◌then◌else◌, List, [], ◌∷◌, ◌++◌, codes, Option, None, Some, Result, Ok, Err}
 use Rattle.hex.specs.Hex.{encode_lower}
-use Rattle.bac_device.specs.Answer.{handled}
-use Rattle.bac_device.specs.Build.{build_fault, built}
+use Rattle.bac_device.specs.Answer.{answer}
+use Rattle.bac_objects.specs.Build.{build_fault, built}
 use Rattle.bac_device.specs.Clock.{advanced}
-use Rattle.bac_device.specs.State as device
-use Rattle.bac_device.specs.declared.build.BuildFault.{BuildFault}
-use Rattle.bac_device.specs.declared.lines.DeviceLine.{DeviceLine}
-use Rattle.bac_device.specs.declared.lines.ObjectLine.{ObjectLine}
+use Rattle.bac_objects.specs.State as device
+use Rattle.bac_objects.specs.declared.build.BuildFault.{BuildFault}
+use Rattle.bac_objects.specs.declared.lines.DeviceLine.{DeviceLine}
+use Rattle.bac_objects.specs.declared.lines.ObjectLine.{ObjectLine}
 use Rattle.bac_device.specs.declared.reply.Receiver.{Receiver}
 use Rattle.bac_device.specs.declared.reply.Receiver.TheVariants.{Sender, Address}
 use Rattle.bac_device.specs.declared.reply.Reply.{Reply}
@@ -67,7 +67,7 @@ clocked device (Some taken) = (clock_text (Some taken.0), taken.1)
 
 -- what it prints, and the device after it
 abbrev pub happens : device.State → Event → List ℕ × device.State
-happens device (Received octets) = (answer_text (handled device octets).0, (handled device octets).1)
+happens device (Received octets) = (answer_text (answer device octets).0, (answer device octets).1)
 happens device (Clocked stamp) = clocked device (advanced device stamp)
 
 abbrev pub running : List ℕ × device.State → Step

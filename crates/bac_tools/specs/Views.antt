@@ -1,7 +1,7 @@
 -- What the code keeps and returns, seen as the definitions see it. Only private calls cite these.
-use Rattle.std.specs.Prelude.{◌≡◌, ℕ, List, Result, Ok, Err}
+use Rattle.std.specs.Prelude.{◌≡◌, ℕ, ℤ, List, Result, Ok, Err}
 use Rattle.bac_wire.specs.Stamp.{CivilTime}
-use Rattle.bac_device.specs.declared.lines.ObjectLine.TheVariants.{Binary, Multistate}
+use Rattle.bac_objects.specs.declared.lines.ObjectLine.TheVariants.{Binary, Multistate, Integer}
 use Rattle.bac_tools.specs.Fault.{Refusal, Bad, Unbuilt}
 use Rattle.bac_tools.specs.Script.Line.{Event, Received, Clocked, ScriptLine, Device, Object, Happens}
 use Rattle.bac_tools.specs.Session.{State, Empty, Described, Running}
@@ -23,6 +23,9 @@ binary_of instance name default = Object (Binary instance name default)
 
 abbrev pub multistate_of : ℕ → List ℕ → ℕ → ℕ → ScriptLine
 multistate_of instance name states default = Object (Multistate instance name states default)
+
+abbrev pub integer_of : ℕ → List ℕ → ℤ → ScriptLine
+integer_of instance name default = Object (Integer instance name default)
 
 abbrev pub event_of : event.Event → Event
 event_of (event.TheVariants.Received datagram) = Received datagram

@@ -15,4 +15,4 @@ mod replay;
 mod script;
 
 pub use replay::fault::ReplayFault;
-pub use replay::{LIMIT, run_replay};
+pub use replay::{LIMIT, run_replay, run_replay_buffered};

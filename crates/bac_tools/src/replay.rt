@@ -1,6 +1,7 @@
 //! A script read from a reader, its text written to a writer.
-ghost use Rattle.std.specs.Prelude.{◌≡◌, ◌+◌, ◌<◌, ◌≤◌, ℕ, List, [], ◌∷◌, ◌++◌, length, None, Ok, Err, IfOk, IfErr, OnOk};
+ghost use Rattle.std.specs.Prelude.{◌≡◌, ◌⊎◌, ◌+◌, ◌<◌, ◌≤◌, ℕ, List, [], ◌∷◌, ◌++◌, length, None, Ok, Err, IfOk, IfErr, OnOk};
 ghost use Rattle.std.specs.Io.KnownBytes.{Appends, IsAtEnd};
+ghost use Rattle.std.specs.Io.Buffered.{writer_buffer, writer_contents};
 ghost use Rattle.bac_tools.specs.Input.{ConsumesUpTo};
 ghost use Rattle.std.specs.Str.Lines.{lines};
 ghost use Rattle.bac_tools.specs.Script.Lines.{ended_lines, open_line, last_if_any};
@@ -20,7 +21,7 @@ use crate::replay::output::write_text;
 use crate::replay::session::Session;
 use crate::script::lines::{split_line, without_return};
 use std::alloc::Global;
-use std::io::{Read, Write};
+use std::io::{BufWriter, Read, Write};
 
 /// The greatest number of octets of a script.
 pub const LIMIT: usize = 1_048_576;
@@ -173,4 +174,24 @@ pub fn run_replay<R: Read, W: Write>(
     ensures whole { OnOk result (IsAtEnd (R.remaining reader.new)) }
 {
     replay_within(alloc, LIMIT, reader, writer)
+}
+
+/// The same over a buffered writer, whose buffer is written out at the end, also before a fault is
+/// told. Output that can't be written is the fault to tell; after a failed write nothing more is.
+pub fn run_replay_buffered<R: Read, W: Write + Drop>(
+    alloc: Global,
+    reader: &mut R,
+    output: &mut BufWriter<W>,
+) -> Result<(), ReplayFault>
+    ensures ends { Replays LIMIT (R.remaining reader.old) (R.remaining reader.new) (writer_contents W.contents output.old) (writer_contents W.contents output.new) result }
+    ensures flushed { (result ≡ Err ReplayFault.Write) ⊎ (writer_buffer output.new ≡ []) }
+{
+    let ended = run_replay(alloc, reader, output);
+    if let Err(ReplayFault::Write) = ended {
+        return ended;
+    }
+    match output.flush() {
+        Ok(()) => ended,
+        Err(_) => Err(ReplayFault::Write),
+    }
 }

@@ -1,7 +1,7 @@
 -- Steps that can fail, one after the other, and what a function returned beside them.
 use Rattle.std.specs.Prelude.{◌≡◌, Result, Ok, Err}
 
--- the next step where this one did not fail
+-- the next step, if this one did not fail
 infixl 10 ◌>>=◌
 abbrev pub ◌>>=◌ : {A B F : Type 0} → Result A F → (A → Result B F) → Result B F
 (Ok x) >>= f = f x

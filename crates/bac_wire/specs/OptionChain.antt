@@ -1,7 +1,7 @@
--- The same where nothing says why a step failed.
+-- The same for steps that don't say why they failed.
 use Rattle.std.specs.Prelude.{◌≡◌, Option, Some, None}
 
--- the next step where this one gave something
+-- the next step, if this one gave something
 infixl 10 ◌>>=◌
 abbrev pub ◌>>=◌ : {A B : Type 0} → Option A → (A → Option B) → Option B
 None >>= f = None

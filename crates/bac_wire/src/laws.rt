@@ -1,5 +1,5 @@
-//! Laws of spelling, reading and writing together (clause 20.2). Each function does nothing: what it
-//! ensures is the law.
+//! Laws that join the grammar, reading and writing (clause 20.2). Each function does nothing: what
+//! it ensures is the law.
 
 ghost use Rattle.std.specs.Prelude.{◌≡◌, ◌<◌, ◌≤◌, ◌+◌, ℕ, ℤ, List, [], ◌++◌, length, Ok, slice_index_or};
 ghost use Rattle.bac_wire.specs.Level.{IsLevel};
@@ -9,18 +9,19 @@ ghost use Rattle.bac_wire.specs.Primitive.{Primitive};
 ghost use Rattle.bac_wire.specs.Reading.{value_at, context_at, contents_as, mark_at};
 ghost use Rattle.bac_wire.specs.Spelling.{IsTag, IsTagged, Spells, StandsFor, tag_of};
 
-/// No spelling is the front of another, and no octets spell two values.
+/// Decoding is unambiguous: no encoding is a prefix of another, and none encodes two values.
 pub fn one_reading()
     ensures { (a b x y : List ℕ) (v w : Primitive) → Spells a v → Spells b w → a ++ x ≡ b ++ y → (a ≡ b) × (v ≡ w) }
 {}
 
-/// What is written for a value spells it.
+/// What is written for a value is an encoding of it.
 pub fn canon_is_read()
     ensures { (value : Primitive) → IsValid value → Spells (canon value) value }
 {}
 
-/// No spelling of a value, and none of its contents behind a context tag, has fewer octets than what
-/// is written for it; and no opening or closing tag, whose three low bits are `low`.
+/// No encoding of a value, with its application tag or behind a context tag, has fewer octets than
+/// what is written for it. The same holds for opening and closing tags, whose three low bits are
+/// `low`.
 pub fn canon_is_shortest()
     ensures value { (value : Primitive) (text : List ℕ) → ((i : ℕ) → slice_index_or text i 0 < 256) → IsValid value → Spells text value → length (canon value) ≤ length text }
     ensures context { (tag : ℕ) (value : Primitive) (contents text : List ℕ) → ((i : ℕ) → slice_index_or text i 0 < 256) → IsValid value → IsTagged 8 tag contents text → StandsFor contents value → length (canon_context tag value) ≤ length text }
@@ -39,7 +40,7 @@ pub fn context_is_read_back()
     ensures value { (value : Primitive) → IsValid value → contents_as (tag_of value) (contents_of value) ≡ Ok value }
 {}
 
-/// Contents are read as a value of a type exactly where they stand for it.
+/// Contents are read as a value of a type if and only if they encode it.
 pub fn contents_have_one_value()
     ensures found { (tag : ℕ) (contents : List ℕ) (value : Primitive) → tag ≤ 12 → contents_as tag contents ≡ Ok value → (tag_of value ≡ tag) × StandsFor contents value }
     ensures only { (contents : List ℕ) (value : Primitive) → StandsFor contents value → contents_as (tag_of value) contents ≡ Ok value }
@@ -51,8 +52,8 @@ pub fn marks_are_read_back()
     ensures closing { (tag : ℕ) (rest : List ℕ) → tag < 255 → mark_at 7 tag (tag_octets 8 tag 7 ++ rest) ≡ Ok (tt, rest) }
 {}
 
-/// What is written for a value behind a context tag spells it, and so do opening and closing tags,
-/// whose three low bits are `low`.
+/// What is written for a value behind a context tag is an encoding of it. The same holds for
+/// opening and closing tags, whose three low bits are `low`.
 pub fn context_is_spelled()
     ensures contents { (tag : ℕ) (value : Primitive) → tag < 255 → IsValid value → IsTagged 8 tag (contents_of value) (canon_context tag value) }
     ensures value { (value : Primitive) → IsValid value → StandsFor (contents_of value) value }
@@ -69,7 +70,7 @@ pub fn levels_are_made()
     ensures enclosed { (tag : ℕ) (inside : List ℕ) → tag < 255 → IsLevel inside → IsLevel (tag_octets 8 tag 6 ++ (inside ++ tag_octets 8 tag 7)) }
 {}
 
-/// How many octets an encoding has at most, where its contents have fewer than 254: one for its tag,
+/// How many octets an encoding has at most if its contents have fewer than 254: one for its tag,
 /// and one for a length of five and more. The numbers of context tags are below 15.
 pub fn encodings_are_short()
     ensures unsigned { (n : ℕ) → length (unsigned_octets n) ≤ 8 }

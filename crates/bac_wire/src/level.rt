@@ -17,7 +17,7 @@ pub enum Token {
     Close(u8),
 }
 
-/// The first tag, with its contents where it has any, and the octets after it.
+/// The first tag, with its contents if it has any, and the octets after it.
 #[tactic(auto, unfolding(crate::specs::Level::token_at))]
 fn token_of(bytes: &[u8]) -> Result<(Token, &[u8]), WireFault>
     ensures { Gives (λ x. (x.0, x.1.now)) result (token_at bytes.now) }
@@ -42,13 +42,13 @@ fn token_of(bytes: &[u8]) -> Result<(Token, &[u8]), WireFault>
     Ok((Token::Whole, rest))
 }
 
-/// How many octets stand before the closing tag of this number that ends the level (clause
-/// 20.2.1.3.2). BadTag where the closing tag on this level has another number, or a tag can't be
-/// read; Ended where octets are missing. The numbers of the tags inside are not compared.
+/// How many octets come before the closing tag of this number that ends the constructed data
+/// (clause 20.2.1.3.2). BadTag if the matching closing tag has another number, or a tag can't be
+/// read; Ended if octets are missing. The numbers of the tags inside are not compared.
 pub fn octets_to_close(bytes: &[u8], wanted: u8) -> Result<usize, WireFault>
-    // Before it stand whole tags, each level that they open closed.
+    // Before it come whole tags, and each level that they open is closed.
     ensures found { IfOk result (EndsAt wanted bytes.now) }
-    // Where such tags stand before it, it is found.
+    // If such tags come before it, it is found.
     ensures only { (inside close after : List ℕ) → IsLevel inside → IsTag 8 wanted 7 close → bytes.now ≡ inside ++ (close ++ after) → IsOkAnd result (λ n. n ≡ length inside) }
     // Which fault it is.
     ensures exact { Gives (λ n. drop n bytes.now) result (close_at (length bytes.now + 1) 0 wanted bytes.now) }

@@ -1,10 +1,10 @@
-//! Which tag is next (clause 20.2.1), asked where a parameter may be left out.
+//! Which tag is next (clause 20.2.1), asked if a parameter may be left out.
 
 ghost use Rattle.std.specs.Prelude.{◌≡◌};
 ghost use Rattle.bac_wire.specs.Next.{next_tag, value_next, opening_next, other_next};
 
 /// The low four bits of the next tag's first octet, which state its class and kind, and its number,
-/// where the octets that state them are there.
+/// if the octets that state them are there.
 fn next_tag(bytes: &[u8]) -> Option<(u8, u8)>
     ensures { result ≡ next_tag bytes.now }
 {

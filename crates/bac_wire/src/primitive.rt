@@ -214,8 +214,8 @@ pub fn as_unsigned(contents: &[u8]) -> Result<u64, WireFault>
     Ok(unsigned_of(contents))
 }
 
-/// The contents of a Signed behind a context tag, 1 to 8 octets in two's complement (clause 20.2.5).
-/// BadLength for any other length.
+/// The contents of a Signed behind a context tag, 1 to 8 octets in two's complement (clause
+/// 20.2.5). BadLength for any other length.
 #[tactic(auto, unfolding(crate::specs::Reading::contents_as, crate::specs::Reading::value_in))]
 pub fn as_signed(contents: &[u8]) -> Result<i64, WireFault>
     ensures { Gives (λ z. Signed z) result (contents_as 3 contents.now) }
@@ -243,8 +243,8 @@ pub fn as_boolean(contents: &[u8]) -> Result<bool, WireFault>
     }
 }
 
-/// The contents of an Enumerated behind a context tag, 1 to 8 octets (clause 20.2.11). BadLength for
-/// any other length, BadContents for a number of 2^32 and more.
+/// The contents of an Enumerated behind a context tag, 1 to 8 octets (clause 20.2.11). BadLength
+/// for any other length, BadContents for a number of 2^32 and more.
 #[tactic(auto, unfolding(crate::specs::Reading::contents_as, crate::specs::Reading::value_in))]
 pub fn as_enumerated(contents: &[u8]) -> Result<u32, WireFault>
     ensures { Gives (λ n. Enumerated n) result (contents_as 9 contents.now) }
@@ -259,9 +259,9 @@ pub fn as_enumerated(contents: &[u8]) -> Result<u32, WireFault>
     Ok(number as u32)
 }
 
-/// The contents of a Bit String behind a context tag (clause 20.2.10): how many bits of the last octet
-/// are unused, and the octets, the first bit the highest of the first octet. BadLength where there
-/// are no contents, BadContents for more than 7 unused bits, or any where no octet follows.
+/// The contents of a Bit String behind a context tag (clause 20.2.10): how many bits of the last
+/// octet are unused, and the octets, the first bit the highest of the first octet. BadLength if
+/// there are no contents, BadContents for more than 7 unused bits, or for any if no octet follows.
 #[tactic(auto, unfolding(crate::specs::Reading::contents_as, crate::specs::Reading::value_in))]
 pub fn as_bits(contents: &[u8]) -> Result<(u8, &[u8]), WireFault>
     ensures exact { Gives (λ x. Bits (take (8 * length x.1.now - x.0) (bits_of x.1.now))) result (contents_as 8 contents.now) }

@@ -10,8 +10,8 @@ use crate::fault::WireFault;
 use crate::primitive::unsigned_of;
 use arrayvec::ArrayVec;
 
-/// Who numbers a tag: the standard, for all primitive types, or the production that the tag stands
-/// in (clause 20.2.1.1).
+/// Who numbers a tag: the standard, for all primitive types, or the production that has the tag
+/// (clause 20.2.1.1).
 #[derive(Clone, Copy)]
 pub(crate) enum Class {
     Application,

@@ -30,7 +30,7 @@ property_ack_items a = Value (Object a.object) ∷ Value (Enumerated a.property)
 
 -- ---- with named fields
 
--- an answer, apart from where its values lie in memory
+-- an answer, whatever memory holds its values
 pub record PropertyAck : Type 0 where
   pub object : Id
   pub property : ℕ

@@ -41,7 +41,7 @@ IsPriority (Some n) = (0 < n) × (n < 17)
 
 -- ---- with named fields
 
--- a request, apart from where its value lies in memory
+-- a request, whatever memory holds its value
 pub record PropertyWrite : Type 0 where
   pub object : Id
   pub property : ℕ
@@ -52,7 +52,7 @@ pub record PropertyWrite : Type 0 where
 abbrev pub write_of_code : WriteProperty → PropertyWrite
 write_of_code w = record { object = w.object; property = w.property; index = w.index; value = view w.value; priority = w.priority }
 
--- the value stands between an opening and a closing tag
+-- the value is between an opening and a closing tag
 abbrev pub write_in : List Item → PropertyWrite
 write_in items =
     record { object = id_in (item_at 0 items); property = enumerated_in (item_at 1 items); index = number_in (item_at 2 items); value = value_in (item_at 4 items); priority = number_in (item_at 6 items) }

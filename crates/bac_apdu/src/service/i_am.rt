@@ -30,11 +30,11 @@ pub struct IAm {
 }
 
 impl IAm {
-    /// The announcement that the parameters spell; `None` where they spell none.
+    /// The announcement that the parameters encode; `None` if they encode none.
     pub fn read(bytes: &[u8]) -> Option<IAm>
-        // What is read is spelled so.
+        // What is read is encoded so.
         ensures found { IfSome result (λ a. Reads i_am bytes.now (i_am_items a)) }
-        // What is spelled so is read.
+        // What is encoded so is read.
         ensures only { (items : List Item) → Reads i_am bytes.now items → IsSomeAnd result (λ a. i_am_items a ≡ items) }
         // The same as a function, on which callers build.
         ensures exact { GivesSome i_am_items result (result_ok (form_at i_am bytes.now)) }
@@ -62,7 +62,7 @@ impl IAm {
         })
     }
 
-    /// Appends the parameters, or nothing where they don't fit.
+    /// Appends the parameters, or nothing if they don't fit.
     pub fn write(&self, out: &mut Datagram) -> Result<(), Full>
         ensures { Writes out.old (canon_form i_am (i_am_items self.now)) result out.new }
     {
@@ -96,7 +96,7 @@ impl IAm {
         ensures { (a : IAm) → length (canon_form i_am (i_am_items a)) ≤ 35 }
     {}
 
-    /// Two different announcements never show the same parameters.
+    /// Announcements that differ in any field have different parameters.
     pub fn items_tell_fields()
         ensures { (a b : IAm) → i_am_items a ≡ i_am_items b → a ≡ b }
     {}

@@ -24,11 +24,11 @@ pub struct ReadProperty {
 }
 
 impl ReadProperty {
-    /// The request that the parameters spell, or the reason of the first that is wrong.
+    /// The request that the parameters encode, or the reason of the first that is wrong.
     pub fn read(bytes: &[u8]) -> Result<ReadProperty, Reason>
-        // What is read is spelled so.
+        // What is read is encoded so.
         ensures found { IfOk result (λ p. Reads read_property bytes.now (property_items p)) }
-        // What is spelled so is read.
+        // What is encoded so is read.
         ensures only { (items : List Item) → Reads read_property bytes.now items → IsOkAnd result (λ p. property_items p ≡ items) }
         // The reason is that of the parameter after the longest run of those that are right.
         ensures refused { IfErr result (λ reason. (count : ℕ) × Stops read_property bytes.now count reason) }
@@ -40,7 +40,7 @@ impl ReadProperty {
         ReadProperty::parts(bytes)
     }
 
-    /// Appends the parameters, or nothing where they don't fit.
+    /// Appends the parameters, or nothing if they don't fit.
     pub fn write(&self, out: &mut Datagram) -> Result<(), Full>
         ensures { Writes out.old (canon_form read_property (property_items self.now)) result out.new }
     {
@@ -91,7 +91,7 @@ impl ReadProperty {
         ensures { (p : ReadProperty) → length (canon_form read_property (property_items p)) ≤ 25 }
     {}
 
-    /// Two different requests never show the same parameters.
+    /// Requests that differ in any field have different parameters.
     pub fn items_tell_fields()
         ensures { (p q : ReadProperty) → property_items p ≡ property_items q → p ≡ q }
     {}

@@ -30,11 +30,11 @@ pub struct ReadPropertyAck<'a> {
 }
 
 impl<'a> ReadPropertyAck<'a> {
-    /// The answer that the parameters spell; `None` where they spell none.
+    /// The answer that the parameters encode; `None` if they encode none.
     pub fn read(bytes: &'a [u8]) -> Option<ReadPropertyAck<'a>>
-        // What is read is spelled so.
+        // What is read is encoded so.
         ensures found { IfSome result (λ a. Reads read_property_ack bytes.now (property_ack_items a)) }
-        // What is spelled so is read.
+        // What is encoded so is read.
         ensures only { (items : List Item) → Reads read_property_ack bytes.now items → IsSomeAnd result (λ a. property_ack_items a ≡ items) }
         // The same as a function, on which callers build.
         ensures exact { GivesSome property_ack_items result (result_ok (form_at read_property_ack bytes.now)) }
@@ -66,7 +66,7 @@ impl<'a> ReadPropertyAck<'a> {
         })
     }
 
-    /// Appends the parameters, or nothing where they don't fit.
+    /// Appends the parameters, or nothing if they don't fit.
     pub fn write(&self, out: &mut Datagram) -> Result<(), Full>
         ensures { Writes out.old (canon_form read_property_ack (property_ack_items self.now)) result out.new }
     {
@@ -105,7 +105,7 @@ impl<'a> ReadPropertyAck<'a> {
         ensures { (a : PropertyAck) → IsProperty a.object a.property a.index → IsLevel a.values → read_property_ack_at (property_ack_octets a) ≡ Some a }
     {}
 
-    /// Two different answers never show the same parameters.
+    /// Answers that differ in any field have different parameters.
     pub fn items_tell_fields()
         ensures { (a b : ReadPropertyAck) → property_ack_items a ≡ property_ack_items b → (a.object ≡ b.object) × (a.property ≡ b.property) × (a.index ≡ b.index) × (a.values.now ≡ b.values.now) }
     {}

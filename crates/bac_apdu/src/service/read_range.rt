@@ -30,11 +30,11 @@ pub struct ReadRange {
 }
 
 impl ReadRange {
-    /// The request that the parameters spell, or the reason of the first that is wrong.
+    /// The request that the parameters encode, or the reason of the first that is wrong.
     pub fn read(bytes: &[u8]) -> Result<ReadRange, Reason>
-        // What is read is spelled so.
+        // What is read is encoded so.
         ensures found { IfOk result (λ r. Reads read_range bytes.now (range_items r)) }
-        // What is spelled so is read.
+        // What is encoded so is read.
         ensures only { (items : List Item) → Reads read_range bytes.now items → IsOkAnd result (λ r. range_items r ≡ items) }
         // The reason is that of the parameter after the longest run of those that are right.
         ensures refused { IfErr result (λ reason. (count : ℕ) × Stops read_range bytes.now count reason) }
@@ -42,11 +42,13 @@ impl ReadRange {
         ensures exact { Gives range_items result (form_at read_range bytes.now) }
         // The same with named fields.
         ensures named { result ≡ read_range_at bytes.now }
+        // It may be written.
+        ensures in_range { IfOk result (λ r. IsExtent r.extent) }
     {
         ReadRange::parts(bytes)
     }
 
-    /// Appends the parameters, or nothing where they don't fit.
+    /// Appends the parameters, or nothing if they don't fit.
     pub fn write(&self, out: &mut Datagram) -> Result<(), Full>
         ensures written { Writes out.old (canon_form read_range (range_items self.now)) result out.new }
         ensures in_range { OnOk result (IsProperty self.now.object self.now.property self.now.index) }
@@ -95,13 +97,18 @@ impl ReadRange {
         ensures { (r : ReadRange) → IsProperty r.object r.property r.index → IsExtent r.extent → read_range_at (canon_form read_range (range_items r)) ≡ Ok r }
     {}
 
+    /// Parameters are never read as a request with a range whose numbers are out of range.
+    pub fn extents_are_in_range()
+        ensures { (bytes : List ℕ) (r : ReadRange) → read_range_at bytes ≡ Ok r → IsExtent r.extent }
+    {}
+
     /// A request has at most 47 octets of parameters, and 51 as an APDU: it fits every datagram.
     pub fn canon_is_short()
         ensures parameters { (r : ReadRange) → length (canon_form read_range (range_items r)) ≤ 47 }
         ensures apdu { (r : ReadRange) (size invoke : ℕ) → length (apdu_octets (Confirmed false size invoke read_range_service (canon_form read_range (range_items r)))) ≤ 51 }
     {}
 
-    /// Two different requests never show the same parameters.
+    /// Requests that differ in any field have different parameters.
     pub fn items_tell_fields()
         ensures { (r s : ReadRange) → range_items r ≡ range_items s → r ≡ s }
     {}

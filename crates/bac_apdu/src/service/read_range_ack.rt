@@ -39,17 +39,19 @@ pub struct ReadRangeAck<'a> {
 }
 
 impl<'a> ReadRangeAck<'a> {
-    /// The answer that the parameters spell; `None` where they spell none.
+    /// The answer that the parameters encode; `None` if they encode none.
     pub fn read(bytes: &'a [u8]) -> Option<ReadRangeAck<'a>>
-        // What is read is spelled so.
+        // What is read is encoded so.
         ensures found { IfSome result (λ a. Reads read_range_ack bytes.now (ack_items a)) }
-        // What is spelled so is read.
+        // What is encoded so is read.
         ensures only { (items : List Item) → Reads read_range_ack bytes.now items → IsSomeAnd result (λ a. ack_items a ≡ items) }
         // The same as a function, on which callers build.
         ensures exact { GivesSome ack_items result (result_ok (form_at read_range_ack bytes.now)) }
         // The same with named fields.
         ensures named { GivesSome range_ack_of result (read_range_ack_at bytes.now) }
-        // Nothing stands in the low bits of the flags.
+        // The first number isn't 0.
+        ensures in_range { IfSome result (λ a. IsFirst a.first_number) }
+        // The five unused low bits of the flags are 0.
         ensures low { IfSome result (λ a. a.flags % 32 ≡ 0) }
     {
         match ReadRangeAck::parts(bytes) {
@@ -84,7 +86,7 @@ impl<'a> ReadRangeAck<'a> {
         })
     }
 
-    /// Appends the parameters, or nothing where they don't fit.
+    /// Appends the parameters, or nothing if they don't fit.
     pub fn write(&self, out: &mut Datagram) -> Result<(), Full>
         ensures { Writes out.old (canon_form read_range_ack (ack_items self.now)) result out.new }
     {
@@ -133,8 +135,8 @@ impl<'a> ReadRangeAck<'a> {
         ensures { (a : RangeAck) → a.property < 2 ^ 32 → IsSmall a.index → a.count < 2 ^ 32 → IsSmall a.first_number → length (range_ack_octets a) ≡ range_ack_size a }
     {}
 
-    /// Two different answers never show the same parameters, as long as nothing stands in the low
-    /// bits of their flags.
+    /// Answers that differ in any field have different parameters, if the unused low bits of their
+    /// flags are 0.
     pub fn items_tell_fields()
         ensures { (a b : ReadRangeAck) → a.flags < 256 → b.flags < 256 → a.flags % 32 ≡ 0 → b.flags % 32 ≡ 0 → ack_items a ≡ ack_items b
             → (a.object ≡ b.object) × (a.property ≡ b.property) × (a.index ≡ b.index) × (a.flags ≡ b.flags) × (a.count ≡ b.count) × (a.items.now ≡ b.items.now) × (a.first_number ≡ b.first_number) }
@@ -165,7 +167,7 @@ impl<'a> Parts<'a> {
         Ok(number as u32)
     }
 
-    /// The same where it is there.
+    /// The same, if it is there.
     #[tactic(auto, unfolding(crate::specs::FormReading::optional_at))]
     fn optional_first(&mut self, tag: u8) -> Result<Option<u32>, Reason>
         ensures { Gives (λ x. (number_item x, self.new)) result (optional_at tag unsigned is_first self.old) }

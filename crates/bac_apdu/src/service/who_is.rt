@@ -26,16 +26,18 @@ pub struct WhoIs {
 }
 
 impl WhoIs {
-    /// The request that the parameters spell; `None` where they spell none.
+    /// The request that the parameters encode; `None` if they encode none.
     pub fn read(bytes: &[u8]) -> Option<WhoIs>
-        // What is read is spelled so.
+        // What is read is encoded so.
         ensures found { IfSome result (λ w. Reads who_is bytes.now (who_is_items w)) }
-        // What is spelled so is read.
+        // What is encoded so is read.
         ensures only { (items : List Item) → Reads who_is bytes.now items → IsSomeAnd result (λ w. who_is_items w ≡ items) }
         // The same as a function, on which callers build.
         ensures exact { GivesSome who_is_items result (result_ok (form_at who_is bytes.now)) }
         // The same with named fields.
         ensures named { result ≡ who_is_at bytes.now }
+        // It may be written.
+        ensures in_range { IfSome result (λ w. AreLimits w.limits) }
     {
         WhoIs::parts(bytes).ok()
     }
@@ -58,7 +60,7 @@ impl WhoIs {
         }
     }
 
-    /// Appends the parameters, or nothing where they don't fit.
+    /// Appends the parameters, or nothing if they don't fit.
     pub fn write(&self, out: &mut Datagram) -> Result<(), Full>
         ensures { Writes out.old (canon_form who_is (who_is_items self.now)) result out.new }
     {
@@ -87,7 +89,7 @@ impl WhoIs {
         ensures { (w : WhoIs) → AreLimits w.limits → who_is_at (canon_form who_is (who_is_items w)) ≡ Some w }
     {}
 
-    /// Two different requests never show the same parameters.
+    /// Requests that differ in any field have different parameters.
     pub fn items_tell_fields()
         ensures { (v w : WhoIs) → who_is_items v ≡ who_is_items w → v ≡ w }
     {}

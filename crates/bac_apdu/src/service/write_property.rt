@@ -31,11 +31,11 @@ pub struct WriteProperty<'a> {
 }
 
 impl<'a> WriteProperty<'a> {
-    /// The request that the parameters spell, or the reason of the first that is wrong.
+    /// The request that the parameters encode, or the reason of the first that is wrong.
     pub fn read(bytes: &'a [u8]) -> Result<WriteProperty<'a>, Reason>
-        // What is read is spelled so.
+        // What is read is encoded so.
         ensures found { IfOk result (λ w. Reads write_property bytes.now (write_items w)) }
-        // What is spelled so is read.
+        // What is encoded so is read.
         ensures only { (items : List Item) → Reads write_property bytes.now items → IsOkAnd result (λ w. write_items w ≡ items) }
         // The reason is that of the parameter after the longest run of those that are right.
         ensures refused { IfErr result (λ reason. (count : ℕ) × Stops write_property bytes.now count reason) }
@@ -77,7 +77,7 @@ impl<'a> WriteProperty<'a> {
         })
     }
 
-    /// Appends the parameters, or nothing where they don't fit.
+    /// Appends the parameters, or nothing if they don't fit.
     pub fn write(&self, out: &mut Datagram) -> Result<(), Full>
         requires { IsWellFormed self.now.value }
         ensures written { Writes out.old (canon_form write_property (write_items self.now)) result out.new }
@@ -153,7 +153,7 @@ impl<'a> Parts<'a> {
         Ok(number as u8)
     }
 
-    /// The same where it is there.
+    /// The same, if it is there.
     #[tactic(auto, unfolding(crate::specs::FormReading::optional_at))]
     fn optional_priority(&mut self, tag: u8) -> Result<Option<u8>, Reason>
         ensures { Gives (λ x. (number_item x, self.new)) result (optional_at tag unsigned is_priority self.old) }

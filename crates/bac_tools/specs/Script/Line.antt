@@ -3,11 +3,11 @@ use Rattle.std.specs.Prelude.{ℕ, ◌^◌, ◌==◌, ◌||◌, Bool, if◌then�
 use Rattle.std.specs.Str.{bytes_eq}
 use Rattle.bac_wire.specs.OptionChain.{◌>>=◌}
 use Rattle.bac_wire.specs.Stamp.{CivilTime}
-use Rattle.bac_device.specs.declared.lines.DeviceLine.{DeviceLine}
-use Rattle.bac_device.specs.declared.lines.ObjectLine.{ObjectLine}
-use Rattle.bac_device.specs.declared.lines.ObjectLine.TheVariants.{Binary, Multistate}
+use Rattle.bac_objects.specs.declared.lines.DeviceLine.{DeviceLine}
+use Rattle.bac_objects.specs.declared.lines.ObjectLine.{ObjectLine}
+use Rattle.bac_objects.specs.declared.lines.ObjectLine.TheVariants.{Binary, Multistate, Integer}
 use Rattle.bac_tools.specs.Script.Hexadecimal.{octets_in}
-use Rattle.bac_tools.specs.Script.Number.{number_in, below}
+use Rattle.bac_tools.specs.Script.Number.{number_in, below, integer_in}
 use Rattle.bac_tools.specs.Script.Stamp.{stamp_in}
 use Rattle.bac_tools.specs.Script.Words.{words_of, text_in}
 
@@ -53,6 +53,15 @@ multistate_line (instance ∷ name ∷ states ∷ default ∷ []) = do
   Some (Object (Multistate instance name states default))
 multistate_line words = None
 
+-- integer INSTANCE NAME DEFAULT
+unfoldable pub integer_line : List (List ℕ) → Option ScriptLine
+integer_line (instance ∷ name ∷ default ∷ []) = do
+  instance ← below (2 ^ 32) (number_in instance)
+  name ← text_in name
+  default ← integer_in default
+  Some (Object (Integer instance name default))
+integer_line words = None
+
 -- rx HEX
 unfoldable pub rx_line : List (List ℕ) → Option ScriptLine
 rx_line (hex ∷ []) = do
@@ -78,6 +87,7 @@ kinds =
     (codes "device", device_line) ∷
     (codes "binary", binary_line) ∷
     (codes "multistate", multistate_line) ∷
+    (codes "integer", integer_line) ∷
     (codes "rx", rx_line) ∷
     (codes "clock", clock_line) ∷ []
 

@@ -1,8 +1,9 @@
 //! Reading, and how it ended.
 ghost use Rattle.std.specs.Prelude.{◌≡◌, ◌<◌, ◌≤◌, length, take};
-ghost use Rattle.std.specs.Io.KnownBytes.{Consumes, IsAtEnd};
+ghost use Rattle.std.specs.Io.{ReadsAtMost};
+ghost use Rattle.std.specs.Io.KnownBytes.{Consumes, IsAtEnd, ReadConsumes};
 
-use std::io::Read;
+use std::io::{ErrorKind, Read, Result};
 
 /// Why `fill` stopped.
 #[derive(Clone, Copy, Debug, PartialEq, Eq)]
@@ -13,6 +14,24 @@ pub(crate) enum Ending {
     Full,
     /// A read was refused.
     Refused,
+}
+
+/// One read. Where a signal interrupts it, it is made again.
+fn read_again<R: Read>(reader: &mut R, buffer: &mut [u8]) -> Result<usize>
+    ensures bound { ReadsAtMost result buffer.new }
+    ensures bytes { ReadConsumes (R.remaining reader.old) (R.remaining reader.new) result buffer.new }
+{
+    for _ in 0..u64::MAX {
+        match reader.read(buffer) {
+            Ok(n) => return Ok(n),
+            Err(error) => {
+                if error.kind() != ErrorKind::Interrupted {
+                    return Err(error);
+                }
+            }
+        }
+    }
+    reader.read(buffer)
 }
 
 /// Reads into the buffer from its start, until the reader's end, the buffer's end or the first
@@ -27,7 +46,7 @@ pub(crate) fn fill<R: Read>(reader: &mut R, buffer: &mut [u8]) -> (usize, Ending
 {
     let mut filled = 0;
     while filled < buffer.len() {
-        match reader.read(&mut buffer[filled..]) {
+        match read_again(reader, &mut buffer[filled..]) {
             Ok(0) => return (filled, Ending::End),
             Ok(n) => filled += n,
             Err(_) => return (filled, Ending::Refused),

@@ -2,7 +2,7 @@
 
 ghost use Rattle.std.specs.Prelude.{◌≡◌, ◌++◌, None, IfOk, OnOk, IfErr};
 ghost use Rattle.std.specs.Option.{option_copied};
-ghost use Rattle.bac_device.specs.Build.{Refuses};
+ghost use Rattle.bac_objects.specs.Build.{Refuses};
 ghost use Rattle.bac_tools.specs.Session.{address_text, answer_text, clock_text, end_fault, happens, on_device, on_event, on_line, on_object, receiver_text, step};
 ghost use Rattle.bac_tools.specs.Views.{Meets, event_of, line_of, state_of};
 

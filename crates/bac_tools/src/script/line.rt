@@ -3,12 +3,12 @@
 ghost use Rattle.std.specs.Prelude.{◌≡◌, IfOk};
 ghost use Rattle.std.specs.Option.{option_map};
 ghost use Rattle.bac_wire.specs.OptionChain.{GivesSome};
-ghost use Rattle.bac_tools.specs.Script.Line.{binary_line, clock_line, device_line, is_silent, line_in, multistate_line, rx_line};
-ghost use Rattle.bac_tools.specs.Views.{binary_of, device_of, line_of, multistate_of};
+ghost use Rattle.bac_tools.specs.Script.Line.{binary_line, clock_line, device_line, integer_line, is_silent, line_in, multistate_line, rx_line};
+ghost use Rattle.bac_tools.specs.Views.{binary_of, device_of, integer_of, line_of, multistate_of};
 ghost use Rattle.bac_tools.specs.Script.Words.{words_of};
 
 use crate::script::hexadecimal::octets_in;
-use crate::script::number::{u16_in, u32_in};
+use crate::script::number::{i32_in, u16_in, u32_in};
 use crate::script::stamp::stamp_in;
 use crate::script::words::{last_word, split_word, text_in};
 use bac_device::{DeviceLine, Name, ObjectLine};
@@ -130,6 +130,32 @@ fn multistate_line(alloc: Global, words: &[u8]) -> Result<Option<Line>, AllocErr
     })))
 }
 
+/// What the words of an integer line say; its name still lies in the script.
+#[tactic(auto, unfolding(crate::specs::Script::Line::integer_line))]
+fn integer_words(words: &[u8]) -> Option<(u32, &str, i32)>
+    ensures { GivesSome (λ x. integer_of x.0 x.1.now x.2) result (integer_line (words_of words.now)) }
+{
+    let (instance, rest) = split_word(words)?;
+    let (name, rest) = split_word(rest)?;
+    let default = last_word(rest)?;
+    Some((u32_in(instance)?, text_in(name)?, i32_in(default)?))
+}
+
+/// The line of an Integer Value.
+fn integer_line(alloc: Global, words: &[u8]) -> Result<Option<Line>, AllocError>
+    ensures { IfOk result (λ line. integer_line (words_of words.now) ≡ option_map line_of line) }
+{
+    let Some((instance, name, default)) = integer_words(words) else {
+        return Ok(None);
+    };
+    let name = Name::of(String::from_str(alloc, name)?);
+    Ok(Some(Line::Object(ObjectLine::Integer {
+        instance,
+        name,
+        default,
+    })))
+}
+
 /// The line of a datagram that is received.
 #[tactic(auto, unfolding(crate::specs::Script::Line::rx_line))]
 fn rx_line(words: &[u8]) -> Option<Line>
@@ -157,7 +183,7 @@ pub(crate) fn is_silent(text: &[u8]) -> bool
 
 impl Line {
     /// What a text says that is neither empty nor a comment, where it is a line of a script.
-    #[tactic(auto, unfolding(crate::specs::Script::Line::line_in, crate::specs::Script::Line::device_line, crate::specs::Script::Line::binary_line, crate::specs::Script::Line::multistate_line, crate::specs::Script::Line::rx_line, crate::specs::Script::Line::clock_line))]
+    #[tactic(auto, unfolding(crate::specs::Script::Line::line_in, crate::specs::Script::Line::device_line, crate::specs::Script::Line::binary_line, crate::specs::Script::Line::multistate_line, crate::specs::Script::Line::integer_line, crate::specs::Script::Line::rx_line, crate::specs::Script::Line::clock_line))]
     pub(crate) fn read(alloc: Global, text: &[u8]) -> Result<Option<Line>, AllocError>
         ensures { IfOk result (λ line. line_in text.now ≡ option_map line_of line) }
     {
@@ -172,6 +198,9 @@ impl Line {
         }
         if word == b"multistate".as_slice() {
             return multistate_line(alloc, words);
+        }
+        if word == b"integer".as_slice() {
+            return integer_line(alloc, words);
         }
         if word == b"rx".as_slice() {
             return Ok(rx_line(words));

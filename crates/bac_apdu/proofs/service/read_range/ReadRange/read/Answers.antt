@@ -1,9 +1,12 @@
-use Rattle.std.proofs.Common.{arith, rules}
+use Rattle.std.proofs.Common.{◌≡◌, ℕ, List, Result, arith, rules}
+use Rattle.bac_wire.specs.Chain.{Gives}
+use Rattle.bac_apdu.specs.declared.reason.Reason.{Reason}
 use Rattle.bac_apdu.specs.declared.service.read_range.ReadRange.{ReadRange}
 use Rattle.bac_apdu.specs.Service.ReadRange.{read_range, range_items}
 use Rattle.bac_apdu.proofs.Forms.{is_found, is_only, is_refused}
 use Rattle.bac_apdu.specs.FormReading.{form_at}
 use Rattle.bac_apdu.specs.Service.ReadRange.{range_in, read_range_at}
+use Rattle.bac_apdu.proofs.Ranges.{extent_bounded}
 use Rattle.bac_apdu.proofs.Named.{is_named, is_same, range_back}
 use Rattle.bac_apdu.proofs.service.read_range.ReadRange.read.Goals as goal
 
@@ -16,6 +19,13 @@ returns-clause-only c = is_only ReadRange range_items read_range c.args.bytes.no
 pub returns-clause-refused : goal.returns-clause-refused
 returns-clause-refused c = is_refused ReadRange range_items read_range c.args.bytes.now c.parts.result (search rules) (λ i. omega (arith, c.type_inv.bytes i)) c.parts.ensures
 
-pub returns-clause-named : goal.returns-clause-named
+-- what was read, with named fields
+named : (bytes : List ℕ) (r : Result ReadRange Reason) → Gives range_items r (form_at read_range bytes) → r ≡ read_range_at bytes
 unfolding read_range_at
-returns-clause-named c = is_same c.parts.result (read_range_at c.args.bytes.now) (is_named range_items range_in (λ x. x) range_back c.parts.result (form_at read_range c.args.bytes.now) c.parts.ensures)
+named bytes r e = is_same r (read_range_at bytes) (is_named range_items range_in (λ x. x) range_back r (form_at read_range bytes) e)
+
+pub returns-clause-named : goal.returns-clause-named
+returns-clause-named c = named c.args.bytes.now c.parts.result c.parts.ensures
+
+pub returns-clause-in_range : goal.returns-clause-in_range
+returns-clause-in_range c = extent_bounded c.args.bytes.now c.parts.result (named c.args.bytes.now c.parts.result c.parts.ensures)

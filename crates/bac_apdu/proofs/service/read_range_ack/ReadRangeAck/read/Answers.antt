@@ -2,7 +2,11 @@ use Rattle.std.proofs.Common.{arith, rules, refl, Ok, Err}
 use Rattle.bac_apdu.specs.declared.service.read_range_ack.ReadRangeAck.{ReadRangeAck}
 use Rattle.bac_apdu.specs.Service.ReadRangeAck.{read_range_ack, ack_items}
 use Rattle.bac_apdu.proofs.Forms.{is_found, is_only}
-use Rattle.std.proofs.Common.{Some, None}
+use Rattle.std.proofs.Common.{◌≡◌, ℕ, List, Option, Result, Some, None}
+use Rattle.bac_wire.specs.Chain.{Gives}
+use Rattle.bac_wire.specs.OptionChain.{GivesSome}
+use Rattle.bac_apdu.specs.declared.reason.Reason.{Reason}
+use Rattle.bac_apdu.proofs.Ranges.{first_bounded}
 use Rattle.std.specs.Result.{result_ok}
 use Rattle.bac_apdu.specs.FormReading.{form_at}
 use Rattle.bac_apdu.specs.Service.ReadRangeAck.{range_ack_of, range_ack_in, read_range_ack_at}
@@ -18,10 +22,16 @@ returns-in-Ok-clause-only c = is_only ReadRangeAck ack_items read_range_ack c.ar
 pub returns-in-Err-clause-only : goal.returns-in-Err-clause-only
 returns-in-Err-clause-only c = is_only ReadRangeAck ack_items read_range_ack c.args.bytes.now (Err c.in-Err.field-0) c.in-Err.ensures.exact
 
-pub returns-in-Ok-clause-named : goal.returns-in-Ok-clause-named
+-- what was read, with named fields
+named : (bytes : List ℕ) (r : Result ReadRangeAck Reason) (given : Option ReadRangeAck) → given ≡ result_ok r → Gives ack_items r (form_at read_range_ack bytes) → GivesSome range_ack_of given (read_range_ack_at bytes)
 unfolding read_range_ack_at
-returns-in-Ok-clause-named c = is_named_some ack_items range_ack_in range_ack_of range_ack_shown (Some c.in-Ok.ack) (result_ok (form_at read_range_ack c.args.bytes.now)) (gives_ok ack_items (Ok c.in-Ok.ack) (form_at read_range_ack c.args.bytes.now) (Some c.in-Ok.ack) refl c.in-Ok.ensures.exact)
+named bytes r given same e = is_named_some ack_items range_ack_in range_ack_of range_ack_shown given (result_ok (form_at read_range_ack bytes)) (gives_ok ack_items r (form_at read_range_ack bytes) given same e)
+
+pub returns-in-Ok-clause-named : goal.returns-in-Ok-clause-named
+returns-in-Ok-clause-named c = named c.args.bytes.now (Ok c.in-Ok.ack) (Some c.in-Ok.ack) refl c.in-Ok.ensures.exact
 
 pub returns-in-Err-clause-named : goal.returns-in-Err-clause-named
-unfolding read_range_ack_at
-returns-in-Err-clause-named c = is_named_some ack_items range_ack_in range_ack_of range_ack_shown None (result_ok (form_at read_range_ack c.args.bytes.now)) (gives_ok ack_items (Err c.in-Err.field-0) (form_at read_range_ack c.args.bytes.now) None refl c.in-Err.ensures.exact)
+returns-in-Err-clause-named c = named c.args.bytes.now (Err c.in-Err.field-0) None refl c.in-Err.ensures.exact
+
+pub returns-in-Ok-clause-in_range : goal.returns-in-Ok-clause-in_range
+returns-in-Ok-clause-in_range c = first_bounded c.args.bytes.now (Some c.in-Ok.ack) (named c.args.bytes.now (Ok c.in-Ok.ack) (Some c.in-Ok.ack) refl c.in-Ok.ensures.exact)

@@ -1,0 +1,33 @@
+-- What a ReadProperty is answered.
+use Rattle.std.proofs.Common.{◌≡◌, refl, ap, sym, ◌∙◌, ℕ, min, false, List, Option, Some, None, Result, Ok}
+use Rattle.bac_wire.specs.Primitive.{Primitive}
+use Rattle.bac_apdu.specs.Apdu.{Confirmed}
+use Rattle.bac_apdu.specs.Frame.{Frame, Unicast, Broadcast, Forwarded, Function, frame_at}
+use Rattle.bac_apdu.specs.declared.service.read_property.ReadProperty.{ReadProperty}
+use Rattle.bac_objects.specs.State.{State}
+use Rattle.bac_objects.specs.Requests.{read_property_at}
+use Rattle.bac_objects.specs.Reading.{read_of}
+use Rattle.bac_device.specs.Receiving.{Heard}
+use Rattle.bac_device.specs.Answer.{ack, answer_frame, answer}
+use Rattle.bac_device.specs.Reply.{limited, reply}
+use Rattle.bac_device.specs.History.{heard_in}
+use Rattle.bac_device.specs.declared.reply.Receiver.{Receiver}
+use Rattle.bac_device.specs.declared.reply.Receiver.TheVariants.{Sender, Address}
+
+none_some : (h : Heard) → None ≡ Some h → ⊥
+none_some h e = cc
+
+answered : (d : State) (f : Option Frame) (size invoke : ℕ) (parameters : List ℕ) (r : ReadProperty) (values : List Primitive)
+    → heard_in f ≡ Some (record { to_all = false; apdu = Confirmed false size invoke 12 parameters }) → read_property_at parameters ≡ Ok r → read_of d r ≡ Ok values
+    → (to : Receiver) × ((answer_frame d f).0 ≡ Some (reply to (limited (min size d.reply_size) invoke (ack invoke d r values))))
+answered d None size invoke parameters r values h e v = absurd (none_some _ h)
+answered d (Some (Unicast npdu)) size invoke parameters r values h e v = (Sender, rw (h, e, v) refl)
+answered d (Some (Broadcast npdu)) size invoke parameters r values h e v = (Sender, rw (h, e, v) refl)
+answered d (Some (Forwarded address npdu)) size invoke parameters r values h e v = (Address address, rw (h, e, v) refl)
+answered d (Some (Function function rest)) size invoke parameters r values h e v = absurd (none_some _ h)
+
+pub read_answered : (d : State) (datagram : List ℕ) (size invoke : ℕ) (parameters : List ℕ) (r : ReadProperty) (values : List Primitive)
+    → heard_in (frame_at datagram) ≡ Some (record { to_all = false; apdu = Confirmed false size invoke 12 parameters }) → read_property_at parameters ≡ Ok r → read_of d r ≡ Ok values
+    → (to : Receiver) × ((answer d datagram).0 ≡ Some (reply to (limited (min size d.reply_size) invoke (ack invoke d r values))))
+unfolding answer
+read_answered d datagram size invoke parameters r values h e v = answered d (frame_at datagram) size invoke parameters r values h e v

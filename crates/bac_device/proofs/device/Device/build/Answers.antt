@@ -1,6 +1,0 @@
-use Rattle.std.proofs.Common.{sym, ◌∙◌}
-use Rattle.bac_device.proofs.Builds.{told}
-use Rattle.bac_device.proofs.device.Device.build.Goals as goal
-
-pub returns-in-Some : goal.returns-in-Some
-returns-in-Some c = told c.args.device.now c.args.lines.now c.in-Some.fault (sym c.build_fault.ensures ∙ c.in-Some.is)

@@ -1,0 +1,42 @@
+-- What a device sends (clauses 6, 20.1, Annex J).
+use Rattle.std.specs.Prelude.{ℕ, nat_lt, true, false, if◌then◌else◌, List, ◌++◌, length, None}
+use Rattle.bac_apdu.specs.Apdu.{Apdu, Error, Reject, Abort, apdu_octets}
+use Rattle.bac_apdu.specs.Frame.{frame_octets}
+use Rattle.bac_apdu.specs.Npdu.{Header, header_octets}
+use Rattle.bac_apdu.specs.Reason.{reason_code}
+use Rattle.bac_apdu.specs.declared.reason.Reason.{Reason}
+use Rattle.bac_objects.specs.Fault.{class_of, code_of}
+use Rattle.bac_objects.specs.declared.fault.Fault.{Fault}
+use Rattle.bac_device.specs.declared.reply.Receiver.{Receiver}
+use Rattle.bac_device.specs.declared.reply.Reply.{Reply}
+
+-- ---- datagrams
+
+-- no destination, no source, no reply expected, normal priority
+abbrev pub plain : Header
+plain = record { network = false; reply = false; priority = 0; dest = None; source = None; hops = 0 }
+
+-- an APDU in a datagram to one receiver
+unfoldable pub datagram_octets : Apdu → List ℕ
+datagram_octets apdu = frame_octets (header_octets plain ++ apdu_octets apdu)
+
+abbrev pub reply : Receiver → Apdu → Reply
+reply to apdu = record { datagram = datagram_octets apdu; to = to }
+
+-- ---- refusals
+
+-- of what was read and can't be done (20.1.7)
+abbrev pub error : ℕ → ℕ → Fault → Apdu
+error invoke service fault = Error invoke service (class_of fault) (code_of fault)
+
+-- of what can't be read (20.1.8)
+abbrev pub reject : ℕ → Reason → Apdu
+reject invoke reason = Reject invoke (reason_code reason)
+
+-- of what would need segments: reason 4 is segmentation-not-supported (20.1.9)
+abbrev pub abort : ℕ → Apdu
+abort invoke = Abort true invoke 4
+
+-- an answer, where it has at most so many octets
+abbrev pub limited : ℕ → ℕ → Apdu → Apdu
+limited limit invoke apdu = if nat_lt limit (length (apdu_octets apdu)) then abort invoke else apdu

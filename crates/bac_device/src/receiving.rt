@@ -1,0 +1,62 @@
+//! What reaches a device (Annex J, clause 6).
+
+ghost use Rattle.std.specs.Prelude.{◌≡◌};
+ghost use Rattle.bac_wire.specs.OptionChain.{GivesSome};
+ghost use Rattle.bac_apdu.specs.Npdu.{header_of};
+ghost use Rattle.bac_device.specs.Receiving.{heard_at, is_heard, nak_code};
+ghost use Rattle.bac_device.specs.Views.{heard_of};
+
+use bac_apdu::{Apdu, Npdu, read_apdu, read_npdu};
+
+/// The network number that stands for all networks (clause 6.2.2).
+const ALL_NETWORKS: u16 = 0xffff;
+
+/// An APDU, and whether it went to all devices.
+#[derive(Clone, Copy)]
+pub(crate) struct Heard<'a> {
+    pub(crate) to_all: bool,
+    pub(crate) apdu: Apdu<'a>,
+}
+
+/// The code of the result that refuses a function of broadcast management (clause J.2.1).
+pub(crate) fn nak_code(function: u8) -> Option<u8>
+    ensures { result ≡ nak_code function }
+{
+    match function {
+        0x01 => Some(0x10),
+        0x02 => Some(0x20),
+        0x05 => Some(0x30),
+        0x06 => Some(0x40),
+        0x08 => Some(0x50),
+        0x09 => Some(0x60),
+        _ => None,
+    }
+}
+
+/// Whether a device takes what stands behind a header (clause 6): no network message, from its own
+/// network, and for it or for all devices.
+fn is_heard(header: &Npdu) -> bool
+    ensures { result ≡ is_heard (header_of header.now) }
+{
+    let for_all = match header.dest {
+        Some(far) => far.net == ALL_NETWORKS && far.address.is_empty(),
+        None => true,
+    };
+    !header.network && header.source.is_none() && for_all
+}
+
+/// What an NPDU has for a device; the frame or the header says whether it went to all.
+#[tactic(auto, unfolding(crate::specs::Receiving::heard_at))]
+pub(crate) fn heard_at(to_all: bool, npdu: &[u8]) -> Option<Heard>
+    ensures { GivesSome heard_of result (heard_at to_all npdu.now) }
+{
+    let (header, octets) = read_npdu(npdu)?;
+    if !is_heard(&header) {
+        return None;
+    }
+    let apdu = read_apdu(octets)?;
+    Some(Heard {
+        to_all: to_all || header.dest.is_some(),
+        apdu,
+    })
+}

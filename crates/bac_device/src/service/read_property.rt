@@ -1,0 +1,82 @@
+//! ReadProperty (clause 15.5).
+
+ghost use Rattle.std.specs.Prelude.{◌≡◌, ◌≤◌, false};
+ghost use Rattle.bac_apdu.specs.Apdu.{Complex};
+ghost use Rattle.bac_objects.specs.Reading.{read_of};
+ghost use Rattle.bac_objects.specs.Requests.{read_property_at};
+ghost use Rattle.bac_device.specs.Answer.{ack_octets, answer_read, own_id, read_said};
+ghost use Rattle.bac_device.specs.Reply.{datagram_octets, limited};
+
+use crate::device::Device;
+use crate::handle::READ_PROPERTY;
+use crate::reply::{abort, complex, error, reject};
+use crate::requests::read_request;
+use bac_apdu::{ReadProperty, ReadPropertyAck};
+use bac_objects::Refused;
+use bac_wire::{Datagram, ObjectId};
+
+/// The ACK with these values, where it has at most `limit` octets, else an Abort.
+fn acknowledge(
+    limit: u16,
+    invoke: u8,
+    object: ObjectId,
+    request: &ReadProperty,
+    values: &[u8],
+) -> Datagram
+    requires { limit ≤ 1476 }
+    ensures { result ≡ datagram_octets (limited limit invoke (Complex false invoke 12 (ack_octets object request.now.property request.now.index values.now))) }
+{
+    let mut parameters = Datagram::new();
+    let ack = ReadPropertyAck {
+        object,
+        property: request.property,
+        index: request.index,
+        values,
+    };
+    match ack.write(&mut parameters) {
+        Ok(()) => complex(limit, invoke, READ_PROPERTY, parameters.octets()),
+        Err(_) => abort(invoke),
+    }
+}
+
+impl Device {
+    /// The identifier that an ACK has: the device's own where the device is asked.
+    fn own_id(&self, id: ObjectId) -> ObjectId
+        ensures { result ≡ own_id self.now id }
+    {
+        if self.database.is_here(id) {
+            self.database.id()
+        } else {
+            id
+        }
+    }
+
+    /// The answer to what is asked for.
+    fn read_said(&self, limit: u16, invoke: u8, request: &ReadProperty) -> Datagram
+        requires { limit ≤ 1476 }
+        ensures { result ≡ datagram_octets (read_said self.now limit invoke request.now (read_of self.now request.now)) }
+    {
+        match self.database.read(request) {
+            Ok(values) => acknowledge(
+                limit,
+                invoke,
+                self.own_id(request.object),
+                request,
+                values.octets(),
+            ),
+            Err(Refused::Fault(fault)) => error(invoke, READ_PROPERTY, fault),
+            Err(Refused::TooLong) => abort(invoke),
+        }
+    }
+
+    /// The answer to a ReadProperty.
+    pub(crate) fn answer_read(&self, limit: u16, invoke: u8, parameters: &[u8]) -> Datagram
+        requires { limit ≤ 1476 }
+        ensures { result ≡ datagram_octets (answer_read self.now limit invoke (read_property_at parameters.now)) }
+    {
+        match read_request(parameters) {
+            Ok(request) => self.read_said(limit, invoke, &request),
+            Err(reason) => reject(invoke, reason.code()),
+        }
+    }
+}

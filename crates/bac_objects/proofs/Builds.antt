@@ -1,0 +1,175 @@
+-- Lines without a fault.
+use Rattle.std.proofs.Common.{◌≡◌, refl, subst, ap, sym, rules, arith, ℕ, zero, suc, ◌<◌, ◌++◌, Bool, true, false, ◌||◌, not, List, [], ◌∷◌, length, map, take, slice_get, get_or, Option, Some, None, nat_lt, append-nil}
+use Rattle.std.specs.List.{list_any}
+use Rattle.std.specs.Option.{option_or}
+use Rattle.std.specs.Map.{lookup}
+use Rattle.std.specs.Str.{bytes_eq}
+use Rattle.std.proofs.lemmas.Bool.Decides.{nat_tests}
+use Rattle.indexmap.specs.IndexMap.{insert_entry}
+use Rattle.indexmap.proofs.MapLemmas.{absent_from_lookup, insert_entry-absent}
+use Rattle.bac_wire.specs.Primitive.{Id}
+use Rattle.bac_objects.specs.Build.{is_name, first_of, id_of, instance_of, name_of, has_id, has_name, own_tests, object_fault, objects_fault, device_fault, build_fault, entry_of, body_of, Refuses}
+use Rattle.bac_objects.specs.State.{is_id}
+use Rattle.bac_objects.specs.declared.lines.DeviceLine.{DeviceLine}
+use Rattle.bac_objects.specs.declared.lines.ObjectLine.{ObjectLine}
+use Rattle.bac_objects.specs.declared.lines.ObjectLine.TheVariants.{Binary, Multistate, Integer, Log}
+use Rattle.bac_objects.specs.declared.object.Body.{Body}
+use Rattle.bac_objects.specs.declared.object.Object.{Object}
+use Rattle.bac_objects.specs.declared.build.BuildFault.{BuildFault}
+use Rattle.bac_objects.specs.declared.build.BuildFault.TheVariants.{BadInstance, DuplicateId, BadName, DuplicateName, BadStates, BadDefault, BadCapacity, BadInterval, BadLogged, BadReplySize, Memory}
+
+-- ---- no line is faulty for want of memory
+
+abbrev Never : Option BuildFault → Type 0
+Never said = said ≡ Some Memory → ⊥
+
+never_or : (a b : Option BuildFault) → Never a → Never b → Never (option_or a b)
+never_or None b h k is = k is
+never_or (Some x) b h k is = h is
+
+never_two : (a b : Bool) → Never (first_of ((a, BadStates) ∷ (b, BadDefault) ∷ []))
+never_two true b h = search rules
+never_two false true h = search rules
+never_two false false h = search rules
+
+never_one : (a : Bool) → Never (first_of ((a, BadDefault) ∷ []))
+never_one true h = search rules
+never_one false h = search rules
+
+never_log : (a b c : Bool) → Never (first_of ((a, BadCapacity) ∷ (b, BadInterval) ∷ (c, BadLogged) ∷ []))
+never_log true b c h = search rules
+never_log false true c h = search rules
+never_log false false true h = search rules
+never_log false false false h = search rules
+
+never_own : (line : ObjectLine) → Never (first_of (own_tests line))
+never_own (Binary instance name default) = never_one _
+never_own (Multistate instance name states default) = never_two _ _
+never_own (Integer instance name default) = λ h. search rules
+never_own (Log instance name source capacity interval logged) = never_log _ _ _
+
+never_four : (a b c d : Bool) (rest : List (Bool × BuildFault)) → Never (first_of rest) → Never (first_of ((a, BadInstance) ∷ (b, DuplicateId) ∷ (c, BadName) ∷ (d, DuplicateName) ∷ rest))
+never_four true b c d rest k h = search rules
+never_four false true c d rest k h = search rules
+never_four false false true d rest k h = search rules
+never_four false false false true rest k h = search rules
+never_four false false false false rest k h = k h
+
+never_objects : (device : DeviceLine) (before lines : List ObjectLine) → Never (objects_fault device before lines)
+never_objects device before [] h = search rules
+never_objects device before (line ∷ lines) h =
+    never_or (object_fault device before line) (objects_fault device (before ++ line ∷ []) lines) (never_four _ _ _ _ (own_tests line) (never_own line)) (never_objects device (before ++ line ∷ []) lines) h
+
+never_three : (a b c : Bool) → Never (first_of ((a, BadInstance) ∷ (b, BadName) ∷ (c, BadReplySize) ∷ []))
+never_three true b c h = search rules
+never_three false true c h = search rules
+never_three false false true h = search rules
+never_three false false false h = search rules
+
+never_memory : (device : DeviceLine) (lines : List ObjectLine) → Never (build_fault device lines)
+never_memory device lines = never_or (device_fault device) (objects_fault device [] lines) (never_three _ _ _) (never_objects device [] lines)
+
+refuses : (fault : BuildFault) (said : Option BuildFault) → Never said → said ≡ Some fault → Refuses fault said
+refuses Memory said never is = absurd (never is)
+refuses fault said never is = is
+
+-- the fault that lines have is told
+pub told : (device : DeviceLine) (lines : List ObjectLine) (fault : BuildFault) → build_fault device lines ≡ Some fault → Refuses fault (build_fault device lines)
+told device lines fault is = refuses fault (build_fault device lines) (never_memory device lines) is
+
+-- ---- each line by itself
+
+right_none : (a b : Option BuildFault) → option_or a b ≡ None → b ≡ None
+right_none None b h = h
+right_none (Some x) b h = search rules
+
+left_none : (a b : Option BuildFault) → option_or a b ≡ None → a ≡ None
+left_none None b h = refl
+left_none (Some x) b h = absurd cc
+
+first_none : (device : DeviceLine) (before : List ObjectLine) (x : ObjectLine) (lines : List ObjectLine) (line : ObjectLine) → objects_fault device before (x ∷ lines) ≡ None → Some x ≡ Some line → object_fault device (before ++ []) line ≡ None
+first_none device before x lines line h at =
+    let same : x ≡ line = cc in
+    let none : object_fault device before x ≡ None = left_none (object_fault device before x) (objects_fault device (before ++ x ∷ []) lines) h in
+    subst (λ (l : ObjectLine). object_fault device (before ++ []) l ≡ None) same (subst (λ (m : List ObjectLine). object_fault device m x ≡ None) (sym (append-nil before)) none)
+
+append_one : (before : List ObjectLine) (line : ObjectLine) (n : ℕ) (lines : List ObjectLine) → (before ++ line ∷ []) ++ take n lines ≡ before ++ line ∷ take n lines
+append_one [] line n lines = refl
+append_one (x ∷ before) line n lines = ap (λ m. x ∷ m) (append_one before line n lines)
+
+line_none : (device : DeviceLine) (before lines : List ObjectLine) (i : ℕ) (line : ObjectLine) → objects_fault device before lines ≡ None → slice_get lines i ≡ Some line → object_fault device (before ++ take i lines) line ≡ None
+line_none device before [] i line h at = search rules
+line_none device before (x ∷ lines) zero line h at = first_none device before x lines line h at
+line_none device before (x ∷ lines) (suc i) line h at =
+    subst (λ m. object_fault device m line ≡ None) (append_one before x i lines) (line_none device (before ++ x ∷ []) lines i line (right_none _ _ h) at)
+
+two : (a b c d : Bool) (rest : List (Bool × BuildFault)) → first_of ((a, BadInstance) ∷ (b, DuplicateId) ∷ (c, BadName) ∷ (d, DuplicateName) ∷ rest) ≡ None → (a ≡ false) × (b ≡ false)
+two true b c d rest h = search rules
+two false true c d rest h = search rules
+two false false c d rest h = (refl, refl)
+
+in_range : (n : ℕ) → nat_lt 4194302 n ≡ false → n < 4194304
+in_range n h = grind (arith, nat_tests)
+
+-- a new object comes last
+pub added : (es : List (Id × Object)) (id : Id) (name : List ℕ) (body : Body) (line : ObjectLine) → id ≡ id_of line → name ≡ name_of line → body ≡ body_of line → lookup (is_id (id_of line)) es ≡ None
+    → (let object : Object = record { name = name; body = body } in insert_entry is_id es id object) ≡ es ++ entry_of line ∷ []
+added es id name body line same named made none = rw (same, named, made) (insert_entry-absent is_id (id_of line) _ es (absent_from_lookup (is_id (id_of line)) es none))
+
+-- what the adding of an object needs of its line
+pub record IsSound (before : List ObjectLine) (line : ObjectLine) : Type 0 where
+  pub within : instance_of line < 4194304
+  pub other : has_id (id_of line) before ≡ false
+
+is_sound : (device : DeviceLine) (before : List ObjectLine) (line : ObjectLine) → object_fault device before line ≡ None → IsSound before line
+is_sound device before line h =
+    let f = two (nat_lt 4194302 (instance_of line)) (has_id (id_of line) before) (not (is_name (name_of line))) (bytes_eq (name_of line) device.name || has_name (name_of line) before) (own_tests line) h in
+    record { within = in_range (instance_of line) f.0; other = f.1 }
+
+fresh_at : (b : Bool) (id : Id) (x : ObjectLine) (before : List ObjectLine) → is_id id (id_of x) ≡ b → has_id id (x ∷ before) ≡ false → (has_id id before ≡ false → lookup (is_id id) (map entry_of before) ≡ None) → lookup (is_id id) (map entry_of (x ∷ before)) ≡ None
+fresh_at true id x before e h rest = search rules
+fresh_at false id x before e h rest = search rules
+
+pub fresh : (id : Id) (before : List ObjectLine) → has_id id before ≡ false → lookup (is_id id) (map entry_of before) ≡ None
+fresh id [] h = refl
+fresh id (x ∷ before) h = fresh_at (is_id id (id_of x)) id x before refl h (fresh id before)
+
+at_index : (lines : List ObjectLine) (i : ℕ) (line : ObjectLine) → i < length lines → line ≡ get_or lines i line → slice_get lines i ≡ Some line
+at_index [] i line lt e = absurd (omega (arith, lt))
+at_index (x ∷ lines) zero line lt e = ap Some (sym e)
+at_index (x ∷ lines) (suc i) line lt e = at_index lines i line (omega (arith, lt)) e
+
+pub line_sound : (device : DeviceLine) (lines : List ObjectLine) (i : ℕ) (line : ObjectLine) → objects_fault device [] lines ≡ None → i < length lines → line ≡ get_or lines i line → IsSound (take i lines) line
+line_sound device lines i line h lt e = is_sound device (take i lines) line (line_none device [] lines i line h (at_index lines i line lt e))
+
+-- ---- the object of a line in the table
+
+any_in : {X : Type 0} (test : X → Bool) (b : Bool) (before : List X) (x : X) (rest : List X) → test x ≡ b → list_any test (before ++ x ∷ rest) ≡ false → test x ≡ false
+any_in test true [] x rest e h = search rules
+any_in test false [] x rest e h = e
+any_in test b (y ∷ before) x rest e h = any_in test b before x rest e (or_right (test y) (list_any test (before ++ x ∷ rest)) h)
+  where
+    or_right : (a c : Bool) → (a || c) ≡ false → c ≡ false
+    or_right true c k = search rules
+    or_right false c k = k
+
+same_id : (a : Id) → is_id a a ≡ true
+same_id a = grind (arith, nat_tests)
+
+is_first : (x line : ObjectLine) → Some x ≡ Some line → x ≡ line
+is_first x line e = cc
+
+other_id : (device : DeviceLine) (before : List ObjectLine) (x : ObjectLine) (lines : List ObjectLine) (i : ℕ) (line : ObjectLine)
+    → objects_fault device before (x ∷ lines) ≡ None → slice_get lines i ≡ Some line → is_id (id_of line) (id_of x) ≡ false
+other_id device before x lines i line h at =
+    let none : object_fault device (before ++ x ∷ take i lines) line ≡ None =
+    subst (λ m. object_fault device m line ≡ None) (append_one before x i lines) (line_none device (before ++ x ∷ []) lines i line (right_none _ _ h) at) in
+    any_in (λ l. is_id (id_of line) (id_of l)) (is_id (id_of line) (id_of x)) before x (take i lines) refl (is_sound device (before ++ x ∷ take i lines) line none).other
+
+-- each line's object is found under its identifier
+pub found : (device : DeviceLine) (before lines : List ObjectLine) (i : ℕ) (line : ObjectLine) → objects_fault device before lines ≡ None → slice_get lines i ≡ Some line
+    → lookup (is_id (id_of line)) (map entry_of lines) ≡ Some (entry_of line).1
+found device before [] i line h at = search rules
+found device before (x ∷ lines) zero line h at = let e : x ≡ line = is_first x line at in rw (e, same_id (id_of line)) refl
+found device before (x ∷ lines) (suc i) line h at =
+    rw (other_id device before x lines i line h at) (found device (before ++ x ∷ []) lines i line (right_none _ _ h) at)

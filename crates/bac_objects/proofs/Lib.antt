@@ -1,0 +1,6 @@
+pub mod Builds
+pub mod Encodings
+pub mod Listing
+pub mod Writes
+pub mod Tables
+pub mod Samples

@@ -1,0 +1,13 @@
+pub mod Chain
+pub mod Requests
+pub mod Fault
+pub mod Command
+pub mod State
+pub mod Bits
+pub mod Properties
+pub mod Reading
+pub mod Writing
+pub mod Build
+pub mod Sampling
+pub mod Steps
+pub mod Records

@@ -1,0 +1,368 @@
+//! Building a device of lines.
+
+ghost use Rattle.std.specs.Prelude.{◌≡◌, ◌<◌, ◌++◌, ◌∷◌, [], map, None, OnOk, IfOk, IfErr, IfSome, IsTrue};
+ghost use Rattle.std.specs.List.{list_any};
+ghost use Rattle.std.specs.Map.{lookup};
+ghost use Rattle.std.specs.Str.{bytes_eq};
+ghost use Rattle.indexmap.specs.IndexSet.{insert_key};
+ghost use Rattle.bac_objects.specs.Build.{Builds, body_of, build_fault, device_fault, entry_of, first_of, has_id, has_name, id_of, instance_of, is_control, is_name, line_tests, log_tests, objects_fault, own_tests};
+ghost use Rattle.bac_objects.specs.State.{is_id};
+
+use crate::command::{Command, Range, Setting};
+use crate::database::Database;
+use crate::lines::{DeviceLine, ObjectLine};
+use crate::object::{Body, Logger, Object};
+use bac_log::TrendLog;
+use bac_wire::ObjectId;
+use indexmap::{IndexMap, IndexSet};
+use std::alloc::Global;
+use thiserror::Error;
+
+/// Why a device can't be built.
+#[derive(Clone, Copy, Debug, PartialEq, Eq, Error)]
+pub enum BuildFault {
+    /// The instance is over 4194302.
+    #[error("bad instance")]
+    BadInstance,
+    /// Two objects have the same type and instance.
+    #[error("duplicate object")]
+    DuplicateId,
+    /// The name is empty, has over 64 octets, or a character below 32 or 127.
+    #[error("bad name")]
+    BadName,
+    /// Two objects, or an object and the device, have the same name.
+    #[error("duplicate name")]
+    DuplicateName,
+    /// The number of states isn't 1 to 65535.
+    #[error("bad states")]
+    BadStates,
+    /// The default of a binary object isn't 0 or 1, or that of a multi-state one none of its states.
+    #[error("bad default")]
+    BadDefault,
+    /// The capacity of a log isn't 1 to 65535.
+    #[error("bad capacity")]
+    BadCapacity,
+    /// The interval of a log is 1 to 99 hundredths of a second.
+    #[error("bad interval")]
+    BadInterval,
+    /// So many records were logged before that no sequence number is left.
+    #[error("bad logged count")]
+    BadLogged,
+    /// The reply size isn't 50 to 1476.
+    #[error("bad reply size")]
+    BadReplySize,
+    /// No memory for the device.
+    #[error("out of memory")]
+    Memory,
+}
+
+/// Whether a name has a character below 32 or 127.
+fn has_control(name: &[u8]) -> bool
+    ensures { result ≡ list_any is_control name.now }
+{
+    name.iter().any(|octet| *octet < 32 || *octet == 127)
+}
+
+/// Whether a name has 1 to 64 octets and no control character.
+fn is_name(name: &[u8]) -> bool
+    ensures { result ≡ is_name name.now }
+{
+    !name.is_empty() && name.len() <= 64 && !has_control(name)
+}
+
+impl DeviceLine {
+    /// The first fault of the line.
+    fn fault(&self) -> Option<BuildFault>
+        ensures { result ≡ device_fault self.now }
+    {
+        if 4_194_302 < self.instance {
+            return Some(BuildFault::BadInstance);
+        }
+        if !is_name(self.name.octets()) {
+            return Some(BuildFault::BadName);
+        }
+        if self.reply_size < 50 || 1476 < self.reply_size {
+            return Some(BuildFault::BadReplySize);
+        }
+        None
+    }
+}
+
+/// Whether one of the lines has this type and instance.
+fn has_id(lines: &[ObjectLine], kind: u16, instance: u32) -> bool
+    ensures { result ≡ has_id (record { kind = kind; instance = instance }) lines.now }
+{
+    for line in lines {
+        if kind == line.kind() && instance == line.instance() {
+            return true;
+        }
+    }
+    false
+}
+
+/// Whether one of the lines has this name.
+fn has_name(lines: &[ObjectLine], name: &[u8]) -> bool
+    ensures { result ≡ has_name name.now lines.now }
+{
+    for line in lines {
+        if name == line.name().octets() {
+            return true;
+        }
+    }
+    false
+}
+
+/// The first fault of what a log's line says of its records.
+fn log_fault(capacity: u32, interval: u32, logged: u32) -> Option<BuildFault>
+    ensures { result ≡ first_of (log_tests capacity interval logged) }
+{
+    if capacity < 1 || 65535 < capacity {
+        return Some(BuildFault::BadCapacity);
+    }
+    if 0 < interval && interval < 100 {
+        return Some(BuildFault::BadInterval);
+    }
+    if 4_294_967_294 < logged {
+        return Some(BuildFault::BadLogged);
+    }
+    None
+}
+
+impl ObjectLine {
+    /// The first fault of what only lines of this kind say.
+    fn own_fault(&self) -> Option<BuildFault>
+        ensures { result ≡ first_of (own_tests self.now) }
+    {
+        match self {
+            ObjectLine::Binary { default, .. } => {
+                if 1 < *default {
+                    return Some(BuildFault::BadDefault);
+                }
+                None
+            }
+            ObjectLine::Multistate {
+                states,
+                default,
+                ..
+            } => {
+                if *states < 1 || 65535 < *states {
+                    return Some(BuildFault::BadStates);
+                }
+                if *default < 1 || *states < *default {
+                    return Some(BuildFault::BadDefault);
+                }
+                None
+            }
+            ObjectLine::Integer { .. } => None,
+            ObjectLine::Log {
+                capacity,
+                interval,
+                logged,
+                ..
+            } => log_fault(*capacity, *interval, *logged),
+        }
+    }
+
+    /// The first fault of the line behind the device's line, where lines before it have the same
+    /// identifier or the same name.
+    fn fault(&self, device: &DeviceLine, same_id: bool, same_name: bool) -> Option<BuildFault>
+        ensures { result ≡ first_of (line_tests device.now self.now same_id same_name) }
+    {
+        if 4_194_302 < self.instance() {
+            return Some(BuildFault::BadInstance);
+        }
+        if same_id {
+            return Some(BuildFault::DuplicateId);
+        }
+        let name = self.name().octets();
+        if !is_name(name) {
+            return Some(BuildFault::BadName);
+        }
+        if name == device.name.octets() || same_name {
+            return Some(BuildFault::DuplicateName);
+        }
+        self.own_fault()
+    }
+
+    /// What the object is. A log takes memory for all its records.
+    fn body(&self, alloc: Global) -> Result<Body, BuildFault>
+        ensures ok { IfOk result (λ body. body ≡ body_of self.now) }
+        ensures err { IfErr result (λ fault. fault ≡ BuildFault.Memory) }
+    {
+        match self {
+            ObjectLine::Binary { default, .. } => Ok(Body::Command(Command::new(
+                Range::Binary,
+                Setting::Enumerated(*default),
+            ))),
+            ObjectLine::Multistate {
+                states,
+                default,
+                ..
+            } => Ok(Body::Command(Command::new(
+                Range::Multistate { states: *states },
+                Setting::Unsigned(*default),
+            ))),
+            ObjectLine::Integer { default, .. } => Ok(Body::Command(Command::new(
+                Range::Integer,
+                Setting::Signed(*default),
+            ))),
+            ObjectLine::Log {
+                source,
+                capacity,
+                interval,
+                logged,
+                ..
+            } => match TrendLog::new(alloc, *capacity, *logged) {
+                Ok(log) => Ok(Body::Log(Logger {
+                    source: *source,
+                    interval: *interval,
+                    log,
+                })),
+                Err(_) => Err(BuildFault::Memory),
+            },
+        }
+    }
+}
+
+/// The first fault of the object lines, where each line is compared with all before it.
+fn compared_fault(device: &DeviceLine, lines: &[ObjectLine]) -> Option<BuildFault>
+    ensures { result ≡ objects_fault device.now [] lines.now }
+{
+    for place in 0..lines.len() {
+        let line = &lines[place];
+        let before = &lines[..place];
+        let same_id = has_id(before, line.kind(), line.instance());
+        let same_name = has_name(before, line.name().octets());
+        if let Some(fault) = line.fault(device, same_id, same_name) {
+            return Some(fault);
+        }
+    }
+    None
+}
+
+/// Notes the identifier and the name of a line that has no fault.
+fn note<'a>(
+    ids: &mut IndexSet<ObjectId>,
+    names: &mut IndexSet<&'a str>,
+    id: ObjectId,
+    name: &'a str,
+) -> bool
+    ensures ids { IsTrue result → ids.new.keys ≡ insert_key is_id ids.old.keys id }
+    ensures names { IsTrue result → names.new.keys ≡ insert_key (λ a b. bytes_eq a.now b.now) names.old.keys name.entry }
+{
+    ids.insert(id).is_ok() && names.insert(name).is_ok()
+}
+
+/// The first fault of the object lines, found by tables of identifiers and names in which each line
+/// is looked up once; `None` where there is no memory for them.
+fn tabled_fault(
+    alloc: Global,
+    device: &DeviceLine,
+    lines: &[ObjectLine],
+) -> Option<Option<BuildFault>>
+    ensures { IfSome result (λ fault. fault ≡ objects_fault device.now [] lines.now) }
+{
+    let mut ids: IndexSet<ObjectId> = IndexSet::with_capacity(alloc, lines.len()).ok()?;
+    let mut names: IndexSet<&str> = IndexSet::with_capacity(alloc, lines.len()).ok()?;
+    for place in 0..lines.len() {
+        let line = &lines[place];
+        let Some(id) = ObjectId::new(line.kind(), line.instance()) else {
+            return Some(Some(BuildFault::BadInstance));
+        };
+        let name = line.name().text();
+        if let Some(fault) = line.fault(device, ids.contains(&id), names.contains(&name)) {
+            return Some(Some(fault));
+        }
+        if !note(&mut ids, &mut names, id, name) {
+            return None;
+        }
+    }
+    Some(None)
+}
+
+/// The first fault of the object lines.
+fn objects_fault(alloc: Global, device: &DeviceLine, lines: &[ObjectLine]) -> Option<BuildFault>
+    ensures { result ≡ objects_fault device.now [] lines.now }
+{
+    match tabled_fault(alloc, device, lines) {
+        Some(fault) => fault,
+        None => compared_fault(device, lines),
+    }
+}
+
+/// The first fault of all the lines.
+fn build_fault(alloc: Global, device: &DeviceLine, lines: &[ObjectLine]) -> Option<BuildFault>
+    ensures { result ≡ build_fault device.now lines.now }
+{
+    match device.fault() {
+        Some(fault) => Some(fault),
+        None => objects_fault(alloc, device, lines),
+    }
+}
+
+/// Adds the object of a line.
+fn add(
+    objects: &mut IndexMap<ObjectId, Object>,
+    alloc: Global,
+    line: &ObjectLine,
+) -> Result<(), BuildFault>
+    requires within { instance_of line.now < 4194304 }
+    requires fresh { lookup (is_id (id_of line.now)) objects.old.entries ≡ None }
+    ensures ok { OnOk result (objects.new.entries ≡ objects.old.entries ++ entry_of line.now ∷ []) }
+    ensures err { IfErr result (λ fault. fault ≡ BuildFault.Memory) }
+{
+    let Some(id) = ObjectId::new(line.kind(), line.instance()) else {
+        unreachable!()
+    };
+    let Ok(name) = line.name().copy(alloc) else {
+        return Err(BuildFault::Memory);
+    };
+    let Ok(body) = line.body(alloc) else {
+        return Err(BuildFault::Memory);
+    };
+    let object = Object { name, body };
+    match objects.insert(id, object) {
+        Ok(_) => Ok(()),
+        Err(_) => Err(BuildFault::Memory),
+    }
+}
+
+/// The objects of lines that have no fault.
+pub(crate) fn objects_of(
+    alloc: Global,
+    device: &DeviceLine,
+    lines: &[ObjectLine],
+) -> Result<IndexMap<ObjectId, Object>, BuildFault>
+    requires { objects_fault device.now [] lines.now ≡ None }
+    ensures ok { IfOk result (λ objects. objects.entries ≡ map entry_of lines.now) }
+    ensures err { IfErr result (λ fault. fault ≡ BuildFault.Memory) }
+{
+    let Ok(mut objects) = IndexMap::with_capacity(alloc, lines.len()) else {
+        return Err(BuildFault::Memory);
+    };
+    for line in lines {
+        add(&mut objects, alloc, line)?;
+    }
+    Ok(objects)
+}
+
+impl Database {
+    /// The device that lines describe, or their first fault. Only lines without a fault make
+    /// anything grow, so want of memory comes last.
+    pub fn build(
+        alloc: Global,
+        device: &DeviceLine,
+        lines: &[ObjectLine],
+    ) -> Result<Database, BuildFault>
+        ensures { Builds result device.now lines.now }
+    {
+        if let Some(fault) = build_fault(alloc, device, lines) {
+            return Err(fault);
+        }
+        let objects = objects_of(alloc, device, lines)?;
+        match Database::of(alloc, device, objects) {
+            Ok(database) => Ok(database),
+            Err(_) => Err(BuildFault::Memory),
+        }
+    }
+}

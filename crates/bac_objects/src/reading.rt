@@ -1,0 +1,192 @@
+//! Reads of properties, as octets (clause 15.5).
+
+ghost use Rattle.std.specs.Prelude.{◌≡◌, [], ◌∷◌, map, slice_get, Ok, IfSome};
+ghost use Rattle.std.specs.Option.{option_map};
+ghost use Rattle.bac_wire.specs.Primitive.{Object};
+ghost use Rattle.bac_wire.specs.View.{IsWellFormed, view};
+ghost use Rattle.bac_objects.specs.Properties.{Array, object_list, slot_value};
+ghost use Rattle.bac_objects.specs.Reading.{Appends, IsSound, elements, elements_of, fitted, read_of, reference_octets, shown_of, values_octets};
+
+use crate::command::{Setting, slot_value};
+use crate::database::Database;
+use crate::fault::{Fault, Refused};
+use crate::property::Property;
+use bac_apdu::ReadProperty;
+use bac_wire::{Datagram, ObjectId, Value, write_context, write_value};
+
+/// Appends a value.
+fn add(out: &mut Datagram, value: &Value) -> Result<(), Refused>
+    requires { IsWellFormed value.now }
+    ensures { Appends out.old (view value.now) result out.new }
+{
+    match write_value(out, value) {
+        Ok(()) => Ok(()),
+        Err(_) => Err(Refused::TooLong),
+    }
+}
+
+/// One value.
+fn single(value: &Value) -> Result<Datagram, Refused>
+    requires { IsWellFormed value.now }
+    ensures { result ≡ fitted (Ok (values_octets (view value.now ∷ []))) }
+{
+    let mut out = Datagram::new();
+    match add(&mut out, value) {
+        Ok(()) => Ok(out),
+        Err(fault) => Err(fault),
+    }
+}
+
+/// No value.
+#[tactic(auto, using(crate::proofs::Encodings::nothing))]
+fn none() -> Result<Datagram, Refused>
+    ensures { result ≡ fitted (Ok (values_octets [])) }
+{
+    Ok(Datagram::new())
+}
+
+/// A reference to a property of this device that is no array.
+#[tactic(auto, unfolding(crate::specs::Reading::reference_octets))]
+fn reference(object: ObjectId, property: u32) -> Result<Datagram, Refused>
+    ensures { result ≡ fitted (Ok (reference_octets object property)) }
+{
+    let mut out = Datagram::new();
+    if write_context(&mut out, 0, &Value::Object(object)).is_err() {
+        return Err(Refused::TooLong);
+    }
+    if write_context(&mut out, 1, &Value::Enumerated(property)).is_err() {
+        return Err(Refused::TooLong);
+    }
+    Ok(out)
+}
+
+/// The values of all priorities.
+fn all_slots(slots: &[Option<Setting>; 16]) -> Result<Datagram, Refused>
+    ensures { result ≡ fitted (Ok (values_octets (map slot_value slots.now))) }
+{
+    let mut out = Datagram::new();
+    for slot in slots {
+        if let Err(fault) = add(&mut out, &slot_value(*slot)) {
+            return Err(fault);
+        }
+    }
+    Ok(out)
+}
+
+/// The priority array, or its element at an index.
+fn slots_at(slots: &[Option<Setting>; 16], index: Option<u32>) -> Result<Datagram, Refused>
+    ensures { result ≡ fitted (elements (Array (map slot_value slots.now)) index) }
+{
+    match index {
+        None => all_slots(slots),
+        Some(0) => single(&Value::Unsigned(16)),
+        Some(index) => match slots.get(index as usize - 1) {
+            Some(slot) => single(&slot_value(*slot)),
+            None => Err(Refused::Fault(Fault::BadIndex)),
+        },
+    }
+}
+
+impl<'a> Property<'a> {
+    /// The values of the property, or the element at an index.
+    fn octets(&self, index: Option<u32>) -> Result<Datagram, Refused>
+        requires { IsSound self.now }
+        ensures { result ≡ fitted (elements (shown_of self.now) index) }
+    {
+        match self {
+            Property::One(value) => match index {
+                None => single(value),
+                Some(_) => Err(Refused::Fault(Fault::NotArray)),
+            },
+            Property::Nothing => match index {
+                None => none(),
+                Some(_) => Err(Refused::Fault(Fault::NotArray)),
+            },
+            Property::Slots(slots) => slots_at(slots, index),
+            Property::Objects(database) => database.objects_at(index),
+            Property::Reference { object, property } => match index {
+                None => reference(*object, *property),
+                Some(_) => Err(Refused::Fault(Fault::NotArray)),
+            },
+            Property::Records => match index {
+                None => Err(Refused::Fault(Fault::ReadDenied)),
+                Some(_) => Err(Refused::Fault(Fault::NotArray)),
+            },
+        }
+    }
+}
+
+/// The values of a property that an object may have.
+fn octets_of(property: &Option<Property>, index: Option<u32>) -> Result<Datagram, Refused>
+    requires { IfSome property.now IsSound }
+    ensures { result ≡ fitted (elements_of (option_map shown_of property.now) index) }
+{
+    match property {
+        Some(property) => property.octets(index),
+        None => Err(Refused::Fault(Fault::UnknownProperty)),
+    }
+}
+
+impl Database {
+    /// The object list, or its element at an index.
+    fn objects_at(&self, index: Option<u32>) -> Result<Datagram, Refused>
+        ensures { result ≡ fitted (elements (Array (object_list self.now)) index) }
+    {
+        match index {
+            None => self.all_objects(),
+            Some(0) => single(&Value::Unsigned(self.objects.len() as u64 + 1)),
+            Some(index) => match self.listed(index as usize - 1) {
+                Some(id) => single(&Value::Object(id)),
+                None => Err(Refused::Fault(Fault::BadIndex)),
+            },
+        }
+    }
+
+    /// What the object list has at a place, counted from 0.
+    #[tactic(auto, using(crate::proofs::Listing::listed, crate::proofs::Listing::unlisted))]
+    fn listed(&self, place: usize) -> Option<ObjectId>
+        ensures { option_map (λ id. Object id) result ≡ slice_get (object_list self.now) place }
+    {
+        if place == 0 {
+            return Some(self.id());
+        }
+        match self.objects.get_index(place - 1) {
+            Some(entry) => Some(*entry.0),
+            None => None,
+        }
+    }
+
+    /// The whole object list.
+    fn all_objects(&self) -> Result<Datagram, Refused>
+        ensures { result ≡ fitted (Ok (values_octets (object_list self.now))) }
+    {
+        let mut out = Datagram::new();
+        if let Err(fault) = add(&mut out, &Value::Object(self.id())) {
+            return Err(fault);
+        }
+        for id in self.objects.keys() {
+            if let Err(fault) = add(&mut out, &Value::Object(*id)) {
+                return Err(fault);
+            }
+        }
+        Ok(out)
+    }
+
+    /// The octets of the values that a request asks for, each in its shortest encoding. The first
+    /// fault decides: no such object, no such property, an index into what is no array, no such
+    /// element, records of a log, which ReadRange reads (clause 15.5.2).
+    pub fn read(&self, request: &ReadProperty) -> Result<Datagram, Refused>
+        ensures { result ≡ fitted (read_of self.now request.now) }
+    {
+        if self.is_here(request.object) {
+            return octets_of(&self.property(request.property), request.index);
+        }
+        match self.object(request.object) {
+            Some(object) => octets_of(
+                &object.property(request.object, request.property),
+                request.index,
+            ),
+            None => Err(Refused::Fault(Fault::UnknownObject)),
+        }
+    }
+}

@@ -1,0 +1,38 @@
+-- Texts that are made octet by octet.
+use Rattle.std.proofs.Common.{◌≡◌, ℕ, ◌+◌, ◌-◌, ◌*◌, ◌≤◌, suc, List, [], ◌∷◌, ◌++◌, length, take, map, refl, sym, ap, ◌∙◌, arith, append_assoc, append-nil, length-append}
+use Rattle.std.proofs.Math.Seq.{take-append-add}
+use Rattle.std.proofs.lemmas.List.{take-map}
+use Rattle.std.proofs.lemmas.List.{length-map}
+use Rattle.hex.specs.Hex.{encode_with, encode_lower}
+use Rattle.bac_wire.specs.Number.{bits_of}
+use Rattle.bac_print.specs.Numbers.{bit_digit, bit_digits}
+
+-- two digits more, and what is still to come
+pub hex_more : (text : List ℕ) (octet : ℕ) (rest : List ℕ) → (text ++ encode_lower (octet ∷ [])) ++ encode_lower rest ≡ text ++ encode_lower (octet ∷ rest)
+unfolding encode_with
+hex_more text octet rest = append_assoc text (encode_lower (octet ∷ [])) (encode_lower rest)
+
+pub hex_none : (text : List ℕ) → text ++ encode_lower [] ≡ text
+unfolding encode_with
+hex_none text = append-nil text
+
+-- an octet has eight bits
+pub length-bits_of : (octets : List ℕ) → length (bits_of octets) ≡ 8 * length octets
+length-bits_of [] = refl
+length-bits_of (octet ∷ rest) = omega (arith, length-bits_of rest)
+
+pub length-bit_digits : (octets : List ℕ) → length (bit_digits (bits_of octets)) ≡ 8 * length octets
+length-bit_digits octets = length-map (bits_of octets) bit_digit ∙ length-bits_of octets
+
+-- all the bits, and then without the last ones
+pub bits_cut : (text octets : List ℕ) (unused size : ℕ) → unused ≤ 8 * length octets → size ≡ length (text ++ bit_digits (bits_of octets))
+    → take (size - unused) (text ++ bit_digits (bits_of octets)) ≡ text ++ bit_digits (take (8 * length octets - unused) (bits_of octets))
+bits_cut text octets unused size fits is =
+    let count : size - unused ≡ length text + (8 * length octets - unused) = omega (arith, is, length-append text (bit_digits (bits_of octets)), length-bit_digits octets) in
+    ap (λ n. take n (text ++ bit_digits (bits_of octets))) count
+    ∙ take-append-add text (bit_digits (bits_of octets)) (8 * length octets - unused)
+    ∙ ap (λ l. text ++ l) (take-map bit_digit (8 * length octets - unused) (bits_of octets))
+
+-- there is room for what is left out
+pub bits_there : (text octets : List ℕ) (unused size : ℕ) → unused ≤ 8 * length octets → size ≡ length (text ++ bit_digits (bits_of octets)) → unused ≤ size
+bits_there text octets unused size fits is = omega (arith, is, length-append text (bit_digits (bits_of octets)), length-bit_digits octets)

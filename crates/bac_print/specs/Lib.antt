@@ -1,0 +1,4 @@
+pub mod Numbers
+pub mod Moments
+pub mod Values
+pub mod Entries

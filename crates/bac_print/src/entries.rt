@@ -1,0 +1,95 @@
+//! Records of trend logs, and the lines of what a walk delivers.
+
+ghost use Rattle.std.specs.Prelude.{◌≡◌, ◌++◌, OnOk, codes};
+ghost use Rattle.std.specs.Int.{w32, to_be_bytes};
+ghost use Rattle.bac_print.specs.Numbers.{called};
+ghost use Rattle.bac_print.specs.Entries.{datum_text, first_bits, entry_text, flags_text, gap_line, record_line};
+
+use crate::moments::{push_day, push_time};
+use crate::numbers::{
+    push_bits, push_called_bits, push_called_hex, push_called_number, push_called_two,
+    push_counted, push_number, push_signed,
+};
+use crate::values::push_boolean;
+use bac_log::{Datum, Entry};
+use std::alloc::AllocError;
+
+/// Appends a bit string of at most 32 bits, the first of them the highest of `bits`.
+fn push_bit_string(text: &mut Vec<u8>, count: u8, bits: u32) -> Result<(), AllocError>
+    ensures { OnOk result (text.new.items ≡ text.old.items ++ called (codes "bits") (first_bits count (to_be_bytes w32 bits))) }
+{
+    let unused = 32usize.saturating_sub(usize::from(count));
+    push_called_bits(text, "bits", &bits.to_be_bytes(), unused)
+}
+
+/// Appends what was logged.
+#[tactic(auto, unfolding(crate::specs::Entries::datum_text))]
+fn push_datum(text: &mut Vec<u8>, datum: &Datum) -> Result<(), AllocError>
+    ensures { OnOk result (text.new.items ≡ text.old.items ++ datum_text datum.now) }
+{
+    match *datum {
+        Datum::LogStatus(bits) => push_called_bits(text, "status", &[bits], 5),
+        Datum::Boolean(flag) => push_boolean(text, flag),
+        Datum::Real4(octets) => push_called_hex(text, "real", octets.as_slice()),
+        Datum::Enumerated(n) => push_called_number(text, "enum", u64::from(n)),
+        Datum::Unsigned(n) => push_number(text, n),
+        Datum::Signed(z) => push_signed(text, z),
+        Datum::Bits { count, bits } => push_bit_string(text, count, bits),
+        Datum::LongBits(count) => push_counted(text, "bits", u64::from(count)),
+        Datum::Null => text.extend_from_slice(b"null"),
+        Datum::Failure { class, code } => {
+            push_called_two(text, "failure", u64::from(class), u64::from(code))
+        }
+        Datum::TimeChange(octets) => push_called_hex(text, "time-change", octets.as_slice()),
+        Datum::Any(octets) => push_counted(text, "any", u64::from(octets)),
+    }
+}
+
+/// Appends the status flags.
+#[tactic(auto, unfolding(crate::specs::Entries::flags_text))]
+fn push_flags(text: &mut Vec<u8>, flags: Option<u8>) -> Result<(), AllocError>
+    ensures { OnOk result (text.new.items ≡ text.old.items ++ flags_text flags) }
+{
+    match flags {
+        Some(flags) => push_bits(text, &[flags], 4),
+        None => text.extend_from_slice(b"-"),
+    }
+}
+
+/// Appends a record: its date and time, what was logged, and its four status flags, or `-` where it
+/// has none.
+#[tactic(auto, unfolding(crate::specs::Entries::entry_text))]
+pub fn push_entry(text: &mut Vec<u8>, entry: &Entry) -> Result<(), AllocError>
+    ensures { OnOk result (text.new.items ≡ text.old.items ++ entry_text entry.now) }
+{
+    push_day(text, entry.date)?;
+    text.extend_from_slice(b"T")?;
+    push_time(text, entry.time)?;
+    text.extend_from_slice(b" ")?;
+    push_datum(text, &entry.datum)?;
+    text.extend_from_slice(b" ")?;
+    push_flags(text, entry.flags)
+}
+
+/// Appends the line of a record: its sequence number, and the record.
+#[tactic(auto, unfolding(crate::specs::Entries::record_line))]
+pub fn push_record(text: &mut Vec<u8>, number: u32, entry: &Entry) -> Result<(), AllocError>
+    ensures { OnOk result (text.new.items ≡ text.old.items ++ record_line number entry.now) }
+{
+    push_number(text, u64::from(number))?;
+    text.extend_from_slice(b" ")?;
+    push_entry(text, entry)?;
+    text.extend_from_slice(b"\n")
+}
+
+/// Appends the line of a gap: the first and the last of the sequence numbers that are missing.
+#[tactic(auto, unfolding(crate::specs::Entries::gap_line))]
+pub fn push_gap(text: &mut Vec<u8>, first: u32, last: u32) -> Result<(), AllocError>
+    ensures { OnOk result (text.new.items ≡ text.old.items ++ gap_line first last) }
+{
+    text.extend_from_slice(b"gap ")?;
+    push_number(text, u64::from(first))?;
+    text.extend_from_slice(b" ")?;
+    push_number(text, u64::from(last))?;
+    text.extend_from_slice(b"\n")
+}

@@ -1,0 +1,15 @@
+//! Texts for people: numbers, moments, primitive values and records of trend logs.
+//!
+//! Each call appends to a text that is kept: no line is made apart and copied. [`push_value`] is
+//! the text of a value (specs/Values), [`push_record`] and [`push_gap`] are the lines of what a
+//! walk of a trend log delivers (specs/Entries). They take memory where the text has no room left.
+#![tactic(auto)]
+
+mod entries;
+mod moments;
+mod numbers;
+mod values;
+
+pub use entries::{push_entry, push_gap, push_record};
+pub use numbers::{push_number, push_signed};
+pub use values::push_value;

@@ -1,0 +1,78 @@
+//! Dates and times (clauses 20.2.12 and 20.2.13).
+
+ghost use Rattle.std.specs.Prelude.{◌≡◌, ◌++◌, OnOk};
+ghost use Rattle.bac_wire.specs.Stamp.{date_octets, time_octets};
+ghost use Rattle.bac_print.specs.Moments.{date_text, day_text, part_text, time_text, weekday_text, year_text};
+
+use crate::numbers::{push_number, push_two_digits};
+use bac_wire::{Date4, Time4};
+use std::alloc::AllocError;
+
+/// An octet of 255 says that its part of a date or time is unspecified.
+const UNSPECIFIED: u8 = 255;
+
+/// Appends a year.
+fn push_year(text: &mut Vec<u8>, year: u8) -> Result<(), AllocError>
+    ensures { OnOk result (text.new.items ≡ text.old.items ++ year_text year) }
+{
+    if year == UNSPECIFIED {
+        return text.extend_from_slice(b"*");
+    }
+    push_number(text, 1900 + u64::from(year))
+}
+
+/// Appends a month, a day, or a part of a time.
+fn push_part(text: &mut Vec<u8>, part: u8) -> Result<(), AllocError>
+    ensures { OnOk result (text.new.items ≡ text.old.items ++ part_text part) }
+{
+    if part == UNSPECIFIED {
+        return text.extend_from_slice(b"*");
+    }
+    push_two_digits(text, part)
+}
+
+/// Appends the number of a weekday.
+fn push_weekday(text: &mut Vec<u8>, weekday: u8) -> Result<(), AllocError>
+    ensures { OnOk result (text.new.items ≡ text.old.items ++ weekday_text weekday) }
+{
+    if weekday == UNSPECIFIED {
+        return text.extend_from_slice(b"*");
+    }
+    push_number(text, u64::from(weekday))
+}
+
+/// Appends `YYYY-MM-DD`.
+#[tactic(auto, unfolding(crate::specs::Moments::day_text))]
+pub(crate) fn push_day(text: &mut Vec<u8>, date: Date4) -> Result<(), AllocError>
+    ensures { OnOk result (text.new.items ≡ text.old.items ++ day_text (date_octets date)) }
+{
+    push_year(text, date.year)?;
+    text.extend_from_slice(b"-")?;
+    push_part(text, date.month)?;
+    text.extend_from_slice(b"-")?;
+    push_part(text, date.day)
+}
+
+/// Appends `YYYY-MM-DD,W`.
+#[tactic(auto, unfolding(crate::specs::Moments::date_text))]
+pub(crate) fn push_date(text: &mut Vec<u8>, date: Date4) -> Result<(), AllocError>
+    ensures { OnOk result (text.new.items ≡ text.old.items ++ date_text (date_octets date)) }
+{
+    push_day(text, date)?;
+    text.extend_from_slice(b",")?;
+    push_weekday(text, date.weekday)
+}
+
+/// Appends `HH:MM:SS.hh`.
+#[tactic(auto, unfolding(crate::specs::Moments::time_text))]
+pub(crate) fn push_time(text: &mut Vec<u8>, time: Time4) -> Result<(), AllocError>
+    ensures { OnOk result (text.new.items ≡ text.old.items ++ time_text (time_octets time)) }
+{
+    push_part(text, time.hour)?;
+    text.extend_from_slice(b":")?;
+    push_part(text, time.minute)?;
+    text.extend_from_slice(b":")?;
+    push_part(text, time.second)?;
+    text.extend_from_slice(b".")?;
+    push_part(text, time.hundredth)
+}

@@ -1,0 +1,136 @@
+//! Devices by their public calls: built of lines, asked by datagrams, and their clock.
+
+use bac_device::{BuildFault, ClockBack, Device, DeviceLine, Name, ObjectLine, Receiver};
+use bac_wire::Stamp;
+use std::alloc::Global;
+use std::process::Abort;
+use std::test::Fail;
+
+fn name(alloc: Global, text: &str) -> Result<Name, Fail> {
+    Ok(Name::of(String::from_str(alloc, text)?))
+}
+
+/// 2024-05-06, a Monday, at this hour, 08:09.10.
+fn at(hour: u8) -> Result<Stamp, Fail> {
+    Ok(Stamp::new(2024, 5, 6, hour, 8, 9, 10).ok_or("no such moment")?)
+}
+
+fn plant(alloc: Global, instance: u32, text: &str, reply_size: u16) -> Result<DeviceLine, Fail> {
+    Ok(DeviceLine {
+        instance,
+        name: name(alloc, text)?,
+        vendor: 0,
+        reply_size,
+        clock: at(7)?,
+    })
+}
+
+fn binary(alloc: Global, instance: u32, text: &str, default: u32) -> Result<ObjectLine, Fail> {
+    Ok(ObjectLine::Binary {
+        instance,
+        name: name(alloc, text)?,
+        default,
+    })
+}
+
+fn multistate(alloc: Global, text: &str, states: u32, default: u32) -> Result<ObjectLine, Fail> {
+    Ok(ObjectLine::Multistate {
+        instance: 1,
+        name: name(alloc, text)?,
+        states,
+        default,
+    })
+}
+
+fn integer(alloc: Global, text: &str, default: i32) -> Result<ObjectLine, Fail> {
+    Ok(ObjectLine::Integer {
+        instance: 1,
+        name: name(alloc, text)?,
+        default,
+    })
+}
+
+/// Whether lines are refused for this fault, or built where there is none.
+fn is_refused(
+    rt: &impl Abort,
+    alloc: Global,
+    device: &DeviceLine,
+    lines: &[ObjectLine],
+    fault: Option<BuildFault>,
+) -> Result<(), Fail> {
+    assert_eq!(rt; Device::build(alloc, device, lines).err(), fault);
+    Ok(())
+}
+
+#[test]
+fn the_first_fault_of_the_device_line(rt: HostRuntime) -> Result<(), Fail> {
+    let a = rt.alloc();
+    let both = plant(a, 4_194_303, "", 49)?;
+    is_refused(&rt, a, &both, &[], Some(BuildFault::BadInstance))?;
+    let nameless = plant(a, 4_194_302, "", 49)?;
+    is_refused(&rt, a, &nameless, &[], Some(BuildFault::BadName))?;
+    let small = plant(a, 4_194_302, "plant", 49)?;
+    is_refused(&rt, a, &small, &[], Some(BuildFault::BadReplySize))?;
+    let good = plant(a, 4_194_302, "plant", 50)?;
+    is_refused(&rt, a, &good, &[], None)
+}
+
+#[test]
+fn the_first_fault_of_object_lines(rt: HostRuntime) -> Result<(), Fail> {
+    let a = rt.alloc();
+    let device = plant(a, 123, "plant", 1476)?;
+    let beyond = [multistate(a, "mode", 3, 4)?];
+    is_refused(&rt, a, &device, &beyond, Some(BuildFault::BadDefault))?;
+    let stateless = [multistate(a, "mode", 0, 4)?];
+    is_refused(&rt, a, &device, &stateless, Some(BuildFault::BadStates))?;
+    // A line's least fault, and the first line that has one.
+    let twice = [binary(a, 1, "pump", 0)?, binary(a, 1, "pump", 2)?];
+    is_refused(&rt, a, &device, &twice, Some(BuildFault::DuplicateId))?;
+    let names = [binary(a, 1, "pump", 0)?, binary(a, 2, "pump", 2)?, binary(a, 4_194_303, "", 0)?];
+    is_refused(&rt, a, &device, &names, Some(BuildFault::DuplicateName))?;
+    let own = [integer(a, "plant", 0)?];
+    is_refused(&rt, a, &device, &own, Some(BuildFault::DuplicateName))?;
+    // One instance of three types, and the least integer.
+    let good = [binary(a, 1, "pump", 1)?, multistate(a, "mode", 3, 3)?, integer(a, "level", -2_147_483_648)?];
+    is_refused(&rt, a, &device, &good, None)
+}
+
+/// Who-Is without limits, as a broadcast.
+const WHO_IS: [u8; 12] = [0x81, 0x0b, 0x00, 0x0c, 0x01, 0x20, 0xff, 0xff, 0x00, 0xff, 0x10, 0x08];
+
+/// The same, forwarded for 127.0.0.1:47809.
+const FORWARDED: [u8; 18] = [
+    0x81, 0x04, 0x00, 0x12, 127, 0, 0, 1, 0xba, 0xc1, 0x01, 0x20, 0xff, 0xff, 0x00, 0xff, 0x10, 0x08,
+];
+
+/// I-Am of Device 123: 1476 octets, no segmentation, vendor 0.
+const I_AM: [u8; 20] = [
+    0x81, 0x0a, 0x00, 0x14, 0x01, 0x00, 0x10, 0x00, 0xc4, 0x02, 0x00, 0x00, 0x7b, 0x22, 0x05, 0xc4, 0x91, 0x03,
+    0x21, 0x00,
+];
+
+#[test]
+fn a_reply_goes_to_its_receiver(rt: HostRuntime) -> Result<(), Fail> {
+    let a = rt.alloc();
+    let mut device = Device::build(a, &plant(a, 123, "plant", 1476)?, &[]).ok().ok_or("not built")?;
+    let near = device.handle(&WHO_IS).ok_or("no reply")?;
+    assert_eq!(rt; near.datagram.octets(), I_AM.as_slice());
+    assert_eq!(rt; near.to, Receiver::Sender);
+    let far = device.handle(&FORWARDED).ok_or("no reply")?;
+    assert_eq!(rt; far.datagram.octets(), I_AM.as_slice());
+    assert_eq!(rt; far.to, Receiver::Address([127, 0, 0, 1, 0xba, 0xc1]));
+    assert!(rt; device.handle(&WHO_IS[..11]).is_none());
+    Ok(())
+}
+
+#[test]
+fn a_clock_goes_forwards(rt: HostRuntime) -> Result<(), Fail> {
+    let a = rt.alloc();
+    let mut device = Device::build(a, &plant(a, 123, "plant", 1476)?, &[]).ok().ok_or("not built")?;
+    assert_eq!(rt; device.clock(), at(7)?);
+    assert_eq!(rt; device.advance(at(9)?), Ok(0));
+    assert_eq!(rt; device.advance(at(8)?), Err(ClockBack));
+    assert_eq!(rt; device.clock(), at(9)?);
+    assert_eq!(rt; device.advance(at(9)?), Ok(0));
+    Ok(())
+}

@@ -1,0 +1,51 @@
+//! What a user of transactions and links needs, proved from their public contracts alone.
+
+ghost use Rattle.std.specs.Prelude.{◌≡◌, ◌↔◌, ◌≤◌, ◌+◌, ℕ, pos, List, IfSome, IsNone, IsOkAnd, OnErr};
+ghost use Rattle.bac_apdu.specs.declared.service.extent.Extent.TheVariants.{ByNumber as by_number};
+ghost use Rattle.bac_link.specs.Delivery.{History, Moment, now, later};
+ghost use Rattle.bac_link.specs.Links.{IsReply, RisesBy};
+ghost use Rattle.bac_link.specs.Requests.{IsSendable, IsTooLong};
+
+use bac_apdu::{Extent, ReadRange};
+use bac_link::{ExchangeFault, LogLink, Request, Timeout, Transactions, exchange};
+use bac_wire::{Datagram, ObjectId};
+
+/// A request that nobody answers is sent a second time where one retry is given: the same octets.
+pub fn sent_twice(request: &Request) -> Option<(Datagram, Datagram)>
+    requires { IsSendable request.now }
+    ensures same { IfSome result (λ sent. sent.0 ≡ sent.1) }
+    ensures fits { IsNone result ↔ IsTooLong request.now }
+{
+    let mut transactions = Transactions::new(1);
+    let Ok(first) = transactions.begin(request) else {
+        return None;
+    };
+    match transactions.timeout() {
+        Timeout::Resend(second) => Some((first, second)),
+        Timeout::GaveUp => unreachable!(),
+    }
+}
+
+/// Over a sure link that is honest for a log, a question for its records from a number on brings the
+/// reply of the next moment.
+pub fn records_from<L: LogLink>(
+    link: &mut L,
+    transactions: &mut Transactions,
+    log: ObjectId,
+    from: u32,
+) -> Result<Datagram, ExchangeFault>
+    ensures replied { (r : ℕ) (M : List Moment) (H : History) → L.is_honest link.old log r M H → L.is_sure link.old →
+        IsOkAnd result (λ d. ((invoke : ℕ) × IsReply r (now M) H log (by_number from (pos 100)) invoke d) × L.is_honest link.new log r (later M) H) }
+    ensures lost { (r : ℕ) (M : List Moment) (H : History) → L.is_honest link.old log r M H →
+        OnErr result (RisesBy (transactions.old.retries + 1) (L.failures link.old) (L.failures link.new)) }
+{
+    let _kind = log.kind();
+    let _instance = log.instance();
+    let request = Request::ReadRange(ReadRange {
+        object: log,
+        property: 131,
+        index: None,
+        extent: Extent::ByNumber { reference: from, count: 100 },
+    });
+    exchange(link, transactions, &request)
+}

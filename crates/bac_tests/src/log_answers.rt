@@ -1,0 +1,239 @@
+//! What a trend log answers to a ReadRange.
+ghost use Rattle.std.specs.Prelude.{IfOk};
+ghost use Rattle.bac_log.specs.Entry.{IsLoggable};
+
+use bac_apdu::Extent;
+use bac_log::{Datum, Entry, Selected, TooSmall, TrendLog};
+use bac_wire::{Date4, Time4};
+use std::test::Fail;
+
+/// 2024-05-06, a Monday.
+const DATE: Date4 = Date4 {
+    year: 124,
+    month: 5,
+    day: 6,
+    weekday: 1,
+};
+
+/// 07:08 and this second, and ten hundredths.
+fn time(second: u8) -> Time4 {
+    Time4 {
+        hour: 7,
+        minute: 8,
+        second,
+        hundredth: 10,
+    }
+}
+
+/// A sample of 0 at that second, of 19 octets.
+fn sample(second: u8) -> Result<Entry, Fail>
+    ensures { IfOk result IsLoggable }
+{
+    let entry = Entry {
+        date: DATE,
+        time: time(second),
+        datum: Datum::Enumerated(0),
+        flags: Some(0),
+    };
+    if !entry.loggable() {
+        return Err("not loggable".into());
+    }
+    Ok(entry)
+}
+
+/// A log with samples at these seconds, of which it holds the newest.
+fn log_of(rt: &HostRuntime, capacity: u32, logged: u32, seconds: &[u8]) -> Result<TrendLog, Fail> {
+    let mut log = TrendLog::new(rt.alloc(), capacity, logged)?;
+    for second in seconds {
+        log.append(sample(*second)?).ok().ok_or("cycle full")?;
+    }
+    Ok(log)
+}
+
+/// The whole ACK has at most this many octets unless a row says otherwise.
+const WIDE: usize = 1476;
+
+fn selected(first_position: u32, how_many: u32, flags: u8, first_number: Option<u32>) -> Selected {
+    Selected {
+        first_position,
+        how_many,
+        flags,
+        first_number,
+    }
+}
+
+const NOTHING: Selected = Selected {
+    first_position: 0,
+    how_many: 0,
+    flags: 0,
+    first_number: None,
+};
+
+fn by_position(reference: u32, count: i32) -> Extent {
+    Extent::ByPosition { reference, count }
+}
+
+fn by_number(reference: u32, count: i32) -> Extent {
+    Extent::ByNumber { reference, count }
+}
+
+fn by_time(second: u8, count: i32) -> Extent {
+    Extent::ByTime {
+        date: DATE,
+        time: time(second),
+        count,
+    }
+}
+
+#[test]
+fn records_are_selected(rt: HostRuntime) -> Result<(), Fail> {
+    // numbers 3, 4 and 5 at seconds 11, 12 and 13 are held
+    let log = log_of(&rt, 3, 0, &[9, 10, 11, 12, 13])?;
+    let rows = [
+        (Extent::All, selected(1, 3, 0xc0, None)),
+        // from a position on, and up to one
+        (by_position(1, 2), selected(1, 2, 0x80, None)),
+        (by_position(2, 100), selected(2, 2, 0x40, None)),
+        (by_position(3, -2), selected(2, 2, 0x40, None)),
+        (by_position(2, -2), selected(1, 2, 0x80, None)),
+        (by_position(1, -5), selected(1, 1, 0x80, None)),
+        // around a position that isn't held
+        (by_position(0, 2), selected(1, 1, 0x80, None)),
+        (by_position(5, -3), selected(3, 1, 0x40, None)),
+        (by_position(4, 1), NOTHING),
+        (by_position(0, -1), NOTHING),
+        (by_position(4294967295, 2147483647), NOTHING),
+        // by number, of which 1 and 2 are gone and 6 is still to come
+        (by_number(1, 3), selected(1, 1, 0x80, Some(3))),
+        (by_number(4, 1), selected(2, 1, 0x00, Some(4))),
+        (by_number(5, -2), selected(2, 2, 0x40, Some(4))),
+        (by_number(7, -3), selected(3, 1, 0x40, Some(5))),
+        (by_number(1, 2147483647), selected(1, 3, 0xc0, Some(3))),
+        (by_number(2, -2147483648), NOTHING),
+        (by_number(6, 1), NOTHING),
+        (by_number(0, 3), NOTHING),
+        // after and before a time; a record of that very time is neither
+        (by_time(12, 1), selected(3, 1, 0x40, Some(5))),
+        (by_time(12, -1), selected(1, 1, 0x80, Some(3))),
+        (by_time(13, 1), NOTHING),
+        (by_time(11, -1), NOTHING),
+        (by_time(0, 2), selected(1, 2, 0x80, Some(3))),
+        (by_time(59, -2), selected(2, 2, 0x40, Some(4))),
+    ];
+    for (extent, want) in rows {
+        assert_eq!(rt; log.answer(&extent, WIDE), Ok(want), "{extent:?}");
+    }
+    Ok(())
+}
+
+#[test]
+fn a_time_is_looked_for_in_logged_order(rt: HostRuntime) -> Result<(), Fail> {
+    // the clock went back before the third record
+    let log = log_of(&rt, 5, 0, &[10, 20, 15, 25, 5])?;
+    let rows = [
+        // from the first newer record on, whatever stands behind it
+        (by_time(17, 3), selected(2, 3, 0x00, Some(2))),
+        (by_time(20, 100), selected(4, 2, 0x40, Some(4))),
+        // up to the last older record
+        (by_time(17, -3), selected(3, 3, 0x40, Some(3))),
+        (by_time(5, -1), NOTHING),
+    ];
+    for (extent, want) in rows {
+        assert_eq!(rt; log.answer(&extent, WIDE), Ok(want), "{extent:?}");
+    }
+    Ok(())
+}
+
+#[test]
+fn a_reply_holds_what_fits(rt: HostRuntime) -> Result<(), Fail> {
+    let log = log_of(&rt, 5, 0, &[9, 10, 11, 12, 13])?;
+    // without a first number 17 octets and 19 for each record, with it 2 more
+    let rows = [
+        (Extent::All, 36, selected(1, 1, 0xa0, None)),
+        (Extent::All, 54, selected(1, 1, 0xa0, None)),
+        (Extent::All, 55, selected(1, 2, 0xa0, None)),
+        (Extent::All, 111, selected(1, 4, 0xa0, None)),
+        (Extent::All, 112, selected(1, 5, 0xc0, None)),
+        (by_number(1, 3), 76, selected(1, 3, 0x80, Some(1))),
+        (by_number(1, 3), 75, selected(1, 2, 0xa0, Some(1))),
+        (by_number(3, 100), 50, selected(3, 1, 0x20, Some(3))),
+        // the first of them is taken, for a count below 0 too
+        (by_number(5, -3), 57, selected(3, 2, 0x20, Some(3))),
+        (by_time(9, 4), 38, selected(2, 1, 0x20, Some(2))),
+    ];
+    for (extent, limit, want) in rows {
+        assert_eq!(rt; log.answer(&extent, limit), Ok(want), "{extent:?} {limit}");
+    }
+    Ok(())
+}
+
+#[test]
+fn not_one_record_fits(rt: HostRuntime) -> Result<(), Fail> {
+    let log = log_of(&rt, 5, 0, &[9, 10])?;
+    assert_eq!(rt; log.answer(&Extent::All, 35), Err(TooSmall));
+    assert_eq!(rt; log.answer(&by_number(1, 1), 37), Err(TooSmall));
+    assert_eq!(rt; log.answer(&Extent::All, 0), Err(TooSmall));
+    // where none is asked for, none has to fit
+    assert_eq!(rt; log.answer(&by_number(3, 1), 0), Ok(NOTHING));
+    let empty = log_of(&rt, 5, 0, &[])?;
+    assert_eq!(rt; empty.answer(&Extent::All, 0), Ok(NOTHING));
+    Ok(())
+}
+
+#[test]
+fn the_last_numbers_are_selected(rt: HostRuntime) -> Result<(), Fail> {
+    let log = log_of(&rt, 2, 4294967291, &[9, 10, 11])?;
+    // the first number takes 5 octets
+    let rows = [
+        (
+            by_number(4294967293, 2),
+            60,
+            selected(1, 2, 0xc0, Some(4294967293)),
+        ),
+        (
+            by_number(4294967293, 2),
+            59,
+            selected(1, 1, 0xa0, Some(4294967293)),
+        ),
+        (
+            by_number(4294967294, 2147483647),
+            1476,
+            selected(2, 1, 0x40, Some(4294967294)),
+        ),
+        (by_number(4294967295, -1), 1476, NOTHING),
+        (
+            by_number(4294967295, -2),
+            1476,
+            selected(2, 1, 0x40, Some(4294967294)),
+        ),
+    ];
+    for (extent, limit, want) in rows {
+        assert_eq!(rt; log.answer(&extent, limit), Ok(want), "{extent:?} {limit}");
+    }
+    Ok(())
+}
+
+#[test]
+fn a_full_log_of_65535_records_answers(rt: HostRuntime) -> Result<(), Fail> {
+    let mut log = TrendLog::new(rt.alloc(), 65535, 0)?;
+    for index in 0u32..65535 {
+        log.append(sample((index / 1100) as u8)?)
+            .ok()
+            .ok_or("cycle full")?;
+    }
+    // 60 seconds of 1,100 records each, but 635 in the last
+    let rows = [
+        (by_position(65535, 1), selected(65535, 1, 0x40, None)),
+        (
+            by_number(65436, 100),
+            selected(65436, 76, 0x20, Some(65436)),
+        ),
+        (by_time(58, 1), selected(64901, 1, 0x00, Some(64901))),
+        (by_time(1, -1), selected(1100, 1, 0x00, Some(1100))),
+        (Extent::All, selected(1, 76, 0xa0, None)),
+    ];
+    for (extent, want) in rows {
+        assert_eq!(rt; log.answer(&extent, WIDE), Ok(want), "{extent:?}");
+    }
+    Ok(())
+}
