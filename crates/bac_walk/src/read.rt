@@ -41,12 +41,14 @@ fn parameters_inside(datagram: &[u8]) -> Option<&[u8]>
     ensures { GivesSome (λ p. p.now) result (parameters_in (apdu_in datagram.now)) }
 {
     match read_datagram(datagram) {
-        Some(Apdu::Complex {
-            segmented,
-            service,
-            parameters,
-            ..
-        }) => {
+        Some(
+            Apdu::Complex {
+                segmented,
+                service,
+                parameters,
+                ..
+            },
+        ) => {
             if segmented {
                 return None;
             }
