@@ -7,7 +7,7 @@ use bac_walk::{
     BadReply, Ended, Gap, Numbered, Progress, Sink, Step, Walk, WalkFault, Why, collect, deliver,
     stop_and_resume,
 };
-use bac_wire::{Date4, Datagram, ObjectId, Time4};
+use bac_wire::{Datagram, Date4, ObjectId, Time4};
 use std::test::Fail;
 
 /// By number 1, count 100, of Trend Log 1, invoke ID 1.
@@ -23,7 +23,9 @@ const FROM_OLDEST: [u8; 31] = [
 ];
 
 /// Error of ReadRange: class object, code unknown-object.
-const UNKNOWN: [u8; 13] = [0x81, 0x0a, 0, 0x0d, 1, 0, 0x50, 1, 0x1a, 0x91, 1, 0x91, 0x1f];
+const UNKNOWN: [u8; 13] = [
+    0x81, 0x0a, 0, 0x0d, 1, 0, 0x50, 1, 0x1a, 0x91, 1, 0x91, 0x1f,
+];
 
 /// No answer.
 const NONE: [u8; 0] = [];
@@ -31,8 +33,8 @@ const NONE: [u8; 0] = [];
 /// An ACK without records.
 fn empty(invoke: u8) -> [u8; 23] {
     [
-        0x81, 0x0a, 0, 0x17, 1, 0, 0x30, invoke, 0x1a, 0x0c, 5, 0, 0, 1, 0x19, 0x83, 0x3a, 5, 0, 0x49,
-        0, 0x5e, 0x5f,
+        0x81, 0x0a, 0, 0x17, 1, 0, 0x30, invoke, 0x1a, 0x0c, 5, 0, 0, 1, 0x19, 0x83, 0x3a, 5, 0,
+        0x49, 0, 0x5e, 0x5f,
     ]
 }
 
@@ -40,8 +42,8 @@ fn empty(invoke: u8) -> [u8; 23] {
 fn one(invoke: u8, number: u8) -> [u8; 44] {
     [
         0x81, 0x0a, 0, 0x2c, 1, 0, 0x30, invoke, 0x1a, 0x0c, 5, 0, 0, 1, 0x19, 0x83, 0x3a, 5, 0xc0,
-        0x49, 1, 0x5e, 0x0e, 0xa4, 0x7c, 5, 6, 1, 0xb4, 7, 8, 9, 0x0a, 0x0f, 0x1e, 0x39, 0, 0x1f, 0x2a,
-        4, 0, 0x5f, 0x69, number,
+        0x49, 1, 0x5e, 0x0e, 0xa4, 0x7c, 5, 6, 1, 0xb4, 7, 8, 9, 0x0a, 0x0f, 0x1e, 0x39, 0, 0x1f,
+        0x2a, 4, 0, 0x5f, 0x69, number,
     ]
 }
 
@@ -49,9 +51,9 @@ fn one(invoke: u8, number: u8) -> [u8; 44] {
 fn two(invoke: u8, number: u8) -> [u8; 63] {
     [
         0x81, 0x0a, 0, 0x3f, 1, 0, 0x30, invoke, 0x1a, 0x0c, 5, 0, 0, 1, 0x19, 0x83, 0x3a, 5, 0xc0,
-        0x49, 2, 0x5e, 0x0e, 0xa4, 0x7c, 5, 6, 1, 0xb4, 7, 8, 9, 0x0a, 0x0f, 0x1e, 0x39, 0, 0x1f, 0x2a,
-        4, 0, 0x0e, 0xa4, 0x7c, 5, 6, 1, 0xb4, 7, 8, 9, 0x0a, 0x0f, 0x1e, 0x39, 0, 0x1f, 0x2a, 4, 0,
-        0x5f, 0x69, number,
+        0x49, 2, 0x5e, 0x0e, 0xa4, 0x7c, 5, 6, 1, 0xb4, 7, 8, 9, 0x0a, 0x0f, 0x1e, 0x39, 0, 0x1f,
+        0x2a, 4, 0, 0x0e, 0xa4, 0x7c, 5, 6, 1, 0xb4, 7, 8, 9, 0x0a, 0x0f, 0x1e, 0x39, 0, 0x1f,
+        0x2a, 4, 0, 0x5f, 0x69, number,
     ]
 }
 
@@ -206,9 +208,21 @@ fn a_batch_has_the_gap_before_it(rt: HostRuntime) -> Result<(), Fail> {
     let Ok(Progress::Batch(batch)) = walk.take(&two(1, 3)[9..]) else {
         return Err(Fail::from("no batch"));
     };
-    assert_eq!(rt; batch.gap, Some(Gap { first: 1, before: 3 }));
+    assert_eq!(rt;
+        batch.gap,
+        Some(Gap {
+            first: 1,
+            before: 3
+        })
+    );
     assert_eq!(rt; batch.entries.len(), 2);
-    assert_eq!(rt; batch.entries.as_slice()[1], Numbered { number: 4, entry: RECORD });
+    assert_eq!(rt;
+        batch.entries.as_slice()[1],
+        Numbered {
+            number: 4,
+            entry: RECORD
+        }
+    );
     assert_eq!(rt; walk.next_number(), 5);
     let mut walk = walk_from_oldest()?;
     let Ok(Progress::Batch(batch)) = walk.take(&one(1, 7)[9..]) else {
@@ -232,7 +246,13 @@ fn a_step_asks_for_the_oldest_where_none_came(rt: HostRuntime) -> Result<(), Fai
     let Ok(Step::Batch(batch)) = walk.step(&mut link, &mut Transactions::new(0)) else {
         return Err(Fail::from("no batch"));
     };
-    assert_eq!(rt; batch.gap, Some(Gap { first: 3, before: 200 }));
+    assert_eq!(rt;
+        batch.gap,
+        Some(Gap {
+            first: 3,
+            before: 200
+        })
+    );
     assert_eq!(rt; walk.next_number(), 201);
     Ok(())
 }
@@ -252,7 +272,14 @@ fn items_are_collected_until_the_walk_is_caught_up(rt: HostRuntime) -> Result<()
     let outcome = collect(rt.alloc(), &mut link, &mut transactions, &mut walk, 10);
     assert_eq!(rt; outcome.why, Why::CaughtUp);
     assert_eq!(rt; outcome.next, 5);
-    let items = [Item::Gap { first: 1, before: 3 }, logged(3), logged(4)];
+    let items = [
+        Item::Gap {
+            first: 1,
+            before: 3,
+        },
+        logged(3),
+        logged(4),
+    ];
     assert_eq!(rt; outcome.items.as_slice(), items.as_slice());
     Ok(())
 }
@@ -266,7 +293,13 @@ fn a_lost_question_and_a_refusal_keep_what_came(rt: HostRuntime) -> Result<(), F
         failures: 0,
     };
     let mut walk = walk_from(1)?;
-    let outcome = collect(rt.alloc(), &mut link, &mut Transactions::new(3), &mut walk, 10);
+    let outcome = collect(
+        rt.alloc(),
+        &mut link,
+        &mut Transactions::new(3),
+        &mut walk,
+        10,
+    );
     assert_eq!(rt; outcome.why, Why::Fault(WalkFault::Lost));
     assert_eq!(rt; outcome.next, 2);
     assert_eq!(rt; outcome.items.as_slice(), [logged(1)].as_slice());
@@ -277,11 +310,26 @@ fn a_lost_question_and_a_refusal_keep_what_came(rt: HostRuntime) -> Result<(), F
         failures: 0,
     };
     let mut walk = walk_from_oldest()?;
-    let outcome = collect(rt.alloc(), &mut link, &mut Transactions::new(3), &mut walk, 10);
-    assert_eq!(rt; outcome.why, Why::Fault(WalkFault::Refused(Refusal::Error(1, 31))));
+    let outcome = collect(
+        rt.alloc(),
+        &mut link,
+        &mut Transactions::new(3),
+        &mut walk,
+        10,
+    );
+    assert_eq!(rt;
+        outcome.why,
+        Why::Fault(WalkFault::Refused(Refusal::Error(1, 31)))
+    );
     assert_eq!(rt; outcome.next, 1);
     assert_eq!(rt; outcome.items.len(), 0);
-    let outcome = collect(rt.alloc(), &mut link, &mut Transactions::new(3), &mut walk, 0);
+    let outcome = collect(
+        rt.alloc(),
+        &mut link,
+        &mut Transactions::new(3),
+        &mut walk,
+        0,
+    );
     assert_eq!(rt; outcome.why, Why::StepLimit);
     Ok(())
 }
@@ -306,7 +354,13 @@ fn a_stopped_walk_goes_on_behind_the_record(rt: HostRuntime) -> Result<(), Fail>
     let ended = deliver(&mut link, &mut transactions, &mut walk, 10, &mut sink);
     assert_eq!(rt; ended, Ended::Stopped);
     assert_eq!(rt; walk.next_number(), 4);
-    let items = [Item::Gap { first: 1, before: 3 }, logged(3)];
+    let items = [
+        Item::Gap {
+            first: 1,
+            before: 3,
+        },
+        logged(3),
+    ];
     assert_eq!(rt; sink.items.as_slice(), items.as_slice());
     let ended = deliver(&mut link, &mut transactions, &mut walk, 10, &mut sink);
     assert_eq!(rt; ended, Ended::CaughtUp);
@@ -337,7 +391,15 @@ fn a_walk_is_resumed_into_another_sink(rt: HostRuntime) -> Result<(), Fail> {
         items: Vec::new(rt.alloc()),
     };
     let mut transactions = Transactions::new(0);
-    let ended = stop_and_resume(&mut link, &mut transactions, &mut walk, 5, &mut sink, 1, &mut rest);
+    let ended = stop_and_resume(
+        &mut link,
+        &mut transactions,
+        &mut walk,
+        5,
+        &mut sink,
+        1,
+        &mut rest,
+    );
     assert_eq!(rt; ended, (Ended::Stopped, Ended::StepLimit));
     assert_eq!(rt; sink.items.as_slice(), [logged(1)].as_slice());
     assert_eq!(rt; rest.items.as_slice(), [logged(2)].as_slice());

@@ -52,10 +52,10 @@ held_part H m first c above low =
     let place : (m.oldest - (H.logged + 1)) + (first - m.oldest) ≡ first - (H.logged + 1) = omega arith in
     let rest : List Entry = drop (m.oldest - (H.logged + 1)) H.entries in
     ap (λ (l : List Entry). take c l) (
-      drop_take (first - m.oldest) (m.newest + 1 - m.oldest) rest
-      ∙ ap (λ n. take n (drop (first - m.oldest) rest)) size
-      ∙ ap (λ (l : List Entry). take (m.newest + 1 - first) l) (drop-drop (first - m.oldest) (m.oldest - (H.logged + 1)) H.entries)
-      ∙ ap (λ n. take (m.newest + 1 - first) (drop n H.entries)) place
+    drop_take (first - m.oldest) (m.newest + 1 - m.oldest) rest
+    ∙ ap (λ n. take n (drop (first - m.oldest) rest)) size
+    ∙ ap (λ (l : List Entry). take (m.newest + 1 - first) l) (drop-drop (first - m.oldest) (m.oldest - (H.logged + 1)) H.entries)
+    ∙ ap (λ n. take (m.newest + 1 - first) (drop n H.entries)) place
     )
     ∙ take_min c (m.newest + 1 - first) (drop (first - (H.logged + 1)) H.entries)
 
@@ -91,7 +91,7 @@ packed-numbered r wanted first es =
     let q : ℕ → Bool = λ n. nat_le (ack_length (Some (number first)) (take n es)) r in
     let size : length (numbered first es) ≡ length es = length-numbered first es in
     let count : greatest p (length (numbered first es)) ≡ fitting r first es =
-        ap (λ n. greatest p n) size ∙ greatest_same p q (length es) (λ k a b. ap (λ n. nat_le n r) (octets_same wanted first k es a b)) in
+    ap (λ n. greatest p n) size ∙ greatest_same p q (length es) (λ k a b. ap (λ n. nat_le n r) (octets_same wanted first k es a b)) in
     ap (λ n. take n (numbered first es)) count ∙ take-numbered (fitting r first es) first es
 
 pub fitting_most : (r first : ℕ) (es : List Entry) → fitting r first es ≤ length es
@@ -195,8 +195,8 @@ module _ (m : Moment) (H : History) (sound : IsMoment H.logged m) (within : m.ne
       let f : ℕ = first_asked wanted m in
       let n : ℕ = how_many r H wanted m in
       let size : length (entries_from H f n) ≡ n =
-          ap (λ (l : List Entry). length l) (sym (take_min n (asked_count wanted m) (drop (f - (H.logged + 1)) H.entries) ∙ ap (λ k. entries_from H f k) (let e : min n (asked_count wanted m) ≡ n = omega (arith, many_most r wanted) in e)))
-          ∙ length-take-le n (entries_from H f (asked_count wanted m)) (omega (arith, many_most r wanted, length_asked wanted)) in
+      ap (λ (l : List Entry). length l) (sym (take_min n (asked_count wanted m) (drop (f - (H.logged + 1)) H.entries) ∙ ap (λ k. entries_from H f k) (let e : min n (asked_count wanted m) ≡ n = omega (arith, many_most r wanted) in e)))
+      ∙ length-take-le n (entries_from H f (asked_count wanted m)) (omega (arith, many_most r wanted, length_asked wanted)) in
       record {
         entries = ap (λ (rs : List Logged). entries_in rs) (packed-is r wanted) ∙ entries_in-numbered f (entries_from H f n);
         first_is = λ some. ap (λ (rs : List Logged). first_shown (extent_of wanted) rs) (packed-is r wanted) ∙ first-numbered wanted f (entries_from H f n) (omega (arith, size, some));

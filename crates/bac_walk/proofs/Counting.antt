@@ -6,7 +6,7 @@ use Rattle.std.specs.Result.{result_ok}
 use Rattle.bac_wire.specs.declared.fault.WireFault.{WireFault}
 use Rattle.bac_wire.specs.declared.fault.WireFault.TheVariants.{Ended}
 use Rattle.bac_log.specs.declared.entry.Entry.{Entry}
-use Rattle.bac_log.specs.Record.{entry_at, entries_at}
+use Rattle.bac_log.specs.RecordReading.{entry_at, entries_at}
 
 ok_of : {A : Type 0} (r : Result A WireFault) (x : A) → result_ok r ≡ Some x → r ≡ Ok x
 ok_of (Ok y) x e = cc

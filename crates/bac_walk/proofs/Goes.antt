@@ -62,6 +62,7 @@ goes_batch log next s first false asks e es items past fit is =
     ahead_of true false most within past fit = absurd (cc)
     ahead_of false false true within past fit = absurd (cc)
     ahead_of false false false within past fit = absurd (cc)
+
     gone : (lt : Bool) → nat_lt 0 (distance next first) ≡ lt → is_ahead next first ≡ true →
         items ≡ (if nat_lt 0 (distance next first) then Gap next first ∷ [] else []) ++ shown_from first (e ∷ es) →
         Goes false next s items false (number_after first (length (e ∷ es)))

@@ -100,21 +100,33 @@ shows s t k e (Logged l d ∷ before) after h = shows (s + 1) t k e before after
 -- what is left of the items of any answer
 cut_goes : (fresh : Bool) (before s k : ℕ) (e : Entry) (pre post : List Item) (after : Bool) (next : ℕ) →
     Goes fresh before s (pre ++ Logged k e ∷ post) after next → Goes fresh before s (pre ++ Logged k e ∷ []) after (number_after k 1)
-cut_goes false before s k e [] post after next goes =
-    ((λ here. let t = goes.0 here in
-      (s + 1, ap (λ n. number_after n 1) (shows s t.0 k e [] post t.2) ∙ after-number s 1, Covers-cut s t.0 k e [] post t.2)), goes.1)
-cut_goes true before s k e [] post after next goes =
-    ((λ here. let t = goes.0 here in
-      (s + 1, ap (λ n. number_after n 1) (shows s t.0 k e [] post t.2) ∙ after-number s 1, Covers-cut s t.0 k e [] post t.2)), goes.1)
-cut_goes false before s k e (p ∷ pre) post after next goes =
-    ((λ here. let t = goes.0 here in
-      (end_of s (p ∷ pre) + 1, ap (λ n. number_after n 1) (shows s t.0 k e (p ∷ pre) post t.2) ∙ after-number (end_of s (p ∷ pre)) 1,
-      Covers-cut s t.0 k e (p ∷ pre) post t.2)), goes.1)
+cut_goes false before s k e [] post after next goes = (
+  (λ here. let t = goes.0 here in
+      (s + 1, ap (λ n. number_after n 1) (shows s t.0 k e [] post t.2) ∙ after-number s 1, Covers-cut s t.0 k e [] post t.2)),
+  goes.1,
+)
+cut_goes true before s k e [] post after next goes = (
+  (λ here. let t = goes.0 here in
+      (s + 1, ap (λ n. number_after n 1) (shows s t.0 k e [] post t.2) ∙ after-number s 1, Covers-cut s t.0 k e [] post t.2)),
+  goes.1,
+)
+cut_goes false before s k e (p ∷ pre) post after next goes = (
+  (λ here. let t = goes.0 here in (
+    end_of s (p ∷ pre) + 1,
+    ap (λ n. number_after n 1) (shows s t.0 k e (p ∷ pre) post t.2) ∙ after-number (end_of s (p ∷ pre)) 1,
+    Covers-cut s t.0 k e (p ∷ pre) post t.2,
+  )),
+  goes.1,
+)
 cut_goes true before s k e (Gap f b ∷ pre) post after next goes = absurd goes
-cut_goes true before s k e (Logged l d ∷ pre) post after next goes =
-    ((λ here. let t = goes.0 here in
-      (end_of s (Logged l d ∷ pre) + 1, ap (λ n. number_after n 1) (shows s t.0 k e (Logged l d ∷ pre) post t.2) ∙ after-number (end_of s (Logged l d ∷ pre)) 1,
-      Covers-cut s t.0 k e (Logged l d ∷ pre) post t.2)), goes.1)
+cut_goes true before s k e (Logged l d ∷ pre) post after next goes = (
+  (λ here. let t = goes.0 here in (
+    end_of s (Logged l d ∷ pre) + 1,
+    ap (λ n. number_after n 1) (shows s t.0 k e (Logged l d ∷ pre) post t.2) ∙ after-number (end_of s (Logged l d ∷ pre)) 1,
+    Covers-cut s t.0 k e (Logged l d ∷ pre) post t.2,
+  )),
+  goes.1,
+)
 
 -- the first item of a batch that was cut
 first_of : (pre : List Item) (z : Item) → (y : Item) × (ys : List Item) × (pre ++ z ∷ [] ≡ y ∷ ys)
@@ -163,8 +175,14 @@ cut_run r H M true next retries old new t k e pre post ((x ∷ b) ∷ []) run =
       count = refl;
       some = omega arith;
       run = record {
-        covers = c.0; all = append-nil (f.0 ∷ f.1); each = (c.1, tt); twice_steps = omega arith; twice_batches = omega arith; paced = tt;
-        whole = (post, c.2 ∙ run.whole); end = (omega arith, omega arith, tt);
+        covers = c.0;
+        all = append-nil (f.0 ∷ f.1);
+        each = (c.1, tt);
+        twice_steps = omega arith;
+        twice_batches = omega arith;
+        paced = tt;
+        whole = (post, c.2 ∙ run.whole);
+        end = (omega arith, omega arith, tt);
       };
     })
 cut_run r H M false next retries old new t k e pre post ((x ∷ b) ∷ []) run =
@@ -178,8 +196,14 @@ cut_run r H M false next retries old new t k e pre post ((x ∷ b) ∷ []) run =
       count = refl;
       some = omega arith;
       run = record {
-        covers = c.0; all = append-nil (f.0 ∷ f.1); each = (c.1, tt); twice_steps = omega arith; twice_batches = omega arith; paced = tt;
-        whole = (post, c.2 ∙ run.whole); end = (omega arith, omega arith, tt);
+        covers = c.0;
+        all = append-nil (f.0 ∷ f.1);
+        each = (c.1, tt);
+        twice_steps = omega arith;
+        twice_batches = omega arith;
+        paced = tt;
+        whole = (post, c.2 ∙ run.whole);
+        end = (omega arith, omega arith, tt);
       };
     })
 cut_run r H M true next retries old new t k e pre post ([] ∷ (x ∷ b) ∷ []) run =
@@ -193,8 +217,14 @@ cut_run r H M true next retries old new t k e pre post ([] ∷ (x ∷ b) ∷ [])
       count = refl;
       some = omega arith;
       run = record {
-        covers = c.0; all = append-nil (f.0 ∷ f.1); each = (c.1, tt); twice_steps = omega arith; twice_batches = omega arith; paced = (run.paced.0, tt);
-        whole = (post, c.2 ∙ run.whole); end = (omega arith, omega arith, tt);
+        covers = c.0;
+        all = append-nil (f.0 ∷ f.1);
+        each = (c.1, tt);
+        twice_steps = omega arith;
+        twice_batches = omega arith;
+        paced = (run.paced.0, tt);
+        whole = (post, c.2 ∙ run.whole);
+        end = (omega arith, omega arith, tt);
       };
     })
 cut_run r H M false next retries old new t k e pre post ([] ∷ (x ∷ b) ∷ []) run =
@@ -208,8 +238,14 @@ cut_run r H M false next retries old new t k e pre post ([] ∷ (x ∷ b) ∷ []
       count = refl;
       some = omega arith;
       run = record {
-        covers = c.0; all = append-nil (f.0 ∷ f.1); each = (c.1, tt); twice_steps = omega arith; twice_batches = omega arith; paced = (run.paced.0, tt);
-        whole = (post, c.2 ∙ run.whole); end = (omega arith, omega arith, tt);
+        covers = c.0;
+        all = append-nil (f.0 ∷ f.1);
+        each = (c.1, tt);
+        twice_steps = omega arith;
+        twice_batches = omega arith;
+        paced = (run.paced.0, tt);
+        whole = (post, c.2 ∙ run.whole);
+        end = (omega arith, omega arith, tt);
       };
     })
 
@@ -218,17 +254,19 @@ abbrev pub IsStep : (ℕ → List Moment → History → Type 0) → (ℕ → Li
 IsStep was is retries old new before after z =
     ((s : ℕ) → Goes before.fresh before.next s (step_items z) after.fresh after.next)
     × ((r : ℕ) (M : List Moment) (H : History) (s : ℕ) → was r M H → before.next ≡ number s →
-        (answers : List (List Item)) × (t : ℕ) × (after.next ≡ number t)
-        × Collected r H M before.fresh s 1 retries old new (step_items z) t (step_ended z) answers
-        × is r (after_answers (length answers) M) H × (after.fresh ≡ is_fresh_after before.fresh z))
+    (answers : List (List Item)) × (t : ℕ) × (after.next ≡ number t)
+    × Collected r H M before.fresh s 1 retries old new (step_items z) t (step_ended z) answers
+    × is r (after_answers (length answers) M) H × (after.fresh ≡ is_fresh_after before.fresh z))
 
 -- a step is a run of one step
 run_of_step : (was is : ℕ → List Moment → History → Type 0) (retries old new : ℕ) (before after : Place) (z : Result Step WalkFault) →
     IsStep was is retries old new before after z → IsRun was is retries old new before after 1 (step_ended z) (step_items z)
-run_of_step was is retries old new before after z step =
-    (step.0, λ r M H s honest next.
+run_of_step was is retries old new before after z step = (
+  step.0,
+  λ r M H s honest next.
       let run = step.1 r M H s honest next in
-      (run.0, run.1, run.2, run.3, run.4, step_fresh r H M before.fresh after.fresh s retries old new run.1 z run.0 run.3 run.5))
+      (run.0, run.1, run.2, run.3, run.4, step_fresh r H M before.fresh after.fresh s retries old new run.1 z run.0 run.3 run.5),
+)
 
 -- a batch ends what is special about a walk from the oldest record
 old_after : (fresh : Bool) (before s k : ℕ) (e : Entry) (pre post : List Item) (after : Bool) (next : ℕ) →
@@ -245,16 +283,16 @@ run_of_cut : (was is : ℕ → List Moment → History → Type 0) (retries old 
     IsRun was is retries old new before (record { log = after.log; next = number_after k 1; fresh = false; asks_oldest = false }) 1 Stopped (pre ++ Logged k e ∷ [])
 run_of_cut was is retries old new k e before after pre post run = (
   (λ s.
-    let P : Bool → Type 0 = λ f. Goes before.fresh before.next s (pre ++ Logged k e ∷ []) f (number_after k 1) in
-    subst P (old_after before.fresh before.next s k e pre post after.fresh after.next (run.0 s))
-    (cut_goes before.fresh before.next s k e pre post after.fresh after.next (run.0 s))),
+      let P : Bool → Type 0 = λ f. Goes before.fresh before.next s (pre ++ Logged k e ∷ []) f (number_after k 1) in
+      subst P (old_after before.fresh before.next s k e pre post after.fresh after.next (run.0 s))
+      (cut_goes before.fresh before.next s k e pre post after.fresh after.next (run.0 s))),
   (λ r M H s honest next.
-    let whole = run.1 r M H s honest next in
-    let c = cut_run r H M before.fresh s retries old new whole.1 k e pre post whole.0 whole.3 in
-    let P : ℕ → Type 0 = λ a. is r (after_answers a M) H in
-    let some : 0 < batches whole.0 = omega (arith, whole.3.end.0) in
-    let fresh : IsFreshAfter before.fresh c.cut false = record { none = λ h. absurd (omega (arith, h, c.some)); some = λ h. refl } in
-    (c.cut, c.t, c.shown, c.run, subst P (sym c.count) whole.4, fresh)),
+      let whole = run.1 r M H s honest next in
+      let c = cut_run r H M before.fresh s retries old new whole.1 k e pre post whole.0 whole.3 in
+      let P : ℕ → Type 0 = λ a. is r (after_answers a M) H in
+      let some : 0 < batches whole.0 = omega (arith, whole.3.end.0) in
+      let fresh : IsFreshAfter before.fresh c.cut false = record { none = λ h. absurd (omega (arith, h, c.some)); some = λ h. refl } in
+      (c.cut, c.t, c.shown, c.run, subst P (sym c.count) whole.4, fresh)),
 )
 
 map-append : (xs ys : List Numbered) → map item_of (xs ++ ys) ≡ map item_of xs ++ map item_of ys
@@ -267,10 +305,13 @@ of_batch : {S : Type 0} (puts : S → Option GapOf → Numbered → Bool → S �
     IsRun was is retries old new before mid 1 StepLimit (items_in b) → PutAll puts sink b.gap b.entries.items refused left →
     Delivery puts sink left was is retries old new before (walk_after mid refused) 1 (ended_after refused)
 of_batch puts sink left was is retries old new before mid b None most some run put =
-    let P : List Item → Type 0 = λ l. IsRun was is retries old new before mid 1 StepLimit l in
-    (calls_of b.gap b.entries.items, put_whole puts sink b.gap b.entries.items left put,
-    omega (arith, length-calls b.gap b.entries.items), gaps-one b.gap b.entries.items,
-    subst P (sym (items-calls b.gap b.entries.items some)) run)
+    let P : List Item → Type 0 = λ l. IsRun was is retries old new before mid 1 StepLimit l in (
+      calls_of b.gap b.entries.items,
+      put_whole puts sink b.gap b.entries.items left put,
+      omega (arith, length-calls b.gap b.entries.items),
+      gaps-one b.gap b.entries.items,
+      subst P (sym (items-calls b.gap b.entries.items some)) run,
+    )
 of_batch puts sink left was is retries old new before mid b (Some n) most some run put =
     let c = put_up_to puts sink b.gap b.entries.items n left put in
     let pre = gap_items b.gap ++ map item_of c.before in
@@ -285,11 +326,13 @@ of_batch puts sink left was is retries old new before mid b (Some n) most some r
     ∙ sym (append_assoc (gap_items b.gap) (map item_of c.before) (one ∷ [])) in
     let P : List Item → Type 0 = λ l. IsRun was is retries old new before mid 1 StepLimit l in
     let Q : ℕ → Type 0 = λ m. IsRun was is retries old new before (record { log = mid.log; next = number_after m 1; fresh = false; asks_oldest = false }) 1 Stopped (pre ++ one ∷ []) in
-    let R : List Item → Type 0 = λ l. IsRun was is retries old new before (record { log = mid.log; next = number_after n 1; fresh = false; asks_oldest = false }) 1 Stopped l in
-    (calls_of b.gap (c.before ++ c.last ∷ []), c.takes,
-    omega (arith, length-calls b.gap (c.before ++ c.last ∷ []), ap length c.is, length-append c.before (c.last ∷ c.after), length-append c.before (c.last ∷ [])),
-    gaps-one b.gap (c.before ++ c.last ∷ []),
-    subst R (sym cut) (subst Q c.shown (run_of_cut was is retries old new c.last.number c.last.entry before mid pre post (subst P whole run))))
+    let R : List Item → Type 0 = λ l. IsRun was is retries old new before (record { log = mid.log; next = number_after n 1; fresh = false; asks_oldest = false }) 1 Stopped l in (
+      calls_of b.gap (c.before ++ c.last ∷ []),
+      c.takes,
+      omega (arith, length-calls b.gap (c.before ++ c.last ∷ []), ap length c.is, length-append c.before (c.last ∷ c.after), length-append c.before (c.last ∷ [])),
+      gaps-one b.gap (c.before ++ c.last ∷ []),
+      subst R (sym cut) (subst Q c.shown (run_of_cut was is retries old new c.last.number c.last.entry before mid pre post (subst P whole run))),
+    )
 
 -- a step and what was made of it
 pub handed : {S : Type 0} (puts : S → Option GapOf → Numbered → Bool → S → Type 0) (sink left : S) (was is : ℕ → List Moment → History → Type 0)

@@ -24,6 +24,8 @@ pub leads : (H : History) (M : List Moment) (s : ℕ) (answers : List (List Item
 leads H M s [] each = refl
 leads H M s ([] ∷ answers) each = (s, refl, leads H (later M) s answers each)
 leads H M s ((x ∷ xs) ∷ answers) each =
-    let P : ℕ → Type 0 = λ n. Leads H (later M) (end_of s (x ∷ xs)) answers n in
-    (end_of s (x ∷ xs), brings H (now M) s (x ∷ xs) each.0,
-    subst P (sym (end_of-append s (x ∷ xs) (items_of answers))) (leads H (later M) (end_of s (x ∷ xs)) answers each.1))
+    let P : ℕ → Type 0 = λ n. Leads H (later M) (end_of s (x ∷ xs)) answers n in (
+      end_of s (x ∷ xs),
+      brings H (now M) s (x ∷ xs) each.0,
+      subst P (sym (end_of-append s (x ∷ xs) (items_of answers))) (leads H (later M) (end_of s (x ∷ xs)) answers each.1),
+    )

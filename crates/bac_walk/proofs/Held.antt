@@ -4,7 +4,6 @@ use Rattle.std.proofs.lemmas.Bool.{ltb-true}
 use Rattle.bac_link.specs.Moments.{AreServed, IsMoment, Change, Append, Purge, changed, changed_all}
 use Rattle.bac_link.specs.Delivery.{History, Moment, now, later}
 
-
 -- a later moment of one log, whose numbers are in range
 pub record Rises (m n : Moment) : Type 0 where
   pub oldest : m.oldest ≤ n.oldest
@@ -69,4 +68,3 @@ Rises-later r (m ∷ []) H s = record { oldest = omega arith; newest = omega ari
 Rises-later r (m ∷ n ∷ M) H s =
     let P : Moment → Type 0 = λ k. Rises m k in
     subst P (sym s.moments.1.0.1) (Follows-all H s.capacity m s.moments.1.0.0 (Sound-now r (m ∷ n ∷ M) H s)).rises
-

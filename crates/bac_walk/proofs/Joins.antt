@@ -70,10 +70,11 @@ AreWhole-append why r H M s [] ys whole first rest = rest
 AreWhole-append why r H M s ([] ∷ []) ys whole first rest = absurd whole
 AreWhole-append why r H M s ([] ∷ [] ∷ xs) ys whole first rest = absurd whole
 AreWhole-append why r H M s ([] ∷ (x ∷ b) ∷ []) [] whole first rest = whole_of why _ _ first
-AreWhole-append why r H M s ([] ∷ (x ∷ b) ∷ []) (y ∷ ys) whole first rest =
-    (first,
-    (let P : ℕ → Type 0 = λ n. AreWhole why r H (later (later M)) false n (y ∷ ys) in
-    subst P (ap (λ l. end_of s l) (append-nil (x ∷ b))) rest))
+AreWhole-append why r H M s ([] ∷ (x ∷ b) ∷ []) (y ∷ ys) whole first rest = (
+  first,
+  (let P : ℕ → Type 0 = λ n. AreWhole why r H (later (later M)) false n (y ∷ ys) in
+      subst P (ap (λ l. end_of s l) (append-nil (x ∷ b))) rest),
+)
 AreWhole-append why r H M s ([] ∷ (x ∷ b) ∷ z ∷ xs) ys whole first rest = (
   first.0,
   AreWhole-append why r H (later (later M)) (end_of s (x ∷ b)) (z ∷ xs) ys whole first.1
@@ -81,10 +82,11 @@ AreWhole-append why r H M s ([] ∷ (x ∷ b) ∷ z ∷ xs) ys whole first rest 
       subst P (end_of-append s (x ∷ b) (items_of (z ∷ xs))) rest),
 )
 AreWhole-append why r H M s ((x ∷ b) ∷ []) [] whole first rest = whole_of why _ _ first
-AreWhole-append why r H M s ((x ∷ b) ∷ []) (y ∷ ys) whole first rest =
-    (first,
-    (let P : ℕ → Type 0 = λ n. AreWhole why r H (later M) false n (y ∷ ys) in
-    subst P (ap (λ l. end_of s l) (append-nil (x ∷ b))) rest))
+AreWhole-append why r H M s ((x ∷ b) ∷ []) (y ∷ ys) whole first rest = (
+  first,
+  (let P : ℕ → Type 0 = λ n. AreWhole why r H (later M) false n (y ∷ ys) in
+      subst P (ap (λ l. end_of s l) (append-nil (x ∷ b))) rest),
+)
 AreWhole-append why r H M s ((x ∷ b) ∷ z ∷ xs) ys whole first rest = (
   first.0,
   AreWhole-append why r H (later M) (end_of s (x ∷ b)) (z ∷ xs) ys whole first.1
@@ -135,12 +137,14 @@ ended_after CaughtUp fresh mid_fresh t M xs ys i retries old mid new same count 
     let Q : List Moment → Type 0 = λ N. NoneFrom t (now N) in
     let R : List Moment → Type 0 = λ N. (now N).newest < (now N).oldest in (
       omega (arith, batches-append xs ys, count, ended.0),
-      (length xs + ended.1.0,
-      omega (arith, length-append xs ys, ended.1.1),
-      subst P (sym (drop-past xs ys ended.1.0)) ended.1.2,
-      subst Q (sym (after_answers-add (length xs) ended.1.0 M)) ended.1.3,
-      λ f none. subst R (sym (after_answers-add (length xs) ended.1.0 M))
-          (ended.1.4 (same (omega (arith, batches-append xs ys, none)) ∙ f) (omega (arith, batches-append xs ys, none)))),
+      (
+        length xs + ended.1.0,
+        omega (arith, length-append xs ys, ended.1.1),
+        subst P (sym (drop-past xs ys ended.1.0)) ended.1.2,
+        subst Q (sym (after_answers-add (length xs) ended.1.0 M)) ended.1.3,
+        λ f none. subst R (sym (after_answers-add (length xs) ended.1.0 M))
+            (ended.1.4 (same (omega (arith, batches-append xs ys, none)) ∙ f) (omega (arith, batches-append xs ys, none))),
+      ),
     )
 ended_after StepLimit fresh mid_fresh t M xs ys i retries old mid new same count whole up ended =
     (omega (arith, batches-append xs ys, count, ended.0), IsWhole-append xs ys whole ended.1)
@@ -275,4 +279,3 @@ step_fresh r H M before after t retries old new u (Err e) ys run is = record {
   none = λ h. is;
   some = λ h. absurd (omega (arith, no_items ys run.all));
 }
-

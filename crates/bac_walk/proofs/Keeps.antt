@@ -20,8 +20,10 @@ kept_all room items old (c ∷ calls) stopped new takes fits =
       | inr more ↦
           let one = more.1 (omega (arith, fits)) in
           let rest = kept_all room items more.0 calls stopped new more.2
-          (omega (arith, fits, one.1, ap length one.2, length-append (items old) (gap_items c.gap ++ item_of c.record_put ∷ []), gap_length c.gap (item_of c.record_put))) in
-          (rest.0, rest.1 ∙ ap (λ l. l ++ put_items calls) one.2
-          ∙ append_assoc (items old) (gap_items c.gap ++ item_of c.record_put ∷ []) (put_items calls)
-          ∙ ap (λ l. items old ++ l) (append_assoc (gap_items c.gap) (item_of c.record_put ∷ []) (put_items calls)))
+          (omega (arith, fits, one.1, ap length one.2, length-append (items old) (gap_items c.gap ++ item_of c.record_put ∷ []), gap_length c.gap (item_of c.record_put))) in (
+            rest.0,
+            rest.1 ∙ ap (λ l. l ++ put_items calls) one.2
+                ∙ append_assoc (items old) (gap_items c.gap ++ item_of c.record_put ∷ []) (put_items calls)
+                ∙ ap (λ l. items old ++ l) (append_assoc (gap_items c.gap) (item_of c.record_put ∷ []) (put_items calls)),
+          )
     ]

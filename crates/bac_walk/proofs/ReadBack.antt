@@ -13,7 +13,8 @@ use Rattle.bac_apdu.proofs.Forms.{form_again}
 use Rattle.bac_log.specs.declared.entry.Entry.{Entry}
 use Rattle.bac_log.specs.Ack.{shown_items, ack_parameters}
 use Rattle.bac_log.specs.Entry.{IsLoggable}
-use Rattle.bac_log.specs.Record.{entry_octets, entries_octets, entries_at}
+use Rattle.bac_log.specs.Record.{entry_octets, entries_octets}
+use Rattle.bac_log.specs.RecordReading.{entries_at}
 use Rattle.bac_log.specs.Select.{Logged, numbered, held, selected, packed, reply_of, reply_length, first_shown, entries_in, shows_number, is_asked, greatest}
 use Rattle.bac_log.specs.TrendLog.{Log, oldest, number}
 use Rattle.bac_log.specs.TrendLog.{newest}

@@ -43,7 +43,7 @@ entries-split H b c d above =
     let at : (b + c) - (H.logged + 1) ≡ (b - (H.logged + 1)) + c = omega arith in
     take-more c d (drop (b - (H.logged + 1)) H.entries)
     ∙ ap (λ l. take c (drop (b - (H.logged + 1)) H.entries) ++ take d l)
-        (sym (drop-more (b - (H.logged + 1)) c H.entries) ∙ ap (λ n. drop n H.entries) (sym at))
+    (sym (drop-more (b - (H.logged + 1)) c H.entries) ∙ ap (λ n. drop n H.entries) (sym at))
 
 numbered-append : (k : ℕ) (es fs : List Entry) → numbered k (es ++ fs) ≡ numbered k es ++ numbered (k + length es) fs
 numbered-append k [] fs = rw add-zero refl
@@ -75,8 +75,7 @@ count_some r H m s far served loggable is held =
     let b = max s m.oldest in
     let c = (min ((if far then max s m.oldest else s) + 99) m.newest + 1) - max s m.oldest in
     let some : (0 < c) × (b + c ≤ m.newest + 1) = at far is in
-    let long : length (entries_from H b c) ≡ c = entries_count H m b c sound within (omega arith) (λ h. some.1) in
-    (
+    let long : length (entries_from H b c) ≡ c = entries_count H m b c sound within (omega arith) (λ h. some.1) in (
       fitting_some r b (entries_from H b c) (omega (arith, served.least)) (omega (arith, sound.most, held))
           (cut_loggable m H sound within loggable b c (omega arith) (omega (arith, some.1))) (omega (arith, long, some.0)),
       omega (arith, fitting_most r b (entries_from H b c), long, some.1),
@@ -178,9 +177,11 @@ rest_resumes H m s shown entry before after sound within is =
     pick true lt = []
     pick false lt = (if lt then Gap (number s) (number m.oldest) ∷ [] else [])
         ++ numbered (max s m.oldest) (entries_from H (max s m.oldest) ((m.newest + 1) - max s m.oldest))
+
     picked : (past : Bool) → nat_lt m.newest (max s m.oldest) ≡ past → pick (nat_lt m.newest (max s m.oldest)) (nat_lt s m.oldest) ≡ (rest_all H m s).items
     picked true e = rw e refl
     picked false e = rw e refl
+
     by_end : (past lt : Bool) → nat_lt m.newest (max s m.oldest) ≡ past → nat_lt s m.oldest ≡ lt →
         pick past lt ≡ before ++ Logged shown entry ∷ after → (k : ℕ) × (shown ≡ number k) × (after ≡ (rest_all H m (k + 1)).items)
     by_end true lt a b eq = nothing before eq

@@ -33,18 +33,18 @@ pub join_run : (was mid is : ℕ → List Moment → History → Type 0) (retrie
 join_run was mid is retries old half new before middle after i ended xs ys first rest up = (
   (λ s. join_goes before.fresh before.next xs middle.fresh middle.next ys after.fresh after.next first.0 rest.0 s),
   (λ r M H s honest next.
-    let a = first.1 r M H s honest next in
-    let b = rest.1 r (after_answers (length a.0) M) H a.1 a.4 a.2 in
-    let P : List Moment → Type 0 = λ N. is r N H in
-    let e : after_answers (length (a.0 ++ b.0)) M ≡ after_answers (length b.0) (after_answers (length a.0) M) =
-    ap (λ n. after_answers n M) (length-append a.0 b.0) ∙ after_answers-add (length a.0) (length b.0) M in (
-      a.0 ++ b.0,
-      b.1,
-      b.2,
-      join r H M before.fresh middle.fresh s i retries old half new xs ys a.1 b.1 ended a.0 b.0 a.3 a.5 b.3 up,
-      subst P (sym e) b.4,
-      fresh_join before.fresh middle.fresh after.fresh a.0 b.0 a.5 b.5,
-    )),
+      let a = first.1 r M H s honest next in
+      let b = rest.1 r (after_answers (length a.0) M) H a.1 a.4 a.2 in
+      let P : List Moment → Type 0 = λ N. is r N H in
+      let e : after_answers (length (a.0 ++ b.0)) M ≡ after_answers (length b.0) (after_answers (length a.0) M) =
+      ap (λ n. after_answers n M) (length-append a.0 b.0) ∙ after_answers-add (length a.0) (length b.0) M in (
+        a.0 ++ b.0,
+        b.1,
+        b.2,
+        join r H M before.fresh middle.fresh s i retries old half new xs ys a.1 b.1 ended a.0 b.0 a.3 a.5 b.3 up,
+        subst P (sym e) b.4,
+        fresh_join before.fresh middle.fresh after.fresh a.0 b.0 a.5 b.5,
+      )),
 )
 
 pub run_early : (was is : ℕ → List Moment → History → Type 0) (retries old new : ℕ) (before after : Place) (i n : ℕ) (ended : Ended) (xs : List Item) →
@@ -52,8 +52,8 @@ pub run_early : (was is : ℕ → List Moment → History → Type 0) (retries o
 run_early was is retries old new before after i n ended xs not_limit le run = (
   run.0,
   (λ r M H s honest next.
-    let a = run.1 r M H s honest next in
-    (a.0, a.1, a.2, ended_early r H M before.fresh s i n retries old new xs a.1 ended a.0 not_limit le a.3, a.4, a.5)),
+      let a = run.1 r M H s honest next in
+      (a.0, a.1, a.2, ended_early r H M before.fresh s i n retries old new xs a.1 ended a.0 not_limit le a.3, a.4, a.5)),
 )
 
 Takes-append : {S : Type 0} (puts : S → Option GapOf → Numbered → Bool → S → Type 0) (old mid new : S) (xs ys : List Call) (stopped : Bool) →

@@ -98,12 +98,14 @@ none_left r H M next retries old new none rises (inr past) = record {
   whole = tt;
   end = (
     omega arith,
-    (0,
-    omega arith,
-    refl,
-    (λ k low held.
-        none next (omega arith) (omega arith) (omega (arith, rises.oldest), omega (arith, held.1))),
-    λ f b. absurd (cc)),
+    (
+      0,
+      omega arith,
+      refl,
+      (λ k low held.
+          none next (omega arith) (omega arith) (omega (arith, rises.oldest), omega (arith, held.1))),
+      λ f b. absurd (cc),
+    ),
   );
 }
 
@@ -157,9 +159,14 @@ first_core : (stays : List Moment → Type 0) (r : ℕ) (H : History) (M : List 
     next ≡ number s →
     IsTurned stays r M H s (record { log = log; next = next; fresh = fresh; asks_oldest = false }) retries old new p after →
     asks_next p ≡ false → Stepped stays r H M fresh s retries old new p after
-first_core stays r H M log next s fresh retries old new (Ok (BatchOf b)) after is turned done =
-    (_, turned.0.0, ap (λ (v : Place). v.next) turned.0.3,
-    one_batch r H M fresh s retries old new _ turned.0.0 turned.0.1 turned.0.2 turned.0.4, turned.1, ap (λ (v : Place). v.fresh) turned.0.3)
+first_core stays r H M log next s fresh retries old new (Ok (BatchOf b)) after is turned done = (
+  _,
+  turned.0.0,
+  ap (λ (v : Place). v.next) turned.0.3,
+  one_batch r H M fresh s retries old new _ turned.0.0 turned.0.1 turned.0.2 turned.0.4,
+  turned.1,
+  ap (λ (v : Place). v.fresh) turned.0.3,
+)
 first_core stays r H M log next s fresh retries old new (Ok AskOldest) after is turned done = absurd (cc)
 first_core stays r H M log next s true retries old new (Ok IsUp) after is turned done =
     elim turned.0.1 [
@@ -185,9 +192,14 @@ second_core : (stays : List Moment → Type 0) (r : ℕ) (H : History) (M : List
     IsTurned stays r (later M) H s (record { log = log; next = next; fresh = fresh; asks_oldest = true }) retries mid new p after →
     Stepped stays r H M fresh s retries old new p after
 second_core stays r H M log next s true retries old mid new p after is rises old_walk none up turned = absurd (cc)
-second_core stays r H M log next s false retries old mid new (Ok (BatchOf b)) after is rises old_walk none up turned =
-    (_, turned.0.0, ap (λ (v : Place). v.next) turned.0.3,
-    idle_batch r H M s retries old new _ turned.0.0 none turned.0.1 turned.0.2 turned.0.4, turned.1, ap (λ (v : Place). v.fresh) turned.0.3)
+second_core stays r H M log next s false retries old mid new (Ok (BatchOf b)) after is rises old_walk none up turned = (
+  _,
+  turned.0.0,
+  ap (λ (v : Place). v.next) turned.0.3,
+  idle_batch r H M s retries old new _ turned.0.0 none turned.0.1 turned.0.2 turned.0.4,
+  turned.1,
+  ap (λ (v : Place). v.fresh) turned.0.3,
+)
 second_core stays r H M log next s false retries old mid new (Ok AskOldest) after is rises old_walk none up turned = absurd (let e = turned.0.0 in cc)
 second_core stays r H M log next s false retries old mid new (Ok IsUp) after is rises old_walk none up turned = (
   _,

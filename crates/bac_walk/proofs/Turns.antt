@@ -39,9 +39,10 @@ gapped H m s es true is some are =
     let end : s + distance (number s) (number m.oldest) ≡ m.oldest = omega (arith, long) in
     let some_gone : 0 < distance (number s) (number m.oldest) = omega (arith, long) in
     let P : ℕ → Type 0 = λ n. AreRecords H m n (numbered (max s m.oldest) es) in
-    let Q : ℕ → Type 0 = λ n. Covers n (numbered (max s m.oldest) es) (max s m.oldest + length es) in
-    ((refl, refl, some_gone, end, omega (arith, length-numbered (max s m.oldest) es), subst P top are),
-    (refl, some_gone, subst Q (top ∙ sym end) (Covers-numbered (max s m.oldest) es)))
+    let Q : ℕ → Type 0 = λ n. Covers n (numbered (max s m.oldest) es) (max s m.oldest + length es) in (
+      (refl, refl, some_gone, end, omega (arith, length-numbered (max s m.oldest) es), subst P top are),
+      (refl, some_gone, subst Q (top ∙ sym end) (Covers-numbered (max s m.oldest) es)),
+    )
 gapped H m s es false is some are =
     let ge : m.oldest ≤ s = ltb-false s m.oldest is in
     let same : max s m.oldest ≡ s = omega arith in

@@ -6,7 +6,7 @@ use Rattle.bac_wire.specs.Primitive.{Id}
 use Rattle.bac_apdu.specs.Service.ReadRangeAck.{RangeAck, read_range_ack_at}
 use Rattle.bac_log.specs.declared.entry.Entry.{Entry}
 use Rattle.bac_log.specs.Ack.{log_buffer}
-use Rattle.bac_log.specs.Record.{entries_at}
+use Rattle.bac_log.specs.RecordReading.{entries_at}
 
 -- the first number, the count and the records
 pub record Heard : Type 0 where

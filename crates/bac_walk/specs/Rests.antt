@@ -31,9 +31,9 @@ rest_from r H m s (suc steps) =
     if nat_lt m.newest (max s m.oldest)
     then record { items = []; next = s; ended = CaughtUp }
     else
-      (let batch = whole_reply r H m (nat_lt (s + 99) (max s m.oldest)) s in
-      let more = rest_from r H m (end_of s batch) steps in
-      record { items = batch ++ more.items; next = more.next; ended = more.ended })
+    (let batch = whole_reply r H m (nat_lt (s + 99) (max s m.oldest)) s in
+    let more = rest_from r H m (end_of s batch) steps in
+    record { items = batch ++ more.items; next = more.next; ended = more.ended })
 
 -- a walk from the oldest entry, at the ordinal s of its number
 abbrev pub rest_oldest : ℕ → History → Moment → ℕ → ℕ → Rested

@@ -57,9 +57,9 @@ abbrev pub IsRun : (ℕ → List Moment → History → Type 0) → (ℕ → Lis
 IsRun was is retries old new before after steps ended items =
     ((s : ℕ) → Goes before.fresh before.next s items after.fresh after.next)
     × ((r : ℕ) (M : List Moment) (H : History) (s : ℕ) → was r M H → before.next ≡ number s →
-        (answers : List (List Item)) × (t : ℕ) × (after.next ≡ number t)
-        × Collected r H M before.fresh s steps retries old new items t ended answers
-        × is r (after_answers (length answers) M) H × IsFreshAfter before.fresh answers after.fresh)
+    (answers : List (List Item)) × (t : ℕ) × (after.next ≡ number t)
+    × Collected r H M before.fresh s steps retries old new items t ended answers
+    × is r (after_answers (length answers) M) H × IsFreshAfter before.fresh answers after.fresh)
 
 -- such a run into a sink
 abbrev pub Delivery : {S : Type 0} → (S → Option GapOf → Numbered → Bool → S → Type 0) → S → S → (ℕ → List Moment → History → Type 0) → (ℕ → List Moment → History → Type 0) → ℕ → ℕ → ℕ → Place → Place → ℕ → Ended → Type 0

@@ -65,4 +65,3 @@ IsTurn r H m s w AskOldest after =
     (asks_oldest_now w ≡ false) × NoneOfHundred s m × (after ≡ record w { asks_oldest = true })
 IsTurn r H m s w IsUp after =
     (asks_oldest_now w ≡ true) × ((m.newest < m.oldest) ⊎ ((w.fresh ≡ false) × (m.oldest < s))) × (after ≡ w)
-

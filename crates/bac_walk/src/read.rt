@@ -11,7 +11,7 @@ ghost use Rattle.bac_walk.specs.Takes.{parameters_in, Says};
 ghost use Rattle.bac_walk.specs.Replies.{Wanted, extent_of};
 ghost use Rattle.bac_log.specs.declared.entry.Entry.{Entry as EntryOf};
 ghost use Rattle.std.specs.Result.{result_ok};
-ghost use Rattle.bac_log.specs.Record.{entry_at};
+ghost use Rattle.bac_log.specs.RecordReading.{entry_at};
 ghost use Rattle.bac_walk.specs.Heard.{heard_at, is_of_log, records_in, same_id};
 ghost use Rattle.bac_walk.specs.Reads.{IsRead, IsSaid};
 ghost use Rattle.bac_apdu.specs.Service.ReadRangeAck.{range_ack_of};
@@ -41,12 +41,14 @@ fn parameters_inside(datagram: &[u8]) -> Option<&[u8]>
     ensures { GivesSome (λ p. p.now) result (parameters_in (apdu_in datagram.now)) }
 {
     match read_datagram(datagram) {
-        Some(Apdu::Complex {
-            segmented,
-            service,
-            parameters,
-            ..
-        }) => {
+        Some(
+            Apdu::Complex {
+                segmented,
+                service,
+                parameters,
+                ..
+            },
+        ) => {
             if segmented {
                 return None;
             }

@@ -51,11 +51,14 @@ returns-in-Some-clause-delivers g c =
     let R : List Item → Type 0 = λ l. IsRun was is c.args.transactions.now.retries (g.L.LogLink.failures c.args.link.now) (g.L.LogLink.failures c.deliver-ended.new.link)
     c.args.walk.now c.deliver-ended.new.walk (c.loop-done.done + 1) c.deliver-ended.result l in
     let run = subst R same joined in
-    let some = sym c.why_of.ensures ∙ c.in-Some.is in
-    (c.args.steps, c.deliver-ended.result, ends_run c.deliver-ended.result c.in-Some.why c.args.steps all.0 some,
-    run_early was is c.args.transactions.now.retries (g.L.LogLink.failures c.args.link.now) (g.L.LogLink.failures c.deliver-ended.new.link)
-    c.args.walk.now c.deliver-ended.new.walk (c.loop-done.done + 1) c.args.steps c.deliver-ended.result c.deliver-ended.new.sink.items.items
-    (not_limit c.deliver-ended.result c.in-Some.why some) (omega arith) run)
+    let some = sym c.why_of.ensures ∙ c.in-Some.is in (
+      c.args.steps,
+      c.deliver-ended.result,
+      ends_run c.deliver-ended.result c.in-Some.why c.args.steps all.0 some,
+      run_early was is c.args.transactions.now.retries (g.L.LogLink.failures c.args.link.now) (g.L.LogLink.failures c.deliver-ended.new.link)
+          c.args.walk.now c.deliver-ended.new.walk (c.loop-done.done + 1) c.args.steps c.deliver-ended.result c.deliver-ended.new.sink.items.items
+          (not_limit c.deliver-ended.result c.in-Some.why some) (omega arith) run,
+    )
 
 pub returns-in-Some-clause-resting : goal.returns-in-Some-clause-resting
 returns-in-Some-clause-resting g c r m H s sure honest next =

@@ -1,5 +1,4 @@
 use Rattle.std.proofs.Common.{arith}
-
 use Rattle.bac_walk.proofs.Keeping.{kept_full, kept_room}
 use Rattle.bac_walk.proofs.read.keep.Goals as goal
 

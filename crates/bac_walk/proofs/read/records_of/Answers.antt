@@ -3,7 +3,7 @@ use Rattle.std.proofs.lemmas.List.{append-nil, length-append}
 use Rattle.bac_wire.specs.declared.fault.WireFault.{WireFault}
 use Rattle.bac_wire.specs.declared.fault.WireFault.TheVariants.{Ended}
 use Rattle.bac_log.specs.declared.entry.Entry.{Entry}
-use Rattle.bac_log.specs.Record.{entries_at}
+use Rattle.bac_log.specs.RecordReading.{entries_at}
 use Rattle.bac_walk.specs.Heard.{records_in}
 use Rattle.bac_walk.proofs.Counting.{empty_read, next_ok, next_err, none_read, too_many}
 use Rattle.bac_walk.proofs.read.records_of.Goals as goal

@@ -1,7 +1,7 @@
 use Rattle.std.proofs.Common.{◌≡◌, ◌-◌, ◌≤◌, List, ◌++◌, length, take, Ok, Err}
 use Rattle.bac_wire.specs.declared.fault.WireFault.{WireFault}
 use Rattle.bac_log.specs.declared.entry.Entry.{Entry}
-use Rattle.bac_log.specs.Record.{entries_at}
+use Rattle.bac_log.specs.RecordReading.{entries_at}
 use Rattle.bac_walk.specs.Heard.{records_in}
 use Rattle.bac_walk.proofs.read.records_of.Given as goal
 

@@ -15,8 +15,7 @@ returns-in_default-records_of c =
 
 pub returns : goal.returns
 returns c =
-    let good = c.in-Some-records_of.ensures {u = tt} in
-    (
+    let good = c.in-Some-records_of.ensures {u = tt} in (
       record { first = c.in-Some.ack.first_number; count = c.in-Some.ack.count; entries = good.0 },
       heard_read c.args.log c.args.parameters.now c.in-Some.ack (Ok good.0) (c.in-Some.ensures {u = tt}).exact (sym c.is_of.ensures ∙ c.if-not-is_of.false) good.1,
       refl,

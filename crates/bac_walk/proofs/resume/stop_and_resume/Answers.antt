@@ -28,8 +28,15 @@ returns g c = record {
       c.args.more c.deliver-second.result (put_items y.0) y.4 r (after_answers a.1 M) H a.2
       (subst K (sym (log ∙ c.deliver-first.ensures.log)) a.6) (here ∙ a.4) in
       let P : ℕ → Type 0 = λ n. DeliversTo H n (put_items x.0) a.2 M a.1 in
-      let Q : ℕ → Type 0 = λ n. DeliversTo H n (put_items y.0) b.2 (after_answers a.1 M) b.1 in
-      (x.0, y.0, a.1 + b.1, b.2, b.4, x.1, y.1,
-      joined H s a.2 b.2 a.1 b.1 M (put_items x.0) (put_items y.0) (subst P (a.3 old) a.5)
-      (subst Q (b.3 (ap (λ (w : Place). w.fresh) is)) b.5));
+      let Q : ℕ → Type 0 = λ n. DeliversTo H n (put_items y.0) b.2 (after_answers a.1 M) b.1 in (
+        x.0,
+        y.0,
+        a.1 + b.1,
+        b.2,
+        b.4,
+        x.1,
+        y.1,
+        joined H s a.2 b.2 a.1 b.1 M (put_items x.0) (put_items y.0) (subst P (a.3 old) a.5)
+            (subst Q (b.3 (ap (λ (w : Place). w.fresh) is)) b.5),
+      );
 }

@@ -12,8 +12,7 @@ pub returns-clause-asks : goal.returns-clause-asks
 returns-clause-asks c =
     let w = c.args.self.now in
     let kind = ap (λ (i : Id). i.kind) c.log-object.ensures.log in
-    let instance = ap (λ (i : Id). i.instance) c.log-object.ensures.log in
-    (
+    let instance = ap (λ (i : Id). i.instance) c.log-object.ensures.log in (
       question_is w c.log-object.result c.extent-extent.result c.log-object.ensures.log c.extent-extent.ensures,
       ranged_of w (omega (arith, c.next_number-next.ensures.next)),
       (omega (arith, kind, c.kind-kind.ensures.value, c.kind-kind.ensures.bound), omega (arith, instance, c.instance-instance.ensures.value, c.instance-instance.ensures.bound)),
@@ -23,5 +22,5 @@ pub returns-clause-fits : goal.returns-clause-fits
 returns-clause-fits c =
     let asks = returns-clause-asks c in
     λ long.
-        let P : Request → Type 0 = λ r. IsTooLong r in
-        question_fits c.args.self.now.log (extent_of (wanted_of c.args.self.now)) (subst P asks.0 long)
+    let P : Request → Type 0 = λ r. IsTooLong r in
+    question_fits c.args.self.now.log (extent_of (wanted_of c.args.self.now)) (subst P asks.0 long)
