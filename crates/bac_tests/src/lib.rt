@@ -15,4 +15,6 @@ mod replay;
 #[cfg(test)]
 mod streams;
 #[cfg(test)]
+mod trend_logs;
+#[cfg(test)]
 mod wire;
