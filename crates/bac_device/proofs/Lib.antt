@@ -10,3 +10,4 @@ pub mod Built
 pub mod Ranges
 pub mod Moves
 pub mod Questions
+pub mod Fits

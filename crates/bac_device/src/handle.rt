@@ -44,16 +44,11 @@ impl Device {
         if segmented {
             return abort(invoke);
         }
+        let limit = size.min(self.database.reply_size());
         match service {
-            READ_PROPERTY => {
-                let limit = size.min(self.database.reply_size());
-                self.answer_read(limit, invoke, parameters)
-            }
+            READ_PROPERTY => self.answer_read(limit, invoke, parameters),
             WRITE_PROPERTY => self.answer_write(invoke, parameters),
-            READ_RANGE => {
-                let limit = size.min(self.database.reply_size());
-                self.answer_range(limit, invoke, parameters)
-            }
+            READ_RANGE => self.answer_range(limit, invoke, parameters),
             _ => reject(invoke, UNRECOGNIZED_SERVICE),
         }
     }

@@ -1,17 +1,18 @@
 //! Laws of a device's trend logs. Each function does nothing: what it ensures is the law.
 
-ghost use Rattle.std.specs.Prelude.{◌≡◌, ◌<◌, ℕ, List, Ok, Some, None, min};
+ghost use Rattle.std.specs.Prelude.{◌≡◌, ◌<◌, ◌≤◌, ℕ, List, Ok, Some, None, min};
+ghost use Rattle.bac_wire.specs.Primitive.{Id};
 ghost use Rattle.bac_wire.specs.Stamp.{CivilTime};
 ghost use Rattle.bac_apdu.specs.Service.Extent.{IsExtent};
 ghost use Rattle.bac_apdu.specs.declared.service.extent.Extent.{Extent as AnyExtent};
-ghost use Rattle.bac_log.specs.TrendLog.{Log};
+ghost use Rattle.bac_log.specs.TrendLog.{IsLog, Log};
 ghost use Rattle.bac_objects.specs.Build.{built};
 ghost use Rattle.bac_objects.specs.Sampling.{log_id, log_of, sampled, ticked};
 ghost use Rattle.bac_objects.specs.State.{State};
 ghost use Rattle.bac_objects.specs.declared.fault.Fault.TheVariants as Fault;
 ghost use Rattle.bac_objects.specs.declared.lines.DeviceLine.{DeviceLine};
 ghost use Rattle.bac_objects.specs.declared.lines.ObjectLine.{ObjectLine};
-ghost use Rattle.bac_device.specs.Answer.{answer, records_said};
+ghost use Rattle.bac_device.specs.Answer.{answer, records_ack, records_said};
 ghost use Rattle.bac_device.specs.Logs.{HasLogs, Keeps, question_octets};
 ghost use Rattle.bac_device.specs.Reply.{error, reply};
 ghost use Rattle.bac_device.specs.declared.reply.Receiver.TheVariants as Receiver;
@@ -39,4 +40,10 @@ pub fn questions_are_answered()
 /// unknown-object, and changes nothing.
 pub fn questions_for_no_log_are_refused()
     ensures { (d : State) (n : ℕ) (invoke : ℕ) (extent : AnyExtent) → HasLogs d → log_of d n ≡ None → n < 4194304 → IsExtent extent → answer d (question_octets invoke n extent) ≡ (Some (reply Receiver.Sender (error invoke 26 Fault.UnknownObject)), d) }
+{}
+
+/// An answer of 44 octets holds a record of any log, so no question for records is answered by an
+/// Abort where the limit is that high, and a device's reply size is.
+pub fn records_fit()
+    ensures { (limit invoke : ℕ) (object : Id) (extent : AnyExtent) (log : Log) → IsLog log → 44 ≤ limit → records_said limit invoke object extent log ≡ records_ack limit invoke object extent log }
 {}

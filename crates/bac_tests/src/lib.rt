@@ -33,6 +33,8 @@ mod results;
 #[cfg(test)]
 mod streams;
 #[cfg(test)]
+mod trend_logs;
+#[cfg(test)]
 mod walk;
 #[cfg(test)]
 mod walk_callers;

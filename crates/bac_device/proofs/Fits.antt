@@ -1,0 +1,150 @@
+-- An answer of 44 octets holds a record.
+use Rattle.std.proofs.Common.{◌≡◌, refl, ap, sym, subst, ◌∙◌, arith, ℕ, zero, suc, ◌+◌, ◌^◌, ◌<◌, ◌≤◌, nat_lt, Bool, true, false, not, ◌&&◌, cond, List, [], ◌∷◌, length, take, Option, Some, None}
+use Rattle.std.specs.Prelude.{nat_le, filter, sum_by, All, if◌then◌else◌}
+use Rattle.std.proofs.lemmas.Bool.Decides.{nat_tests}
+use Rattle.bac_wire.specs.Primitive.{Id}
+use Rattle.bac_apdu.specs.Apdu.{Apdu, Complex, apdu_octets}
+use Rattle.bac_apdu.specs.Service.ReadRangeAck.{IsSmall, number_size, optional_size}
+use Rattle.bac_apdu.specs.declared.service.extent.Extent.{Extent}
+use Rattle.bac_log.specs.Ack.{ack_apdu, ack_length, ack_parameters}
+use Rattle.bac_log.specs.Entry.{IsLoggable}
+use Rattle.bac_log.specs.Record.{entry_octets}
+use Rattle.bac_log.specs.Select.{Logged, answer_of, entries_in, first_shown, greatest, held, is_asked, numbered, packed, reply_length, selected, shows_number}
+use Rattle.bac_log.specs.TrendLog.{IsLog, Log, last_ordinal, newest, oldest}
+use Rattle.bac_log.specs.declared.entry.Entry.{Entry}
+use Rattle.bac_log.proofs.Acks.{length-ack_length, same_octets}
+use Rattle.bac_log.proofs.Records.{All-head, All-tail}
+use Rattle.bac_log.proofs.Sizes.{IsSized, entry_sized}
+use Rattle.bac_device.specs.Answer.{is_empty, is_too_small, records_ack, records_said}
+use Rattle.bac_device.specs.Reply.{abort, limited}
+
+-- ---- the greatest that passes
+
+greatest_at : (b : Bool) (passes : ℕ → Bool) (n : ℕ) → passes (suc n) ≡ b → (0 < greatest passes n → passes (greatest passes n) ≡ true) → 0 < cond b (suc n) (greatest passes n) → passes (cond b (suc n) (greatest passes n)) ≡ true
+greatest_at true passes n e rest p = e
+greatest_at false passes n e rest p = rest p
+
+greatest_passes : (passes : ℕ → Bool) (most : ℕ) → 0 < greatest passes most → passes (greatest passes most) ≡ true
+greatest_passes passes zero p = absurd (omega (arith, p))
+greatest_passes passes (suc n) p = greatest_at (passes (suc n)) passes n refl (greatest_passes passes n) p
+
+some_at : (b : Bool) (n g : ℕ) → 0 < g → 0 < cond b (suc n) g
+some_at true n g p = omega arith
+some_at false n g p = p
+
+greatest_some : (passes : ℕ → Bool) (most : ℕ) → passes 1 ≡ true → 0 < greatest passes (suc most)
+greatest_some passes zero e = rw e (omega arith)
+greatest_some passes (suc n) e = some_at (passes (suc (suc n))) (suc n) (greatest passes (suc n)) (greatest_some passes n e)
+
+greatest_within : (passes : ℕ → Bool) (most : ℕ) → greatest passes most ≤ most
+greatest_within passes zero = omega arith
+greatest_within passes (suc n) = at (passes (suc n)) (greatest_within passes n)
+  where
+    at : (b : Bool) → greatest passes n ≤ n → cond b (suc n) (greatest passes n) ≤ suc n
+    at true le = omega arith
+    at false le = omega (arith, le)
+
+-- ---- the records selected
+
+record IsHeld (log : Log) (r : Logged) : Type 0 where
+  loggable : IsLoggable r.entry
+  ordinal : r.ordinal ≤ last_ordinal
+
+first_kept : (b : Bool) (test : Logged → Bool) (first : ℕ) (e : Entry) (es : List Entry) (r : Logged) (rs : List Logged) → IsLoggable e → first ≤ last_ordinal
+    → (filter test (numbered (first + 1) es) ≡ r ∷ rs → IsLoggable r.entry × (r.ordinal ≤ last_ordinal))
+    → cond b ((let x : Logged = record { ordinal = first; entry = e } in x) ∷ filter test (numbered (first + 1) es)) (filter test (numbered (first + 1) es)) ≡ r ∷ rs → IsLoggable r.entry × (r.ordinal ≤ last_ordinal)
+first_kept true test first e es r rs is le more h =
+    let same : (let x : Logged = record { ordinal = first; entry = e } in x) ≡ r = cc in
+    subst (λ (x : Logged). IsLoggable x.entry × (x.ordinal ≤ last_ordinal)) same (is, le)
+first_kept false test first e es r rs is le more h = more h
+
+no_record : (r : Logged) (rs : List Logged) → (let none : List Logged = [] in none) ≡ r ∷ rs → ⊥
+no_record r rs e = cc
+
+first_held : (test : Logged → Bool) (first : ℕ) (es : List Entry) (r : Logged) (rs : List Logged) → All IsLoggable es → first + length es ≤ suc last_ordinal → filter test (numbered first es) ≡ r ∷ rs → IsLoggable r.entry × (r.ordinal ≤ last_ordinal)
+first_held test first [] r rs are le h = absurd (no_record r rs h)
+first_held test first (e ∷ es) r rs are le h =
+    first_kept (test (record { ordinal = first; entry = e })) test first e es r rs (All-head e es are) (omega (arith, le)) (first_held test (first + 1) es r rs (All-tail e es are) (omega (arith, le))) h
+
+few_kept : (test : Logged → Bool) (first : ℕ) (es : List Entry) → length (filter test (numbered first es)) ≤ length es
+few_kept test first [] = omega arith
+few_kept test first (e ∷ es) = at (test (record { ordinal = first; entry = e })) (few_kept test (first + 1) es)
+  where
+    at : (b : Bool) → length (filter test (numbered (first + 1) es)) ≤ length es
+        → length (cond b ((let x : Logged = record { ordinal = first; entry = e } in x) ∷ filter test (numbered (first + 1) es)) (filter test (numbered (first + 1) es))) ≤ suc (length es)
+    at true le = omega (arith, le)
+    at false le = omega (arith, le)
+
+length_in : (rs : List Logged) → length (entries_in rs) ≡ length rs
+length_in [] = refl
+length_in (r ∷ rs) = ap suc (length_in rs)
+
+few_taken : (n : ℕ) (rs : List Logged) → length (take n rs) ≤ length rs
+few_taken zero rs = omega arith
+few_taken (suc n) [] = omega arith
+few_taken (suc n) (r ∷ rs) = omega (arith, few_taken n rs)
+
+-- ---- sizes
+
+small_shown : (shows : Bool) (n : ℕ) → n < 2 ^ 32 → IsSmall (if shows then Some n else None)
+small_shown true n lt = lt
+small_shown false n lt = tt
+
+number_most : (n : ℕ) → number_size n ≤ 4
+number_most n = grind (arith, nat_tests)
+
+optional_most : (o : Option ℕ) → optional_size o ≤ 5
+optional_most None = omega arith
+optional_most (Some n) = omega (arith, number_most n)
+
+one_length : (extent : Extent) (r : Logged) → IsLoggable r.entry → r.ordinal ≤ last_ordinal → reply_length extent (r ∷ []) ≤ 44
+one_length extent r is le =
+    let shown : Option ℕ = if shows_number extent then Some r.ordinal else None in
+    let size = length-ack_length shown (r.entry ∷ []) (small_shown (shows_number extent) r.ordinal (omega (arith, le))) (omega arith) in
+    let most : length (entry_octets r.entry) ≤ 22 = (entry_sized r.entry is).most_of in
+    omega (arith, size, most, optional_most shown)
+
+le_true : (a b : ℕ) → a ≤ b → nat_le a b ≡ true
+le_true a b le = grind (arith, nat_tests)
+
+le_of : (a b : ℕ) → nat_le a b ≡ true → a ≤ b
+le_of a b e = grind (arith, nat_tests)
+
+not_over : (a b : ℕ) → a ≤ b → nat_lt b a ≡ false
+not_over a b le = grind (arith, nat_tests)
+
+none_length : (extent : Extent) → reply_length extent [] ≤ 44
+none_length extent = omega (arith, length-ack_length None [] tt (omega arith))
+
+taken_some : (extent : Extent) (g : ℕ) (r : Logged) (more : List Logged) → 0 < g → r.ordinal ≤ last_ordinal → (is_empty (take g (r ∷ more)) ≡ false) × IsSmall (first_shown extent (take g (r ∷ more)))
+taken_some extent zero r more p le = absurd (omega (arith, p))
+taken_some extent (suc k) r more p le = (refl, small_shown (shows_number extent) r.ordinal (omega (arith, le)))
+
+abbrev Fits : Extent → ℕ → List Logged → Type 0
+Fits extent limit all = ((not (is_empty all) && is_empty (packed extent limit all)) ≡ false) × (reply_length extent (packed extent limit all) ≤ limit) × IsSmall (first_shown extent (packed extent limit all))
+
+some_fits : (extent : Extent) (limit : ℕ) (all : List Logged) → 44 ≤ limit → ((r : Logged) (rs : List Logged) → all ≡ r ∷ rs → IsLoggable r.entry × (r.ordinal ≤ last_ordinal)) → Fits extent limit all
+some_fits extent limit [] ge first = (refl, omega (arith, ge, none_length extent), tt)
+some_fits extent limit (r ∷ more) ge first =
+    let held_ = first r more refl in
+    let passes : ℕ → Bool = λ n. nat_le (reply_length extent (take n (r ∷ more))) limit in
+    let one : passes 1 ≡ true = le_true (reply_length extent (r ∷ [])) limit (omega (arith, ge, one_length extent r held_.0 held_.1)) in
+    let some : 0 < greatest passes (suc (length more)) = greatest_some passes (length more) one in
+    let taken = taken_some extent (greatest passes (suc (length more))) r more some held_.1 in
+    (taken.0, le_of _ limit (greatest_passes passes (suc (length more)) some), taken.1)
+
+ack_fits : (limit invoke : ℕ) (object : Id) (flags : ℕ) (first : Option ℕ) (entries : List Entry) → IsSmall first → length entries < 2 ^ 32 → ack_length first entries ≤ limit
+    → limited limit invoke (Complex false invoke 26 (ack_parameters object flags first entries)) ≡ Complex false invoke 26 (ack_parameters object flags first entries)
+unfolding ack_apdu
+ack_fits limit invoke object flags first entries small few le =
+    let size = same_octets invoke object flags first entries small few in
+    rw (not_over (length (apdu_octets (Complex false invoke 26 (ack_parameters object flags first entries)))) limit (omega (arith, size, le))) refl
+
+pub records_fit : (limit invoke : ℕ) (object : Id) (extent : Extent) (log : Log) → IsLog log → 44 ≤ limit → records_said limit invoke object extent log ≡ records_ack limit invoke object extent log
+records_fit limit invoke object extent log is ge =
+    let test : Logged → Bool = λ r. is_asked log extent r.ordinal in
+    let all : List Logged = selected log extent in
+    let rs : List Logged = packed extent limit all in
+    let fits = some_fits extent limit all ge (λ r more h. first_held test (oldest log) log.entries r more is.loggable (omega (arith, is.numbered)) h) in
+    let few : length (entries_in rs) < 2 ^ 32 = omega (arith, length_in rs, few_taken (greatest (λ n. nat_le (reply_length extent (take n all)) limit) (length all)) all, few_kept test (oldest log) log.entries, is.within, is.capacity.1) in
+    rw fits.0 (ack_fits limit invoke object (answer_of log extent limit).flags (first_shown extent rs) (entries_in rs) fits.2 few fits.1)
