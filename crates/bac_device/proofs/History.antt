@@ -1,5 +1,5 @@
 -- Accepted writes stand, and refusals change nothing.
-use Rattle.std.proofs.Common.{◌≡◌, ◌==◌, refl, ap, sym, subst, ◌∙◌, arith, ℕ, zero, suc, ◌+◌, ◌-◌, ◌<◌, ◌≤◌, nat_lt, nat_le, Bool, true, false, not, ◌&&◌, ◌||◌, cond, List, [], ◌∷◌, length, slice_get, slice_set, Option, Some, None, Result, Ok, Err, ◌⊎◌, inl, inr}
+use Rattle.std.proofs.Common.{◌≡◌, ◌==◌, refl, ap, sym, subst, ◌∙◌, arith, ℕ, zero, suc, ◌-◌, ◌<◌, ◌≤◌, nat_lt, nat_le, Bool, true, false, not, ◌&&◌, ◌||◌, cond, List, [], ◌∷◌, length, slice_get, slice_set, Option, Some, None, Result, Ok, Err, inl, inr}
 use Rattle.std.proofs.lemmas.Bool.Decides.{nat_tests}
 use Rattle.std.specs.Map.{lookup, set_value}
 use Rattle.std.specs.Option.{option_or}
@@ -16,7 +16,7 @@ use Rattle.bac_objects.specs.Chain.{or_fault}
 use Rattle.bac_objects.specs.Command.{present}
 use Rattle.bac_objects.specs.State.{State, is_id}
 use Rattle.bac_objects.specs.Requests.{PropertyWrite, write_property_at}
-use Rattle.bac_objects.specs.Properties.{row, object_table, device_table, value_of}
+use Rattle.bac_objects.specs.Properties.{row, object_table, value_of}
 use Rattle.bac_objects.specs.Reading.{read_of}
 use Rattle.bac_objects.specs.Writing.{priority_of, is_i32, setting_of, checked, command_written, object_written, is_device, write_of}
 use Rattle.bac_objects.specs.declared.command.Command.{Command}
@@ -27,7 +27,7 @@ use Rattle.bac_objects.specs.declared.command.Setting.TheVariants as setting
 use Rattle.bac_objects.specs.declared.object.Body.{Body}
 use Rattle.bac_objects.specs.declared.object.Body.TheVariants as body
 use Rattle.bac_device.specs.Answer.{answer}
-use Rattle.bac_device.specs.History.{heard_in, write_in_apdu, write_heard, is_done, write_asked, after, accepted, with_first, writes, set_to, sets, last_at, with_slots, Stands}
+use Rattle.bac_device.specs.History.{heard_in, write_in_apdu, write_heard, is_done, write_asked, after, accepted, with_first, writes, set_to, last_at, with_slots, Stands}
 use Rattle.bac_objects.specs.declared.fault.Fault.{Fault}
 use Rattle.bac_objects.specs.declared.fault.Fault.TheVariants.{UnknownObject, WriteDenied, BadValue}
 use Rattle.bac_objects.specs.declared.object.Object as object
