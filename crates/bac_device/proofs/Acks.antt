@@ -1,9 +1,9 @@
 -- ACKs that are too long.
-use Rattle.std.proofs.Common.{◌≡◌, refl, ap, sym, ◌∙◌, arith, ℕ, ◌+◌, ◌<◌, ◌≤◌, nat_lt, Bool, true, false, List, [], ◌∷◌, ◌++◌, length, Option, Some, None, Result, Ok, Err, length-append}
+use Rattle.std.proofs.Common.{◌≡◌, refl, ap, sym, ◌∙◌, arith, ℕ, ◌<◌, ◌≤◌, nat_lt, true, false, List, [], ◌++◌, length, Option, Some, None, Result, Ok, Err, length-append}
 use Rattle.std.proofs.lemmas.Bool.Decides.{nat_tests}
 use Rattle.bac_wire.specs.Primitive.{Primitive, Id, Object, Enumerated, Unsigned}
 use Rattle.bac_apdu.specs.Adding.{context_octets, open_octets, close_octets}
-use Rattle.bac_apdu.specs.Apdu.{Apdu, Complex, apdu_octets}
+use Rattle.bac_apdu.specs.Apdu.{Complex, apdu_octets}
 use Rattle.bac_apdu.specs.declared.service.read_property.ReadProperty.{ReadProperty}
 use Rattle.bac_objects.specs.State.{State}
 use Rattle.bac_objects.specs.Reading.{fitted, read_of}

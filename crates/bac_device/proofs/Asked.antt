@@ -1,15 +1,11 @@
 -- Requests with named fields, from the items that were read.
-use Rattle.std.proofs.Common.{◌≡◌, refl, ap, sym, ◌∙◌, ℕ, ◌<◌, List, [], ◌∷◌, Option, Some, None, Result, Ok, Err, Bool, true, false, nat_lt, ◌&&◌, arith}
-use Rattle.std.proofs.lemmas.Bool.Decides.{nat_tests}
+use Rattle.std.proofs.Common.{◌≡◌, refl, ap, sym, ℕ, List, Option, Some, None, Result, Ok, Err}
 use Rattle.std.specs.Result.{result_ok}
-use Rattle.std.specs.Prelude.{get_or}
-use Rattle.bac_wire.specs.Primitive.{Primitive, Unsigned}
 use Rattle.bac_wire.specs.Chain.{Gives}
-use Rattle.bac_wire.specs.OptionChain.{GivesSome}
-use Rattle.bac_apdu.specs.Form.{Item, Value, Absent, number_item, Reads}
+use Rattle.bac_apdu.specs.Form.{Item, number_item}
 use Rattle.bac_apdu.specs.FormReading.{form_at}
 use Rattle.bac_apdu.specs.Service.ReadProperty.{read_property, property_items}
-use Rattle.bac_apdu.specs.Service.WriteProperty.{write_property, write_items, IsPriority, is_priority}
+use Rattle.bac_apdu.specs.Service.WriteProperty.{write_property, write_items}
 use Rattle.bac_apdu.specs.Service.WhoIs.{who_is, who_is_items}
 use Rattle.bac_apdu.specs.declared.service.read_property.ReadProperty.{ReadProperty}
 use Rattle.bac_apdu.specs.declared.service.write_property.WriteProperty.{WriteProperty}

@@ -1,7 +1,7 @@
 -- Devices that were built of lines.
-use Rattle.std.proofs.Common.{◌≡◌, ◌==◌, refl, ap, sym, subst, ◌∙◌, arith, ℕ, zero, suc, ◌+◌, ◌-◌, ◌<◌, ◌≤◌, true, false, List, [], ◌∷◌, length, map, slice_get, Option, Some, None, Ok, inl, inr}
+use Rattle.std.proofs.Common.{◌≡◌, ◌==◌, refl, ap, sym, ◌∙◌, arith, ℕ, zero, suc, ◌+◌, ◌-◌, ◌<◌, true, false, List, [], ◌∷◌, length, map, slice_get, Option, Some, None, Ok, inl, inr}
 use Rattle.std.specs.List.{range_with_len, repeat}
-use Rattle.std.specs.Map.{lookup, keys_of, set_value}
+use Rattle.std.specs.Map.{lookup, keys_of}
 use Rattle.std.specs.Option.{option_or, unwrap_or}
 use Rattle.std.proofs.lemmas.Bool.{eq-eqb}
 use Rattle.std.proofs.lemmas.Map.{keys-set_value}
@@ -25,8 +25,8 @@ use Rattle.bac_objects.specs.declared.object.Body.TheVariants as body
 use Rattle.bac_objects.specs.declared.object.Object as object
 use Rattle.bac_objects.proofs.Builds.{found}
 use Rattle.bac_device.specs.Answer.{answer}
-use Rattle.bac_device.specs.History.{after, default_of, ids_in_order, last_at, slot_after, with_slots, write_asked, writes, IsCommanded, Stands}
-use Rattle.bac_device.proofs.History.{Wrote, stands, wrote}
+use Rattle.bac_device.specs.History.{after, default_of, ids_in_order, last_at, slot_after, with_slots, write_asked, writes, IsCommanded}
+use Rattle.bac_device.proofs.History.{stands, wrote}
 use Rattle.bac_device.proofs.Told.{Told, told}
 
 -- ---- what no datagram changes

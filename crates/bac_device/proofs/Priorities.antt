@@ -1,19 +1,18 @@
 -- The priority of a write that was read is from 1 to 16.
-use Rattle.std.proofs.Common.{◌≡◌, refl, ap, subst, sym, ◌∙◌, arith, ℕ, ◌<◌, ◌≤◌, nat_lt, Bool, true, false, ◌&&◌, cond, List, [], ◌∷◌, Option, Some, None, Result, Ok, Err}
+use Rattle.std.proofs.Common.{◌≡◌, refl, ap, subst, sym, ◌∙◌, arith, ℕ, ◌≤◌, nat_lt, Bool, true, false, ◌&&◌, cond, List, ◌∷◌, Option, None, Result, Ok, Err}
 use Rattle.std.proofs.lemmas.Bool.Decides.{nat_tests}
 use Rattle.std.specs.Option.{unwrap_or}
 use Rattle.bac_wire.specs.Primitive.{Primitive, Null, Boolean, Unsigned, Signed, Real, Double, Octets, Chars, Bits, Enumerated, Date, Time, Object}
 use Rattle.bac_wire.specs.Chain.{◌>>=◌}
 use Rattle.bac_wire.specs.Reading.{context_at, contents_as}
-use Rattle.bac_apdu.specs.Form.{Form, Part, Item, Value, Mark, Inside, Absent, end, part, optional, context, opening, closing, any, anything, is_u32, unsigned, enumerated, object_identifier, value_next}
+use Rattle.bac_apdu.specs.Form.{Form, Part, Item, Value, Absent, end, part, optional, context, unsigned, value_next}
 use Rattle.bac_apdu.specs.FormReading.{form_at, part_at, optional_at, ranged}
 use Rattle.bac_apdu.specs.Reason.{reasoned}
-use Rattle.bac_apdu.specs.Service.WriteProperty.{write_property, setting, is_priority}
+use Rattle.bac_apdu.specs.Service.WriteProperty.{write_property, is_priority}
 use Rattle.bac_apdu.specs.declared.reason.Reason.{Reason}
 use Rattle.bac_apdu.specs.declared.reason.Reason.TheVariants.{OutOfRange}
 use Rattle.bac_objects.specs.Chain.{result_map}
 use Rattle.bac_objects.specs.Requests.{PropertyWrite, number_in, write_in, write_property_at}
-use Rattle.bac_objects.specs.Writing.{priority_of}
 
 ok_same : {X : Type 0} (a b : X) → (let r : Result X Reason = Ok a in r) ≡ Ok b → a ≡ b
 ok_same a b e = cc

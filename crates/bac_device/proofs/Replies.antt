@@ -1,12 +1,12 @@
 -- Replies fit a datagram.
-use Rattle.std.proofs.Common.{◌≡◌, ℕ, ◌+◌, ◌*◌, ◌^◌, ◌≤◌, ◌<◌, Bool, true, false, cond, nat_lt, List, [], ◌∷◌, ◌++◌, length, Result, Ok, Err, refl, ap, sym, ◌∙◌, arith, length-append}
+use Rattle.std.proofs.Common.{◌≡◌, ℕ, ◌+◌, ◌*◌, ◌^◌, ◌≤◌, Bool, true, false, cond, nat_lt, List, [], ◌∷◌, ◌++◌, length, Result, Ok, Err, refl, ap, ◌∙◌, arith, length-append}
 use Rattle.std.specs.Int.{w32, w64, to_be_bytes}
 use Rattle.std.specs.Result.{IsOk}
 use Rattle.bac_wire.specs.Primitive.{Id, Unsigned, Enumerated, Object}
 use Rattle.bac_wire.specs.Datagram.{Writes}
 use Rattle.bac_wire.specs.Canon.{shortened, without_needless, is_zero, unsigned_octets, tag_octets, length_octets, head_octets, tagged}
 use Rattle.bac_apdu.specs.Adding.{value_octets}
-use Rattle.bac_apdu.specs.Apdu.{Apdu, apdu_octets, Error}
+use Rattle.bac_apdu.specs.Apdu.{Apdu, apdu_octets}
 use Rattle.bac_apdu.specs.FormCanon.{canon_form}
 use Rattle.bac_apdu.specs.Frame.{frame_octets}
 use Rattle.bac_apdu.specs.Service.IAm.{i_am, i_am_items}

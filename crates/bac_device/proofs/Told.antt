@@ -1,10 +1,10 @@
 -- What each answer does to the state.
-use Rattle.std.proofs.Common.{◌≡◌, ◌==◌, refl, ap, sym, ◌∙◌, arith, ℕ, ◌+◌, ◌<◌, ◌≤◌, ◌^◌, nat_lt, Bool, true, false, not, ◌&&◌, cond, List, [], ◌∷◌, ◌++◌, length, Option, Some, None, Result, Ok, Err, ◌⊎◌, inl, inr, length-append}
+use Rattle.std.proofs.Common.{◌≡◌, ◌==◌, refl, ap, arith, ℕ, ◌+◌, ◌<◌, ◌≤◌, ◌^◌, Bool, true, false, cond, List, [], ◌∷◌, ◌++◌, length, Option, Some, None, Result, Ok, Err, ◌⊎◌, inl, inr, length-append}
 use Rattle.std.proofs.lemmas.Bool.Decides.{nat_tests}
 use Rattle.std.specs.Result.{result_ok}
-use Rattle.bac_apdu.specs.Apdu.{Apdu, Confirmed, Unconfirmed, Simple, Complex, SegmentAck, Error, Reject, Abort, IsApdu, apdu_octets, apdu_at}
-use Rattle.bac_apdu.specs.Frame.{Frame, Unicast, Broadcast, Forwarded, Function, frame_at, frame_octets}
-use Rattle.bac_apdu.specs.Npdu.{header_octets, header_at, IsHeader, place_octets}
+use Rattle.bac_apdu.specs.Apdu.{Apdu, Confirmed, Unconfirmed, Simple, Complex, SegmentAck, Error, Reject, Abort, IsApdu, apdu_octets}
+use Rattle.bac_apdu.specs.Frame.{Frame, Unicast, Broadcast, Forwarded, Function, frame_at}
+use Rattle.bac_apdu.specs.Npdu.{header_octets, IsHeader, place_octets}
 use Rattle.bac_apdu.proofs.Heads.{frame_again, header_again, message_again}
 use Rattle.bac_apdu.specs.declared.reason.Reason.{Reason}
 use Rattle.bac_objects.specs.State.{State}
@@ -14,7 +14,7 @@ use Rattle.bac_device.specs.Receiving.{Heard, heard_at}
 use Rattle.bac_device.specs.Answer.{write_said, answer_write, answer_request, replied, answer_apdu, answer_heard, sent, answer_frame, answer}
 use Rattle.bac_objects.specs.Fault.{class_of, code_of}
 use Rattle.bac_device.specs.Reply.{plain, datagram_octets, error, reply}
-use Rattle.bac_device.specs.History.{heard_in, write_in_apdu, write_heard, is_simple, heard_simple, is_done}
+use Rattle.bac_device.specs.History.{heard_in, write_in_apdu, write_heard, is_done}
 use Rattle.bac_objects.specs.declared.fault.Fault.{Fault}
 use Rattle.bac_objects.specs.declared.fault.Fault.TheVariants.{UnknownObject, UnknownProperty, NotArray, BadIndex, ReadDenied, NotList, WriteDenied, BadType, BadValue}
 use Rattle.bac_device.specs.declared.reply.Reply.{Reply}

@@ -1,7 +1,7 @@
 -- The object list.
-use Rattle.std.proofs.Common.{◌≡◌, refl, ap, sym, ◌∙◌, rules, arith, ℕ, zero, suc, ◌-◌, ◌<◌, ◌≤◌, List, [], ◌∷◌, length, map, slice_get, Option, Some, None}
+use Rattle.std.proofs.Common.{◌≡◌, refl, ap, sym, ◌∙◌, rules, arith, ℕ, zero, suc, ◌-◌, ◌≤◌, List, [], ◌∷◌, map, slice_get, Some, None}
 use Rattle.std.specs.Map.{keys_of}
-use Rattle.bac_wire.specs.Primitive.{Id, Primitive, Object}
+use Rattle.bac_wire.specs.Primitive.{Id, Object}
 use Rattle.bac_objects.specs.State.{State}
 use Rattle.bac_objects.specs.Properties.{object_list}
 use Rattle.bac_objects.specs.declared.object.Object as object

@@ -1,9 +1,9 @@
 -- Writes of an object in the table.
-use Rattle.std.proofs.Common.{◌≡◌, refl, ap, sym, ◌∙◌, subst, rules, Bool, true, false, cond, List, [], ◌∷◌, Option, Some, None, Result, Ok, Err, if◌then◌else◌}
+use Rattle.std.proofs.Common.{◌≡◌, refl, ap, ◌∙◌, rules, Bool, true, false, cond, List, [], ◌∷◌, Some, None, Result, Ok, Err}
 use Rattle.std.specs.Map.{lookup, set_value}
 use Rattle.bac_wire.specs.Primitive.{Id}
 use Rattle.bac_wire.specs.Chain.{◌>>=◌}
-use Rattle.bac_objects.specs.Chain.{or_fault, Leaves}
+use Rattle.bac_objects.specs.Chain.{Leaves}
 use Rattle.bac_objects.specs.State.{State, is_id}
 use Rattle.bac_objects.specs.Requests.{PropertyWrite}
 use Rattle.bac_objects.specs.Writing.{write_of, object_written, is_device}

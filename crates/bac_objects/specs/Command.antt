@@ -1,5 +1,5 @@
 -- What a commandable object is commanded to (clause 19.2).
-use Rattle.std.specs.Prelude.{ℕ, List, [], ◌∷◌, Option, Some, None}
+use Rattle.std.specs.Prelude.{List, [], ◌∷◌, Option, Some, None}
 use Rattle.std.specs.List.{repeat}
 use Rattle.bac_objects.specs.declared.command.Setting.{Setting}
 use Rattle.bac_objects.specs.declared.command.Range.{Range}

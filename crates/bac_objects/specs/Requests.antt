@@ -1,9 +1,8 @@
 -- What requests ask for, by the names of their fields, as their parameters spell them.
-use Rattle.std.specs.Prelude.{ℕ, List, [], ◌∷◌, get_or, Option, Some, None, Result}
-use Rattle.std.specs.Result.{result_ok}
+use Rattle.std.specs.Prelude.{ℕ, List, get_or, Option, Some, None, Result}
 use Rattle.bac_wire.specs.Primitive.{Primitive, Null, Unsigned, Enumerated, Object, Id}
 use Rattle.bac_wire.specs.View.{view}
-use Rattle.bac_apdu.specs.Form.{Item, Value, Mark, Inside, Absent}
+use Rattle.bac_apdu.specs.Form.{Item, Value, Absent}
 use Rattle.bac_apdu.specs.FormReading.{form_at}
 use Rattle.bac_apdu.specs.Service.ReadProperty.{read_property}
 use Rattle.bac_apdu.specs.Service.WriteProperty.{write_property}

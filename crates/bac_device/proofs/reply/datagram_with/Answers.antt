@@ -1,8 +1,8 @@
-use Rattle.std.proofs.Common.{◌≡◌, ◌≤◌, ◌++◌, length, ap, ◌∙◌, arith}
+use Rattle.std.proofs.Common.{◌≤◌, ◌++◌, length, ap, ◌∙◌, arith}
 use Rattle.bac_apdu.specs.Apdu.{apdu_of, apdu_octets}
 use Rattle.bac_apdu.specs.Frame.{frame_octets}
 use Rattle.bac_apdu.specs.Npdu.{header_octets}
-use Rattle.bac_device.specs.Reply.{plain, datagram_octets}
+use Rattle.bac_device.specs.Reply.{plain}
 use Rattle.bac_device.proofs.Replies.{written, frame-len, framed}
 use Rattle.bac_device.proofs.reply.datagram_with.Goals as goal
 

@@ -1,9 +1,6 @@
-use Rattle.std.proofs.Common.{◌≡◌, ap, sym, subst, ◌∙◌, ℕ, List, Option, Some, None, Bool, take}
-use Rattle.std.specs.List.{list_any}
-use Rattle.std.specs.Str.{bytes_eq}
+use Rattle.std.proofs.Common.{◌≡◌, ap, sym, ◌∙◌, ℕ, List, take}
 use Rattle.bac_wire.specs.Primitive.{Id}
-use Rattle.bac_objects.specs.Build.{has_id, has_name, id_of, name_of, object_fault}
-use Rattle.bac_objects.specs.State.{is_id}
+use Rattle.bac_objects.specs.Build.{has_id, has_name, id_of, name_of}
 use Rattle.bac_objects.specs.declared.lines.ObjectLine.{ObjectLine}
 use Rattle.bac_objects.proofs.Tables.{before_more, faultless, faulty, ids_more, is_new, line_fault, names_more, no_id}
 use Rattle.bac_objects.proofs.build.tabled_fault.Goals as goal

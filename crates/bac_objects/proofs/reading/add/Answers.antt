@@ -1,4 +1,4 @@
-use Rattle.std.proofs.Common.{refl, arith, ap, length-append}
+use Rattle.std.proofs.Common.{refl}
 use Rattle.bac_apdu.specs.Adding.{value_octets}
 use Rattle.bac_wire.specs.View.{view}
 use Rattle.bac_objects.proofs.Encodings.{appended}

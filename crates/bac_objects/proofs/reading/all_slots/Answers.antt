@@ -1,6 +1,5 @@
-use Rattle.std.proofs.Common.{◌≡◌, ◌+◌, ◌<◌, arith, map, length, sym}
+use Rattle.std.proofs.Common.{arith, map}
 use Rattle.bac_objects.specs.Properties.{slot_value}
-use Rattle.bac_objects.specs.Reading.{values_octets}
 use Rattle.bac_objects.proofs.Encodings.{done, at_end, slot_more, slot_long}
 use Rattle.bac_objects.proofs.reading.all_slots.Goals as goal
 

@@ -1,4 +1,4 @@
-use Rattle.std.proofs.Common.{◌≡◌, ◌≤◌, ◌++◌, length, ap, ◌∙◌, arith}
+use Rattle.std.proofs.Common.{length, ap, arith}
 use Rattle.bac_apdu.specs.FormCanon.{canon_form}
 use Rattle.bac_apdu.specs.Service.IAm.{i_am, i_am_items}
 use Rattle.bac_apdu.specs.declared.service.i_am.IAm.{IAm}

@@ -1,4 +1,4 @@
-use Rattle.std.proofs.Common.{◌≡◌, ap, sym, subst, ◌∙◌, List, ℕ, Ok, Err, false}
+use Rattle.std.proofs.Common.{◌≡◌, ap, subst, ◌∙◌, List, ℕ, Ok, Err, false}
 use Rattle.bac_wire.specs.Primitive.{Id}
 use Rattle.bac_apdu.specs.Apdu.{Complex}
 use Rattle.bac_objects.specs.Reading.{fitted, read_of}

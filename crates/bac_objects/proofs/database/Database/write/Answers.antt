@@ -1,4 +1,4 @@
-use Rattle.std.proofs.Common.{rules, ◌≡◌, refl, sym, subst}
+use Rattle.std.proofs.Common.{rules, refl, sym}
 use Rattle.bac_objects.specs.Requests.{write_of_code}
 use Rattle.bac_objects.proofs.Writes.{missing, writes}
 use Rattle.bac_objects.proofs.database.Database.write.Goals as goal
