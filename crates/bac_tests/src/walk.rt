@@ -1,6 +1,8 @@
 //! Walks of a trend log over links that answer from a list: octets by hand, each call once, and what
 //! a sink is given.
 
+ghost use Rattle.std.specs.Prelude.{◌≡◌};
+
 use bac_link::{Item, LogLink, Lost, Refusal, Transactions};
 use bac_log::{Datum, Entry};
 use bac_walk::{
@@ -168,10 +170,14 @@ fn a_walk_begins_at_a_number_or_at_the_oldest_record(rt: HostRuntime) -> Result<
     assert_eq!(rt; walk_from(4294967295)?.next_number(), 4294967295);
     assert_eq!(rt; walk_from_oldest()?.next_number(), 1);
     let mut transactions = Transactions::new(0);
-    let from_one = transactions.begin(&walk_from(1)?.question())?;
+    let walk = walk_from(1)?;
+    let question = walk.question();
+    let from_one = transactions.begin(&question)?;
     assert_eq!(rt; from_one.octets(), FROM_ONE.as_slice());
     let mut transactions = Transactions::new(0);
-    let from_oldest = transactions.begin(&walk_from_oldest()?.question())?;
+    let walk = walk_from_oldest()?;
+    let question = walk.question();
+    let from_oldest = transactions.begin(&question)?;
     assert_eq!(rt; from_oldest.octets(), FROM_OLDEST.as_slice());
     Ok(())
 }
