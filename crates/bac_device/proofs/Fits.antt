@@ -64,7 +64,7 @@ no_record r rs e = cc
 first_held : (test : Logged → Bool) (first : ℕ) (es : List Entry) (r : Logged) (rs : List Logged) → All IsLoggable es → first + length es ≤ suc last_ordinal → filter test (numbered first es) ≡ r ∷ rs → IsLoggable r.entry × (r.ordinal ≤ last_ordinal)
 first_held test first [] r rs are le h = absurd (no_record r rs h)
 first_held test first (e ∷ es) r rs are le h =
-    first_kept (test (record { ordinal = first; entry = e })) test first e es r rs (All-head e es are) (omega (arith, le)) (first_held test (first + 1) es r rs (All-tail e es are) (omega (arith, le))) h
+    first_kept (test (record { ordinal = first; entry = e })) test first e es r rs (All-head IsLoggable e es are) (omega (arith, le)) (first_held test (first + 1) es r rs (All-tail IsLoggable e es are) (omega (arith, le))) h
 
 few_kept : (test : Logged → Bool) (first : ℕ) (es : List Entry) → length (filter test (numbered first es)) ≤ length es
 few_kept test first [] = omega arith

@@ -133,7 +133,7 @@ steps_set true d id o p n e at s =
     let same : log_id n ≡ id = same_id (log_id n) id e in
     let here : lookup (is_id (log_id n)) d.objects ≡ Some o = ap (λ (x : Id). lookup (is_id x) d.objects) same ∙ at in
     let there : lookup (is_id (log_id n)) (set_value (is_id id) d.objects p) ≡ Some p =
-        ap (λ (x : Id). lookup (is_id x) (set_value (is_id id) d.objects p)) same ∙ looked_same (is_id id) (is_id id) d.objects o p at in
+    ap (λ (x : Id). lookup (is_id x) (set_value (is_id id) d.objects p)) same ∙ looked_same (is_id id) (is_id id) d.objects o p at in
     rw (here, there) s
 steps_set false d id o p n e at s =
     let there : lookup (is_id (log_id n)) (set_value (is_id id) d.objects p) ≡ lookup (is_id (log_id n)) d.objects = looked_other (is_id id) (is_id (log_id n)) (λ k y. apart (log_id n) id k e y) d.objects p in
@@ -275,7 +275,7 @@ sample_log : (d : State) (instance : ℕ) (o : object.Object) (l : Logger) (y : 
 sample_log d instance o l (Err f) x e is at h = absurd (err_state f x h)
 sample_log d instance o l (Ok log) x e is at h =
     let s : BodySteps o.body (body.Log (record l { log = log })) = subst (λ (b : Body). BodySteps b (body.Log (record l { log = log }))) (sym is)
-        (record l { log = log }, refl, takes_steps _ (newest l.log == last_ordinal) (sample_of d d.clock l.source) l.log log refl e) in
+    (record l { log = log }, refl, takes_steps _ (newest l.log == last_ordinal) (sample_of d d.clock l.source) l.log log refl e) in
     subst (λ (y : ℕ × State). Keeps d y.1) (ok_state _ x h) (keeps_set d (log_id instance) o (record o { body = body.Log (record l { log = log }) }) at s)
 
 sample_body : (d : State) (instance : ℕ) (o : object.Object) (b : Body) (x : ℕ × State) → o.body ≡ b → lookup (is_id (log_id instance)) d.objects ≡ Some o

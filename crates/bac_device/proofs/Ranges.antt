@@ -76,7 +76,7 @@ pub got_long : (log : Log) (p i many k : ℕ) (e : Entry) (old : List ℕ) → i
     → 1501 < length (entries_octets (take many (drop p log.entries)))
 got_long log p i many k e old lt h is before long =
     let size : length (entries_octets (take (i + 1) (drop p log.entries))) ≡ length old + length (entry_octets e) =
-        ap (λ (l : List ℕ). length l) (text_next log p i k e h is ∙ ap (λ (l : List ℕ). l ++ entry_octets e) (sym before)) ∙ length-append old (entry_octets e) in
+    ap (λ (l : List ℕ). length l) (text_next log p i k e h is ∙ ap (λ (l : List ℕ). l ++ entry_octets e) (sym before)) ∙ length-append old (entry_octets e) in
     omega (arith, size, long, more_taken (i + 1) many (drop p log.entries) (omega (arith, lt)))
 
 -- ---- the ACK
@@ -194,9 +194,9 @@ said_records limit invoke object extent log s is e fits =
     let first : s.first_number ≡ first_shown extent rs = ap (λ (x : Selected). x.first_number) is ∙ first_is log extent (selected log extent) rs in
     let flags : s.flags ≡ (answer_of log extent limit).flags = ap (λ (x : Selected). x.flags) is in
     let same : ack_parameters object s.flags s.first_number (entries_from log s) ≡ ack_parameters object (answer_of log extent limit).flags (first_shown extent rs) (entries_in rs) =
-        ap (λ (f : ℕ). ack_parameters object f s.first_number (entries_from log s)) flags
-        ∙ ap (λ (n : Option ℕ). ack_parameters object (answer_of log extent limit).flags n (entries_from log s)) first
-        ∙ ap (λ (es : List Entry). ack_parameters object (answer_of log extent limit).flags (first_shown extent rs) es) (sym e) in
+    ap (λ (f : ℕ). ack_parameters object f s.first_number (entries_from log s)) flags
+    ∙ ap (λ (n : Option ℕ). ack_parameters object (answer_of log extent limit).flags n (entries_from log s)) first
+    ∙ ap (λ (es : List Entry). ack_parameters object (answer_of log extent limit).flags (first_shown extent rs) es) (sym e) in
     ap (λ (p : List ℕ). datagram_octets (limited limit invoke (Complex false invoke 26 p))) same
     ∙ ap (λ (b : Bool). datagram_octets (cond b (abort invoke) (limited limit invoke (records_ack limit invoke object extent log)))) (sym (fits_test (selected log extent) rs fits))
 

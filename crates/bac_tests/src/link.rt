@@ -20,8 +20,8 @@ const QUESTION: [u8; 23] = [
 
 /// Its answer: one record, the first and the last held, number 1.
 const REPLY: [u8; 44] = [
-    0x81, 0x0a, 0, 0x2c, 1, 0, 0x30, 1, 0x1a, 0x0c, 5, 0, 0, 1, 0x19, 0x83, 0x3a, 5, 0xc0, 0x49,
-    1, 0x5e, 0x0e, 0xa4, 0x7c, 5, 6, 1, 0xb4, 7, 8, 9, 0x0a, 0x0f, 0x1e, 0x39, 0, 0x1f, 0x2a, 4, 0,
+    0x81, 0x0a, 0, 0x2c, 1, 0, 0x30, 1, 0x1a, 0x0c, 5, 0, 0, 1, 0x19, 0x83, 0x3a, 5, 0xc0, 0x49, 1,
+    0x5e, 0x0e, 0xa4, 0x7c, 5, 6, 1, 0xb4, 7, 8, 9, 0x0a, 0x0f, 0x1e, 0x39, 0, 0x1f, 0x2a, 4, 0,
     0x5f, 0x69, 1,
 ];
 
@@ -76,7 +76,10 @@ fn an_answer_closes_its_request(rt: HostRuntime) -> Result<(), Fail> {
     let mut broadcast = REPLY;
     broadcast[1] = 0x0b;
     assert_eq!(rt; transactions.receive(&broadcast), Received::Ignored);
-    assert_eq!(rt; transactions.receive(&REPLY), Received::Done(Answer::Complex(&REPLY[9..])));
+    assert_eq!(rt;
+        transactions.receive(&REPLY),
+        Received::Done(Answer::Complex(&REPLY[9..]))
+    );
     assert_eq!(rt; transactions.receive(&REPLY), Received::Ignored);
     // the next request has invoke ID 2
     let sent = transactions.begin(&question)?;
@@ -90,7 +93,10 @@ fn what_answers_a_request(rt: HostRuntime) -> Result<(), Fail> {
         (&REPLY, true),
         // SimpleACK, Error, Reject, and the Abort of a server
         (&[0x81, 0x0a, 0, 9, 1, 0, 0x20, 1, 0x0f], true),
-        (&[0x81, 0x0a, 0, 13, 1, 0, 0x50, 1, 0x1a, 0x91, 1, 0x91, 31], true),
+        (
+            &[0x81, 0x0a, 0, 13, 1, 0, 0x50, 1, 0x1a, 0x91, 1, 0x91, 31],
+            true,
+        ),
         (&[0x81, 0x0a, 0, 9, 1, 0, 0x60, 1, 9], true),
         (&[0x81, 0x0a, 0, 9, 1, 0, 0x71, 1, 4], true),
         // the Abort of a client
@@ -193,9 +199,18 @@ fn what_an_exchange_makes_of_an_answer(rt: HostRuntime) -> Result<(), Fail> {
             ExchangeFault::Refused(Refusal::Reject(9)),
         ),
         // the ACK of ReadProperty, a SimpleACK, and a segment
-        (&[0x81, 0x0a, 0, 9, 1, 0, 0x30, 1, 0x0c], ExchangeFault::BadReply),
-        (&[0x81, 0x0a, 0, 9, 1, 0, 0x20, 1, 0x1a], ExchangeFault::BadReply),
-        (&[0x81, 0x0a, 0, 11, 1, 0, 0x38, 1, 0, 4, 0x1a], ExchangeFault::BadReply),
+        (
+            &[0x81, 0x0a, 0, 9, 1, 0, 0x30, 1, 0x0c],
+            ExchangeFault::BadReply,
+        ),
+        (
+            &[0x81, 0x0a, 0, 9, 1, 0, 0x20, 1, 0x1a],
+            ExchangeFault::BadReply,
+        ),
+        (
+            &[0x81, 0x0a, 0, 11, 1, 0, 0x38, 1, 0, 4, 0x1a],
+            ExchangeFault::BadReply,
+        ),
     ];
     for (reply, want) in rows {
         let (result, failures) = exchanged(0, reply)?;

@@ -45,7 +45,10 @@ pub fn records_from<L: LogLink>(
         object: log,
         property: 131,
         index: None,
-        extent: Extent::ByNumber { reference: from, count: 100 },
+        extent: Extent::ByNumber {
+            reference: from,
+            count: 100,
+        },
     });
     exchange(link, transactions, &request)
 }

@@ -129,7 +129,10 @@ fn unspecified_parts_are_stars(rt: HostRuntime) -> Result<(), Fail> {
         hundredth: ANY,
     };
     push_value(&mut text, &Value::Time(clock))?;
-    assert_eq!(rt; text.as_slice(), b"date(*-13-*,*)time(200:*:00.*)".as_slice());
+    assert_eq!(rt;
+        text.as_slice(),
+        b"date(*-13-*,*)time(200:*:00.*)".as_slice()
+    );
     Ok(())
 }
 

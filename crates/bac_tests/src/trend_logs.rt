@@ -1,9 +1,7 @@
 //! Trend logs of a device by their public calls: samples on demand and as the clock goes on, and
 //! what ReadRange answers. The octets are written by hand.
 
-use bac_device::{
-    BuildFault, ClockBack, Device, DeviceLine, Name, ObjectLine, SampleFault,
-};
+use bac_device::{BuildFault, ClockBack, Device, DeviceLine, Name, ObjectLine, SampleFault};
 use bac_wire::{ObjectId, Stamp};
 use std::alloc::Global;
 use std::process::Abort;
@@ -63,13 +61,24 @@ fn with_trend(
     interval: u32,
     logged: u32,
 ) -> Result<Device, Fail> {
-    let lines = [pump(alloc)?, log(alloc, 1, "trend", (5, 1), capacity, interval, logged)?];
-    Ok(Device::build(alloc, &plant(alloc, reply_size)?, &lines).ok().ok_or("not built")?)
+    let lines = [
+        pump(alloc)?,
+        log(alloc, 1, "trend", (5, 1), capacity, interval, logged)?,
+    ];
+    Ok(
+        Device::build(alloc, &plant(alloc, reply_size)?, &lines)
+            .ok()
+            .ok_or("not built")?,
+    )
 }
 
 /// The octets that digits spell.
 fn octets(alloc: Global, digits: &str) -> Result<Vec<u8>, Fail> {
-    Ok(hex::decode(alloc, digits.as_bytes()).ok().ok_or("no digits")?)
+    Ok(
+        hex::decode(alloc, digits.as_bytes())
+            .ok()
+            .ok_or("no digits")?,
+    )
 }
 
 /// A datagram is answered by another one.
@@ -80,8 +89,13 @@ fn answers(
     asked: &str,
     answered: &str,
 ) -> Result<(), Fail> {
-    let reply = device.handle(octets(alloc, asked)?.as_slice()).ok_or("no reply")?;
-    assert_eq!(rt; reply.datagram.octets(), octets(alloc, answered)?.as_slice());
+    let reply = device
+        .handle(octets(alloc, asked)?.as_slice())
+        .ok_or("no reply")?;
+    assert_eq!(rt;
+        reply.datagram.octets(),
+        octets(alloc, answered)?.as_slice()
+    );
     Ok(())
 }
 
@@ -90,16 +104,32 @@ fn a_sample_is_read_by_its_number(rt: HostRuntime) -> Result<(), Fail> {
     let a = rt.alloc();
     let mut device = with_trend(a, 1476, 3, 0, 0)?;
     let by_number = "810a001701040005011a0c0500000119836e210131646f";
-    answers(&rt, a, &mut device, by_number, "810a0017010030011a0c0500000119833a050049005e5f")?;
+    answers(
+        &rt,
+        a,
+        &mut device,
+        by_number,
+        "810a0017010030011a0c0500000119833a050049005e5f",
+    )?;
     assert_eq!(rt; device.sample(1), Ok(1));
-    answers(&rt, a, &mut device, by_number,
-        "810a002c010030011a0c0500000119833a05c049015e0ea47c050601b40708090a0f1e39001f2a04005f6901")?;
+    answers(
+        &rt,
+        a,
+        &mut device,
+        by_number,
+        "810a002c010030011a0c0500000119833a05c049015e0ea47c050601b40708090a0f1e39001f2a04005f6901",
+    )?;
     for number in 2..6u32 {
         assert_eq!(rt; device.sample(1), Ok(number));
     }
     // Records 1 and 2 are gone.
-    answers(&rt, a, &mut device, "810a001701040005011a0c0500000119836e210131036f",
-        "810a002c010030011a0c0500000119833a058049015e0ea47c050601b40708090a0f1e39001f2a04005f6903")
+    answers(
+        &rt,
+        a,
+        &mut device,
+        "810a001701040005011a0c0500000119836e210131036f",
+        "810a002c010030011a0c0500000119833a058049015e0ea47c050601b40708090a0f1e39001f2a04005f6903",
+    )
 }
 
 #[test]
@@ -111,10 +141,20 @@ fn records_are_read_by_time(rt: HostRuntime) -> Result<(), Fail> {
         assert_eq!(rt; device.advance(at(8, 9, hundredth)?), Ok(0));
         assert_eq!(rt; device.sample(1), Ok(hundredth as u32 - 9));
     }
-    answers(&rt, a, &mut device, "810a001f01040005011a0c0500000119837ea47c050601b40708090d31017f",
-        "810a002c010030011a0c0500000119833a054049015e0ea47c050601b40708090e0f1e39001f2a04005f6905")?;
-    answers(&rt, a, &mut device, "810a001f01040005011a0c0500000119837ea47c050601b40708090d31ff7f",
-        "810a002c010030011a0c0500000119833a050049015e0ea47c050601b40708090c0f1e39001f2a04005f6903")
+    answers(
+        &rt,
+        a,
+        &mut device,
+        "810a001f01040005011a0c0500000119837ea47c050601b40708090d31017f",
+        "810a002c010030011a0c0500000119833a054049015e0ea47c050601b40708090e0f1e39001f2a04005f6905",
+    )?;
+    answers(
+        &rt,
+        a,
+        &mut device,
+        "810a001f01040005011a0c0500000119837ea47c050601b40708090d31ff7f",
+        "810a002c010030011a0c0500000119833a050049015e0ea47c050601b40708090c0f1e39001f2a04005f6903",
+    )
 }
 
 #[test]
@@ -124,9 +164,20 @@ fn records_are_read_by_position(rt: HostRuntime) -> Result<(), Fail> {
     for number in 1..6u32 {
         assert_eq!(rt; device.sample(1), Ok(number));
     }
-    answers(&rt, a, &mut device, "810a001701040005021a0c0500000119833e210331fe3f",
-        "810a003d010030021a0c0500000119833a050049025e0ea47c050601b40708090a0f1e39001f2a04000ea47c050601b40708090a0f1e39001f2a04005f")?;
-    answers(&rt, a, &mut device, "810a001701040005031a0c0500000119833e210331003f", "810a00090100600306")
+    answers(
+        &rt,
+        a,
+        &mut device,
+        "810a001701040005021a0c0500000119833e210331fe3f",
+        "810a003d010030021a0c0500000119833a050049025e0ea47c050601b40708090a0f1e39001f2a04000ea47c050601b40708090a0f1e39001f2a04005f",
+    )?;
+    answers(
+        &rt,
+        a,
+        &mut device,
+        "810a001701040005031a0c0500000119833e210331003f",
+        "810a00090100600306",
+    )
 }
 
 #[test]
@@ -136,8 +187,13 @@ fn fifty_octets_hold_one_record(rt: HostRuntime) -> Result<(), Fail> {
     for number in 1..4u32 {
         assert_eq!(rt; device.sample(1), Ok(number));
     }
-    answers(&rt, a, &mut device, "810a001701040005011a0c0500000119836e210131646f",
-        "810a002c010030011a0c0500000119833a05a049015e0ea47c050601b40708090a0f1e39001f2a04005f6901")
+    answers(
+        &rt,
+        a,
+        &mut device,
+        "810a001701040005011a0c0500000119836e210131646f",
+        "810a002c010030011a0c0500000119833a05a049015e0ea47c050601b40708090a0f1e39001f2a04005f6901",
+    )
 }
 
 #[test]
@@ -147,9 +203,27 @@ fn numbers_run_out(rt: HostRuntime) -> Result<(), Fail> {
     assert_eq!(rt; device.sample(1), Ok(4_294_967_294));
     assert_eq!(rt; device.sample(1), Err(SampleFault::CycleFull));
     // A purge, and a change of Enable, are refused: property, write-access-denied.
-    answers(&rt, a, &mut device, "810a001501040005090f0c05000001198d3e21003f", "810a000d010050090f91029128")?;
-    answers(&rt, a, &mut device, "810a001401040005010f0c0500000119853e103f", "810a000d010050010f91029128")?;
-    answers(&rt, a, &mut device, "810a001401040005010f0c0500000119853e113f", "810a0009010020010f")?;
+    answers(
+        &rt,
+        a,
+        &mut device,
+        "810a001501040005090f0c05000001198d3e21003f",
+        "810a000d010050090f91029128",
+    )?;
+    answers(
+        &rt,
+        a,
+        &mut device,
+        "810a001401040005010f0c0500000119853e103f",
+        "810a000d010050010f91029128",
+    )?;
+    answers(
+        &rt,
+        a,
+        &mut device,
+        "810a001401040005010f0c0500000119853e113f",
+        "810a0009010020010f",
+    )?;
     assert_eq!(rt; device.log(1).ok_or("no log")?.count(), 1);
     Ok(())
 }
@@ -168,8 +242,16 @@ fn sources_that_have_no_value_are_logged_as_failures(rt: HostRuntime) -> Result<
         log(a, 2, "lone", (45, 9), 3, 0, 0)?,
         log(a, 4, "own", (8, 123), 3, 0, 0)?,
     ];
-    let mut device = Device::build(a, &plant(a, 1476)?, &lines).ok().ok_or("not built")?;
-    answers(&rt, a, &mut device, "810a001501040005010f0c0b40000119553e31fb3f", "810a0009010020010f")?;
+    let mut device = Device::build(a, &plant(a, 1476)?, &lines)
+        .ok()
+        .ok_or("not built")?;
+    answers(
+        &rt,
+        a,
+        &mut device,
+        "810a001501040005010f0c0b40000119553e31fb3f",
+        "810a0009010020010f",
+    )?;
     assert_eq!(rt; device.sample(1), Ok(1));
     assert_eq!(rt; device.sample(2), Ok(1));
     assert_eq!(rt; device.sample(3), Err(SampleFault::NoSuchLog));
@@ -177,12 +259,27 @@ fn sources_that_have_no_value_are_logged_as_failures(rt: HostRuntime) -> Result<
     assert_eq!(rt; device.sample(4_194_304), Err(SampleFault::NoSuchLog));
     assert!(rt; device.log(3).is_none());
     // Signed -5 with flags 0000; failures object, unknown-object and property, unknown-property.
-    answers(&rt, a, &mut device, "810a001701040005011a0c0500000119836e210131646f",
-        "810a002c010030011a0c0500000119833a05c049015e0ea47c050601b40708090a0f1e59fb1f2a04005f6901")?;
-    answers(&rt, a, &mut device, "810a001701040005011a0c0500000219836e210131646f",
-        "810a002d010030011a0c0500000219833a05c049015e0ea47c050601b40708090a0f1e8e9101911f8f1f5f6901")?;
-    answers(&rt, a, &mut device, "810a001701040005011a0c0500000419836e210131646f",
-        "810a002d010030011a0c0500000419833a05c049015e0ea47c050601b40708090a0f1e8e910291208f1f5f6901")
+    answers(
+        &rt,
+        a,
+        &mut device,
+        "810a001701040005011a0c0500000119836e210131646f",
+        "810a002c010030011a0c0500000119833a05c049015e0ea47c050601b40708090a0f1e59fb1f2a04005f6901",
+    )?;
+    answers(
+        &rt,
+        a,
+        &mut device,
+        "810a001701040005011a0c0500000219836e210131646f",
+        "810a002d010030011a0c0500000219833a05c049015e0ea47c050601b40708090a0f1e8e9101911f8f1f5f6901",
+    )?;
+    answers(
+        &rt,
+        a,
+        &mut device,
+        "810a001701040005011a0c0500000419836e210131646f",
+        "810a002d010030011a0c0500000419833a05c049015e0ea47c050601b40708090a0f1e8e910291208f1f5f6901",
+    )
 }
 
 #[test]
@@ -202,16 +299,38 @@ fn a_disabled_log_takes_no_sample(rt: HostRuntime) -> Result<(), Fail> {
     let a = rt.alloc();
     let mut device = with_trend(a, 1476, 3, 0, 0)?;
     for _ in 0..2u32 {
-        answers(&rt, a, &mut device, "810a001401040005010f0c0500000119853e103f", "810a0009010020010f")?;
+        answers(
+            &rt,
+            a,
+            &mut device,
+            "810a001401040005010f0c0500000119853e103f",
+            "810a0009010020010f",
+        )?;
     }
     assert_eq!(rt; device.sample(1), Err(SampleFault::Disabled));
     // One log-status, log-disabled.
-    answers(&rt, a, &mut device, "810a001701040005011a0c0500000119836e210131646f",
-        "810a002a010030011a0c0500000119833a05c049015e0ea47c050601b40708090a0f1e0a05801f5f6901")?;
+    answers(
+        &rt,
+        a,
+        &mut device,
+        "810a001701040005011a0c0500000119836e210131646f",
+        "810a002a010030011a0c0500000119833a05c049015e0ea47c050601b40708090a0f1e0a05801f5f6901",
+    )?;
     // A purge leaves a log-status, log-disabled and buffer-purged, with number 2.
-    answers(&rt, a, &mut device, "810a001501040005090f0c05000001198d3e21003f", "810a0009010020090f")?;
-    answers(&rt, a, &mut device, "810a001701040005011a0c0500000119836e210131646f",
-        "810a002a010030011a0c0500000119833a05c049015e0ea47c050601b40708090a0f1e0a05c01f5f6902")
+    answers(
+        &rt,
+        a,
+        &mut device,
+        "810a001501040005090f0c05000001198d3e21003f",
+        "810a0009010020090f",
+    )?;
+    answers(
+        &rt,
+        a,
+        &mut device,
+        "810a001701040005011a0c0500000119836e210131646f",
+        "810a002a010030011a0c0500000119833a05c049015e0ea47c050601b40708090a0f1e0a05c01f5f6902",
+    )
 }
 
 #[test]
@@ -219,19 +338,67 @@ fn errors_of_read_range_in_their_order(rt: HostRuntime) -> Result<(), Fail> {
     let a = rt.alloc();
     let mut device = with_trend(a, 1476, 3, 0, 0)?;
     // Trend Log 2, and Device 4194303: object, unknown-object.
-    answers(&rt, a, &mut device, "810a001101040005011a0c050000021983", "810a000d010050011a9101911f")?;
-    answers(&rt, a, &mut device, "810a001101040005011a0c023fffff1983", "810a000d010050011a9101911f")?;
+    answers(
+        &rt,
+        a,
+        &mut device,
+        "810a001101040005011a0c050000021983",
+        "810a000d010050011a9101911f",
+    )?;
+    answers(
+        &rt,
+        a,
+        &mut device,
+        "810a001101040005011a0c023fffff1983",
+        "810a000d010050011a9101911f",
+    )?;
     // Log_Buffer of Binary Value 1: property, unknown-property.
-    answers(&rt, a, &mut device, "810a001101040005011a0c014000011983", "810a000d010050011a91029120")?;
+    answers(
+        &rt,
+        a,
+        &mut device,
+        "810a001101040005011a0c014000011983",
+        "810a000d010050011a91029120",
+    )?;
     // Log_Buffer with an index: property, property-is-not-an-array.
-    answers(&rt, a, &mut device, "810a001301040005011a0c0500000119832901", "810a000d010050011a91029132")?;
+    answers(
+        &rt,
+        a,
+        &mut device,
+        "810a001301040005011a0c0500000119832901",
+        "810a000d010050011a91029132",
+    )?;
     // Enable, and Object_List of the device: services, property-is-not-a-list.
-    answers(&rt, a, &mut device, "810a001101040005011a0c050000011985", "810a000d010050011a91059116")?;
-    answers(&rt, a, &mut device, "810a001101040005011a0c0200007b194c", "810a000d010050011a91059116")?;
+    answers(
+        &rt,
+        a,
+        &mut device,
+        "810a001101040005011a0c050000011985",
+        "810a000d010050011a91059116",
+    )?;
+    answers(
+        &rt,
+        a,
+        &mut device,
+        "810a001101040005011a0c0200007b194c",
+        "810a000d010050011a91059116",
+    )?;
     // ReadProperty of Log_Buffer: property, read-access-denied.
-    answers(&rt, a, &mut device, "810a001101040005010c0c050000011983", "810a000d010050010c9102911b")?;
+    answers(
+        &rt,
+        a,
+        &mut device,
+        "810a001101040005010c0c050000011983",
+        "810a000d010050010c9102911b",
+    )?;
     // Log_DeviceObjectProperty: Present_Value of Binary Value 1.
-    answers(&rt, a, &mut device, "810a001101040005010c0c050000011984", "810a0019010030010c0c0500000119843e0c0140000119553f")
+    answers(
+        &rt,
+        a,
+        &mut device,
+        "810a001101040005010c0c050000011984",
+        "810a0019010030010c0c0500000119843e0c0140000119553f",
+    )
 }
 
 #[test]
@@ -239,11 +406,20 @@ fn the_first_fault_of_a_log_line(rt: HostRuntime) -> Result<(), Fail> {
     let a = rt.alloc();
     let device = plant(a, 1476)?;
     let none = [log(a, 1, "trend", (5, 1), 0, 99, 4_294_967_295)?];
-    assert_eq!(rt; Device::build(a, &device, &none).err(), Some(BuildFault::BadCapacity));
+    assert_eq!(rt;
+        Device::build(a, &device, &none).err(),
+        Some(BuildFault::BadCapacity)
+    );
     let fast = [log(a, 1, "trend", (5, 1), 65_535, 99, 4_294_967_295)?];
-    assert_eq!(rt; Device::build(a, &device, &fast).err(), Some(BuildFault::BadInterval));
+    assert_eq!(rt;
+        Device::build(a, &device, &fast).err(),
+        Some(BuildFault::BadInterval)
+    );
     let used_up = [log(a, 1, "trend", (5, 1), 65_535, 100, 4_294_967_295)?];
-    assert_eq!(rt; Device::build(a, &device, &used_up).err(), Some(BuildFault::BadLogged));
+    assert_eq!(rt;
+        Device::build(a, &device, &used_up).err(),
+        Some(BuildFault::BadLogged)
+    );
     let good = [log(a, 1, "trend", (5, 1), 65_535, 100, 4_294_967_294)?];
     assert_eq!(rt; Device::build(a, &device, &good).err(), None);
     Ok(())

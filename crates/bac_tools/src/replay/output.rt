@@ -30,7 +30,10 @@ fn write_again<W: Write>(writer: &mut W, text: &[u8]) -> Result<usize>
 }
 
 /// Writes the text, or a front part of it.
-pub(crate) fn write_text<W: Write>(writer: &mut W, text: &[u8]) -> std::result::Result<(), WriteRefused>
+pub(crate) fn write_text<W: Write>(
+    writer: &mut W,
+    text: &[u8],
+) -> std::result::Result<(), WriteRefused>
     ensures ok { OnOk result (Appends (W.contents writer.old) (W.contents writer.new) text.now) }
     ensures err { OnErr result (AppendsPart (W.contents writer.old) (W.contents writer.new) text.now) }
 {

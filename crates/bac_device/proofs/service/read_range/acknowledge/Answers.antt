@@ -17,7 +17,7 @@ returns-in-Ok-write c =
     let entries : List Entry = take s.how_many (drop (s.first_position - 1) c.args.log.now.entries) in
     let count = counted s.how_many (s.first_position - 1) c.args.log.now.entries c.requires.within in
     let text = c.octets-in-Ok-write.ensures.value ∙ fresh c.new-parameters.result _ _ (c.in-Ok-write.ensures {u = tt}).0 c.new-parameters.ensures
-        ∙ written c.args.object s.flags s.how_many s.first_number entries c.octets.result.now (c.octets.ensures.value ∙ c.in-Ok.ensures) count in
+    ∙ written c.args.object s.flags s.how_many s.first_number entries c.octets.result.now (c.octets.ensures.value ∙ c.in-Ok.ensures) count in
     c.complex.ensures ∙ ap (λ (p : List ℕ). datagram_octets (limited c.args.limit c.args.invoke (Complex false c.args.invoke 26 p))) text
 
 pub returns-in-Err : goal.returns-in-Err

@@ -15,7 +15,7 @@ pub returns-in-Err : goal.returns-in-Err
 returns-in-Err c =
     subst (λ p. 1501 < length (entries_octets (take c.args.selected.how_many (drop p c.args.log.now.entries)))) c.saturating_sub-start.ensures
     (got_long c.args.log.now c.saturating_sub-start.result c.loop-taken.taken c.args.selected.how_many _ c.in-Some.entry c.loop-taken.items c.loop-taken-test.true
-        (sym (c.in-Some.ensures {u = tt}).get) (omega arith) c.loop-taken.invariant (c.in-Err.ensures {u = tt}).1)
+    (sym (c.in-Some.ensures {u = tt}).get) (omega arith) c.loop-taken.invariant (c.in-Err.ensures {u = tt}).1)
 
 pub loop-taken-preserved : goal.loop-taken-preserved
 loop-taken-preserved c =
