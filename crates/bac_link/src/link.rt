@@ -22,9 +22,8 @@ pub struct Lost;
 /// moments are those of one log that records and purges as it goes on, and never go back. Nothing
 /// is promised of other requests, of when an answer comes, or of how often one is lost.
 ///
-/// That a link is honest is a premise of what is proved over it. A link straight to a device in
-/// memory is proved to be honest. A socket is not claimed to be: datagrams there may be altered,
-/// repeated, or sent by someone else.
+/// That a link is honest is a premise of what is proved over it. A socket is not claimed to be:
+/// datagrams there may be altered, repeated, or sent by someone else.
 pub trait LogLink {
     /// How many asks have failed, up to the greatest `u64`, where the count stays.
     ghost failures: { Self → ℕ };
