@@ -2,6 +2,7 @@
 
 ghost use Rattle.std.specs.Prelude.{◌≡◌, ℕ, None, Some, map, slice_get, IfOk};
 ghost use Rattle.bac_objects.specs.Build.{built, id_of};
+ghost use Rattle.bac_objects.specs.declared.command.Setting.{Setting};
 ghost use Rattle.bac_objects.specs.declared.lines.ObjectLine.{ObjectLine as Line};
 ghost use Rattle.bac_device.specs.History.{IsCommanded, after, default_of, write_asked, writes};
 
@@ -29,7 +30,7 @@ pub fn ask(device: &mut Device, datagram: &[u8]) -> Option<Reply>
     device.handle(datagram)
 }
 
-/// Builds a device and gives it datagrams: each of its objects then has at each priority what the
+/// Builds a device and gives it datagrams: each of its commandable objects then has at each priority what the
 /// last accepted write at it set, and the present value that follows.
 pub fn build_and_give(
     alloc: Global,
@@ -37,7 +38,7 @@ pub fn build_and_give(
     lines: &[ObjectLine],
     datagrams: &[&[u8]],
 ) -> Result<Device, BuildFault>
-    ensures { IfOk result (λ device. (i : ℕ) (object : Line) → slice_get lines.now i ≡ Some object → IsCommanded device (id_of object) (writes (built line.now lines.now) (map (λ datagram. datagram.now) datagrams.now)) (default_of object)) }
+    ensures { IfOk result (λ device. (i : ℕ) (object : Line) (default : Setting) → slice_get lines.now i ≡ Some object → default_of object ≡ Some default → IsCommanded device (id_of object) (writes (built line.now lines.now) (map (λ datagram. datagram.now) datagrams.now)) default) }
 {
     built_objects_are_commanded();
     let mut device = Device::build(alloc, line, lines)?;
