@@ -119,7 +119,7 @@ fn lines_are_counted_and_cut(rt: HostRuntime) -> Result<(), Fail> {
 }
 
 /// Lines that are bad as the second of a script whose first is the device.
-const BAD: [&[u8]; 20] = [
+const BAD: [&[u8]; 27] = [
     b"rx\n",
     b"rx \n",
     b"rx 0g\n",
@@ -139,6 +139,13 @@ const BAD: [&[u8]; 20] = [
     b"binary 4294967296 pump 0\n",
     b"multistate 1 mode 3\n",
     b"clock 2024-05-06\n",
+    b"log 1 trend binary 1 3 0\n",
+    b"log 1 trend binary 1 3 0 0 0\n",
+    b"log 1 trend real 1 3 0 0\n",
+    b"log 1 trend binary 4194304 3 0 0\n",
+    b"log 1 trend binary 1 4294967296 0 0\n",
+    b"sample\n",
+    b"sample 4294967296\n",
     b"device 123 plant 0 1476 2024-05-06T07:08:09.10\n",
 ];
 
@@ -256,7 +263,7 @@ fn devices_are_built_at_the_first_event(rt: HostRuntime) -> Result<(), Fail> {
 }
 
 /// Object lines behind Device 123, and the fault of the device.
-const OBJECTS: [(&[u8], Option<BuildFault>); 16] = [
+const OBJECTS: [(&[u8], Option<BuildFault>); 24] = [
     (
         b"binary 1 pump 0\nbinary 2 fan 1\nmultistate 1 mode 3 3\n",
         None,
@@ -279,6 +286,33 @@ const OBJECTS: [(&[u8], Option<BuildFault>); 16] = [
     (b"multistate 1 mode 65536 1\n", Some(BuildFault::BadStates)),
     (b"multistate 1 mode 3 0\n", Some(BuildFault::BadDefault)),
     (b"multistate 1 mode 3 4\n", Some(BuildFault::BadDefault)),
+    // A log of an object that isn't there; the greatest instance of a source.
+    (b"log 1 trend binary 1 65535 100 0\n", None),
+    (b"log 1 trend device 4194303 1 0 0\n", None),
+    (
+        b"log 1 trend binary 1 0 0 0\n",
+        Some(BuildFault::BadCapacity),
+    ),
+    (
+        b"log 1 trend binary 1 65536 0 0\n",
+        Some(BuildFault::BadCapacity),
+    ),
+    (
+        b"log 1 trend binary 1 3 99 0\n",
+        Some(BuildFault::BadInterval),
+    ),
+    (
+        b"log 1 trend binary 1 3 0 4294967295\n",
+        Some(BuildFault::BadLogged),
+    ),
+    (
+        b"log 1 trend binary 1 0 99 4294967295\n",
+        Some(BuildFault::BadCapacity),
+    ),
+    (
+        b"log 1 trend binary 1 3 99 4294967295\n",
+        Some(BuildFault::BadInterval),
+    ),
     // The first faulty line comes first, and of a line the first test in their order.
     (
         b"multistate 1 mode 0 0\nbinary 4194303 pump 0\n",
@@ -325,6 +359,40 @@ fn the_clock_is_not_set_back(rt: HostRuntime) -> Result<(), Fail> {
         &[b"sampled 0\nclock back\nsampled 0\nclock back\n"],
         Ok(()),
     )
+}
+
+/// Trend Log 2 samples Binary Value 1 each second, and has three sequence numbers left.
+const LOG: &[u8] = b"binary 1 pump 0\nlog 2 trend binary 1 3 100 4294967291\n";
+
+#[test]
+fn samples_are_numbered(rt: HostRuntime) -> Result<(), Fail> {
+    plays(
+        &rt,
+        rt.alloc(),
+        &[
+            DEVICE,
+            LOG,
+            b"sample 2\nsample 1\nsample 4194304\n",
+            b"clock 2024-05-06T07:08:10.09\nclock 2024-05-06T07:08:10.10\n",
+            b"sample 2\nsample 2\nclock 2024-05-06T07:08:11.10\n",
+        ],
+        &[
+            b"number 4294967292\nrefused: no such log\nrefused: no such log\n",
+            b"sampled 0\nsampled 1\n",
+            b"number 4294967294\nrefused: cycle full\nsampled 0\n",
+        ],
+        Ok(()),
+    )?;
+    // A log behind an event; a sample before the device.
+    plays(
+        &rt,
+        rt.alloc(),
+        &[DEVICE, b"sample 1\n", LOG],
+        &[b"refused: no such log\n"],
+        Err(ReplayFault::BadLine(3)),
+    )?;
+    let bad = Err(ReplayFault::BadLine(1));
+    plays(&rt, rt.alloc(), &[b"sample 1\n", DEVICE], &[], bad)
 }
 
 #[test]
@@ -410,6 +478,18 @@ fn faults_have_their_texts(rt: HostRuntime) -> Result<(), Fail> {
         (
             ReplayFault::Build(BuildFault::BadDefault),
             "cannot build: bad default",
+        ),
+        (
+            ReplayFault::Build(BuildFault::BadCapacity),
+            "cannot build: bad capacity",
+        ),
+        (
+            ReplayFault::Build(BuildFault::BadInterval),
+            "cannot build: bad interval",
+        ),
+        (
+            ReplayFault::Build(BuildFault::BadLogged),
+            "cannot build: bad logged count",
         ),
         (
             ReplayFault::Build(BuildFault::BadReplySize),

@@ -3,16 +3,19 @@ use Rattle.std.specs.Prelude.{ℕ, ◌+◌, ◌*◌, decimal, if◌then◌else�
 use Rattle.hex.specs.Hex.{encode_lower}
 use Rattle.bac_device.specs.Answer.{answer}
 use Rattle.bac_objects.specs.Build.{build_fault, built}
+use Rattle.bac_objects.specs.Sampling.{sampled}
 use Rattle.bac_device.specs.Clock.{advanced}
 use Rattle.bac_objects.specs.State as device
 use Rattle.bac_objects.specs.declared.build.BuildFault.{BuildFault}
 use Rattle.bac_objects.specs.declared.lines.DeviceLine.{DeviceLine}
 use Rattle.bac_objects.specs.declared.lines.ObjectLine.{ObjectLine}
+use Rattle.bac_objects.specs.declared.sampling.SampleFault.{SampleFault}
+use Rattle.bac_objects.specs.declared.sampling.SampleFault.TheVariants.{NoSuchLog, Disabled, CycleFull}
 use Rattle.bac_device.specs.declared.reply.Receiver.{Receiver}
 use Rattle.bac_device.specs.declared.reply.Receiver.TheVariants.{Sender, Address}
 use Rattle.bac_device.specs.declared.reply.Reply.{Reply}
 use Rattle.bac_tools.specs.Fault.{Refusal, Bad, Unbuilt}
-use Rattle.bac_tools.specs.Script.Line.{Event, Received, Clocked, ScriptLine, Device, Object, Happens, is_silent, line_in}
+use Rattle.bac_tools.specs.Script.Line.{Event, Received, Clocked, Sampled, ScriptLine, Device, Object, Happens, is_silent, line_in}
 
 -- what the lines so far have made: nothing, a device that is described with its objects in the order of their lines, or one that runs
 pub data State : Type 0 where
@@ -65,10 +68,22 @@ abbrev pub clocked : device.State → Option (ℕ × device.State) → List ℕ 
 clocked device None = (clock_text None, device)
 clocked device (Some taken) = (clock_text (Some taken.0), taken.1)
 
+-- what a sample on demand prints: its number, or why the log takes none
+abbrev pub sample_text : Result ℕ SampleFault → List ℕ
+sample_text (Ok number) = codes "number " ++ (decimal number ++ 10 ∷ [])
+sample_text (Err NoSuchLog) = codes "refused: no such log" ++ 10 ∷ []
+sample_text (Err Disabled) = codes "refused: disabled" ++ 10 ∷ []
+sample_text (Err CycleFull) = codes "refused: cycle full" ++ 10 ∷ []
+
+abbrev pub sample_taken : device.State → Result (ℕ × device.State) SampleFault → List ℕ × device.State
+sample_taken device (Ok taken) = (sample_text (Ok taken.0), taken.1)
+sample_taken device (Err fault) = (sample_text (Err fault), device)
+
 -- what it prints, and the device after it
 abbrev pub happens : device.State → Event → List ℕ × device.State
 happens device (Received octets) = (answer_text (answer device octets).0, (answer device octets).1)
 happens device (Clocked stamp) = clocked device (advanced device stamp)
+happens device (Sampled instance) = sample_taken device (sampled device instance)
 
 abbrev pub running : List ℕ × device.State → Step
 running happened = Ok (happened.0, Running happened.1)

@@ -1,9 +1,10 @@
 -- What the code keeps and returns, seen as the definitions see it. Only private calls cite these.
 use Rattle.std.specs.Prelude.{◌≡◌, ℕ, ℤ, List, Result, Ok, Err}
+use Rattle.bac_wire.specs.Primitive.{Id}
 use Rattle.bac_wire.specs.Stamp.{CivilTime}
-use Rattle.bac_objects.specs.declared.lines.ObjectLine.TheVariants.{Binary, Multistate, Integer}
+use Rattle.bac_objects.specs.declared.lines.ObjectLine.TheVariants.{Binary, Multistate, Integer, Log}
 use Rattle.bac_tools.specs.Fault.{Refusal, Bad, Unbuilt}
-use Rattle.bac_tools.specs.Script.Line.{Event, Received, Clocked, ScriptLine, Device, Object, Happens}
+use Rattle.bac_tools.specs.Script.Line.{Event, Received, Clocked, Sampled, ScriptLine, Device, Object, Happens}
 use Rattle.bac_tools.specs.Session.{State, Empty, Described, Running}
 use Rattle.bac_tools.specs.declared.replay.fault.LineFault.{LineFault}
 use Rattle.bac_tools.specs.declared.replay.fault.LineFault.TheVariants as fault
@@ -27,9 +28,13 @@ multistate_of instance name states default = Object (Multistate instance name st
 abbrev pub integer_of : ℕ → List ℕ → ℤ → ScriptLine
 integer_of instance name default = Object (Integer instance name default)
 
+abbrev pub log_of : ℕ → List ℕ → Id → ℕ → ℕ → ℕ → ScriptLine
+log_of instance name source capacity interval logged = Object (Log instance name source capacity interval logged)
+
 abbrev pub event_of : event.Event → Event
 event_of (event.TheVariants.Received datagram) = Received datagram
 event_of (event.TheVariants.Clocked stamp) = Clocked stamp
+event_of (event.TheVariants.Sampled instance) = Sampled instance
 
 abbrev pub line_of : line.Line → ScriptLine
 line_of (line.TheVariants.Device line) = Device line

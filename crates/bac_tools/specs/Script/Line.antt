@@ -1,20 +1,22 @@
 -- What a line of a script says. It says it apart from what the lines before it have made.
-use Rattle.std.specs.Prelude.{ℕ, ◌^◌, ◌==◌, ◌||◌, Bool, if◌then◌else◌, List, [], ◌∷◌, length, slice_index, codes, Option, None, Some}
+use Rattle.std.specs.Prelude.{ℕ, ◌^◌, ◌==◌, ◌||◌, nat_lt, Bool, if◌then◌else◌, List, [], ◌∷◌, length, slice_index, codes, Option, None, Some}
 use Rattle.std.specs.Str.{bytes_eq}
 use Rattle.bac_wire.specs.OptionChain.{◌>>=◌}
+use Rattle.bac_wire.specs.Primitive.{Id}
 use Rattle.bac_wire.specs.Stamp.{CivilTime}
 use Rattle.bac_objects.specs.declared.lines.DeviceLine.{DeviceLine}
 use Rattle.bac_objects.specs.declared.lines.ObjectLine.{ObjectLine}
-use Rattle.bac_objects.specs.declared.lines.ObjectLine.TheVariants.{Binary, Multistate, Integer}
+use Rattle.bac_objects.specs.declared.lines.ObjectLine.TheVariants.{Binary, Multistate, Integer, Log}
 use Rattle.bac_tools.specs.Script.Hexadecimal.{octets_in}
 use Rattle.bac_tools.specs.Script.Number.{number_in, below, integer_in}
 use Rattle.bac_tools.specs.Script.Stamp.{stamp_in}
 use Rattle.bac_tools.specs.Script.Words.{words_of, text_in}
 
--- what happens to a device: it receives these octets, or its clock comes to this moment
+-- what happens to a device: it receives these octets, its clock comes to this moment, or its Trend Log with this instance takes a sample
 pub data Event : Type 0 where
   Received : List ℕ → Event
   Clocked : CivilTime → Event
+  Sampled : ℕ → Event
 
 pub data ScriptLine : Type 0 where
   Device : DeviceLine → ScriptLine
@@ -62,6 +64,38 @@ integer_line (instance ∷ name ∷ default ∷ []) = do
   Some (Object (Integer instance name default))
 integer_line words = None
 
+-- the number of the object type that a word says (clause 21, BACnetObjectType)
+abbrev pub kind_in : List ℕ → Option ℕ
+kind_in word =
+    if bytes_eq word (codes "device") then Some 8 else
+    if bytes_eq word (codes "binary") then Some 5 else
+    if bytes_eq word (codes "multistate") then Some 19 else
+    if bytes_eq word (codes "integer") then Some 45 else
+    if bytes_eq word (codes "log") then Some 20 else None
+
+-- the object with this type and instance; an instance has 22 bits (clause 20.2.14)
+abbrev pub object_id : ℕ → ℕ → Option Id
+object_id kind instance = if nat_lt instance (2 ^ 22) then Some (record { kind = kind; instance = instance }) else None
+
+-- the object whose type and instance two words say
+unfoldable pub source_in : List ℕ → List ℕ → Option Id
+source_in kind instance = do
+  kind ← kind_in kind
+  instance ← below (2 ^ 32) (number_in instance)
+  object_id kind instance
+
+-- log INSTANCE NAME KIND SOURCE CAPACITY INTERVAL LOGGED
+unfoldable pub log_line : List (List ℕ) → Option ScriptLine
+log_line (instance ∷ name ∷ kind ∷ source ∷ capacity ∷ interval ∷ logged ∷ []) = do
+  instance ← below (2 ^ 32) (number_in instance)
+  name ← text_in name
+  source ← source_in kind source
+  capacity ← below (2 ^ 32) (number_in capacity)
+  interval ← below (2 ^ 32) (number_in interval)
+  logged ← below (2 ^ 32) (number_in logged)
+  Some (Object (Log instance name source capacity interval logged))
+log_line words = None
+
 -- rx HEX
 unfoldable pub rx_line : List (List ℕ) → Option ScriptLine
 rx_line (hex ∷ []) = do
@@ -76,6 +110,13 @@ clock_line (stamp ∷ []) = do
   Some (Happens (Clocked stamp))
 clock_line words = None
 
+-- sample INSTANCE
+unfoldable pub sample_line : List (List ℕ) → Option ScriptLine
+sample_line (instance ∷ []) = do
+  instance ← below (2 ^ 32) (number_in instance)
+  Some (Happens (Sampled instance))
+sample_line words = None
+
 -- ---- any line
 
 -- a kind of line: its first word, and what the words behind it say
@@ -88,8 +129,10 @@ kinds =
     (codes "binary", binary_line) ∷
     (codes "multistate", multistate_line) ∷
     (codes "integer", integer_line) ∷
+    (codes "log", log_line) ∷
     (codes "rx", rx_line) ∷
-    (codes "clock", clock_line) ∷ []
+    (codes "clock", clock_line) ∷
+    (codes "sample", sample_line) ∷ []
 
 -- the first word says which kind a line is
 abbrev pub said_by : List Kind → List ℕ → List (List ℕ) → Option ScriptLine

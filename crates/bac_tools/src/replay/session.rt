@@ -3,13 +3,13 @@
 ghost use Rattle.std.specs.Prelude.{◌≡◌, ◌++◌, None, IfOk, OnOk, IfErr};
 ghost use Rattle.std.specs.Option.{option_copied};
 ghost use Rattle.bac_objects.specs.Build.{Refuses};
-ghost use Rattle.bac_tools.specs.Session.{address_text, answer_text, clock_text, end_fault, happens, on_device, on_event, on_line, on_object, receiver_text, step};
+ghost use Rattle.bac_tools.specs.Session.{address_text, answer_text, clock_text, end_fault, happens, on_device, on_event, on_line, on_object, receiver_text, sample_text, step};
 ghost use Rattle.bac_tools.specs.Views.{Meets, event_of, line_of, state_of};
 
 use crate::replay::fault::LineFault;
 use crate::script::hexadecimal::push_digits;
 use crate::script::line::{Event, Line, is_silent};
-use bac_device::{BuildFault, Device, DeviceLine, ObjectLine, Receiver, Reply};
+use bac_device::{BuildFault, Device, DeviceLine, ObjectLine, Receiver, Reply, SampleFault};
 use std::alloc::{AllocError, Global};
 
 /// What the lines so far have made.
@@ -78,6 +78,23 @@ fn print_advance(alloc: Global, count: Option<usize>) -> Result<Vec<u8>, AllocEr
     Ok(text)
 }
 
+/// What a sample on demand prints, where the log takes it and where it doesn't.
+fn print_sample(alloc: Global, taken: Result<u32, SampleFault>) -> Result<Vec<u8>, AllocError>
+    ensures { IfOk result (λ text. text.items ≡ sample_text taken) }
+{
+    let mut text = Vec::new(alloc);
+    match taken {
+        Ok(number) => {
+            let line = format!(in alloc; "number {number}\n")?;
+            text.extend_from_slice(line.as_bytes())?;
+        }
+        Err(SampleFault::NoSuchLog) => text.extend_from_slice(b"refused: no such log\n")?,
+        Err(SampleFault::Disabled) => text.extend_from_slice(b"refused: disabled\n")?,
+        Err(SampleFault::CycleFull) => text.extend_from_slice(b"refused: cycle full\n")?,
+    }
+    Ok(text)
+}
+
 /// What an event at a device prints.
 fn happen(device: &mut Device, alloc: Global, event: &Event) -> Result<Vec<u8>, AllocError>
     ensures { IfOk result (λ text. happens device.old (event_of event.now) ≡ (text.items, device.new)) }
@@ -91,6 +108,10 @@ fn happen(device: &mut Device, alloc: Global, event: &Event) -> Result<Vec<u8>, 
             Ok(count) => print_advance(alloc, Some(count)),
             Err(_) => print_advance(alloc, None),
         },
+        Event::Sampled(instance) => {
+            let taken = device.sample(*instance);
+            print_sample(alloc, taken)
+        }
     }
 }
 

@@ -1,10 +1,10 @@
 //! What one line of a script says.
 
-ghost use Rattle.std.specs.Prelude.{◌≡◌, IfOk};
+ghost use Rattle.std.specs.Prelude.{◌≡◌, ◌<◌, IfOk, IfSome};
 ghost use Rattle.std.specs.Option.{option_map};
 ghost use Rattle.bac_wire.specs.OptionChain.{GivesSome};
-ghost use Rattle.bac_tools.specs.Script.Line.{binary_line, clock_line, device_line, integer_line, is_silent, line_in, multistate_line, rx_line};
-ghost use Rattle.bac_tools.specs.Views.{binary_of, device_of, integer_of, line_of, multistate_of};
+ghost use Rattle.bac_tools.specs.Script.Line.{binary_line, clock_line, device_line, integer_line, is_silent, kind_in, line_in, log_line, multistate_line, rx_line, sample_line, source_in};
+ghost use Rattle.bac_tools.specs.Views.{binary_of, device_of, integer_of, line_of, log_of, multistate_of};
 ghost use Rattle.bac_tools.specs.Script.Words.{words_of};
 
 use crate::script::hexadecimal::octets_in;
@@ -12,7 +12,7 @@ use crate::script::number::{i32_in, u16_in, u32_in};
 use crate::script::stamp::stamp_in;
 use crate::script::words::{last_word, split_word, text_in};
 use bac_device::{DeviceLine, Name, ObjectLine};
-use bac_wire::{Datagram, Stamp};
+use bac_wire::{Datagram, ObjectId, Stamp};
 use std::alloc::{AllocError, Global};
 
 /// What happens to a device.
@@ -22,6 +22,8 @@ pub(crate) enum Event {
     Received(Datagram),
     /// Its clock comes to a moment.
     Clocked(Stamp),
+    /// Its Trend Log with this instance takes a sample.
+    Sampled(u32),
 }
 
 /// What a line says.
@@ -156,6 +158,79 @@ fn integer_line(alloc: Global, words: &[u8]) -> Result<Option<Line>, AllocError>
     })))
 }
 
+/// The number of the object type that a word says (clause 21, BACnetObjectType).
+fn kind_in(word: &[u8]) -> Option<u16>
+    ensures value { result ≡ kind_in word.now }
+    ensures bound { IfSome result (λ kind. kind < 1024) }
+{
+    if word == b"device".as_slice() {
+        return Some(8);
+    }
+    if word == b"binary".as_slice() {
+        return Some(5);
+    }
+    if word == b"multistate".as_slice() {
+        return Some(19);
+    }
+    if word == b"integer".as_slice() {
+        return Some(45);
+    }
+    if word == b"log".as_slice() {
+        return Some(20);
+    }
+    None
+}
+
+/// The object whose type and instance two words say.
+#[tactic(auto, unfolding(crate::specs::Script::Line::source_in))]
+fn source_in(kind: &[u8], instance: &[u8]) -> Option<ObjectId>
+    ensures { result ≡ source_in kind.now instance.now }
+{
+    let kind = kind_in(kind)?;
+    let instance = u32_in(instance)?;
+    ObjectId::new(kind, instance)
+}
+
+/// What the words of a log line say; its name still lies in the script.
+#[tactic(auto, unfolding(crate::specs::Script::Line::log_line))]
+fn log_words(words: &[u8]) -> Option<(u32, &str, ObjectId, u32, u32, u32)>
+    ensures { GivesSome (λ x. log_of x.0 x.1.now x.2 x.3 x.4 x.5) result (log_line (words_of words.now)) }
+{
+    let (instance, rest) = split_word(words)?;
+    let (name, rest) = split_word(rest)?;
+    let (kind, rest) = split_word(rest)?;
+    let (source, rest) = split_word(rest)?;
+    let (capacity, rest) = split_word(rest)?;
+    let (interval, rest) = split_word(rest)?;
+    let logged = last_word(rest)?;
+    Some((
+        u32_in(instance)?,
+        text_in(name)?,
+        source_in(kind, source)?,
+        u32_in(capacity)?,
+        u32_in(interval)?,
+        u32_in(logged)?,
+    ))
+}
+
+/// The line of a Trend Log.
+fn log_line(alloc: Global, words: &[u8]) -> Result<Option<Line>, AllocError>
+    ensures { IfOk result (λ line. log_line (words_of words.now) ≡ option_map line_of line) }
+{
+    let Some((instance, name, source, capacity, interval, logged)) = log_words(words) else {
+        return Ok(None);
+    };
+    let name = Name::of(String::from_str(alloc, name)?);
+    Ok(Some(Line::Object(ObjectLine::Log {
+        instance,
+        name,
+        source,
+        capacity,
+        interval,
+        logged,
+    })))
+}
+
 /// The line of a datagram that is received.
 #[tactic(auto, unfolding(crate::specs::Script::Line::rx_line))]
 fn rx_line(words: &[u8]) -> Option<Line>
@@ -174,6 +249,15 @@ fn clock_line(words: &[u8]) -> Option<Line>
     Some(Line::Happens(Event::Clocked(stamp_in(stamp)?)))
 }
 
+/// The line of a sample on demand.
+#[tactic(auto, unfolding(crate::specs::Script::Line::sample_line))]
+fn sample_line(words: &[u8]) -> Option<Line>
+    ensures { sample_line (words_of words.now) ≡ option_map line_of result }
+{
+    let instance = last_word(words)?;
+    Some(Line::Happens(Event::Sampled(u32_in(instance)?)))
+}
+
 /// Whether a text is empty or a comment.
 pub(crate) fn is_silent(text: &[u8]) -> bool
     ensures { result ≡ is_silent text.now }
@@ -183,7 +267,7 @@ pub(crate) fn is_silent(text: &[u8]) -> bool
 
 impl Line {
     /// What a text says that is neither empty nor a comment, where it is a line of a script.
-    #[tactic(auto, unfolding(crate::specs::Script::Line::line_in, crate::specs::Script::Line::device_line, crate::specs::Script::Line::binary_line, crate::specs::Script::Line::multistate_line, crate::specs::Script::Line::integer_line, crate::specs::Script::Line::rx_line, crate::specs::Script::Line::clock_line))]
+    #[tactic(auto, unfolding(crate::specs::Script::Line::line_in, crate::specs::Script::Line::device_line, crate::specs::Script::Line::binary_line, crate::specs::Script::Line::multistate_line, crate::specs::Script::Line::integer_line, crate::specs::Script::Line::log_line, crate::specs::Script::Line::rx_line, crate::specs::Script::Line::clock_line, crate::specs::Script::Line::sample_line))]
     pub(crate) fn read(alloc: Global, text: &[u8]) -> Result<Option<Line>, AllocError>
         ensures { IfOk result (λ line. line_in text.now ≡ option_map line_of line) }
     {
@@ -202,11 +286,17 @@ impl Line {
         if word == b"integer".as_slice() {
             return integer_line(alloc, words);
         }
+        if word == b"log".as_slice() {
+            return log_line(alloc, words);
+        }
         if word == b"rx".as_slice() {
             return Ok(rx_line(words));
         }
         if word == b"clock".as_slice() {
             return Ok(clock_line(words));
+        }
+        if word == b"sample".as_slice() {
+            return Ok(sample_line(words));
         }
         Ok(None)
     }
