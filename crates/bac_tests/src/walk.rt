@@ -12,18 +12,6 @@ use bac_walk::{
 use bac_wire::{Datagram, Date4, ObjectId, Time4};
 use std::test::Fail;
 
-/// By number 1, count 100, of Trend Log 1, invoke ID 1.
-const FROM_ONE: [u8; 23] = [
-    0x81, 0x0a, 0, 0x17, 1, 4, 0, 5, 1, 0x1a, 0x0c, 5, 0, 0, 1, 0x19, 0x83, 0x6e, 0x21, 1, 0x31,
-    0x64, 0x6f,
-];
-
-/// By time 1900-01-01T00:00:00.00, count 100, invoke ID 1.
-const FROM_OLDEST: [u8; 31] = [
-    0x81, 0x0a, 0, 0x1f, 1, 4, 0, 5, 1, 0x1a, 0x0c, 5, 0, 0, 1, 0x19, 0x83, 0x7e, 0xa4, 0, 1, 1, 1,
-    0xb4, 0, 0, 0, 0, 0x31, 0x64, 0x7f,
-];
-
 /// Error of ReadRange: class object, code unknown-object.
 const UNKNOWN: [u8; 13] = [
     0x81, 0x0a, 0, 0x0d, 1, 0, 0x50, 1, 0x1a, 0x91, 1, 0x91, 0x1f,
@@ -169,16 +157,6 @@ fn a_walk_begins_at_a_number_or_at_the_oldest_record(rt: HostRuntime) -> Result<
     assert!(rt; Walk::oldest(analog).is_none());
     assert_eq!(rt; walk_from(4294967295)?.next_number(), 4294967295);
     assert_eq!(rt; walk_from_oldest()?.next_number(), 1);
-    let mut transactions = Transactions::new(0);
-    let walk = walk_from(1)?;
-    let question = walk.question();
-    let from_one = transactions.begin(&question)?;
-    assert_eq!(rt; from_one.octets(), FROM_ONE.as_slice());
-    let mut transactions = Transactions::new(0);
-    let walk = walk_from_oldest()?;
-    let question = walk.question();
-    let from_oldest = transactions.begin(&question)?;
-    assert_eq!(rt; from_oldest.octets(), FROM_OLDEST.as_slice());
     Ok(())
 }
 
