@@ -11,3 +11,4 @@ pub mod Ranges
 pub mod Moves
 pub mod Questions
 pub mod Fits
+pub mod Unaborted

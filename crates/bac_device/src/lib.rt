@@ -29,6 +29,6 @@ pub use laws::{
 };
 pub use logs::{
     built_devices_have_logs, logs_move_by_steps, questions_are_answered,
-    questions_for_no_log_are_refused, records_fit,
+    questions_for_no_log_are_refused, read_ranges_are_not_aborted, records_fit,
 };
 pub use reply::{Receiver, Reply};
