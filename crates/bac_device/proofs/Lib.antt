@@ -12,3 +12,4 @@ pub mod Moves
 pub mod Questions
 pub mod Fits
 pub mod Unaborted
+pub mod Runs
