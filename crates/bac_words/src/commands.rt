@@ -159,9 +159,15 @@ fn log<'a>(alloc: Global) -> Result<Command<'a>, AllocError>
 {
     let about = "Fetch the records of a trend log, each once";
     let example = "Example: bac log 192.168.1.20 1 oldest
-prints every record that trend log 1 holds. The last line is 'caught up, next N':
-give N in place of oldest later, and only what was logged since then is fetched.
-A line 'gap A B' tells the numbers that the log no longer held.";
+prints each record that trend log 1 holds, and at the end which number is next:
+
+  41 2024-05-06T07:08:09.10 enum(0) 0000
+  42 2024-05-06T07:09:09.10 enum(1) 0000
+  caught up, next 43
+
+bac log 192.168.1.20 1 43 then fetches what was logged since. Begin again at the
+number that was next after 'lost' or 'step limit', too: no record is lost or comes
+twice. A line 'gap 43 50' tells the numbers that the log no longer held.";
     let command = tool(alloc, "log", about, example);
     let help = "The device: A.B.C.D or A.B.C.D:PORT, port 47808 where none is given";
     let command = with(command, needed(alloc, Word::Address, help))?;
@@ -169,7 +175,7 @@ A line 'gap A B' tells the numbers that the log no longer held.";
     let command = with(command, needed(alloc, Word::Instance, help))?;
     let help = "The number of the first record to fetch, from 1, or oldest";
     let command = with(command, needed(alloc, Word::From, help))?;
-    let help = "How many batches of records to fetch at most";
+    let help = "How many batches to fetch at most, each of up to 100 records";
     let command = with(command, option_or(alloc, Word::Steps, "N", "1000", help))?;
     with_asking(alloc, command)
 }
@@ -196,7 +202,7 @@ fn top<'a>(alloc: Global) -> Command<'a>
 {
     Command::new(alloc, "bac")
         .about("Tools for BACnet/IP: find devices, read and write properties, fetch trend logs")
-        .version("0.1.0")
+        .version("unreleased")
         .subcommand_required(true)
         .after_help(
             "Example: bac wi 192.168.1.20

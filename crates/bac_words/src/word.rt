@@ -3,6 +3,8 @@
 ghost use Rattle.std.specs.Prelude.{◌≡◌};
 ghost use Rattle.bac_words.specs.Names.{name_of};
 
+use std::fmt;
+
 /// A word or an option of a tool, as the help shows it.
 #[derive(Clone, Copy, Debug, PartialEq, Eq)]
 pub enum Word {
@@ -66,5 +68,31 @@ impl Word {
             Word::Timeout => "timeout",
             Word::Retries => "retries",
         }
+    }
+
+    /// It is written `--NAME=VALUE`.
+    fn is_option(self) -> bool {
+        matches!(
+            self,
+            Word::Index
+                | Word::Value
+                | Word::Min
+                | Word::Max
+                | Word::Steps
+                | Word::Count
+                | Word::Local
+                | Word::Timeout
+                | Word::Retries
+        )
+    }
+}
+
+/// As the words are written: TYPE, or `--timeout`.
+impl fmt::Display for Word {
+    fn fmt<W: fmt::Write>(&self, f: &mut fmt::Formatter<W>) -> fmt::Result {
+        if self.is_option() {
+            f.write_str("--")?;
+        }
+        f.write_str(self.name())
     }
 }
