@@ -5,3 +5,4 @@ pub mod PlayLemmas
 pub mod EndLemmas
 pub mod Moments
 pub mod Walks
+pub mod Outcomes

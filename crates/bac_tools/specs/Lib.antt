@@ -6,4 +6,5 @@ pub mod Walk
 pub mod Session
 pub mod Views
 pub mod Replay
+pub mod Outcomes
 pub mod Stops

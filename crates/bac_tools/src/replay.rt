@@ -1,10 +1,12 @@
 //! A script read from a reader, its text written to a writer.
-ghost use Rattle.std.specs.Prelude.{◌≡◌, ◌⊎◌, ◌+◌, ◌<◌, ◌≤◌, ℕ, List, [], ◌∷◌, ◌++◌, length, None, Ok, Err, IfOk, IfErr, OnOk};
+ghost use Rattle.std.specs.Prelude.{◌≡◌, ◌⊎◌, ◌+◌, ◌<◌, ◌≤◌, ℕ, List, [], ◌∷◌, ◌++◌, length, None, Some, Ok, Err, IfOk, IfErr, OnOk};
 ghost use Rattle.std.specs.Io.KnownBytes.{Appends, IsAtEnd};
 ghost use Rattle.std.specs.Io.Buffered.{writer_buffer, writer_contents};
 ghost use Rattle.bac_tools.specs.Input.{ConsumesUpTo};
 ghost use Rattle.std.specs.Str.Lines.{lines};
 ghost use Rattle.bac_tools.specs.Script.Lines.{ended_lines, open_line, last_if_any};
+ghost use Rattle.bac_objects.specs.declared.build.BuildFault.{BuildFault};
+ghost use Rattle.bac_tools.specs.Outcomes.{IsCutShort, IsPlayed, IsTooLong, IsUnread, IsUnwritten, OfScript};
 ghost use Rattle.bac_tools.specs.Replay.{PlaysAll, Replays};
 ghost use Rattle.bac_tools.specs.Session.{State, Empty, step, end_fault};
 ghost use Rattle.bac_tools.specs.Views.{state_of};
@@ -163,13 +165,27 @@ fn replay_within<R: Read, W: Write>(
     }
 }
 
-/// Plays the script that the reader has, and writes its text.
+/// Plays the script that the reader has, and writes its text. Each outcome has a clause of its name;
+/// `ends` has all of them in one.
 pub fn run_replay<R: Read, W: Write>(
     alloc: Global,
     reader: &mut R,
     writer: &mut W,
 ) -> Result<(), ReplayFault>
     ensures limit { LIMIT ≡ 1048576 }
+    ensures done { OnOk result (OfScript (R.remaining reader.old) (IsPlayed LIMIT (W.contents writer.old) (W.contents writer.new) None)) }
+    ensures bad_line { (n : ℕ) → result ≡ Err (ReplayFault.BadLine n) →
+        OfScript (R.remaining reader.old) (IsPlayed LIMIT (W.contents writer.old) (W.contents writer.new) (Some (ReplayFault.BadLine n))) }
+    ensures build { (f : BuildFault) → result ≡ Err (ReplayFault.Build f) →
+        OfScript (R.remaining reader.old) (IsPlayed LIMIT (W.contents writer.old) (W.contents writer.new) (Some (ReplayFault.Build f))) }
+    ensures too_long { result ≡ Err ReplayFault.TooLong →
+        OfScript (R.remaining reader.old) (IsTooLong LIMIT (W.contents writer.old) (W.contents writer.new)) }
+    ensures read_fault { result ≡ Err ReplayFault.Read →
+        OfScript (R.remaining reader.old) (IsUnread LIMIT (R.remaining reader.new) (W.contents writer.old) (W.contents writer.new)) }
+    ensures write_fault { result ≡ Err ReplayFault.Write →
+        OfScript (R.remaining reader.old) (IsUnwritten LIMIT (W.contents writer.old) (W.contents writer.new)) }
+    ensures memory { result ≡ Err ReplayFault.Memory →
+        OfScript (R.remaining reader.old) (IsCutShort LIMIT (W.contents writer.old) (W.contents writer.new)) }
     ensures ends { Replays LIMIT (R.remaining reader.old) (R.remaining reader.new) (W.contents writer.old) (W.contents writer.new) result }
     ensures read { ConsumesUpTo (LIMIT + 1) (R.remaining reader.old) (R.remaining reader.new) }
     ensures whole { OnOk result (IsAtEnd (R.remaining reader.new)) }
