@@ -18,7 +18,6 @@ mod laws;
 mod logs;
 mod receiving;
 mod reply;
-mod requests;
 mod run;
 mod service;
 
