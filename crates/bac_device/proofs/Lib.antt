@@ -1,5 +1,4 @@
 pub mod Replies
-pub mod Asked
 pub mod Acks
 pub mod Priorities
 pub mod ReadBack

@@ -11,7 +11,7 @@ use Rattle.bac_log.specs.History.{is_change}
 use Rattle.bac_log.specs.TrendLog.{Log, newest, number, last_ordinal, logs, purges, enables}
 use Rattle.bac_log.specs.declared.entry.Entry.{Entry}
 use Rattle.bac_objects.specs.Chain.{or_fault}
-use Rattle.bac_objects.specs.Requests.{PropertyWrite}
+use Rattle.bac_apdu.specs.Service.WriteProperty.{PropertyWrite}
 use Rattle.bac_objects.specs.Sampling.{body_after, due_entry, due_source, log_id, log_in, logger_in, object_ticked, records_in, sample_of, sampled, takes, ticked}
 use Rattle.bac_objects.specs.State.{State, is_id}
 use Rattle.bac_objects.specs.Writing.{body_written, command_written, enabled, purged, records_written, unless_full}

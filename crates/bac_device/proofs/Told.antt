@@ -8,7 +8,7 @@ use Rattle.bac_apdu.specs.Npdu.{header_octets, IsHeader, place_octets}
 use Rattle.bac_apdu.proofs.Heads.{frame_again, header_again, message_again}
 use Rattle.bac_apdu.specs.declared.reason.Reason.{Reason}
 use Rattle.bac_objects.specs.State.{State}
-use Rattle.bac_objects.specs.Requests.{PropertyWrite, write_property_at}
+use Rattle.bac_apdu.specs.Service.WriteProperty.{PropertyWrite, write_property_at}
 use Rattle.bac_objects.specs.Writing.{write_of}
 use Rattle.bac_device.specs.Receiving.{Heard, heard_at}
 use Rattle.bac_device.specs.Answer.{write_said, answer_write, answer_request, replied, answer_apdu, answer_heard, sent, answer_frame, answer}
