@@ -21,7 +21,11 @@ mod log_callers;
 #[cfg(test)]
 mod log_records;
 #[cfg(test)]
+mod memory_port;
+#[cfg(test)]
 mod passage;
+#[cfg(test)]
+mod ports;
 #[cfg(test)]
 mod print;
 #[cfg(test)]
@@ -30,6 +34,8 @@ mod properties;
 mod replay;
 #[cfg(test)]
 mod results;
+#[cfg(test)]
+mod serving;
 #[cfg(test)]
 mod streams;
 #[cfg(test)]
