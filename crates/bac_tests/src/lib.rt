@@ -35,6 +35,8 @@ mod replay;
 #[cfg(test)]
 mod results;
 #[cfg(test)]
+mod script_logs;
+#[cfg(test)]
 mod serving;
 #[cfg(test)]
 mod streams;
