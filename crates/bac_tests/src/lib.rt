@@ -21,7 +21,11 @@ mod log_callers;
 #[cfg(test)]
 mod log_records;
 #[cfg(test)]
+mod memory_port;
+#[cfg(test)]
 mod passage;
+#[cfg(test)]
+mod ports;
 #[cfg(test)]
 mod print;
 #[cfg(test)]
@@ -32,6 +36,8 @@ mod replay;
 mod results;
 #[cfg(test)]
 mod script_logs;
+#[cfg(test)]
+mod serving;
 #[cfg(test)]
 mod streams;
 #[cfg(test)]

@@ -1,0 +1,58 @@
+-- What reading a property prints, over any link and any writer. Read from the end.
+use Rattle.std.specs.Prelude.{◌≡◌, ℕ, List, Option, Some, None, Result, Ok, Err}
+use Rattle.std.specs.Option.{option_map}
+use Rattle.std.specs.Io.KnownBytes.{Appends, Keeps}
+use Rattle.bac_apdu.specs.Apdu.{Apdu}
+use Rattle.bac_apdu.specs.Apdu as apdu
+use Rattle.bac_apdu.specs.Service.ReadPropertyAck.{read_property_ack_at}
+use Rattle.bac_apdu.specs.declared.service.read_property.ReadProperty.{ReadProperty}
+use Rattle.bac_link.specs.Datagrams.{apdu_in}
+use Rattle.bac_link.specs.Exchanges.{Concludes}
+use Rattle.bac_link.specs.declared.exchanges.ExchangeFault.{ExchangeFault}
+use Rattle.bac_link.specs.declared.exchanges.ExchangeFault.TheVariants.{BadReply}
+use Rattle.bac_link.specs.declared.request.Request.TheVariants as request
+use Rattle.bac_query.specs.Output.{AppendsPart}
+use Rattle.bac_query.specs.Values.{IsShown}
+use Rattle.bac_query.specs.declared.fault.QueryFault.{QueryFault}
+use Rattle.bac_query.specs.declared.fault.QueryFault.TheVariants.{Exchange, Write, Memory}
+
+-- what a query answers, and what a writer holds where that is known
+abbrev pub Answer : Type 0
+Answer = Result (Unit {0}) QueryFault
+
+abbrev pub Held : Type 0
+Held = Option (List ℕ)
+
+-- the whole text was written, or a front part of it
+abbrev pub Prints : List ℕ → Answer → Held → Held → Type 0
+Prints text (Ok done) old new = Appends old new text
+Prints text (Err Write) old new = AppendsPart old new text
+Prints text (Err Memory) old new = ⊥
+Prints text (Err (Exchange fault)) old new = ⊥
+
+-- the octets of the values in an ACK that can be read (clause 15.5)
+abbrev pub values_in : Option Apdu → Option (List ℕ)
+values_in (Some (apdu.Complex segmented invoke service parameters)) = option_map (λ ack. ack.values) (read_property_ack_at parameters)
+values_in other = None
+
+-- the text of the values was written, or a front part of it; without memory for the text nothing was
+abbrev pub PrintsShown : List ℕ → Answer → Held → Held → Type 0
+PrintsShown values (Ok done) old new = (text : List ℕ) × IsShown values text × Appends old new text
+PrintsShown values (Err Write) old new = (text : List ℕ) × IsShown values text × AppendsPart old new text
+PrintsShown values (Err Memory) old new = Keeps old new
+PrintsShown values (Err (Exchange fault)) old new = ⊥
+
+-- nothing is printed of an ACK that can't be read
+abbrev pub PrintsValues : Option (List ℕ) → Answer → Held → Held → Type 0
+PrintsValues None result old new = (result ≡ Err (Exchange BadReply)) × Keeps old new
+PrintsValues (Some values) result old new = PrintsShown values result old new
+
+-- nothing is printed where no ACK came
+abbrev pub PrintsAnswer : Result (List ℕ) ExchangeFault → Answer → Held → Held → Type 0
+PrintsAnswer (Err fault) result old new = (result ≡ Err (Exchange fault)) × Keeps old new
+PrintsAnswer (Ok datagram) result old new = PrintsValues (values_in (apdu_in datagram)) result old new
+
+-- an exchange of the request, and the values of its ACK are printed
+abbrev pub ReadsProperty : ℕ → ReadProperty → Answer → Held → Held → Type 0
+ReadsProperty invoke asked result old new =
+    (answer : Result (List ℕ) ExchangeFault) × Concludes invoke (request.ReadProperty asked) answer × PrintsAnswer answer result old new

@@ -1,0 +1,16 @@
+//! What the tools ask of devices, and what they print of the answers, over any link and any writer.
+//!
+//! [`read_property`] prints a property's values, a line each (specs/Reading, specs/Values). What is
+//! printed is said of every link and every writer that tells what it holds: the whole text, or a
+//! front part of it where a write was refused, and nothing else.
+#![tactic(auto)]
+
+mod fault;
+mod output;
+mod reading;
+mod values;
+
+pub use fault::QueryFault;
+pub use output::{WriteRefused, write_text};
+pub use reading::read_property;
+pub use values::push_values;

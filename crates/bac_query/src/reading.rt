@@ -1,0 +1,74 @@
+//! ReadProperty (clause 15.5) and what is printed of its answer.
+
+ghost use Rattle.std.specs.Prelude.{◌≡◌, List, ℕ, OnOk};
+ghost use Rattle.bac_wire.specs.OptionChain.{GivesSome};
+ghost use Rattle.bac_link.specs.Datagrams.{apdu_in};
+ghost use Rattle.bac_link.specs.Exchanges.{Leaves};
+ghost use Rattle.bac_link.specs.Requests.{next_invoke};
+ghost use Rattle.bac_query.specs.Reading.{ReadsProperty, PrintsValues, Prints, values_in};
+ghost use Rattle.bac_query.specs.Values.{IsShown};
+
+use crate::fault::QueryFault;
+use crate::output::write_text;
+use crate::values::push_values;
+use bac_apdu::{Apdu, ReadProperty, ReadPropertyAck};
+use bac_link::{ExchangeFault, LogLink, Request, Transactions, exchange, read_datagram};
+use std::alloc::Global;
+use std::io::Write;
+
+/// Reads a property, and prints its values, a line each, with one write. Where they aren't all
+/// values behind application tags, the line is `raw(HEX)`; where there are none, nothing is
+/// printed. That the ACK has the object and the property that were asked for isn't looked at: a
+/// device answers for instance 4194303 with its own.
+pub fn read_property<L: LogLink, W: Write>(
+    alloc: Global,
+    link: &mut L,
+    transactions: &mut Transactions,
+    asked: ReadProperty,
+    out: &mut W,
+) -> Result<(), QueryFault>
+    ensures { ReadsProperty (next_invoke transactions.old.invoke) asked result (W.contents out.old) (W.contents out.new) }
+{
+    let request = Request::ReadProperty(asked);
+    match exchange(link, transactions, &request) {
+        Ok(datagram) => print_values(alloc, datagram.octets(), out),
+        Err(fault) => Err(QueryFault::Exchange(fault)),
+    }
+}
+
+/// The octets of the values that an ACK has.
+fn values_in(datagram: &[u8]) -> Option<&[u8]>
+    ensures { GivesSome (λ values. values.now) result (values_in (apdu_in datagram.now)) }
+{
+    match read_datagram(datagram) {
+        Some(Apdu::Complex { parameters, .. }) => match ReadPropertyAck::read(parameters) {
+            Some(ack) => Some(ack.values),
+            None => None,
+        },
+        _ => None,
+    }
+}
+
+/// Prints the values of an ACK.
+fn print_values<W: Write>(alloc: Global, datagram: &[u8], out: &mut W) -> Result<(), QueryFault>
+    ensures { PrintsValues (values_in (apdu_in datagram.now)) result (W.contents out.old) (W.contents out.new) }
+{
+    let Some(values) = values_in(datagram) else {
+        return Err(QueryFault::Exchange(ExchangeFault::BadReply));
+    };
+    let mut text = Vec::new(alloc);
+    if push_values(alloc, &mut text, values).is_err() {
+        return Err(QueryFault::Memory);
+    }
+    print(&text, out)
+}
+
+/// Prints a text with one write, as far as the output takes it at once.
+pub(crate) fn print<W: Write>(text: &[u8], out: &mut W) -> Result<(), QueryFault>
+    ensures { Prints text.now result (W.contents out.old) (W.contents out.new) }
+{
+    match write_text(out, text) {
+        Ok(()) => Ok(()),
+        Err(_) => Err(QueryFault::Write),
+    }
+}

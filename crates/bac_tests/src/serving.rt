@@ -1,0 +1,288 @@
+//! A device that is served, over a port in memory and over sockets of this machine.
+
+use crate::memory_port::{Coming, MemoryPort, MovingClock, NoClock};
+use bac_device::{Device, DeviceLine, Name, ObjectLine};
+use bac_ports::{Heard, Port, SocketFault, UdpPort};
+use bac_serve::{Clock, SystemClock, idle_wait, serve, serve_one};
+use bac_wire::{ObjectId, Stamp};
+use std::alloc::Global;
+use std::test::Fail;
+
+const CLIENT: [u8; 6] = [127, 0, 0, 1, 0xba, 0xc0];
+
+/// Who-Is.
+const WHO_IS: [u8; 12] = [0x81, 0x0b, 0, 0x0c, 1, 0x20, 0xff, 0xff, 0, 0xff, 0x10, 8];
+
+/// The same, forwarded from 127.0.0.1:47809.
+const FORWARDED: [u8; 18] = [
+    0x81, 4, 0, 0x12, 127, 0, 0, 1, 0xba, 0xc1, 1, 0x20, 0xff, 0xff, 0, 0xff, 0x10, 8,
+];
+
+/// I-Am: device 123, 1476 octets, no segmentation, vendor 0.
+const I_AM: [u8; 20] = [
+    0x81, 0x0a, 0, 0x14, 1, 0, 0x10, 0, 0xc4, 2, 0, 0, 0x7b, 0x22, 5, 0xc4, 0x91, 3, 0x21, 0,
+];
+
+/// Present_Value of Binary Value 1 is to be 1, at priority 8.
+const WRITE: [u8; 23] = [
+    0x81, 0x0a, 0, 0x17, 1, 4, 0, 5, 1, 0x0f, 0x0c, 1, 0x40, 0, 1, 0x19, 0x55, 0x3e, 0x91, 1, 0x3f,
+    0x49, 8,
+];
+
+/// Present_Value of Binary Value 1 is read, and it is 1.
+const READ: [u8; 17] = [
+    0x81, 0x0a, 0, 0x11, 1, 4, 0, 5, 2, 0x0c, 0x0c, 1, 0x40, 0, 1, 0x19, 0x55,
+];
+
+const IS_ONE: [u8; 20] = [
+    0x81, 0x0a, 0, 0x14, 1, 0, 0x30, 2, 0x0c, 0x0c, 1, 0x40, 0, 1, 0x19, 0x55, 0x3e, 0x91, 1, 0x3f,
+];
+
+fn name(alloc: Global, text: &str) -> Result<Name, Fail> {
+    Ok(Name::of(String::from_str(alloc, text)?))
+}
+
+/// 2024-05-06T07:08 and this second.
+fn at(second: u8) -> Result<Stamp, Fail> {
+    Ok(Stamp::new(2024, 5, 6, 7, 8, second, 0).ok_or("no such moment")?)
+}
+
+/// Binary Value 1, and Trend Log 1 of it.
+fn lines(alloc: Global, interval: u32) -> Result<[ObjectLine; 2], Fail> {
+    Ok([
+        ObjectLine::Binary {
+            instance: 1,
+            name: name(alloc, "pump")?,
+            default: 0,
+        },
+        ObjectLine::Log {
+            instance: 1,
+            name: name(alloc, "trend")?,
+            source: ObjectId::new(5, 1).ok_or("no such identifier")?,
+            capacity: 100,
+            interval,
+            logged: 0,
+        },
+    ])
+}
+
+/// Device 123 with these objects, at 2024-05-06T07:08:00.00.
+fn device(alloc: Global, interval: u32) -> Result<Device, Fail> {
+    let plant = DeviceLine {
+        instance: 123,
+        name: name(alloc, "plant")?,
+        vendor: 0,
+        reply_size: 1476,
+        clock: at(0)?,
+    };
+    let lines = lines(alloc, interval)?;
+    Ok(
+        Device::build(alloc, &plant, &lines)
+            .ok()
+            .ok_or("not built")?,
+    )
+}
+
+/// How many records Trend Log 1 has.
+fn records(device: &Device) -> Option<u32> {
+    Some(device.log(1)?.count())
+}
+
+#[test]
+fn a_reply_goes_to_who_asked(rt: HostRuntime) -> Result<(), Fail> {
+    let mut device = device(rt.alloc(), 0)?;
+    let mut clock = MovingClock {
+        hundredths: 0,
+        step: 500,
+    };
+    let coming = [Coming::From(CLIENT, &WHO_IS), Coming::From(CLIENT, &I_AM)];
+    let mut port = MemoryPort::new(&coming);
+    assert_eq!(rt; serve_one(&mut port, &mut device, &mut clock), Ok(true));
+    assert_eq!(rt; port.sent.octets(), I_AM.as_slice());
+    assert_eq!(rt; port.to, CLIENT);
+    assert_eq!(rt; device.clock(), at(5)?);
+    // an I-Am isn't answered
+    assert_eq!(rt; serve_one(&mut port, &mut device, &mut clock), Ok(false));
+    assert_eq!(rt; port.sends, 1);
+    assert_eq!(rt; device.clock(), at(10)?);
+    Ok(())
+}
+
+#[test]
+fn a_reply_to_a_forwarded_datagram_goes_to_its_address(rt: HostRuntime) -> Result<(), Fail> {
+    let mut device = device(rt.alloc(), 0)?;
+    let coming = [Coming::From(CLIENT, &FORWARDED)];
+    let mut port = MemoryPort::new(&coming);
+    assert_eq!(rt; serve_one(&mut port, &mut device, &mut NoClock), Ok(true));
+    assert_eq!(rt; port.sent.octets(), I_AM.as_slice());
+    assert_eq!(rt; port.to, [127, 0, 0, 1, 0xba, 0xc1]);
+    assert_eq!(rt; device.clock(), at(0)?);
+    Ok(())
+}
+
+#[test]
+fn a_datagram_that_is_too_long_is_dropped(rt: HostRuntime) -> Result<(), Fail> {
+    let mut device = device(rt.alloc(), 0)?;
+    let mut clock = MovingClock {
+        hundredths: 0,
+        step: 500,
+    };
+    let long = [0x81; 1502];
+    let coming = [Coming::From(CLIENT, &long)];
+    let mut port = MemoryPort::new(&coming);
+    assert_eq!(rt; serve_one(&mut port, &mut device, &mut clock), Ok(false));
+    assert_eq!(rt; port.sends, 0);
+    assert_eq!(rt; device.clock(), at(5)?);
+    Ok(())
+}
+
+#[test]
+fn a_refused_send_leaves_what_was_handled(rt: HostRuntime) -> Result<(), Fail> {
+    let mut device = device(rt.alloc(), 0)?;
+    let mut clock = MovingClock {
+        hundredths: 0,
+        step: 500,
+    };
+    let coming = [Coming::From(CLIENT, &WRITE), Coming::From(CLIENT, &READ)];
+    let mut port = MemoryPort::new(&coming);
+    port.refuses = true;
+    assert_eq!(rt;
+        serve_one(&mut port, &mut device, &mut clock),
+        Err(SocketFault::Failed)
+    );
+    assert_eq!(rt; device.clock(), at(5)?);
+    port.refuses = false;
+    assert_eq!(rt; serve_one(&mut port, &mut device, &mut clock), Ok(true));
+    assert_eq!(rt; port.sent.octets(), IS_ONE.as_slice());
+    Ok(())
+}
+
+#[test]
+fn a_refused_receive_leaves_all(rt: HostRuntime) -> Result<(), Fail> {
+    let mut device = device(rt.alloc(), 0)?;
+    let mut clock = MovingClock {
+        hundredths: 0,
+        step: 500,
+    };
+    let coming = [Coming::Nothing];
+    let mut port = MemoryPort::new(&coming);
+    assert_eq!(rt;
+        serve_one(&mut port, &mut device, &mut clock),
+        Err(SocketFault::Timeout)
+    );
+    assert_eq!(rt;
+        serve_one(&mut port, &mut device, &mut clock),
+        Err(SocketFault::Failed)
+    );
+    assert_eq!(rt; clock.hundredths, 0);
+    assert_eq!(rt; device.clock(), at(0)?);
+    Ok(())
+}
+
+#[test]
+fn a_clock_that_goes_back_leaves_the_device(rt: HostRuntime) -> Result<(), Fail> {
+    let mut device = device(rt.alloc(), 100)?;
+    let _ = device.advance(at(7)?);
+    let mut clock = MovingClock {
+        hundredths: 0,
+        step: 500,
+    };
+    let coming = [Coming::From(CLIENT, &WHO_IS), Coming::From(CLIENT, &WHO_IS)];
+    let mut port = MemoryPort::new(&coming);
+    assert_eq!(rt; serve(&mut port, &mut device, &mut clock, 1), Ok(()));
+    assert_eq!(rt; device.clock(), at(7)?);
+    assert_eq!(rt; serve(&mut port, &mut device, &mut clock, 1), Ok(()));
+    assert_eq!(rt; device.clock(), at(10)?);
+    assert_eq!(rt; port.sends, 2);
+    Ok(())
+}
+
+#[test]
+fn ten_quiet_seconds_fill_a_log(rt: HostRuntime) -> Result<(), Fail> {
+    let mut device = device(rt.alloc(), 100)?;
+    let mut clock = MovingClock {
+        hundredths: 0,
+        step: 20,
+    };
+    // fifty waits of a fifth of a second
+    let coming = [Coming::Nothing; 50];
+    let mut port = MemoryPort::new(&coming);
+    assert_eq!(rt;
+        serve(&mut port, &mut device, &mut clock, 1),
+        Err(SocketFault::Failed)
+    );
+    assert_eq!(rt; port.received, 51);
+    assert_eq!(rt; device.clock(), at(10)?);
+    assert_eq!(rt; records(&device), Some(10));
+    Ok(())
+}
+
+#[test]
+fn waits_in_vain_are_not_counted(rt: HostRuntime) -> Result<(), Fail> {
+    let mut device = device(rt.alloc(), 0)?;
+    let who_is = Coming::From(CLIENT, &WHO_IS);
+    let coming = [Coming::Nothing, who_is, Coming::Nothing, who_is, who_is];
+    let mut port = MemoryPort::new(&coming);
+    assert_eq!(rt; serve(&mut port, &mut device, &mut NoClock, 2), Ok(()));
+    assert_eq!(rt; port.received, 4);
+    assert_eq!(rt; port.sends, 2);
+    assert_eq!(rt; serve(&mut port, &mut device, &mut NoClock, 0), Ok(()));
+    assert_eq!(rt; port.received, 4);
+    Ok(())
+}
+
+#[test]
+fn a_server_goes_on_after_a_refused_send(rt: HostRuntime) -> Result<(), Fail> {
+    let mut device = device(rt.alloc(), 0)?;
+    let coming = [
+        Coming::From(CLIENT, &FORWARDED),
+        Coming::From(CLIENT, &WHO_IS),
+    ];
+    let mut port = MemoryPort::new(&coming);
+    port.refuses = true;
+    assert_eq!(rt; serve(&mut port, &mut device, &mut NoClock, 2), Ok(()));
+    assert_eq!(rt; port.sends, 2);
+    Ok(())
+}
+
+#[test]
+fn a_log_with_an_interval_is_waited_for(rt: HostRuntime) -> Result<(), Fail> {
+    assert_eq!(rt; idle_wait(&lines(rt.alloc(), 100)?), 200);
+    assert_eq!(rt; idle_wait(&lines(rt.alloc(), 0)?), 0);
+    assert_eq!(rt; idle_wait(&[]), 0);
+    Ok(())
+}
+
+#[test]
+fn the_machine_has_a_clock(rt: HostRuntime) -> Result<(), Fail> {
+    let mut clock = SystemClock::new(rt.clone()?);
+    let first = clock.now().ok_or("no time")?;
+    let second = clock.now().ok_or("no time")?;
+    assert!(rt; first.ticks() <= second.ticks());
+    Ok(())
+}
+
+#[test]
+fn a_device_is_served_over_sockets(rt: HostRuntime) -> Result<(), Fail> {
+    let mut device = device(rt.alloc(), 100)?;
+    let mut server = UdpPort::open(&rt, [127, 0, 0, 1, 0, 0], 1000).expect(&rt, "a socket");
+    let at_server = server.local().ok_or("no address")?;
+    let mut client = UdpPort::open(&rt, [127, 0, 0, 1, 0, 0], 1000).expect(&rt, "a socket");
+    assert!(rt; client.send(&[0x81; 1502], at_server).is_ok());
+    // a forged address: no host, port 0
+    let mut forged = FORWARDED;
+    forged[8] = 0;
+    forged[9] = 0;
+    assert!(rt; client.send(&forged, at_server).is_ok());
+    assert!(rt; client.send(&WHO_IS, at_server).is_ok());
+    let mut clock = MovingClock {
+        hundredths: 0,
+        step: 100,
+    };
+    assert_eq!(rt; serve(&mut server, &mut device, &mut clock, 3), Ok(()));
+    let Heard { from, datagram } = client.receive().expect(&rt, "a reply");
+    assert_eq!(rt; from, at_server);
+    assert_eq!(rt; datagram.ok_or("too long")?.octets(), I_AM.as_slice());
+    assert_eq!(rt; records(&device), Some(3));
+    Ok(())
+}
