@@ -1,11 +1,10 @@
 -- What a ReadProperty is answered.
 use Rattle.std.proofs.Common.{◌≡◌, refl, ℕ, min, false, List, Option, Some, None, Ok}
-use Rattle.bac_wire.specs.Primitive.{Primitive}
 use Rattle.bac_apdu.specs.Apdu.{Confirmed}
 use Rattle.bac_apdu.specs.Frame.{Frame, Unicast, Broadcast, Forwarded, Function, frame_at}
 use Rattle.bac_apdu.specs.declared.service.read_property.ReadProperty.{ReadProperty}
 use Rattle.bac_objects.specs.State.{State}
-use Rattle.bac_objects.specs.Requests.{read_property_at}
+use Rattle.bac_apdu.specs.Service.ReadProperty.{read_property_at}
 use Rattle.bac_objects.specs.Reading.{read_of}
 use Rattle.bac_device.specs.Receiving.{Heard}
 use Rattle.bac_device.specs.Answer.{ack, answer_frame, answer}

@@ -1,5 +1,4 @@
 pub mod Replies
-pub mod Asked
 pub mod Acks
 pub mod Priorities
 pub mod ReadBack
@@ -11,3 +10,5 @@ pub mod Ranges
 pub mod Moves
 pub mod Questions
 pub mod Fits
+pub mod Unaborted
+pub mod Runs

@@ -11,8 +11,9 @@ use Rattle.bac_apdu.specs.Reason.{reasoned}
 use Rattle.bac_apdu.specs.Service.WriteProperty.{write_property, is_priority}
 use Rattle.bac_apdu.specs.declared.reason.Reason.{Reason}
 use Rattle.bac_apdu.specs.declared.reason.Reason.TheVariants.{OutOfRange}
-use Rattle.bac_objects.specs.Chain.{result_map}
-use Rattle.bac_objects.specs.Requests.{PropertyWrite, number_in, write_in, write_property_at}
+use Rattle.bac_wire.specs.Chain.{result_map}
+use Rattle.bac_apdu.specs.Fields.{number_in}
+use Rattle.bac_apdu.specs.Service.WriteProperty.{PropertyWrite, write_in, write_property_at}
 
 ok_same : {X : Type 0} (a b : X) → (let r : Result X Reason = Ok a in r) ≡ Ok b → a ≡ b
 ok_same a b e = cc

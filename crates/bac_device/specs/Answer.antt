@@ -13,7 +13,11 @@ use Rattle.bac_apdu.specs.declared.reason.Reason.{Reason}
 use Rattle.bac_apdu.specs.declared.service.i_am.IAm.{IAm}
 use Rattle.bac_apdu.specs.declared.service.read_property.ReadProperty.{ReadProperty}
 use Rattle.bac_objects.specs.Properties.{device_id, is_here}
+use Rattle.bac_apdu.specs.Service.ReadProperty.{read_property_at}
 use Rattle.bac_apdu.specs.Service.ReadRange.{read_range_at}
+use Rattle.bac_apdu.specs.Service.WhoIs.{who_is_at}
+use Rattle.bac_apdu.specs.Service.WriteProperty.{PropertyWrite, write_property_at}
+use Rattle.bac_apdu.specs.declared.service.who_is.WhoIs.{WhoIs}
 use Rattle.bac_apdu.specs.declared.service.extent.Extent.{Extent}
 use Rattle.bac_apdu.specs.declared.service.read_range.ReadRange.{ReadRange}
 use Rattle.bac_log.specs.Ack.{ack_parameters, read_range_service}
@@ -21,7 +25,6 @@ use Rattle.bac_log.specs.Select.{Logged, answer_of, entries_in, first_shown, pac
 use Rattle.bac_log.specs.TrendLog.{Log}
 use Rattle.bac_objects.specs.Reading.{read_of}
 use Rattle.bac_objects.specs.Records.{records_of}
-use Rattle.bac_objects.specs.Requests.{PropertyWrite, read_property_at, write_property_at, who_is_at}
 use Rattle.bac_objects.specs.State.{State}
 use Rattle.bac_objects.specs.Writing.{write_of}
 use Rattle.bac_objects.specs.declared.fault.Fault.{Fault}
@@ -135,9 +138,9 @@ announcement d = record { device = device_id d; max_apdu = d.reply_size; segment
 abbrev pub i_am_apdu : State → Apdu
 i_am_apdu d = Unconfirmed i_am_service (canon_form i_am (i_am_items (announcement d)))
 
-abbrev pub announced : State → Result (Option (ℕ × ℕ)) Reason → Option Apdu
-announced d (Ok limits) = if asks_for d.instance limits then Some (i_am_apdu d) else None
-announced d (Err reason) = None
+abbrev pub announced : State → Option WhoIs → Option Apdu
+announced d (Some w) = if asks_for d.instance w.limits then Some (i_am_apdu d) else None
+announced d None = None
 
 -- ---- APDUs
 

@@ -11,7 +11,7 @@ use Rattle.bac_objects.specs.Build.{id_of}
 use Rattle.bac_objects.specs.Command.{present}
 use Rattle.bac_objects.specs.Properties.{slot_value, value_of}
 use Rattle.bac_objects.specs.Reading.{read_of, values_octets}
-use Rattle.bac_objects.specs.Requests.{PropertyWrite, write_property_at}
+use Rattle.bac_apdu.specs.Service.WriteProperty.{PropertyWrite, write_property_at}
 use Rattle.bac_objects.specs.State.{State, is_id}
 use Rattle.bac_objects.specs.Writing.{priority_of}
 use Rattle.bac_objects.specs.declared.command.Command as command

@@ -11,7 +11,7 @@ use Rattle.bac_apdu.specs.Service.ReadPropertyAck.{read_property_ack}
 use Rattle.bac_apdu.specs.declared.service.read_property.ReadProperty.{ReadProperty}
 use Rattle.bac_objects.specs.Build.{build_fault, built, id_of}
 use Rattle.bac_objects.specs.Reading.{AreValid, read_of, values_octets}
-use Rattle.bac_objects.specs.Requests.{read_property_at}
+use Rattle.bac_apdu.specs.Service.ReadProperty.{read_property_at}
 use Rattle.bac_objects.specs.State.{State, is_id}
 use Rattle.bac_objects.specs.declared.command.Command.{Command}
 use Rattle.bac_objects.specs.declared.command.Setting.{Setting}

@@ -2,9 +2,10 @@
 //!
 //! [`Device::build`] makes a device of a [`DeviceLine`] and [`ObjectLine`]s, or tells the first
 //! fault ([`BuildFault`]). [`Device::handle`] takes a datagram and gives the [`Reply`], where there
-//! is one; [`Device::advance`] sets the clock. Contracts see a device as the record `State` of
-//! bac_objects, and each call is a function of it: specs/Answer says what is answered and which
-//! state is left, specs/Clock what the passing of time does.
+//! is one; [`Device::sample`] takes a sample, [`Device::advance`] sets the clock, and [`Device::run`]
+//! takes a slice of such [`Event`]s. Contracts see a device as the record `State` of bac_objects,
+//! and each call is a function of it: specs/Answer says what is answered and which state is left,
+//! specs/Clock what the passing of time does, specs/Run what events do one after the other.
 //!
 //! A datagram goes through Annex J (specs/Receiving, frames and the functions that a device
 //! refuses), clause 6 (network headers), clause 20.1 (APDUs) and one service of clauses 15 and 16;
@@ -18,7 +19,7 @@ mod laws;
 mod logs;
 mod receiving;
 mod reply;
-mod requests;
+mod run;
 mod service;
 
 pub use bac_objects::{BuildFault, DeviceLine, Name, ObjectLine, SampleFault};
@@ -26,9 +27,11 @@ pub use device::{ClockBack, Device};
 pub use laws::{
     accepted_writes_stand, acks_are_read_back, built_objects_are_commanded,
     object_list_keeps_the_order_of_lines, reads_are_answered, refusals_change_nothing,
+    runs_are_joined,
 };
 pub use logs::{
     built_devices_have_logs, logs_move_by_steps, questions_are_answered,
-    questions_for_no_log_are_refused, records_fit,
+    questions_for_no_log_are_refused, read_ranges_are_not_aborted, records_fit,
 };
 pub use reply::{Receiver, Reply};
+pub use run::{Event, Outcome};

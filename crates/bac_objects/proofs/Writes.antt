@@ -5,7 +5,7 @@ use Rattle.bac_wire.specs.Primitive.{Id}
 use Rattle.bac_wire.specs.Chain.{◌>>=◌}
 use Rattle.bac_objects.specs.Chain.{Leaves}
 use Rattle.bac_objects.specs.State.{State, is_id}
-use Rattle.bac_objects.specs.Requests.{PropertyWrite}
+use Rattle.bac_apdu.specs.Service.WriteProperty.{PropertyWrite}
 use Rattle.bac_objects.specs.Writing.{write_of, object_written, is_device}
 use Rattle.bac_objects.specs.declared.fault.Fault.{Fault}
 use Rattle.bac_objects.specs.declared.fault.Fault.TheVariants.{UnknownObject}

@@ -6,11 +6,6 @@ abbrev pub or_fault : {A F : Type 0} → Option A → F → Result A F
 or_fault (Some x) fault = Ok x
 or_fault None fault = Err fault
 
--- what is made of a result
-abbrev pub result_map : {A B F : Type 0} → (A → B) → Result A F → Result B F
-result_map f (Ok x) = Ok (f x)
-result_map f (Err e) = Err e
-
 -- The answer and the state after are those that are said; or the fault is, and nothing has changed.
 abbrev pub LeavesWith : {X Y F : Type 0} → Result Y F → X → X → Result (Y × X) F → Type 0
 LeavesWith (Ok y) old new said = said ≡ Ok (y, new)

@@ -1,5 +1,4 @@
 pub mod Chain
-pub mod Requests
 pub mod Fault
 pub mod Command
 pub mod State

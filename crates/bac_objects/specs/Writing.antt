@@ -9,7 +9,7 @@ use Rattle.bac_log.specs.History.{is_change}
 use Rattle.bac_log.specs.TrendLog.{Log, newest, last_ordinal, purges, enables}
 use Rattle.bac_objects.specs.Chain.{or_fault}
 use Rattle.bac_objects.specs.Properties.{Shown, Array, row, object_table, device_table}
-use Rattle.bac_objects.specs.Requests.{PropertyWrite}
+use Rattle.bac_apdu.specs.Service.WriteProperty.{PropertyWrite}
 use Rattle.bac_objects.specs.State.{State, is_id}
 use Rattle.bac_objects.specs.declared.command.Command.{Command}
 use Rattle.bac_objects.specs.declared.command.Range.{Range}

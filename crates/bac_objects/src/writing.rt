@@ -3,14 +3,13 @@
 ghost use Rattle.std.specs.Prelude.{◌≡◌, ◌≤◌};
 ghost use Rattle.std.specs.Option.{option_map};
 ghost use Rattle.bac_wire.specs.View.{view};
-ghost use Rattle.bac_apdu.specs.Service.WriteProperty.{IsPriority};
+ghost use Rattle.bac_apdu.specs.Service.WriteProperty.{IsPriority, write_of_code};
 ghost use Rattle.bac_log.specs.TrendLog.{IsLog};
 ghost use Rattle.bac_objects.specs.Chain.{Leaves};
 ghost use Rattle.bac_objects.specs.Kept.{KeepsBody};
 ghost use Rattle.bac_objects.specs.Sound.{IsSound};
 ghost use Rattle.bac_objects.specs.Properties.{device_table, row};
 ghost use Rattle.bac_objects.specs.Reading.{shown_of};
-ghost use Rattle.bac_objects.specs.Requests.{write_of_code};
 ghost use Rattle.bac_objects.specs.Writing.{body_written, checked, command_written, enabled, is_array, log_written, object_written, priority_of, purged, records_written, refusal, setting_of, write_of};
 
 use crate::command::{Command, Range, Setting};

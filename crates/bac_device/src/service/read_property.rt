@@ -2,15 +2,14 @@
 
 ghost use Rattle.std.specs.Prelude.{◌≡◌, ◌≤◌, false};
 ghost use Rattle.bac_apdu.specs.Apdu.{Complex};
+ghost use Rattle.bac_apdu.specs.Service.ReadProperty.{read_property_at};
 ghost use Rattle.bac_objects.specs.Reading.{read_of};
-ghost use Rattle.bac_objects.specs.Requests.{read_property_at};
 ghost use Rattle.bac_device.specs.Answer.{ack_octets, answer_read, own_id, read_said};
 ghost use Rattle.bac_device.specs.Reply.{datagram_octets, limited};
 
 use crate::device::Device;
 use crate::handle::READ_PROPERTY;
 use crate::reply::{abort, complex, error, reject};
-use crate::requests::read_request;
 use bac_apdu::{ReadProperty, ReadPropertyAck};
 use bac_objects::Refused;
 use bac_wire::{Datagram, ObjectId};
@@ -74,7 +73,7 @@ impl Device {
         requires { limit ≤ 1476 }
         ensures { result ≡ datagram_octets (answer_read self.now limit invoke (read_property_at parameters.now)) }
     {
-        match read_request(parameters) {
+        match ReadProperty::read(parameters) {
             Ok(request) => self.read_said(limit, invoke, &request),
             Err(reason) => reject(invoke, reason.code()),
         }

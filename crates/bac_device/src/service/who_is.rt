@@ -2,14 +2,13 @@
 
 ghost use Rattle.std.specs.Prelude.{◌≡◌};
 ghost use Rattle.std.specs.Option.{option_map};
-ghost use Rattle.bac_objects.specs.Requests.{who_is_at};
+ghost use Rattle.bac_apdu.specs.Service.WhoIs.{who_is_at};
 ghost use Rattle.bac_device.specs.Answer.{announced, asks_for, i_am_apdu};
 ghost use Rattle.bac_device.specs.Reply.{datagram_octets};
 
 use crate::device::Device;
 use crate::reply::datagram_with;
-use crate::requests::who_is_request;
-use bac_apdu::{Apdu, IAm};
+use bac_apdu::{Apdu, IAm, WhoIs};
 use bac_wire::Datagram;
 
 /// I-Am (clause 21, BACnetUnconfirmedServiceChoice).
@@ -52,9 +51,9 @@ impl Device {
     pub(crate) fn answer_who_is(&self, parameters: &[u8]) -> Option<Datagram>
         ensures { result ≡ option_map datagram_octets (announced self.now (who_is_at parameters.now)) }
     {
-        match who_is_request(parameters) {
-            Some(limits) => {
-                if self.is_asked(limits) {
+        match WhoIs::read(parameters) {
+            Some(who_is) => {
+                if self.is_asked(who_is.limits) {
                     Some(self.announcement())
                 } else {
                     None

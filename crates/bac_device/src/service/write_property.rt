@@ -1,14 +1,14 @@
 //! WriteProperty (clause 15.9).
 
 ghost use Rattle.std.specs.Prelude.{◌≡◌};
-ghost use Rattle.bac_objects.specs.Requests.{write_property_at};
+ghost use Rattle.bac_apdu.specs.Service.WriteProperty.{write_property_at};
 ghost use Rattle.bac_device.specs.Answer.{answer_write};
 ghost use Rattle.bac_device.specs.Reply.{datagram_octets};
 
 use crate::device::Device;
 use crate::handle::WRITE_PROPERTY;
 use crate::reply::{error, reject, simple};
-use crate::requests::write_request;
+use bac_apdu::WriteProperty;
 use bac_wire::Datagram;
 
 impl Device {
@@ -17,7 +17,7 @@ impl Device {
         ensures apdu { result ≡ datagram_octets (answer_write self.old invoke (write_property_at parameters.now)).0 }
         ensures state { self.new ≡ (answer_write self.old invoke (write_property_at parameters.now)).1 }
     {
-        match write_request(parameters) {
+        match WriteProperty::read(parameters) {
             Ok(request) => match self.database.write(&request) {
                 Ok(()) => simple(invoke, WRITE_PROPERTY),
                 Err(fault) => error(invoke, WRITE_PROPERTY, fault),

@@ -1,5 +1,5 @@
 use Rattle.std.proofs.Common.{rules, refl, sym}
-use Rattle.bac_objects.specs.Requests.{write_of_code}
+use Rattle.bac_apdu.specs.Service.WriteProperty.{write_of_code}
 use Rattle.bac_objects.proofs.Kept.{found_sound}
 use Rattle.bac_objects.proofs.Writes.{missing, writes}
 use Rattle.bac_objects.proofs.database.Database.write.Goals as goal
