@@ -79,6 +79,7 @@ impl<'a> DirectLink<'a> {
         // It lacks every other log.
         ensures lacks { (n : ℕ) → log_of device.old n ≡ None → Lacks result.device.now (log_id n) }
     {
+        // Any call tells that the device is sound.
         let _clock = device.clock();
         DirectLink {
             device,
@@ -99,6 +100,7 @@ impl<'a> DirectLink<'a> {
         let events = self.events;
         let (count, lost) = play(&mut *self.device, events);
         self.events = &events[count..];
+        // So it is sound also where the answer is lost.
         let _clock = self.device.clock();
         if lost {
             return None;

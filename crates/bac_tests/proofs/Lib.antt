@@ -1,1 +1,3 @@
 pub mod Passages
+pub mod Held
+pub mod Day

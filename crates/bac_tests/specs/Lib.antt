@@ -1,1 +1,3 @@
 pub mod Passage
+pub mod Held
+pub mod Day

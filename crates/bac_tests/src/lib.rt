@@ -9,6 +9,10 @@ mod commanding;
 #[cfg(test)]
 mod device;
 #[cfg(test)]
+mod direct_callers;
+#[cfg(test)]
+mod direct_link;
+#[cfg(test)]
 mod link;
 #[cfg(test)]
 mod link_callers;
