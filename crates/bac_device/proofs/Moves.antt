@@ -27,7 +27,8 @@ use Rattle.bac_objects.specs.declared.sampling.SampleFault.{SampleFault}
 use Rattle.bac_objects.specs.declared.sampling.SampleFault.TheVariants.{NoSuchLog, Disabled, CycleFull}
 use Rattle.bac_device.specs.Answer.{answer}
 use Rattle.bac_device.specs.History.{write_asked}
-use Rattle.bac_device.specs.Logs.{HasLogs, Keeps, StepsTo}
+use Rattle.bac_objects.specs.Sound.{HasLogs}
+use Rattle.bac_device.specs.Logs.{Keeps, StepsTo}
 use Rattle.bac_device.proofs.History.{Wrote, apart, looked_other, looked_same, same_id, wrote}
 use Rattle.bac_device.proofs.Told.{Told, told}
 

@@ -29,7 +29,8 @@ use Rattle.bac_objects.specs.declared.object.Body.TheVariants as body
 use Rattle.bac_objects.specs.declared.object.Logger.{Logger}
 use Rattle.bac_objects.specs.declared.object.Object as object
 use Rattle.bac_device.specs.Answer.{answer, answer_range, range_said, records_said}
-use Rattle.bac_device.specs.Logs.{HasLogs, asking, question, question_octets}
+use Rattle.bac_objects.specs.Sound.{HasLogs}
+use Rattle.bac_device.specs.Logs.{asking, question, question_octets}
 use Rattle.bac_device.specs.Receiving.{Heard, heard_at}
 use Rattle.bac_device.specs.Reply.{error, reply}
 use Rattle.bac_device.specs.declared.reply.Receiver.TheVariants.{Sender}

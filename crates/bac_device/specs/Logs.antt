@@ -1,6 +1,6 @@
 -- What each call makes of a device's trend logs (clause 12.25).
 use Rattle.std.specs.Prelude.{◌≡◌, ◌≢◌, ℕ, ◌⊎◌, Bool, true, false, List, ◌++◌, Option, None, Some}
-use Rattle.std.specs.Map.{lookup, keys_of}
+use Rattle.std.specs.Map.{keys_of}
 use Rattle.bac_wire.specs.Stamp.{CivilTime}
 use Rattle.bac_apdu.specs.Apdu.{Confirmed, apdu_octets}
 use Rattle.bac_apdu.specs.FormCanon.{canon_form}
@@ -13,10 +13,8 @@ use Rattle.bac_log.specs.Ack.{log_buffer, read_range_service}
 use Rattle.bac_log.specs.TrendLog.{Log, newest, last_ordinal, logs, purges, enables}
 use Rattle.bac_log.specs.declared.entry.Entry.{Entry}
 use Rattle.bac_objects.specs.Sampling.{log_id, log_of}
-use Rattle.bac_objects.specs.State.{State, is_id}
-use Rattle.bac_objects.specs.declared.object.Body.TheVariants as body
-use Rattle.bac_objects.specs.declared.object.Logger.{Logger}
-use Rattle.bac_objects.specs.declared.object.Object as object
+use Rattle.bac_objects.specs.Sound.{HasLogs}
+use Rattle.bac_objects.specs.State.{State}
 
 -- ---- steps
 
@@ -27,10 +25,6 @@ StepsTo log new =
     ⊎ (newest log ≢ last_ordinal) × ((entry : Entry) × (new ≡ logs entry log))
     ⊎ (newest log ≢ last_ordinal) × ((moment : CivilTime) × (new ≡ purges moment log))
     ⊎ (newest log ≢ last_ordinal) × ((value : Bool) × ((moment : CivilTime) × (new ≡ enables value moment log)))
-
--- an object of the type Trend Log has records
-abbrev pub HasLogs : State → Type 0
-HasLogs d = (instance : ℕ) (o : object.Object) → lookup (is_id (log_id instance)) d.objects ≡ Some o → (l : Logger) × (o.body ≡ body.Log l)
 
 -- Each log moves by at most one step; the device keeps its logs, its identifier, its reply size and the identifiers of its objects.
 pub record Keeps (d new : State) : Type 0 where

@@ -1,10 +1,11 @@
 //! A device.
 
-ghost use Rattle.std.specs.Prelude.{◌≡◌};
+ghost use Rattle.std.specs.Prelude.{◌≡◌, IfOk};
 ghost use Rattle.bac_wire.specs.OptionChain.{GivesSome};
 ghost use Rattle.bac_objects.specs.Build.{Builds};
 ghost use Rattle.bac_objects.specs.Chain.{LeavesWith};
 ghost use Rattle.bac_objects.specs.Sampling.{log_of, sampled};
+ghost use Rattle.bac_objects.specs.Sound.{IsSound};
 ghost use Rattle.bac_device.specs.Clock.{Advances, advanced};
 
 use bac_log::TrendLog;
@@ -29,6 +30,10 @@ impl Model for Device {
     ghost Value = { State };
 
     ghost view = { λ device. device.database };
+
+    ghost use Rattle.bac_objects.specs.Sound.{IsSound};
+
+    ghost invariant = { λ device. IsSound device.database };
 }
 
 impl Device {
@@ -40,7 +45,8 @@ impl Device {
         device: &DeviceLine,
         lines: &[ObjectLine],
     ) -> Result<Device, BuildFault>
-        ensures { Builds result device.now lines.now }
+        ensures built { Builds result device.now lines.now }
+        ensures sound { IfOk result IsSound }
     {
         match Database::build(alloc, device, lines) {
             Ok(database) => Ok(Device { database }),
@@ -50,7 +56,8 @@ impl Device {
 
     /// What the device's clock shows.
     pub fn clock(&self) -> Stamp
-        ensures { result ≡ self.now.clock }
+        ensures clock { result ≡ self.now.clock }
+        ensures sound { IsSound self.now }
     {
         self.database.clock()
     }
@@ -60,14 +67,17 @@ impl Device {
     /// there (object, unknown-object) or has none (property, unknown-property). The first fault
     /// decides: no such log, a disabled one, no sequence number left.
     pub fn sample(&mut self, instance: u32) -> Result<u32, SampleFault>
-        ensures { LeavesWith result self.old self.new (sampled self.old instance) }
+        ensures sampled { LeavesWith result self.old self.new (sampled self.old instance) }
+        ensures was_sound { IsSound self.old }
+        ensures sound { IsSound self.new }
     {
         self.database.sample(instance)
     }
 
     /// The records of the Trend Log with an instance.
     pub fn log(&self, instance: u32) -> Option<&TrendLog>
-        ensures { GivesSome (λ log. log.now) result (log_of self.now instance) }
+        ensures log { GivesSome (λ log. log.now) result (log_of self.now instance) }
+        ensures sound { IsSound self.now }
     {
         self.database.log(instance)
     }
@@ -76,7 +86,9 @@ impl Device {
     /// before; answers how many did.
     #[tactic(auto, unfolding(crate::specs::Clock::advanced))]
     pub fn advance(&mut self, stamp: Stamp) -> Result<usize, ClockBack>
-        ensures { Advances result self.old self.new (advanced self.old stamp) }
+        ensures advanced { Advances result self.old self.new (advanced self.old stamp) }
+        ensures was_sound { IsSound self.old }
+        ensures sound { IsSound self.new }
     {
         if stamp.ticks() < self.database.clock().ticks() {
             return Err(ClockBack);

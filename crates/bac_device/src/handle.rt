@@ -3,6 +3,7 @@
 ghost use Rattle.std.specs.Prelude.{◌≡◌};
 ghost use Rattle.std.specs.Option.{option_map};
 ghost use Rattle.bac_apdu.specs.Apdu.{apdu_of};
+ghost use Rattle.bac_objects.specs.Sound.{IsSound};
 ghost use Rattle.bac_device.specs.Answer.{answer, answer_apdu, answer_heard, answer_request, nak, sent};
 ghost use Rattle.bac_device.specs.Receiving.{heard_at};
 ghost use Rattle.bac_device.specs.Reply.{datagram_octets};
@@ -106,8 +107,21 @@ impl Device {
 
     /// Takes a datagram, and gives the reply where there is one. Only an accepted WriteProperty
     /// changes the device.
-    #[tactic(auto, unfolding(crate::specs::Answer::answer))]
     pub fn handle(&mut self, datagram: &[u8]) -> Option<Reply>
+        ensures reply { result ≡ (answer self.old datagram.now).0 }
+        ensures state { self.new ≡ (answer self.old datagram.now).1 }
+        ensures was_sound { IsSound self.old }
+        ensures sound { IsSound self.new }
+    {
+        let _ = &self.database;
+        let reply = self.answer(datagram);
+        let _ = &self.database;
+        reply
+    }
+
+    /// The reply to a datagram, where there is one.
+    #[tactic(auto, unfolding(crate::specs::Answer::answer))]
+    fn answer(&mut self, datagram: &[u8]) -> Option<Reply>
         ensures reply { result ≡ (answer self.old datagram.now).0 }
         ensures state { self.new ≡ (answer self.old datagram.now).1 }
     {

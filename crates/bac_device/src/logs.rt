@@ -8,12 +8,13 @@ ghost use Rattle.bac_apdu.specs.declared.service.extent.Extent.{Extent as AnyExt
 ghost use Rattle.bac_log.specs.TrendLog.{IsLog, Log};
 ghost use Rattle.bac_objects.specs.Build.{built};
 ghost use Rattle.bac_objects.specs.Sampling.{log_id, log_of, sampled, ticked};
+ghost use Rattle.bac_objects.specs.Sound.{HasLogs};
 ghost use Rattle.bac_objects.specs.State.{State};
 ghost use Rattle.bac_objects.specs.declared.fault.Fault.TheVariants as Fault;
 ghost use Rattle.bac_objects.specs.declared.lines.DeviceLine.{DeviceLine};
 ghost use Rattle.bac_objects.specs.declared.lines.ObjectLine.{ObjectLine};
 ghost use Rattle.bac_device.specs.Answer.{answer, records_ack, records_said};
-ghost use Rattle.bac_device.specs.Logs.{HasLogs, Keeps, question_octets};
+ghost use Rattle.bac_device.specs.Logs.{Keeps, question_octets};
 ghost use Rattle.bac_device.specs.Reply.{error, reply};
 ghost use Rattle.bac_device.specs.declared.reply.Receiver.TheVariants as Receiver;
 

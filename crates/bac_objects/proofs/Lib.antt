@@ -4,3 +4,4 @@ pub mod Listing
 pub mod Writes
 pub mod Tables
 pub mod Samples
+pub mod Kept

@@ -11,3 +11,5 @@ pub mod Build
 pub mod Sampling
 pub mod Steps
 pub mod Records
+pub mod Sound
+pub mod Kept

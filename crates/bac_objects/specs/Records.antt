@@ -1,5 +1,5 @@
 -- Whose records a ReadRange asks for (clause 15.8).
-use Rattle.std.specs.Prelude.{ℕ, ◌==◌, if◌then◌else◌, Option, Some, None, Result, Ok, Err}
+use Rattle.std.specs.Prelude.{ℕ, ◌==◌, if◌then◌else◌, Result, Ok, Err}
 use Rattle.std.specs.Map.{lookup}
 use Rattle.bac_wire.specs.Chain.{◌>>=◌}
 use Rattle.bac_log.specs.TrendLog.{Log}

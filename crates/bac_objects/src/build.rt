@@ -5,7 +5,9 @@ ghost use Rattle.std.specs.List.{list_any};
 ghost use Rattle.std.specs.Map.{lookup};
 ghost use Rattle.std.specs.Str.{bytes_eq};
 ghost use Rattle.indexmap.specs.IndexSet.{insert_key};
-ghost use Rattle.bac_objects.specs.Build.{Builds, body_of, build_fault, device_fault, entry_of, first_of, has_id, has_name, id_of, instance_of, is_control, is_name, line_tests, log_tests, objects_fault, own_tests};
+ghost use Rattle.bac_objects.specs.Build.{Builds, body_of, build_fault, device_fault, entry_of, first_of, has_id, has_name, id_of, instance_of, is_control, is_name, kind_of, line_tests, log_tests, objects_fault, own_tests};
+ghost use Rattle.bac_objects.specs.Kept.{AreObjects, IsBody};
+ghost use Rattle.bac_objects.specs.Sound.{IsSound};
 ghost use Rattle.bac_objects.specs.State.{is_id};
 
 use crate::command::{Command, Range, Setting};
@@ -187,6 +189,7 @@ impl ObjectLine {
     /// What the object is. A log takes memory for all its records.
     fn body(&self, alloc: Global) -> Result<Body, BuildFault>
         ensures ok { IfOk result (λ body. body ≡ body_of self.now) }
+        ensures kept { IfOk result (IsBody (kind_of self.now)) }
         ensures err { IfErr result (λ fault. fault ≡ BuildFault.Memory) }
     {
         match self {
@@ -308,7 +311,9 @@ fn add(
 ) -> Result<(), BuildFault>
     requires within { instance_of line.now < 4194304 }
     requires fresh { lookup (is_id (id_of line.now)) objects.old.entries ≡ None }
+    requires kept { AreObjects objects.old.entries }
     ensures ok { OnOk result (objects.new.entries ≡ objects.old.entries ++ entry_of line.now ∷ []) }
+    ensures keeps { OnOk result (AreObjects objects.new.entries) }
     ensures err { IfErr result (λ fault. fault ≡ BuildFault.Memory) }
 {
     let Some(id) = ObjectId::new(line.kind(), line.instance()) else {
@@ -335,6 +340,7 @@ pub(crate) fn objects_of(
 ) -> Result<IndexMap<ObjectId, Object>, BuildFault>
     requires { objects_fault device.now [] lines.now ≡ None }
     ensures ok { IfOk result (λ objects. objects.entries ≡ map entry_of lines.now) }
+    ensures kept { IfOk result (λ objects. AreObjects objects.entries) }
     ensures err { IfErr result (λ fault. fault ≡ BuildFault.Memory) }
 {
     let Ok(mut objects) = IndexMap::with_capacity(alloc, lines.len()) else {
@@ -354,7 +360,8 @@ impl Database {
         device: &DeviceLine,
         lines: &[ObjectLine],
     ) -> Result<Database, BuildFault>
-        ensures { Builds result device.now lines.now }
+        ensures built { Builds result device.now lines.now }
+        ensures sound { IfOk result IsSound }
     {
         if let Some(fault) = build_fault(alloc, device, lines) {
             return Err(fault);

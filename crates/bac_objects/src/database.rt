@@ -5,6 +5,8 @@ ghost use Rattle.std.specs.Map.{lookup};
 ghost use Rattle.std.specs.Option.{option_copied};
 ghost use Rattle.bac_objects.specs.Build.{built, device_fault};
 ghost use Rattle.bac_objects.specs.Properties.{device_id, is_here};
+ghost use Rattle.bac_objects.specs.Kept.{AreObjects};
+ghost use Rattle.bac_objects.specs.Sound.{IsSound};
 ghost use Rattle.bac_objects.specs.State.{is_id};
 ghost use Rattle.bac_objects.specs.Writing.{is_device};
 
@@ -36,14 +38,15 @@ pub struct Database {
 }
 
 impl Model for Database {
-    ghost use Rattle.std.specs.Prelude.{◌≤◌};
+    ghost use Rattle.bac_objects.specs.Kept.{AreObjects};
+    ghost use Rattle.bac_objects.specs.Sound.{IsSound};
     ghost use Rattle.bac_objects.specs.State.{State};
 
     ghost Value = { State };
 
     ghost view = { λ d. record { instance = d.instance; name = d.name; vendor = d.vendor; reply_size = d.reply_size; origin = d.origin; clock = d.clock; objects = d.objects.entries } };
 
-    ghost invariant = { λ d. (d.instance ≤ 4194302) × (50 ≤ d.reply_size) × (d.reply_size ≤ 1476) };
+    ghost invariant = { λ d. IsSound (record { instance = d.instance; name = d.name; vendor = d.vendor; reply_size = d.reply_size; origin = d.origin; clock = d.clock; objects = d.objects.entries }) × AreObjects d.objects.entries };
 }
 
 impl Database {
@@ -53,8 +56,10 @@ impl Database {
         line: &DeviceLine,
         objects: IndexMap<ObjectId, Object>,
     ) -> Result<Database, AllocError>
-        requires { device_fault line.now ≡ None }
-        ensures { IfOk result (λ device. device ≡ record (built line.now []) { objects = objects.entries }) }
+        requires line { device_fault line.now ≡ None }
+        requires objects { AreObjects objects.entries }
+        ensures ok { IfOk result (λ device. device ≡ record (built line.now []) { objects = objects.entries }) }
+        ensures sound { IfOk result IsSound }
     {
         Ok(Database {
             instance: line.instance,
@@ -92,7 +97,8 @@ impl Database {
 
     /// What the device's clock shows.
     pub fn clock(&self) -> Stamp
-        ensures { result ≡ self.now.clock }
+        ensures value { result ≡ self.now.clock }
+        ensures sound { IsSound self.now }
     {
         self.clock
     }

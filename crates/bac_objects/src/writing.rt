@@ -4,7 +4,10 @@ ghost use Rattle.std.specs.Prelude.{◌≡◌, ◌≤◌};
 ghost use Rattle.std.specs.Option.{option_map};
 ghost use Rattle.bac_wire.specs.View.{view};
 ghost use Rattle.bac_apdu.specs.Service.WriteProperty.{IsPriority};
+ghost use Rattle.bac_log.specs.TrendLog.{IsLog};
 ghost use Rattle.bac_objects.specs.Chain.{Leaves};
+ghost use Rattle.bac_objects.specs.Kept.{KeepsBody};
+ghost use Rattle.bac_objects.specs.Sound.{IsSound};
 ghost use Rattle.bac_objects.specs.Properties.{device_table, row};
 ghost use Rattle.bac_objects.specs.Reading.{shown_of};
 ghost use Rattle.bac_objects.specs.Requests.{write_of_code};
@@ -109,7 +112,8 @@ impl Command {
 
 /// Writes Enable: a change logs a record that says so.
 fn enable(log: &mut TrendLog, clock: Stamp, value: &Value) -> Result<(), Fault>
-    ensures { Leaves result log.old log.new (enabled clock (view value.now) log.old) }
+    ensures written { Leaves result log.old log.new (enabled clock (view value.now) log.old) }
+    ensures is_log { IsLog log.old → IsLog log.new }
 {
     let Value::Boolean(value) = *value else {
         return Err(Fault::BadType);
@@ -122,7 +126,8 @@ fn enable(log: &mut TrendLog, clock: Stamp, value: &Value) -> Result<(), Fault>
 
 /// Writes Record_Count: 0 empties the log, and is logged.
 fn purge(log: &mut TrendLog, clock: Stamp, value: &Value) -> Result<(), Fault>
-    ensures { Leaves result log.old log.new (purged clock (view value.now) log.old) }
+    ensures written { Leaves result log.old log.new (purged clock (view value.now) log.old) }
+    ensures is_log { IsLog log.old → IsLog log.new }
 {
     let Value::Unsigned(count) = *value else {
         return Err(Fault::BadType);
@@ -139,7 +144,8 @@ fn purge(log: &mut TrendLog, clock: Stamp, value: &Value) -> Result<(), Fault>
 impl Logger {
     /// Writes a property of a Trend Log.
     fn write(&mut self, clock: Stamp, write: &WriteProperty) -> Result<(), Fault>
-        ensures { Leaves result self.old self.new (log_written clock (write_of_code write.now) self.old) }
+        ensures written { Leaves result self.old self.new (log_written clock (write_of_code write.now) self.old) }
+        ensures is_log { IsLog self.old.log → IsLog self.new.log }
     {
         match write.property {
             ENABLE => enable(&mut self.log, clock, &write.value),
@@ -153,7 +159,8 @@ impl Body {
     /// Writes a property that not every object has.
     fn write(&mut self, clock: Stamp, write: &WriteProperty) -> Result<(), Fault>
         requires { IsPriority write.now.priority }
-        ensures { Leaves result self.old self.new (body_written clock (write_of_code write.now) self.old) }
+        ensures written { Leaves result self.old self.new (body_written clock (write_of_code write.now) self.old) }
+        ensures keeps { KeepsBody self.old self.new }
     {
         match self {
             Body::Command(command) => command.write(write),
@@ -166,7 +173,8 @@ impl Object {
     /// Writes a property.
     fn write(&mut self, clock: Stamp, write: &WriteProperty) -> Result<(), Fault>
         requires { IsPriority write.now.priority }
-        ensures { Leaves result self.old self.new (object_written clock (write_of_code write.now) self.old) }
+        ensures written { Leaves result self.old self.new (object_written clock (write_of_code write.now) self.old) }
+        ensures keeps { KeepsBody self.old.body self.new.body }
     {
         checked(&self.property(write.object, write.property), write.index)?;
         self.body.write(clock, write)
@@ -190,7 +198,9 @@ impl Database {
     /// sequence number for the record of the change (clause 15.9.2).
     pub fn write(&mut self, write: &WriteProperty) -> Result<(), Fault>
         requires { IsPriority write.now.priority }
-        ensures { Leaves result self.old self.new (write_of self.old (write_of_code write.now)) }
+        ensures written { Leaves result self.old self.new (write_of self.old (write_of_code write.now)) }
+        ensures was_sound { IsSound self.old }
+        ensures sound { IsSound self.new }
     {
         if self.is_device(write.object) {
             return Err(self.refusal(write));

@@ -11,4 +11,4 @@ add-requires-clause-within c = (line_sound c.args.device.now c.args.lines.now c.
 pub add-requires-clause-fresh : goal.add-requires-clause-fresh
 add-requires-clause-fresh c =
     let sound = line_sound c.args.device.now c.args.lines.now c.loop-line.line-index c.line-item.result c.requires c.loop-line-test.true c.line-item.is in
-    subst (λ es. lookup (is_id (id_of c.line-item.result)) es ≡ None) (sym c.loop-line.invariant) (fresh (id_of c.line-item.result) (take c.loop-line.line-index c.args.lines.now) sound.other)
+    subst (λ es. lookup (is_id (id_of c.line-item.result)) es ≡ None) (sym c.loop-line.invariant.made) (fresh (id_of c.line-item.result) (take c.loop-line.line-index c.args.lines.now) sound.other)

@@ -1,0 +1,6 @@
+pub mod Steps
+pub mod Events
+pub mod Ahead
+pub mod Questions
+pub mod Replies
+pub mod Asks

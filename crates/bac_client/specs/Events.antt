@@ -1,0 +1,64 @@
+-- What happens at a link straight to a device, and what it makes of the device.
+use Rattle.std.specs.Prelude.{◌+◌, min, ℕ, Bool, true, false, if◌then◌else◌, List, [], ◌∷◌, Option, None, Some, Result, Ok, Err}
+use Rattle.bac_objects.specs.Sampling.{sampled}
+use Rattle.bac_objects.specs.State.{State}
+use Rattle.bac_objects.specs.declared.sampling.SampleFault.{SampleFault}
+use Rattle.bac_device.specs.Answer.{answer}
+use Rattle.bac_device.specs.Clock.{advanced}
+use Rattle.bac_device.specs.declared.reply.Reply.{Reply}
+use Rattle.bac_client.specs.declared.event.LinkEvent.{LinkEvent}
+use Rattle.bac_client.specs.declared.event.LinkEvent.TheVariants.{Sample, Advance, Handle, Answer, Lose}
+
+-- ---- one event
+
+-- a sample that is refused changes nothing
+abbrev pub after_sample : State → Result (ℕ × State) SampleFault → State
+after_sample d (Ok said) = said.1
+after_sample d (Err fault) = d
+
+-- nor does a clock that would go back
+abbrev pub after_advance : State → Option (ℕ × State) → State
+after_advance d (Some said) = said.1
+after_advance d None = d
+
+-- the device after an event; an answer and a loss leave it
+abbrev pub happens : LinkEvent → State → State
+happens (Sample instance) d = after_sample d (sampled d instance)
+happens (Advance moment) d = after_advance d (advanced d moment)
+happens (Handle datagram) d = (answer d datagram).1
+happens Answer d = d
+happens Lose d = d
+
+-- ---- up to the next answer
+
+-- the device, the events that are left, and whether the next answer is lost
+pub record Played : Type 0 where
+  pub device : State
+  pub rest : List LinkEvent
+  pub lost : Bool
+
+-- events are played up to and with the next answer or loss; after the last the device answers
+abbrev pub played : State → List LinkEvent → Played
+played d [] = record { device = d; rest = []; lost = false }
+played d (Answer ∷ events) = record { device = d; rest = events; lost = false }
+played d (Lose ∷ events) = record { device = d; rest = events; lost = true }
+played d (event ∷ events) = played (happens event d) events
+
+-- ---- one ask
+
+-- the datagram of a reply, where there is one
+abbrev pub datagram_in : Option Reply → Option (List ℕ)
+datagram_in None = None
+datagram_in (Some reply) = Some reply.datagram
+
+-- one failure more, up to the greatest count
+abbrev pub one_more : ℕ → ℕ
+one_more failures = min (failures + 1) 18446744073709551615
+
+abbrev pub failures_after : ℕ → Option Reply → ℕ
+failures_after failures (Some reply) = failures
+failures_after failures None = one_more failures
+
+-- what the device answers to the request, or nothing where the answer is lost, and the device after it
+abbrev pub told : Played → List ℕ → Option Reply × State
+told p request = if p.lost then (None, p.device) else answer p.device request

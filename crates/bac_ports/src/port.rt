@@ -1,0 +1,45 @@
+//! Where datagrams come from and go to.
+
+ghost use Rattle.std.specs.Prelude.{ℕ, List};
+ghost use Rattle.bac_ports.specs.Port.{Receiving, Sending};
+
+use bac_wire::Datagram;
+
+/// Why a port refused.
+#[derive(Clone, Copy, Debug, PartialEq, Eq)]
+pub enum SocketFault {
+    /// Nothing came in time.
+    Timeout,
+    /// Anything else.
+    Failed,
+}
+
+/// A datagram that came.
+#[derive(Debug, Drop)]
+pub struct Heard {
+    /// Its sender: four octets of IPv4 address and two of port.
+    pub from: [u8; 6],
+    /// `None` where it has over 1501 octets: it is dropped.
+    pub datagram: Option<Datagram>,
+}
+
+/// Sends and receives datagrams. An address is four octets of IPv4 address and two of port, high
+/// octet first (Annex J.1.2).
+///
+/// What a send and a receive do is a relation that each port names itself. Of a socket it says
+/// nothing: what is sent may be lost, and what comes may come from anyone.
+pub trait Port {
+    /// What a send is: the port before it, the octets, the receiver, the answer, the port after it.
+    ghost sends: { Self → List ℕ → List ℕ → Sending → Self → Type 0 };
+
+    /// What a receive is: the port before it, the answer, the port after it.
+    ghost receives: { Self → Receiving → Self → Type 0 };
+
+    /// Sends octets to an address, as one datagram.
+    fn send(&mut self, octets: &[u8], to: [u8; 6]) -> Result<(), SocketFault>
+        ensures { sends self.old octets.now to result self.new };
+
+    /// Waits for the next datagram, from anyone.
+    fn receive(&mut self) -> Result<Heard, SocketFault>
+        ensures { receives self.old result self.new };
+}

@@ -1,0 +1,122 @@
+//! Links over ports.
+
+ghost use Rattle.std.specs.Prelude.{◌≡◌, ◌≤◌, OnErr, OnOk, refl};
+ghost use Rattle.std.proofs.Common.{◌∙◌};
+ghost use Rattle.bac_link.specs.Links.{RisesBy};
+ghost use Rattle.bac_ports.specs.Asking.{Asks, Awaits, fitting};
+
+use crate::port::{Heard, Port};
+use bac_link::{LogLink, Lost, answers};
+use bac_wire::Datagram;
+
+/// How many datagrams an ask takes before it gives up.
+pub const RECEIVES: u32 = 16;
+
+/// A link to one peer over a port. An ask sends the request once, and passes over datagrams from
+/// others and those that don't answer it.
+///
+/// It isn't claimed to be honest for any log: whoever can send datagrams with the peer's address
+/// answers in its place.
+#[derive(Debug, Drop)]
+pub struct UdpLink<P> {
+    port: P,
+    peer: [u8; 6],
+    failures: u64,
+}
+
+impl<P: Port> UdpLink<P> {
+    /// A link to the device at an address.
+    pub fn new(port: P, peer: [u8; 6]) -> UdpLink<P>
+        ensures port { result.port ≡ port }
+        ensures peer { result.peer ≡ peer }
+        ensures failures { result.failures ≡ 0 }
+    {
+        UdpLink {
+            port,
+            peer,
+            failures: 0,
+        }
+    }
+}
+
+impl<P: Port> LogLink for UdpLink<P> {
+    ghost failures = { λ link. link.failures };
+
+    ghost is_honest = { λ link id r M H. ⊥ };
+
+    ghost lacks = { λ link id. ⊥ };
+
+    ghost is_sure = { λ link. ⊥ };
+
+    ghost keeps = { λ a b. a ≡ b };
+
+    fn ask(&mut self, request: &[u8]) -> Result<Datagram, Lost>
+        ensures never_falls { self.old.failures ≤ self.new.failures }
+        ensures lost { OnErr result (RisesBy 1 self.old.failures self.new.failures) }
+        ensures stays { OnOk result (self.new.failures ≡ self.old.failures) }
+        ensures peer { self.new.peer ≡ self.old.peer }
+        ensures asks { Asks P.sends P.receives self.old.peer request.now RECEIVES self.old.port result self.new.port }
+    {
+        let answer = ask_peer(&mut self.port, self.peer, request, RECEIVES);
+        if answer.is_err() {
+            self.failures = self.failures.saturating_add(1);
+        }
+        answer
+    }
+
+    ghost serves = { λ link id r M H h. absurd h };
+
+    ghost keeps_itself = { λ link. refl };
+
+    ghost keeps_on = { λ a b c h k. h ∙ k };
+}
+
+/// Sends the request to the peer, and waits for its answer.
+fn ask_peer<P: Port>(
+    port: &mut P,
+    peer: [u8; 6],
+    request: &[u8],
+    limit: u32,
+) -> Result<Datagram, Lost>
+    ensures { Asks P.sends P.receives peer request.now limit port.old result port.new }
+{
+    match port.send(request, peer) {
+        Ok(()) => wait_for(port, peer, request, limit),
+        Err(_) => Err(Lost),
+    }
+}
+
+#[tactic(auto, unfolding(crate::specs::Asking::Awaits))]
+fn wait_for<P: Port>(
+    port: &mut P,
+    peer: [u8; 6],
+    request: &[u8],
+    limit: u32,
+) -> Result<Datagram, Lost>
+    ensures { Awaits P.receives peer request.now limit port.old result port.new }
+{
+    for tried in 0..limit {
+        match port.receive() {
+            Ok(heard) => {
+                if let Some(datagram) = fitting(heard, peer, request) {
+                    return Ok(datagram);
+                }
+            }
+            Err(_) => return Err(Lost),
+        }
+    }
+    Err(Lost)
+}
+
+/// The datagram, where it comes from the peer and answers the request.
+fn fitting(heard: Heard, peer: [u8; 6], request: &[u8]) -> Option<Datagram>
+    ensures { result ≡ fitting peer request.now heard }
+{
+    let Heard { from, datagram } = heard;
+    let datagram = datagram?;
+    if from == peer && answers(request, datagram.octets()) {
+        Some(datagram)
+    } else {
+        None
+    }
+}

@@ -1,0 +1,103 @@
+//! A port over a socket of the system.
+
+use crate::port::{Heard, Port, SocketFault};
+use bac_wire::Datagram;
+use std::io;
+use std::io::ErrorKind;
+use std::net::{Ipv4Addr, Net, SocketAddr, SocketAddrV4, UdpSocket};
+use std::time::Duration;
+
+/// One octet more than a datagram may have, so that a longer one is told: the system cuts off what
+/// doesn't fit.
+const BUFFER: usize = 1502;
+
+/// A UDP socket over IPv4. It isn't connected: datagrams come from anyone.
+#[derive(Debug, Drop)]
+pub struct UdpPort {
+    socket: UdpSocket,
+    buffer: [u8; BUFFER],
+}
+
+impl UdpPort {
+    /// A socket at an address of this machine; port 0 is any free one. A receive waits at most so
+    /// many milliseconds, and without limit at 0.
+    pub fn open<R: Net>(rt: &R, local: [u8; 6], timeout_ms: u32) -> Result<UdpPort, SocketFault> {
+        match socket_at(rt, local, timeout_ms) {
+            Ok(socket) => Ok(UdpPort {
+                socket,
+                buffer: [0; BUFFER],
+            }),
+            Err(_) => Err(SocketFault::Failed),
+        }
+    }
+
+    /// The address that the socket has; `None` where the system doesn't tell.
+    pub fn local(&self) -> Option<[u8; 6]> {
+        match self.socket.local_addr() {
+            Ok(address) => octets_of(address),
+            Err(_) => None,
+        }
+    }
+}
+
+fn socket_at<R: Net>(rt: &R, local: [u8; 6], timeout_ms: u32) -> io::Result<UdpSocket> {
+    let socket = UdpSocket::bind(rt, address_of(local))?;
+    if timeout_ms != 0 {
+        socket.set_read_timeout(Some(Duration::from_millis(u64::from(timeout_ms))))?;
+    }
+    Ok(socket)
+}
+
+fn address_of(address: [u8; 6]) -> SocketAddrV4 {
+    let [a, b, c, d, high, low] = address;
+    SocketAddrV4::new(Ipv4Addr::new(a, b, c, d), u16::from_be_bytes([high, low]))
+}
+
+fn octets_of(address: SocketAddr) -> Option<[u8; 6]> {
+    match address {
+        SocketAddr::V4(address) => {
+            let [a, b, c, d] = address.ip().octets();
+            let [high, low] = address.port().to_be_bytes();
+            Some([a, b, c, d, high, low])
+        }
+        SocketAddr::V6(_) => None,
+    }
+}
+
+fn heard(octets: &[u8], sender: SocketAddr) -> Result<Heard, SocketFault> {
+    match octets_of(sender) {
+        Some(from) => Ok(Heard {
+            from,
+            datagram: Datagram::of(octets),
+        }),
+        None => Err(SocketFault::Failed),
+    }
+}
+
+impl Port for UdpPort {
+    ghost sends = { λ old octets to answer new. Unit {0} };
+
+    ghost receives = { λ old answer new. Unit {0} };
+
+    fn send(&mut self, octets: &[u8], to: [u8; 6]) -> Result<(), SocketFault> {
+        match self.socket.send_to(octets, address_of(to)) {
+            Ok(sent) if sent == octets.len() => Ok(()),
+            _ => Err(SocketFault::Failed),
+        }
+    }
+
+    fn receive(&mut self) -> Result<Heard, SocketFault> {
+        // A signal ends a wait, as one that stopped the program and let it go on: it waits anew.
+        for _ in 0..u64::MAX {
+            match self.socket.recv_from(&mut self.buffer) {
+                Ok((len, sender)) => return heard(&self.buffer[..len], sender),
+                Err(error) => match error.kind() {
+                    ErrorKind::Interrupted => {}
+                    ErrorKind::WouldBlock => return Err(SocketFault::Timeout),
+                    _ => return Err(SocketFault::Failed),
+                },
+            }
+        }
+        Err(SocketFault::Failed)
+    }
+}

@@ -1,0 +1,15 @@
+-- The lines of what a walk of a trend log delivers.
+use Rattle.std.specs.Prelude.{ℕ, ◌-◌, List, [], ◌∷◌, ◌++◌}
+use Rattle.bac_link.specs.declared.item.Item.{Item}
+use Rattle.bac_link.specs.declared.item.Item.TheVariants.{Gap, Logged}
+use Rattle.bac_print.specs.Entries.{gap_line, record_line}
+
+-- a record with its number; of a gap the first and the last of the numbers that are missing
+abbrev pub item_line : Item → List ℕ
+item_line (Gap first before) = gap_line first (before - 1)
+item_line (Logged number entry) = record_line number entry
+
+-- one line after the other
+abbrev pub items_text : List Item → List ℕ
+items_text [] = []
+items_text (item ∷ items) = item_line item ++ items_text items

@@ -1,0 +1,120 @@
+-- A device that is served over any port, with any clock. Read from the end. A port, the device and a clock stand before
+-- the answer as they were, and behind it as they are afterwards.
+use Rattle.std.specs.Prelude.{◌≡◌, ℕ, zero, suc, Bool, true, false, List, Option, Some, None, Result, Ok, Err}
+use Rattle.bac_wire.specs.Stamp.{CivilTime}
+use Rattle.bac_objects.specs.State.{State}
+use Rattle.bac_device.specs.Answer.{answer}
+use Rattle.bac_device.specs.Clock.{advanced}
+use Rattle.bac_device.specs.declared.reply.Receiver.{Receiver}
+use Rattle.bac_device.specs.declared.reply.Receiver.TheVariants.{Sender, Address}
+use Rattle.bac_device.specs.declared.reply.Reply.{Reply}
+use Rattle.bac_ports.specs.declared.port.Heard.{Heard}
+use Rattle.bac_ports.specs.declared.port.SocketFault.{SocketFault}
+use Rattle.bac_ports.specs.declared.port.SocketFault.TheVariants.{Timeout, Failed}
+use Rattle.bac_ports.specs.Port.{Receiving, Sending}
+
+-- ---- the clock
+
+abbrev pub set_by : State → Option (ℕ × State) → State
+set_by device None = device
+set_by device (Some said) = said.1
+
+-- the device when its clock goes to a time, where there is one and it isn't earlier
+abbrev pub ticked_at : State → Option CivilTime → State
+ticked_at device None = device
+ticked_at device (Some now) = set_by device (advanced device now)
+
+-- one look at the clock, and the device's clock goes to its time
+abbrev pub Ticks : {C : Type 0} → (C → Option CivilTime → C → Type 0) → C → State → C → State → Type 0
+Ticks tells clock device told after = (now : Option CivilTime) × tells clock now told × (after ≡ ticked_at device now)
+
+-- ---- a datagram
+
+-- who gets a reply, when this address sent what it answers
+abbrev pub receiver_of : Receiver → List ℕ → List ℕ
+receiver_of Sender sender = sender
+receiver_of (Address address) sender = address
+
+-- whether a reply was sent
+abbrev pub sent_of : Sending → Result Bool SocketFault
+sent_of (Ok done) = Ok true
+sent_of (Err fault) = Err fault
+
+-- nothing is sent without a reply, and with one that one
+abbrev pub Sends : {P : Type 0} → (P → List ℕ → List ℕ → Sending → P → Type 0) → List ℕ → Option Reply → P
+    → Result Bool SocketFault → P → Type 0
+Sends sends from None port result new = (result ≡ Ok false) × (new ≡ port)
+Sends sends from (Some reply) port result new =
+    (sent : Sending) × sends port reply.datagram (receiver_of reply.to from) sent new × (result ≡ sent_of sent)
+
+-- the device has handled the datagram, or there is none that it could handle
+abbrev pub Handles : {P : Type 0} → (P → List ℕ → List ℕ → Sending → P → Type 0) → List ℕ → Option (List ℕ) → P → State
+    → Result Bool SocketFault → P → State → Type 0
+Handles sends from None port device result new after = (result ≡ Ok false) × (new ≡ port) × (after ≡ device)
+Handles sends from (Some datagram) port device result new after =
+    Sends sends from (answer device datagram).0 port result new × (after ≡ (answer device datagram).1)
+
+-- the clock first, then the datagram
+abbrev pub Answers : {P C : Type 0} → (P → List ℕ → List ℕ → Sending → P → Type 0) → (C → Option CivilTime → C → Type 0)
+    → Heard → P → State → C → Result Bool SocketFault → P → State → C → Type 0
+Answers sends tells heard port device clock result new after told =
+    (now : Option CivilTime) × tells clock now told × Handles sends heard.from heard.datagram port (ticked_at device now) result new after
+
+-- ---- one receive
+
+-- a refused receive leaves the device and the clock
+abbrev pub IsReceived : {P C : Type 0} → (P → List ℕ → List ℕ → Sending → P → Type 0) → (C → Option CivilTime → C → Type 0)
+    → Receiving → P → State → C → Result Bool SocketFault → P → State → C → Type 0
+IsReceived sends tells (Err fault) port device clock result new after told =
+    (result ≡ Err fault) × (new ≡ port) × (after ≡ device) × (told ≡ clock)
+IsReceived sends tells (Ok heard) port device clock result new after told =
+    Answers sends tells heard port device clock result new after told
+
+abbrev pub ServesOne : {P C : Type 0} → (P → List ℕ → List ℕ → Sending → P → Type 0) → (P → Receiving → P → Type 0)
+    → (C → Option CivilTime → C → Type 0) → P → State → C → Result Bool SocketFault → P → State → C → Type 0
+ServesOne {P = P} sends receives tells port device clock result new after told =
+    (heard : Receiving) × (mid : P) × receives port heard mid × IsReceived sends tells heard mid device clock result new after told
+
+-- ---- the next datagram
+
+abbrev pub Done : Type 0
+Done = Result (Unit {0}) SocketFault
+
+-- a wait in vain lets the clock go on, and more is done; a failure is the end; what comes is answered, whatever becomes of its reply
+abbrev pub IsWaited : {P C : Type 0} → (P → List ℕ → List ℕ → Sending → P → Type 0) → (C → Option CivilTime → C → Type 0)
+    → Receiving → P → State → C → Done → P → State → C → (State → C → Type 0) → Type 0
+IsWaited {C = C} sends tells (Err Timeout) port device clock result new after told more =
+    (now : Option CivilTime) × (seen : C) × tells clock now seen × more (ticked_at device now) seen
+IsWaited sends tells (Err Failed) port device clock result new after told more =
+    (result ≡ Err Failed) × (new ≡ port) × (after ≡ device) × (told ≡ clock)
+IsWaited sends tells (Ok heard) port device clock result new after told more =
+    (result ≡ Ok tt) × ((sent : Result Bool SocketFault) × Answers sends tells heard port device clock sent new after told)
+
+-- at most so many waits, up to the first datagram
+unfoldable pub ServesNext : {P C : Type 0} → (P → List ℕ → List ℕ → Sending → P → Type 0) → (P → Receiving → P → Type 0)
+    → (C → Option CivilTime → C → Type 0) → ℕ → P → State → C → Done → P → State → C → Type 0
+ServesNext sends receives tells zero port device clock result new after told =
+    (result ≡ Err Timeout) × (new ≡ port) × (after ≡ device) × (told ≡ clock)
+ServesNext {P = P} sends receives tells (suc waits) port device clock result new after told =
+    (heard : Receiving) × (mid : P) × receives port heard mid
+    × IsWaited sends tells heard mid device clock result new after told
+    (λ ticked seen. ServesNext sends receives tells waits mid ticked seen result new after told)
+
+-- ---- so many datagrams
+
+-- a failure is the end
+abbrev pub IsServed : {P C : Type 0} → Done → P → State → C → Done → P → State → C → Type 0 → Type 0
+IsServed (Err fault) port device clock result new after told more =
+    (result ≡ Err fault) × (new ≡ port) × (after ≡ device) × (told ≡ clock)
+IsServed (Ok done) port device clock result new after told more = more
+
+-- so many datagrams, each waited for 2^64 - 1 times at most
+unfoldable pub Serves : {P C : Type 0} → (P → List ℕ → List ℕ → Sending → P → Type 0) → (P → Receiving → P → Type 0)
+    → (C → Option CivilTime → C → Type 0) → ℕ → P → State → C → Done → P → State → C → Type 0
+Serves sends receives tells zero port device clock result new after told =
+    (result ≡ Ok tt) × (new ≡ port) × (after ≡ device) × (told ≡ clock)
+Serves {P = P} {C = C} sends receives tells (suc count) port device clock result new after told =
+    (served : Done) × (mid : P) × (between : State) × (seen : C)
+    × ServesNext sends receives tells 18446744073709551615 port device clock served mid between seen
+    × IsServed served mid between seen result new after told
+    (Serves sends receives tells count mid between seen result new after told)
