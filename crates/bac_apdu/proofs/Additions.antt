@@ -1,5 +1,5 @@
 -- Parameters appended one after the other.
-use Rattle.std.proofs.Common.{◌≡◌, ℕ, ◌≤◌, refl, List, [], ◌++◌, length, take, Option, Some, None, Result, Ok, Err, ap, ◌∙◌, sym, subst, append_assoc, arith}
+use Rattle.std.proofs.Common.{◌≡◌, ℕ, refl, List, [], ◌++◌, length, take, Option, Some, None, Result, Ok, Err, ap, ◌∙◌, sym, subst, append_assoc, arith}
 use Rattle.std.proofs.lemmas.List.{take_at, take-take, length-append}
 use Rattle.std.specs.Result.{IsErr}
 use Rattle.bac_wire.specs.Primitive.{Id, Enumerated, Object, Unsigned}

@@ -1,11 +1,9 @@
 -- ReadProperty (clauses 15.5 and 21): the parameters of the request, and what it shows of its fields.
-use Rattle.std.specs.Prelude.{ℕ, ◌^◌, ◌<◌, List, [], ◌∷◌, Option, Some, None, Result}
-use Rattle.bac_wire.specs.Primitive.{Id, Enumerated, Object}
-use Rattle.bac_wire.specs.Canon.{IsValid}
+use Rattle.std.specs.Prelude.{ℕ, List, [], Result}
 use Rattle.bac_apdu.specs.declared.service.read_property.ReadProperty.{ReadProperty}
 pub use Rattle.bac_apdu.specs.Service.PropertyReference.{IsIndex, IsProperty}
 use Rattle.bac_apdu.specs.Service.PropertyReference.{property_then, property_items_then}
-use Rattle.bac_apdu.specs.Form.{Form, end, part, optional, context, anything, is_u32, unsigned, enumerated, object_identifier, Item, Value, number_item}
+use Rattle.bac_apdu.specs.Form.{Form, end, Item}
 use Rattle.bac_wire.specs.Chain.{result_map}
 use Rattle.bac_apdu.specs.declared.reason.Reason.{Reason}
 use Rattle.bac_apdu.specs.FormReading.{form_at}

@@ -1,10 +1,10 @@
 -- The ACK of ReadProperty (clauses 15.5 and 21): its parameters, and what it shows of its fields.
 use Rattle.std.specs.Prelude.{ℕ, List, [], ◌∷◌, Option}
-use Rattle.bac_wire.specs.Primitive.{Id, Enumerated, Object}
+use Rattle.bac_wire.specs.Primitive.{Id}
 use Rattle.bac_apdu.specs.declared.service.read_property_ack.ReadPropertyAck.{ReadPropertyAck}
 use Rattle.bac_apdu.specs.FormCanon.{canon_form}
 use Rattle.bac_apdu.specs.Service.PropertyReference.{property_then, property_items_then}
-use Rattle.bac_apdu.specs.Form.{Form, end, part, optional, context, opening, enclosed, anything, is_u32, unsigned, enumerated, object_identifier, Item, Value, Mark, Inside, number_item}
+use Rattle.bac_apdu.specs.Form.{Form, end, part, opening, enclosed, Item, Mark, Inside}
 use Rattle.std.specs.Option.{option_map}
 use Rattle.std.specs.Result.{result_ok}
 use Rattle.bac_apdu.specs.FormReading.{form_at}

@@ -1,9 +1,8 @@
 -- ReadRange (clauses 15.8 and 21): its parameters, and what a request shows of its fields.
-use Rattle.std.specs.Prelude.{ℕ, List, ◌∷◌, drop, Result}
-use Rattle.bac_wire.specs.Primitive.{Enumerated, Object}
+use Rattle.std.specs.Prelude.{ℕ, List, drop, Result}
 use Rattle.bac_apdu.specs.declared.service.read_range.ReadRange.{ReadRange}
 use Rattle.bac_apdu.specs.Service.PropertyReference.{property_then, property_items_then}
-use Rattle.bac_apdu.specs.Form.{Form, part, optional, context, anything, is_u32, unsigned, enumerated, object_identifier, Item, Value, number_item}
+use Rattle.bac_apdu.specs.Form.{Form, Item}
 use Rattle.bac_apdu.specs.Service.Extent.{range, extent_items, extent_in}
 use Rattle.bac_wire.specs.Chain.{result_map}
 use Rattle.bac_apdu.specs.declared.reason.Reason.{Reason}

@@ -1,10 +1,10 @@
 -- WriteProperty (clauses 15.9 and 21): its parameters, and what a request shows of its fields.
 use Rattle.std.specs.Prelude.{ℕ, ◌<◌, ◌&&◌, nat_lt, Bool, false, List, [], ◌∷◌, Option, Some, None, Result}
-use Rattle.bac_wire.specs.Primitive.{Id, Primitive, Unsigned, Enumerated, Object}
+use Rattle.bac_wire.specs.Primitive.{Id, Primitive, Unsigned}
 use Rattle.bac_wire.specs.View.{view}
 use Rattle.bac_apdu.specs.declared.service.write_property.WriteProperty.{WriteProperty}
 use Rattle.bac_apdu.specs.Service.PropertyReference.{property_then, property_items_then}
-use Rattle.bac_apdu.specs.Form.{Form, end, part, optional, context, opening, closing, any, anything, is_u32, unsigned, enumerated, object_identifier, Item, Value, Mark, number_item}
+use Rattle.bac_apdu.specs.Form.{Form, end, part, optional, opening, closing, any, unsigned, Item, Value, Mark, number_item}
 use Rattle.bac_wire.specs.Chain.{result_map}
 use Rattle.bac_apdu.specs.declared.reason.Reason.{Reason}
 use Rattle.bac_apdu.specs.FormReading.{form_at}
