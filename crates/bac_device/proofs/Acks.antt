@@ -1,12 +1,12 @@
 -- ACKs that are too long.
 use Rattle.std.proofs.Common.{◌≡◌, refl, ap, sym, ◌∙◌, arith, ℕ, ◌<◌, ◌≤◌, nat_lt, true, false, List, [], ◌++◌, length, Option, Some, None, Result, Ok, Err, length-append}
 use Rattle.std.proofs.lemmas.Bool.Decides.{nat_tests}
-use Rattle.bac_wire.specs.Primitive.{Primitive, Id, Object, Enumerated, Unsigned}
+use Rattle.bac_wire.specs.Primitive.{Id, Object, Enumerated, Unsigned}
 use Rattle.bac_apdu.specs.Adding.{context_octets, open_octets, close_octets}
 use Rattle.bac_apdu.specs.Apdu.{Complex, apdu_octets}
 use Rattle.bac_apdu.specs.declared.service.read_property.ReadProperty.{ReadProperty}
 use Rattle.bac_objects.specs.State.{State}
-use Rattle.bac_objects.specs.Reading.{fitted, read_of}
+use Rattle.bac_objects.specs.Reading.{fitted}
 use Rattle.bac_device.specs.Answer.{ack_octets, ack, own_id, read_said}
 use Rattle.bac_device.specs.Reply.{abort, error, limited, datagram_octets}
 use Rattle.bac_objects.specs.declared.fault.Fault.{Fault}

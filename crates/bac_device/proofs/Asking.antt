@@ -1,6 +1,5 @@
 -- What a ReadProperty is answered.
 use Rattle.std.proofs.Common.{◌≡◌, refl, ℕ, min, false, List, Option, Some, None, Ok}
-use Rattle.bac_wire.specs.Primitive.{Primitive}
 use Rattle.bac_apdu.specs.Apdu.{Confirmed}
 use Rattle.bac_apdu.specs.Frame.{Frame, Unicast, Broadcast, Forwarded, Function, frame_at}
 use Rattle.bac_apdu.specs.declared.service.read_property.ReadProperty.{ReadProperty}

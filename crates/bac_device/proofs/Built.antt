@@ -10,7 +10,6 @@ use Rattle.bac_objects.specs.Build.{build_fault, built, device_fault, entry_of, 
 use Rattle.bac_objects.specs.Command.{commanded, present}
 use Rattle.bac_objects.specs.Properties.{slot_value, value_of}
 use Rattle.bac_objects.specs.Reading.{read_of, values_octets}
-use Rattle.bac_objects.specs.Requests.{PropertyWrite}
 use Rattle.bac_objects.specs.State.{State, is_id}
 use Rattle.bac_objects.specs.declared.build.BuildFault.{BuildFault}
 use Rattle.bac_objects.specs.declared.command.Command.{Command}

@@ -1,22 +1,22 @@
 -- An answer of 44 octets holds a record.
-use Rattle.std.proofs.Common.{◌≡◌, refl, ap, sym, subst, ◌∙◌, arith, ℕ, zero, suc, ◌+◌, ◌^◌, ◌<◌, ◌≤◌, nat_lt, Bool, true, false, not, ◌&&◌, cond, List, [], ◌∷◌, length, take, Option, Some, None}
-use Rattle.std.specs.Prelude.{nat_le, filter, sum_by, All, if◌then◌else◌}
+use Rattle.std.proofs.Common.{◌≡◌, refl, ap, subst, arith, ℕ, zero, suc, ◌+◌, ◌^◌, ◌<◌, ◌≤◌, nat_lt, Bool, true, false, not, ◌&&◌, cond, List, [], ◌∷◌, length, take, Option, Some, None}
+use Rattle.std.specs.Prelude.{nat_le, filter, All, if◌then◌else◌}
 use Rattle.std.proofs.lemmas.Bool.Decides.{nat_tests}
 use Rattle.bac_wire.specs.Primitive.{Id}
-use Rattle.bac_apdu.specs.Apdu.{Apdu, Complex, apdu_octets}
+use Rattle.bac_apdu.specs.Apdu.{Complex, apdu_octets}
 use Rattle.bac_apdu.specs.Service.ReadRangeAck.{IsSmall, number_size, optional_size}
 use Rattle.bac_apdu.specs.declared.service.extent.Extent.{Extent}
 use Rattle.bac_log.specs.Ack.{ack_apdu, ack_length, ack_parameters}
 use Rattle.bac_log.specs.Entry.{IsLoggable}
 use Rattle.bac_log.specs.Record.{entry_octets}
-use Rattle.bac_log.specs.Select.{Logged, answer_of, entries_in, first_shown, greatest, held, is_asked, numbered, packed, reply_length, selected, shows_number}
-use Rattle.bac_log.specs.TrendLog.{IsLog, Log, last_ordinal, newest, oldest}
+use Rattle.bac_log.specs.Select.{Logged, answer_of, entries_in, first_shown, greatest, is_asked, numbered, packed, reply_length, selected, shows_number}
+use Rattle.bac_log.specs.TrendLog.{IsLog, Log, last_ordinal, oldest}
 use Rattle.bac_log.specs.declared.entry.Entry.{Entry}
 use Rattle.bac_log.proofs.Acks.{length-ack_length, same_octets}
 use Rattle.bac_log.proofs.Records.{All-head, All-tail}
-use Rattle.bac_log.proofs.Sizes.{IsSized, entry_sized}
-use Rattle.bac_device.specs.Answer.{is_empty, is_too_small, records_ack, records_said}
-use Rattle.bac_device.specs.Reply.{abort, limited}
+use Rattle.bac_log.proofs.Sizes.{entry_sized}
+use Rattle.bac_device.specs.Answer.{is_empty, records_ack, records_said}
+use Rattle.bac_device.specs.Reply.{limited}
 
 -- ---- the greatest that passes
 

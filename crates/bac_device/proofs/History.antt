@@ -16,7 +16,7 @@ use Rattle.bac_objects.specs.Chain.{or_fault}
 use Rattle.bac_objects.specs.Command.{present}
 use Rattle.bac_objects.specs.State.{State, is_id}
 use Rattle.bac_objects.specs.Requests.{PropertyWrite, write_property_at}
-use Rattle.bac_objects.specs.Properties.{row, object_table, device_table, value_of}
+use Rattle.bac_objects.specs.Properties.{row, object_table, value_of}
 use Rattle.bac_objects.specs.Reading.{read_of, values_octets}
 use Rattle.bac_wire.specs.Stamp.{CivilTime}
 use Rattle.bac_objects.specs.Writing.{priority_of, is_i32, setting_of, checked, command_written, object_written, is_device, write_of}

@@ -11,3 +11,5 @@ pub mod Ranges
 pub mod Moves
 pub mod Questions
 pub mod Fits
+pub mod Unaborted
+pub mod Runs

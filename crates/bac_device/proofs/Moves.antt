@@ -1,8 +1,7 @@
 -- What each call makes of a device's trend logs.
-use Rattle.std.proofs.Common.{◌≡◌, refl, ap, sym, subst, ◌∙◌, arith, ℕ, ◌==◌, ◌<◌, nat_lt, Bool, true, false, cond, List, [], ◌∷◌, map, Option, Some, None, Result, Ok, Err, ◌⊎◌, inl, inr}
+use Rattle.std.proofs.Common.{◌≡◌, refl, ap, sym, subst, ◌∙◌, arith, ℕ, ◌==◌, nat_lt, Bool, true, false, cond, List, [], ◌∷◌, map, Option, Some, None, Result, Ok, Err, inl, inr}
 use Rattle.std.specs.Prelude.{◌≢◌}
 use Rattle.std.specs.Map.{lookup, keys_of, set_value}
-use Rattle.std.specs.Option.{option_map}
 use Rattle.std.proofs.lemmas.Bool.Decides.{nat_tests}
 use Rattle.std.proofs.lemmas.Map.{keys-set_value}
 use Rattle.bac_wire.specs.Chain.{◌>>=◌}
@@ -13,12 +12,12 @@ use Rattle.bac_log.specs.TrendLog.{Log, newest, number, last_ordinal, logs, purg
 use Rattle.bac_log.specs.declared.entry.Entry.{Entry}
 use Rattle.bac_objects.specs.Chain.{or_fault}
 use Rattle.bac_objects.specs.Requests.{PropertyWrite}
-use Rattle.bac_objects.specs.Sampling.{body_after, due_entry, due_source, log_id, log_in, log_of, logger_in, object_at, object_ticked, records_in, sample_of, sampled, takes, ticked}
+use Rattle.bac_objects.specs.Sampling.{body_after, due_entry, due_source, log_id, log_in, logger_in, object_ticked, records_in, sample_of, sampled, takes, ticked}
 use Rattle.bac_objects.specs.State.{State, is_id}
-use Rattle.bac_objects.specs.Writing.{body_written, checked, command_written, enabled, log_written, object_written, purged, records_written, unless_full}
+use Rattle.bac_objects.specs.Writing.{body_written, command_written, enabled, purged, records_written, unless_full}
 use Rattle.bac_objects.specs.declared.command.Command.{Command}
 use Rattle.bac_objects.specs.declared.fault.Fault.{Fault}
-use Rattle.bac_objects.specs.declared.fault.Fault.TheVariants.{WriteDenied, BadType, BadValue}
+use Rattle.bac_objects.specs.declared.fault.Fault.TheVariants.{WriteDenied, BadValue}
 use Rattle.bac_objects.specs.declared.object.Body.{Body}
 use Rattle.bac_objects.specs.declared.object.Body.TheVariants as body
 use Rattle.bac_objects.specs.declared.object.Logger.{Logger}
@@ -27,7 +26,6 @@ use Rattle.bac_objects.specs.declared.sampling.SampleFault.{SampleFault}
 use Rattle.bac_objects.specs.declared.sampling.SampleFault.TheVariants.{NoSuchLog, Disabled, CycleFull}
 use Rattle.bac_device.specs.Answer.{answer}
 use Rattle.bac_device.specs.History.{write_asked}
-use Rattle.bac_objects.specs.Sound.{HasLogs}
 use Rattle.bac_device.specs.Logs.{Keeps, StepsTo}
 use Rattle.bac_device.proofs.History.{Wrote, apart, looked_other, looked_same, same_id, wrote}
 use Rattle.bac_device.proofs.Told.{Told, told}

@@ -1,12 +1,11 @@
 -- Questions for the records of a trend log.
-use Rattle.std.proofs.Common.{◌≡◌, refl, ap, sym, subst, ◌∙◌, arith, ℕ, ◌+◌, ◌^◌, ◌<◌, ◌≤◌, ◌==◌, ◌&&◌, nat_lt, min, Bool, true, false, cond, List, [], ◌∷◌, ◌++◌, map, length, Option, Some, None, Result, Ok, Err, inl, inr, length-append}
+use Rattle.std.proofs.Common.{◌≡◌, refl, ap, sym, ◌∙◌, arith, ℕ, ◌<◌, nat_lt, min, Bool, true, false, cond, List, [], ◌∷◌, ◌++◌, map, length, Option, Some, None, Ok, Err, inr, length-append}
 use Rattle.std.specs.Map.{lookup}
 use Rattle.std.proofs.lemmas.Bool.Decides.{nat_tests}
-use Rattle.bac_wire.specs.Primitive.{Id}
-use Rattle.bac_apdu.specs.Apdu.{Apdu, Confirmed, IsApdu, apdu_octets, apdu_at}
+use Rattle.bac_apdu.specs.Apdu.{Apdu, Confirmed, apdu_octets}
 use Rattle.bac_apdu.specs.FormCanon.{canon_form}
-use Rattle.bac_apdu.specs.Frame.{Unicast, frame_at, frame_octets}
-use Rattle.bac_apdu.specs.Npdu.{IsHeader, header_at, header_octets, place_octets}
+use Rattle.bac_apdu.specs.Frame.{Unicast, frame_at}
+use Rattle.bac_apdu.specs.Npdu.{IsHeader, header_octets, place_octets}
 use Rattle.bac_apdu.specs.Service.Extent.{IsExtent}
 use Rattle.bac_apdu.specs.Service.ReadRange.{read_range, range_items, range_in, read_range_at}
 use Rattle.bac_apdu.specs.declared.service.extent.Extent.{Extent}
@@ -16,7 +15,7 @@ use Rattle.bac_apdu.proofs.Named.{fields_again, range_back}
 use Rattle.bac_apdu.proofs.Services.{range_again}
 use Rattle.bac_apdu.proofs.Shorts.{range_apdu_short}
 use Rattle.bac_log.specs.TrendLog.{Log}
-use Rattle.bac_objects.specs.Build.{built, entry_of, id_of}
+use Rattle.bac_objects.specs.Build.{built, entry_of}
 use Rattle.bac_objects.specs.Records.{records_of}
 use Rattle.bac_objects.specs.Sampling.{log_id, log_in, log_of, logger_in, records_in}
 use Rattle.bac_objects.specs.State.{State, is_id}
@@ -28,10 +27,10 @@ use Rattle.bac_objects.specs.declared.object.Body.{Body}
 use Rattle.bac_objects.specs.declared.object.Body.TheVariants as body
 use Rattle.bac_objects.specs.declared.object.Logger.{Logger}
 use Rattle.bac_objects.specs.declared.object.Object as object
-use Rattle.bac_device.specs.Answer.{answer, answer_range, range_said, records_said}
+use Rattle.bac_device.specs.Answer.{answer, range_said, records_said}
 use Rattle.bac_objects.specs.Sound.{HasLogs}
 use Rattle.bac_device.specs.Logs.{asking, question, question_octets}
-use Rattle.bac_device.specs.Receiving.{Heard, heard_at}
+use Rattle.bac_device.specs.Receiving.{heard_at}
 use Rattle.bac_device.specs.Reply.{error, reply}
 use Rattle.bac_device.specs.declared.reply.Receiver.TheVariants.{Sender}
 

@@ -1,24 +1,24 @@
 -- What a ReadRange is answered.
-use Rattle.std.proofs.Common.{◌≡◌, refl, ap, sym, subst, ◌∙◌, arith, ℕ, zero, suc, ◌+◌, ◌-◌, ◌<◌, ◌≤◌, nat_lt, Bool, true, false, not, ◌&&◌, cond, List, [], ◌∷◌, ◌++◌, length, take, drop, slice_get, get_or, Option, Some, None, Result, Ok, Err, length-append, append-nil, append_assoc}
-use Rattle.std.specs.Prelude.{nat_le, ◌≢◌, ◌↔◌, IsErr}
+use Rattle.std.proofs.Common.{◌≡◌, refl, ap, sym, ◌∙◌, arith, ℕ, zero, suc, ◌+◌, ◌-◌, ◌<◌, ◌≤◌, nat_lt, Bool, true, false, not, ◌&&◌, cond, List, [], ◌∷◌, ◌++◌, length, take, drop, slice_get, Option, Some, None, length-append, append-nil}
+use Rattle.std.specs.Prelude.{nat_le, ◌≢◌}
 use Rattle.std.proofs.lemmas.Bool.Decides.{nat_tests}
 use Rattle.std.proofs.lemmas.List.{take_more, get_or-drop, length-drop}
 use Rattle.std.proofs.lemmas.Option.{slice_get_within, get_or_from_slice_get}
 use Rattle.bac_wire.specs.Primitive.{Id, Object, Enumerated, Bits, Unsigned}
 use Rattle.bac_apdu.specs.Adding.{context_octets, open_octets, close_octets}
 use Rattle.bac_apdu.specs.Apdu.{Apdu, Complex, apdu_octets}
-use Rattle.bac_apdu.specs.Form.{Item, Value, Mark, Inside, Absent, number_item}
+use Rattle.bac_apdu.specs.Form.{Value, Mark, Inside, Absent, number_item}
 use Rattle.bac_apdu.specs.FormCanon.{canon_form}
 use Rattle.bac_apdu.specs.Service.ReadRangeAck.{read_range_ack, flag_bits}
 use Rattle.bac_apdu.specs.declared.service.extent.Extent.{Extent}
-use Rattle.bac_log.specs.Ack.{ack_parameters, shown_items}
+use Rattle.bac_log.specs.Ack.{ack_parameters}
 use Rattle.bac_log.specs.Record.{entry_octets, entries_octets}
 use Rattle.bac_log.specs.Select.{Logged, answer_of, entries_in, first_shown, packed, reply_of, selected}
 use Rattle.bac_log.specs.TrendLog.{Log, entry_of, oldest}
 use Rattle.bac_log.specs.declared.answer.Selected.{Selected}
 use Rattle.bac_log.specs.declared.entry.Entry.{Entry}
 use Rattle.bac_log.proofs.Records.{entries-append}
-use Rattle.bac_device.specs.Answer.{is_empty, is_too_small, records_ack, records_said}
+use Rattle.bac_device.specs.Answer.{is_empty, records_ack, records_said}
 use Rattle.bac_device.specs.Reply.{abort, datagram_octets, limited}
 
 -- ---- records one after the other

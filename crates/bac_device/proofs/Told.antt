@@ -31,7 +31,7 @@ plain_is = refl
 plain_valid : IsHeader plain
 plain_valid = (omega arith, tt, tt, refl)
 
-again : (m : Apdu) → IsApdu m → length (apdu_octets m) ≤ 1476 → heard_in (frame_at (datagram_octets m)) ≡ Some (record { to_all = false; apdu = m })
+pub again : (m : Apdu) → IsApdu m → length (apdu_octets m) ≤ 1476 → heard_in (frame_at (datagram_octets m)) ≡ Some (record { to_all = false; apdu = m })
 unfolding datagram_octets heard_at
 again m valid short =
     let two : length (header_octets plain) ≡ 2 = ap (λ (l : List ℕ). length l) plain_is in
@@ -41,7 +41,7 @@ again m valid short =
 simple_done : (to : Receiver) (invoke service : ℕ) → is_done (Some (reply to (Simple invoke service))) ≡ true
 simple_done to invoke service = rw (again (Simple invoke service) tt (omega arith)) refl
 
-small : (f : Fault) → (class_of f < 2 ^ 32) × (code_of f < 2 ^ 32)
+pub small : (f : Fault) → (class_of f < 2 ^ 32) × (code_of f < 2 ^ 32)
 small UnknownObject = (omega arith, omega arith)
 small UnknownProperty = (omega arith, omega arith)
 small NotArray = (omega arith, omega arith)

@@ -6,3 +6,4 @@ pub mod Views
 pub mod History
 pub mod Laws
 pub mod Logs
+pub mod Run

@@ -1,20 +1,29 @@
 -- What each call makes of a device's trend logs (clause 12.25).
-use Rattle.std.specs.Prelude.{◌≡◌, ◌≢◌, ℕ, ◌⊎◌, Bool, true, false, List, ◌++◌, Option, None, Some}
+use Rattle.std.specs.Prelude.{◌≡◌, ◌≢◌, ℕ, ◌⊎◌, min, Bool, true, false, List, ◌++◌, Option, None, Some, Result, Ok, Err}
 use Rattle.std.specs.Map.{keys_of}
 use Rattle.bac_wire.specs.Stamp.{CivilTime}
-use Rattle.bac_apdu.specs.Apdu.{Confirmed, apdu_octets}
+use Rattle.bac_apdu.specs.Apdu.{Apdu, Confirmed, Abort, apdu_octets}
 use Rattle.bac_apdu.specs.FormCanon.{canon_form}
-use Rattle.bac_apdu.specs.Frame.{frame_octets}
+use Rattle.bac_apdu.specs.Frame.{frame_at, frame_octets}
 use Rattle.bac_apdu.specs.Npdu.{Header, header_octets}
-use Rattle.bac_apdu.specs.Service.ReadRange.{read_range, range_items}
+use Rattle.bac_apdu.specs.Service.ReadRange.{read_range, range_items, read_range_at}
+use Rattle.bac_apdu.specs.declared.reason.Reason.{Reason}
 use Rattle.bac_apdu.specs.declared.service.extent.Extent.{Extent}
 use Rattle.bac_apdu.specs.declared.service.read_range.ReadRange.{ReadRange}
 use Rattle.bac_log.specs.Ack.{log_buffer, read_range_service}
 use Rattle.bac_log.specs.TrendLog.{Log, newest, last_ordinal, logs, purges, enables}
 use Rattle.bac_log.specs.declared.entry.Entry.{Entry}
+use Rattle.bac_objects.specs.Records.{records_of}
 use Rattle.bac_objects.specs.Sampling.{log_id, log_of}
-use Rattle.bac_objects.specs.Sound.{HasLogs}
+use Rattle.bac_objects.specs.Sound.{HasLogs, IsSound}
 use Rattle.bac_objects.specs.State.{State}
+use Rattle.bac_objects.specs.declared.fault.Fault.{Fault}
+use Rattle.bac_device.specs.Answer.{answer, records_ack}
+use Rattle.bac_device.specs.History.{heard_in}
+use Rattle.bac_device.specs.Receiving.{Heard}
+use Rattle.bac_device.specs.Reply.{error, reject, reply}
+use Rattle.bac_device.specs.declared.reply.Receiver.{Receiver}
+use Rattle.bac_device.specs.declared.reply.Reply.{Reply}
 
 -- ---- steps
 
@@ -48,3 +57,45 @@ question n extent = record { object = log_id n; property = log_buffer; index = N
 -- as a datagram that takes an answer of 1476 octets
 abbrev pub question_octets : ℕ → ℕ → Extent → List ℕ
 question_octets invoke n extent = frame_octets (header_octets asking ++ apdu_octets (Confirmed false 1476 invoke read_range_service (canon_form read_range (range_items (question n extent)))))
+
+-- ---- answers to any ReadRange
+
+abbrev pub is_abort : Apdu → Bool
+is_abort (Abort by_server invoke reason) = true
+is_abort other = false
+
+abbrev pub heard_abort : Option Heard → Bool
+heard_abort None = false
+heard_abort (Some heard) = is_abort heard.apdu
+
+-- the reply is an Abort
+abbrev pub is_aborted : Option Reply → Bool
+is_aborted None = false
+is_aborted (Some reply) = heard_abort (heard_in (frame_at reply.datagram))
+
+-- an unsegmented ReadRange, whatever it asks for, and whatever the greatest answer is that it takes
+abbrev pub IsRangeAsked : List ℕ → Bool → ℕ → ℕ → List ℕ → Type 0
+IsRangeAsked datagram to_all size invoke parameters =
+    heard_in (frame_at datagram) ≡ Some (record { to_all = to_all; apdu = Confirmed false size invoke read_range_service parameters })
+
+abbrev pub RangesAreNotAborted : Type 0
+RangesAreNotAborted =
+    (d : State) (datagram : List ℕ) (to_all : Bool) (size invoke : ℕ) (parameters : List ℕ)
+    → IsSound d → IsRangeAsked datagram to_all size invoke parameters → is_aborted (answer d datagram).0 ≡ false
+
+-- the records that fit, or the first error
+abbrev pub log_said : ℕ → ℕ → ReadRange → Result Log Fault → Apdu
+log_said limit invoke r (Ok log) = records_ack limit invoke r.object r.extent log
+log_said limit invoke r (Err fault) = error invoke read_range_service fault
+
+-- or why it can't be read
+abbrev pub log_answer : State → ℕ → ℕ → Result ReadRange Reason → Apdu
+log_answer d limit invoke (Ok r) = log_said limit invoke r (records_of d r)
+log_answer d limit invoke (Err reason) = reject invoke reason
+
+-- to this device alone it is answered so, and changes nothing
+abbrev pub RangesAreAnswered : Type 0
+RangesAreAnswered =
+    (d : State) (datagram : List ℕ) (size invoke : ℕ) (parameters : List ℕ)
+    → IsSound d → IsRangeAsked datagram false size invoke parameters
+    → (to : Receiver) × (answer d datagram ≡ (Some (reply to (log_answer d (min size d.reply_size) invoke (read_range_at parameters))), d))

@@ -3,6 +3,7 @@
 ghost use Rattle.bac_device.specs.Laws.{AcceptedWritesStand, AcksAreReadBack, BuiltObjectsAreCommanded};
 ghost use Rattle.bac_device.specs.Laws.{ObjectListKeepsTheOrderOfLines, OthersChangeNothing};
 ghost use Rattle.bac_device.specs.Laws.{ReadsAreAnswered, RefusalsChangeNothing};
+ghost use Rattle.bac_device.specs.Run.{RunsAreJoined, RunsOfDatagrams};
 
 /// A datagram that isn't answered by a SimpleACK changes nothing, nor does one that is no
 /// WriteProperty to this device alone.
@@ -39,4 +40,12 @@ pub fn acks_are_read_back()
 /// the limit: so what stands after writes is what is sent.
 pub fn reads_are_answered()
     ensures { ReadsAreAnswered }
+{}
+
+/// A run of datagrams, samples and clock steps is that of its first events and then that of the
+/// rest, so each event finds what those before it left; datagrams alone leave what the other laws
+/// say of them.
+pub fn runs_are_joined()
+    ensures joined { RunsAreJoined }
+    ensures datagrams { RunsOfDatagrams }
 {}

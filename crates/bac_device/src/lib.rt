@@ -19,6 +19,7 @@ mod logs;
 mod receiving;
 mod reply;
 mod requests;
+mod run;
 mod service;
 
 pub use bac_objects::{BuildFault, DeviceLine, Name, ObjectLine, SampleFault};
@@ -26,9 +27,11 @@ pub use device::{ClockBack, Device};
 pub use laws::{
     accepted_writes_stand, acks_are_read_back, built_objects_are_commanded,
     object_list_keeps_the_order_of_lines, reads_are_answered, refusals_change_nothing,
+    runs_are_joined,
 };
 pub use logs::{
     built_devices_have_logs, logs_move_by_steps, questions_are_answered,
-    questions_for_no_log_are_refused, records_fit,
+    questions_for_no_log_are_refused, read_ranges_are_not_aborted, records_fit,
 };
 pub use reply::{Receiver, Reply};
+pub use run::{Event, Outcome};

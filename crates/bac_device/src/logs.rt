@@ -14,7 +14,7 @@ ghost use Rattle.bac_objects.specs.declared.fault.Fault.TheVariants as Fault;
 ghost use Rattle.bac_objects.specs.declared.lines.DeviceLine.{DeviceLine};
 ghost use Rattle.bac_objects.specs.declared.lines.ObjectLine.{ObjectLine};
 ghost use Rattle.bac_device.specs.Answer.{answer, records_ack, records_said};
-ghost use Rattle.bac_device.specs.Logs.{Keeps, question_octets};
+ghost use Rattle.bac_device.specs.Logs.{Keeps, RangesAreAnswered, RangesAreNotAborted, question_octets};
 ghost use Rattle.bac_device.specs.Reply.{error, reply};
 ghost use Rattle.bac_device.specs.declared.reply.Receiver.TheVariants as Receiver;
 
@@ -47,4 +47,11 @@ pub fn questions_for_no_log_are_refused()
 /// Abort where the limit is that high, and a device's reply size is.
 pub fn records_fit()
     ensures { (limit invoke : ℕ) (object : Id) (extent : AnyExtent) (log : Log) → IsLog log → 44 ≤ limit → records_said limit invoke object extent log ≡ records_ack limit invoke object extent log }
+{}
+
+/// No unsegmented ReadRange is ever answered by an Abort, however small the answer that it takes:
+/// to this device alone it is answered by the records that fit, the first error, or a Reject.
+pub fn read_ranges_are_not_aborted()
+    ensures never { RangesAreNotAborted }
+    ensures answered { RangesAreAnswered }
 {}

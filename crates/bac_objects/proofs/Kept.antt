@@ -1,5 +1,5 @@
 -- Each object is kept, and what follows of the device.
-use Rattle.std.proofs.Common.{◌≡◌, ◌≤◌, ◌++◌, refl, ap, sym, rules, arith, subst, ℕ, zero, suc, Bool, true, false, ◌||◌, not, cond, List, [], ◌∷◌, slice_get, nat_lt, Option, Some, None}
+use Rattle.std.proofs.Common.{◌≡◌, ◌<◌, ◌≤◌, ◌++◌, refl, ap, sym, ◌∙◌, rules, arith, subst, ℕ, zero, suc, Bool, true, false, ◌||◌, not, cond, List, [], ◌∷◌, slice_get, nat_lt, Option, Some, None}
 use Rattle.std.specs.Option.{unwrap_or}
 use Rattle.std.specs.Map.{lookup, set_value}
 use Rattle.std.proofs.lemmas.Bool.Decides.{nat_tests}
@@ -7,7 +7,7 @@ use Rattle.indexmap.specs.IndexMap.{set_value_at}
 use Rattle.bac_wire.specs.Primitive.{Id}
 use Rattle.bac_wire.specs.Stamp.{CivilTime}
 use Rattle.bac_log.specs.TrendLog.{Log, IsLog}
-use Rattle.bac_objects.specs.Build.{body_of, built, device_fault, entry_of, first_of, is_name, kind_of}
+use Rattle.bac_objects.specs.Build.{body_of, built, device_fault, entry_of, first_of, id_of, is_name}
 use Rattle.bac_objects.specs.Kept.{AreObjects, IsBody, KeepsBody}
 use Rattle.bac_objects.specs.Sampling.{log_id, log_in, logger_in, records_in}
 use Rattle.bac_objects.specs.Sound.{IsSound}
@@ -25,22 +25,29 @@ use Rattle.bac_objects.specs.declared.object.Object as object
 same_kind : (a b : Id) → is_id a b ≡ true → b.kind ≡ a.kind
 same_kind a b h = grind (arith, nat_tests)
 
+same_instance : (a b : Id) → is_id a b ≡ true → b.instance ≡ a.instance
+same_instance a b h = grind (arith, nat_tests)
+
+same_id : (a b : Id) → is_id a b ≡ true → b ≡ a
+same_id a b h =
+    ap (λ k. let id : Id = record { kind = k; instance = b.instance } in id) (same_kind a b h) ∙ ap (λ i. let id : Id = record { kind = a.kind; instance = i } in id) (same_instance a b h)
+
 some_is : (a b : object.Object) → Some a ≡ Some b → a ≡ b
 some_is a b e = cc
 
-found_at : (b : Bool) (id : Id) (e : Id × object.Object) (found : Option object.Object) (o : object.Object) → is_id id e.0 ≡ b → IsBody e.0.kind e.1.body
-    → (found ≡ Some o → IsBody id.kind o.body) → cond b (Some e.1) found ≡ Some o → IsBody id.kind o.body
-found_at true id e found o same is rest h = subst (λ (k : ℕ). IsBody k o.body) (same_kind id e.0 same) (subst (λ (x : object.Object). IsBody e.0.kind x.body) (some_is e.1 o h) is)
+found_at : (b : Bool) (id : Id) (e : Id × object.Object) (found : Option object.Object) (o : object.Object) → is_id id e.0 ≡ b → IsBody e.0 e.1.body
+    → (found ≡ Some o → IsBody id o.body) → cond b (Some e.1) found ≡ Some o → IsBody id o.body
+found_at true id e found o same is rest h = subst (λ (k : Id). IsBody k o.body) (same_id id e.0 same) (subst (λ (x : object.Object). IsBody e.0 x.body) (some_is e.1 o h) is)
 found_at false id e found o same is rest h = rest h
 
 -- what is found under an identifier is of its type
-pub body_found : (es : List (Id × object.Object)) (id : Id) (o : object.Object) → AreObjects es → lookup (is_id id) es ≡ Some o → IsBody id.kind o.body
+pub body_found : (es : List (Id × object.Object)) (id : Id) (o : object.Object) → AreObjects es → lookup (is_id id) es ≡ Some o → IsBody id o.body
 body_found [] id o are h = search rules
 body_found (e ∷ es) id o are h = found_at (is_id id e.0) id e (lookup (is_id id) es) o refl are.0 (body_found es id o are.1) h
 
-set_at : (b : Bool) (test : Id → Bool) (e : Id × object.Object) (es : List (Id × object.Object)) (o new : object.Object) → KeepsBody o.body new.body → IsBody e.0.kind e.1.body → AreObjects es
+set_at : (b : Bool) (test : Id → Bool) (e : Id × object.Object) (es : List (Id × object.Object)) (o new : object.Object) → KeepsBody o.body new.body → IsBody e.0 e.1.body → AreObjects es
     → (lookup test es ≡ Some o → AreObjects (set_value test es new)) → cond b (Some e.1) (lookup test es) ≡ Some o → AreObjects (cond b ((e.0, new) ∷ es) (e ∷ set_value test es new))
-set_at true test e es o new keeps is are rest h = (keeps e.0.kind (subst (λ (x : object.Object). IsBody e.0.kind x.body) (some_is e.1 o h) is), are)
+set_at true test e es o new keeps is are rest h = (keeps e.0 (subst (λ (x : object.Object). IsBody e.0 x.body) (some_is e.1 o h) is), are)
 set_at false test e es o new keeps is are rest h = (is, rest h)
 
 -- an object that is found, and kept
@@ -54,31 +61,31 @@ second e k o h = ap (λ (x : Option (Id × object.Object)). (unwrap_or x e).1) h
 -- an object at a place, and kept
 pub place_kept : (es : List (Id × object.Object)) (i : ℕ) (k : Id) (o new : object.Object) → KeepsBody o.body new.body → AreObjects es → slice_get es i ≡ Some (k, o) → AreObjects (set_value_at es i new)
 place_kept [] i k o new keeps are at = tt
-place_kept (e ∷ es) zero k o new keeps are at = (keeps e.0.kind (subst (λ (x : object.Object). IsBody e.0.kind x.body) (second e k o at) are.0), are.1)
+place_kept (e ∷ es) zero k o new keeps are at = (keeps e.0 (subst (λ (x : object.Object). IsBody e.0 x.body) (second e k o at) are.0), are.1)
 place_kept (e ∷ es) (suc i) k o new keeps are at = (are.0, place_kept es i k o new keeps are.1 at)
 
 -- an object more
-pub push_kept : (es : List (Id × object.Object)) (e : Id × object.Object) → AreObjects es → IsBody e.0.kind e.1.body → AreObjects (es ++ e ∷ [])
+pub push_kept : (es : List (Id × object.Object)) (e : Id × object.Object) → AreObjects es → IsBody e.0 e.1.body → AreObjects (es ++ e ∷ [])
 push_kept [] e are is = (is, tt)
 push_kept (x ∷ es) e are is = (are.0, push_kept es e are.1 is)
 
 -- ---- the device
 
-log_body : (b : Body) → IsBody 20 b → (l : Logger) × (b ≡ body.Log l)
-log_body (body.Command c) is = absurd (is refl)
-log_body (body.Log l) is = (l, refl)
+log_body : (n : ℕ) (b : Body) → IsBody (log_id n) b → (l : Logger) × (b ≡ body.Log l)
+log_body n (body.Command c) is = absurd (is refl)
+log_body n (body.Log l) is = (l, refl)
 
-log_kind : (kind : ℕ) (b : Body) (l : Logger) → IsBody kind b → b ≡ body.Log l → kind ≡ 20
-log_kind kind (body.Command c) l is e = absurd cc
-log_kind kind (body.Log m) l is e = is.0
+log_named : (id : Id) (b : Body) (l : Logger) → IsBody id b → b ≡ body.Log l → (id.kind ≡ 20) × (id.instance < 4194304)
+log_named id (body.Command c) l is e = absurd cc
+log_named id (body.Log m) l is e = (is.0, is.1)
 
-body_log : (b : Body) (log : Log) → IsBody 20 b → records_in (logger_in b) ≡ Some log → IsLog log
-body_log (body.Command c) log is e = absurd cc
-body_log (body.Log l) log is e = let same : l.log ≡ log = cc in subst (λ (x : Log). IsLog x) same is.1
+body_log : (n : ℕ) (b : Body) (log : Log) → IsBody (log_id n) b → records_in (logger_in b) ≡ Some log → IsLog log
+body_log n (body.Command c) log is e = absurd cc
+body_log n (body.Log l) log is e = let same : l.log ≡ log = cc in subst (λ (x : Log). IsLog x) same is.2
 
-found_log : (n : ℕ) (found : Option object.Object) (log : Log) → ((o : object.Object) → found ≡ Some o → IsBody 20 o.body) → log_in found ≡ Some log → IsLog log
+found_log : (n : ℕ) (found : Option object.Object) (log : Log) → ((o : object.Object) → found ≡ Some o → IsBody (log_id n) o.body) → log_in found ≡ Some log → IsLog log
 found_log n None log is e = absurd cc
-found_log n (Some o) log is e = body_log o.body log (is o refl) e
+found_log n (Some o) log is e = body_log n o.body log (is o refl) e
 
 log_held : (far : Bool) (n : ℕ) (es : List (Id × object.Object)) (log : Log) → AreObjects es → log_in (cond far None (lookup (is_id (log_id n)) es)) ≡ Some log → IsLog log
 log_held true n es log are e = absurd cc
@@ -89,8 +96,8 @@ sound d within least greatest are = record {
   instance = within;
   least_reply = least;
   greatest_reply = greatest;
-  has = λ n o h. log_body o.body (body_found d.objects (log_id n) o are h);
-  only = λ id o l h e. log_kind id.kind o.body l (body_found d.objects id o are h) e;
+  has = λ n o h. log_body n o.body (body_found d.objects (log_id n) o are h);
+  only = λ id o l h e. log_named id o.body l (body_found d.objects id o are h) e;
   logs = λ n log e. log_held (nat_lt 4194303 n) n d.objects log are e;
 }
 
@@ -131,5 +138,5 @@ line_sound line name es none are =
     let bounds = line_bounds line.instance line.reply_size tests.0 tests.1 in
     (sound (record (built line []) { name = name; objects = es }) bounds.0 bounds.1 bounds.2 are, are)
 
-pub added_kept : (es new : List (Id × object.Object)) (line : ObjectLine) (b : Body) → AreObjects es → IsBody (kind_of line) b → b ≡ body_of line → new ≡ es ++ entry_of line ∷ [] → AreObjects new
-added_kept es new line b are is same e = subst AreObjects (sym e) (push_kept es (entry_of line) are (subst (IsBody (kind_of line)) same is))
+pub added_kept : (es new : List (Id × object.Object)) (line : ObjectLine) (b : Body) → AreObjects es → IsBody (id_of line) b → b ≡ body_of line → new ≡ es ++ entry_of line ∷ [] → AreObjects new
+added_kept es new line b are is same e = subst AreObjects (sym e) (push_kept es (entry_of line) are (subst (IsBody (id_of line)) same is))

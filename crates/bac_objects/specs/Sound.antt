@@ -1,5 +1,5 @@
 -- What is true of every device between two calls.
-use Rattle.std.specs.Prelude.{ℕ, ◌≡◌, ◌≤◌, Some}
+use Rattle.std.specs.Prelude.{ℕ, ◌≡◌, ◌<◌, ◌≤◌, Some}
 use Rattle.std.specs.Map.{lookup}
 use Rattle.bac_wire.specs.Primitive.{Id}
 use Rattle.bac_log.specs.TrendLog.{Log, IsLog}
@@ -20,5 +20,5 @@ pub record IsSound (d : State) : Type 0 where
   pub least_reply : 50 ≤ d.reply_size
   pub greatest_reply : d.reply_size ≤ 1476
   pub has : HasLogs d
-  pub only : (id : Id) (o : object.Object) (l : Logger) → lookup (is_id id) d.objects ≡ Some o → o.body ≡ body.Log l → id.kind ≡ 20
+  pub only : (id : Id) (o : object.Object) (l : Logger) → lookup (is_id id) d.objects ≡ Some o → o.body ≡ body.Log l → (id.kind ≡ 20) × (id.instance < 4194304)
   pub logs : (n : ℕ) (log : Log) → log_of d n ≡ Some log → IsLog log

@@ -5,7 +5,7 @@ ghost use Rattle.std.specs.List.{list_any};
 ghost use Rattle.std.specs.Map.{lookup};
 ghost use Rattle.std.specs.Str.{bytes_eq};
 ghost use Rattle.indexmap.specs.IndexSet.{insert_key};
-ghost use Rattle.bac_objects.specs.Build.{Builds, body_of, build_fault, device_fault, entry_of, first_of, has_id, has_name, id_of, instance_of, is_control, is_name, kind_of, line_tests, log_tests, objects_fault, own_tests};
+ghost use Rattle.bac_objects.specs.Build.{Builds, body_of, build_fault, device_fault, entry_of, first_of, has_id, has_name, id_of, instance_of, is_control, is_name, line_tests, log_tests, objects_fault, own_tests};
 ghost use Rattle.bac_objects.specs.Kept.{AreObjects, IsBody};
 ghost use Rattle.bac_objects.specs.Sound.{IsSound};
 ghost use Rattle.bac_objects.specs.State.{is_id};
@@ -189,7 +189,7 @@ impl ObjectLine {
     /// What the object is. A log takes memory for all its records.
     fn body(&self, alloc: Global) -> Result<Body, BuildFault>
         ensures ok { IfOk result (λ body. body ≡ body_of self.now) }
-        ensures kept { IfOk result (IsBody (kind_of self.now)) }
+        ensures kept { IfOk result (λ body. instance_of self.now < 4194304 → IsBody (id_of self.now) body) }
         ensures err { IfErr result (λ fault. fault ≡ BuildFault.Memory) }
     {
         match self {

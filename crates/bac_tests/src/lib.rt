@@ -31,6 +31,8 @@ mod replay;
 #[cfg(test)]
 mod results;
 #[cfg(test)]
+mod script_logs;
+#[cfg(test)]
 mod streams;
 #[cfg(test)]
 mod trend_logs;

@@ -20,7 +20,7 @@ pub(crate) const I_AM: &[u8] = b"tx 810a001401001000c40200007b2205c491032100\n";
 pub(crate) const NONE: &[u8] = b"none\n";
 
 /// Plays a script, and compares what it wrote and how it ended.
-fn plays(
+pub(crate) fn plays(
     rt: &impl Abort,
     alloc: Global,
     script: &[&[u8]],
@@ -359,40 +359,6 @@ fn the_clock_is_not_set_back(rt: HostRuntime) -> Result<(), Fail> {
         &[b"sampled 0\nclock back\nsampled 0\nclock back\n"],
         Ok(()),
     )
-}
-
-/// Trend Log 2 samples Binary Value 1 each second, and has three sequence numbers left.
-const LOG: &[u8] = b"binary 1 pump 0\nlog 2 trend binary 1 3 100 4294967291\n";
-
-#[test]
-fn samples_are_numbered(rt: HostRuntime) -> Result<(), Fail> {
-    plays(
-        &rt,
-        rt.alloc(),
-        &[
-            DEVICE,
-            LOG,
-            b"sample 2\nsample 1\nsample 4194304\n",
-            b"clock 2024-05-06T07:08:10.09\nclock 2024-05-06T07:08:10.10\n",
-            b"sample 2\nsample 2\nclock 2024-05-06T07:08:11.10\n",
-        ],
-        &[
-            b"number 4294967292\nrefused: no such log\nrefused: no such log\n",
-            b"sampled 0\nsampled 1\n",
-            b"number 4294967294\nrefused: cycle full\nsampled 0\n",
-        ],
-        Ok(()),
-    )?;
-    // A log behind an event; a sample before the device.
-    plays(
-        &rt,
-        rt.alloc(),
-        &[DEVICE, b"sample 1\n", LOG],
-        &[b"refused: no such log\n"],
-        Err(ReplayFault::BadLine(3)),
-    )?;
-    let bad = Err(ReplayFault::BadLine(1));
-    plays(&rt, rt.alloc(), &[b"sample 1\n", DEVICE], &[], bad)
 }
 
 #[test]

@@ -1,7 +1,9 @@
 //! Trend logs of a device by their public calls: samples on demand and as the clock goes on, and
 //! what ReadRange answers. The octets are written by hand.
 
-use bac_device::{BuildFault, ClockBack, Device, DeviceLine, Name, ObjectLine, SampleFault};
+use bac_device::{
+    BuildFault, ClockBack, Device, DeviceLine, Event, Name, ObjectLine, Outcome, SampleFault,
+};
 use bac_wire::{ObjectId, Stamp};
 use std::alloc::Global;
 use std::process::Abort;
@@ -291,6 +293,55 @@ fn a_due_log_takes_one_sample(rt: HostRuntime) -> Result<(), Fail> {
     assert_eq!(rt; device.advance(at(30, 0, 0)?), Ok(1));
     assert_eq!(rt; device.advance(at(0, 0, 0)?), Err(ClockBack));
     assert_eq!(rt; device.log(1).ok_or("no log")?.count(), 2);
+    Ok(())
+}
+
+#[test]
+fn a_log_of_a_log_samples_no_value(rt: HostRuntime) -> Result<(), Fail> {
+    let a = rt.alloc();
+    let lines = [
+        pump(a)?,
+        log(a, 1, "trend", (5, 1), 3, 6000, 0)?,
+        log(a, 2, "second", (20, 1), 3, 6000, 0)?,
+    ];
+    let mut device = Device::build(a, &plant(a, 1476)?, &lines)
+        .ok()
+        .ok_or("not built")?;
+    assert_eq!(rt; device.advance(at(9, 9, 10)?), Ok(2));
+    assert_eq!(rt; device.log(1).ok_or("no log")?.count(), 1);
+    // The failure property, unknown-property, though the first log has just taken a record.
+    answers(
+        &rt,
+        a,
+        &mut device,
+        "810a001701040005011a0c0500000219836e210131646f",
+        "810a002d010030011a0c0500000219833a05c049015e0ea47c050601b40709090a0f1e8e910291208f1f5f6901",
+    )
+}
+
+#[test]
+fn a_run_has_the_outcome_of_each_event(rt: HostRuntime) -> Result<(), Fail> {
+    let a = rt.alloc();
+    let mut device = with_trend(a, 1476, 10, 6000, 0)?;
+    let disable = octets(a, "810a001401040005010f0c0500000119853e103f")?;
+    let events = [
+        Event::Sample(1),
+        Event::Advance(at(9, 9, 10)?),
+        Event::Datagram(disable.as_slice()),
+        Event::Sample(1),
+        Event::Advance(at(0, 0, 0)?),
+    ];
+    let outcomes = device.run(a, &events)?;
+    assert_eq!(rt; outcomes.len(), 5);
+    assert!(rt; matches!(&outcomes[0], Outcome::Sample(Ok(1))));
+    assert!(rt; matches!(&outcomes[1], Outcome::Advance(Ok(1))));
+    let Outcome::Datagram(Some(reply)) = &outcomes[2] else {
+        return Err(Fail::from("no reply"));
+    };
+    assert_eq!(rt; reply.datagram.octets(), octets(a, "810a0009010020010f")?.as_slice());
+    assert!(rt; matches!(&outcomes[3], Outcome::Sample(Err(SampleFault::Disabled))));
+    assert!(rt; matches!(&outcomes[4], Outcome::Advance(Err(ClockBack))));
+    assert_eq!(rt; device.log(1).ok_or("no log")?.count(), 3);
     Ok(())
 }
 

@@ -4,3 +4,4 @@ pub mod LineLemmas
 pub mod PlayLemmas
 pub mod EndLemmas
 pub mod Moments
+pub mod Walks

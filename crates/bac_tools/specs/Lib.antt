@@ -2,6 +2,7 @@ pub mod Script
 pub mod Input
 pub mod Output
 pub mod Fault
+pub mod Walk
 pub mod Session
 pub mod Views
 pub mod Replay

@@ -15,7 +15,8 @@ use Rattle.bac_device.specs.declared.reply.Receiver.{Receiver}
 use Rattle.bac_device.specs.declared.reply.Receiver.TheVariants.{Sender, Address}
 use Rattle.bac_device.specs.declared.reply.Reply.{Reply}
 use Rattle.bac_tools.specs.Fault.{Refusal, Bad, Unbuilt}
-use Rattle.bac_tools.specs.Script.Line.{Event, Received, Clocked, Sampled, ScriptLine, Device, Object, Happens, is_silent, line_in}
+use Rattle.bac_tools.specs.Walk.{walk_text}
+use Rattle.bac_tools.specs.Script.Line.{Event, Received, Clocked, Sampled, Walked, ScriptLine, Device, Object, Happens, is_silent, line_in}
 
 -- what the lines so far have made: nothing, a device that is described with its objects in the order of their lines, or one that runs
 pub data State : Type 0 where
@@ -84,6 +85,7 @@ abbrev pub happens : device.State → Event → List ℕ × device.State
 happens device (Received octets) = (answer_text (answer device octets).0, (answer device octets).1)
 happens device (Clocked stamp) = clocked device (advanced device stamp)
 happens device (Sampled instance) = sample_taken device (sampled device instance)
+happens device (Walked log from steps) = (walk_text device log from steps, device)
 
 abbrev pub running : List ℕ × device.State → Step
 running happened = Ok (happened.0, Running happened.1)

@@ -4,7 +4,7 @@ use Rattle.bac_wire.specs.Primitive.{Id}
 use Rattle.bac_wire.specs.Stamp.{CivilTime}
 use Rattle.bac_objects.specs.declared.lines.ObjectLine.TheVariants.{Binary, Multistate, Integer, Log}
 use Rattle.bac_tools.specs.Fault.{Refusal, Bad, Unbuilt}
-use Rattle.bac_tools.specs.Script.Line.{Event, Received, Clocked, Sampled, ScriptLine, Device, Object, Happens}
+use Rattle.bac_tools.specs.Script.Line.{Event, Received, Clocked, Sampled, Walked, ScriptLine, Device, Object, Happens}
 use Rattle.bac_tools.specs.Session.{State, Empty, Described, Running}
 use Rattle.bac_tools.specs.declared.replay.fault.LineFault.{LineFault}
 use Rattle.bac_tools.specs.declared.replay.fault.LineFault.TheVariants as fault
@@ -35,6 +35,7 @@ abbrev pub event_of : event.Event → Event
 event_of (event.TheVariants.Received datagram) = Received datagram
 event_of (event.TheVariants.Clocked stamp) = Clocked stamp
 event_of (event.TheVariants.Sampled instance) = Sampled instance
+event_of (event.TheVariants.Walked words) = Walked words.log words.from words.steps
 
 abbrev pub line_of : line.Line → ScriptLine
 line_of (line.TheVariants.Device line) = Device line
@@ -46,7 +47,7 @@ line_of (line.TheVariants.Happens happened) = Happens (event_of happened)
 abbrev pub state_of : Session → State
 state_of session.Empty = Empty
 state_of (session.Described device lines) = Described device lines.items
-state_of (session.Running device) = Running device
+state_of (session.Running device transactions) = Running device
 
 -- ---- what functions return
 

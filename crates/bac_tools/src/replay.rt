@@ -14,6 +14,7 @@ pub(crate) mod fault;
 mod input;
 mod output;
 mod session;
+mod walk;
 
 use crate::replay::fault::ReplayFault;
 use crate::replay::input::{Ending, fill};

@@ -12,11 +12,13 @@ use Rattle.bac_tools.specs.Script.Number.{number_in, below, integer_in}
 use Rattle.bac_tools.specs.Script.Stamp.{stamp_in}
 use Rattle.bac_tools.specs.Script.Words.{words_of, text_in}
 
--- what happens to a device: it receives these octets, its clock comes to this moment, or its Trend Log with this instance takes a sample
+-- what happens to a device: it receives these octets, its clock comes to this moment, its Trend Log with this instance takes a sample, or a
+-- client walks a trend log, from a sequence number or, without one, from its oldest record, in at most so many steps
 pub data Event : Type 0 where
   Received : List ℕ → Event
   Clocked : CivilTime → Event
   Sampled : ℕ → Event
+  Walked : Id → Option ℕ → ℕ → Event
 
 pub data ScriptLine : Type 0 where
   Device : DeviceLine → ScriptLine
@@ -117,6 +119,27 @@ sample_line (instance ∷ []) = do
   Some (Happens (Sampled instance))
 sample_line words = None
 
+-- the Trend Log with the instance that a word says
+unfoldable pub walked_log : List ℕ → Option Id
+walked_log word = do
+  instance ← below (2 ^ 32) (number_in word)
+  object_id 20 instance
+
+-- a sequence number, or `oldest`
+unfoldable pub start_in : List ℕ → Option (Option ℕ)
+start_in word = if bytes_eq word (codes "oldest") then Some None else (do
+  number ← below (2 ^ 32) (number_in word)
+  Some (Some number))
+
+-- walk LOG FROM STEPS
+unfoldable pub walk_line : List (List ℕ) → Option ScriptLine
+walk_line (log ∷ from ∷ steps ∷ []) = do
+  log ← walked_log log
+  start ← start_in from
+  steps ← below (2 ^ 32) (number_in steps)
+  Some (Happens (Walked log start steps))
+walk_line words = None
+
 -- ---- any line
 
 -- a kind of line: its first word, and what the words behind it say
@@ -132,7 +155,8 @@ kinds =
     (codes "log", log_line) ∷
     (codes "rx", rx_line) ∷
     (codes "clock", clock_line) ∷
-    (codes "sample", sample_line) ∷ []
+    (codes "sample", sample_line) ∷
+    (codes "walk", walk_line) ∷ []
 
 -- the first word says which kind a line is
 abbrev pub said_by : List Kind → List ℕ → List (List ℕ) → Option ScriptLine

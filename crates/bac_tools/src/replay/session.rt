@@ -7,8 +7,10 @@ ghost use Rattle.bac_tools.specs.Session.{address_text, answer_text, clock_text,
 ghost use Rattle.bac_tools.specs.Views.{Meets, event_of, line_of, state_of};
 
 use crate::replay::fault::LineFault;
+use crate::replay::walk::print_walk;
 use crate::script::hexadecimal::push_digits;
 use crate::script::line::{Event, Line, is_silent};
+use bac_client::Transactions;
 use bac_device::{BuildFault, Device, DeviceLine, ObjectLine, Receiver, Reply, SampleFault};
 use std::alloc::{AllocError, Global};
 
@@ -19,9 +21,12 @@ pub(crate) enum Session {
     Empty,
     /// A device line, the object lines behind it, and no event.
     Described(DeviceLine, Vec<ObjectLine>),
-    /// A device to which events happen.
-    Running(Device),
+    /// A device to which events happen, and the transactions of the clients that walk its logs.
+    Running(Device, Transactions),
 }
+
+/// How often the walks of a script ask again.
+const RETRIES: u8 = 3;
 
 /// Writes an IPv4 address and a port.
 fn push_address(text: &mut Vec<u8>, alloc: Global, address: [u8; 6]) -> Result<(), AllocError>
@@ -96,7 +101,12 @@ fn print_sample(alloc: Global, taken: Result<u32, SampleFault>) -> Result<Vec<u8
 }
 
 /// What an event at a device prints.
-fn happen(device: &mut Device, alloc: Global, event: &Event) -> Result<Vec<u8>, AllocError>
+fn happen(
+    device: &mut Device,
+    transactions: &mut Transactions,
+    alloc: Global,
+    event: &Event,
+) -> Result<Vec<u8>, AllocError>
     ensures { IfOk result (λ text. happens device.old (event_of event.now) ≡ (text.items, device.new)) }
 {
     match event {
@@ -112,6 +122,7 @@ fn happen(device: &mut Device, alloc: Global, event: &Event) -> Result<Vec<u8>, 
             let taken = device.sample(*instance);
             print_sample(alloc, taken)
         }
+        Event::Walked(words) => print_walk(alloc, device, transactions, *words),
     }
 }
 
@@ -153,15 +164,21 @@ impl Session {
                     Ok(device) => device,
                     Err(fault) => return Err(LineFault::of_build(fault)),
                 };
-                match happen(&mut device, alloc, event) {
+                let mut transactions = Transactions::new(RETRIES);
+                match happen(&mut device, &mut transactions, alloc, event) {
                     Ok(text) => {
-                        *self = Session::Running(device);
+                        *self = Session::Running(device, transactions);
                         Ok(text)
                     }
                     Err(_) => Err(LineFault::Memory),
                 }
             }
-            Session::Running(device) => match happen(device, alloc, event) {
+            Session::Running(device, transactions) => match happen(
+                device,
+                transactions,
+                alloc,
+                event,
+            ) {
                 Ok(text) => Ok(text),
                 Err(_) => Err(LineFault::Memory),
             },

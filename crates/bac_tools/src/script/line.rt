@@ -3,7 +3,7 @@
 ghost use Rattle.std.specs.Prelude.{◌≡◌, ◌<◌, IfOk, IfSome};
 ghost use Rattle.std.specs.Option.{option_map};
 ghost use Rattle.bac_wire.specs.OptionChain.{GivesSome};
-ghost use Rattle.bac_tools.specs.Script.Line.{binary_line, clock_line, device_line, integer_line, is_silent, kind_in, line_in, log_line, multistate_line, rx_line, sample_line, source_in};
+ghost use Rattle.bac_tools.specs.Script.Line.{binary_line, clock_line, device_line, integer_line, is_silent, kind_in, line_in, log_line, multistate_line, rx_line, sample_line, source_in, start_in, walk_line, walked_log};
 ghost use Rattle.bac_tools.specs.Views.{binary_of, device_of, integer_of, line_of, log_of, multistate_of};
 ghost use Rattle.bac_tools.specs.Script.Words.{words_of};
 
@@ -24,6 +24,17 @@ pub(crate) enum Event {
     Clocked(Stamp),
     /// Its Trend Log with this instance takes a sample.
     Sampled(u32),
+    /// A client walks a trend log.
+    Walked(WalkWords),
+}
+
+/// A walk of a trend log: from a sequence number or, without one, from the oldest record, in at most
+/// so many steps.
+#[derive(Clone, Copy, Debug, PartialEq, Eq)]
+pub(crate) struct WalkWords {
+    pub log: ObjectId,
+    pub from: Option<u32>,
+    pub steps: u32,
 }
 
 /// What a line says.
@@ -258,6 +269,41 @@ fn sample_line(words: &[u8]) -> Option<Line>
     Some(Line::Happens(Event::Sampled(u32_in(instance)?)))
 }
 
+/// The Trend Log with the instance that a word says.
+#[tactic(auto, unfolding(crate::specs::Script::Line::walked_log))]
+fn walked_log(word: &[u8]) -> Option<ObjectId>
+    ensures { result ≡ walked_log word.now }
+{
+    let instance = u32_in(word)?;
+    ObjectId::new(20, instance)
+}
+
+/// Where a walk starts: at a number, or at the oldest record.
+#[tactic(auto, unfolding(crate::specs::Script::Line::start_in))]
+fn start_in(word: &[u8]) -> Option<Option<u32>>
+    ensures { result ≡ start_in word.now }
+{
+    if word == b"oldest".as_slice() {
+        return Some(None);
+    }
+    Some(Some(u32_in(word)?))
+}
+
+/// The line of a walk.
+#[tactic(auto, unfolding(crate::specs::Script::Line::walk_line))]
+fn walk_line(words: &[u8]) -> Option<Line>
+    ensures { walk_line (words_of words.now) ≡ option_map line_of result }
+{
+    let (log, rest) = split_word(words)?;
+    let (from, rest) = split_word(rest)?;
+    let steps = last_word(rest)?;
+    Some(Line::Happens(Event::Walked(WalkWords {
+        log: walked_log(log)?,
+        from: start_in(from)?,
+        steps: u32_in(steps)?,
+    })))
+}
+
 /// Whether a text is empty or a comment.
 pub(crate) fn is_silent(text: &[u8]) -> bool
     ensures { result ≡ is_silent text.now }
@@ -267,7 +313,7 @@ pub(crate) fn is_silent(text: &[u8]) -> bool
 
 impl Line {
     /// What a text says that is neither empty nor a comment, where it is a line of a script.
-    #[tactic(auto, unfolding(crate::specs::Script::Line::line_in, crate::specs::Script::Line::device_line, crate::specs::Script::Line::binary_line, crate::specs::Script::Line::multistate_line, crate::specs::Script::Line::integer_line, crate::specs::Script::Line::log_line, crate::specs::Script::Line::rx_line, crate::specs::Script::Line::clock_line, crate::specs::Script::Line::sample_line))]
+    #[tactic(auto, unfolding(crate::specs::Script::Line::line_in, crate::specs::Script::Line::device_line, crate::specs::Script::Line::binary_line, crate::specs::Script::Line::multistate_line, crate::specs::Script::Line::integer_line, crate::specs::Script::Line::log_line, crate::specs::Script::Line::rx_line, crate::specs::Script::Line::clock_line, crate::specs::Script::Line::sample_line, crate::specs::Script::Line::walk_line))]
     pub(crate) fn read(alloc: Global, text: &[u8]) -> Result<Option<Line>, AllocError>
         ensures { IfOk result (λ line. line_in text.now ≡ option_map line_of line) }
     {
@@ -297,6 +343,9 @@ impl Line {
         }
         if word == b"sample".as_slice() {
             return Ok(sample_line(words));
+        }
+        if word == b"walk".as_slice() {
+            return Ok(walk_line(words));
         }
         Ok(None)
     }

@@ -1,4 +1,4 @@
-use Rattle.std.proofs.Common.{◌≡◌, ◌-◌, ℕ, List, ap, sym, ◌∙◌, take, drop, false}
+use Rattle.std.proofs.Common.{◌-◌, ℕ, List, ap, ◌∙◌, take, drop, false}
 use Rattle.bac_apdu.specs.Apdu.{Complex}
 use Rattle.bac_log.specs.declared.entry.Entry.{Entry}
 use Rattle.bac_device.specs.Reply.{datagram_octets, limited}

@@ -1,4 +1,4 @@
-use Rattle.std.proofs.Common.{◌≡◌, ◌+◌, ◌-◌, ◌<◌, ap, sym, subst, ◌∙◌, arith, length, take, drop}
+use Rattle.std.proofs.Common.{◌<◌, sym, subst, ◌∙◌, arith, length, take, drop}
 use Rattle.bac_log.specs.Record.{entries_octets}
 use Rattle.bac_device.proofs.Ranges.{got_long, got_next, none_text, not_missing}
 use Rattle.bac_device.proofs.service.read_range.items_of.Goals as goal

@@ -1,0 +1,76 @@
+//! What a walk of a trend log prints.
+
+ghost use Rattle.std.specs.Prelude.{◌≡◌, [], ◌∷◌, ℕ, IfOk};
+ghost use Rattle.bac_log.specs.TrendLog.{number};
+ghost use Rattle.bac_link.specs.Delivery.{History, Moment};
+ghost use Rattle.bac_walk.specs.Rests.{rest};
+ghost use Rattle.bac_tools.specs.Walk.{missed, outcome_text, rested_text, start_of, walk_text};
+
+use crate::script::line::WalkWords;
+use bac_client::{DirectLink, LogLink, Outcome, Transactions, Walk, Why, collect};
+use bac_device::Device;
+use bac_report::{push_end, push_items};
+use std::alloc::{AllocError, Global};
+
+/// The lines of what a walk delivered, and of its end.
+fn print_outcome(alloc: Global, outcome: &Outcome) -> Result<Vec<u8>, AllocError>
+    ensures { IfOk result (λ text. text.items ≡ outcome_text outcome.now) }
+{
+    let mut text = Vec::new(alloc);
+    push_items(&mut text, outcome.items.as_slice())?;
+    push_end(&mut text, outcome.why, outcome.next)?;
+    Ok(text)
+}
+
+/// Walks over a link in at most so many steps, and tells what came. Without memory for all of it
+/// nothing is told.
+fn walk_over<L: LogLink>(
+    alloc: Global,
+    link: &mut L,
+    transactions: &mut Transactions,
+    walk: &mut Walk,
+    steps: u32,
+) -> Result<Vec<u8>, AllocError>
+    ensures rests { (r : ℕ) (m : Moment) (H : History) (s : ℕ) →
+        L.is_sure link.old → L.is_honest link.old walk.old.log r (m ∷ []) H → walk.old.next ≡ number s →
+        IfOk result (λ text. text.items ≡ rested_text (rest r H m walk.old.fresh s steps)) }
+    ensures missing { L.lacks link.old walk.old.log → L.is_sure link.old →
+        IfOk result (λ text. text.items ≡ rested_text (missed walk.old.next steps)) }
+    ensures kept { L.is_sure link.old → L.keeps link.old link.new }
+{
+    let outcome = collect(alloc, link, transactions, walk, steps);
+    match outcome.why {
+        Why::Memory => Err(AllocError),
+        _ => print_outcome(alloc, &outcome),
+    }
+}
+
+/// The walk that a line asks for, where it can begin.
+fn begin(words: WalkWords) -> Option<Walk>
+    ensures { result ≡ start_of words.log words.from }
+{
+    match words.from {
+        Some(number) => Walk::from_number(words.log, number),
+        None => Walk::oldest(words.log),
+    }
+}
+
+/// What the line of a walk prints, while nothing happens to the device.
+pub(crate) fn print_walk(
+    alloc: Global,
+    device: &mut Device,
+    transactions: &mut Transactions,
+    words: WalkWords,
+) -> Result<Vec<u8>, AllocError>
+    ensures text { IfOk result (λ text. text.items ≡ walk_text device.old words.log words.from words.steps) }
+    ensures device { device.new ≡ device.old }
+{
+    let steps = words.steps;
+    let Some(mut walk) = begin(words) else {
+        let mut text = Vec::new(alloc);
+        text.extend_from_slice(b"no walk\n")?;
+        return Ok(text);
+    };
+    let mut link = DirectLink::new(&mut *device, &[]);
+    walk_over(alloc, &mut link, transactions, &mut walk, steps)
+}

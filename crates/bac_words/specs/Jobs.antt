@@ -1,0 +1,107 @@
+-- The job that a tool's words and options say, or the first of them whose value isn't one that it can have.
+use Rattle.std.specs.Prelude.{ℕ, List, if◌then◌else◌, Option, None, Some, Result, Ok, Err, codes, option_and_then}
+use Rattle.std.specs.Option.{ok_or}
+use Rattle.std.specs.Str.{bytes_eq}
+use Rattle.clap.specs.Words.{Row, Text}
+use Rattle.bac_words.specs.declared.word.Word.{Word}
+use Rattle.bac_words.specs.declared.word.Word.TheVariants.{Tool, ObjectType, Instance, Property, Priority, Tag, From, Index, Value, Min, Max, Steps, Count, Timeout, Retries}
+use Rattle.bac_words.specs.declared.job.Job.{Job}
+use Rattle.bac_words.specs.declared.job.Job.TheVariants.{Replay, Wi, Rp, Wp, Log, Serve}
+use Rattle.bac_words.specs.declared.job.Asked.{Asked}
+use Rattle.bac_words.specs.declared.job.Given.{Given}
+use Rattle.bac_words.specs.Numbers.{number_in}
+use Rattle.bac_words.specs.Rows.{text_at, number_at, maybe_number_at, address_at, local_at, addresses_at}
+use Rattle.bac_words.specs.Given.{is_tag, given_in}
+use Rattle.bac_words.specs.Steps.{◌>>=◌}
+
+-- what the tools that ask one device have in common
+unfoldable pub asked_at : List Row → Result Asked Word
+asked_at rows = do
+  address ← address_at rows
+  local ← local_at rows
+  timeout ← number_at Timeout 1 60000 rows
+  retries ← number_at Retries 0 10 rows
+  Ok (record { address = address; local = local; timeout = timeout; retries = retries })
+
+-- --max goes with --min only
+abbrev pub max_beside : Option ℕ → Option ℕ → Result (Option ℕ) Word
+max_beside None (Some max) = Err Max
+max_beside min max = Ok max
+
+unfoldable pub wi_at : List Row → Result Job Word
+wi_at rows = do
+  addresses ← addresses_at rows
+  min ← maybe_number_at Min 0 4194303 rows
+  highest ← maybe_number_at Max 0 4194303 rows
+  max ← max_beside min highest
+  local ← local_at rows
+  timeout ← number_at Timeout 1 60000 rows
+  Ok (Wi addresses min max local timeout)
+
+unfoldable pub rp_at : List Row → Result Job Word
+rp_at rows = do
+  asked ← asked_at rows
+  object_type ← number_at ObjectType 0 1023 rows
+  instance ← number_at Instance 0 4194303 rows
+  property ← number_at Property 0 4294967295 rows
+  index ← maybe_number_at Index 0 4294967295 rows
+  Ok (Rp asked object_type instance property index)
+
+-- the application tag of a value that can be given
+abbrev pub tag_at : List Row → Result ℕ Word
+tag_at rows = do
+  tag ← number_at Tag 0 9 rows
+  if is_tag tag then Ok tag else Err Tag
+
+-- the value to write, by its tag
+unfoldable pub given_at : List Row → Result Given Word
+given_at rows = do
+  tag ← tag_at rows
+  ok_or (given_in tag (text_at Value rows)) Value
+
+unfoldable pub wp_at : List Row → Result Job Word
+wp_at rows = do
+  asked ← asked_at rows
+  object_type ← number_at ObjectType 0 1023 rows
+  instance ← number_at Instance 0 4194303 rows
+  property ← number_at Property 0 4294967295 rows
+  priority ← number_at Priority 0 16 rows
+  given ← given_at rows
+  index ← maybe_number_at Index 0 4294967295 rows
+  Ok (Wp asked object_type instance property priority given index)
+
+-- a number from 1, or `oldest`
+unfoldable pub from_in : Text → Option (Option ℕ)
+from_in text = if bytes_eq text (codes "oldest") then Some None else option_and_then (λ n. Some (Some n)) (number_in 1 4294967295 text)
+
+abbrev pub from_at : List Row → Result (Option ℕ) Word
+from_at rows = ok_or (option_and_then from_in (text_at From rows)) From
+
+unfoldable pub log_at : List Row → Result Job Word
+log_at rows = do
+  asked ← asked_at rows
+  instance ← number_at Instance 0 4194303 rows
+  from ← from_at rows
+  steps ← number_at Steps 0 4294967295 rows
+  Ok (Log asked instance from steps)
+
+unfoldable pub serve_at : List Row → Result Job Word
+serve_at rows = do
+  address ← address_at rows
+  count ← number_at Count 0 4294967295 rows
+  Ok (Serve address count)
+
+-- of the tool with this name
+abbrev pub job_of_tool : Text → List Row → Result Job Word
+job_of_tool tool rows =
+    if bytes_eq tool (codes "replay") then Ok Replay else
+    if bytes_eq tool (codes "wi") then wi_at rows else
+    if bytes_eq tool (codes "rp") then rp_at rows else
+    if bytes_eq tool (codes "wp") then wp_at rows else
+    if bytes_eq tool (codes "log") then log_at rows else
+    if bytes_eq tool (codes "serve") then serve_at rows else Err Tool
+
+-- of the tool that the words name, and of its rows: an id and its values each
+abbrev pub job_of : Option (Text × List Row) → Result Job Word
+job_of None = Err Tool
+job_of (Some x) = job_of_tool x.0 x.1

@@ -1,0 +1,10 @@
+pub mod Names
+pub mod Commands
+pub mod Numbers
+pub mod Chains
+pub mod Addresses
+pub mod Given
+pub mod Steps
+pub mod Rows
+pub mod Jobs
+pub mod Outcome

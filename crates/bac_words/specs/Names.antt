@@ -1,0 +1,25 @@
+-- The names of the words and options.
+use Rattle.std.specs.Prelude.{codes}
+use Rattle.clap.specs.Words.{Text}
+use Rattle.bac_words.specs.declared.word.Word.{Word}
+use Rattle.bac_words.specs.declared.word.Word.TheVariants.{Tool, Address, ObjectType, Instance, Property, Priority, Tag, From, Index, Value, Min, Max, Steps, Count, Local, Timeout, Retries}
+
+-- a word's name in the help; an option's, without its --
+abbrev pub name_of : Word → Text
+name_of Tool = codes "COMMAND"
+name_of Address = codes "ADDRESS"
+name_of ObjectType = codes "TYPE"
+name_of Instance = codes "INSTANCE"
+name_of Property = codes "PROPERTY"
+name_of Priority = codes "PRIORITY"
+name_of Tag = codes "TAG"
+name_of From = codes "FROM"
+name_of Index = codes "index"
+name_of Value = codes "value"
+name_of Min = codes "min"
+name_of Max = codes "max"
+name_of Steps = codes "steps"
+name_of Count = codes "count"
+name_of Local = codes "local"
+name_of Timeout = codes "timeout"
+name_of Retries = codes "retries"

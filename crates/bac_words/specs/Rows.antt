@@ -1,0 +1,47 @@
+-- What the rows of a tool's matches say of a word or an option.
+use Rattle.std.specs.Prelude.{ℕ, List, [], ◌∷◌, Option, None, Some, Result, Ok, option_and_then, unwrap_or}
+use Rattle.std.specs.Option.{ok_or}
+use Rattle.clap.specs.Words.{Row, Text, first_of, all_of}
+use Rattle.bac_words.specs.declared.word.Word.{Word}
+use Rattle.bac_words.specs.declared.word.Word.TheVariants.{Address, Local}
+use Rattle.bac_words.specs.Names.{name_of}
+use Rattle.bac_words.specs.Numbers.{number_in}
+use Rattle.bac_words.specs.Addresses.{address_in}
+use Rattle.bac_words.specs.Steps.{◌>>=◌}
+
+-- what a word says, where it is there
+abbrev pub text_at : Word → List Row → Option Text
+text_at w rows = first_of (name_of w) rows
+
+-- a number from low to high
+abbrev pub number_at : Word → ℕ → ℕ → List Row → Result ℕ Word
+number_at w low high rows = ok_or (option_and_then (number_in low high) (text_at w rows)) w
+
+-- absent, or read
+abbrev pub maybe : {A : Type 0} → (Text → Option A) → Option Text → Option (Option A)
+maybe f None = Some None
+maybe f (Some text) = option_and_then (λ x. Some (Some x)) (f text)
+
+-- absent, or a number from low to high
+abbrev pub maybe_number_at : Word → ℕ → ℕ → List Row → Result (Option ℕ) Word
+maybe_number_at w low high rows = ok_or (maybe (number_in low high) (text_at w rows)) w
+
+-- the address of one
+abbrev pub address_at : List Row → Result (List ℕ) Word
+address_at rows = ok_or (option_and_then address_in (text_at Address rows)) Address
+
+-- our own address
+abbrev pub local_at : List Row → Result (Option (List ℕ)) Word
+local_at rows = ok_or (maybe address_in (text_at Local rows)) Local
+
+-- each text is an address
+abbrev pub addresses_in : List Text → Result (List (List ℕ)) Word
+addresses_in [] = Ok []
+addresses_in (text ∷ texts) = do
+  address ← ok_or (address_in text) Address
+  addresses ← addresses_in texts
+  Ok (address ∷ addresses)
+
+-- the addresses of a list of them
+abbrev pub addresses_at : List Row → Result (List (List ℕ)) Word
+addresses_at rows = addresses_in (unwrap_or (all_of (name_of Address) rows) [])

@@ -1,0 +1,235 @@
+//! The words that each tool takes, with what the help says of them.
+
+ghost use Rattle.std.specs.Prelude.{◌≡◌, ◌++◌, ◌∷◌, [], IfOk, false, codes};
+ghost use Rattle.clap.specs.declared.builder.command.Command.TheViews.{out-Command};
+ghost use Rattle.clap.specs.Words.{rule_of, new_app};
+ghost use Rattle.bac_words.specs.Commands.{needed, needed_list, option, option_or, timeout_rules, asking_rules, property_rules, wi_app, rp_app, wp_app, log_app, serve_app, bac_app, top_app, IsCommand, Extends, AddsTool};
+
+use crate::word::Word;
+use clap::{Arg, Command};
+use std::alloc::{AllocError, Global};
+
+/// A word that has to be there.
+fn needed<'a>(alloc: Global, word: Word, help: &'a str) -> Arg<'a>
+    ensures rule { rule_of result ≡ needed word }
+    ensures local { result.global ≡ false }
+{
+    Arg::new(alloc, word.name()).required(true).help(help)
+}
+
+/// One such word or more.
+fn needed_list<'a>(alloc: Global, word: Word, help: &'a str) -> Arg<'a>
+    ensures rule { rule_of result ≡ needed_list word }
+    ensures local { result.global ≡ false }
+{
+    Arg::new(alloc, word.name())
+        .required(true)
+        .num_args(1..)
+        .help(help)
+}
+
+/// An option `--NAME=VALUE`.
+fn option<'a>(alloc: Global, word: Word, value: &'a str, help: &'a str) -> Arg<'a>
+    ensures rule { rule_of result ≡ option word }
+    ensures local { result.global ≡ false }
+{
+    Arg::new(alloc, word.name())
+        .long(word.name())
+        .value_name(value)
+        .help(help)
+}
+
+/// The same with a default.
+fn option_or<'a>(
+    alloc: Global,
+    word: Word,
+    value: &'a str,
+    default: &'a str,
+    help: &'a str,
+) -> Arg<'a>
+    ensures rule { rule_of result ≡ option_or word default.entry.now }
+    ensures local { result.global ≡ false }
+{
+    option(alloc, word, value, help).default_value(default)
+}
+
+/// The command with one more word.
+fn with<'a>(command: Command<'a>, arg: Arg<'a>) -> Result<Command<'a>, AllocError>
+    requires { arg.global ≡ false }
+    ensures { IfOk result (Extends command.entry (rule_of arg.entry ∷ [])) }
+{
+    command.arg(arg)
+}
+
+/// A tool without words.
+fn tool<'a>(alloc: Global, name: &'a str, about: &'a str, example: &'a str) -> Command<'a>
+    ensures { IsCommand (new_app name.entry.now) result }
+{
+    Command::new(alloc, name).about(about).after_help(example)
+}
+
+fn with_timeout<'a>(alloc: Global, command: Command<'a>) -> Result<Command<'a>, AllocError>
+    ensures { IfOk result (Extends command.entry timeout_rules) }
+{
+    let help = "How long to wait for an answer, in milliseconds: 1 to 60000";
+    let command = with(command, option_or(alloc, Word::Timeout, "MS", "3000", help))?;
+    let help = "Our own address and port; any where it is left out";
+    with(command, option(alloc, Word::Local, "ADDRESS", help))
+}
+
+fn with_asking<'a>(alloc: Global, command: Command<'a>) -> Result<Command<'a>, AllocError>
+    ensures { IfOk result (Extends command.entry asking_rules) }
+{
+    let command = with_timeout(alloc, command)?;
+    let help = "How many times to ask again: 0 to 10";
+    with(command, option_or(alloc, Word::Retries, "N", "3", help))
+}
+
+fn with_property<'a>(alloc: Global, command: Command<'a>) -> Result<Command<'a>, AllocError>
+    ensures { IfOk result (Extends command.entry property_rules) }
+{
+    let help = "The device: A.B.C.D or A.B.C.D:PORT, port 47808 where none is given";
+    let command = with(command, needed(alloc, Word::Address, help))?;
+    let help = "The object's type, as a number: 0 to 1023";
+    let command = with(command, needed(alloc, Word::ObjectType, help))?;
+    let help = "The object's instance: 0 to 4194303";
+    let command = with(command, needed(alloc, Word::Instance, help))?;
+    let help = "The property, as a number: 85 is Present_Value";
+    with(command, needed(alloc, Word::Property, help))
+}
+
+fn replay<'a>(alloc: Global) -> Command<'a>
+    ensures { IsCommand (new_app (codes "replay")) result }
+{
+    let about = "Run the script on standard input against a device in memory";
+    let example = "Example: bac replay < room.script";
+    tool(alloc, "replay", about, example)
+}
+
+fn wi<'a>(alloc: Global) -> Result<Command<'a>, AllocError>
+    ensures { IfOk result (IsCommand wi_app) }
+{
+    let about = "Find devices: send Who-Is to each address and print each I-Am";
+    let example = "Example: bac wi 192.168.1.20 192.168.1.21:47809 --min=100 --max=199
+asks both stations, and only devices 100 to 199 answer. --min alone means both limits.";
+    let command = tool(alloc, "wi", about, example);
+    let help = "The stations to ask: A.B.C.D or A.B.C.D:PORT, port 47808 where none is given";
+    let command = with(command, needed_list(alloc, Word::Address, help))?;
+    let help = "The lowest instance that is to answer: 0 to 4194303";
+    let command = with(command, option(alloc, Word::Min, "N", help))?;
+    let help = "The highest instance that is to answer: 0 to 4194303";
+    let command = with(command, option(alloc, Word::Max, "N", help))?;
+    with_timeout(alloc, command)
+}
+
+fn rp<'a>(alloc: Global) -> Result<Command<'a>, AllocError>
+    ensures { IfOk result (IsCommand rp_app) }
+{
+    let about = "Read a property and print its values, one a line";
+    let example = "Example: bac rp 192.168.1.20 8 123 77
+prints the name (property 77) of device 123 (object type 8).";
+    let command = with_property(alloc, tool(alloc, "rp", about, example))?;
+    let help = "An element of an array; 0 is the number of elements";
+    let command = with(command, option(alloc, Word::Index, "N", help))?;
+    with_asking(alloc, command)
+}
+
+fn wp<'a>(alloc: Global) -> Result<Command<'a>, AllocError>
+    ensures { IfOk result (IsCommand wp_app) }
+{
+    let about = "Write a property";
+    let example = "Example: bac wp 192.168.1.20 5 1 85 8 9 --value=1
+writes Enumerated 1 at priority 8 to the present value of binary value 1;
+TAG 0 in place of 9 --value=1 relinquishes it. Write --value=-5 with its '='.";
+    let command = with_property(alloc, tool(alloc, "wp", about, example))?;
+    let help = "The priority to write at: 1 to 16, or 0 for none";
+    let command = with(command, needed(alloc, Word::Priority, help))?;
+    let help =
+        "The value's type: 0 Null, 1 Boolean, 2 Unsigned, 3 Signed, 4 REAL, 7 text, 9 Enumerated";
+    let command = with(command, needed(alloc, Word::Tag, help))?;
+    let help = "An element of an array";
+    let command = with(command, option(alloc, Word::Index, "N", help))?;
+    let help = "The value; none for TAG 0, 0 or 1 for TAG 1, eight hexadecimal digits for TAG 4";
+    let command = with(command, option(alloc, Word::Value, "V", help))?;
+    with_asking(alloc, command)
+}
+
+fn log<'a>(alloc: Global) -> Result<Command<'a>, AllocError>
+    ensures { IfOk result (IsCommand log_app) }
+{
+    let about = "Fetch the records of a trend log, each once";
+    let example = "Example: bac log 192.168.1.20 1 oldest
+prints each record that trend log 1 holds, and at the end which number is next:
+
+  41 2024-05-06T07:08:09.10 enum(0) 0000
+  42 2024-05-06T07:09:09.10 enum(1) 0000
+  caught up, next 43
+
+bac log 192.168.1.20 1 43 then fetches what was logged since. Begin again at the
+number that was next after 'lost' or 'step limit', too: no record is lost or comes
+twice. A line 'gap 43 50' tells the numbers that the log no longer held.";
+    let command = tool(alloc, "log", about, example);
+    let help = "The device: A.B.C.D or A.B.C.D:PORT, port 47808 where none is given";
+    let command = with(command, needed(alloc, Word::Address, help))?;
+    let help = "The trend log's instance: 0 to 4194303";
+    let command = with(command, needed(alloc, Word::Instance, help))?;
+    let help = "The number of the first record to fetch, from 1, or oldest";
+    let command = with(command, needed(alloc, Word::From, help))?;
+    let help = "How many batches to fetch at most, each of up to 100 records";
+    let command = with(command, option_or(alloc, Word::Steps, "N", "1000", help))?;
+    with_asking(alloc, command)
+}
+
+fn serve<'a>(alloc: Global) -> Result<Command<'a>, AllocError>
+    ensures { IfOk result (IsCommand serve_app) }
+{
+    let about = "Be the device that standard input describes, with the machine's clock in UTC";
+    let example = "Example: bac serve 127.0.0.1:47809 < room.device
+where room.device has configuration lines of a script: device, binary, log and so on.";
+    let command = tool(alloc, "serve", about, example);
+    let help = "Our own address: A.B.C.D or A.B.C.D:PORT, port 47808 where none is given";
+    let command = with(command, needed(alloc, Word::Address, help))?;
+    let help = "How many datagrams to serve";
+    with(
+        command,
+        option_or(alloc, Word::Count, "N", "4294967295", help),
+    )
+}
+
+/// The program without its tools.
+fn top<'a>(alloc: Global) -> Command<'a>
+    ensures { IsCommand top_app result }
+{
+    Command::new(alloc, "bac")
+        .about("Tools for BACnet/IP: find devices, read and write properties, fetch trend logs")
+        .version("unreleased")
+        .subcommand_required(true)
+        .after_help(
+            "Example: bac wi 192.168.1.20
+prints the device at that address; bac rp, bac wp and bac log then speak to it.
+bac help log, or bac log --help, tells what a tool takes, with an example.
+
+Status: 0 done, 1 usage, a bad value or a bad script, 2 no answer, or a read, write
+or socket fault, 3 refused by the device, 4 bad reply, 5 out of memory.",
+        )
+}
+
+/// The command with one more tool.
+fn with_tool<'a>(command: Command<'a>, tool: Command<'a>) -> Result<Command<'a>, AllocError>
+    requires { (out-Command tool).has_globals ≡ false }
+    ensures { IfOk result (AddsTool command.entry tool.entry) }
+{
+    command.subcommand(tool)
+}
+
+/// All words that the program takes.
+pub(crate) fn command<'a>(alloc: Global) -> Result<Command<'a>, AllocError>
+    ensures { IfOk result (IsCommand bac_app) }
+{
+    let command = with_tool(top(alloc), replay(alloc))?;
+    let command = with_tool(command, wi(alloc)?)?;
+    let command = with_tool(command, rp(alloc)?)?;
+    let command = with_tool(command, wp(alloc)?)?;
+    let command = with_tool(command, log(alloc)?)?;
+    with_tool(command, serve(alloc)?)
+}

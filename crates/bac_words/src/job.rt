@@ -1,0 +1,76 @@
+//! What the words ask for.
+
+use crate::addresses::Addresses;
+use crate::name::Name;
+
+/// What the tools that ask one device have in common.
+#[derive(Clone, Copy, Debug, PartialEq, Eq)]
+pub struct Asked {
+    /// The device: four octets of the host, two of the port.
+    pub address: [u8; 6],
+    /// Our own address; any where it is absent.
+    pub local: Option<[u8; 6]>,
+    /// How long to wait for an answer, in milliseconds: 1 to 60,000.
+    pub timeout: u32,
+    /// How many times to ask again: 0 to 10.
+    pub retries: u8,
+}
+
+/// A value to write, by its application tag (clause 20.2.1.4).
+#[derive(Debug, Drop)]
+pub enum Given {
+    Null,
+    Boolean(bool),
+    Unsigned(u64),
+    Signed(i64),
+    /// A REAL as its four octets (ANSI/IEEE 754).
+    Real4([u8; 4]),
+    /// A Character String in UTF-8, of at most 1,400 octets.
+    Text(Name),
+    Enumerated(u32),
+}
+
+/// A tool with its words and options; an option that wasn't given has its default, or is absent.
+#[derive(Debug, Drop)]
+pub enum Job {
+    /// `bac replay`
+    Replay,
+    /// `bac wi`: Who-Is (clause 16.10).
+    Wi {
+        addresses: Addresses,
+        min: Option<u32>,
+        max: Option<u32>,
+        local: Option<[u8; 6]>,
+        timeout: u32,
+    },
+    /// `bac rp`: ReadProperty (clause 15.5).
+    Rp {
+        asked: Asked,
+        object_type: u16,
+        instance: u32,
+        property: u32,
+        index: Option<u32>,
+    },
+    /// `bac wp`: WriteProperty (clause 15.9); priority 0 is none.
+    Wp {
+        asked: Asked,
+        object_type: u16,
+        instance: u32,
+        property: u32,
+        priority: u8,
+        given: Given,
+        index: Option<u32>,
+    },
+    /// `bac log`: ReadRange (clause 15.8), from a number or from the oldest record.
+    Log {
+        asked: Asked,
+        instance: u32,
+        from: Option<u32>,
+        steps: u32,
+    },
+    /// `bac serve`
+    Serve {
+        address: [u8; 6],
+        count: u32,
+    },
+}

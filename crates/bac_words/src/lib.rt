@@ -1,0 +1,23 @@
+//! The words of the program `bac`: from a command line to the job that it asks for, by `clap`. The
+//! first word is the program's name.
+#![tactic(auto)]
+
+mod address;
+mod addresses;
+mod commands;
+mod fault;
+mod given;
+mod job;
+mod name;
+mod numbers;
+mod read;
+mod rows;
+mod tools;
+mod word;
+
+pub use addresses::Addresses;
+pub use fault::WordsFault;
+pub use job::{Asked, Given, Job};
+pub use name::Name;
+pub use read::read_words;
+pub use word::Word;

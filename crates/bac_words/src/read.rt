@@ -1,0 +1,55 @@
+//! From words to a job.
+
+ghost use Rattle.std.specs.Prelude.{◌≡◌, IfOk, IfErr, [], map, Ok};
+ghost use Rattle.std.specs.String.{string_bytes};
+ghost use Rattle.clap.specs.Words.{rows_of, found_of, subcommand_rows_of};
+ghost use Rattle.bac_words.specs.Steps.{Makes};
+ghost use Rattle.bac_words.specs.Jobs.{job_of_tool, job_of};
+ghost use Rattle.bac_words.specs.Outcome.{mistakes_of, job_in, IsRefused};
+
+use crate::commands::command;
+use crate::fault::WordsFault;
+use crate::job::Job;
+use crate::tools::{log, rp, serve, wi, wp};
+use crate::word::Word;
+use clap::ArgMatches;
+use clap::error::ErrorKind;
+use std::alloc::Global;
+
+/// The job that the words ask for; the first of them is the program's name.
+pub fn read_words(alloc: Global, words: &[String]) -> Result<Job, WordsFault>
+    ensures ok { IfOk result (λ job. (mistakes_of (map string_bytes words.now) ≡ [])
+        × (job_in (map string_bytes words.now) ≡ Ok job)) }
+    ensures err { IfErr result (IsRefused (map string_bytes words.now)) }
+{
+    let command = command(alloc)?;
+    match command.try_get_matches_from(words) {
+        Ok(matches) => job(alloc, &matches),
+        Err(error) if error.kind() == ErrorKind::OutOfMemory => Err(WordsFault::Memory),
+        Err(error) => Err(WordsFault::Usage(error)),
+    }
+}
+
+/// The job of the tool that was named.
+fn job(alloc: Global, matches: &ArgMatches) -> Result<Job, WordsFault>
+    ensures { Makes (job_of (subcommand_rows_of matches.now)) result }
+{
+    match matches.subcommand() {
+        Some((tool, matches)) => job_of_tool(alloc, tool, matches),
+        None => Err(WordsFault::BadValue(Word::Tool)),
+    }
+}
+
+fn job_of_tool(alloc: Global, tool: &str, matches: &ArgMatches) -> Result<Job, WordsFault>
+    ensures { Makes (job_of_tool tool.now (rows_of (found_of matches.now))) result }
+{
+    match tool {
+        "replay" => Ok(Job::Replay),
+        "wi" => wi(alloc, matches),
+        "rp" => Ok(rp(matches)?),
+        "wp" => wp(alloc, matches),
+        "log" => Ok(log(matches)?),
+        "serve" => Ok(serve(matches)?),
+        _ => Err(WordsFault::BadValue(Word::Tool)),
+    }
+}

@@ -1,0 +1,111 @@
+//! What the matches of a tool say of a word or an option.
+
+ghost use Rattle.std.specs.Prelude.{◌≡◌, map, option_map};
+ghost use Rattle.clap.specs.Words.{rows_of, found_of};
+ghost use Rattle.bac_words.specs.Steps.{Makes};
+ghost use Rattle.bac_words.specs.Rows.{text_at, number_at, maybe_number_at, address_at, local_at, addresses_in, addresses_at};
+
+use crate::address::address;
+use crate::addresses::Addresses;
+use crate::fault::WordsFault;
+use crate::numbers::{number, octet, short};
+use crate::word::Word;
+use clap::ArgMatches;
+use std::alloc::Global;
+
+/// The first value of a word or an option.
+pub(crate) fn text<'a>(matches: &ArgMatches<'a>, word: Word) -> Option<&'a str>
+    ensures { option_map (λ s. s.now) result ≡ text_at word (rows_of (found_of matches.now)) }
+{
+    matches.get_str(word.name())
+}
+
+pub(crate) fn number_at(matches: &ArgMatches, word: Word, low: u32, high: u32) -> Result<u32, Word>
+    ensures { result ≡ number_at word low high (rows_of (found_of matches.now)) }
+{
+    match text(matches, word) {
+        Some(text) => number(text.as_bytes(), low, high).ok_or(word),
+        None => Err(word),
+    }
+}
+
+pub(crate) fn short_at(matches: &ArgMatches, word: Word, high: u16) -> Result<u16, Word>
+    ensures { result ≡ number_at word 0 high (rows_of (found_of matches.now)) }
+{
+    match text(matches, word) {
+        Some(text) => short(text.as_bytes(), 0, high).ok_or(word),
+        None => Err(word),
+    }
+}
+
+pub(crate) fn octet_at(matches: &ArgMatches, word: Word, high: u8) -> Result<u8, Word>
+    ensures { result ≡ number_at word 0 high (rows_of (found_of matches.now)) }
+{
+    match text(matches, word) {
+        Some(text) => octet(text.as_bytes(), 0, high).ok_or(word),
+        None => Err(word),
+    }
+}
+
+/// A number that may be absent.
+pub(crate) fn maybe_number_at(
+    matches: &ArgMatches,
+    word: Word,
+    high: u32,
+) -> Result<Option<u32>, Word>
+    ensures { result ≡ maybe_number_at word 0 high (rows_of (found_of matches.now)) }
+{
+    let Some(text) = text(matches, word) else {
+        return Ok(None);
+    };
+    match number(text.as_bytes(), 0, high) {
+        Some(number) => Ok(Some(number)),
+        None => Err(word),
+    }
+}
+
+pub(crate) fn address_at(matches: &ArgMatches) -> Result<[u8; 6], Word>
+    ensures { result ≡ address_at (rows_of (found_of matches.now)) }
+{
+    match text(matches, Word::Address) {
+        Some(text) => address(text.as_bytes()).ok_or(Word::Address),
+        None => Err(Word::Address),
+    }
+}
+
+pub(crate) fn local_at(matches: &ArgMatches) -> Result<Option<[u8; 6]>, Word>
+    ensures { result ≡ local_at (rows_of (found_of matches.now)) }
+{
+    let Some(text) = text(matches, Word::Local) else {
+        return Ok(None);
+    };
+    match address(text.as_bytes()) {
+        Some(address) => Ok(Some(address)),
+        None => Err(Word::Local),
+    }
+}
+
+/// Each text as an address.
+fn addresses_in(alloc: Global, texts: &[&str]) -> Result<Addresses, WordsFault>
+    ensures { Makes (addresses_in (map (λ text. text.now) texts.now)) result }
+{
+    let mut list = Vec::new(alloc);
+    for text in texts {
+        let Some(address) = address(text.as_bytes()) else {
+            return Err(WordsFault::BadValue(Word::Address));
+        };
+        if list.push(address).is_err() {
+            return Err(WordsFault::Memory);
+        }
+    }
+    Ok(Addresses::of(list))
+}
+
+pub(crate) fn addresses_at(alloc: Global, matches: &ArgMatches) -> Result<Addresses, WordsFault>
+    ensures { Makes (addresses_at (rows_of (found_of matches.now))) result }
+{
+    match matches.get_raw(Word::Address.name()) {
+        Some(texts) => addresses_in(alloc, texts),
+        None => addresses_in(alloc, &[]),
+    }
+}

@@ -1,0 +1,98 @@
+//! The words and options of the tools, by their names.
+
+ghost use Rattle.std.specs.Prelude.{◌≡◌};
+ghost use Rattle.bac_words.specs.Names.{name_of};
+
+use std::fmt;
+
+/// A word or an option of a tool, as the help shows it.
+#[derive(Clone, Copy, Debug, PartialEq, Eq)]
+pub enum Word {
+    /// The tool itself.
+    Tool,
+    /// A station: A.B.C.D or A.B.C.D:PORT.
+    Address,
+    /// An object's type.
+    ObjectType,
+    /// An object's instance.
+    Instance,
+    /// A property's number.
+    Property,
+    /// The priority to write at.
+    Priority,
+    /// The type of the value to write.
+    Tag,
+    /// The number of the first record to fetch, or `oldest`.
+    From,
+    /// An array's index.
+    Index,
+    /// The value to write.
+    Value,
+    /// The lowest instance that is to answer.
+    Min,
+    /// The highest instance that is to answer.
+    Max,
+    /// How many batches to fetch at most.
+    Steps,
+    /// How many datagrams to serve.
+    Count,
+    /// Our own address.
+    Local,
+    /// How long to wait for an answer, in milliseconds.
+    Timeout,
+    /// How many times to ask again.
+    Retries,
+}
+
+impl Word {
+    /// The name in the help: of a word in capitals, of an option without its `--`.
+    pub fn name<'a>(self) -> &'a str
+        ensures { result.now ≡ name_of self }
+    {
+        match self {
+            Word::Tool => "COMMAND",
+            Word::Address => "ADDRESS",
+            Word::ObjectType => "TYPE",
+            Word::Instance => "INSTANCE",
+            Word::Property => "PROPERTY",
+            Word::Priority => "PRIORITY",
+            Word::Tag => "TAG",
+            Word::From => "FROM",
+            Word::Index => "index",
+            Word::Value => "value",
+            Word::Min => "min",
+            Word::Max => "max",
+            Word::Steps => "steps",
+            Word::Count => "count",
+            Word::Local => "local",
+            Word::Timeout => "timeout",
+            Word::Retries => "retries",
+        }
+    }
+
+    /// It is written `--NAME=VALUE`.
+    fn is_option(self) -> bool {
+        matches!(
+            self,
+            Word::Index
+                | Word::Value
+                | Word::Min
+                | Word::Max
+                | Word::Steps
+                | Word::Count
+                | Word::Local
+                | Word::Timeout
+                | Word::Retries
+        )
+    }
+}
+
+/// As the words are written: TYPE, or `--timeout`.
+impl fmt::Display for Word {
+    fn fmt<W: fmt::Write>(&self, f: &mut fmt::Formatter<W>) -> fmt::Result {
+        if self.is_option() {
+            f.write_str("--")?;
+        }
+        f.write_str(self.name())
+    }
+}
