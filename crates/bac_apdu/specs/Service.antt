@@ -2,6 +2,7 @@
 pub mod Choice
 pub mod WhoIs
 pub mod IAm
+pub mod PropertyReference
 pub mod ReadProperty
 pub mod ReadPropertyAck
 pub mod WriteProperty

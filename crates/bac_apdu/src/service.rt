@@ -4,6 +4,7 @@
 pub mod choice;
 mod extent;
 mod i_am;
+mod property_reference;
 mod read_property;
 mod read_property_ack;
 mod read_range;

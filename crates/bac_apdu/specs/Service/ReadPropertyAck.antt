@@ -1,9 +1,10 @@
 -- The ACK of ReadProperty (clauses 15.5 and 21): its parameters, and what it shows of its fields.
 use Rattle.std.specs.Prelude.{ℕ, List, [], ◌∷◌, Option}
-use Rattle.bac_wire.specs.Primitive.{Id, Enumerated, Object}
+use Rattle.bac_wire.specs.Primitive.{Id}
 use Rattle.bac_apdu.specs.declared.service.read_property_ack.ReadPropertyAck.{ReadPropertyAck}
 use Rattle.bac_apdu.specs.FormCanon.{canon_form}
-use Rattle.bac_apdu.specs.Form.{Form, end, part, optional, context, opening, enclosed, anything, is_u32, unsigned, enumerated, object_identifier, Item, Value, Mark, Inside, number_item}
+use Rattle.bac_apdu.specs.Service.PropertyReference.{property_then, property_items_then}
+use Rattle.bac_apdu.specs.Form.{Form, end, part, opening, enclosed, Item, Mark, Inside}
 use Rattle.std.specs.Option.{option_map}
 use Rattle.std.specs.Result.{result_ok}
 use Rattle.bac_apdu.specs.FormReading.{form_at}
@@ -16,17 +17,13 @@ values =
     end)
 
 abbrev pub read_property_ack : Form
-read_property_ack =
-    part (context 0 object_identifier anything)  -- object identifier
-    (part (context 1 enumerated anything)  -- property identifier
-    (optional 2 unsigned is_u32  -- property array index, optional
-    values))
+read_property_ack = property_then values
 
 abbrev pub value_items : ReadPropertyAck → List Item
 value_items a = Mark 3 ∷ Inside a.values.now ∷ []
 
 abbrev pub property_ack_items : ReadPropertyAck → List Item
-property_ack_items a = Value (Object a.object) ∷ Value (Enumerated a.property) ∷ number_item a.index ∷ value_items a
+property_ack_items a = property_items_then a.object a.property a.index (value_items a)
 
 -- ---- with named fields
 
@@ -51,7 +48,7 @@ read_property_ack_at bytes = option_map property_ack_in (result_ok (form_at read
 -- ---- written
 
 abbrev pub property_ack_fields : PropertyAck → List Item
-property_ack_fields a = Value (Object a.object) ∷ Value (Enumerated a.property) ∷ number_item a.index ∷ Mark 3 ∷ Inside a.values ∷ []
+property_ack_fields a = property_items_then a.object a.property a.index (Mark 3 ∷ Inside a.values ∷ [])
 
 -- the parameters of an answer, each as short as can be
 abbrev pub property_ack_octets : PropertyAck → List ℕ

@@ -1,8 +1,8 @@
 -- ReadRange (clauses 15.8 and 21): its parameters, and what a request shows of its fields.
-use Rattle.std.specs.Prelude.{ℕ, List, ◌∷◌, drop, Result}
-use Rattle.bac_wire.specs.Primitive.{Enumerated, Object}
+use Rattle.std.specs.Prelude.{ℕ, List, drop, Result}
 use Rattle.bac_apdu.specs.declared.service.read_range.ReadRange.{ReadRange}
-use Rattle.bac_apdu.specs.Form.{Form, part, optional, context, anything, is_u32, unsigned, enumerated, object_identifier, Item, Value, number_item}
+use Rattle.bac_apdu.specs.Service.PropertyReference.{property_then, property_items_then}
+use Rattle.bac_apdu.specs.Form.{Form, Item}
 use Rattle.bac_apdu.specs.Service.Extent.{range, extent_items, extent_in}
 use Rattle.bac_wire.specs.Chain.{result_map}
 use Rattle.bac_apdu.specs.declared.reason.Reason.{Reason}
@@ -10,14 +10,10 @@ use Rattle.bac_apdu.specs.FormReading.{form_at}
 use Rattle.bac_apdu.specs.Fields.{item_at, id_in, enumerated_in, number_in}
 
 abbrev pub read_range : Form
-read_range =
-    part (context 0 object_identifier anything)  -- object identifier
-    (part (context 1 enumerated anything)  -- property identifier
-    (optional 2 unsigned is_u32  -- property array index, optional
-    range))  -- range, optional
+read_range = property_then range  -- range, optional
 
 abbrev pub range_items : ReadRange → List Item
-range_items r = Value (Object r.object) ∷ Value (Enumerated r.property) ∷ number_item r.index ∷ extent_items r.extent
+range_items r = property_items_then r.object r.property r.index (extent_items r.extent)
 
 -- ---- with named fields
 

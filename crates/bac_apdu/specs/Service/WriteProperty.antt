@@ -1,9 +1,10 @@
 -- WriteProperty (clauses 15.9 and 21): its parameters, and what a request shows of its fields.
 use Rattle.std.specs.Prelude.{ℕ, ◌<◌, ◌&&◌, nat_lt, Bool, false, List, [], ◌∷◌, Option, Some, None, Result}
-use Rattle.bac_wire.specs.Primitive.{Id, Primitive, Unsigned, Enumerated, Object}
+use Rattle.bac_wire.specs.Primitive.{Id, Primitive, Unsigned}
 use Rattle.bac_wire.specs.View.{view}
 use Rattle.bac_apdu.specs.declared.service.write_property.WriteProperty.{WriteProperty}
-use Rattle.bac_apdu.specs.Form.{Form, end, part, optional, context, opening, closing, any, anything, is_u32, unsigned, enumerated, object_identifier, Item, Value, Mark, number_item}
+use Rattle.bac_apdu.specs.Service.PropertyReference.{property_then, property_items_then}
+use Rattle.bac_apdu.specs.Form.{Form, end, part, optional, opening, closing, any, unsigned, Item, Value, Mark, number_item}
 use Rattle.bac_wire.specs.Chain.{result_map}
 use Rattle.bac_apdu.specs.declared.reason.Reason.{Reason}
 use Rattle.bac_apdu.specs.FormReading.{form_at}
@@ -23,17 +24,13 @@ setting =
     end)))
 
 abbrev pub write_property : Form
-write_property =
-    part (context 0 object_identifier anything)  -- object identifier
-    (part (context 1 enumerated anything)  -- property identifier
-    (optional 2 unsigned is_u32  -- property array index, optional
-    setting))
+write_property = property_then setting
 
 abbrev pub setting_items : WriteProperty → List Item
 setting_items w = Mark 3 ∷ Value (view w.value) ∷ Mark 3 ∷ number_item w.priority ∷ []
 
 abbrev pub write_items : WriteProperty → List Item
-write_items w = Value (Object w.object) ∷ Value (Enumerated w.property) ∷ number_item w.index ∷ setting_items w
+write_items w = property_items_then w.object w.property w.index (setting_items w)
 
 abbrev pub IsPriority : Option ℕ → Type 0
 IsPriority None = Unit {0}

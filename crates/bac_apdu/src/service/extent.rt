@@ -10,8 +10,8 @@ ghost use Rattle.bac_apdu.specs.Form.{Value as Item, Mark, application, unsigned
 ghost use Rattle.bac_apdu.specs.FormReading.{part_at, form_at};
 ghost use Rattle.bac_apdu.specs.FormCanon.{canon_form};
 
-use crate::adding::{add_close, add_open, add_value};
-use crate::parts::{DATE, Parts, SIGNED, TIME, UNSIGNED};
+use crate::parameters::{DATE, Parameters, SIGNED, TIME, UNSIGNED};
+use crate::parameters_out::{add_close, add_open, add_value};
 use crate::reason::Reason;
 use bac_wire::{Datagram, Date4, Full, Time4, Value};
 
@@ -42,27 +42,27 @@ pub enum Extent {
 
 /// The range, if there is one, and then nothing.
 #[tactic(auto, unfolding(crate::specs::FormReading::form_at))]
-pub(crate) fn extent_of(mut parts: Parts) -> Result<Extent, Reason>
-    ensures { Gives extent_items result (form_at range parts.entry) }
+pub(crate) fn extent_of(mut parameters: Parameters) -> Result<Extent, Reason>
+    ensures { Gives extent_items result (form_at range parameters.entry) }
 {
-    if parts.is_open(3) {
-        let (reference, count) = parts.reference(3)?;
+    if parameters.is_open(3) {
+        let (reference, count) = parameters.reference(3)?;
         return Ok(Extent::ByPosition { reference, count });
     }
-    if parts.is_open(6) {
-        let (reference, count) = parts.reference(6)?;
+    if parameters.is_open(6) {
+        let (reference, count) = parameters.reference(6)?;
         return Ok(Extent::ByNumber { reference, count });
     }
-    if parts.is_open(7) {
-        parts.open(7)?;
-        let date = parts.date()?;
-        let time = parts.time()?;
-        let count = parts.count()?;
-        parts.close(7)?;
-        parts.end()?;
+    if parameters.is_open(7) {
+        parameters.open(7)?;
+        let date = parameters.date()?;
+        let time = parameters.time()?;
+        let count = parameters.count()?;
+        parameters.close(7)?;
+        parameters.end()?;
         return Ok(Extent::ByTime { date, time, count });
     }
-    parts.end()?;
+    parameters.end()?;
     Ok(Extent::All)
 }
 
@@ -95,7 +95,7 @@ fn add_reference(out: &mut Datagram, tag: u8, reference: u32, count: i32) -> Res
     Ok(())
 }
 
-impl<'a> Parts<'a> {
+impl<'a> Parameters<'a> {
     /// An Unsigned of at most 4294967295.
     #[tactic(auto, unfolding(crate::specs::FormReading::part_at))]
     fn plain_number(&mut self) -> Result<u32, Reason>

@@ -11,10 +11,10 @@ ghost use Rattle.bac_apdu.specs.FormCanon.{canon_form};
 ghost use Rattle.bac_apdu.specs.Service.IAm.{i_am, i_am_items, i_am_at, IsAnnouncement};
 ghost use Rattle.bac_wire.specs.OptionChain.{GivesSome};
 
-use crate::adding::add_value;
-use crate::parts::Parts;
+use crate::parameters::Parameters;
+use crate::parameters_out::{add_value, cut_back};
 use crate::reason::Reason;
-use bac_wire::{Datagram, Full, ObjectId, Value, write_octets};
+use bac_wire::{Datagram, Full, ObjectId, Value};
 
 /// A device announces itself (clause 16.10).
 #[derive(Clone, Copy, Debug, PartialEq, Eq)]
@@ -41,19 +41,19 @@ impl IAm {
         // The same with named fields.
         ensures named { result ≡ i_am_at bytes.now }
     {
-        IAm::parts(bytes).ok()
+        IAm::parameters(bytes).ok()
     }
 
     #[tactic(auto, unfolding(crate::specs::FormReading::form_at))]
-    fn parts(bytes: &[u8]) -> Result<IAm, Reason>
+    fn parameters(bytes: &[u8]) -> Result<IAm, Reason>
         ensures { Gives i_am_items result (form_at i_am bytes.now) }
     {
-        let mut parts = Parts::of(bytes);
-        let device = parts.plain_object()?;
-        let max_apdu = parts.plain_unsigned()?;
-        let segmentation = parts.plain_enumerated()?;
-        let vendor = parts.plain_unsigned()?;
-        parts.end()?;
+        let mut parameters = Parameters::of(bytes);
+        let device = parameters.plain_object()?;
+        let max_apdu = parameters.plain_unsigned()?;
+        let segmentation = parameters.plain_enumerated()?;
+        let vendor = parameters.plain_unsigned()?;
+        parameters.end()?;
         Ok(IAm {
             device,
             max_apdu,
@@ -66,9 +66,9 @@ impl IAm {
     pub fn write(&self, out: &mut Datagram) -> Result<(), Full>
         ensures { Writes out.old (canon_form i_am (i_am_items self.now)) result out.new }
     {
-        let mut text = Datagram::new();
-        self.add(&mut text)?;
-        write_octets(out, text.octets())
+        let before = out.octets().len();
+        let added = self.add(out);
+        cut_back(out, before, added)
     }
 
     fn add(&self, out: &mut Datagram) -> Result<(), Full>

@@ -9,10 +9,11 @@ ghost use Rattle.bac_apdu.specs.FormReading.{form_at, Stops};
 ghost use Rattle.bac_apdu.specs.FormCanon.{canon_form};
 ghost use Rattle.bac_apdu.specs.Service.ReadProperty.{read_property, property_items, read_property_at, IsProperty};
 
-use crate::adding::add_context;
-use crate::parts::Parts;
+use crate::parameters::Parameters;
+use crate::parameters_out::cut_back;
 use crate::reason::Reason;
-use bac_wire::{Datagram, Full, ObjectId, Value, write_octets};
+use crate::service::property_reference::add_property;
+use bac_wire::{Datagram, Full, ObjectId};
 
 /// Asks for the property of an object, or for one element of it.
 #[derive(Clone, Copy, Debug, PartialEq, Eq)]
@@ -37,38 +38,34 @@ impl ReadProperty {
         // The same with named fields.
         ensures named { result ≡ read_property_at bytes.now }
     {
-        ReadProperty::parts(bytes)
+        ReadProperty::parameters(bytes)
     }
 
     /// Appends the parameters, or nothing if they don't fit.
     pub fn write(&self, out: &mut Datagram) -> Result<(), Full>
         ensures { Writes out.old (canon_form read_property (property_items self.now)) result out.new }
     {
-        let mut text = Datagram::new();
-        self.add(&mut text)?;
-        write_octets(out, text.octets())
+        let before = out.octets().len();
+        let added = self.add(out);
+        cut_back(out, before, added)
     }
 
+    #[tactic(auto, unfolding(crate::specs::Service::PropertyReference::property_octets))]
     fn add(&self, out: &mut Datagram) -> Result<(), Full>
         ensures { Adds out.old (canon_form read_property (property_items self.now)) result out.new }
     {
-        add_context(out, 0, &Value::Object(self.object))?;
-        add_context(out, 1, &Value::Enumerated(self.property))?;
-        if let Some(index) = self.index {
-            add_context(out, 2, &Value::Unsigned(index as u64))?;
-        }
-        Ok(())
+        add_property(out, self.object, self.property, self.index)
     }
 
     #[tactic(auto, unfolding(crate::specs::FormReading::form_at))]
-    fn parts(bytes: &[u8]) -> Result<ReadProperty, Reason>
+    fn parameters(bytes: &[u8]) -> Result<ReadProperty, Reason>
         ensures { Gives property_items result (form_at read_property bytes.now) }
     {
-        let mut parts = Parts::of(bytes);
-        let object = parts.object(0)?;
-        let property = parts.enumerated(1)?;
-        let index = parts.optional_number(2)?;
-        parts.end()?;
+        let mut parameters = Parameters::of(bytes);
+        let object = parameters.object(0)?;
+        let property = parameters.enumerated(1)?;
+        let index = parameters.optional_number(2)?;
+        parameters.end()?;
         Ok(ReadProperty {
             object,
             property,

@@ -13,10 +13,11 @@ ghost use Rattle.bac_wire.specs.OptionChain.{GivesSome};
 ghost use Rattle.bac_apdu.specs.Service.ReadProperty.{IsProperty};
 ghost use Rattle.bac_apdu.specs.Service.ReadPropertyAck.{read_property_ack, property_ack_items, PropertyAck, property_ack_of, property_ack_octets, read_property_ack_at, values, value_items};
 
-use crate::adding::{add_close, add_context, add_open};
-use crate::parts::Parts;
+use crate::parameters::Parameters;
+use crate::parameters_out::{add_close, add_open, cut_back};
 use crate::reason::Reason;
-use bac_wire::{Datagram, Full, ObjectId, Value, write_octets};
+use crate::service::property_reference::add_property;
+use bac_wire::{Datagram, Full, ObjectId, write_octets};
 
 /// The value of a property, as octets.
 #[derive(Clone, Copy, Debug, PartialEq, Eq)]
@@ -41,23 +42,23 @@ impl<'a> ReadPropertyAck<'a> {
         // The same with named fields.
         ensures named { GivesSome property_ack_of result (read_property_ack_at bytes.now) }
     {
-        match ReadPropertyAck::parts(bytes) {
+        match ReadPropertyAck::parameters(bytes) {
             Ok(ack) => Some(ack),
             Err(_) => None,
         }
     }
 
     #[tactic(auto, unfolding(crate::specs::FormReading::form_at))]
-    fn parts(bytes: &'a [u8]) -> Result<ReadPropertyAck<'a>, Reason>
+    fn parameters(bytes: &'a [u8]) -> Result<ReadPropertyAck<'a>, Reason>
         ensures { Gives property_ack_items result (form_at read_property_ack bytes.now) }
     {
-        let mut parts = Parts::of(bytes);
-        let object = parts.object(0)?;
-        let property = parts.enumerated(1)?;
-        let index = parts.optional_number(2)?;
-        parts.open(3)?;
-        let values = parts.inside(3)?;
-        parts.end()?;
+        let mut parameters = Parameters::of(bytes);
+        let object = parameters.object(0)?;
+        let property = parameters.enumerated(1)?;
+        let index = parameters.optional_number(2)?;
+        parameters.open(3)?;
+        let values = parameters.inside(3)?;
+        parameters.end()?;
         Ok(ReadPropertyAck {
             object,
             property,
@@ -70,19 +71,15 @@ impl<'a> ReadPropertyAck<'a> {
     pub fn write(&self, out: &mut Datagram) -> Result<(), Full>
         ensures { Writes out.old (canon_form read_property_ack (property_ack_items self.now)) result out.new }
     {
-        let mut text = Datagram::new();
-        self.add(&mut text)?;
-        write_octets(out, text.octets())
+        let before = out.octets().len();
+        let added = self.add(out);
+        cut_back(out, before, added)
     }
 
     fn add(&self, out: &mut Datagram) -> Result<(), Full>
         ensures { Adds out.old (canon_form read_property_ack (property_ack_items self.now)) result out.new }
     {
-        add_context(out, 0, &Value::Object(self.object))?;
-        add_context(out, 1, &Value::Enumerated(self.property))?;
-        if let Some(index) = self.index {
-            add_context(out, 2, &Value::Unsigned(index as u64))?;
-        }
+        add_property(out, self.object, self.property, self.index)?;
         self.add_values(out)
     }
 

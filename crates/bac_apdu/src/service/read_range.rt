@@ -13,11 +13,12 @@ ghost use Rattle.bac_apdu.specs.FormCanon.{canon_form};
 ghost use Rattle.bac_apdu.specs.Service.ReadProperty.{IsProperty};
 ghost use Rattle.bac_apdu.specs.Service.ReadRange.{read_range, range_items, read_range_at};
 
-use crate::adding::add_context;
-use crate::parts::Parts;
+use crate::parameters::Parameters;
+use crate::parameters_out::cut_back;
 use crate::reason::Reason;
 use crate::service::extent::{Extent, add_extent, extent_of};
-use bac_wire::{Datagram, Full, ObjectId, Value, write_octets};
+use crate::service::property_reference::add_property;
+use bac_wire::{Datagram, Full, ObjectId};
 
 /// Asks for records of a log.
 #[derive(Clone, Copy, Debug, PartialEq, Eq)]
@@ -45,7 +46,7 @@ impl ReadRange {
         // It may be written.
         ensures in_range { IfOk result (λ r. IsExtent r.extent) }
     {
-        ReadRange::parts(bytes)
+        ReadRange::parameters(bytes)
     }
 
     /// Appends the parameters, or nothing if they don't fit.
@@ -53,32 +54,28 @@ impl ReadRange {
         ensures written { Writes out.old (canon_form read_range (range_items self.now)) result out.new }
         ensures in_range { OnOk result (IsProperty self.now.object self.now.property self.now.index) }
     {
-        let mut text = Datagram::new();
-        self.add(&mut text)?;
-        write_octets(out, text.octets())
+        let before = out.octets().len();
+        let added = self.add(out);
+        cut_back(out, before, added)
     }
 
     fn add(&self, out: &mut Datagram) -> Result<(), Full>
         ensures written { Adds out.old (canon_form read_range (range_items self.now)) result out.new }
         ensures in_range { OnOk result (IsProperty self.now.object self.now.property self.now.index) }
     {
-        add_context(out, 0, &Value::Object(self.object))?;
-        add_context(out, 1, &Value::Enumerated(self.property))?;
-        if let Some(index) = self.index {
-            add_context(out, 2, &Value::Unsigned(index as u64))?;
-        }
+        add_property(out, self.object, self.property, self.index)?;
         add_extent(out, self.extent)
     }
 
     #[tactic(auto, unfolding(crate::specs::FormReading::form_at))]
-    fn parts(bytes: &[u8]) -> Result<ReadRange, Reason>
+    fn parameters(bytes: &[u8]) -> Result<ReadRange, Reason>
         ensures { Gives range_items result (form_at read_range bytes.now) }
     {
-        let mut parts = Parts::of(bytes);
-        let object = parts.object(0)?;
-        let property = parts.enumerated(1)?;
-        let index = parts.optional_number(2)?;
-        let extent = extent_of(parts)?;
+        let mut parameters = Parameters::of(bytes);
+        let object = parameters.object(0)?;
+        let property = parameters.enumerated(1)?;
+        let index = parameters.optional_number(2)?;
+        let extent = extent_of(parameters)?;
         Ok(ReadRange {
             object,
             property,

@@ -16,9 +16,10 @@ ghost use Rattle.bac_wire.specs.OptionChain.{GivesSome};
 ghost use Rattle.bac_apdu.specs.Service.ReadProperty.{IsProperty};
 ghost use Rattle.bac_apdu.specs.Service.ReadRangeAck.{read_range_ack, ack_items, RangeAck, range_ack_of, range_ack_octets, range_ack_size, read_range_ack_at, records, record_items, is_three, is_first, flag_bits, IsFirst, IsSmall, optional_size, ack_size};
 
-use crate::adding::{add_close, add_context, add_flags, add_open};
-use crate::parts::Parts;
+use crate::parameters::Parameters;
+use crate::parameters_out::{add_close, add_context, add_open, cut_back};
 use crate::reason::Reason;
+use crate::service::property_reference::add_property;
 use bac_wire::{Datagram, Full, ObjectId, Value, as_bits, as_unsigned, write_octets};
 
 /// Records of a log, as octets.
@@ -54,27 +55,27 @@ impl<'a> ReadRangeAck<'a> {
         // The five unused low bits of the flags are 0.
         ensures low { IfSome result (λ a. a.flags % 32 ≡ 0) }
     {
-        match ReadRangeAck::parts(bytes) {
+        match ReadRangeAck::parameters(bytes) {
             Ok(ack) => Some(ack),
             Err(_) => None,
         }
     }
 
     #[tactic(auto, unfolding(crate::specs::FormReading::form_at))]
-    fn parts(bytes: &'a [u8]) -> Result<ReadRangeAck<'a>, Reason>
+    fn parameters(bytes: &'a [u8]) -> Result<ReadRangeAck<'a>, Reason>
         ensures low { IfOk result (λ a. a.flags % 32 ≡ 0) }
         ensures exact { Gives ack_items result (form_at read_range_ack bytes.now) }
     {
-        let mut parts = Parts::of(bytes);
-        let object = parts.object(0)?;
-        let property = parts.enumerated(1)?;
-        let index = parts.optional_number(2)?;
-        let flags = parts.flags(3)?;
-        let count = parts.wide_number(4)?;
-        parts.open(5)?;
-        let items = parts.inside(5)?;
-        let first_number = parts.optional_first(6)?;
-        parts.end()?;
+        let mut parameters = Parameters::of(bytes);
+        let object = parameters.object(0)?;
+        let property = parameters.enumerated(1)?;
+        let index = parameters.optional_number(2)?;
+        let flags = parameters.flags(3)?;
+        let count = parameters.wide_number(4)?;
+        parameters.open(5)?;
+        let items = parameters.inside(5)?;
+        let first_number = parameters.optional_first(6)?;
+        parameters.end()?;
         Ok(ReadRangeAck {
             object,
             property,
@@ -90,26 +91,30 @@ impl<'a> ReadRangeAck<'a> {
     pub fn write(&self, out: &mut Datagram) -> Result<(), Full>
         ensures { Writes out.old (canon_form read_range_ack (ack_items self.now)) result out.new }
     {
-        let mut text = Datagram::new();
-        self.add(&mut text)?;
-        write_octets(out, text.octets())
+        let before = out.octets().len();
+        let added = self.add(out);
+        cut_back(out, before, added)
     }
 
     fn add(&self, out: &mut Datagram) -> Result<(), Full>
         ensures { Adds out.old (canon_form read_range_ack (ack_items self.now)) result out.new }
     {
-        add_context(out, 0, &Value::Object(self.object))?;
-        add_context(out, 1, &Value::Enumerated(self.property))?;
-        if let Some(index) = self.index {
-            add_context(out, 2, &Value::Unsigned(index as u64))?;
-        }
+        add_property(out, self.object, self.property, self.index)?;
         self.add_records(out)
     }
 
     fn add_records(&self, out: &mut Datagram) -> Result<(), Full>
         ensures { Adds out.old (canon_form records (record_items self.now)) result out.new }
     {
-        add_flags(out, 3, self.flags)?;
+        // Three bits, in the high bits.
+        add_context(
+            out,
+            3,
+            &Value::Bits {
+                unused: 5,
+                octets: &[self.flags],
+            },
+        )?;
         add_context(out, 4, &Value::Unsigned(self.count))?;
         add_open(out, 5)?;
         write_octets(out, self.items)?;
@@ -153,7 +158,7 @@ impl<'a> ReadRangeAck<'a> {
     {}
 }
 
-impl<'a> Parts<'a> {
+impl<'a> Parameters<'a> {
     /// An Unsigned of 1 to 4294967295.
     #[tactic(auto, unfolding(crate::specs::FormReading::part_at))]
     fn first(&mut self, tag: u8) -> Result<u32, Reason>

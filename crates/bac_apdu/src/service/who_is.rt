@@ -12,10 +12,10 @@ ghost use Rattle.bac_apdu.specs.FormCanon.{canon_form};
 ghost use Rattle.bac_apdu.specs.Service.WhoIs.{is_instance, who_is, who_is_items, who_is_at, AreLimits};
 ghost use Rattle.bac_wire.specs.OptionChain.{GivesSome};
 
-use crate::adding::add_context;
-use crate::parts::Parts;
+use crate::parameters::Parameters;
+use crate::parameters_out::{add_context, cut_back};
 use crate::reason::Reason;
-use bac_wire::{Datagram, Full, Value, as_unsigned, write_octets};
+use bac_wire::{Datagram, Full, Value, as_unsigned};
 
 /// Asks devices to announce themselves (clause 16.10): all of them, or those whose instance is
 /// one of the two limits or lies between them.
@@ -39,20 +39,20 @@ impl WhoIs {
         // It may be written.
         ensures in_range { IfSome result (λ w. AreLimits w.limits) }
     {
-        WhoIs::parts(bytes).ok()
+        WhoIs::parameters(bytes).ok()
     }
 
     #[tactic(auto, unfolding(crate::specs::FormReading::form_at))]
-    fn parts(bytes: &[u8]) -> Result<WhoIs, Reason>
+    fn parameters(bytes: &[u8]) -> Result<WhoIs, Reason>
         ensures { Gives who_is_items result (form_at who_is bytes.now) }
     {
         match bytes {
             [] => Ok(WhoIs { limits: None }),
             [_, ..] => {
-                let mut parts = Parts::of(bytes);
-                let low = parts.instance(0)?;
-                let high = parts.instance(1)?;
-                parts.end()?;
+                let mut parameters = Parameters::of(bytes);
+                let low = parameters.instance(0)?;
+                let high = parameters.instance(1)?;
+                parameters.end()?;
                 Ok(WhoIs {
                     limits: Some((low, high)),
                 })
@@ -64,9 +64,9 @@ impl WhoIs {
     pub fn write(&self, out: &mut Datagram) -> Result<(), Full>
         ensures { Writes out.old (canon_form who_is (who_is_items self.now)) result out.new }
     {
-        let mut text = Datagram::new();
-        self.add(&mut text)?;
-        write_octets(out, text.octets())
+        let before = out.octets().len();
+        let added = self.add(out);
+        cut_back(out, before, added)
     }
 
     fn add(&self, out: &mut Datagram) -> Result<(), Full>
@@ -95,7 +95,7 @@ impl WhoIs {
     {}
 }
 
-impl<'a> Parts<'a> {
+impl<'a> Parameters<'a> {
     /// An Unsigned of at most 4194303.
     #[tactic(auto, unfolding(crate::specs::FormReading::part_at))]
     fn instance(&mut self, tag: u8) -> Result<u32, Reason>

@@ -13,10 +13,11 @@ ghost use Rattle.bac_apdu.specs.FormCanon.{canon_form};
 ghost use Rattle.bac_apdu.specs.Service.ReadProperty.{IsProperty};
 ghost use Rattle.bac_apdu.specs.Service.WriteProperty.{write_property, write_items, PropertyWrite, write_of_code, write_property_at, setting, setting_items, is_priority, IsPriority};
 
-use crate::adding::{add_close, add_context, add_open, add_value};
-use crate::parts::Parts;
+use crate::parameters::Parameters;
+use crate::parameters_out::{add_close, add_context, add_open, add_value, cut_back};
 use crate::reason::Reason;
-use bac_wire::{Datagram, Full, ObjectId, Value, as_unsigned, write_octets};
+use crate::service::property_reference::add_property;
+use bac_wire::{Datagram, Full, ObjectId, Value, as_unsigned};
 
 /// Sets the property of an object, or one element of it.
 #[derive(Clone, Copy, Debug)]
@@ -48,26 +49,26 @@ impl<'a> WriteProperty<'a> {
         // It may be written.
         ensures well_formed { IfOk result (λ w. IsWellFormed w.value) }
     {
-        WriteProperty::parts(bytes)
+        WriteProperty::parameters(bytes)
     }
 
     #[tactic(auto, unfolding(crate::specs::FormReading::form_at))]
-    fn parts(bytes: &'a [u8]) -> Result<WriteProperty<'a>, Reason>
+    fn parameters(bytes: &'a [u8]) -> Result<WriteProperty<'a>, Reason>
         ensures exact { Gives write_items result (form_at write_property bytes.now) }
         ensures well_formed { IfOk result (λ w. IsWellFormed w.value) }
     {
-        let mut parts = Parts::of(bytes);
-        let object = parts.object(0)?;
-        let property = parts.enumerated(1)?;
-        let index = parts.optional_number(2)?;
-        parts.open(3)?;
-        let value = match parts.any() {
+        let mut parameters = Parameters::of(bytes);
+        let object = parameters.object(0)?;
+        let property = parameters.enumerated(1)?;
+        let index = parameters.optional_number(2)?;
+        parameters.open(3)?;
+        let value = match parameters.any() {
             Ok(value) => value,
             Err(reason) => return Err(reason),
         };
-        parts.close(3)?;
-        let priority = parts.optional_priority(4)?;
-        parts.end()?;
+        parameters.close(3)?;
+        let priority = parameters.optional_priority(4)?;
+        parameters.end()?;
         Ok(WriteProperty {
             object,
             property,
@@ -84,9 +85,9 @@ impl<'a> WriteProperty<'a> {
         ensures in_range { OnOk result (IsProperty self.now.object self.now.property self.now.index) }
         ensures valid { OnOk result (IsValid (view self.now.value)) }
     {
-        let mut text = Datagram::new();
-        self.add(&mut text)?;
-        write_octets(out, text.octets())
+        let before = out.octets().len();
+        let added = self.add(out);
+        cut_back(out, before, added)
     }
 
     fn add(&self, out: &mut Datagram) -> Result<(), Full>
@@ -95,11 +96,7 @@ impl<'a> WriteProperty<'a> {
         ensures in_range { OnOk result (IsProperty self.now.object self.now.property self.now.index) }
         ensures valid { OnOk result (IsValid (view self.now.value)) }
     {
-        add_context(out, 0, &Value::Object(self.object))?;
-        add_context(out, 1, &Value::Enumerated(self.property))?;
-        if let Some(index) = self.index {
-            add_context(out, 2, &Value::Unsigned(index as u64))?;
-        }
+        add_property(out, self.object, self.property, self.index)?;
         self.add_setting(out)
     }
 
@@ -139,7 +136,7 @@ impl<'a> WriteProperty<'a> {
     {}
 }
 
-impl<'a> Parts<'a> {
+impl<'a> Parameters<'a> {
     /// An Unsigned of 1 to 16.
     #[tactic(auto, unfolding(crate::specs::FormReading::part_at))]
     fn priority(&mut self, tag: u8) -> Result<u8, Reason>

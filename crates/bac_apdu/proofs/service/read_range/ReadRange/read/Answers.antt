@@ -11,13 +11,13 @@ use Rattle.bac_apdu.proofs.Named.{is_named, is_same, range_back}
 use Rattle.bac_apdu.proofs.service.read_range.ReadRange.read.Goals as goal
 
 pub returns-clause-found : goal.returns-clause-found
-returns-clause-found c = is_found ReadRange range_items read_range c.args.bytes.now c.parts.result (search rules) (λ i. omega (arith, c.type_inv.bytes i)) c.parts.ensures
+returns-clause-found c = is_found ReadRange range_items read_range c.args.bytes.now c.parameters.result (search rules) (λ i. omega (arith, c.type_inv.bytes i)) c.parameters.ensures
 
 pub returns-clause-only : goal.returns-clause-only
-returns-clause-only c = is_only ReadRange range_items read_range c.args.bytes.now c.parts.result c.parts.ensures
+returns-clause-only c = is_only ReadRange range_items read_range c.args.bytes.now c.parameters.result c.parameters.ensures
 
 pub returns-clause-refused : goal.returns-clause-refused
-returns-clause-refused c = is_refused ReadRange range_items read_range c.args.bytes.now c.parts.result (search rules) (λ i. omega (arith, c.type_inv.bytes i)) c.parts.ensures
+returns-clause-refused c = is_refused ReadRange range_items read_range c.args.bytes.now c.parameters.result (search rules) (λ i. omega (arith, c.type_inv.bytes i)) c.parameters.ensures
 
 -- what was read, with named fields
 named : (bytes : List ℕ) (r : Result ReadRange Reason) → Gives range_items r (form_at read_range bytes) → r ≡ read_range_at bytes
@@ -25,7 +25,7 @@ unfolding read_range_at
 named bytes r e = is_same r (read_range_at bytes) (is_named range_items range_in (λ x. x) range_back r (form_at read_range bytes) e)
 
 pub returns-clause-named : goal.returns-clause-named
-returns-clause-named c = named c.args.bytes.now c.parts.result c.parts.ensures
+returns-clause-named c = named c.args.bytes.now c.parameters.result c.parameters.ensures
 
 pub returns-clause-in_range : goal.returns-clause-in_range
-returns-clause-in_range c = extent_bounded c.args.bytes.now c.parts.result (named c.args.bytes.now c.parts.result c.parts.ensures)
+returns-clause-in_range c = extent_bounded c.args.bytes.now c.parameters.result (named c.args.bytes.now c.parameters.result c.parameters.ensures)

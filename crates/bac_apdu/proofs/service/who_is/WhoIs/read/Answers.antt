@@ -12,10 +12,10 @@ use Rattle.bac_apdu.proofs.Named.{is_named_some, is_same_some, gives_ok, who_is_
 use Rattle.bac_apdu.proofs.service.who_is.WhoIs.read.Goals as goal
 
 pub returns-clause-found : goal.returns-clause-found
-returns-clause-found c = is_found_some WhoIs who_is_items who_is c.args.bytes.now c.parts.result c.ok.result c.ok.ensures.value (search rules) (λ i. omega (arith, c.type_inv.bytes i)) c.parts.ensures
+returns-clause-found c = is_found_some WhoIs who_is_items who_is c.args.bytes.now c.parameters.result c.ok.result c.ok.ensures.value (search rules) (λ i. omega (arith, c.type_inv.bytes i)) c.parameters.ensures
 
 pub returns-clause-only : goal.returns-clause-only
-returns-clause-only c = is_only_some WhoIs who_is_items who_is c.args.bytes.now c.parts.result c.ok.result c.ok.ensures.value c.parts.ensures
+returns-clause-only c = is_only_some WhoIs who_is_items who_is c.args.bytes.now c.parameters.result c.ok.result c.ok.ensures.value c.parameters.ensures
 
 -- what was read, with named fields
 named : (bytes : List ℕ) (r : Result WhoIs Reason) (given : Option WhoIs) → given ≡ result_ok r → Gives who_is_items r (form_at who_is bytes) → given ≡ who_is_at bytes
@@ -23,7 +23,7 @@ unfolding who_is_at
 named bytes r given same e = is_same_some given (who_is_at bytes) (is_named_some who_is_items who_is_in (λ x. x) who_is_back given (result_ok (form_at who_is bytes)) (gives_ok who_is_items r (form_at who_is bytes) given same e))
 
 pub returns-clause-named : goal.returns-clause-named
-returns-clause-named c = named c.args.bytes.now c.parts.result c.ok.result c.ok.ensures.value c.parts.ensures
+returns-clause-named c = named c.args.bytes.now c.parameters.result c.ok.result c.ok.ensures.value c.parameters.ensures
 
 pub returns-clause-in_range : goal.returns-clause-in_range
-returns-clause-in_range c = limits_bounded c.args.bytes.now c.ok.result (named c.args.bytes.now c.parts.result c.ok.result c.ok.ensures.value c.parts.ensures)
+returns-clause-in_range c = limits_bounded c.args.bytes.now c.ok.result (named c.args.bytes.now c.parameters.result c.ok.result c.ok.ensures.value c.parameters.ensures)

@@ -11,13 +11,13 @@ use Rattle.bac_apdu.proofs.Named.{is_named, write_back}
 use Rattle.bac_apdu.proofs.service.write_property.WriteProperty.read.Goals as goal
 
 pub returns-clause-found : goal.returns-clause-found
-returns-clause-found c = is_found WriteProperty write_items write_property c.args.bytes.now c.parts.result (search rules) (λ i. omega (arith, c.type_inv.bytes i)) c.parts.ensures.exact
+returns-clause-found c = is_found WriteProperty write_items write_property c.args.bytes.now c.parameters.result (search rules) (λ i. omega (arith, c.type_inv.bytes i)) c.parameters.ensures.exact
 
 pub returns-clause-only : goal.returns-clause-only
-returns-clause-only c = is_only WriteProperty write_items write_property c.args.bytes.now c.parts.result c.parts.ensures.exact
+returns-clause-only c = is_only WriteProperty write_items write_property c.args.bytes.now c.parameters.result c.parameters.ensures.exact
 
 pub returns-clause-refused : goal.returns-clause-refused
-returns-clause-refused c = is_refused WriteProperty write_items write_property c.args.bytes.now c.parts.result (search rules) (λ i. omega (arith, c.type_inv.bytes i)) c.parts.ensures.exact
+returns-clause-refused c = is_refused WriteProperty write_items write_property c.args.bytes.now c.parameters.result (search rules) (λ i. omega (arith, c.type_inv.bytes i)) c.parameters.ensures.exact
 
 -- what was read, with named fields
 named : (bytes : List ℕ) (r : Result WriteProperty Reason) → Gives write_items r (form_at write_property bytes) → Gives write_of_code r (write_property_at bytes)
@@ -25,7 +25,7 @@ unfolding write_property_at
 named bytes r e = is_named write_items write_in write_of_code write_back r (form_at write_property bytes) e
 
 pub returns-clause-named : goal.returns-clause-named
-returns-clause-named c = named c.args.bytes.now c.parts.result c.parts.ensures.exact
+returns-clause-named c = named c.args.bytes.now c.parameters.result c.parameters.ensures.exact
 
 pub returns-clause-bound : goal.returns-clause-bound
-returns-clause-bound c = priority_bounded c.args.bytes.now c.parts.result (named c.args.bytes.now c.parts.result c.parts.ensures.exact)
+returns-clause-bound c = priority_bounded c.args.bytes.now c.parameters.result (named c.args.bytes.now c.parameters.result c.parameters.ensures.exact)

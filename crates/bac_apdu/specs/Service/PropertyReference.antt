@@ -1,0 +1,30 @@
+-- Object, property and index, with which the parameters of five services begin (BACnetObjectPropertyReference, clause 21).
+use Rattle.std.specs.Prelude.{ℕ, ◌^◌, ◌<◌, List, [], ◌∷◌, Option, Some, None}
+use Rattle.bac_wire.specs.Canon.{IsValid}
+use Rattle.bac_wire.specs.Primitive.{Id, Enumerated, Object}
+use Rattle.bac_apdu.specs.Form.{Form, end, part, optional, context, anything, is_u32, unsigned, enumerated, object_identifier, Item, Value, number_item}
+use Rattle.bac_apdu.specs.FormCanon.{canon_form}
+
+-- these three, and then the parameters of another form
+abbrev pub property_then : Form → Form
+property_then form =
+    part (context 0 object_identifier anything)  -- object identifier
+    (part (context 1 enumerated anything)  -- property identifier
+    (optional 2 unsigned is_u32  -- property array index, optional
+    form))
+
+abbrev pub property_items_then : Id → ℕ → Option ℕ → List Item → List Item
+property_items_then object property index items = Value (Object object) ∷ Value (Enumerated property) ∷ number_item index ∷ items
+
+-- what is written of the three
+unfoldable pub property_octets : Id → ℕ → Option ℕ → List ℕ
+property_octets object property index = canon_form (property_then end) (property_items_then object property index [])
+
+-- ---- each number in its range
+
+abbrev pub IsIndex : Option ℕ → Type 0
+IsIndex None = Unit {0}
+IsIndex (Some n) = n < 2 ^ 32
+
+abbrev pub IsProperty : Id → ℕ → Option ℕ → Type 0
+IsProperty object property index = IsValid (Object object) × (property < 2 ^ 32) × IsIndex index
