@@ -8,3 +8,4 @@ pub mod Steps
 pub mod Rows
 pub mod Jobs
 pub mod Outcome
+pub mod Lines

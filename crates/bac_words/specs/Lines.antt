@@ -1,0 +1,33 @@
+-- Lines that are worked out: what they come to, by the definitions alone.
+use Rattle.std.specs.Prelude.{◌≡◌, ◌==◌, ℕ, if◌then◌else◌, List, [], ◌∷◌, None, Result}
+use Rattle.clap.specs.Words.{Text, Kinds}
+use Rattle.bac_words.specs.declared.word.Word.{Word}
+use Rattle.bac_words.specs.declared.job.Job.{Job}
+use Rattle.bac_words.specs.declared.job.Asked.{Asked}
+use Rattle.bac_words.specs.Outcome.{mistakes_of, job_in}
+
+-- the character goes before the first word
+abbrev pub with_character : ℕ → List Text → List Text
+with_character c [] = (c ∷ []) ∷ []
+with_character c (word ∷ words) = (c ∷ word) ∷ words
+
+-- the words of a line, with a blank (32) between them
+abbrev pub words_of : List ℕ → List Text
+words_of [] = [] ∷ []
+words_of (c ∷ cs) = if c == 32 then [] ∷ words_of cs else with_character c (words_of cs)
+
+-- the line has no mistake, and comes to this job, or to this word's bad value
+abbrev pub Says : List ℕ → Result Job Word → Type 0
+Says line said = (mistakes_of (words_of line) ≡ []) × (job_in (words_of line) ≡ said)
+
+-- the line has a mistake of these kinds
+abbrev pub Mistakes : List ℕ → Kinds → Type 0
+Mistakes line kinds = mistakes_of (words_of line) ≡ kinds
+
+-- 10.0.0.1, port 47808
+abbrev pub station : List ℕ
+station = 10 ∷ 0 ∷ 0 ∷ 1 ∷ 186 ∷ 192 ∷ []
+
+-- any address of our own, 3 seconds, 3 retries
+abbrev pub by_default : Asked
+by_default = record { address = station; local = None; timeout = 3000; retries = 3 }

@@ -1,0 +1,44 @@
+//! Laws about the definitions. Each is a function with an empty body, whose contract is the law.
+#![tactic(auto, unfolding(crate::proofs::OnLiterals::line_on_literals))]
+
+ghost use Rattle.std.specs.Prelude.{[], ◌∷◌, codes, None, Some, Ok, Err, negsuc};
+ghost use Rattle.clap.specs.declared.error.kind.ErrorKind.TheVariants.{MissingRequiredArgument, MissingSubcommand, UnknownArgument, ArgumentConflict, DisplayHelp};
+ghost use Rattle.bac_words.specs.declared.word.Word.TheVariants.{Address, From, Max, Retries};
+ghost use Rattle.bac_words.specs.declared.job.Job.TheVariants.{Replay, Wi, Rp, Wp, Log, Serve};
+ghost use Rattle.bac_words.specs.declared.job.Given.TheVariants.{Null, Signed};
+ghost use Rattle.bac_words.specs.Lines.{Says, Mistakes, station, by_default};
+
+/// A line of each tool, and the job that it asks for.
+pub fn lines_say_jobs()
+    ensures replay { Says (codes "bac replay") (Ok Replay) }
+    ensures wi { Says (codes "bac wi 10.0.0.1 10.0.0.2:258 --min=5 --timeout=60000")
+        (Ok (Wi (station ∷ (10 ∷ 0 ∷ 0 ∷ 2 ∷ 1 ∷ 2 ∷ []) ∷ []) (Some 5) None None 60000)) }
+    ensures rp { Says (codes "bac rp 10.0.0.1 8 123 77") (Ok (Rp by_default 8 123 77 None)) }
+    ensures wp { Says (codes "bac wp 10.0.0.1 45 1 85 16 3 --value=-5")
+        (Ok (Wp by_default 45 1 85 16 (Signed (negsuc 4)) None)) }
+    ensures null { Says (codes "bac wp 10.0.0.1 5 1 87 0 0 --index=8")
+        (Ok (Wp by_default 5 1 87 0 Null (Some 8))) }
+    ensures log { Says (codes "bac log 10.0.0.1 7 oldest") (Ok (Log by_default 7 None 1000)) }
+    ensures number { Says (codes "bac log 10.0.0.1 7 43") (Ok (Log by_default 7 (Some 43) 1000)) }
+    ensures serve { Says (codes "bac serve 10.0.0.1") (Ok (Serve station 4294967295)) }
+{}
+
+/// Lines with a bad value, and the word that has it.
+pub fn lines_say_bad_values()
+    ensures host { Says (codes "bac rp 10.0.0.256 8 123 77") (Err Address) }
+    ensures port { Says (codes "bac rp 10.0.0.1:0 8 123 77") (Err Address) }
+    ensures retries { Says (codes "bac rp 10.0.0.1 8 123 77 --retries=11") (Err Retries) }
+    ensures from { Says (codes "bac log 10.0.0.1 7 0") (Err From) }
+    ensures max { Says (codes "bac wi 10.0.0.1 --max=5") (Err Max) }
+{}
+
+/// Lines with a mistake, or that ask for help.
+pub fn lines_are_mistakes()
+    ensures tool { Mistakes (codes "bac") (MissingSubcommand ∷ []) }
+    ensures words { Mistakes (codes "bac rp") (MissingRequiredArgument ∷ []) }
+    ensures more { Mistakes (codes "bac replay 1") (UnknownArgument ∷ []) }
+    ensures option { Mistakes (codes "bac wi 10.0.0.1 --retries=1") (UnknownArgument ∷ []) }
+    ensures twice { Mistakes (codes "bac serve 10.0.0.1 --count=1 --count=1")
+        (ArgumentConflict ∷ []) }
+    ensures help { Mistakes (codes "bac log --help") (DisplayHelp ∷ []) }
+{}
