@@ -1,7 +1,8 @@
 #!/usr/bin/env bash
 # What a device costs: octets per second of a script of 1,048,576 octets whose lines but the first
-# few are ReadProperty and WriteProperty requests in turn, and the time to build a device of 5,000,
-# 10,000, 20,000 and 40,000 objects.
+# few are ReadProperty and WriteProperty requests in turn; the time to build a device of 5,000,
+# 10,000, 20,000 and 40,000 objects; and a Trend Log that holds 65,535 records: samples a second,
+# ReadRange replies of 85 records by number and by time, and the memory of it all.
 set -eu
 cd "$(dirname "$0")/.."
 program=${1:-crates/bac/out/bac}
@@ -44,4 +45,47 @@ for objects in 5000 10000 20000 40000; do
         printf "%d objects built in %.2f s\n", objects, nanoseconds / 1e9
     }'
 done
+
+# A full log: samples alone, and then with requests behind them.
+full_log() {
+    awk -v device="$device" -v samples="$1" -v requests="$2" -v request="$3" 'BEGIN {
+        print device
+        print "binary 1 pump 0"
+        print "log 1 trend binary 1 65535 0 0"
+        for (i = 0; i < samples; i++) print "sample 1"
+        for (i = 0; i < requests; i++) print request
+    }' > "$script"
+}
+# the best of five, in nanoseconds
+best() {
+    local least=0 took
+    for _ in 1 2 3 4 5; do
+        start=$(date +%s%N)
+        "$program" replay < "$script" > "$output"
+        took=$(($(date +%s%N) - start))
+        if [ "$least" -eq 0 ] || [ "$took" -lt "$least" ]; then least=$took; fi
+    done
+    echo "$least"
+}
+full_log 0 0 ''
+empty=$(best)
+full_log 65535 0 ''
+samples=$(best)
+awk -v took=$((samples - empty)) 'BEGIN { printf "65535 samples: %.0f a second\n", 65535 * 1e9 / took }'
+by_number='rx 810a001701040005011a0c0500000119836e210131646f'
+by_time='rx 810a001f01040005011a0c0500000119837ea478010103b40000000031647f'
+for kind in number time; do
+    request=by_$kind
+    full_log 65535 5000 "${!request}"
+    took=$(($(best) - samples))
+    awk -v kind="$kind" -v took="$took" -v octets="$(tail -n 1 "$output" | wc -c)" 'BEGIN {
+        printf "ReadRange by %s of a full log: %.0f replies a second of %d octets\n", kind, 5000 * 1e9 / took, (octets - 4) / 2
+    }'
+done
+if [ -x /usr/bin/time ]; then
+    full_log 0 0 ''
+    /usr/bin/time -f '%M kB of memory without the records' "$program" replay < "$script" > "$output"
+    full_log 65535 0 ''
+    /usr/bin/time -f '%M kB of memory with 65535 records' "$program" replay < "$script" > "$output"
+fi
 echo "cores: $(nproc)"
