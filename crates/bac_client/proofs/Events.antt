@@ -10,7 +10,8 @@ use Rattle.bac_device.specs.Clock.{advanced}
 use Rattle.bac_device.specs.Logs.{Keeps, StepsTo}
 use Rattle.bac_device.proofs.Moves.{answers_keep, samples_keep, ticks_keep}
 use Rattle.bac_client.specs.Ahead.{log_with, IsThere}
-use Rattle.bac_client.specs.Events.{after_sample, after_advance, happens, played}
+use Rattle.bac_device.specs.Run.{after_clock, after_sample}
+use Rattle.bac_client.specs.Events.{happens, played}
 use Rattle.bac_client.specs.declared.event.LinkEvent.{LinkEvent}
 use Rattle.bac_client.specs.declared.event.LinkEvent.TheVariants.{Sample, Advance, Handle, Answer, Lose}
 
@@ -19,15 +20,15 @@ use Rattle.bac_client.specs.declared.event.LinkEvent.TheVariants.{Sample, Advanc
 stays : (d : State) → Keeps d d
 stays d = record { reply_size = refl; instance = refl; ids = refl; logs = λ n log e. (log, e, inl refl); lacks = λ n e. e; has = λ h. h }
 
-sample_keeps : (d : State) (n : ℕ) (r : Result (ℕ × State) SampleFault) → sampled d n ≡ r → Keeps d (after_sample d r)
+sample_keeps : (d : State) (n : ℕ) (r : Result (ℕ × State) SampleFault) → sampled d n ≡ r → Keeps d (after_sample d r).1
 sample_keeps d n (Ok said) e = samples_keep d n said e
 sample_keeps d n (Err fault) e = stays d
 
-advance_keeps : (d : State) (stamp : CivilTime) (back : Bool) → Keeps d (after_advance d (if back then None else Some (samples d stamp, ticked d stamp)))
+advance_keeps : (d : State) (stamp : CivilTime) (back : Bool) → Keeps d (after_clock d (if back then None else Some (samples d stamp, ticked d stamp))).1
 advance_keeps d stamp true = stays d
 advance_keeps d stamp false = ticks_keep d stamp
 
-advanced_keeps : (d : State) (stamp : CivilTime) → Keeps d (after_advance d (advanced d stamp))
+advanced_keeps : (d : State) (stamp : CivilTime) → Keeps d (after_clock d (advanced d stamp)).1
 unfolding advanced
 advanced_keeps d stamp = advance_keeps d stamp (nat_lt (ticks_of stamp) (ticks_of d.clock))
 

@@ -1,31 +1,20 @@
 -- What happens at a link straight to a device, and what it makes of the device.
-use Rattle.std.specs.Prelude.{◌+◌, min, ℕ, Bool, true, false, if◌then◌else◌, List, [], ◌∷◌, Option, None, Some, Result, Ok, Err}
-use Rattle.bac_objects.specs.Sampling.{sampled}
+use Rattle.std.specs.Prelude.{◌+◌, min, ℕ, Bool, true, false, if◌then◌else◌, List, [], ◌∷◌, Option, None, Some}
 use Rattle.bac_objects.specs.State.{State}
-use Rattle.bac_objects.specs.declared.sampling.SampleFault.{SampleFault}
 use Rattle.bac_device.specs.Answer.{answer}
-use Rattle.bac_device.specs.Clock.{advanced}
+use Rattle.bac_device.specs.Run as run
+use Rattle.bac_device.specs.Run.{step}
 use Rattle.bac_device.specs.declared.reply.Reply.{Reply}
 use Rattle.bac_client.specs.declared.event.LinkEvent.{LinkEvent}
 use Rattle.bac_client.specs.declared.event.LinkEvent.TheVariants.{Sample, Advance, Handle, Answer, Lose}
 
 -- ---- one event
 
--- a sample that is refused changes nothing
-abbrev pub after_sample : State → Result (ℕ × State) SampleFault → State
-after_sample d (Ok said) = said.1
-after_sample d (Err fault) = d
-
--- nor does a clock that would go back
-abbrev pub after_advance : State → Option (ℕ × State) → State
-after_advance d (Some said) = said.1
-after_advance d None = d
-
--- the device after an event; an answer and a loss leave it
+-- the device after an event, as a run of the device has it: one that is refused changes nothing, nor does an answer or a loss
 abbrev pub happens : LinkEvent → State → State
-happens (Sample instance) d = after_sample d (sampled d instance)
-happens (Advance moment) d = after_advance d (advanced d moment)
-happens (Handle datagram) d = (answer d datagram).1
+happens (Sample instance) d = (step d (run.Sample instance)).1
+happens (Advance moment) d = (step d (run.Advance moment)).1
+happens (Handle datagram) d = (step d (run.Datagram datagram)).1
 happens Answer d = d
 happens Lose d = d
 

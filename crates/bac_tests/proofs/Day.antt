@@ -8,7 +8,7 @@ use Rattle.bac_apdu.specs.FormReading.{form_at, part_at, optional_at}
 use Rattle.bac_apdu.specs.Frame.{frame_at, body_at}
 use Rattle.bac_apdu.specs.Npdu.{header_at, maybe_place_at, place_at, hops_at}
 use Rattle.bac_apdu.specs.Octets.{word_at, octets_at}
-use Rattle.bac_objects.specs.Requests.{write_property_at}
+use Rattle.bac_apdu.specs.Service.WriteProperty.{write_property_at}
 use Rattle.bac_objects.specs.declared.lines.DeviceLine.{DeviceLine}
 use Rattle.bac_device.specs.Answer.{answer}
 use Rattle.bac_device.specs.Receiving.{heard_at}
