@@ -52,3 +52,5 @@ mod walk;
 mod walk_callers;
 #[cfg(test)]
 mod wire;
+#[cfg(test)]
+mod words;
