@@ -9,6 +9,8 @@ mod commanding;
 #[cfg(test)]
 mod device;
 #[cfg(test)]
+mod help;
+#[cfg(test)]
 mod link;
 #[cfg(test)]
 mod link_callers;
