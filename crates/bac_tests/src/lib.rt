@@ -13,6 +13,8 @@ mod direct_callers;
 #[cfg(test)]
 mod direct_link;
 #[cfg(test)]
+mod help;
+#[cfg(test)]
 mod link;
 #[cfg(test)]
 mod link_callers;

@@ -70,7 +70,9 @@ serve_app = with_rules (new_app (codes "serve")) (needed Address ∷ option_or C
 
 -- bac, which has a version and wants a tool
 abbrev pub top_app : App
-top_app = record (new_app (codes "bac")) { top = record ((new_app (codes "bac")).top) { has_version = true; subcommand_required = true } }
+top_app = record (new_app (codes "bac")) {
+  top = record ((new_app (codes "bac")).top) { has_version = true; subcommand_required = true };
+}
 
 -- bac with its tools
 abbrev pub bac_app : App

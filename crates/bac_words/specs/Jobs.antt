@@ -28,6 +28,7 @@ abbrev pub max_beside : Option ℕ → Option ℕ → Result (Option ℕ) Word
 max_beside None (Some max) = Err Max
 max_beside min max = Ok max
 
+-- bac wi
 unfoldable pub wi_at : List Row → Result Job Word
 wi_at rows = do
   addresses ← addresses_at rows
@@ -38,6 +39,7 @@ wi_at rows = do
   timeout ← number_at Timeout 1 60000 rows
   Ok (Wi addresses min max local timeout)
 
+-- bac rp
 unfoldable pub rp_at : List Row → Result Job Word
 rp_at rows = do
   asked ← asked_at rows
@@ -59,6 +61,7 @@ given_at rows = do
   tag ← tag_at rows
   ok_or (given_in tag (text_at Value rows)) Value
 
+-- bac wp
 unfoldable pub wp_at : List Row → Result Job Word
 wp_at rows = do
   asked ← asked_at rows
@@ -72,11 +75,15 @@ wp_at rows = do
 
 -- a number from 1, or `oldest`
 unfoldable pub from_in : Text → Option (Option ℕ)
-from_in text = if bytes_eq text (codes "oldest") then Some None else option_and_then (λ n. Some (Some n)) (number_in 1 4294967295 text)
+from_in text =
+    if bytes_eq text (codes "oldest") then Some None else
+    option_and_then (λ n. Some (Some n)) (number_in 1 4294967295 text)
 
+-- the number of the first record to fetch; absent is the oldest
 abbrev pub from_at : List Row → Result (Option ℕ) Word
 from_at rows = ok_or (option_and_then from_in (text_at From rows)) From
 
+-- bac log
 unfoldable pub log_at : List Row → Result Job Word
 log_at rows = do
   asked ← asked_at rows
@@ -85,6 +92,7 @@ log_at rows = do
   steps ← number_at Steps 0 4294967295 rows
   Ok (Log asked instance from steps)
 
+-- bac serve
 unfoldable pub serve_at : List Row → Result Job Word
 serve_at rows = do
   address ← address_at rows

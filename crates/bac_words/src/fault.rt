@@ -11,8 +11,8 @@ use std::alloc::AllocError;
 pub enum WordsFault {
     /// What `clap` says: a mistake in the words, or the help or version that was asked for.
     Usage(Error),
-    /// The first word or option, in the order of the job's fields, whose value isn't one that it can
-    /// have.
+    /// The first word or option, in the order of the job's fields, whose value isn't one that it
+    /// can have.
     BadValue(Word),
     /// Out of memory.
     Memory,
