@@ -43,16 +43,19 @@ const THREE: &[u8] = b"binary 1 pump 0\nlog 1 trend binary 1 3 0 0\n";
 
 /// The same with room for five, and for ten.
 const FIVE: &[u8] = b"binary 1 pump 0\nlog 1 trend binary 1 5 0 0\n";
+
 const TEN: &[u8] = b"binary 1 pump 0\nlog 1 trend binary 1 10 0 0\n";
 
 /// Device 123 with a reply size of 50: one record a reply.
 const SMALL: &[u8] = b"device 123 plant 0 50 2024-05-06T07:08:09.10\n";
 
 const FIVE_SAMPLES: &[u8] = b"sample 1\nsample 1\nsample 1\nsample 1\nsample 1\n";
+
 const FIVE_NUMBERS: &[u8] = b"number 1\nnumber 2\nnumber 3\nnumber 4\nnumber 5\n";
 
 /// Write 0 to the Record_Count of Trend Log 1, and its SimpleACK.
 const PURGE: &[u8] = b"rx 810a001501040005090f0c05000001198d3e21003f\n";
+
 const PURGED: &[u8] = b"tx 810a0009010020090f\n";
 
 #[test]
@@ -166,6 +169,7 @@ fn a_walk_from_the_oldest_record_has_no_gap(rt: HostRuntime) -> Result<(), Fail>
 
 /// Write FALSE to the Enable of Trend Log 1, and its SimpleACK.
 const DISABLE: &[u8] = b"rx 810a001401040005010f0c0500000119853e103f\n";
+
 const DISABLED: &[u8] = b"tx 810a0009010020010f\n";
 
 #[test]
