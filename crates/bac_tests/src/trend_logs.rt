@@ -338,7 +338,10 @@ fn a_run_has_the_outcome_of_each_event(rt: HostRuntime) -> Result<(), Fail> {
     let Outcome::Datagram(Some(reply)) = &outcomes[2] else {
         return Err(Fail::from("no reply"));
     };
-    assert_eq!(rt; reply.datagram.octets(), octets(a, "810a0009010020010f")?.as_slice());
+    assert_eq!(rt;
+        reply.datagram.octets(),
+        octets(a, "810a0009010020010f")?.as_slice()
+    );
     assert!(rt; matches!(&outcomes[3], Outcome::Sample(Err(SampleFault::Disabled))));
     assert!(rt; matches!(&outcomes[4], Outcome::Advance(Err(ClockBack))));
     assert_eq!(rt; device.log(1).ok_or("no log")?.count(), 3);
