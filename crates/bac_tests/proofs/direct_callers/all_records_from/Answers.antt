@@ -1,4 +1,4 @@
-use Rattle.std.proofs.Common.{◌≡◌, ℕ, Bool, List, [], ◌∷◌, Option, inl, inr, refl, sym, ap, subst, ◌∙◌}
+use Rattle.std.proofs.Common.{◌≡◌, Bool, List, [], ◌∷◌, Option, inl, inr, refl, sym, ap, subst, ◌∙◌}
 use Rattle.std.specs.Prelude.{All}
 use Rattle.std.specs.Option.{unwrap_or}
 use Rattle.bac_wire.specs.Primitive.{Id}
@@ -7,7 +7,6 @@ use Rattle.bac_log.specs.TrendLog.{IsLog, Log, empty_log}
 use Rattle.bac_log.specs.declared.entry.Entry.{Entry}
 use Rattle.bac_objects.specs.Sampling.{log_id}
 use Rattle.bac_objects.specs.Sound.{IsSound}
-use Rattle.bac_objects.specs.State.{State}
 use Rattle.bac_link.specs.Moments.{log_at}
 use Rattle.bac_walk.specs.Place.{Place}
 use Rattle.bac_walk.specs.Rests.{Misses, Rested, Rests, rest}
