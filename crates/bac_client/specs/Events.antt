@@ -44,6 +44,7 @@ datagram_in (Some reply) = Some reply.datagram
 abbrev pub one_more : ℕ → ℕ
 one_more failures = min (failures + 1) 18446744073709551615
 
+-- the count after an ask that brought this
 abbrev pub failures_after : ℕ → Option Reply → ℕ
 failures_after failures (Some reply) = failures
 failures_after failures None = one_more failures

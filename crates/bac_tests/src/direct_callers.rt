@@ -1,6 +1,6 @@
 //! What a user of walks over a device in memory needs, proved from public contracts alone.
 
-ghost use Rattle.std.specs.Prelude.{ℕ, ◌≡◌, ◌<◌, ◌↔◌, List, Some, length, IfSome, IsSome, ◌⊎◌};
+ghost use Rattle.std.specs.Prelude.{ℕ, ◌≡◌, ◌<◌, ◌↔◌, List, Some, None, length, IfSome, IsSome, ◌⊎◌};
 ghost use Rattle.bac_apdu.specs.Service.Extent.{IsExtent};
 ghost use Rattle.bac_apdu.specs.declared.service.extent.Extent.{Extent as AnyExtent};
 ghost use Rattle.bac_log.specs.TrendLog.{Log, number};
@@ -12,6 +12,7 @@ ghost use Rattle.bac_device.specs.declared.reply.Receiver.TheVariants as Receive
 ghost use Rattle.bac_link.specs.Delivery.{DeliversTo};
 ghost use Rattle.bac_link.specs.Links.{HasReply, question};
 ghost use Rattle.bac_link.specs.Requests.{request_octets};
+ghost use Rattle.bac_walk.specs.Rests.{Misses};
 ghost use Rattle.bac_walk.specs.declared.outcome.Why.TheVariants as why;
 ghost use Rattle.bac_client.specs.Ahead.{history_ahead, IsThere, log_with, moments_ahead};
 ghost use Rattle.bac_tests.specs.Day.{day, day_moments, plant as plant_of};
@@ -78,6 +79,9 @@ pub fn all_records_from(
     ensures records { IfSome result (λ outcome. IsThere device.old log.instance →
         length (log_with device.old log.instance).entries < steps →
         (outcome.why ≡ why.Memory) ⊎ (outcome.items.items ≡ held_from (log_with device.old log.instance) s)) }
+    // Without the log, the device says so.
+    ensures missing { IfSome result (λ outcome. log_of device.old log.instance ≡ None →
+        Misses steps s outcome.items.items outcome.next outcome.why) }
     ensures unchanged { device.new ≡ device.old }
 {
     rests_all();

@@ -1,4 +1,4 @@
-use Rattle.std.proofs.Common.{◌≡◌, ℕ, Bool, List, [], ◌∷◌, Option, inl, inr, refl, sym, ap, subst, ◌∙◌}
+use Rattle.std.proofs.Common.{◌≡◌, Bool, List, [], ◌∷◌, Option, inl, inr, refl, sym, ap, subst, ◌∙◌}
 use Rattle.std.specs.Prelude.{All}
 use Rattle.std.specs.Option.{unwrap_or}
 use Rattle.bac_wire.specs.Primitive.{Id}
@@ -7,11 +7,10 @@ use Rattle.bac_log.specs.TrendLog.{IsLog, Log, empty_log}
 use Rattle.bac_log.specs.declared.entry.Entry.{Entry}
 use Rattle.bac_objects.specs.Sampling.{log_id}
 use Rattle.bac_objects.specs.Sound.{IsSound}
-use Rattle.bac_objects.specs.State.{State}
 use Rattle.bac_link.specs.Moments.{log_at}
 use Rattle.bac_walk.specs.Place.{Place}
-use Rattle.bac_walk.specs.Rests.{Rested, Rests, rest}
-use Rattle.bac_client.specs.Ahead.{LiesAhead, history_ahead, log_with, moment_of}
+use Rattle.bac_walk.specs.Rests.{Misses, Rested, Rests, rest}
+use Rattle.bac_client.specs.Ahead.{Lacks, LiesAhead, history_ahead, log_with, moment_of}
 use Rattle.bac_tests.proofs.Held.{enough, held_all, held_now}
 use Rattle.bac_tests.proofs.direct_callers.all_records_from.Goals as goal
 
@@ -37,3 +36,13 @@ returns-clause-records c = λ there more.
       | inl memory ↦ inl memory
       | inr rests ↦ inr (rests.0 ∙ ap (λ (x : Rested). x.items) whole ∙ held_all log c.args.s)
     ]
+
+pub returns-clause-missing : goal.returns-clause-missing
+returns-clause-missing c = λ none.
+    let n = c.args.log.instance in
+    let is = (c.in-Some.ensures {u = tt}).some in
+    let kind = ((c.in-Some.ensures {u = tt}).is_some.0 refl).1 in
+    let id : c.args.log ≡ log_id n = ap (λ k. let i : Id = record { kind = k; instance = n } in i) kind in
+    let K : Id → Type 0 = λ i. Lacks c.new-link.result.device.now i in
+    subst (λ k. Misses c.args.steps k c.collect.result.items.items c.collect.result.next c.collect.result.why) (ap (λ (w : Place). w.next) is)
+    (c.collect.ensures.missing (subst K (sym (ap (λ (w : Place). w.log) is ∙ id)) (c.new-link.ensures.lacks n none)) c.new-link.ensures.events)

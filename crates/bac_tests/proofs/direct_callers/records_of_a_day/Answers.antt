@@ -1,4 +1,4 @@
-use Rattle.std.proofs.Common.{◌≡◌, ℕ, List, [], ◌∷◌, refl, sym, ap, subst, ◌∙◌}
+use Rattle.std.proofs.Common.{◌≡◌, ℕ, List, [], ◌∷◌, refl, subst}
 use Rattle.bac_wire.specs.Primitive.{Id}
 use Rattle.bac_log.specs.TrendLog.{empty_log, number}
 use Rattle.bac_objects.specs.State.{State}
@@ -7,7 +7,7 @@ use Rattle.bac_client.specs.Ahead.{IsThere, history_ahead, moments_ahead}
 use Rattle.bac_client.specs.declared.event.LinkEvent.{LinkEvent}
 use Rattle.bac_client.specs.declared.event.LinkEvent.TheVariants.{Sample, Handle, Answer, Lose}
 use Rattle.bac_tests.proofs.Day.{day_is}
-use Rattle.bac_tests.specs.Day.{day, day_moments, plant}
+use Rattle.bac_tests.specs.Day.{day, plant}
 use Rattle.bac_tests.proofs.direct_callers.records_of_a_day.Goals as goal
 
 abbrev day_with : List ℕ → List LinkEvent
