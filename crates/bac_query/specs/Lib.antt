@@ -1,3 +1,5 @@
 pub mod Output
 pub mod Values
 pub mod Reading
+pub mod Fetching
+pub mod Writing

@@ -6,11 +6,16 @@
 #![tactic(auto)]
 
 mod fault;
+mod fetching;
 mod output;
 mod reading;
+mod record_lines;
 mod values;
+mod writing;
 
 pub use fault::QueryFault;
+pub use fetching::{Fetched, fetch_log};
 pub use output::{WriteRefused, write_text};
 pub use reading::read_property;
 pub use values::push_values;
+pub use writing::write_property;

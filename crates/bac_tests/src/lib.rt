@@ -37,6 +37,8 @@ mod print;
 #[cfg(test)]
 mod properties;
 #[cfg(test)]
+mod queries;
+#[cfg(test)]
 mod replay;
 #[cfg(test)]
 mod results;

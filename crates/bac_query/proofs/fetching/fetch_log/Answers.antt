@@ -1,0 +1,100 @@
+use Rattle.std.proofs.Common.{◌≡◌, ◌+◌, ◌++◌, ℕ, List, [], Err, refl, sym, subst, ◌∙◌, rules, arith}
+use Rattle.std.proofs.KnownBytes.{Appends-nil}
+use Rattle.bac_wire.specs.Primitive.{Id}
+use Rattle.bac_log.specs.TrendLog.{number}
+use Rattle.bac_link.specs.Delivery.{History, Moment}
+use Rattle.bac_walk.specs.Sinks.{IsRun}
+use Rattle.bac_walk.specs.declared.outcome.Ended.{Ended}
+use Rattle.bac_walk.specs.declared.outcome.Ended.TheVariants.{StepLimit}
+use Rattle.bac_walk.specs.declared.outcome.Why.TheVariants as why
+use Rattle.bac_walk.proofs.Runs.{goes_on, no_run}
+use Rattle.bac_query.specs.Fetching.{Fetching, NextIs, PrintsItems}
+use Rattle.bac_query.proofs.Delivered.{delivered, ended_by, more_lines, next_is, refused_by, run_on}
+use Rattle.bac_query.proofs.fetching.fetch_log.Goals as goal
+
+pub loop-done-init : goal.loop-done-init
+loop-done-init g c =
+    let was : ℕ → List Moment → History → Type 0 = λ r M H. g.L.LogLink.is_honest c.args.link.now c.args.walk.log r M H in
+    ([], refl, refl, omega arith, Appends-nil _, no_run was c.args.transactions.now.retries (g.L.LogLink.failures c.args.link.now) c.args.walk)
+
+pub returns-in-Stopped : goal.returns-in-Stopped
+returns-in-Stopped g c =
+    let v = c.loop-done.invariant in
+    let was : ℕ → List Moment → History → Type 0 = λ r M H. g.L.LogLink.is_honest c.args.link.now c.args.walk.log r M H in
+    let is : ℕ → List Moment → History → Type 0 = λ r M H. g.L.LogLink.is_honest c.loop-done.link c.args.walk.log r M H in (
+      v.0,
+      ended_by v.0 why.Memory c.next_number-before.result c.end.result _ _ _ v.4 c.end.ensures,
+      delivered was is _ _ _ c.args.walk c.loop-done.walk _ StepLimit v.0 c.end.result v.5
+          (next_is why.Memory c.next_number-before.result c.loop-done.walk.next c.end.result _ _ c.next_number-before.ensures.next c.end.ensures),
+    )
+
+pub returns-in_err-print : goal.returns-in_err-print
+returns-in_err-print g c =
+    let v = c.loop-done.invariant in
+    let step = c.deliver_lines.ensures.step in
+    let was : Id → ℕ → List Moment → History → Type 0 = λ id r M H. g.L.LogLink.is_honest c.args.link.now id r M H in
+    let mid : Id → ℕ → List Moment → History → Type 0 = λ id r M H. g.L.LogLink.is_honest c.loop-done.link id r M H in
+    let is : Id → ℕ → List Moment → History → Type 0 = λ id r M H. g.L.LogLink.is_honest c.deliver_lines.new.link id r M H in
+    let same = c.deref.ensures.value ∙ step.1 c.in_default.not-Stopped in
+    let run = run_on was mid is c.args.walk.log c.loop-done.walk.log c.args.transactions.now.retries c.loop-done.transactions.retries
+    (g.L.LogLink.failures c.args.link.now) (g.L.LogLink.failures c.loop-done.link) (g.L.LogLink.failures c.deliver_lines.new.link)
+    c.args.walk c.loop-done.walk c.deliver_lines.new.walk c.loop-done.done c.deliver_lines.result v.0 step.0 v.1 v.2 v.3 v.5 step.2 in
+    let e : c.from_residual.result ≡ Err c.in_err-print.field-0.0 = search rules in
+    let P : Fetching → Type 0 = λ r. PrintsItems (v.0 ++ step.0) r (g.W.Write.contents c.args.out.now) (g.W.Write.contents c.print.new.out) in
+    let Q : Fetching → Type 0 = λ r. (t : ℕ) → c.deliver_lines.new.walk.next ≡ number t → NextIs r t in (
+      v.0 ++ step.0,
+      subst P (sym e) (refused_by v.0 step.0 c.deref.result.now c.in_err-print.field-0.0 _ _ _ same v.4 c.in_err-print.ensures),
+      delivered (was c.args.walk.log) (is c.args.walk.log) _ _ _ c.args.walk c.deliver_lines.new.walk _ c.deliver_lines.result (v.0 ++ step.0) c.from_residual.result run
+          (subst Q (sym e) (λ t at. tt)),
+    )
+
+pub returns-in-Some : goal.returns-in-Some
+returns-in-Some g c =
+    let v = c.loop-done.invariant in
+    let step = c.deliver_lines.ensures.step in
+    let was : Id → ℕ → List Moment → History → Type 0 = λ id r M H. g.L.LogLink.is_honest c.args.link.now id r M H in
+    let mid : Id → ℕ → List Moment → History → Type 0 = λ id r M H. g.L.LogLink.is_honest c.loop-done.link id r M H in
+    let is : Id → ℕ → List Moment → History → Type 0 = λ id r M H. g.L.LogLink.is_honest c.deliver_lines.new.link id r M H in
+    let same = c.deref.ensures.value ∙ step.1 c.in_default.not-Stopped in
+    let run = run_on was mid is c.args.walk.log c.loop-done.walk.log c.args.transactions.now.retries c.loop-done.transactions.retries
+    (g.L.LogLink.failures c.args.link.now) (g.L.LogLink.failures c.loop-done.link) (g.L.LogLink.failures c.deliver_lines.new.link)
+    c.args.walk c.loop-done.walk c.deliver_lines.new.walk c.loop-done.done c.deliver_lines.result v.0 step.0 v.1 v.2 v.3 v.5 step.2 in
+    let written = more_lines v.0 step.0 c.deref.result.now _ _ _ same v.4 c.in_ok-print.ensures in (
+      v.0 ++ step.0,
+      ended_by (v.0 ++ step.0) c.in-Some.why c.next_number.result c.end-in-Some.result _ _ _ written c.end-in-Some.ensures,
+      delivered (was c.args.walk.log) (is c.args.walk.log) _ _ _ c.args.walk c.deliver_lines.new.walk _ c.deliver_lines.result (v.0 ++ step.0) c.end-in-Some.result run
+          (next_is c.in-Some.why c.next_number.result c.deliver_lines.new.walk.next c.end-in-Some.result _ _ c.next_number.ensures.next c.end-in-Some.ensures),
+    )
+
+pub loop-done-preserved : goal.loop-done-preserved
+loop-done-preserved g c =
+    let v = c.loop-done.invariant in
+    let step = c.deliver_lines.ensures.step in
+    let was : Id → ℕ → List Moment → History → Type 0 = λ id r M H. g.L.LogLink.is_honest c.args.link.now id r M H in
+    let mid : Id → ℕ → List Moment → History → Type 0 = λ id r M H. g.L.LogLink.is_honest c.loop-done.link id r M H in
+    let is : Id → ℕ → List Moment → History → Type 0 = λ id r M H. g.L.LogLink.is_honest c.deliver_lines.new.link id r M H in
+    let same = c.deref.ensures.value ∙ step.1 c.in_default.not-Stopped in
+    let run = run_on was mid is c.args.walk.log c.loop-done.walk.log c.args.transactions.now.retries c.loop-done.transactions.retries
+    (g.L.LogLink.failures c.args.link.now) (g.L.LogLink.failures c.loop-done.link) (g.L.LogLink.failures c.deliver_lines.new.link)
+    c.args.walk c.loop-done.walk c.deliver_lines.new.walk c.loop-done.done c.deliver_lines.result v.0 step.0 v.1 v.2 v.3 v.5 step.2 in
+    let limit = goes_on c.deliver_lines.result (sym c.why_of.ensures ∙ c.in_default-why_of.is) in
+    let P : Ended → Type 0 = λ e. IsRun (was c.args.walk.log) (is c.args.walk.log) c.args.transactions.now.retries
+    (g.L.LogLink.failures c.args.link.now) (g.L.LogLink.failures c.deliver_lines.new.link) c.args.walk c.deliver_lines.new.walk (c.loop-done.done + 1) e (v.0 ++ step.0) in (
+      v.0 ++ step.0,
+      c.deliver_lines.ensures.log ∙ v.1,
+      c.deliver_lines.ensures.retries ∙ v.2,
+      omega (arith, v.3, c.deliver_lines.ensures.never_falls),
+      more_lines v.0 step.0 c.deref.result.now _ _ _ same v.4 c.in_ok-print.ensures,
+      subst P limit run,
+    )
+
+pub returns : goal.returns
+returns g c =
+    let v = c.loop-done.invariant in
+    let was : ℕ → List Moment → History → Type 0 = λ r M H. g.L.LogLink.is_honest c.args.link.now c.args.walk.log r M H in
+    let is : ℕ → List Moment → History → Type 0 = λ r M H. g.L.LogLink.is_honest c.loop-done.link c.args.walk.log r M H in (
+      v.0,
+      ended_by v.0 why.StepLimit c.next_number-2.result c.end-2.result _ _ _ v.4 c.end-2.ensures,
+      delivered was is _ _ _ c.args.walk c.loop-done.walk _ StepLimit v.0 c.end-2.result v.5
+          (next_is why.StepLimit c.next_number-2.result c.loop-done.walk.next c.end-2.result _ _ c.next_number-2.ensures.next c.end-2.ensures),
+    )

@@ -1,0 +1,16 @@
+use Rattle.std.proofs.Common.{◌≡◌, ◌≤◌, List}
+use Rattle.std.specs.Io.KnownBytes.{Appends}
+use Rattle.bac_link.specs.declared.item.Item.{Item}
+use Rattle.bac_report.specs.Items.{items_text}
+use Rattle.bac_walk.specs.Sinks.{IsRun}
+use Rattle.bac_walk.specs.declared.outcome.Ended.TheVariants.{StepLimit}
+use Rattle.bac_query.proofs.fetching.fetch_log.Given as goal
+
+-- so far it was a run of so many steps, and the lines of its items were written
+abbrev pub invariant-loop-done : goal.invariant-loop-done
+invariant-loop-done g l =
+    (items : List Item) × (l.walk.log ≡ l.fn.walk.log) × (l.transactions.retries ≡ l.fn.transactions.retries)
+    × (g.L.LogLink.failures l.fn.link ≤ g.L.LogLink.failures l.link)
+    × Appends (g.W.Write.contents l.fn.out) (g.W.Write.contents l.out) (items_text items)
+    × IsRun (λ r M H. g.L.LogLink.is_honest l.fn.link l.fn.walk.log r M H) (λ r M H. g.L.LogLink.is_honest l.link l.fn.walk.log r M H)
+    l.fn.transactions.retries (g.L.LogLink.failures l.fn.link) (g.L.LogLink.failures l.link) l.fn.walk l.walk l.done StepLimit items

@@ -1,0 +1,45 @@
+-- What fetching the records of a trend log prints, over any link and any writer.
+use Rattle.std.specs.Prelude.{◌≡◌, ℕ, false, List, ◌++◌, Result, Ok, Err}
+use Rattle.std.specs.Io.KnownBytes.{Appends, Keeps}
+use Rattle.bac_log.specs.TrendLog.{number}
+use Rattle.bac_link.specs.Delivery.{History, Moment, DeliversTo}
+use Rattle.bac_link.specs.declared.item.Item.{Item}
+use Rattle.bac_report.specs.Ends.{end_line}
+use Rattle.bac_report.specs.Items.{items_text}
+use Rattle.bac_walk.specs.Place.{Place}
+use Rattle.bac_walk.specs.declared.outcome.Why.{Why}
+use Rattle.bac_query.specs.Output.{AppendsPart}
+use Rattle.bac_query.specs.Reading.{Held}
+use Rattle.bac_query.specs.declared.fault.QueryFault.{QueryFault}
+use Rattle.bac_query.specs.declared.fault.QueryFault.TheVariants.{Exchange, Write, Memory}
+use Rattle.bac_query.specs.declared.fetching.Fetched.{Fetched}
+
+abbrev pub Fetching : Type 0
+Fetching = Result Fetched QueryFault
+
+-- the end line was written, or a front part of it, or there was no memory for it
+abbrev pub PrintsEnd : Why → ℕ → Fetching → Held → Held → Type 0
+PrintsEnd why next (Ok fetched) old new = (fetched.why ≡ why) × (fetched.next ≡ next) × Appends old new (end_line why next)
+PrintsEnd why next (Err Write) old new = AppendsPart old new (end_line why next)
+PrintsEnd why next (Err Memory) old new = Keeps old new
+PrintsEnd why next (Err (Exchange fault)) old new = ⊥
+
+-- The lines of the items and the end line were written; after a refused write, a front part of these; where there was
+-- no memory for the end line, the lines of the items.
+abbrev pub PrintsItems : List Item → Fetching → Held → Held → Type 0
+PrintsItems items (Ok fetched) old new = Appends old new (items_text items ++ end_line fetched.why fetched.next)
+PrintsItems items (Err Write) old new = (why : Why) × (next : ℕ) × AppendsPart old new (items_text items ++ end_line why next)
+PrintsItems items (Err Memory) old new = Appends old new (items_text items)
+PrintsItems items (Err (Exchange fault)) old new = ⊥
+
+-- the number that comes next is that of an ordinal
+abbrev pub NextIs : Fetching → ℕ → Type 0
+NextIs (Ok fetched) t = fetched.next ≡ number t
+NextIs (Err fault) t = Unit {0}
+
+-- over an honest link the items are the records that the log holds when each is reached, from the walk's place up to
+-- the number that comes next
+abbrev pub Delivers : (ℕ → List Moment → History → Type 0) → Place → List Item → Fetching → Type 0
+Delivers was walk items result =
+    (r : ℕ) (M : List Moment) (H : History) (s : ℕ) → was r M H → walk.next ≡ number s →
+    (b : ℕ) × (a : ℕ) × (t : ℕ) × (walk.fresh ≡ false → b ≡ s) × NextIs result t × DeliversTo H b items t M a

@@ -1,0 +1,22 @@
+-- What writing a property prints, over any link and any writer. Read from the end.
+use Rattle.std.specs.Prelude.{◌≡◌, ℕ, List, [], ◌∷◌, ◌++◌, codes, Result, Ok, Err}
+use Rattle.std.specs.Io.KnownBytes.{Keeps}
+use Rattle.bac_link.specs.Exchanges.{Concludes}
+use Rattle.bac_link.specs.declared.exchanges.ExchangeFault.{ExchangeFault}
+use Rattle.bac_link.specs.declared.request.Request.{Request}
+use Rattle.bac_query.specs.Reading.{Answer, Held, Prints}
+use Rattle.bac_query.specs.declared.fault.QueryFault.TheVariants.{Exchange}
+
+-- a line says that it was done
+abbrev pub PrintsDone : Answer → Held → Held → Type 0
+PrintsDone result old new = Prints (codes "written" ++ 10 ∷ []) result old new
+
+-- where the device has acknowledged it
+abbrev pub PrintsIfDone : Result (List ℕ) ExchangeFault → Answer → Held → Held → Type 0
+PrintsIfDone (Err fault) result old new = (result ≡ Err (Exchange fault)) × Keeps old new
+PrintsIfDone (Ok datagram) result old new = PrintsDone result old new
+
+-- an exchange of the request, and the line where it was done
+abbrev pub WritesProperty : ℕ → Request → Answer → Held → Held → Type 0
+WritesProperty invoke asked result old new =
+    (answer : Result (List ℕ) ExchangeFault) × Concludes invoke asked answer × PrintsIfDone answer result old new

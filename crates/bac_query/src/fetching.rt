@@ -1,0 +1,103 @@
+//! Fetching the records of a trend log, and what is printed of them.
+
+ghost use Rattle.std.specs.Prelude.{◌≡◌, ◌≢◌, ◌≤◌, ℕ, List};
+ghost use Rattle.std.specs.Io.KnownBytes.{Appends};
+ghost use Rattle.bac_link.specs.declared.item.Item.{Item};
+ghost use Rattle.bac_report.specs.Ends.{end_line};
+ghost use Rattle.bac_report.specs.Items.{items_text};
+ghost use Rattle.bac_walk.specs.Sinks.{IsRun};
+ghost use Rattle.bac_walk.specs.Outcomes.{why_of};
+ghost use Rattle.bac_query.specs.Fetching.{Delivers, PrintsEnd, PrintsItems};
+ghost use Rattle.bac_query.specs.Reading.{Prints};
+
+use crate::fault::QueryFault;
+use crate::reading::print;
+use crate::record_lines::Lines;
+use bac_link::{LogLink, Transactions};
+use bac_report::push_end;
+use bac_walk::{Ended, Walk, Why, deliver};
+use std::alloc::Global;
+use std::io::Write;
+
+/// How far a walk came, and why it ended.
+#[derive(Clone, Copy, Debug, PartialEq, Eq)]
+pub struct Fetched {
+    pub why: Why,
+    /// The sequence number that comes next.
+    pub next: u32,
+}
+
+/// Walks a log for at most so many steps, and prints a line for each record and each gap, those of
+/// a reply with one write; at the end the line that says why, and which number comes next. Where
+/// there is no memory for the lines of a reply, none of them is printed, and the next number is the
+/// one before that reply.
+pub fn fetch_log<L: LogLink, W: Write>(
+    alloc: Global,
+    link: &mut L,
+    transactions: &mut Transactions,
+    mut walk: Walk,
+    steps: u32,
+    out: &mut W,
+) -> Result<Fetched, QueryFault>
+    // What is printed are the lines of items; over an honest link these are what the log holds.
+    ensures { (items : List Item) × PrintsItems items result (W.contents out.old) (W.contents out.new)
+        × Delivers (λ r M H. L.is_honest link.old walk.log r M H) walk items result }
+{
+    let mut lines = Lines {
+        text: Vec::new(alloc),
+    };
+    for done in 0..steps {
+        let before = walk.next_number();
+        let ended = match deliver_lines(link, transactions, &mut walk, &mut lines) {
+            Ended::Stopped => return end(&mut lines, Why::Memory, before, out),
+            ended => ended,
+        };
+        print(&lines.text, out)?;
+        if let Some(why) = why_of(ended) {
+            return end(&mut lines, why, walk.next_number(), out);
+        }
+    }
+    end(&mut lines, Why::StepLimit, walk.next_number(), out)
+}
+
+/// One step of a walk, and the lines of what it brought.
+fn deliver_lines<L: LogLink>(
+    link: &mut L,
+    transactions: &mut Transactions,
+    walk: &mut Walk,
+    lines: &mut Lines,
+) -> Ended
+    ensures never_falls { L.failures link.old ≤ L.failures link.new }
+    ensures retries { transactions.new.retries ≡ transactions.old.retries }
+    ensures log { walk.new.log ≡ walk.old.log }
+    ensures step { (items : List Item) × (result ≢ Ended.Stopped → lines.new.text.items ≡ items_text items)
+        × IsRun (λ r M H. L.is_honest link.old walk.old.log r M H) (λ r M H. L.is_honest link.new walk.old.log r M H)
+        transactions.old.retries (L.failures link.old) (L.failures link.new) walk.old walk.new 1 result items }
+{
+    lines.text.clear();
+    deliver(link, transactions, walk, 1, lines)
+}
+
+/// Prints the line of a walk's end.
+fn end<W: Write>(lines: &mut Lines, why: Why, next: u32, out: &mut W) -> Result<Fetched, QueryFault>
+    ensures { PrintsEnd why next result (W.contents out.old) (W.contents out.new) }
+{
+    lines.text.clear();
+    if push_end(&mut lines.text, why, next).is_err() {
+        return Err(QueryFault::Memory);
+    }
+    print(&lines.text, out)?;
+    Ok(Fetched { why, next })
+}
+
+/// Why a walk ends with a step that ended so; a whole reply doesn't end it.
+fn why_of(ended: Ended) -> Option<Why>
+    ensures { result ≡ why_of ended }
+{
+    match ended {
+        Ended::StepLimit => None,
+        Ended::CaughtUp => Some(Why::CaughtUp),
+        Ended::Fault(fault) => Some(Why::Fault(fault)),
+        Ended::Stopped => Some(Why::Memory),
+    }
+}

@@ -1,0 +1,31 @@
+//! WriteProperty (clause 15.9) and what is printed of its answer.
+
+ghost use Rattle.bac_link.specs.Requests.{next_invoke, IsSendable};
+ghost use Rattle.bac_query.specs.Writing.{PrintsDone, WritesProperty};
+
+use crate::fault::QueryFault;
+use crate::reading::print;
+use bac_link::{LogLink, Request, Transactions, exchange};
+use std::io::Write;
+
+/// Sends a WriteProperty, and prints `written` where the device has done it.
+pub fn write_property<L: LogLink, W: Write>(
+    link: &mut L,
+    transactions: &mut Transactions,
+    asked: &Request,
+    out: &mut W,
+) -> Result<(), QueryFault>
+    requires { IsSendable asked.now }
+    ensures { WritesProperty (next_invoke transactions.old.invoke) asked.now result (W.contents out.old) (W.contents out.new) }
+{
+    match exchange(link, transactions, asked) {
+        Ok(_) => print_done(out),
+        Err(fault) => Err(QueryFault::Exchange(fault)),
+    }
+}
+
+fn print_done<W: Write>(out: &mut W) -> Result<(), QueryFault>
+    ensures { PrintsDone result (W.contents out.old) (W.contents out.new) }
+{
+    print(b"written\n", out)
+}
