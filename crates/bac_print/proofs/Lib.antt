@@ -1,1 +1,2 @@
 mod Pieces
+pub mod Octets

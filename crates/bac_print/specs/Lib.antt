@@ -2,3 +2,4 @@ pub mod Numbers
 pub mod Moments
 pub mod Values
 pub mod Entries
+pub mod Output

@@ -3,13 +3,16 @@
 //! Each call appends to a text that is kept: no line is made apart and copied. [`push_value`] is
 //! the text of a value (specs/Values), [`push_record`] and [`push_gap`] are the lines of what a
 //! walk of a trend log delivers (specs/Entries). They take memory where the text has no room left.
+//! [`write_text`] writes a text, and tells what a refused write left (specs/Output).
 #![tactic(auto)]
 
 mod entries;
 mod moments;
 mod numbers;
+mod output;
 mod values;
 
 pub use entries::{push_entry, push_gap, push_record};
 pub use numbers::{push_number, push_signed};
+pub use output::{WriteRefused, write_text};
 pub use values::push_value;

@@ -18,7 +18,7 @@ use Rattle.bac_walk.specs.declared.outcome.Why.TheVariants.{CaughtUp as WasUp}
 use Rattle.bac_walk.proofs.Runs.{headline_of, join_run}
 use Rattle.bac_report.specs.Ends.{end_line}
 use Rattle.bac_query.specs.Fetching.{Delivers, Fetching, NextIs, PrintsEnd, PrintsItems}
-use Rattle.bac_query.specs.Output.{AppendsPart}
+use Rattle.bac_print.specs.Output.{AppendsPart}
 use Rattle.bac_query.specs.Reading.{Held, Prints}
 use Rattle.bac_query.specs.declared.fault.QueryFault.{QueryFault}
 use Rattle.bac_query.specs.declared.fault.QueryFault.TheVariants.{Exchange, Write, Memory}

@@ -8,7 +8,7 @@ use Rattle.bac_report.specs.Ends.{end_line}
 use Rattle.bac_report.specs.Items.{items_text}
 use Rattle.bac_walk.specs.Place.{Place}
 use Rattle.bac_walk.specs.declared.outcome.Why.{Why}
-use Rattle.bac_query.specs.Output.{AppendsPart}
+use Rattle.bac_print.specs.Output.{AppendsPart}
 use Rattle.bac_query.specs.Reading.{Held}
 use Rattle.bac_query.specs.declared.fault.QueryFault.{QueryFault}
 use Rattle.bac_query.specs.declared.fault.QueryFault.TheVariants.{Exchange, Write, Memory}

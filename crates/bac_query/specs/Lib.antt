@@ -1,4 +1,3 @@
-pub mod Output
 pub mod Values
 pub mod Reading
 pub mod Fetching

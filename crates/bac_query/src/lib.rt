@@ -7,7 +7,6 @@
 
 mod fault;
 mod fetching;
-mod output;
 mod reading;
 mod record_lines;
 mod values;
@@ -15,7 +14,6 @@ mod writing;
 
 pub use fault::QueryFault;
 pub use fetching::{Fetched, fetch_log};
-pub use output::{WriteRefused, write_text};
 pub use reading::read_property;
 pub use values::push_values;
 pub use writing::write_property;

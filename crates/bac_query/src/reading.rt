@@ -9,10 +9,10 @@ ghost use Rattle.bac_query.specs.Reading.{ReadsProperty, PrintsValues, Prints, v
 ghost use Rattle.bac_query.specs.Values.{IsShown};
 
 use crate::fault::QueryFault;
-use crate::output::write_text;
 use crate::values::push_values;
 use bac_apdu::{Apdu, ReadProperty, ReadPropertyAck};
 use bac_link::{ExchangeFault, LogLink, Request, Transactions, exchange, read_datagram};
+use bac_print::write_text;
 use std::alloc::Global;
 use std::io::Write;
 

@@ -3,9 +3,8 @@
 
 use bac_apdu::{ReadProperty, WriteProperty};
 use bac_link::{ExchangeFault, LogLink, Lost, Refusal, Request, Transactions};
-use bac_query::{
-    Fetched, QueryFault, fetch_log, push_values, read_property, write_property, write_text,
-};
+use bac_print::write_text;
+use bac_query::{Fetched, QueryFault, fetch_log, push_values, read_property, write_property};
 use bac_walk::{Walk, WalkFault, Why};
 use bac_wire::{Datagram, ObjectId, Value};
 use std::alloc::Global;

@@ -12,7 +12,7 @@ use Rattle.bac_tools.specs.Replay.{Played, play, then_play, at_end, past_limit, 
 use Rattle.bac_tools.specs.Fault.{replay_fault, Refusal}
 use Rattle.bac_tools.specs.Session.{step, end_fault, State, Empty}
 use Rattle.bac_tools.specs.Stops.{FaultStops, Stops, ScriptStops}
-use Rattle.bac_tools.specs.Output.{AppendsPart}
+use Rattle.bac_print.specs.Output.{AppendsPart}
 use Rattle.bac_objects.specs.Build.{Refuses}
 use Rattle.bac_objects.specs.declared.build.BuildFault.{BuildFault}
 use Rattle.bac_objects.specs.declared.build.BuildFault.TheVariants as build

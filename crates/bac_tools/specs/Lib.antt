@@ -1,6 +1,5 @@
 pub mod Script
 pub mod Input
-pub mod Output
 pub mod Fault
 pub mod Walk
 pub mod Session

@@ -2,7 +2,7 @@
 -- holds now, where that is known. A script has at most `limit` octets, else it is too long.
 use Rattle.std.specs.Prelude.{◌≡◌, ℕ, ◌<◌, ◌≤◌, List, length, Option, None, Some}
 use Rattle.std.specs.Io.KnownBytes.{Appends, Consumes}
-use Rattle.bac_tools.specs.Output.{AppendsPart}
+use Rattle.bac_print.specs.Output.{AppendsPart}
 use Rattle.bac_tools.specs.Replay.{PlaysAll, PlaysSome, fault_of_script, played_lines, text_of}
 use Rattle.bac_tools.specs.Script.Lines.{ended_lines}
 use Rattle.bac_tools.specs.Session.{State, Empty}

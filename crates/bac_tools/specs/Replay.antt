@@ -6,7 +6,7 @@ use Rattle.std.specs.Str.Lines.{lines}
 use Rattle.bac_tools.specs.Fault.{at_line, Refusal}
 use Rattle.bac_tools.specs.Script.Lines.{ended_lines}
 use Rattle.bac_tools.specs.Session.{step, end_fault, State, Empty}
-use Rattle.bac_tools.specs.Output.{AppendsPart}
+use Rattle.bac_print.specs.Output.{AppendsPart}
 use Rattle.bac_tools.specs.declared.replay.fault.ReplayFault.{ReplayFault}
 use Rattle.bac_tools.specs.declared.replay.fault.ReplayFault.TheVariants.{BadLine, Build, Read, TooLong, Write, Memory}
 

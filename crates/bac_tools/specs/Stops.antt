@@ -7,7 +7,7 @@ use Rattle.bac_tools.specs.Replay.{play, PlaysAll}
 use Rattle.bac_tools.specs.Session.{step, end_fault, State, Empty}
 use Rattle.bac_objects.specs.Build.{Refuses}
 use Rattle.bac_objects.specs.declared.build.BuildFault.{BuildFault}
-use Rattle.bac_tools.specs.Output.{AppendsPart}
+use Rattle.bac_print.specs.Output.{AppendsPart}
 use Rattle.bac_tools.specs.declared.replay.fault.ReplayFault.{ReplayFault}
 use Rattle.bac_tools.specs.declared.replay.fault.ReplayFault.TheVariants.{BadLine, Build, Read, TooLong, Write, Memory}
 

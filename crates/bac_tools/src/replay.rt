@@ -14,15 +14,14 @@ ghost use Rattle.bac_tools.specs.Stops.{LineStops, Stops, ScriptStops};
 
 pub(crate) mod fault;
 mod input;
-mod output;
 mod session;
 mod walk;
 
 use crate::replay::fault::ReplayFault;
 use crate::replay::input::{Ending, fill};
-use crate::replay::output::write_text;
 use crate::replay::session::Session;
 use crate::script::lines::{split_line, without_return};
+use bac_print::write_text;
 use std::alloc::Global;
 use std::io::{BufWriter, Read, Write};
 

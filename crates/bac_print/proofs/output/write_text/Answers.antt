@@ -1,7 +1,7 @@
 use Rattle.std.proofs.Common.{take, ◌++◌}
 use Rattle.std.proofs.KnownBytes.{Appends-trans}
-use Rattle.bac_tools.proofs.Octets.{moves_front}
-use Rattle.bac_tools.proofs.replay.output.write_text.Goals as goal
+use Rattle.bac_print.proofs.Octets.{moves_front}
+use Rattle.bac_print.proofs.output.write_text.Goals as goal
 
 pub loop-rest-preserved : goal.loop-rest-preserved
 loop-rest-preserved g c =

@@ -3,7 +3,7 @@
 ghost use Rattle.std.specs.Prelude.{OnOk, OnErr};
 ghost use Rattle.std.specs.Io.{WritesAtMost};
 ghost use Rattle.std.specs.Io.KnownBytes.{Appends, WriteAppends};
-ghost use Rattle.bac_query.specs.Output.{AppendsPart};
+ghost use Rattle.bac_print.specs.Output.{AppendsPart};
 
 use std::io::{ErrorKind, Result, Write};
 

@@ -1,6 +1,6 @@
 -- An interrupted write has written nothing.
 use Rattle.std.specs.Io.KnownBytes.{Keeps}
-use Rattle.bac_query.proofs.output.write_again.Given as goal
+use Rattle.bac_print.proofs.output.write_again.Given as goal
 
 abbrev pub invariant-loop : goal.invariant-loop
 invariant-loop g l = Keeps (g.W.Write.contents l.initial.writer) (g.W.Write.contents l.writer)

@@ -1,6 +1,0 @@
--- An interrupted write has written nothing.
-use Rattle.std.specs.Io.KnownBytes.{Keeps}
-use Rattle.bac_tools.proofs.replay.output.write_again.Given as goal
-
-abbrev pub invariant-loop : goal.invariant-loop
-invariant-loop g l = Keeps (g.W.Write.contents l.initial.writer) (g.W.Write.contents l.writer)
