@@ -1,4 +1,5 @@
 -- The format of a script: how it is cut into lines, and what a line says.
+pub mod Split
 pub mod Lines
 pub mod Words
 pub mod Number

@@ -4,5 +4,6 @@ pub(crate) mod hexadecimal;
 pub(crate) mod line;
 pub(crate) mod lines;
 mod number;
+mod split;
 mod stamp;
 mod words;

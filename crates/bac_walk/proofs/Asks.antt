@@ -38,7 +38,7 @@ entries_in-numbered first [] = refl
 entries_in-numbered first (e ∷ es) = ap (λ (l : List Entry). e ∷ l) (entries_in-numbered (first + 1) es)
 
 -- the greatest is some where 1 passes
-greatest_some : (passes : ℕ → Bool) (most : ℕ) → 0 < most → passes 1 ≡ true → 0 < greatest passes most
+pub greatest_some : (passes : ℕ → Bool) (most : ℕ) → 0 < most → passes 1 ≡ true → 0 < greatest passes most
 greatest_some passes zero some one = absurd (omega arith)
 greatest_some passes (suc n) some one = elim (cases_Bool (passes (suc n))) [
   | inl p ↦ let same = cond-true (passes (suc n)) (suc n) (greatest passes n) p in omega (arith, same)

@@ -22,7 +22,7 @@ use Rattle.bac_link.specs.Moments.{IsMoment, log_at, entries_from}
 use Rattle.bac_walk.specs.Replies.{IsShown, Wanted, FromNumber, FromOldest, extent_of, first_asked, asked_count, fitting, how_many}
 use Rattle.bac_walk.specs.Replies.{IsAnswer}
 use Rattle.bac_walk.specs.Takes.{records_of, first_of}
-use Rattle.bac_walk.proofs.Asks.{selected-by_number}
+use Rattle.bac_walk.proofs.Asks.{selected-by_number, greatest_some}
 use Rattle.bac_walk.proofs.Oldest.{selected-from_oldest}
 use Rattle.bac_walk.proofs.ReadBack.{greatest_within}
 
@@ -96,17 +96,6 @@ packed-numbered r wanted first es =
 
 pub fitting_most : (r first : ℕ) (es : List Entry) → fitting r first es ≤ length es
 fitting_most r first es = greatest_within (λ n. nat_le (ack_length (Some (number first)) (take n es)) r) (length es)
-
--- the greatest is some where 1 passes
-greatest_some : (passes : ℕ → Bool) (most : ℕ) → 0 < most → passes 1 ≡ true → 0 < greatest passes most
-greatest_some passes zero some one = absurd (omega arith)
-greatest_some passes (suc n) some one = elim (cases_Bool (passes (suc n))) [
-  | inl p ↦ let same = cond-true (passes (suc n)) (suc n) (greatest passes n) p in omega (arith, same)
-  | inr p ↦ let same = cond-false (passes (suc n)) (suc n) (greatest passes n) p in elim (cases_lt 0 n) [
-    | inl more ↦ omega (arith, same, greatest_some passes n more one)
-    | inr none ↦ let is : suc n ≡ 1 = omega arith in absurd (let bad : true ≡ false = sym one ∙ ap passes (sym is) ∙ p in cc bad)
-  ]
-]
 
 one_small : (es : List Entry) → 0 < length es → All IsLoggable es → sum_by record_size (take 1 es) ≤ 22
 one_small [] some l = absurd (omega arith)

@@ -46,19 +46,6 @@ AreAnswers-append H M s ((x ∷ b) ∷ xs) ys first rest = (
       subst P (end_of-append s (x ∷ b) (items_of xs)) rest),
 )
 
--- where an element of two lists in a row stands
-pub split_of : (xs ys before : List Item) (z : Item) (after : List Item) → xs ++ ys ≡ before ++ z ∷ after →
-    ((rest : List Item) × (xs ≡ before ++ z ∷ rest)) ⊎ ((more : List Item) × (before ≡ xs ++ more) × (ys ≡ more ++ z ∷ after))
-split_of [] ys before z after h = inr (before, refl, h)
-split_of (x ∷ xs) ys [] z after h = inl (xs, cc)
-split_of (x ∷ xs) ys (y ∷ before) z after h =
-    let tails : xs ++ ys ≡ before ++ z ∷ after = cc in
-    let heads : x ≡ y = cc in
-    elim (split_of xs ys before z after tails) [
-      | inl l ↦ let e = l.1 in inl (l.0, cc)
-      | inr r ↦ let e = r.1 in inr (r.0, cc, r.2)
-    ]
-
 AreRecords-cut : (H : History) (m : Moment) (s k : ℕ) (e : Entry) (before after : List Item) →
     AreRecords H m s (before ++ Logged k e ∷ after) → AreRecords H m s (before ++ Logged k e ∷ []) × Holds m (end_of s before)
 AreRecords-cut H m s k e [] after h = ((h.0, h.1, h.2, tt), h.1)

@@ -1,15 +1,9 @@
 //! The lines of a script.
-ghost use Rattle.std.specs.Prelude.{◌≡◌, ◌∷◌, [], ◌<◌, ◌≤◌, length, IfSome, IfNone, All, position, false};
+ghost use Rattle.std.specs.Prelude.{◌≡◌, ◌∷◌, [], ◌<◌, ◌≤◌, length, IfSome, IfNone};
 ghost use Rattle.std.specs.Str.Lines.{strip_carriage_return};
-ghost use Rattle.bac_tools.specs.Script.Lines.{is_line_feed, parts};
+ghost use Rattle.bac_tools.specs.Script.Lines.{parts};
 
-/// The place of the first line feed.
-fn line_feed(text: &[u8]) -> Option<usize>
-    ensures place { result ≡ position is_line_feed text.now }
-    ensures none { IfNone result (All (λ b. is_line_feed b ≡ false) text.now) }
-{
-    text.iter().position(|b| *b == b'\n')
-}
+use crate::script::split::split_at;
 
 /// The text before the first line feed, and the text behind it.
 pub(crate) fn split_line(text: &[u8]) -> Option<(&[u8], &[u8])>
@@ -17,8 +11,7 @@ pub(crate) fn split_line(text: &[u8]) -> Option<(&[u8], &[u8])>
     ensures shorter { IfSome result (λ x. length x.1.now < length text.now) }
     ensures last { IfNone result (parts text.now ≡ text.now ∷ []) }
 {
-    let at = line_feed(text)?;
-    Some((&text[..at], &text[at + 1..]))
+    split_at(text, b'\n')
 }
 
 /// The line less one carriage return at its end.

@@ -1,23 +1,16 @@
 //! The words of a line, which one space separates.
-ghost use Rattle.std.specs.Prelude.{◌≡◌, ◌∷◌, [], IfSome, IfNone, All, position, false};
+ghost use Rattle.std.specs.Prelude.{◌≡◌, ◌∷◌, [], IfSome, IfNone};
 ghost use Rattle.bac_wire.specs.OptionChain.{GivesSome};
-ghost use Rattle.bac_tools.specs.Script.Words.{is_space, words_of, HasTwo, text_in};
+ghost use Rattle.bac_tools.specs.Script.Words.{words_of, HasTwo, text_in};
 
-/// The place of the first space.
-fn space(line: &[u8]) -> Option<usize>
-    ensures place { result ≡ position is_space line.now }
-    ensures none { IfNone result (All (λ b. is_space b ≡ false) line.now) }
-{
-    line.iter().position(|b| *b == b' ')
-}
+use crate::script::split::split_at;
 
 /// The first word and what follows the space behind it.
 pub(crate) fn split_word(line: &[u8]) -> Option<(&[u8], &[u8])>
     ensures words { IfSome result (λ x. words_of line.now ≡ x.0.now ∷ words_of x.1.now) }
     ensures last { IfNone result (words_of line.now ≡ line.now ∷ []) }
 {
-    let at = space(line)?;
-    Some((&line[..at], &line[at + 1..]))
+    split_at(line, b' ')
 }
 
 /// The one word of a line.
