@@ -4,7 +4,7 @@ use Rattle.std.specs.Result.{result_ok}
 use Rattle.std.proofs.lemmas.Bool.{cond-true, cond-false}
 use Rattle.bac_wire.specs.declared.fault.WireFault.{WireFault}
 use Rattle.bac_wire.specs.Primitive.{Id}
-use Rattle.bac_apdu.specs.Form.{Item, number_parameter}
+use Rattle.bac_apdu.specs.Form.{Parameter, number_parameter}
 use Rattle.bac_apdu.specs.FormReading.{form_at}
 use Rattle.bac_apdu.specs.Service.ReadRangeAck.{read_range_ack, ack_parameters, range_ack_in, range_ack_of, read_range_ack_at}
 use Rattle.bac_apdu.specs.declared.service.read_range_ack.ReadRangeAck.{ReadRangeAck}
@@ -13,7 +13,7 @@ use Rattle.bac_walk.specs.Heard.{heard_at, heard_if, heard_of, heard_with, is_of
 use Rattle.std.specs.Option.{option_map}
 use Rattle.bac_apdu.specs.Fields.{number_in}
 
-option_of_none : (items : Option (List Item)) → items ≡ None → option_map range_ack_in items ≡ None
+option_of_none : (parameters : Option (List Parameter)) → parameters ≡ None → option_map range_ack_in parameters ≡ None
 option_of_none items e = ap (option_map range_ack_in) e
 
 pub heard_none : (log : Id) (bytes : List ℕ) → result_ok (form_at read_range_ack bytes) ≡ None → heard_at log bytes ≡ None
@@ -31,7 +31,7 @@ heard_fields : (log : Id) (bytes : List ℕ) (a : ReadRangeAck) → result_ok (f
     heard_at log bytes ≡ heard_of log (range_ack_of a)
 unfolding heard_at read_range_ack_at
 heard_fields log bytes a e =
-    ap (λ (o : Option (List Item)). heard_if log (option_map range_ack_in o)) e ∙ ap (heard_of log) (fields_back a)
+    ap (λ (o : Option (List Parameter)). heard_if log (option_map range_ack_in o)) e ∙ ap (heard_of log) (fields_back a)
 
 pub heard_other : (log : Id) (bytes : List ℕ) (a : ReadRangeAck) → result_ok (form_at read_range_ack bytes) ≡ Some (ack_parameters a) →
     is_of_log log (range_ack_of a) ≡ false → heard_at log bytes ≡ None
