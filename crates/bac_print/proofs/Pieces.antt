@@ -1,20 +1,30 @@
 -- Texts that are made octet by octet.
-use Rattle.std.proofs.Common.{◌≡◌, ℕ, ◌+◌, ◌-◌, ◌*◌, ◌≤◌, suc, List, [], ◌∷◌, ◌++◌, length, take, map, refl, sym, ap, ◌∙◌, arith, append_assoc, append-nil, length-append}
+use Rattle.std.proofs.Common.{◌≡◌, ℕ, ◌+◌, ◌-◌, ◌*◌, ◌≤◌, suc, List, [], ◌∷◌, ◌++◌, length, take, map, refl, sym, ap, ◌∙◌, arith, drop, append_assoc, append-nil, length-append, take-append-drop}
 use Rattle.std.proofs.Math.Seq.{take-append-add}
-use Rattle.std.proofs.lemmas.List.{take-map}
+use Rattle.std.proofs.lemmas.List.{take-map, take_rest}
 use Rattle.std.proofs.lemmas.List.{length-map}
 use Rattle.hex.specs.Hex.{encode_with, encode_lower}
 use Rattle.bac_wire.specs.Number.{bits_of}
 use Rattle.bac_print.specs.Numbers.{bit_digit, bit_digits}
 
--- two digits more, and what is still to come
-pub hex_more : (text : List ℕ) (octet : ℕ) (rest : List ℕ) → (text ++ encode_lower (octet ∷ [])) ++ encode_lower rest ≡ text ++ encode_lower (octet ∷ rest)
+-- the digits of octets one after the other
+hex_append : (xs ys : List ℕ) → encode_lower xs ++ encode_lower ys ≡ encode_lower (xs ++ ys)
 unfolding encode_with
-hex_more text octet rest = append_assoc text (encode_lower (octet ∷ [])) (encode_lower rest)
+hex_append [] ys = refl
+hex_append (x ∷ xs) ys = ap (λ l. encode_lower (x ∷ []) ++ l) (hex_append xs ys)
 
-pub hex_none : (text : List ℕ) → text ++ encode_lower [] ≡ text
+-- the digits of some octets more, and what is still to come
+pub hex_more : (text octets : List ℕ) (n : ℕ) → (text ++ encode_lower (take n octets)) ++ encode_lower (take (length octets - n) (drop n octets)) ≡ text ++ encode_lower octets
+hex_more text octets n =
+    append_assoc text (encode_lower (take n octets)) (encode_lower (take (length octets - n) (drop n octets)))
+    ∙ ap (λ l. text ++ l) (hex_append (take n octets) (take (length octets - n) (drop n octets))
+    ∙ ap encode_lower (ap (λ l. take n octets ++ l) (take_rest octets n) ∙ take-append-drop n octets))
+
+-- no more octets
+pub hex_done : (text rest : List ℕ) → length rest ≡ 0 → text ++ encode_lower rest ≡ text
 unfolding encode_with
-hex_none text = append-nil text
+hex_done text [] none = append-nil text
+hex_done text (x ∷ xs) none = absurd (omega (arith, none))
 
 -- an octet has eight bits
 pub length-bits_of : (octets : List ℕ) → length (bits_of octets) ≡ 8 * length octets

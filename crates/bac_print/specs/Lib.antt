@@ -3,3 +3,4 @@ pub mod Moments
 pub mod Values
 pub mod Entries
 pub mod Output
+pub mod Addresses

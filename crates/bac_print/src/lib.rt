@@ -1,4 +1,4 @@
-//! Texts for people: numbers, moments, primitive values and records of trend logs.
+//! Texts for people: numbers, addresses, moments, primitive values and records of trend logs.
 //!
 //! Each call appends to a text that is kept: no line is made apart and copied. [`push_value`] is
 //! the text of a value (specs/Values), [`push_record`] and [`push_gap`] are the lines of what a
@@ -6,13 +6,15 @@
 //! [`write_text`] writes a text, and tells what a refused write left (specs/Output).
 #![tactic(auto)]
 
+mod addresses;
 mod entries;
 mod moments;
 mod numbers;
 mod output;
 mod values;
 
+pub use addresses::push_address;
 pub use entries::{push_entry, push_gap, push_record};
-pub use numbers::{push_number, push_signed};
+pub use numbers::{push_hex, push_number, push_signed};
 pub use output::{WriteRefused, write_text};
 pub use values::push_value;

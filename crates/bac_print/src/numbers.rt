@@ -82,23 +82,28 @@ pub(crate) fn push_bits(text: &mut Vec<u8>, octets: &[u8], unused: usize) -> Res
     Ok(())
 }
 
-/// Appends an octet in two hexadecimal digits of lower case.
-fn push_octet_hex(text: &mut Vec<u8>, octet: u8) -> Result<(), AllocError>
-    ensures { OnOk result (text.new.items ≡ text.old.items ++ encode_lower (octet ∷ [])) }
+/// Appends at most 32 octets in hexadecimal digits of lower case.
+fn push_some_hex(text: &mut Vec<u8>, octets: &[u8]) -> Result<(), AllocError>
+    requires { length octets.now ≤ 32 }
+    ensures { OnOk result (text.new.items ≡ text.old.items ++ encode_lower octets.now) }
 {
-    let mut digits = [0u8; 2];
-    if hex::encode_to_slice([octet].as_slice(), &mut digits).is_err() {
-        unreachable!()
+    let mut room = [0u8; 64];
+    let digits = &mut room[..2 * octets.len()];
+    match hex::encode_to_slice(octets, digits) {
+        Ok(()) => text.extend_from_slice(digits),
+        Err(_) => unreachable!(),
     }
-    text.extend_from_slice(&digits)
 }
 
 /// Appends octets in hexadecimal digits of lower case.
-pub(crate) fn push_hex(text: &mut Vec<u8>, octets: &[u8]) -> Result<(), AllocError>
+pub fn push_hex(text: &mut Vec<u8>, octets: &[u8]) -> Result<(), AllocError>
     ensures { OnOk result (text.new.items ≡ text.old.items ++ encode_lower octets.now) }
 {
-    for octet in octets {
-        push_octet_hex(text, *octet)?;
+    let mut rest = octets;
+    while !rest.is_empty() {
+        let count = rest.len().min(32);
+        push_some_hex(text, &rest[..count])?;
+        rest = &rest[count..];
     }
     Ok(())
 }

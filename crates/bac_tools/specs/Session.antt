@@ -1,6 +1,7 @@
 -- What one line of a script does.
 use Rattle.std.specs.Prelude.{ℕ, ◌+◌, ◌*◌, decimal, if◌then◌else◌, List, [], ◌∷◌, ◌++◌, codes, Option, None, Some, Result, Ok, Err}
 use Rattle.hex.specs.Hex.{encode_lower}
+use Rattle.bac_print.specs.Addresses.{address_text}
 use Rattle.bac_device.specs.Answer.{answer}
 use Rattle.bac_objects.specs.Build.{build_fault, built}
 use Rattle.bac_objects.specs.Sampling.{sampled}
@@ -43,12 +44,6 @@ on_object (Described device lines) line = Ok ([], Described device (lines ++ lin
 on_object s line = Err Bad
 
 -- ---- an event
-
--- A.B.C.D:PORT of the octets of an IPv4 address and of a port
-abbrev pub address_text : List ℕ → List ℕ
-address_text (a ∷ b ∷ c ∷ d ∷ high ∷ low ∷ []) =
-    decimal a ++ (46 ∷ (decimal b ++ (46 ∷ (decimal c ++ (46 ∷ (decimal d ++ (58 ∷ decimal (high * 256 + low))))))))
-address_text other = []
 
 -- to whom an answer goes, where that isn't who sent what it answers
 abbrev pub receiver_text : Receiver → List ℕ

@@ -3,15 +3,15 @@
 ghost use Rattle.std.specs.Prelude.{◌≡◌, ◌++◌, None, IfOk, OnOk, IfErr};
 ghost use Rattle.std.specs.Option.{option_copied};
 ghost use Rattle.bac_objects.specs.Build.{Refuses};
-ghost use Rattle.bac_tools.specs.Session.{address_text, answer_text, clock_text, end_fault, happens, on_device, on_event, on_line, on_object, receiver_text, sample_text, step};
+ghost use Rattle.bac_tools.specs.Session.{answer_text, clock_text, end_fault, happens, on_device, on_event, on_line, on_object, receiver_text, sample_text, step};
 ghost use Rattle.bac_tools.specs.Views.{Meets, event_of, line_of, state_of};
 
 use crate::replay::fault::LineFault;
 use crate::replay::walk::print_walk;
-use crate::script::hexadecimal::push_digits;
 use crate::script::line::{Event, Line, is_silent};
 use bac_client::Transactions;
 use bac_device::{BuildFault, Device, DeviceLine, ObjectLine, Receiver, Reply, SampleFault};
+use bac_print::{push_address, push_hex};
 use std::alloc::{AllocError, Global};
 
 /// What the lines so far have made.
@@ -28,25 +28,15 @@ pub(crate) enum Session {
 /// How often the walks of a script ask again.
 const RETRIES: u8 = 3;
 
-/// Writes an IPv4 address and a port.
-fn push_address(text: &mut Vec<u8>, alloc: Global, address: [u8; 6]) -> Result<(), AllocError>
-    ensures { OnOk result (text.new.items ≡ text.old.items ++ address_text address) }
-{
-    let [a, b, c, d, high, low] = address;
-    let port = u16::from(high) * 256 + u16::from(low);
-    let shown = format!(in alloc; "{a}.{b}.{c}.{d}:{port}")?;
-    text.extend_from_slice(shown.as_bytes())
-}
-
 /// Writes to whom an answer goes, where it isn't who sent what it answers.
-fn push_receiver(text: &mut Vec<u8>, alloc: Global, to: Receiver) -> Result<(), AllocError>
+fn push_receiver(text: &mut Vec<u8>, to: Receiver) -> Result<(), AllocError>
     ensures { OnOk result (text.new.items ≡ text.old.items ++ receiver_text to) }
 {
     match to {
         Receiver::Sender => Ok(()),
         Receiver::Address(address) => {
             text.extend_from_slice(b" to ")?;
-            push_address(text, alloc, address)
+            push_address(text, address)
         }
     }
 }
@@ -59,8 +49,8 @@ fn print_answer(alloc: Global, answer: Option<&Reply>) -> Result<Vec<u8>, AllocE
     match answer {
         Some(reply) => {
             text.extend_from_slice(b"tx ")?;
-            push_digits(&mut text, reply.datagram.octets())?;
-            push_receiver(&mut text, alloc, reply.to)?;
+            push_hex(&mut text, reply.datagram.octets())?;
+            push_receiver(&mut text, reply.to)?;
             text.push(b'\n')?;
         }
         None => text.extend_from_slice(b"none\n")?,
