@@ -8,11 +8,11 @@ use Rattle.bac_wire.specs.declared.fault.WireFault.TheVariants.{Ended}
 use Rattle.bac_log.specs.declared.entry.Entry.{Entry}
 use Rattle.bac_log.specs.RecordReading.{entry_at, entries_at}
 
-ok_of : {A : Type 0} (r : Result A WireFault) (x : A) → result_ok r ≡ Some x → r ≡ Ok x
+pub ok_of : {A : Type 0} (r : Result A WireFault) (x : A) → result_ok r ≡ Some x → r ≡ Ok x
 ok_of (Ok y) x e = cc
 ok_of (Err f) x e = absurd cc
 
-err_of : {A : Type 0} (r : Result A WireFault) → result_ok r ≡ None → (f : WireFault) × (r ≡ Err f)
+pub err_of : {A : Type 0} (r : Result A WireFault) → result_ok r ≡ None → (f : WireFault) × (r ≡ Err f)
 err_of (Ok y) e = absurd cc
 err_of (Err f) e = (f, refl)
 

@@ -1,5 +1,5 @@
 -- What a walk hears of an honest reply is the whole reply of the moment.
-use Rattle.std.proofs.Common.{Bor, suc, ◌≡◌, ℕ, ◌≤◌, true, List, [], ◌∷◌, length, Option, Some, None, Ok, refl, sym, ap, subst, ◌∙◌, arith}
+use Rattle.std.proofs.Common.{suc, ◌≡◌, ℕ, ◌≤◌, true, List, [], ◌∷◌, length, Option, Some, None, Ok, refl, sym, ap, subst, ◌∙◌, arith}
 use Rattle.std.specs.Prelude.{All, IsSomeAnd}
 use Rattle.std.specs.Result.{result_ok}
 use Rattle.std.proofs.lemmas.Bool.{eq-eqb}
@@ -7,7 +7,6 @@ use Rattle.std.proofs.lemmas.List.{length-append}
 use Rattle.bac_wire.specs.Canon.{IsValid}
 use Rattle.bac_wire.specs.Primitive.{Id, Object}
 use Rattle.bac_apdu.specs.declared.service.extent.Extent.{Extent}
-use Rattle.bac_wire.specs.OptionChain.{GivesSome}
 use Rattle.std.specs.Option.{option_map}
 use Rattle.bac_apdu.specs.Service.ReadRangeAck.{range_ack_in, read_range_ack_at}
 use Rattle.bac_log.specs.declared.entry.Entry.{Entry}
@@ -25,6 +24,7 @@ use Rattle.bac_link.specs.Links.{IsReply, reply_parameters}
 use Rattle.bac_link.specs.Delivery.{History, Moment, now}
 use Rattle.bac_link.specs.Moments.{AreServed, log_at}
 use Rattle.bac_walk.specs.Takes.{records_of, first_of, parameters_in, Says}
+use Rattle.bac_walk.specs.Replied.{heard_from, heard_in}
 use Rattle.bac_walk.proofs.Heards.{number_back}
 use Rattle.bac_walk.proofs.Bridge.{shown, answer_is}
 use Rattle.bac_walk.proofs.Held.{Sound-now, In-now}
@@ -53,7 +53,7 @@ heard_reply id log extent r is most valid =
     ap (λ x. heard_if id (option_map range_ack_in (result_ok x))) (reply_reads log extent r is most id valid)
     ∙ heard_shown id (reply_of log extent (selected log extent) (packed extent r (selected log extent))).flags (first_of r log extent) (records_of r log extent) (packed_loggable log extent r is most)
 
-pub says_reply : (result : Option (List ℕ)) (datagram : List ℕ) (r : ℕ) (M : List Moment) (H : History) (id : Id) (wanted : Wanted) (invoke : ℕ) → result ≡ parameters_in (apdu_in datagram) → AreServed r M H → IsValid (Object id) →
+says_reply : (result : Option (List ℕ)) (datagram : List ℕ) (r : ℕ) (M : List Moment) (H : History) (id : Id) (wanted : Wanted) (invoke : ℕ) → result ≡ parameters_in (apdu_in datagram) → AreServed r M H → IsValid (Object id) →
     IsReply r (now M) H id (extent_of wanted) invoke datagram → IsSomeAnd result (λ p. Says r (now M) H wanted (heard_at id p))
 says_reply result datagram r M H id wanted invoke gives served valid reply =
     let sound = Sound-now r M H served in
@@ -65,8 +65,13 @@ says_reply result datagram r M H id wanted invoke gives served valid reply =
     subst P (sym whole) (subst Q (sym (heard_reply id (log_at (now M) H) (extent_of wanted) r is served.greatest valid))
     (answer_is (now M) H sound within reply.0 r wanted (omega (arith, served.least)), refl))
 
--- the same of a reference
-pub says_given : (result : Option (Bor (List ℕ))) (datagram : List ℕ) (r : ℕ) (M : List Moment) (H : History) (id : Id) (wanted : Wanted) (invoke : ℕ) → GivesSome (λ p. p.now) result (parameters_in (apdu_in datagram)) → AreServed r M H → IsValid (Object id) →
-    IsReply r (now M) H id (extent_of wanted) invoke datagram → IsSomeAnd result (λ p. Says r (now M) H wanted (heard_at id p.now))
-says_given None datagram r M H id wanted invoke gives served valid reply = says_reply None datagram r M H id wanted invoke (sym gives) served valid reply
-says_given (Some p) datagram r M H id wanted invoke gives served valid reply = says_reply (Some p.now) datagram r M H id wanted invoke (sym gives) served valid reply
+-- the same of a datagram
+says_heard : (o : Option (List ℕ)) (r : ℕ) (m : Moment) (H : History) (id : Id) (wanted : Wanted) → IsSomeAnd o (λ p. Says r m H wanted (heard_at id p)) →
+    Says r m H wanted (heard_from id o)
+says_heard None r m H id wanted h = absurd h
+says_heard (Some p) r m H id wanted h = h
+
+pub says_in : (datagram : List ℕ) (r : ℕ) (M : List Moment) (H : History) (id : Id) (wanted : Wanted) (invoke : ℕ) → AreServed r M H → IsValid (Object id) →
+    IsReply r (now M) H id (extent_of wanted) invoke datagram → Says r (now M) H wanted (heard_in id datagram)
+says_in datagram r M H id wanted invoke served valid reply =
+    says_heard (parameters_in (apdu_in datagram)) r (now M) H id wanted (says_reply (parameters_in (apdu_in datagram)) datagram r M H id wanted invoke refl served valid reply)

@@ -4,7 +4,7 @@ pub mod Oldest
 pub mod Bridge
 pub mod Numbers
 pub mod Counting
-pub mod Keeping
+pub mod Spellings
 pub mod Heards
 pub mod WalkTakes
 pub mod Held
@@ -14,10 +14,12 @@ pub mod Turns
 pub mod Asking
 pub mod Cuts
 pub mod Goes
+pub mod Hearing
 pub mod Joins
 pub mod Steps
 pub mod Rests
 pub mod RestAll
+pub mod Sames
 pub mod Headline
 pub mod Handed
 pub mod Runs

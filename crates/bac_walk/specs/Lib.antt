@@ -5,6 +5,8 @@ pub mod Replies
 pub mod Walks
 pub mod Reads
 pub mod Takes
+pub mod Spelled
+pub mod Replied
 pub mod Turns
 pub mod Turned
 pub mod Delivers

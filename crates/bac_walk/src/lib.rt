@@ -12,6 +12,7 @@ mod kept;
 mod laws;
 mod outcome;
 mod read;
+mod reply;
 mod resume;
 mod sink;
 mod step;

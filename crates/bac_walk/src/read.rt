@@ -1,23 +1,16 @@
 //! What a walk reads of an ACK.
-ghost use Rattle.std.specs.Prelude.{◌≡◌, ℕ, ◌≤◌, ◌++◌, ◌∷◌, [], List, length, take, None, IsSomeAnd};
+ghost use Rattle.std.specs.Prelude.{◌≡◌};
 ghost use Rattle.bac_wire.specs.OptionChain.{GivesSome};
-ghost use Rattle.bac_wire.specs.Canon.{IsValid};
-ghost use Rattle.bac_wire.specs.Primitive.{Id, Object};
 ghost use Rattle.bac_link.specs.Datagrams.{apdu_in};
-ghost use Rattle.bac_link.specs.Delivery.{History, Moment, now};
-ghost use Rattle.bac_link.specs.Links.{IsReply};
-ghost use Rattle.bac_link.specs.Moments.{AreServed};
-ghost use Rattle.bac_walk.specs.Takes.{parameters_in, Says};
-ghost use Rattle.bac_walk.specs.Replies.{Wanted, extent_of};
-ghost use Rattle.bac_log.specs.declared.entry.Entry.{Entry as EntryOf};
+ghost use Rattle.bac_walk.specs.Takes.{parameters_in};
 ghost use Rattle.std.specs.Result.{result_ok};
 ghost use Rattle.bac_log.specs.RecordReading.{entry_at};
-ghost use Rattle.bac_walk.specs.Heard.{heard_at, is_of_log, records_in, same_id};
-ghost use Rattle.bac_walk.specs.Reads.{IsRead, IsSaid};
+ghost use Rattle.bac_walk.specs.Heard.{is_of_log, records_in, same_id};
+ghost use Rattle.bac_walk.specs.Reads.{IsCounted, IsSaid};
+ghost use Rattle.bac_walk.specs.Spelled.{data_held, data_in};
 ghost use Rattle.bac_apdu.specs.Service.ReadRangeAck.{range_ack_of};
 
 use crate::walk::LOG_BUFFER;
-use arrayvec::ArrayVec;
 use bac_apdu::{Apdu, ReadRangeAck};
 use bac_link::read_datagram;
 use bac_log::{Entry, read_entry};
@@ -28,16 +21,6 @@ const READ_RANGE: u8 = 26;
 
 /// The service parameters of the ACK of ReadRange in a datagram.
 pub(crate) fn ack_parameters(datagram: &[u8]) -> Option<&[u8]>
-    ensures exact { GivesSome (λ p. p.now) result (parameters_in (apdu_in datagram.now)) }
-    // Of an honest reply to a walk's question they say the whole reply of the moment.
-    ensures honest { (r : ℕ) (M : List Moment) (H : History) (id : Id) (wanted : Wanted) (invoke : ℕ) →
-        AreServed r M H → IsValid (Object id) → IsReply r (now M) H id (extent_of wanted) invoke datagram.now →
-        IsSomeAnd result (λ p. Says r (now M) H wanted (heard_at id p.now)) }
-{
-    parameters_inside(datagram)
-}
-
-fn parameters_inside(datagram: &[u8]) -> Option<&[u8]>
     ensures { GivesSome (λ p. p.now) result (parameters_in (apdu_in datagram.now)) }
 {
     match read_datagram(datagram) {
@@ -61,32 +44,36 @@ fn parameters_inside(datagram: &[u8]) -> Option<&[u8]>
     }
 }
 
-/// The first hundred of some records, and how many they are.
-#[derive(Drop)]
-pub(crate) struct Records {
-    pub(crate) kept: ArrayVec<Entry, 100>,
-    pub(crate) total: usize,
-}
-
-/// What an ACK says of a walk's log.
-#[derive(Drop)]
-pub(crate) struct Said {
-    pub(crate) first: Option<u32>,
-    pub(crate) count: u64,
-    pub(crate) records: Records,
-}
-
-/// One record more, where there is room.
-fn keep(kept: &mut ArrayVec<Entry, 100>, entry: Entry)
-    ensures { (es : List EntryOf) → kept.old.items ≡ take 100 es → kept.new.items ≡ take 100 (es ++ entry ∷ []) }
+/// The item data of the ACK of ReadRange in a datagram; no octets where there is none.
+pub(crate) fn data_of(datagram: &[u8]) -> &[u8]
+    ensures { result.now ≡ data_held datagram.now }
 {
-    if kept.len() < 100 {
-        kept.push(entry);
+    match ack_parameters(datagram) {
+        Some(parameters) => data_in(parameters),
+        None => &datagram[..0],
     }
 }
 
+/// The item data of an ACK of ReadRange with these parameters; no octets where there is none.
+pub(crate) fn data_in(parameters: &[u8]) -> &[u8]
+    ensures { result.now ≡ data_in parameters.now }
+{
+    match ReadRangeAck::read(parameters) {
+        Some(ack) => ack.items,
+        None => &parameters[..0],
+    }
+}
+
+/// What an ACK says of a walk's log, and how many records it has.
+#[derive(Clone, Copy)]
+pub(crate) struct Said {
+    pub(crate) first: Option<u32>,
+    pub(crate) count: u64,
+    pub(crate) total: usize,
+}
+
 /// The record at the front, and the octets after it.
-fn next_record(octets: &[u8]) -> Option<(Entry, &[u8])>
+pub(crate) fn next_record(octets: &[u8]) -> Option<(Entry, &[u8])>
     ensures { GivesSome (λ x. (x.0, x.1.now)) result (result_ok (entry_at octets.now)) }
 {
     match read_entry(octets) {
@@ -95,29 +82,22 @@ fn next_record(octets: &[u8]) -> Option<(Entry, &[u8])>
     }
 }
 
-/// All octets as records.
-fn records_of(octets: &[u8]) -> Option<Records>
-    ensures { IsRead result (records_in octets.now) }
+/// How many records there are, where all octets are records.
+fn count_of(octets: &[u8]) -> Option<usize>
+    ensures { IsCounted result (records_in octets.now) }
 {
-    let mut kept: ArrayVec<Entry, 100> = ArrayVec::new();
     let mut rest = octets;
     for taken in 0..octets.len() {
         if rest.is_empty() {
-            return Some(Records { kept, total: taken });
+            return Some(taken);
         }
         match next_record(rest) {
-            Some((entry, after)) => {
-                keep(&mut kept, entry);
-                rest = after;
-            }
+            Some((_, after)) => rest = after,
             None => return None,
         }
     }
     if rest.is_empty() {
-        Some(Records {
-            kept,
-            total: octets.len(),
-        })
+        Some(octets.len())
     } else {
         None
     }
@@ -137,9 +117,9 @@ fn is_of(ack: &ReadRangeAck, log: ObjectId) -> bool
     is_same(ack.object, log) && ack.property == LOG_BUFFER && ack.index.is_none()
 }
 
-/// What the parameters of an ACK say of a log.
+/// What the parameters of an ACK say of a log, of which all records are read.
 pub(crate) fn said_of(log: ObjectId, parameters: &[u8]) -> Option<Said>
-    ensures { IsSaid result (heard_at log parameters.now) }
+    ensures { IsSaid log parameters.now result }
 {
     let Some(ack) = ReadRangeAck::read(parameters) else {
         return None;
@@ -147,12 +127,12 @@ pub(crate) fn said_of(log: ObjectId, parameters: &[u8]) -> Option<Said>
     if !is_of(&ack, log) {
         return None;
     }
-    let Some(records) = records_of(ack.items) else {
+    let Some(total) = count_of(ack.items) else {
         return None;
     };
     Some(Said {
         first: ack.first_number,
         count: ack.count,
-        records,
+        total,
     })
 }

@@ -7,10 +7,14 @@ ghost use Rattle.bac_walk.specs.declared.batch.Gap.{Gap as GapOf};
 ghost use Rattle.bac_walk.specs.declared.batch.Numbered.{Numbered as NumberedOf};
 ghost use Rattle.bac_walk.specs.Sinks.{PutAll, Delivery};
 ghost use Rattle.bac_walk.specs.Handing.{HandedOn, HasNext};
+ghost use Rattle.bac_walk.specs.Replied.{step_of};
+ghost use Rattle.bac_walk.specs.Spelled.{IsWhole, records_from};
 ghost use Rattle.bac_walk.specs.Collects.{FoundEnd, MissingEnd};
 
-use crate::batch::{Batch, Gap, Numbered};
-use crate::outcome::{Ended, Step, WalkFault};
+use crate::batch::{Gap, Numbered};
+use crate::outcome::{Ended, WalkFault};
+use crate::read::{data_of, next_record};
+use crate::reply::Replied;
 use crate::walk::{Walk, number_after};
 use bac_link::{LogLink, Transactions};
 
@@ -26,8 +30,9 @@ pub trait Sink {
 
 /// At most so many steps of a walk, whose records are put into a sink one after the other, until one
 /// is answered with false: then it ends as `Stopped`, drops the rest of that reply, and the walk goes
-/// on behind that record. It takes no memory. Over every link it puts at most 100 records a step, at
-/// most one of them with a gap, and begins at most two transactions a step.
+/// on behind that record. A reply is kept as the octets that came and checked whole before its first
+/// record is put; each record is decoded as it is put. It takes no memory. Over every link it puts at
+/// most 100 records a step, at most one of them with a gap, and begins at most two transactions a step.
 pub fn deliver<L: LogLink, S: Sink>(
     link: &mut L,
     transactions: &mut Transactions,
@@ -83,22 +88,23 @@ fn deliver_step<L: LogLink, S: Sink>(
         MissingEnd 1 result × (sink.new ≡ sink.old) × (walk.new.next ≡ walk.old.next) × L.lacks link.new walk.old.log }
     ensures refused { L.lacks link.old walk.old.log → L.is_sure link.old → FoundEnd result }
 {
-    let stepped = walk.step(link, transactions);
+    let replied = walk.reply(link, transactions);
     let _next = walk.next_number();
-    hand_on(walk, stepped, sink)
+    hand_on(walk, replied, sink)
 }
 
-// Puts the batch of a step into a sink. The walk goes back to the record that stops it.
-fn hand_on<S: Sink>(walk: &mut Walk, stepped: Result<Step, WalkFault>, sink: &mut S) -> Ended
-    requires { HasNext stepped }
-    ensures { HandedOn S.puts sink.old walk.old stepped result walk.new sink.new }
+// Puts the records of a step's reply into a sink. The walk goes back to the record that stops it.
+fn hand_on<S: Sink>(walk: &mut Walk, replied: Result<Replied, WalkFault>, sink: &mut S) -> Ended
+    requires { HasNext (step_of replied) }
+    ensures { HandedOn S.puts sink.old walk.old (step_of replied) result walk.new sink.new }
 {
-    let batch = match stepped {
+    let reply = match replied {
         Err(fault) => return Ended::Fault(fault),
-        Ok(Step::CaughtUp) => return Ended::CaughtUp,
-        Ok(Step::Batch(batch)) => batch,
+        Ok(Replied::CaughtUp) => return Ended::CaughtUp,
+        Ok(Replied::Reply(reply)) => reply,
     };
-    match put_all(sink, &batch) {
+    let data = data_of(reply.datagram.octets());
+    match put_all(sink, reply.gap, reply.first, data) {
         None => Ended::StepLimit,
         Some(number) => {
             walk.go_on_at(number_after(number, 1));
@@ -107,16 +113,25 @@ fn hand_on<S: Sink>(walk: &mut Walk, stepped: Result<Step, WalkFault>, sink: &mu
     }
 }
 
-// Puts the records of a batch, until one is answered with false: the number of that one.
-fn put_all<S: Sink>(sink: &mut S, batch: &Batch) -> Option<u32>
-    ensures { PutAll S.puts sink.old batch.now.gap batch.now.entries.items result sink.new }
+// Puts the records of octets that are right as a whole, each decoded as it is put, until one is
+// answered with false: the number of that one. The gap goes with the first.
+fn put_all<S: Sink>(sink: &mut S, gap: Option<Gap>, first: u32, octets: &[u8]) -> Option<u32>
+    requires { IsWhole first octets.now }
+    ensures { PutAll S.puts sink.old gap (records_from first octets.now) result sink.new }
 {
-    let mut gap = batch.gap;
-    for entry in batch.entries.as_slice() {
-        if !sink.put(gap, *entry) {
-            return Some(entry.number);
+    let mut before = gap;
+    let mut number = first;
+    let mut rest = octets;
+    for taken in 0..octets.len() {
+        let Some((entry, after)) = next_record(rest) else {
+            return None;
+        };
+        if !sink.put(before, Numbered { number, entry }) {
+            return Some(number);
         }
-        gap = None;
+        before = None;
+        number = number_after(number, 1);
+        rest = after;
     }
     None
 }

@@ -7,36 +7,61 @@ ghost use Rattle.bac_link.specs.Laws.{after_answers};
 ghost use Rattle.bac_walk.specs.Turned.{IsTurned};
 ghost use Rattle.bac_walk.specs.Rests.{rest, IsRest};
 ghost use Rattle.bac_log.specs.TrendLog.{number};
+ghost use Rattle.bac_walk.specs.Replied.{IsSame, heard_in, progress_of, step_of};
+ghost use Rattle.bac_walk.specs.Spelled.{data_held, records_from};
+ghost use Rattle.bac_walk.specs.Walks.{IsTakenFrom};
 
-use crate::outcome::{BadReply, Progress, Step, WalkFault};
-use crate::read::ack_parameters;
-use crate::walk::Walk;
+use crate::batch::Batch;
+use crate::outcome::{BadReply, Step, WalkFault};
+use crate::read::{ack_parameters, data_of};
+use crate::reply::{Replied, Reply, Turned, Verdict};
+use crate::walk::{Walk, numbered_from};
 use bac_link::{ExchangeFault, LogLink, Transactions, exchange};
+use bac_wire::Datagram;
 
 impl Walk {
+    // What an answer means: a reply that brings records stays as it came.
+    fn hear(&mut self, datagram: Datagram) -> Result<Turned, BadReply>
+        ensures { IsTakenFrom self.old (heard_in self.old.log datagram) (progress_of result) self.new }
+    {
+        let Some(parameters) = ack_parameters(datagram.octets()) else {
+            return Err(BadReply);
+        };
+        match self.judge(parameters) {
+            Ok(Verdict::Records { gap, first }) => Ok(Turned::Reply(Reply {
+                datagram,
+                gap,
+                first,
+            })),
+            Ok(Verdict::AskOldest) => Ok(Turned::AskOldest),
+            Ok(Verdict::CaughtUp) => Ok(Turned::CaughtUp),
+            Err(BadReply) => Err(BadReply),
+        }
+    }
+
     // Asks the next question, and takes its answer.
     fn turn<L: LogLink>(
         &mut self,
         link: &mut L,
         transactions: &mut Transactions,
-    ) -> Result<Progress, WalkFault>
+    ) -> Result<Turned, WalkFault>
         ensures never_falls { L.failures link.old ≤ L.failures link.new }
         ensures retries { transactions.new.retries ≡ transactions.old.retries }
         ensures begun { transactions.new.begun ≤ transactions.old.begun + 1 }
-        ensures fault { OnErr result (self.new ≡ self.old) }
-        ensures asks { asks_next result ≡ true → self.new.next ≡ self.old.next }
+        ensures fault { OnErr (progress_of result) (self.new ≡ self.old) }
+        ensures asks { asks_next (progress_of result) ≡ true → self.new.next ≡ self.old.next }
         ensures log { self.new.log ≡ self.old.log }
         ensures sure { L.is_sure link.old → L.is_sure link.new }
         ensures kept { L.is_sure link.old → L.keeps link.old link.new }
         ensures answered { (r : ℕ) (M : List Moment) (H : History) →
-            L.is_sure link.old → L.is_honest link.old self.old.log r M H → FoundTurn result }
+            L.is_sure link.old → L.is_honest link.old self.old.log r M H → FoundTurn (progress_of result) }
         ensures lacking { L.lacks link.old self.old.log →
-            MissingTurn result × L.lacks link.new self.old.log × (L.is_sure link.old → FoundTurn result) }
-        ensures goes { (s : ℕ) → Goes self.old.fresh self.old.next s (turn_items result) self.new.fresh self.new.next }
+            MissingTurn (progress_of result) × L.lacks link.new self.old.log × (L.is_sure link.old → FoundTurn (progress_of result)) }
+        ensures goes { (s : ℕ) → Goes self.old.fresh self.old.next s (turn_items (progress_of result)) self.new.fresh self.new.next }
         ensures honest { (r : ℕ) (M : List Moment) (H : History) (s : ℕ) →
             L.is_honest link.old self.old.log r M H → self.old.next ≡ number s →
             IsTurned (λ N. L.is_honest link.new self.old.log r N H) r M H s self.old
-            transactions.old.retries (L.failures link.old) (L.failures link.new) result self.new }
+            transactions.old.retries (L.failures link.old) (L.failures link.new) (progress_of result) self.new }
     {
         let question = self.question();
         let datagram = match exchange(link, transactions, &question) {
@@ -46,11 +71,8 @@ impl Walk {
             Err(ExchangeFault::BadReply) => return Err(WalkFault::BadReply),
             Err(ExchangeFault::TooLong) => unreachable!(),
         };
-        let Some(parameters) = ack_parameters(datagram.octets()) else {
-            return Err(WalkFault::BadReply);
-        };
-        match self.take(parameters) {
-            Ok(progress) => Ok(progress),
+        match self.hear(datagram) {
+            Ok(turned) => Ok(turned),
             Err(BadReply) => Err(WalkFault::BadReply),
         }
     }
@@ -90,6 +112,36 @@ impl Walk {
             × L.is_honest link.new self.old.log r (after_answers (length answers) M) H
             × (self.new.fresh ≡ is_fresh_after self.old.fresh result) }
     {
+        decoded(self.reply(link, transactions))
+    }
+
+    // The same, where a reply that brings records stays as it came.
+    pub(crate) fn reply<L: LogLink>(
+        &mut self,
+        link: &mut L,
+        transactions: &mut Transactions,
+    ) -> Result<Replied, WalkFault>
+        ensures never_falls { L.failures link.old ≤ L.failures link.new }
+        ensures retries { transactions.new.retries ≡ transactions.old.retries }
+        ensures begun { transactions.new.begun ≤ transactions.old.begun + 2 }
+        ensures fault { OnErr (step_of result) (self.new.next ≡ self.old.next) }
+        ensures log { self.new.log ≡ self.old.log }
+        ensures sure { L.is_sure link.old → L.is_sure link.new }
+        ensures kept { L.is_sure link.old → L.keeps link.old link.new }
+        ensures answered { (r : ℕ) (M : List Moment) (H : History) (s : ℕ) →
+            L.is_sure link.old → L.is_honest link.old self.old.log r M H → self.old.next ≡ number s → FoundStep (step_of result) }
+        ensures lacking { L.lacks link.old self.old.log → MissingStep (step_of result) × L.lacks link.new self.old.log }
+        ensures refused { L.lacks link.old self.old.log → L.is_sure link.old → FoundStep (step_of result) }
+        ensures goes { (s : ℕ) → Goes self.old.fresh self.old.next s (step_items (step_of result)) self.new.fresh self.new.next }
+        ensures honest { (r : ℕ) (M : List Moment) (H : History) (s : ℕ) →
+            L.is_honest link.old self.old.log r M H → self.old.next ≡ number s →
+            (answers : List (List Item)) × (t : ℕ) × (self.new.next ≡ number t)
+            × Collected r H M self.old.fresh s 1
+            transactions.old.retries (L.failures link.old) (L.failures link.new)
+            (step_items (step_of result)) t (step_ended (step_of result)) answers
+            × L.is_honest link.new self.old.log r (after_answers (length answers) M) H
+            × (self.new.fresh ≡ is_fresh_after self.old.fresh (step_of result)) }
+    {
         self.restart();
         let first = self.turn(link, transactions);
         if !asks_next(&first) {
@@ -100,20 +152,42 @@ impl Walk {
 }
 
 // Whether there is a second question to ask.
-fn asks_next(turned: &Result<Progress, WalkFault>) -> bool
-    ensures { result ≡ asks_next turned.now }
+fn asks_next(turned: &Result<Turned, WalkFault>) -> bool
+    ensures { result ≡ asks_next (progress_of turned.now) }
 {
-    matches!(turned, Ok(Progress::AskOldest))
+    matches!(turned, Ok(Turned::AskOldest))
 }
 
 // The step that ends with this answer.
-fn finished(turned: Result<Progress, WalkFault>) -> Result<Step, WalkFault>
-    ensures { result ≡ finished turned }
+fn finished(turned: Result<Turned, WalkFault>) -> Result<Replied, WalkFault>
+    ensures { step_of result ≡ finished (progress_of turned) }
 {
     match turned {
-        Ok(Progress::Batch(batch)) => Ok(Step::Batch(batch)),
-        Ok(Progress::CaughtUp) => Ok(Step::CaughtUp),
-        Ok(Progress::AskOldest) => Ok(Step::CaughtUp),
+        Ok(Turned::Reply(reply)) => Ok(Replied::Reply(reply)),
+        Ok(Turned::CaughtUp) => Ok(Replied::CaughtUp),
+        Ok(Turned::AskOldest) => Ok(Replied::CaughtUp),
         Err(fault) => Err(fault),
+    }
+}
+
+// The same with the records of a reply decoded.
+fn decoded(replied: Result<Replied, WalkFault>) -> Result<Step, WalkFault>
+    ensures { IsSame (step_of replied) result }
+{
+    match replied {
+        Ok(Replied::Reply(reply)) => Ok(Step::Batch(batch_of(&reply))),
+        Ok(Replied::CaughtUp) => Ok(Step::CaughtUp),
+        Err(fault) => Err(fault),
+    }
+}
+
+// The records of a reply.
+fn batch_of(reply: &Reply) -> Batch
+    ensures gap { result.gap ≡ reply.now.gap }
+    ensures entries { result.entries.items ≡ records_from reply.now.first (data_held reply.now.datagram) }
+{
+    Batch {
+        gap: reply.gap,
+        entries: numbered_from(reply.first, data_of(reply.datagram.octets())),
     }
 }

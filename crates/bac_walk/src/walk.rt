@@ -6,15 +6,17 @@ ghost use Rattle.bac_link.specs.Links.{AsksFor};
 ghost use Rattle.bac_link.specs.Requests.{IsTooLong};
 ghost use Rattle.bac_walk.specs.Ordinals.{distance, number_after, is_ahead};
 ghost use Rattle.bac_walk.specs.Place.{Place, IsWalk, walk_at, walk_from_oldest};
-ghost use Rattle.bac_walk.specs.Walks.{asks_oldest_now, wanted_of, is_past, fits, gap_items, gap_of, IsTakenFrom, with_numbers};
+ghost use Rattle.bac_walk.specs.Walks.{asks_oldest_now, wanted_of, is_past, fits, gap_items, gap_of, IsTakenFrom};
+ghost use Rattle.bac_walk.specs.Replied.{IsJudged};
+ghost use Rattle.bac_walk.specs.Spelled.{IsWhole, records_from};
 
 use crate::batch::{Batch, Gap, Numbered};
 use crate::outcome::{BadReply, Progress};
-use crate::read::said_of;
+use crate::read::{data_in, next_record, said_of};
+use crate::reply::Verdict;
 use arrayvec::ArrayVec;
 use bac_apdu::{Extent, ReadRange};
 use bac_link::Request;
-use bac_log::Entry;
 use bac_wire::{Date4, ObjectId, Time4};
 use std::marker::Model;
 
@@ -152,30 +154,44 @@ impl Walk {
     pub fn take(&mut self, ack: &[u8]) -> Result<Progress, BadReply>
         ensures { IsTakenFrom self.old (heard_at self.old.log ack.now) result self.new }
     {
+        match self.judge(ack) {
+            Ok(Verdict::Records { gap, first }) => {
+                let entries = numbered_from(first, data_in(ack));
+                Ok(Progress::Batch(Batch { gap, entries }))
+            }
+            Ok(Verdict::AskOldest) => Ok(Progress::AskOldest),
+            Ok(Verdict::CaughtUp) => Ok(Progress::CaughtUp),
+            Err(BadReply) => Err(BadReply),
+        }
+    }
+
+    /// What `take` makes of the parameters of an ACK. Each of its records is read, and none is kept.
+    pub(crate) fn judge(&mut self, ack: &[u8]) -> Result<Verdict, BadReply>
+        ensures { IsJudged self.old ack.now result self.new }
+    {
         let Some(said) = said_of(self.log(), ack) else {
             return Err(BadReply);
         };
-        let total = said.records.total;
+        let total = said.total;
         if total == 0 {
             if self.asks_oldest_now() {
-                return Ok(Progress::CaughtUp);
+                return Ok(Verdict::CaughtUp);
             }
             self.ask_oldest();
-            return Ok(Progress::AskOldest);
+            return Ok(Verdict::AskOldest);
         }
         let Some(first) = said.first else {
             return Err(BadReply);
         };
         if self.is_past(first) {
-            return Ok(Progress::CaughtUp);
+            return Ok(Verdict::CaughtUp);
         }
         if said.count != total as u64 || !self.fits(first, total) {
             return Err(BadReply);
         }
         let gap = self.gap_up_to(first);
-        let entries = numbered_from(first, &said.records.kept);
         self.go_on_at(number_after(first, total as u32));
-        Ok(Progress::Batch(Batch { gap, entries }))
+        Ok(Verdict::Records { gap, first })
     }
 
     /// The trend log.
@@ -264,19 +280,21 @@ pub(crate) fn number_after(first: u32, count: u32) -> u32
     first + count
 }
 
-/// The entries, each with its number.
-fn numbered_from(first: u32, entries: &ArrayVec<Entry, 100>) -> ArrayVec<Numbered, 100>
-    requires { first + length entries.now.items < 2 ^ 32 }
-    ensures { result.items ≡ with_numbers first entries.now.items }
+/// The records of octets that are right as a whole, each with its number.
+pub(crate) fn numbered_from(first: u32, octets: &[u8]) -> ArrayVec<Numbered, 100>
+    requires { IsWhole first octets.now }
+    ensures { result.items ≡ records_from first octets.now }
 {
     let mut numbered = ArrayVec::new();
     let mut number = first;
-    for entry in entries.as_slice() {
-        numbered.push(Numbered {
-            number,
-            entry: *entry,
-        });
+    let mut rest = octets;
+    for taken in 0..octets.len() {
+        let Some((entry, after)) = next_record(rest) else {
+            return numbered;
+        };
+        numbered.push(Numbered { number, entry });
         number = number_after(number, 1);
+        rest = after;
     }
     numbered
 }

@@ -1,8 +1,14 @@
-use Rattle.std.proofs.Common.{ℕ, Option, drop}
+use Rattle.std.proofs.Common.{◌≡◌, ◌+◌, ◌-◌, ◌≤◌, ℕ, List, Option, length, Ok}
+use Rattle.bac_log.specs.declared.entry.Entry.{Entry}
+use Rattle.bac_log.specs.RecordReading.{entries_at}
 use Rattle.bac_walk.specs.Sinks.{PutAll}
+use Rattle.bac_walk.specs.Walks.{with_numbers}
+use Rattle.bac_walk.specs.Spelled.{records_from}
 use Rattle.bac_walk.proofs.sink.put_all.Given as goal
 
--- what is still put makes the whole
-abbrev pub invariant-loop-entry : goal.invariant-loop-entry
-invariant-loop-entry g l = (refused : Option ℕ) (new : _) → PutAll g.S.Sink.puts l.sink l.gap (drop l.entry-index l.entry-items) refused new →
-    PutAll g.S.Sink.puts l.fn.sink l.fn.batch.gap l.fn.batch.entries.items refused new
+-- the octets that are left are the records that are still put, which make the whole
+abbrev pub invariant-loop-taken : goal.invariant-loop-taken
+invariant-loop-taken g l =
+    (es : List Entry) × (entries_at (length l.octets - l.taken) l.rest ≡ Ok es) × (l.number + length es ≤ 4294967295)
+    × ((refused : Option ℕ) (new : _) → PutAll g.S.Sink.puts l.sink l.before (with_numbers l.number es) refused new →
+    PutAll g.S.Sink.puts l.fn.sink l.fn.gap (records_from l.fn.first l.fn.octets) refused new)

@@ -1,11 +1,12 @@
-use Rattle.std.proofs.Common.{◌≡◌, ◌+◌, length, take}
+use Rattle.std.proofs.Common.{◌≡◌, ◌+◌, ◌-◌, ◌≤◌, ◌++◌, List, length, Ok}
+use Rattle.bac_log.specs.declared.entry.Entry.{Entry}
+use Rattle.bac_log.specs.RecordReading.{entries_at}
 use Rattle.bac_walk.specs.Walks.{with_numbers}
+use Rattle.bac_walk.specs.Spelled.{records_from}
 use Rattle.bac_walk.proofs.walk.numbered_from.Given as goal
 
--- the entries so far have their numbers
-abbrev pub invariant-loop-entry : goal.invariant-loop-entry
-invariant-loop-entry l = record {
-  number : l.number ≡ l.first + l.entry-index;
-  count : length l.numbered.items ≡ l.entry-index;
-  items : l.numbered.items ≡ with_numbers l.first (take l.entry-index l.entry-items);
-}
+-- what the octets still hold makes the whole
+abbrev pub invariant-loop-taken : goal.invariant-loop-taken
+invariant-loop-taken l =
+    (es : List Entry) × (entries_at (length l.octets - l.taken) l.rest ≡ Ok es) × (l.number + length es ≤ 4294967295)
+    × (length l.numbered.items + length es ≤ 100) × (records_from l.fn.first l.fn.octets ≡ l.numbered.items ++ with_numbers l.number es)

@@ -1,15 +1,11 @@
-use Rattle.std.proofs.Common.{◌≡◌, ℕ, suc, ◌+◌, ◌-◌, List, [], ◌∷◌, ◌++◌, length, Result, Ok, Err, refl, sym, ap, ◌∙◌, append_assoc, arith}
-use Rattle.std.proofs.lemmas.List.{append-nil, length-append}
+use Rattle.std.proofs.Common.{◌≡◌, ℕ, suc, ◌+◌, ◌-◌, List, [], ◌∷◌, length, Result, Ok, Err, sym, ap, ◌∙◌, arith}
 use Rattle.bac_wire.specs.declared.fault.WireFault.{WireFault}
 use Rattle.bac_wire.specs.declared.fault.WireFault.TheVariants.{Ended}
 use Rattle.bac_log.specs.declared.entry.Entry.{Entry}
 use Rattle.bac_log.specs.RecordReading.{entries_at}
 use Rattle.bac_walk.specs.Heard.{records_in}
 use Rattle.bac_walk.proofs.Counting.{empty_read, next_ok, next_err, none_read, too_many}
-use Rattle.bac_walk.proofs.read.records_of.Goals as goal
-
-abbrev read_as : List Entry → Result (List Entry) WireFault
-read_as es = Ok es
+use Rattle.bac_walk.proofs.read.count_of.Goals as goal
 
 same_read : (octets : List ℕ) (n : ℕ) (r : Result (List Entry) WireFault) → n ≡ length octets → entries_at n octets ≡ r → records_in octets ≡ r
 same_read octets n r is e = ap (λ k. entries_at k octets) (sym is) ∙ e
@@ -17,15 +13,14 @@ same_read octets n r is e = ap (λ k. entries_at k octets) (sym is) ∙ e
 pub loop-taken-init : goal.loop-taken-init
 loop-taken-init c = record {
   few = omega arith;
-  more = ([], refl, c.new-kept.ensures, λ es e. same_read c.args.octets.now (length c.args.octets.now - 0) (Ok es) (omega arith) e);
+  more = λ es e. (es, same_read c.args.octets.now (length c.args.octets.now - 0) (Ok es) (omega arith) e, omega arith);
   fault = λ f e. (f, same_read c.args.octets.now (length c.args.octets.now - 0) (Err f) (omega arith) e);
 }
 
 pub returns-then-is_empty : goal.returns-then-is_empty
 returns-then-is_empty c =
-    let m = c.loop-taken.invariant.more in
-    let i = m.3 [] (empty_read (length c.args.octets.now - c.loop-taken.taken) c.loop-taken.rest.now (sym c.is_empty.ensures ∙ c.if-is_empty.true)) in
-    (m.0, i ∙ ap read_as (append-nil m.0), (m.2, sym m.1))
+    let m = c.loop-taken.invariant.more [] (empty_read (length c.args.octets.now - c.loop-taken.taken) c.loop-taken.rest.now (sym c.is_empty.ensures ∙ c.if-is_empty.true)) in
+    (m.0, m.1, omega (arith, m.2))
 
 pub returns-in-None : goal.returns-in-None
 returns-in-None c =
@@ -36,26 +31,21 @@ returns-in-None c =
 pub loop-taken-preserved : goal.loop-taken-preserved
 loop-taken-preserved c =
     let n : ℕ = length c.args.octets.now in
-    let m = c.loop-taken.invariant.more in
+    let x : Entry = c.in-Some.field-0-0 in
     let some = sym c.is_empty.ensures ∙ c.if-is_empty.false in
     let place : n - c.loop-taken.taken ≡ suc (n - (c.loop-taken.taken + 1)) = omega (arith, c.loop-taken-test.true) in
     record {
       few = omega (arith, c.loop-taken-test.true);
-      more = (
-        m.0 ++ c.in-Some.entry ∷ [],
-        length-append m.0 (c.in-Some.entry ∷ []) ∙ ap (λ (k : ℕ). k + 1) m.1,
-        c.keep.ensures m.0 m.2,
-        λ es e. m.3 (c.in-Some.entry ∷ es) (next_ok (n - c.loop-taken.taken) (n - (c.loop-taken.taken + 1)) c.loop-taken.rest.now c.in-Some.entry c.in-Some.after.now es place some (c.in-Some.ensures {u = tt}) e)
-            ∙ ap read_as (sym (append_assoc m.0 (c.in-Some.entry ∷ []) es)),
-      );
-      fault = λ f e. c.loop-taken.invariant.fault f (next_err (n - c.loop-taken.taken) (n - (c.loop-taken.taken + 1)) c.loop-taken.rest.now c.in-Some.entry c.in-Some.after.now f place some (c.in-Some.ensures {u = tt}) e);
+      more = λ es e.
+          let m = c.loop-taken.invariant.more (x ∷ es) (next_ok (n - c.loop-taken.taken) (n - (c.loop-taken.taken + 1)) c.loop-taken.rest.now x c.in-Some.after.now es place some (c.in-Some.ensures {u = tt}) e) in
+          (m.0, m.1, omega (arith, m.2));
+      fault = λ f e. c.loop-taken.invariant.fault f (next_err (n - c.loop-taken.taken) (n - (c.loop-taken.taken + 1)) c.loop-taken.rest.now x c.in-Some.after.now f place some (c.in-Some.ensures {u = tt}) e);
     }
 
 pub returns-then-is_empty-2 : goal.returns-then-is_empty-2
 returns-then-is_empty-2 c =
-    let m = c.loop-taken.invariant.more in
-    let i = m.3 [] (empty_read (length c.args.octets.now - c.loop-taken.taken) c.loop-taken.rest.now (sym c.is_empty-2.ensures ∙ c.if-is_empty-2.true)) in
-    (m.0, i ∙ ap read_as (append-nil m.0), (m.2, omega (arith, m.1, c.loop-taken.invariant.few, c.loop-taken-test.false)))
+    let m = c.loop-taken.invariant.more [] (empty_read (length c.args.octets.now - c.loop-taken.taken) c.loop-taken.rest.now (sym c.is_empty-2.ensures ∙ c.if-is_empty-2.true)) in
+    (m.0, m.1, omega (arith, m.2, c.loop-taken.invariant.few, c.loop-taken-test.false))
 
 pub returns-else-is_empty-2 : goal.returns-else-is_empty-2
 returns-else-is_empty-2 c =

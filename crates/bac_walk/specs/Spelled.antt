@@ -1,0 +1,46 @@
+-- Records that stand in a reply as octets.
+use Rattle.std.specs.Prelude.{◌≡◌, ℕ, ◌+◌, ◌<◌, ◌≤◌, List, [], length, Option, Some, None, Ok}
+use Rattle.std.specs.Result.{result_ok}
+use Rattle.bac_apdu.specs.Service.ReadRangeAck.{RangeAck, read_range_ack_at}
+use Rattle.bac_log.specs.declared.entry.Entry.{Entry}
+use Rattle.bac_link.specs.Datagrams.{apdu_in}
+use Rattle.bac_walk.specs.declared.batch.Numbered.{Numbered}
+use Rattle.bac_walk.specs.Heard.{records_in}
+use Rattle.bac_walk.specs.Takes.{parameters_in}
+use Rattle.bac_walk.specs.Walks.{with_numbers}
+
+-- the item data of an ACK, and no octets where there is none
+abbrev pub item_data : Option RangeAck → List ℕ
+item_data None = []
+item_data (Some a) = a.items
+
+-- the item data in the parameters of an ACK
+abbrev pub data_in : List ℕ → List ℕ
+data_in parameters = item_data (read_range_ack_at parameters)
+
+abbrev pub data_if : Option (List ℕ) → List ℕ
+data_if None = []
+data_if (Some parameters) = data_in parameters
+
+-- the item data in a datagram with an ACK of ReadRange
+abbrev pub data_held : List ℕ → List ℕ
+data_held datagram = data_if (parameters_in (apdu_in datagram))
+
+abbrev pub all_or_none : Option (List Entry) → List Entry
+all_or_none None = []
+all_or_none (Some es) = es
+
+-- the records that octets encode, and none where they aren't records all through
+abbrev pub spelled : List ℕ → List Entry
+spelled octets = all_or_none (result_ok (records_in octets))
+
+-- each with its number, the first of which is this
+abbrev pub records_from : ℕ → List ℕ → List Numbered
+records_from first octets = with_numbers first (spelled octets)
+
+-- octets that are right as a whole: 1 to 100 records, each of which has a number, and nothing else
+pub record IsWhole (first : ℕ) (octets : List ℕ) : Type 0 where
+  pub read : records_in octets ≡ Ok (spelled octets)
+  pub some : 0 < length (records_from first octets)
+  pub most : length (records_from first octets) ≤ 100
+  pub last : first + length (spelled octets) ≤ 4294967295
