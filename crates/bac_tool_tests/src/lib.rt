@@ -4,6 +4,8 @@
 #![tactic(auto)]
 
 #[cfg(test)]
+mod find;
+#[cfg(test)]
 mod help;
 #[cfg(test)]
 mod memory_port;

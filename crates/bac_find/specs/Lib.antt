@@ -1,0 +1,4 @@
+pub mod Announcements
+pub mod Lines
+pub mod Requests
+pub mod Finding

@@ -1,0 +1,40 @@
+//! The line of a device.
+
+ghost use Rattle.std.specs.Prelude.{◌≡◌, ◌++◌, OnOk};
+ghost use Rattle.bac_find.specs.Lines.{device_line, facts_text, named};
+
+use crate::announcement::Announcement;
+use bac_apdu::IAm;
+use bac_print::{push_address, push_number};
+use std::alloc::AllocError;
+
+/// Appends a word, and the number behind it.
+#[tactic(auto, unfolding(crate::specs::Lines::named))]
+fn push_named(text: &mut Vec<u8>, word: &[u8], n: u64) -> Result<(), AllocError>
+    ensures { OnOk result (text.new.items ≡ text.old.items ++ named word.now n) }
+{
+    text.extend_from_slice(word)?;
+    push_number(text, n)
+}
+
+/// Appends what a device says of itself behind its instance.
+#[tactic(auto, unfolding(crate::specs::Lines::facts_text))]
+fn push_facts(text: &mut Vec<u8>, device: &IAm) -> Result<(), AllocError>
+    ensures { OnOk result (text.new.items ≡ text.old.items ++ facts_text device.now) }
+{
+    push_named(text, b" max-apdu ", device.max_apdu)?;
+    push_named(text, b" segmentation ", u64::from(device.segmentation))?;
+    push_named(text, b" vendor ", device.vendor)
+}
+
+/// Appends the line of a device: its instance, its address, and what else it says of itself.
+#[tactic(auto, unfolding(crate::specs::Lines::device_line))]
+pub(crate) fn push_device(text: &mut Vec<u8>, said: &Announcement) -> Result<(), AllocError>
+    ensures { OnOk result (text.new.items ≡ text.old.items ++ device_line said.now) }
+{
+    push_named(text, b"I-Am ", u64::from(said.device.device.instance()))?;
+    text.extend_from_slice(b" ")?;
+    push_address(text, said.address)?;
+    push_facts(text, &said.device)?;
+    text.extend_from_slice(b"\n")
+}
