@@ -6,7 +6,6 @@ ghost use Rattle.bac_link.specs.declared.item.Item.{Item};
 ghost use Rattle.bac_report.specs.Ends.{end_line};
 ghost use Rattle.bac_report.specs.Items.{items_text};
 ghost use Rattle.bac_walk.specs.Sinks.{IsRun};
-ghost use Rattle.bac_walk.specs.Outcomes.{why_of};
 ghost use Rattle.bac_query.specs.Fetching.{Delivers, PrintsEnd, PrintsItems};
 ghost use Rattle.bac_query.specs.Reading.{Prints};
 
@@ -53,7 +52,7 @@ pub fn fetch_log<L: LogLink, W: Write>(
             ended => ended,
         };
         print(&lines.text, out)?;
-        if let Some(why) = why_of(ended) {
+        if let Some(why) = ended.why() {
             return end(&mut lines, why, walk.next_number(), out);
         }
     }
@@ -88,16 +87,4 @@ fn end<W: Write>(lines: &mut Lines, why: Why, next: u32, out: &mut W) -> Result<
     }
     print(&lines.text, out)?;
     Ok(Fetched { why, next })
-}
-
-/// Why a walk ends with a step that ended so; a whole reply doesn't end it.
-fn why_of(ended: Ended) -> Option<Why>
-    ensures { result ≡ why_of ended }
-{
-    match ended {
-        Ended::StepLimit => None,
-        Ended::CaughtUp => Some(Why::CaughtUp),
-        Ended::Fault(fault) => Some(Why::Fault(fault)),
-        Ended::Stopped => Some(Why::Memory),
-    }
 }

@@ -7,7 +7,7 @@ ghost use Rattle.bac_link.specs.Laws.{after_answers};
 ghost use Rattle.bac_walk.specs.declared.outcome.Ended.{Ended as EndedOf};
 ghost use Rattle.bac_walk.specs.Sinks.{IsRun};
 ghost use Rattle.bac_walk.specs.Kept.{IsKept};
-ghost use Rattle.bac_walk.specs.Outcomes.{IsRunOf, why_of};
+ghost use Rattle.bac_walk.specs.Outcomes.{IsRunOf};
 ghost use Rattle.bac_walk.specs.Rests.{rest, Rests, Misses};
 
 use crate::batch::{Gap, Numbered};
@@ -97,7 +97,7 @@ pub fn collect<L: LogLink>(
             };
         }
         let ended = deliver(link, transactions, walk, 1, &mut kept);
-        if let Some(why) = why_of(ended) {
+        if let Some(why) = ended.why() {
             return Outcome {
                 items: kept.items,
                 next: walk.next_number(),
@@ -118,16 +118,4 @@ fn make_room(kept: &mut Kept) -> bool
     ensures room { result ≡ true → length kept.new.items.items + 101 ≤ vec_capacity kept.new.items }
 {
     kept.items.reserve(101).is_ok()
-}
-
-// Why a run ends with a step that ended so; a whole batch doesn't end it.
-fn why_of(ended: Ended) -> Option<Why>
-    ensures { result ≡ why_of ended }
-{
-    match ended {
-        Ended::StepLimit => None,
-        Ended::CaughtUp => Some(Why::CaughtUp),
-        Ended::Fault(fault) => Some(Why::Fault(fault)),
-        Ended::Stopped => Some(Why::Memory),
-    }
 }

@@ -1,4 +1,8 @@
 //! What the calls of a walk answer.
+
+ghost use Rattle.std.specs.Prelude.{◌≡◌};
+ghost use Rattle.bac_walk.specs.Outcomes.{why_of};
+
 use crate::batch::Batch;
 use bac_link::{Item, Refusal};
 
@@ -61,4 +65,19 @@ pub enum Why {
     Fault(WalkFault),
     /// There was no room for the items of another step.
     Memory,
+}
+
+impl Ended {
+    /// Why a run ends with a step that ended so; a whole reply doesn't end it. A step that was
+    /// stopped found no room for its items.
+    pub fn why(self) -> Option<Why>
+        ensures { result ≡ why_of self }
+    {
+        match self {
+            Ended::StepLimit => None,
+            Ended::CaughtUp => Some(Why::CaughtUp),
+            Ended::Fault(fault) => Some(Why::Fault(fault)),
+            Ended::Stopped => Some(Why::Memory),
+        }
+    }
 }

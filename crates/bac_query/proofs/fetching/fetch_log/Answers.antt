@@ -77,7 +77,7 @@ loop-done-preserved g c =
     let run = run_on was mid is c.args.walk.log c.loop-done.walk.log c.args.transactions.now.retries c.loop-done.transactions.retries
     (g.L.LogLink.failures c.args.link.now) (g.L.LogLink.failures c.loop-done.link) (g.L.LogLink.failures c.deliver_lines.new.link)
     c.args.walk c.loop-done.walk c.deliver_lines.new.walk c.loop-done.done c.deliver_lines.result v.0 step.0 v.1 v.2 v.3 v.5 step.2 in
-    let limit = goes_on c.deliver_lines.result (sym c.why_of.ensures ∙ c.in_default-why_of.is) in
+    let limit = goes_on c.deliver_lines.result (sym c.why.ensures ∙ c.in_default-why.is) in
     let P : Ended → Type 0 = λ e. IsRun (was c.args.walk.log) (is c.args.walk.log) c.args.transactions.now.retries
     (g.L.LogLink.failures c.args.link.now) (g.L.LogLink.failures c.deliver_lines.new.link) c.args.walk c.deliver_lines.new.walk (c.loop-done.done + 1) e (v.0 ++ step.0) in (
       v.0 ++ step.0,

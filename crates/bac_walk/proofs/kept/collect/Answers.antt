@@ -51,7 +51,7 @@ returns-in-Some-clause-delivers g c =
     let R : List Item → Type 0 = λ l. IsRun was is c.args.transactions.now.retries (g.L.LogLink.failures c.args.link.now) (g.L.LogLink.failures c.deliver-ended.new.link)
     c.args.walk.now c.deliver-ended.new.walk (c.loop-done.done + 1) c.deliver-ended.result l in
     let run = subst R same joined in
-    let some = sym c.why_of.ensures ∙ c.in-Some.is in (
+    let some = sym c.why.ensures ∙ c.in-Some.is in (
       c.args.steps,
       c.deliver-ended.result,
       ends_run c.deliver-ended.result c.in-Some.why c.args.steps all.0 some,
@@ -82,7 +82,7 @@ returns-in-Some-clause-resting g c r m H s sure honest next =
     let R : List Item → Type 0 = λ l. IsRun was is c.args.transactions.now.retries (g.L.LogLink.failures c.args.link.now) (g.L.LogLink.failures c.deliver-ended.new.link)
     c.args.walk.now c.deliver-ended.new.walk (c.loop-done.done + 1) c.deliver-ended.result l in
     let run = subst R same joined in
-    let some = sym c.why_of.ensures ∙ c.in-Some.is in
+    let some = sym c.why.ensures ∙ c.in-Some.is in
     let early = run_early was is c.args.transactions.now.retries (g.L.LogLink.failures c.args.link.now) (g.L.LogLink.failures c.deliver-ended.new.link)
     c.args.walk.now c.deliver-ended.new.walk (c.loop-done.done + 1) c.args.steps c.deliver-ended.result c.deliver-ended.new.sink.items.items
     (not_limit c.deliver-ended.result c.in-Some.why some) (omega arith) run in
@@ -119,7 +119,7 @@ loop-done-preserved g c =
     let R : List Item → Type 0 = λ l. IsRun was is c.args.transactions.now.retries (g.L.LogLink.failures c.args.link.now) (g.L.LogLink.failures c.deliver-ended.new.link)
     c.args.walk.now c.deliver-ended.new.walk (c.loop-done.done + 1) c.deliver-ended.result l in
     let run = subst R same joined in
-    let limit = goes_on c.deliver-ended.result (sym c.why_of.ensures ∙ c.in_default.is) in
+    let limit = goes_on c.deliver-ended.result (sym c.why.ensures ∙ c.in_default.is) in
     let S : Ended → Type 0 = λ e. IsRun was is c.args.transactions.now.retries (g.L.LogLink.failures c.args.link.now) (g.L.LogLink.failures c.deliver-ended.new.link)
     c.args.walk.now c.deliver-ended.new.walk (c.loop-done.done + 1) e c.deliver-ended.new.sink.items.items in
     let K : Id → Type 0 = λ n. g.L.LogLink.lacks c.loop-done.link n in
