@@ -8,7 +8,7 @@ use Rattle.bac_apdu.specs.Adding.{context_octets}
 use Rattle.bac_apdu.specs.FormCanon.{canon_form}
 use Rattle.bac_apdu.specs.Frame.{frame_octets}
 use Rattle.bac_apdu.specs.Npdu.{header_octets}
-use Rattle.bac_apdu.specs.Service.WhoIs.{who_is, who_is_items}
+use Rattle.bac_apdu.specs.Service.WhoIs.{who_is, who_is_parameters}
 use Rattle.bac_apdu.specs.declared.service.who_is.WhoIs.{WhoIs}
 use Rattle.bac_apdu.proofs.Shorts.{length-frame, length-header}
 use Rattle.bac_find.specs.Requests.{plain, who_is_apdu}
@@ -31,8 +31,8 @@ limits_short low high =
       limit_short 1 high (omega arith),
     )
 
-pub parameters_short : (w : WhoIs) → length (canon_form who_is (who_is_items w)) ≤ 20
-parameters_short w = elim w.limits as (λ limits. length (canon_form who_is (who_is_items (record { limits = limits }))) ≤ 20) [
+pub parameters_short : (w : WhoIs) → length (canon_form who_is (who_is_parameters w)) ≤ 20
+parameters_short w = elim w.limits as (λ limits. length (canon_form who_is (who_is_parameters (record { limits = limits }))) ≤ 20) [
   | None ↦ omega arith
   | Some limits ↦ limits_short limits.0 limits.1
 ]

@@ -5,7 +5,7 @@ use Rattle.bac_apdu.specs.FormCanon.{canon_form}
 use Rattle.bac_apdu.specs.Frame.{frame_octets}
 use Rattle.bac_apdu.specs.Npdu.{Header, header_octets}
 use Rattle.bac_apdu.specs.Service.Choice.{who_is_service}
-use Rattle.bac_apdu.specs.Service.WhoIs.{who_is, who_is_items}
+use Rattle.bac_apdu.specs.Service.WhoIs.{who_is, who_is_parameters}
 use Rattle.bac_apdu.specs.declared.service.who_is.WhoIs.{WhoIs}
 
 -- no destination, no source, no reply expected, normal priority: 01 00
@@ -14,7 +14,7 @@ plain = record { network = false; reply = false; priority = 0; dest = None; sour
 
 -- an Unconfirmed-Request
 abbrev pub who_is_apdu : WhoIs → List ℕ
-who_is_apdu request = apdu_octets (Unconfirmed who_is_service (canon_form who_is (who_is_items request)))
+who_is_apdu request = apdu_octets (Unconfirmed who_is_service (canon_form who_is (who_is_parameters request)))
 
 -- in a frame to one device
 unfoldable pub who_is_octets : WhoIs → List ℕ

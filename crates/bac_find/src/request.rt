@@ -2,7 +2,7 @@
 
 ghost use Rattle.std.specs.Prelude.{◌≡◌};
 ghost use Rattle.bac_apdu.specs.FormCanon.{canon_form};
-ghost use Rattle.bac_apdu.specs.Service.WhoIs.{who_is, who_is_items};
+ghost use Rattle.bac_apdu.specs.Service.WhoIs.{who_is, who_is_parameters};
 ghost use Rattle.bac_find.specs.Requests.{who_is_apdu, who_is_octets};
 
 use bac_apdu::choice::WHO_IS;
@@ -20,7 +20,7 @@ const PLAIN: Npdu = Npdu {
 };
 
 fn parameters_of(request: &WhoIs) -> Datagram
-    ensures { result ≡ canon_form who_is (who_is_items request.now) }
+    ensures { result ≡ canon_form who_is (who_is_parameters request.now) }
 {
     let mut parameters = Datagram::new();
     request.write(&mut parameters).unwrap();
