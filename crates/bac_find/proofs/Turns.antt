@@ -1,7 +1,8 @@
 -- One address more, and one receive more.
 use Rattle.std.proofs.Common.{◌≡◌, ◌<◌, ◌+◌, ◌-◌, ℕ, suc, Bool, List, length, drop, get_or, arith}
 use Rattle.std.proofs.lemmas.List.{drop_more}
-use Rattle.bac_find.specs.Finding.{AsksEach, Found, Hears, Held, IsHeard, IsSent}
+use Rattle.bac_find.specs.Finding.{AsksEach, IsSent}
+use Rattle.bac_find.specs.Hearing.{Found, Hears, Held, IsHeard}
 use Rattle.bac_ports.specs.Port.{Receiving, Sending}
 
 pub asks_once : {P : Type 0} (sends : P → List ℕ → List ℕ → Sending → P → Type 0) (octets : List ℕ) (addresses : List (List ℕ))

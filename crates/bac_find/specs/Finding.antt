@@ -1,61 +1,68 @@
 -- How devices are found, over any port and any writer. Read from the end. A port, and what a writer holds where that is
 -- known, stand before the answer as they were, and behind it as they are afterwards.
-use Rattle.std.specs.Prelude.{◌≡◌, ℕ, zero, suc, ◌||◌, Bool, true, false, if◌then◌else◌, List, [], ◌∷◌, Option, Some, None, Result, Ok, Err}
-use Rattle.std.specs.Io.KnownBytes.{Appends, Keeps}
+use Rattle.std.specs.Prelude.{◌≡◌, ℕ, ◌≤◌, ◌<◌, ◌⊎◌, is_some, Bool, true, false, List, [], ◌∷◌, ◌++◌, length, Option, Some, None, Ok, Err}
+use Rattle.std.specs.List.{list_any}
+use Rattle.std.specs.Io.KnownBytes.{Appends}
 use Rattle.bac_apdu.specs.declared.service.who_is.WhoIs.{WhoIs}
 use Rattle.bac_find.specs.Announcements.{announced}
+use Rattle.bac_find.specs.Hearing.{Found, Held}
 use Rattle.bac_find.specs.Lines.{device_line}
 use Rattle.bac_find.specs.Requests.{who_is_octets}
 use Rattle.bac_find.specs.declared.announcement.Announcement.{Announcement}
-use Rattle.bac_find.specs.declared.fault.FindFault.{FindFault}
 use Rattle.bac_find.specs.declared.fault.FindFault.TheVariants.{Socket, NoAnswer, Write, Memory}
 use Rattle.bac_ports.specs.Port.{Receiving, Sending}
+use Rattle.bac_ports.specs.declared.port.Heard.{Heard}
 use Rattle.bac_ports.specs.declared.port.SocketFault.TheVariants.{Timeout, Failed}
 use Rattle.bac_print.specs.Output.{AppendsPart}
 
-abbrev pub Found : Type 0
-Found = Result (Unit {0}) FindFault
+-- ---- the datagrams that came
 
-abbrev pub Held : Type 0
-Held = Option (List ℕ)
+abbrev pub line_of : Option Announcement → List ℕ
+line_of None = []
+line_of (Some said) = device_line said
 
--- ---- one datagram
+-- the lines of the devices that they announce, in order
+abbrev pub lines_of : List Heard → List ℕ
+lines_of [] = []
+lines_of (heard ∷ came) = line_of (announced heard) ++ lines_of came
 
--- Nothing is printed where no device announces itself. Else its line is written, or a front part of it where a write was
--- refused, or nothing where there was no memory for it.
-abbrev pub Shows : Option Announcement → Result Bool FindFault → Held → Held → Type 0
-Shows None shown held after = (shown ≡ Ok false) × (after ≡ held)
-Shows (Some said) (Ok shown) held after = (shown ≡ true) × Appends held after (device_line said)
-Shows (Some said) (Err Write) held after = AppendsPart held after (device_line said)
-Shows (Some said) (Err Memory) held after = Keeps held after
-Shows (Some said) (Err Socket) held after = ⊥
-Shows (Some said) (Err NoAnswer) held after = ⊥
+-- whether one of them announces a device
+abbrev pub has_device : List Heard → Bool
+has_device came = list_any (λ heard. is_some (announced heard)) came
 
--- a fault is the end; else there is more to be done, and it is known whether an I-Am was taken so far
-abbrev pub IsShown : {P : Type 0} → Result Bool FindFault → Bool → P → Held → Found → P → Held → (Bool → Type 0) → Type 0
-IsShown (Err fault) taken port held result new after more = (result ≡ Err fault) × (new ≡ port) × (after ≡ held)
-IsShown (Ok shown) taken port held result new after more = more (taken || shown)
+-- each of them came, one a receive
+abbrev pub Came : {P : Type 0} → (P → Receiving → P → Type 0) → List Heard → P → P → Type 0
+Came receives [] port new = new ≡ port
+Came {P = P} receives (heard ∷ came) port new = (mid : P) × receives port (Ok heard) mid × Came receives came mid new
 
--- ---- all that is received
+-- ---- the end
 
--- what is answered in the end
-abbrev pub ended : Bool → Found
-ended taken = if taken then Ok tt else Err NoAnswer
+-- so many came as may, or nothing came in time before that
+abbrev pub IsOver : {P : Type 0} → (P → Receiving → P → Type 0) → ℕ → List Heard → P → P → Type 0
+IsOver receives limit came port new = ((length came ≡ limit) × (new ≡ port)) ⊎ ((length came < limit) × receives port (Err Timeout) new)
 
--- a wait in which nothing comes is the end, and so is a failure; what comes is shown
-abbrev pub IsHeard : {P : Type 0} → Receiving → Bool → P → Held → Found → P → Held → (Bool → Held → Type 0) → Type 0
-IsHeard (Err Timeout) taken port held result new after more = (result ≡ ended taken) × (new ≡ port) × (after ≡ held)
-IsHeard (Err Failed) taken port held result new after more = (result ≡ Err Socket) × (new ≡ port) × (after ≡ held)
-IsHeard (Ok heard) taken port held result new after more =
-    (shown : Result Bool FindFault) × (between : Held) × Shows (announced heard) shown held between
-    × IsShown shown taken port between result new after (λ now. more now between)
+-- the last datagram announces this device, and the lines of those before it were written
+abbrev pub IsLast : Announcement → List Heard → Held → Held → Type 0
+IsLast said came held after =
+    (earlier : List Heard) × (last : Heard) × (came ≡ earlier ++ last ∷ []) × (announced last ≡ Some said) × Appends held after (lines_of earlier)
 
--- at most so many receives
-unfoldable pub Hears : {P : Type 0} → (P → Receiving → P → Type 0) → ℕ → Bool → P → Held → Found → P → Held → Type 0
-Hears receives zero taken port held result new after = (result ≡ ended taken) × (new ≡ port) × (after ≡ held)
-Hears {P = P} receives (suc limit) taken port held result new after =
-    (heard : Receiving) × (mid : P) × receives port heard mid
-    × IsHeard heard taken mid held result new after (λ now between. Hears receives limit now mid between result new after)
+-- The lines of all were written. After a refused write the last is there in part, and without memory for it not at all.
+abbrev pub Ends : {P : Type 0} → (P → Receiving → P → Type 0) → ℕ → List Heard → P → Held → Found → P → Held → Type 0
+Ends receives limit came port held (Ok done) new after =
+    (has_device came ≡ true) × IsOver receives limit came port new × Appends held after (lines_of came)
+Ends receives limit came port held (Err NoAnswer) new after =
+    (has_device came ≡ false) × IsOver receives limit came port new × Appends held after (lines_of came)
+Ends receives limit came port held (Err Socket) new after =
+    (length came < limit) × receives port (Err Failed) new × Appends held after (lines_of came)
+Ends receives limit came port held (Err Write) new after =
+    (new ≡ port) × ((said : Announcement) × (between : Held) × IsLast said came held between × AppendsPart between after (device_line said))
+Ends receives limit came port held (Err Memory) new after = (new ≡ port) × ((said : Announcement) × IsLast said came held after)
+
+-- Datagrams came, so many at most, and were shown. Each receive brings one, but for a last one in vain.
+abbrev pub Prints : {P : Type 0} → (P → Receiving → P → Type 0) → ℕ → P → Held → Found → P → Held → Type 0
+Prints {P = P} receives limit port held result new after =
+    (came : List Heard) × (mid : P) × (length came ≤ limit) × Came receives came port mid
+    × Ends receives limit came mid held result new after
 
 -- ---- the requests
 
@@ -83,4 +90,4 @@ abbrev pub Finds : {P : Type 0} → (P → List ℕ → List ℕ → Sending →
     → List (List ℕ) → P → Held → Found → P → Held → Type 0
 Finds {P = P} sends receives limit request addresses port held result new after =
     (sent : Sending) × (mid : P) × AsksEach sends (who_is_octets request) addresses port sent mid
-    × IsAsked sent mid held result new after (Hears receives limit false mid held result new after)
+    × IsAsked sent mid held result new after (Prints receives limit mid held result new after)

@@ -3,7 +3,8 @@
 ghost use Rattle.std.specs.Prelude.{◌≡◌, OnErr, OnOk, false};
 ghost use Rattle.std.specs.Io.KnownBytes.{Appends};
 ghost use Rattle.bac_find.specs.Announcements.{announced as announced_by};
-ghost use Rattle.bac_find.specs.Finding.{AsksEach, Finds, Hears, Shows, ended};
+ghost use Rattle.bac_find.specs.Finding.{AsksEach, Finds};
+ghost use Rattle.bac_find.specs.Hearing.{Hears, Shows, ended};
 ghost use Rattle.bac_print.specs.Output.{AppendsPart};
 
 use crate::announcement::announced;
@@ -55,7 +56,7 @@ fn ask_each<P: Port>(port: &mut P, octets: &[u8], addresses: &[[u8; 6]]) -> Resu
 }
 
 /// Receives so many datagrams at most, and prints the lines of the I-Ams among them.
-#[tactic(auto, unfolding(crate::specs::Finding::Hears))]
+#[tactic(auto, unfolding(crate::specs::Hearing::Hears))]
 fn hear<P: Port, W: Write>(
     alloc: Global,
     port: &mut P,

@@ -2,7 +2,7 @@
 //! (clause 16.10).
 //!
 //! [`find_devices`] sends the requests and prints the answers. What it sends to whom, how many
-//! datagrams it receives and what it prints of each is said of every port and every writer
+//! datagrams come and what is printed of them is said of every port and every writer
 //! (specs/Finding); which datagrams announce a device is in specs/Announcements.
 #![tactic(auto)]
 

@@ -1,5 +1,5 @@
 use Rattle.std.proofs.Common.{◌-◌, false}
-use Rattle.bac_find.specs.Finding.{Hears}
+use Rattle.bac_find.specs.Hearing.{Hears}
 use Rattle.bac_find.proofs.finding.hear.Given as goal
 
 -- what the receives that are left lead to, all of them lead to
