@@ -7,7 +7,7 @@ use Rattle.std.proofs.lemmas.Option.{slice_get_within, get_or_from_slice_get}
 use Rattle.bac_wire.specs.Primitive.{Id, Object, Enumerated, Bits, Unsigned}
 use Rattle.bac_apdu.specs.Adding.{context_octets, open_octets, close_octets}
 use Rattle.bac_apdu.specs.Apdu.{Apdu, Complex, apdu_octets}
-use Rattle.bac_apdu.specs.Form.{Value, Mark, Inside, Absent, number_item}
+use Rattle.bac_apdu.specs.Form.{Value, Mark, Inside, Absent, number_parameter}
 use Rattle.bac_apdu.specs.FormCanon.{canon_form}
 use Rattle.bac_apdu.specs.Service.ReadRangeAck.{read_range_ack, flag_bits}
 use Rattle.bac_apdu.specs.declared.service.extent.Extent.{Extent}
@@ -126,7 +126,7 @@ counted many (suc p) [] le = absurd (omega (arith, le))
 counted many (suc p) (x ∷ xs) le = counted many p xs (omega (arith, le))
 
 pub written : (object : Id) (flags many : ℕ) (first : Option ℕ) (entries : List Entry) (items : List ℕ) → items ≡ entries_octets entries → length entries ≡ many
-    → canon_form read_range_ack (Value (Object object) ∷ Value (Enumerated 131) ∷ Absent ∷ Value (Bits (flag_bits flags)) ∷ Value (Unsigned many) ∷ Mark 5 ∷ Inside items ∷ number_item first ∷ []) ≡ ack_parameters object flags first entries
+    → canon_form read_range_ack (Value (Object object) ∷ Value (Enumerated 131) ∷ Absent ∷ Value (Bits (flag_bits flags)) ∷ Value (Unsigned many) ∷ Mark 5 ∷ Inside items ∷ number_parameter first ∷ []) ≡ ack_parameters object flags first entries
 unfolding ack_parameters
 written object flags many first entries items is count = rw (is, ← count) refl
 
@@ -136,7 +136,7 @@ fresh old text new is none = is ∙ ap (λ (l : List ℕ). l ++ text) none
 
 -- the ACK didn't fit a datagram
 pub unwritten : (limit invoke : ℕ) (object : Id) (flags many : ℕ) (first : Option ℕ) (entries : List Entry) (items old : List ℕ) → limit ≤ 1476 → items ≡ entries_octets entries → length entries ≡ many → old ≡ []
-    → 1501 < length old + length (canon_form read_range_ack (Value (Object object) ∷ Value (Enumerated 131) ∷ Absent ∷ Value (Bits (flag_bits flags)) ∷ Value (Unsigned many) ∷ Mark 5 ∷ Inside items ∷ number_item first ∷ []))
+    → 1501 < length old + length (canon_form read_range_ack (Value (Object object) ∷ Value (Enumerated 131) ∷ Absent ∷ Value (Bits (flag_bits flags)) ∷ Value (Unsigned many) ∷ Mark 5 ∷ Inside items ∷ number_parameter first ∷ []))
     → datagram_octets (abort invoke) ≡ datagram_octets (limited limit invoke (Complex false invoke 26 (ack_parameters object flags first entries)))
 unwritten limit invoke object flags many first entries items old le is count none long =
     let m : Apdu = Complex false invoke 26 (ack_parameters object flags first entries) in
