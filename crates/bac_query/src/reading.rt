@@ -63,12 +63,12 @@ fn print_values<W: Write>(alloc: Global, datagram: &[u8], out: &mut W) -> Result
     print(&text, out)
 }
 
-/// Prints a text with one write, as far as the output takes it at once.
+/// Prints a text with one write, as far as the output takes it at once, and flushes the output.
 pub(crate) fn print<W: Write>(text: &[u8], out: &mut W) -> Result<(), QueryFault>
     ensures { Prints text.now result (W.contents out.old) (W.contents out.new) }
 {
-    match write_text(out, text) {
-        Ok(()) => Ok(()),
-        Err(_) => Err(QueryFault::Write),
+    if write_text(out, text).is_err() || out.flush().is_err() {
+        return Err(QueryFault::Write);
     }
+    Ok(())
 }

@@ -6,3 +6,4 @@ pub mod EndLemmas
 pub mod Moments
 pub mod Walks
 pub mod Outcomes
+pub mod ConfigurationLemmas

@@ -7,3 +7,4 @@ pub mod Views
 pub mod Replay
 pub mod Outcomes
 pub mod Stops
+pub mod Configuration

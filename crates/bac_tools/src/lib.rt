@@ -11,8 +11,10 @@
 //! program's words, its standard streams and its exit status are in the crate bac.
 #![tactic(auto)]
 
+mod configuration;
 mod replay;
 mod script;
 
+pub use configuration::{Configuration, read_configuration};
 pub use replay::fault::ReplayFault;
 pub use replay::{LIMIT, run_replay, run_replay_buffered};

@@ -13,7 +13,7 @@ ghost use Rattle.bac_tools.specs.Views.{state_of};
 ghost use Rattle.bac_tools.specs.Stops.{LineStops, Stops, ScriptStops};
 
 pub(crate) mod fault;
-mod input;
+pub(crate) mod input;
 mod session;
 mod walk;
 

@@ -1,0 +1,10 @@
+-- The faults of the crates below as faults of a tool.
+use Rattle.bac_query.specs.declared.fault.QueryFault.{QueryFault}
+use Rattle.bac_query.specs.declared.fault.QueryFault.TheVariants as query
+use Rattle.bac_run.specs.declared.fault.Fault.{Fault}
+use Rattle.bac_run.specs.declared.fault.Fault.TheVariants.{Exchange, Write, Memory}
+
+abbrev pub of_query : QueryFault → Fault
+of_query (query.Exchange fault) = Exchange fault
+of_query query.Write = Write
+of_query query.Memory = Memory

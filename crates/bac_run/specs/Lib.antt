@@ -1,0 +1,4 @@
+pub mod Faults
+pub mod Status
+pub mod Given
+pub mod Run
