@@ -4,11 +4,11 @@ use Rattle.std.proofs.lemmas.List.{take_at, take-take, length-append}
 use Rattle.std.specs.Result.{IsErr}
 use Rattle.bac_wire.specs.Primitive.{Id, Enumerated, Object, Unsigned}
 use Rattle.bac_apdu.specs.Adding.{Adds, context_octets}
-use Rattle.bac_apdu.specs.Form.{Form, Item}
+use Rattle.bac_apdu.specs.Form.{Form, Parameter}
 use Rattle.bac_apdu.specs.FormCanon.{canon_form}
-use Rattle.bac_apdu.specs.Service.PropertyReference.{property_then, property_items_then, property_octets}
+use Rattle.bac_apdu.specs.Service.PropertyReference.{property_then, property_parameters_then, property_octets}
 
-property_first : (object : Id) (property : ℕ) (index : Option ℕ) (form : Form) (items : List Item) → canon_form (property_then form) (property_items_then object property index items) ≡ property_octets object property index ++ canon_form form items
+property_first : (object : Id) (property : ℕ) (index : Option ℕ) (form : Form) (items : List Parameter) → canon_form (property_then form) (property_parameters_then object property index items) ≡ property_octets object property index ++ canon_form form items
 unfolding property_octets
 property_first object property None form items =
     let a = context_octets 0 (Object object) in
@@ -37,12 +37,12 @@ module _ {E : Type 0} where
   adds_less old new a b (Err again) full failed adds = (adds.0, omega (arith, adds.1, length-append a b))
 
   -- object, property and index, and then the parameters of another form
-  pub property_adds : (object : Id) (property : ℕ) (index : Option ℕ) (form : Form) (items : List Item) (old mid new : List ℕ) (result : Result (Unit {0}) E)
-      → mid ≡ old ++ property_octets object property index → Adds mid (canon_form form items) result new → Adds old (canon_form (property_then form) (property_items_then object property index items)) result new
+  pub property_adds : (object : Id) (property : ℕ) (index : Option ℕ) (form : Form) (items : List Parameter) (old mid new : List ℕ) (result : Result (Unit {0}) E)
+      → mid ≡ old ++ property_octets object property index → Adds mid (canon_form form items) result new → Adds old (canon_form (property_then form) (property_parameters_then object property index items)) result new
   property_adds object property index form items old mid new result e adds =
       subst (λ (text : List ℕ). Adds old text result new) (sym (property_first object property index form items)) (adds_then old mid new (property_octets object property index) (canon_form form items) result e adds)
 
-  pub property_full : (object : Id) (property : ℕ) (index : Option ℕ) (form : Form) (items : List Item) (old new : List ℕ) (result : Result (Unit {0}) E) (full : E)
-      → IsErr result → Adds {E = E} old (property_octets object property index) (Err full) new → Adds old (canon_form (property_then form) (property_items_then object property index items)) result new
+  pub property_full : (object : Id) (property : ℕ) (index : Option ℕ) (form : Form) (items : List Parameter) (old new : List ℕ) (result : Result (Unit {0}) E) (full : E)
+      → IsErr result → Adds {E = E} old (property_octets object property index) (Err full) new → Adds old (canon_form (property_then form) (property_parameters_then object property index items)) result new
   property_full object property index form items old new result full failed adds =
       subst (λ (text : List ℕ). Adds old text result new) (sym (property_first object property index form items)) (adds_less old new (property_octets object property index) (canon_form form items) result full failed adds)

@@ -16,8 +16,8 @@ use Rattle.bac_apdu.specs.declared.service.read_range.ReadRange.{ReadRange}
 use Rattle.bac_apdu.specs.declared.service.read_range_ack.ReadRangeAck.{ReadRangeAck}
 use Rattle.bac_apdu.specs.declared.service.who_is.WhoIs.{WhoIs}
 use Rattle.bac_apdu.specs.Reason.{reasoned}
-use Rattle.bac_apdu.specs.Form.{Form, Part, Item, Value, Mark, Absent, end, part, optional, choice, context, application, opening, unsigned, signed, date, time, is_u32, value_next, opening_next}
-use Rattle.bac_apdu.specs.FormReading.{form_at, part_at, optional_at, typed_at, ranged}
+use Rattle.bac_apdu.specs.Form.{Form, Row, Parameter, Value, Mark, Absent, end, row, optional, choice, context, application, opening, unsigned, signed, date, time, is_u32, value_next, opening_next}
+use Rattle.bac_apdu.specs.FormReading.{form_at, row_at, optional_at, typed_at, ranged}
 use Rattle.bac_apdu.specs.Fields.{number_in, unsigned_in, signed_in, date_in, time_in}
 use Rattle.bac_apdu.specs.Service.Extent.{range, by_reference, by_time, extent_in, is_count, is_date, is_time, date_fits, time_fits, IsExtent}
 use Rattle.bac_apdu.specs.Service.ReadRange.{read_range, read_range_at, range_in}
@@ -28,75 +28,75 @@ use Rattle.bac_apdu.specs.Service.WhoIs.{who_is, who_is_at, who_is_in, both, is_
 
 -- ---- one parameter off the front
 
-record Behind (read : List ℕ → Result (Item × List ℕ) Reason) (form : Form) (items : List Item) : Type 0 where
-  item : Item
-  tail : List Item
+record Behind (read : List ℕ → Result (Parameter × List ℕ) Reason) (form : Form) (items : List Parameter) : Type 0 where
+  item : Parameter
+  tail : List Parameter
   front : List ℕ
   bytes : List ℕ
   is : items ≡ item ∷ tail
   at : read front ≡ Ok (item, bytes)
   rest : form_at form bytes ≡ Ok tail
 
-behind : (read : List ℕ → Result (Item × List ℕ) Reason) (form : Form) (bytes : List ℕ) (items : List Item) → (read bytes >>= (λ item. form_at form item.1 >>= (λ tail. Ok (item.0 ∷ tail)))) ≡ Ok items → Behind read form items
+behind : (read : List ℕ → Result (Parameter × List ℕ) Reason) (form : Form) (bytes : List ℕ) (items : List Parameter) → (read bytes >>= (λ item. form_at form item.1 >>= (λ tail. Ok (item.0 ∷ tail)))) ≡ Ok items → Behind read form items
 behind read form bytes items h =
     let a = bind_ok (read bytes) (λ item. form_at form item.1 >>= (λ tail. Ok (item.0 ∷ tail))) items h in
     let b = bind_ok (form_at form a.0.1) (λ tail. Ok (a.0.0 ∷ tail)) items a.2 in
     record { item = a.0.0; tail = b.0; front = bytes; bytes = a.0.1; is = sym (ok_is {F = Reason} (a.0.0 ∷ b.0) items b.2); at = a.1; rest = b.1 }
 
-behind_part : (p : Part) (form : Form) (bytes : List ℕ) (items : List Item) → form_at (part p form) bytes ≡ Ok items → Behind (part_at p) form items
+behind_row : (p : Row) (form : Form) (bytes : List ℕ) (items : List Parameter) → form_at (row p form) bytes ≡ Ok items → Behind (row_at p) form items
 unfolding form_at
-behind_part p form bytes items h = behind (part_at p) form bytes items h
+behind_row p form bytes items h = behind (row_at p) form bytes items h
 
-behind_optional : (tag type : ℕ) (fits : Primitive → Bool) (form : Form) (bytes : List ℕ) (items : List Item) → form_at (optional tag type fits form) bytes ≡ Ok items → Behind (optional_at tag type fits) form items
+behind_optional : (tag type : ℕ) (fits : Primitive → Bool) (form : Form) (bytes : List ℕ) (items : List Parameter) → form_at (optional tag type fits form) bytes ≡ Ok items → Behind (optional_at tag type fits) form items
 unfolding form_at
 behind_optional tag type fits form bytes items h = behind (optional_at tag type fits) form bytes items h
 
-way : (tag : ℕ) (there otherwise : Form) (bytes : List ℕ) (items : List Item) → form_at (choice tag there otherwise) bytes ≡ Ok items → (form_at there bytes ≡ Ok items) ⊎ (form_at otherwise bytes ≡ Ok items)
+way : (tag : ℕ) (there otherwise : Form) (bytes : List ℕ) (items : List Parameter) → form_at (choice tag there otherwise) bytes ≡ Ok items → (form_at there bytes ≡ Ok items) ⊎ (form_at otherwise bytes ≡ Ok items)
 unfolding form_at
 way tag there otherwise bytes items h = elim (chosen (opening_next tag bytes) (form_at there bytes) (form_at otherwise bytes) items h) [
   | inl a ↦ inl a.1
   | inr a ↦ inr a.1
 ]
 
-nothing_left : (bytes : List ℕ) (items : List Item) → form_at end bytes ≡ Ok items → items ≡ []
+nothing_left : (bytes : List ℕ) (items : List Parameter) → form_at end bytes ≡ Ok items → items ≡ []
 unfolding form_at
 nothing_left [] items h = sym (ok_is {F = Reason} [] items h)
 nothing_left (octet ∷ bytes) items h = absurd cc
 
 -- ---- its item
 
-abbrev IsValue : (Primitive → Bool) → Item → Type 0
+abbrev IsValue : (Primitive → Bool) → Parameter → Type 0
 IsValue fits item = (v : Primitive) × (item ≡ Value v) × (fits v ≡ true)
 
-ranged_is : (fits : Primitive → Bool) (v : Primitive) (rest : List ℕ) (x : Item × List ℕ) → ranged fits v rest ≡ Ok x → IsValue fits x.0
+ranged_is : (fits : Primitive → Bool) (v : Primitive) (rest : List ℕ) (x : Parameter × List ℕ) → ranged fits v rest ≡ Ok x → IsValue fits x.0
 ranged_is fits v rest x h =
     let w = want_ok (fits v) OutOfRange (Ok (Value v, rest)) x h in
-    (v, ap (λ (y : Item × List ℕ). y.0) (sym (ok_is {F = Reason} (Value v, rest) x w.1)), w.0)
+    (v, ap (λ (y : Parameter × List ℕ). y.0) (sym (ok_is {F = Reason} (Value v, rest) x w.1)), w.0)
 
-application_is : (type : ℕ) (fits : Primitive → Bool) (bytes : List ℕ) (x : Item × List ℕ) → part_at (application type fits) bytes ≡ Ok x → IsValue fits x.0
-unfolding part_at
+application_is : (type : ℕ) (fits : Primitive → Bool) (bytes : List ℕ) (x : Parameter × List ℕ) → row_at (application type fits) bytes ≡ Ok x → IsValue fits x.0
+unfolding row_at
 application_is type fits bytes x h =
     let v = bind_ok (typed_at type bytes) (λ value. ranged fits value.0 value.1) x h in
     ranged_is fits v.0.0 v.0.1 x v.2
 
-context_is : (tag type : ℕ) (fits : Primitive → Bool) (bytes : List ℕ) (x : Item × List ℕ) → part_at (context tag type fits) bytes ≡ Ok x → IsValue fits x.0
-unfolding part_at
+context_is : (tag type : ℕ) (fits : Primitive → Bool) (bytes : List ℕ) (x : Parameter × List ℕ) → row_at (context tag type fits) bytes ≡ Ok x → IsValue fits x.0
+unfolding row_at
 context_is tag type fits bytes x h =
     let c = bind_ok (reasoned (context_at tag bytes)) (λ c. reasoned (contents_as type c.0) >>= (λ v. ranged fits v c.1)) x h in
     let v = bind_ok (reasoned (contents_as type c.0.0)) (λ v. ranged fits v c.0.1) x c.2 in
     ranged_is fits v.0 c.0.1 x v.2
 
-opening_is : (tag : ℕ) (bytes : List ℕ) (x : Item × List ℕ) → part_at (opening tag) bytes ≡ Ok x → x.0 ≡ Mark tag
-unfolding part_at
+opening_is : (tag : ℕ) (bytes : List ℕ) (x : Parameter × List ℕ) → row_at (opening tag) bytes ≡ Ok x → x.0 ≡ Mark tag
+unfolding row_at
 opening_is tag bytes x h =
     let m = bind_ok (reasoned (mark_at 6 tag bytes)) (λ mark. Ok (Mark tag, mark.1)) x h in
-    ap (λ (y : Item × List ℕ). y.0) (sym (ok_is {F = Reason} (Mark tag, m.0.1) x m.2))
+    ap (λ (y : Parameter × List ℕ). y.0) (sym (ok_is {F = Reason} (Mark tag, m.0.1) x m.2))
 
-optional_is : (tag type : ℕ) (fits : Primitive → Bool) (bytes : List ℕ) (x : Item × List ℕ) → optional_at tag type fits bytes ≡ Ok x → IsValue fits x.0 ⊎ (x.0 ≡ Absent)
+optional_is : (tag type : ℕ) (fits : Primitive → Bool) (bytes : List ℕ) (x : Parameter × List ℕ) → optional_at tag type fits bytes ≡ Ok x → IsValue fits x.0 ⊎ (x.0 ≡ Absent)
 unfolding optional_at
-optional_is tag type fits bytes x h = elim (chosen (value_next tag bytes) (part_at (context tag type fits) bytes) (Ok (Absent, bytes)) x h) [
+optional_is tag type fits bytes x h = elim (chosen (value_next tag bytes) (row_at (context tag type fits) bytes) (Ok (Absent, bytes)) x h) [
   | inl a ↦ inl (context_is tag type fits bytes x a.1)
-  | inr a ↦ inr (ap (λ (y : Item × List ℕ). y.0) (sym (ok_is {F = Reason} (Absent, bytes) x a.1)))
+  | inr a ↦ inr (ap (λ (y : Parameter × List ℕ). y.0) (sym (ok_is {F = Reason} (Absent, bytes) x a.1)))
 ]
 
 -- ---- values in range
@@ -182,44 +182,44 @@ times_in (Object id) h = no_value h
 
 -- ---- the range of ReadRange
 
-record Referred (tag : ℕ) (items : List Item) : Type 0 where
+record Referred (tag : ℕ) (items : List Parameter) : Type 0 where
   reference : Primitive
   count : Primitive
-  others : List Item
+  others : List Parameter
   is : items ≡ Mark tag ∷ Value reference ∷ Value count ∷ others
   small : is_u32 reference ≡ true
   counted : is_count count ≡ true
 
-referred : (tag : ℕ) (bytes : List ℕ) (items : List Item) → form_at (by_reference tag) bytes ≡ Ok items → Referred tag items
+referred : (tag : ℕ) (bytes : List ℕ) (items : List Parameter) → form_at (by_reference tag) bytes ≡ Ok items → Referred tag items
 referred tag bytes items h =
-    let a = behind_part (opening tag) _ bytes items h in
-    let b = behind_part (application unsigned is_u32) _ a.bytes a.tail a.rest in
-    let c = behind_part (application signed is_count) _ b.bytes b.tail b.rest in
+    let a = behind_row (opening tag) _ bytes items h in
+    let b = behind_row (application unsigned is_u32) _ a.bytes a.tail a.rest in
+    let c = behind_row (application signed is_count) _ b.bytes b.tail b.rest in
     let reference = application_is unsigned is_u32 b.front (b.item, b.bytes) b.at in
     let count = application_is signed is_count c.front (c.item, c.bytes) c.at in
     let mark = opening_is tag a.front (a.item, a.bytes) a.at in
     let all : items ≡ a.item ∷ b.item ∷ c.item ∷ c.tail = a.is ∙ ap (λ l. a.item ∷ l) (b.is ∙ ap (λ l. b.item ∷ l) c.is) in
     record { reference = reference.0; count = count.0; others = c.tail; is = all ∙ three_same mark reference.1 count.1; small = reference.2; counted = count.2 }
   where
-    three_same : {x y z a b c : Item} {l : List Item} → x ≡ a → y ≡ b → z ≡ c → x ∷ y ∷ z ∷ l ≡ a ∷ b ∷ c ∷ l
+    three_same : {x y z a b c : Parameter} {l : List Parameter} → x ≡ a → y ≡ b → z ≡ c → x ∷ y ∷ z ∷ l ≡ a ∷ b ∷ c ∷ l
     three_same e f g = cc
 
-record Timed (items : List Item) : Type 0 where
+record Timed (items : List Parameter) : Type 0 where
   day : Primitive
   clock : Primitive
   count : Primitive
-  others : List Item
+  others : List Parameter
   is : items ≡ Mark 7 ∷ Value day ∷ Value clock ∷ Value count ∷ others
   dated : is_date day ≡ true
   timed : is_time clock ≡ true
   counted : is_count count ≡ true
 
-timed : (bytes : List ℕ) (items : List Item) → form_at by_time bytes ≡ Ok items → Timed items
+timed : (bytes : List ℕ) (items : List Parameter) → form_at by_time bytes ≡ Ok items → Timed items
 timed bytes items h =
-    let a = behind_part (opening 7) _ bytes items h in
-    let b = behind_part (application date is_date) _ a.bytes a.tail a.rest in
-    let c = behind_part (application time is_time) _ b.bytes b.tail b.rest in
-    let d = behind_part (application signed is_count) _ c.bytes c.tail c.rest in
+    let a = behind_row (opening 7) _ bytes items h in
+    let b = behind_row (application date is_date) _ a.bytes a.tail a.rest in
+    let c = behind_row (application time is_time) _ b.bytes b.tail b.rest in
+    let d = behind_row (application signed is_count) _ c.bytes c.tail c.rest in
     let day = application_is date is_date b.front (b.item, b.bytes) b.at in
     let clock = application_is time is_time c.front (c.item, c.bytes) c.at in
     let count = application_is signed is_count d.front (d.item, d.bytes) d.at in
@@ -227,10 +227,10 @@ timed bytes items h =
     let all : items ≡ a.item ∷ b.item ∷ c.item ∷ d.item ∷ d.tail = a.is ∙ ap (λ l. a.item ∷ l) (b.is ∙ ap (λ l. b.item ∷ l) (c.is ∙ ap (λ l. c.item ∷ l) d.is)) in
     record { day = day.0; clock = clock.0; count = count.0; others = d.tail; is = all ∙ four_same mark day.1 clock.1 count.1; dated = day.2; timed = clock.2; counted = count.2 }
   where
-    four_same : {x y z w a b c d : Item} {l : List Item} → x ≡ a → y ≡ b → z ≡ c → w ≡ d → x ∷ y ∷ z ∷ w ∷ l ≡ a ∷ b ∷ c ∷ d ∷ l
+    four_same : {x y z w a b c d : Parameter} {l : List Parameter} → x ≡ a → y ≡ b → z ≡ c → w ≡ d → x ∷ y ∷ z ∷ w ∷ l ≡ a ∷ b ∷ c ∷ d ∷ l
     four_same e f g h = cc
 
-extent_valid : (bytes : List ℕ) (items : List Item) → form_at range bytes ≡ Ok items → IsExtent (extent_in items)
+extent_valid : (bytes : List ℕ) (items : List Parameter) → form_at range bytes ≡ Ok items → IsExtent (extent_in items)
 extent_valid bytes items h = elim (way 3 (by_reference 3) (choice 6 (by_reference 6) (choice 7 by_time end)) bytes items h) [
   | inl a ↦ let r = referred 3 bytes items a in rw r.is (u32_in r.reference r.small, count_in r.count r.counted)
   | inr a ↦ elim (way 6 (by_reference 6) (choice 7 by_time end) bytes items a) [
@@ -242,15 +242,15 @@ extent_valid bytes items h = elim (way 3 (by_reference 3) (choice 6 (by_referenc
   ]
 ]
 
-items_valid : (bytes : List ℕ) (items : List Item) → form_at read_range bytes ≡ Ok items → IsExtent ((range_in items).extent)
+items_valid : (bytes : List ℕ) (items : List Parameter) → form_at read_range bytes ≡ Ok items → IsExtent ((range_in items).extent)
 items_valid bytes items h =
-    let a = behind_part _ _ bytes items h in
-    let b = behind_part _ _ a.bytes a.tail a.rest in
+    let a = behind_row _ _ bytes items h in
+    let b = behind_row _ _ a.bytes a.tail a.rest in
     let c = behind_optional _ _ _ _ b.bytes b.tail b.rest in
     let all : items ≡ a.item ∷ b.item ∷ c.item ∷ c.tail = a.is ∙ ap (λ l. a.item ∷ l) (b.is ∙ ap (λ l. b.item ∷ l) c.is) in
     rw all (extent_valid c.bytes c.tail c.rest)
 
-range_read : (bytes : List ℕ) (read : Result (List Item) Reason) (r : ReadRange) → form_at read_range bytes ≡ read → result_map range_in read ≡ Ok r → IsExtent r.extent
+range_read : (bytes : List ℕ) (read : Result (List Parameter) Reason) (r : ReadRange) → form_at read_range bytes ≡ read → result_map range_in read ≡ Ok r → IsExtent r.extent
 range_read bytes (Ok items) r e h = subst (λ (x : ReadRange). IsExtent x.extent) (ok_is {F = Reason} (range_in items) r h) (items_valid bytes items e)
 range_read bytes (Err reason) r e h = absurd cc
 
@@ -291,21 +291,21 @@ limits_in (Date octets) w h k = no_value h
 limits_in (Time octets) w h k = no_value h
 limits_in (Object id) w h k = no_value h
 
-both_valid : (octet : ℕ) (bytes : List ℕ) (items : List Item) → form_at (part (context 0 unsigned is_instance) (part (context 1 unsigned is_instance) end)) (octet ∷ bytes) ≡ Ok items → AreLimits ((who_is_in items).limits)
+both_valid : (octet : ℕ) (bytes : List ℕ) (items : List Parameter) → form_at (row (context 0 unsigned is_instance) (row (context 1 unsigned is_instance) end)) (octet ∷ bytes) ≡ Ok items → AreLimits ((who_is_in items).limits)
 both_valid octet bytes items h =
-    let a = behind_part (context 0 unsigned is_instance) _ (octet ∷ bytes) items h in
-    let b = behind_part (context 1 unsigned is_instance) _ a.bytes a.tail a.rest in
+    let a = behind_row (context 0 unsigned is_instance) _ (octet ∷ bytes) items h in
+    let b = behind_row (context 1 unsigned is_instance) _ a.bytes a.tail a.rest in
     let low = context_is 0 unsigned is_instance a.front (a.item, a.bytes) a.at in
     let high = context_is 1 unsigned is_instance b.front (b.item, b.bytes) b.at in
     let all : items ≡ a.item ∷ b.item ∷ b.tail = a.is ∙ ap (λ l. a.item ∷ l) b.is in
     rw (all, low.1, high.1) (limits_in low.0 high.0 low.2 high.2)
 
-limits_valid : (bytes : List ℕ) (items : List Item) → form_at who_is bytes ≡ Ok items → AreLimits ((who_is_in items).limits)
+limits_valid : (bytes : List ℕ) (items : List Parameter) → form_at who_is bytes ≡ Ok items → AreLimits ((who_is_in items).limits)
 unfolding form_at
 limits_valid [] items h = rw (sym (ok_is {F = Reason} [] items h)) tt
 limits_valid (octet ∷ bytes) items h = both_valid octet bytes items h
 
-who_is_read : (bytes : List ℕ) (read : Result (List Item) Reason) (w : WhoIs) → form_at who_is bytes ≡ read → option_map who_is_in (result_ok read) ≡ Some w → AreLimits w.limits
+who_is_read : (bytes : List ℕ) (read : Result (List Parameter) Reason) (w : WhoIs) → form_at who_is bytes ≡ read → option_map who_is_in (result_ok read) ≡ Some w → AreLimits w.limits
 who_is_read bytes (Ok items) w e h = subst (λ (x : WhoIs). AreLimits x.limits) (let same : who_is_in items ≡ w = cc in same) (limits_valid bytes items e)
 who_is_read bytes (Err reason) w e h = absurd cc
 
@@ -331,26 +331,26 @@ first_in (Date octets) h = tt
 first_in (Time octets) h = tt
 first_in (Object id) h = tt
 
-optional_first : (item : Item) → IsValue is_first item ⊎ (item ≡ Absent) → IsFirst (number_in item)
+optional_first : (item : Parameter) → IsValue is_first item ⊎ (item ≡ Absent) → IsFirst (number_in item)
 optional_first item (inl v) = rw v.1 (first_in v.0 v.2)
 optional_first item (inr e) = rw e tt
 
-ack_valid : (bytes : List ℕ) (items : List Item) → form_at read_range_ack bytes ≡ Ok items → IsFirst ((range_ack_in items).first_number)
+ack_valid : (bytes : List ℕ) (items : List Parameter) → form_at read_range_ack bytes ≡ Ok items → IsFirst ((range_ack_in items).first_number)
 ack_valid bytes items h =
-    let a = behind_part _ _ bytes items h in
-    let b = behind_part _ _ a.bytes a.tail a.rest in
+    let a = behind_row _ _ bytes items h in
+    let b = behind_row _ _ a.bytes a.tail a.rest in
     let c = behind_optional _ _ _ _ b.bytes b.tail b.rest in
-    let d = behind_part _ _ c.bytes c.tail c.rest in
-    let e = behind_part _ _ d.bytes d.tail d.rest in
-    let f = behind_part _ _ e.bytes e.tail e.rest in
-    let g = behind_part _ _ f.bytes f.tail f.rest in
+    let d = behind_row _ _ c.bytes c.tail c.rest in
+    let e = behind_row _ _ d.bytes d.tail d.rest in
+    let f = behind_row _ _ e.bytes e.tail e.rest in
+    let g = behind_row _ _ f.bytes f.tail f.rest in
     let k = behind_optional 6 unsigned is_first end g.bytes g.tail g.rest in
     let first = optional_first k.item (optional_is 6 unsigned is_first k.front (k.item, k.bytes) k.at) in
     let all : items ≡ a.item ∷ b.item ∷ c.item ∷ d.item ∷ e.item ∷ f.item ∷ g.item ∷ k.item ∷ k.tail =
     a.is ∙ ap (λ l. a.item ∷ l) (b.is ∙ ap (λ l. b.item ∷ l) (c.is ∙ ap (λ l. c.item ∷ l) (d.is ∙ ap (λ l. d.item ∷ l) (e.is ∙ ap (λ l. e.item ∷ l) (f.is ∙ ap (λ l. f.item ∷ l) (g.is ∙ ap (λ l. g.item ∷ l) k.is)))))) in
     rw all first
 
-ack_read : (bytes : List ℕ) (read : Result (List Item) Reason) (a : RangeAck) → form_at read_range_ack bytes ≡ read → option_map range_ack_in (result_ok read) ≡ Some a → IsFirst a.first_number
+ack_read : (bytes : List ℕ) (read : Result (List Parameter) Reason) (a : RangeAck) → form_at read_range_ack bytes ≡ read → option_map range_ack_in (result_ok read) ≡ Some a → IsFirst a.first_number
 ack_read bytes (Ok items) a e h = subst (λ (x : RangeAck). IsFirst x.first_number) (let same : range_ack_in items ≡ a = cc in same) (ack_valid bytes items e)
 ack_read bytes (Err reason) a e h = absurd cc
 
@@ -376,25 +376,25 @@ priority_in (Date octets) h = tt
 priority_in (Time octets) h = tt
 priority_in (Object id) h = tt
 
-optional_priority : (item : Item) → IsValue is_priority item ⊎ (item ≡ Absent) → IsPriority (number_in item)
+optional_priority : (item : Parameter) → IsValue is_priority item ⊎ (item ≡ Absent) → IsPriority (number_in item)
 optional_priority item (inl v) = rw v.1 (priority_in v.0 v.2)
 optional_priority item (inr e) = rw e tt
 
-write_valid : (bytes : List ℕ) (items : List Item) → form_at write_property bytes ≡ Ok items → IsPriority ((write_in items).priority)
+write_valid : (bytes : List ℕ) (items : List Parameter) → form_at write_property bytes ≡ Ok items → IsPriority ((write_in items).priority)
 write_valid bytes items h =
-    let a = behind_part _ _ bytes items h in
-    let b = behind_part _ _ a.bytes a.tail a.rest in
+    let a = behind_row _ _ bytes items h in
+    let b = behind_row _ _ a.bytes a.tail a.rest in
     let c = behind_optional _ _ _ _ b.bytes b.tail b.rest in
-    let d = behind_part _ _ c.bytes c.tail c.rest in
-    let e = behind_part _ _ d.bytes d.tail d.rest in
-    let f = behind_part _ _ e.bytes e.tail e.rest in
+    let d = behind_row _ _ c.bytes c.tail c.rest in
+    let e = behind_row _ _ d.bytes d.tail d.rest in
+    let f = behind_row _ _ e.bytes e.tail e.rest in
     let g = behind_optional 4 unsigned is_priority end f.bytes f.tail f.rest in
     let last = optional_priority g.item (optional_is 4 unsigned is_priority g.front (g.item, g.bytes) g.at) in
     let all : items ≡ a.item ∷ b.item ∷ c.item ∷ d.item ∷ e.item ∷ f.item ∷ g.item ∷ g.tail =
     a.is ∙ ap (λ l. a.item ∷ l) (b.is ∙ ap (λ l. b.item ∷ l) (c.is ∙ ap (λ l. c.item ∷ l) (d.is ∙ ap (λ l. d.item ∷ l) (e.is ∙ ap (λ l. e.item ∷ l) (f.is ∙ ap (λ l. f.item ∷ l) g.is))))) in
     rw all last
 
-write_read : (bytes : List ℕ) (read : Result (List Item) Reason) (w : PropertyWrite) → form_at write_property bytes ≡ read → result_map write_in read ≡ Ok w → IsPriority w.priority
+write_read : (bytes : List ℕ) (read : Result (List Parameter) Reason) (w : PropertyWrite) → form_at write_property bytes ≡ read → result_map write_in read ≡ Ok w → IsPriority w.priority
 write_read bytes (Ok items) w e h = subst (λ (v : PropertyWrite). IsPriority v.priority) (ok_is {F = Reason} (write_in items) w h) (write_valid bytes items e)
 write_read bytes (Err reason) w e h = absurd cc
 

@@ -10,15 +10,15 @@ use Rattle.bac_apdu.specs.declared.service.extent.Extent.{Extent}
 use Rattle.bac_apdu.specs.declared.service.extent.Extent.TheVariants.{All, ByPosition, ByNumber, ByTime}
 use Rattle.bac_apdu.specs.Adding.{context_octets, value_octets, open_octets, close_octets}
 use Rattle.bac_apdu.specs.Apdu.{Confirmed, Error, apdu_octets}
-use Rattle.bac_apdu.specs.Form.{Form, end, optional, unsigned, is_u32, Item, number_item}
+use Rattle.bac_apdu.specs.Form.{Form, end, optional, unsigned, is_u32, Parameter, number_parameter}
 use Rattle.bac_apdu.specs.FormCanon.{canon_form}
 use Rattle.bac_apdu.specs.Frame.{frame_octets}
 use Rattle.bac_apdu.specs.Npdu.{Header, place_octets, header_octets}
 use Rattle.bac_apdu.specs.Service.Choice.{read_range_service}
-use Rattle.bac_apdu.specs.Service.ReadProperty.{read_property, property_items}
-use Rattle.bac_apdu.specs.Service.ReadRange.{read_range, range_items}
-use Rattle.bac_apdu.specs.Service.Extent.{range, extent_items}
-use Rattle.bac_apdu.specs.Service.IAm.{i_am, i_am_items}
+use Rattle.bac_apdu.specs.Service.ReadProperty.{read_property, property_parameters}
+use Rattle.bac_apdu.specs.Service.ReadRange.{read_range, range_parameters}
+use Rattle.bac_apdu.specs.Service.Extent.{range, extent_parameters}
+use Rattle.bac_apdu.specs.Service.IAm.{i_am, i_am_parameters}
 
 -- ---- single parameters
 
@@ -61,7 +61,7 @@ marks_seven : length (open_octets 7) + length (close_octets 7) ≡ 2
 unfolding open_octets close_octets
 marks_seven = refl
 
-optional_short : (tag : ℕ) (fits : Primitive → Bool) (o : Option ℕ) (form : Form) (items : List Item) → tag < 15 → length (canon_form (optional tag unsigned fits form) (number_item o ∷ items)) ≤ 10 + length (canon_form form items)
+optional_short : (tag : ℕ) (fits : Primitive → Bool) (o : Option ℕ) (form : Form) (items : List Parameter) → tag < 15 → length (canon_form (optional tag unsigned fits form) (number_parameter o ∷ items)) ≤ 10 + length (canon_form form items)
 optional_short tag fits None form items low = omega arith
 optional_short tag fits (Some n) form items low = omega (arith, length-append (context_octets tag (Unsigned n)) (canon_form form items), number_behind tag n low)
 
@@ -70,7 +70,7 @@ optional_short tag fits (Some n) form items low = omega (arith, length-append (c
 length-four : (a b c d : List ℕ) → length (a ++ (b ++ (c ++ (d ++ [])))) ≡ length a + length b + length c + length d
 length-four a b c d = omega (arith, length-append a (b ++ (c ++ (d ++ []))), length-append b (c ++ (d ++ [])), length-append c (d ++ []), length-append {A = ℕ} d [])
 
-extent_short : (extent : Extent) → length (canon_form range (extent_items extent)) ≤ 22
+extent_short : (extent : Extent) → length (canon_form range (extent_parameters extent)) ≤ 22
 extent_short All = omega arith
 extent_short (ByPosition reference count) = omega (arith, length-four (open_octets 3) (value_octets (Unsigned reference)) (value_octets (Signed count)) (close_octets 3), number_short reference, signed_short count, marks_three)
 extent_short (ByNumber reference count) = omega (arith, length-four (open_octets 6) (value_octets (Unsigned reference)) (value_octets (Signed count)) (close_octets 6), number_short reference, signed_short count, marks_six)
@@ -81,10 +81,10 @@ extent_short (ByTime date time count) =
     omega (arith, length-append (open_octets 7) (d ++ (t ++ (c ++ (close_octets 7 ++ [])))), length-four d t c (close_octets 7), date_short (date_octets date) refl, time_short (time_octets time) refl, signed_short count, marks_seven)
 
 -- object, property and index, before what each service has after them
-trio_short : (object : Id) (property : ℕ) (index : Option ℕ) (form : Form) (items : List Item)
-    → length (context_octets 0 (Object object) ++ (context_octets 1 (Enumerated property) ++ canon_form (optional 2 unsigned is_u32 form) (number_item index ∷ items))) ≤ 25 + length (canon_form form items)
+trio_short : (object : Id) (property : ℕ) (index : Option ℕ) (form : Form) (items : List Parameter)
+    → length (context_octets 0 (Object object) ++ (context_octets 1 (Enumerated property) ++ canon_form (optional 2 unsigned is_u32 form) (number_parameter index ∷ items))) ≤ 25 + length (canon_form form items)
 trio_short object property index form items =
-    let rest = canon_form (optional 2 unsigned is_u32 form) (number_item index ∷ items) in
+    let rest = canon_form (optional 2 unsigned is_u32 form) (number_parameter index ∷ items) in
     omega (
       arith,
       length-append (context_octets 0 (Object object)) (context_octets 1 (Enumerated property) ++ rest),
@@ -94,16 +94,16 @@ trio_short object property index form items =
       optional_short 2 is_u32 index form items (omega arith),
     )
 
-pub property_short : (p : ReadProperty) → length (canon_form read_property (property_items p)) ≤ 25
+pub property_short : (p : ReadProperty) → length (canon_form read_property (property_parameters p)) ≤ 25
 property_short p = trio_short p.object p.property p.index end []
 
-pub range_short : (r : ReadRange) → length (canon_form read_range (range_items r)) ≤ 47
-range_short r = omega (arith, trio_short r.object r.property r.index range (extent_items r.extent), extent_short r.extent)
+pub range_short : (r : ReadRange) → length (canon_form read_range (range_parameters r)) ≤ 47
+range_short r = omega (arith, trio_short r.object r.property r.index range (extent_parameters r.extent), extent_short r.extent)
 
-pub range_apdu_short : (r : ReadRange) (size invoke : ℕ) → length (apdu_octets (Confirmed false size invoke read_range_service (canon_form read_range (range_items r)))) ≤ 51
+pub range_apdu_short : (r : ReadRange) (size invoke : ℕ) → length (apdu_octets (Confirmed false size invoke read_range_service (canon_form read_range (range_parameters r)))) ≤ 51
 range_apdu_short r size invoke = omega (arith, range_short r)
 
-pub i_am_short : (a : IAm) → length (canon_form i_am (i_am_items a)) ≤ 35
+pub i_am_short : (a : IAm) → length (canon_form i_am (i_am_parameters a)) ≤ 35
 i_am_short a = omega (
   arith,
   length-four (value_octets (Object a.device)) (value_octets (Unsigned a.max_apdu)) (value_octets (Enumerated a.segmentation)) (value_octets (Unsigned a.vendor)),

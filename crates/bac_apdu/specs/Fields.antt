@@ -3,62 +3,62 @@ use Rattle.std.specs.Prelude.{ℕ, ℤ, pos, Bool, false, List, [], get_or, slic
 use Rattle.bac_wire.specs.Primitive.{Id, Primitive, Null, Unsigned, Signed, Bits, Enumerated, Date, Time, Object}
 use Rattle.bac_wire.specs.declared.stamp.Date4.{Date4}
 use Rattle.bac_wire.specs.declared.stamp.Time4.{Time4}
-use Rattle.bac_apdu.specs.Form.{Item, Value, Mark, Inside, Absent}
+use Rattle.bac_apdu.specs.Form.{Parameter, Value, Mark, Inside, Absent}
 
 -- the parameter at this place of the list
-abbrev pub item_at : ℕ → List Item → Item
-item_at place items = get_or items place Absent
+abbrev pub parameter_at : ℕ → List Parameter → Parameter
+parameter_at place parameters = get_or parameters place Absent
 
-abbrev pub id_in : Item → Id
+abbrev pub id_in : Parameter → Id
 id_in (Value (Object id)) = id
-id_in item = record { kind = 0; instance = 0 }
+id_in parameter = record { kind = 0; instance = 0 }
 
-abbrev pub enumerated_in : Item → ℕ
+abbrev pub enumerated_in : Parameter → ℕ
 enumerated_in (Value (Enumerated n)) = n
-enumerated_in item = 0
+enumerated_in parameter = 0
 
-abbrev pub unsigned_in : Item → ℕ
+abbrev pub unsigned_in : Parameter → ℕ
 unsigned_in (Value (Unsigned n)) = n
-unsigned_in item = 0
+unsigned_in parameter = 0
 
 -- of an optional parameter
-abbrev pub number_in : Item → Option ℕ
+abbrev pub number_in : Parameter → Option ℕ
 number_in (Value (Unsigned n)) = Some n
-number_in item = None
+number_in parameter = None
 
-abbrev pub signed_in : Item → ℤ
+abbrev pub signed_in : Parameter → ℤ
 signed_in (Value (Signed z)) = z
-signed_in item = pos 0
+signed_in parameter = pos 0
 
-abbrev pub value_in : Item → Primitive
+abbrev pub value_in : Parameter → Primitive
 value_in (Value value) = value
-value_in item = Null
+value_in parameter = Null
 
 -- one bit of a Bit String
-abbrev pub bit_in : ℕ → Item → Bool
+abbrev pub bit_in : ℕ → Parameter → Bool
 bit_in place (Value (Bits bits)) = get_or bits place false
-bit_in place item = false
+bit_in place parameter = false
 
 -- what comes between an opening and a closing tag
-abbrev pub octets_in : Item → List ℕ
+abbrev pub octets_in : Parameter → List ℕ
 octets_in (Inside octets) = octets
-octets_in item = []
+octets_in parameter = []
 
 abbrev pub date_with : List ℕ → Date4
 date_with octets = record { year = slice_index octets 0; month = slice_index octets 1; day = slice_index octets 2; weekday = slice_index octets 3 }
 
-abbrev pub date_in : Item → Date4
+abbrev pub date_in : Parameter → Date4
 date_in (Value (Date octets)) = date_with octets
-date_in item = date_with []
+date_in parameter = date_with []
 
 abbrev pub time_with : List ℕ → Time4
 time_with octets = record { hour = slice_index octets 0; minute = slice_index octets 1; second = slice_index octets 2; hundredth = slice_index octets 3 }
 
-abbrev pub time_in : Item → Time4
+abbrev pub time_in : Parameter → Time4
 time_in (Value (Time octets)) = time_with octets
-time_in item = time_with []
+time_in parameter = time_with []
 
 -- the number of an opening or closing tag
-abbrev pub mark_in : Item → ℕ
+abbrev pub mark_in : Parameter → ℕ
 mark_in (Mark number) = number
-mark_in item = 0
+mark_in parameter = 0

@@ -8,11 +8,11 @@ use Rattle.bac_apdu.specs.declared.reason.Reason.{Reason}
 use Rattle.bac_apdu.specs.declared.reason.Reason.TheVariants.{InvalidTag, OutOfRange, TooManyArguments}
 use Rattle.bac_apdu.specs.Reason.{reasoned}
 pub use Rattle.bac_wire.specs.Next.{other_next}
-use Rattle.bac_apdu.specs.Form.{Absent, Form, Inside, Item, Mark, Part, SpellsPart, Value, any, application, choice, closing, context, enclosed, end, nothing_or, opening, opening_next, optional, part, value_next}
+use Rattle.bac_apdu.specs.Form.{Absent, Form, Inside, Parameter, Mark, Row, SpellsRow, Value, any, application, choice, closing, context, enclosed, end, nothing_or, opening, opening_next, optional, row, value_next}
 
 -- ---- reading, and the reason of the first wrong parameter
 
-abbrev pub ranged : {A : Type 0} → (Primitive → Bool) → Primitive → A → Result (Item × A) Reason
+abbrev pub ranged : {A : Type 0} → (Primitive → Bool) → Primitive → A → Result (Parameter × A) Reason
 ranged fits value rest = if fits value then Ok (Value value, rest) else Err OutOfRange
 
 -- If one application type is wanted, another type is a fault of the tag, whatever its length and contents.
@@ -20,58 +20,58 @@ abbrev pub typed_at : ℕ → List ℕ → Result (Primitive × List ℕ) Reason
 typed_at type bytes = if other_next type bytes then Err InvalidTag else reasoned (value_at bytes)
 
 -- one parameter, and what follows it
-unfoldable pub part_at : Part → List ℕ → Result (Item × List ℕ) Reason
-part_at (context tag type fits) bytes = do
+unfoldable pub row_at : Row → List ℕ → Result (Parameter × List ℕ) Reason
+row_at (context tag type fits) bytes = do
   contents ← reasoned (context_at tag bytes)
   value ← reasoned (contents_as type contents.0)
   ranged fits value contents.1
-part_at (application type fits) bytes = do
+row_at (application type fits) bytes = do
   value ← typed_at type bytes
   ranged fits value.0 value.1
-part_at (opening tag) bytes = do
+row_at (opening tag) bytes = do
   mark ← reasoned (mark_at 6 tag bytes)
   Ok (Mark tag, mark.1)
-part_at (closing tag) bytes = do
+row_at (closing tag) bytes = do
   mark ← reasoned (mark_at 7 tag bytes)
   Ok (Mark tag, mark.1)
-part_at (enclosed tag) bytes = do
+row_at (enclosed tag) bytes = do
   close ← reasoned (close_at (length bytes + 1) 0 tag bytes)
   mark ← reasoned (mark_at 7 tag close)
   Ok (Inside (take (length bytes - length close) bytes), mark.1)
-part_at any bytes = do
+row_at any bytes = do
   value ← reasoned (value_at bytes)
   Ok (Value value.0, value.1)
 
-abbrev pub end_at : List ℕ → Result (List Item) Reason
+abbrev pub end_at : List ℕ → Result (List Parameter) Reason
 end_at [] = Ok []
 end_at (b ∷ rest) = Err TooManyArguments
 
-unfoldable pub optional_at : ℕ → ℕ → (Primitive → Bool) → List ℕ → Result (Item × List ℕ) Reason
-optional_at tag type fits bytes = if value_next tag bytes then part_at (context tag type fits) bytes else Ok (Absent, bytes)
+unfoldable pub optional_at : ℕ → ℕ → (Primitive → Bool) → List ℕ → Result (Parameter × List ℕ) Reason
+optional_at tag type fits bytes = if value_next tag bytes then row_at (context tag type fits) bytes else Ok (Absent, bytes)
 
-unfoldable pub form_at : Form → List ℕ → Result (List Item) Reason
+unfoldable pub form_at : Form → List ℕ → Result (List Parameter) Reason
 form_at end bytes = end_at bytes
-form_at (part p form) bytes = do
-  item ← part_at p bytes
-  items ← form_at form item.1
-  Ok (item.0 ∷ items)
+form_at (row p form) bytes = do
+  parameter ← row_at p bytes
+  parameters ← form_at form parameter.1
+  Ok (parameter.0 ∷ parameters)
 form_at (optional tag type fits form) bytes = do
-  item ← optional_at tag type fits bytes
-  items ← form_at form item.1
-  Ok (item.0 ∷ items)
+  parameter ← optional_at tag type fits bytes
+  parameters ← form_at form parameter.1
+  Ok (parameter.0 ∷ parameters)
 form_at (choice tag there otherwise) bytes = if opening_next tag bytes then form_at there bytes else form_at otherwise bytes
 form_at (nothing_or form) [] = Ok []
 form_at (nothing_or form) (octet ∷ bytes) = form_at form (octet ∷ bytes)
 
 -- the types of a form are those of values
 
-abbrev pub IsPart : Part → Type 0
-IsPart (context tag type fits) = type ≤ 12
-IsPart p = Unit {0}
+abbrev pub IsRow : Row → Type 0
+IsRow (context tag type fits) = type ≤ 12
+IsRow p = Unit {0}
 
 abbrev pub IsForm : Form → Type 0
 IsForm end = Unit {0}
-IsForm (part p form) = IsPart p × IsForm form
+IsForm (row p form) = IsRow p × IsForm form
 IsForm (optional tag type fits form) = (type ≤ 12) × IsForm form
 IsForm (choice tag there otherwise) = IsForm there × IsForm otherwise
 IsForm (nothing_or form) = IsForm form
@@ -79,21 +79,21 @@ IsForm (nothing_or form) = IsForm form
 -- ---- at which parameter reading stops
 
 -- No prefix of the text encodes the parameter; the reason is that of its first check that fails.
-abbrev pub IsFault : Part → List ℕ → Reason → Type 0
-IsFault p text reason = ((front rest : List ℕ) (item : Item) → text ≡ front ++ rest → SpellsPart p front item → ⊥) × (part_at p text ≡ Err reason)
+abbrev pub IsFault : Row → List ℕ → Reason → Type 0
+IsFault p text reason = ((front rest : List ℕ) (parameter : Parameter) → text ≡ front ++ rest → SpellsRow p front parameter → ⊥) × (row_at p text ≡ Err reason)
 
 -- the parameter is wrong, or it is encoded and reading stops after it
-abbrev pub StopsPart : Part → (List ℕ → ℕ → Reason → Type 0) → List ℕ → ℕ → Reason → Type 0
-StopsPart p after text zero reason = IsFault p text reason
-StopsPart p after text (suc count) reason = (front : List ℕ) × (rest : List ℕ) × (item : Item) × (text ≡ front ++ rest) × SpellsPart p front item × after rest count reason
+abbrev pub StopsRow : Row → (List ℕ → ℕ → Reason → Type 0) → List ℕ → ℕ → Reason → Type 0
+StopsRow p after text zero reason = IsFault p text reason
+StopsRow p after text (suc count) reason = (front : List ℕ) × (rest : List ℕ) × (parameter : Parameter) × (text ≡ front ++ rest) × SpellsRow p front parameter × after rest count reason
 
 -- After the longest run of leading parameters that are encoded and in range, count of them, the next one is wrong for this reason, or none is wanted and octets are left.
 abbrev pub Stops : Form → List ℕ → ℕ → Reason → Type 0
 Stops end [] count reason = ⊥
 Stops end (octet ∷ text) count reason = (count ≡ 0) × (reason ≡ TooManyArguments)
-Stops (part p form) text count reason = StopsPart p (Stops form) text count reason
+Stops (row p form) text count reason = StopsRow p (Stops form) text count reason
 Stops (optional tag type fits form) text count reason =
-    ((value_next tag text ≡ true) × StopsPart (context tag type fits) (Stops form) text count reason)
+    ((value_next tag text ≡ true) × StopsRow (context tag type fits) (Stops form) text count reason)
     ⊎ ((value_next tag text ≡ false) × Stops form text count reason)
 Stops (choice tag there otherwise) text count reason = ((opening_next tag text ≡ true) × Stops there text count reason) ⊎ ((opening_next tag text ≡ false) × Stops otherwise text count reason)
 Stops (nothing_or form) [] count reason = ⊥

@@ -7,7 +7,7 @@ use Rattle.bac_apdu.specs.FormCanon.{canon_form}
 use Rattle.bac_apdu.specs.Frame.{Unicast, frame_at, frame_octets}
 use Rattle.bac_apdu.specs.Npdu.{IsHeader, header_octets, place_octets}
 use Rattle.bac_apdu.specs.Service.Extent.{IsExtent}
-use Rattle.bac_apdu.specs.Service.ReadRange.{read_range, range_items, range_in, read_range_at}
+use Rattle.bac_apdu.specs.Service.ReadRange.{read_range, range_parameters, range_in, read_range_at}
 use Rattle.bac_apdu.specs.declared.service.extent.Extent.{Extent}
 use Rattle.bac_apdu.specs.declared.service.read_range.ReadRange.{ReadRange}
 use Rattle.bac_apdu.proofs.Heads.{frame_again, header_again, message_again}
@@ -31,7 +31,7 @@ abbrev pub range : Id → Extent → ReadRange
 range id extent = record { object = id; property = log_buffer; index = None; extent = extent }
 
 abbrev asked : ℕ → Id → Extent → Apdu
-asked invoke id extent = Confirmed false 1476 invoke 26 (canon_form read_range (range_items (range id extent)))
+asked invoke id extent = Confirmed false 1476 invoke 26 (canon_form read_range (range_parameters (range id extent)))
 
 request_is : (invoke : ℕ) (id : Id) (extent : Extent) → request_octets invoke (question id extent) ≡ frame_octets (header_octets asking ++ apdu_octets (asked invoke id extent))
 unfolding request_octets request_apdu parameters_of
@@ -60,11 +60,11 @@ heard_is : (invoke : ℕ) (id : Id) (extent : Extent) → heard_at false (header
 unfolding heard_at
 heard_is invoke id extent = rw (header_again asking (apdu_octets (asked invoke id extent)) asking_valid, message_again (asked invoke id extent) (refl, inr (inr (inr (inr (inr refl)))))) refl
 
-read_is : (id : Id) (extent : Extent) → IsValid (Object id) → IsExtent extent → read_range_at (canon_form read_range (range_items (range id extent))) ≡ Ok (range id extent)
+read_is : (id : Id) (extent : Extent) → IsValid (Object id) → IsExtent extent → read_range_at (canon_form read_range (range_parameters (range id extent))) ≡ Ok (range id extent)
 unfolding read_range_at
 read_is id extent valid ranged =
     let q : ReadRange = range id extent in
-    fields_again range_in read_range (canon_form read_range (range_items q)) (range_items q) q (range_again q (valid, omega arith, tt) ranged) (range_back q)
+    fields_again range_in read_range (canon_form read_range (range_parameters q)) (range_parameters q) q (range_again q (valid, omega arith, tt) ranged) (range_back q)
 
 -- ---- it is answered, and changes nothing
 

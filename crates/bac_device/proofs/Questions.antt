@@ -7,7 +7,7 @@ use Rattle.bac_apdu.specs.FormCanon.{canon_form}
 use Rattle.bac_apdu.specs.Frame.{Unicast, frame_at}
 use Rattle.bac_apdu.specs.Npdu.{IsHeader, header_octets, place_octets}
 use Rattle.bac_apdu.specs.Service.Extent.{IsExtent}
-use Rattle.bac_apdu.specs.Service.ReadRange.{read_range, range_items, range_in, read_range_at}
+use Rattle.bac_apdu.specs.Service.ReadRange.{read_range, range_parameters, range_in, read_range_at}
 use Rattle.bac_apdu.specs.declared.service.extent.Extent.{Extent}
 use Rattle.bac_apdu.specs.declared.service.read_range.ReadRange.{ReadRange}
 use Rattle.bac_apdu.proofs.Heads.{frame_again, header_again, message_again}
@@ -44,7 +44,7 @@ asking_valid : IsHeader asking
 asking_valid = (omega arith, tt, tt, refl)
 
 abbrev asked : ℕ → ℕ → Extent → Apdu
-asked invoke n extent = Confirmed false 1476 invoke 26 (canon_form read_range (range_items (question n extent)))
+asked invoke n extent = Confirmed false 1476 invoke 26 (canon_form read_range (range_parameters (question n extent)))
 
 frame_is : (invoke n : ℕ) (extent : Extent) → frame_at (question_octets invoke n extent) ≡ Some (Unicast (header_octets asking ++ apdu_octets (asked invoke n extent)))
 frame_is invoke n extent =
@@ -55,11 +55,11 @@ heard_is : (invoke n : ℕ) (extent : Extent) → heard_at false (header_octets 
 unfolding heard_at
 heard_is invoke n extent = rw (header_again asking (apdu_octets (asked invoke n extent)) asking_valid, message_again (asked invoke n extent) (refl, inr (inr (inr (inr (inr refl)))))) refl
 
-read_is : (n : ℕ) (extent : Extent) → n < 4194304 → IsExtent extent → read_range_at (canon_form read_range (range_items (question n extent))) ≡ Ok (question n extent)
+read_is : (n : ℕ) (extent : Extent) → n < 4194304 → IsExtent extent → read_range_at (canon_form read_range (range_parameters (question n extent))) ≡ Ok (question n extent)
 unfolding read_range_at
 read_is n extent lt valid =
     let q : ReadRange = question n extent in
-    fields_again range_in read_range (canon_form read_range (range_items q)) (range_items q) q (range_again q ((omega arith, lt), omega arith, tt) valid) (range_back q)
+    fields_again range_in read_range (canon_form read_range (range_parameters q)) (range_parameters q) q (range_again q ((omega arith, lt), omega arith, tt) valid) (range_back q)
 
 answer_is : (d : State) (invoke n : ℕ) (extent : Extent) → n < 4194304 → IsExtent extent
     → answer d (question_octets invoke n extent) ≡ (Some (reply Sender (range_said (min 1476 d.reply_size) invoke (question n extent) (records_of d (question n extent)))), d)

@@ -9,7 +9,7 @@ use Rattle.bac_apdu.specs.Adding.{value_octets}
 use Rattle.bac_apdu.specs.Apdu.{Apdu, apdu_octets}
 use Rattle.bac_apdu.specs.FormCanon.{canon_form}
 use Rattle.bac_apdu.specs.Frame.{frame_octets}
-use Rattle.bac_apdu.specs.Service.IAm.{i_am, i_am_items}
+use Rattle.bac_apdu.specs.Service.IAm.{i_am, i_am_parameters}
 use Rattle.bac_apdu.specs.Npdu.{place_octets, header_octets}
 use Rattle.bac_apdu.specs.declared.service.i_am.IAm.{IAm}
 use Rattle.bac_device.specs.Reply.{plain, datagram_octets}
@@ -65,7 +65,7 @@ enumerated-len : (n : ℕ) → length (value_octets (Enumerated n)) ≤ 15
 unfolding value_octets
 enumerated-len n = omega (arith, tagged-len 0 9 (unsigned_octets n), unsigned-len n)
 
-pub announcement-len : (a : IAm) → length (canon_form i_am (i_am_items a)) ≤ 56
+pub announcement-len : (a : IAm) → length (canon_form i_am (i_am_parameters a)) ≤ 56
 announcement-len a =
     let w = value_octets (Object a.device) in
     let x = value_octets (Unsigned a.max_apdu) in

@@ -4,10 +4,10 @@ use Rattle.std.specs.Prelude.{ℕ, ◌==◌, ◌&&◌, not, nat_le, Bool, true, 
 use Rattle.std.specs.Option.{option_map}
 use Rattle.bac_wire.specs.Primitive.{Object, Enumerated, Id}
 use Rattle.bac_apdu.specs.Apdu.{Apdu, Confirmed, Unconfirmed, Simple, Complex, Reject}
-use Rattle.bac_apdu.specs.Form.{Value, Mark, Inside, number_item}
+use Rattle.bac_apdu.specs.Form.{Value, Mark, Inside, number_parameter}
 use Rattle.bac_apdu.specs.FormCanon.{canon_form}
 use Rattle.bac_apdu.specs.Frame.{Frame, Unicast, Broadcast, Forwarded, Function, frame_at}
-use Rattle.bac_apdu.specs.Service.IAm.{i_am, i_am_items}
+use Rattle.bac_apdu.specs.Service.IAm.{i_am, i_am_parameters}
 use Rattle.bac_apdu.specs.Service.ReadPropertyAck.{read_property_ack}
 use Rattle.bac_apdu.specs.declared.reason.Reason.{Reason}
 use Rattle.bac_apdu.specs.declared.service.i_am.IAm.{IAm}
@@ -61,7 +61,7 @@ own_id d id = if is_here d id then device_id d else id
 abbrev pub ack_octets : Id → ℕ → Option ℕ → List ℕ → List ℕ
 ack_octets object property index values =
     canon_form read_property_ack
-    (Value (Object object) ∷ Value (Enumerated property) ∷ number_item index ∷ Mark 3 ∷ Inside values ∷ [])
+    (Value (Object object) ∷ Value (Enumerated property) ∷ number_parameter index ∷ Mark 3 ∷ Inside values ∷ [])
 
 abbrev pub ack : ℕ → State → ReadProperty → List ℕ → Apdu
 ack invoke d r values =
@@ -136,7 +136,7 @@ abbrev pub announcement : State → IAm
 announcement d = record { device = device_id d; max_apdu = d.reply_size; segmentation = 3; vendor = d.vendor }
 
 abbrev pub i_am_apdu : State → Apdu
-i_am_apdu d = Unconfirmed i_am_service (canon_form i_am (i_am_items (announcement d)))
+i_am_apdu d = Unconfirmed i_am_service (canon_form i_am (i_am_parameters (announcement d)))
 
 abbrev pub announced : State → Option WhoIs → Option Apdu
 announced d (Some w) = if asks_for d.instance w.limits then Some (i_am_apdu d) else None

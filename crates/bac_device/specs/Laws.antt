@@ -3,7 +3,7 @@ use Rattle.std.specs.Prelude.{◌≡◌, ◌==◌, ℕ, false, List, [], ◌∷�
 use Rattle.std.specs.Map.{lookup}
 use Rattle.bac_wire.specs.Primitive.{Primitive, Id, Object, Enumerated}
 use Rattle.bac_apdu.specs.Apdu.{Confirmed}
-use Rattle.bac_apdu.specs.Form.{Value, Mark, Inside, number_item}
+use Rattle.bac_apdu.specs.Form.{Value, Mark, Inside, number_parameter}
 use Rattle.bac_apdu.specs.FormReading.{form_at}
 use Rattle.bac_apdu.specs.Frame.{frame_at}
 use Rattle.bac_apdu.specs.Service.ReadProperty.{IsProperty}
@@ -74,4 +74,4 @@ abbrev pub AcksAreReadBack : Type 0
 AcksAreReadBack =
     (id : Id) (property : ℕ) (index : Option ℕ) (values : List Primitive) → IsProperty id property index → AreValid values
     → form_at read_property_ack (ack_octets id property index (values_octets values))
-    ≡ Ok (Value (Object id) ∷ Value (Enumerated property) ∷ number_item index ∷ Mark 3 ∷ Inside (values_octets values) ∷ [])
+    ≡ Ok (Value (Object id) ∷ Value (Enumerated property) ∷ number_parameter index ∷ Mark 3 ∷ Inside (values_octets values) ∷ [])

@@ -6,7 +6,7 @@ use Rattle.bac_apdu.specs.Apdu.{Apdu, Confirmed, Abort, apdu_octets}
 use Rattle.bac_apdu.specs.FormCanon.{canon_form}
 use Rattle.bac_apdu.specs.Frame.{frame_at, frame_octets}
 use Rattle.bac_apdu.specs.Npdu.{Header, header_octets}
-use Rattle.bac_apdu.specs.Service.ReadRange.{read_range, range_items, read_range_at}
+use Rattle.bac_apdu.specs.Service.ReadRange.{read_range, range_parameters, read_range_at}
 use Rattle.bac_apdu.specs.declared.reason.Reason.{Reason}
 use Rattle.bac_apdu.specs.declared.service.extent.Extent.{Extent}
 use Rattle.bac_apdu.specs.declared.service.read_range.ReadRange.{ReadRange}
@@ -56,7 +56,7 @@ question n extent = record { object = log_id n; property = log_buffer; index = N
 
 -- as a datagram that takes an answer of 1476 octets
 abbrev pub question_octets : ℕ → ℕ → Extent → List ℕ
-question_octets invoke n extent = frame_octets (header_octets asking ++ apdu_octets (Confirmed false 1476 invoke read_range_service (canon_form read_range (range_items (question n extent)))))
+question_octets invoke n extent = frame_octets (header_octets asking ++ apdu_octets (Confirmed false 1476 invoke read_range_service (canon_form read_range (range_parameters (question n extent)))))
 
 -- ---- answers to any ReadRange
 

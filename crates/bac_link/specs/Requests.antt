@@ -6,9 +6,9 @@ use Rattle.bac_apdu.specs.FormCanon.{canon_form}
 use Rattle.bac_apdu.specs.Frame.{frame_octets}
 use Rattle.bac_apdu.specs.Npdu.{Header, header_octets}
 use Rattle.bac_apdu.specs.Service.Choice.{read_property_service, write_property_service, read_range_service}
-use Rattle.bac_apdu.specs.Service.ReadProperty.{read_property, property_items}
-use Rattle.bac_apdu.specs.Service.WriteProperty.{write_property, write_items}
-use Rattle.bac_apdu.specs.Service.ReadRange.{read_range, range_items}
+use Rattle.bac_apdu.specs.Service.ReadProperty.{read_property, property_parameters}
+use Rattle.bac_apdu.specs.Service.WriteProperty.{write_property, write_parameters}
+use Rattle.bac_apdu.specs.Service.ReadRange.{read_range, range_parameters}
 use Rattle.bac_link.specs.declared.request.Request.{Request}
 use Rattle.bac_link.specs.declared.request.Request.TheVariants as request
 
@@ -19,9 +19,9 @@ service_of (request.WriteProperty w) = write_property_service
 service_of (request.ReadRange r) = read_range_service
 
 unfoldable pub parameters_of : Request → List ℕ
-parameters_of (request.ReadProperty r) = canon_form read_property (property_items r)
-parameters_of (request.WriteProperty w) = canon_form write_property (write_items w)
-parameters_of (request.ReadRange r) = canon_form read_range (range_items r)
+parameters_of (request.ReadProperty r) = canon_form read_property (property_parameters r)
+parameters_of (request.WriteProperty w) = canon_form write_property (write_parameters w)
+parameters_of (request.ReadRange r) = canon_form read_range (range_parameters r)
 
 -- whether the service is acknowledged with a result (a ComplexACK) or without one (a SimpleACK)
 abbrev pub has_result : Request → Bool

@@ -13,7 +13,7 @@ use Rattle.bac_apdu.specs.Service.Choice.{read_range_service}
 use Rattle.bac_apdu.specs.Service.Extent.{IsExtent}
 use Rattle.bac_apdu.specs.Service.ReadProperty.{IsProperty}
 use Rattle.bac_apdu.specs.Service.ReadPropertyAck.{PropertyAck, property_ack_octets, read_property_ack_at}
-use Rattle.bac_apdu.specs.Service.ReadRange.{read_range, range_items, read_range_at}
+use Rattle.bac_apdu.specs.Service.ReadRange.{read_range, range_parameters, read_range_at}
 use Rattle.bac_apdu.specs.declared.service.read_range.ReadRange.{ReadRange}
 use Rattle.bac_apdu.specs.declared.reason.Reason.{Reason}
 use Rattle.bac_tests.specs.Passage.{header_with, datagram_with, apdu_in, question, question_in, two_values, answer, values_in, answer_in}
@@ -30,8 +30,8 @@ apdu_again frame header message size reply m valid short =
     let fits : length (header_octets h ++ apdu_octets m) + 4 < 65536 = omega (arith, length-append (header_octets h) (apdu_octets m), size h refl refl, short) in
     rw (frame (header_octets h ++ apdu_octets m) fits, header h (apdu_octets m) (omega arith, tt, tt, refl), message m valid) refl
 
-pub question_again : Again → (short : (r : ReadRange) (size invoke : ℕ) → length (apdu_octets (Confirmed false size invoke read_range_service (canon_form read_range (range_items r)))) ≤ 51)
-    (back : (r : ReadRange) → IsProperty r.object r.property r.index → IsExtent r.extent → read_range_at (canon_form read_range (range_items r)) ≡ Ok r)
+pub question_again : Again → (short : (r : ReadRange) (size invoke : ℕ) → length (apdu_octets (Confirmed false size invoke read_range_service (canon_form read_range (range_parameters r)))) ≤ 51)
+    (back : (r : ReadRange) → IsProperty r.object r.property r.index → IsExtent r.extent → read_range_at (canon_form read_range (range_parameters r)) ≡ Ok r)
     (r : ReadRange) (invoke : ℕ) → IsProperty r.object r.property r.index → IsExtent r.extent → question_in (datagram_with true (question r invoke)) ≡ Some r
 unfolding question_in
 question_again again short back r invoke valid extent =

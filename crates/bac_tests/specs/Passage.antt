@@ -11,7 +11,7 @@ use Rattle.bac_apdu.specs.Frame.{Frame, Unicast, frame_at, frame_octets}
 use Rattle.bac_apdu.specs.Npdu.{Header, header_at, header_octets}
 use Rattle.bac_apdu.specs.Service.Choice.{read_range_service, read_property_service}
 use Rattle.bac_apdu.specs.Service.ReadPropertyAck.{PropertyAck, property_ack_octets, read_property_ack_at}
-use Rattle.bac_apdu.specs.Service.ReadRange.{read_range, range_items, read_range_at}
+use Rattle.bac_apdu.specs.Service.ReadRange.{read_range, range_parameters, read_range_at}
 use Rattle.bac_apdu.specs.declared.service.read_range.ReadRange.{ReadRange}
 
 -- no route and normal priority; whether a reply is expected
@@ -37,7 +37,7 @@ apdu_in datagram = do
 -- ---- a question for records
 
 abbrev pub question : ReadRange → ℕ → Apdu
-question r invoke = Confirmed false 1476 invoke read_range_service (canon_form read_range (range_items r))
+question r invoke = Confirmed false 1476 invoke read_range_service (canon_form read_range (range_parameters r))
 
 abbrev pub question_of : Apdu → Option ReadRange
 question_of (Confirmed segmented size invoke service parameters) = if service == read_range_service then result_ok (read_range_at parameters) else None

@@ -11,7 +11,7 @@ use Rattle.bac_wire.specs.OptionChain.{GivesSome}
 use Rattle.std.specs.Option.{option_map}
 use Rattle.bac_apdu.specs.Service.ReadRangeAck.{range_ack_in, read_range_ack_at}
 use Rattle.bac_log.specs.declared.entry.Entry.{Entry}
-use Rattle.bac_log.specs.Ack.{shown_items}
+use Rattle.bac_log.specs.Ack.{shown_parameters}
 use Rattle.bac_log.specs.Entry.{IsLoggable}
 use Rattle.bac_log.specs.Record.{entry_octets, entries_octets}
 use Rattle.bac_log.specs.Select.{selected, packed, reply_of}
@@ -43,7 +43,7 @@ same_self : (id : Id) → same_id id id ≡ true
 same_self id = rw (eq-eqb id.kind id.kind refl, eq-eqb id.instance id.instance refl) refl
 
 heard_shown : (id : Id) (flags : ℕ) (first : Option ℕ) (es : List Entry) → All IsLoggable es →
-    heard_of id (range_ack_in (shown_items id flags first es)) ≡ Some (record { first = first; count = length es; entries = es })
+    heard_of id (range_ack_in (shown_parameters id flags first es)) ≡ Some (record { first = first; count = length es; entries = es })
 heard_shown id flags first es l = rw (same_self id, number_back first, records_back es l) refl
 
 pub heard_reply : (id : Id) (log : Log) (extent : Extent) (r : ℕ) → IsShown log → r ≤ 1476 → IsValid (Object id) →

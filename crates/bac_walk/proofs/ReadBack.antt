@@ -11,7 +11,7 @@ use Rattle.bac_apdu.specs.FormReading.{form_at}
 use Rattle.bac_apdu.specs.Service.ReadRangeAck.{read_range_ack, IsFirst, IsSmall}
 use Rattle.bac_apdu.proofs.Forms.{form_again}
 use Rattle.bac_log.specs.declared.entry.Entry.{Entry}
-use Rattle.bac_log.specs.Ack.{shown_items, ack_parameters}
+use Rattle.bac_log.specs.Ack.{shown_parameters, ack_parameters}
 use Rattle.bac_log.specs.Entry.{IsLoggable}
 use Rattle.bac_log.specs.Record.{entry_octets, entries_octets}
 use Rattle.bac_log.specs.RecordReading.{entries_at}
@@ -146,11 +146,11 @@ module _ (log : Log) (extent : Extent) (limit : ℕ) (is : IsShown log) (most : 
           omega (arith, length-entries_in records, part, greatest_within passes (length (selected log extent)), whole, length-numbered (oldest log) log.entries, is.numbered)
 
   -- the ACK's parameters are read back
-  pub reply_reads : (id : Id) → IsValid (Object id) → form_at read_range_ack (reply_parameters id log extent limit) ≡ Ok (shown_items id (reply_of log extent (selected log extent) records).flags (first_shown extent records) (entries_in records))
+  pub reply_reads : (id : Id) → IsValid (Object id) → form_at read_range_ack (reply_parameters id log extent limit) ≡ Ok (shown_parameters id (reply_of log extent (selected log extent) records).flags (first_shown extent records) (entries_in records))
   unfolding reply_parameters
   reply_reads id valid =
       let flags : ℕ = (reply_of log extent (selected log extent) records).flags in
-      form_again read_range_ack (ack_parameters id flags (first_shown extent records) (entries_in records)) (shown_items id flags (first_shown extent records) (entries_in records))
+      form_again read_range_ack (ack_parameters id flags (first_shown extent records) (entries_in records)) (shown_parameters id flags (first_shown extent records) (entries_in records))
       (ack_reads id flags (first_shown extent records) (entries_in records) valid packed_first (omega (arith, packed_few)) packed_loggable)
 
   -- and its items are exactly the log's records

@@ -4,8 +4,8 @@ use Rattle.bac_wire.specs.Primitive.{Primitive, Unsigned, Signed, Date, Time}
 use Rattle.bac_wire.specs.Stamp.{date_octets, time_octets}
 use Rattle.bac_apdu.specs.declared.service.extent.Extent.{Extent}
 use Rattle.bac_apdu.specs.declared.service.extent.Extent.TheVariants.{All, ByPosition, ByNumber, ByTime}
-use Rattle.bac_apdu.specs.Form.{Form, end, part, choice, application, opening, closing, is_u32, unsigned, signed, date, time, Item, Value, Mark}
-use Rattle.bac_apdu.specs.Fields.{item_at, unsigned_in, signed_in, date_in, time_in, mark_in}
+use Rattle.bac_apdu.specs.Form.{Form, end, row, choice, application, opening, closing, is_u32, unsigned, signed, date, time, Parameter, Value, Mark}
+use Rattle.bac_apdu.specs.Fields.{parameter_at, unsigned_in, signed_in, date_in, time_in, mark_in}
 
 -- ---- ranges
 
@@ -38,31 +38,31 @@ is_time value = false
 -- by position or by sequence number, between tags of this number
 abbrev pub by_reference : ℕ → Form
 by_reference tag =
-    part (opening tag)
-    (part (application unsigned is_u32)  -- reference index or sequence number
-    (part (application signed is_count)  -- count
-    (part (closing tag)
+    row (opening tag)
+    (row (application unsigned is_u32)  -- reference index or sequence number
+    (row (application signed is_count)  -- count
+    (row (closing tag)
     end)))
 
 -- by time
 abbrev pub by_time : Form
 by_time =
-    part (opening 7)
-    (part (application date is_date)  -- reference time: its date
-    (part (application time is_time)  -- and its time
-    (part (application signed is_count)  -- count
-    (part (closing 7)
+    row (opening 7)
+    (row (application date is_date)  -- reference time: its date
+    (row (application time is_time)  -- and its time
+    (row (application signed is_count)  -- count
+    (row (closing 7)
     end))))
 
 -- one of the three, or nothing for all records
 abbrev pub range : Form
 range = choice 3 (by_reference 3) (choice 6 (by_reference 6) (choice 7 by_time end))
 
-abbrev pub extent_items : Extent → List Item
-extent_items All = []
-extent_items (ByPosition reference count) = Mark 3 ∷ Value (Unsigned reference) ∷ Value (Signed count) ∷ Mark 3 ∷ []
-extent_items (ByNumber reference count) = Mark 6 ∷ Value (Unsigned reference) ∷ Value (Signed count) ∷ Mark 6 ∷ []
-extent_items (ByTime date time count) = Mark 7 ∷ Value (Date (date_octets date)) ∷ Value (Time (time_octets time)) ∷ Value (Signed count) ∷ Mark 7 ∷ []
+abbrev pub extent_parameters : Extent → List Parameter
+extent_parameters All = []
+extent_parameters (ByPosition reference count) = Mark 3 ∷ Value (Unsigned reference) ∷ Value (Signed count) ∷ Mark 3 ∷ []
+extent_parameters (ByNumber reference count) = Mark 6 ∷ Value (Unsigned reference) ∷ Value (Signed count) ∷ Mark 6 ∷ []
+extent_parameters (ByTime date time count) = Mark 7 ∷ Value (Date (date_octets date)) ∷ Value (Time (time_octets time)) ∷ Value (Signed count) ∷ Mark 7 ∷ []
 
 -- each number in its range
 abbrev pub IsExtent : Extent → Type 0
@@ -74,12 +74,12 @@ IsExtent (ByTime date time count) = (date_fits (date_octets date) ≡ true) × (
 -- ---- with named fields
 
 -- by the number of the opening tag: 3 by position, 6 by sequence number, 7 by time
-abbrev pub extent_behind : ℕ → List Item → Extent
-extent_behind tag items =
-    if tag == 3 then ByPosition (unsigned_in (item_at 0 items)) (signed_in (item_at 1 items)) else
-    if tag == 6 then ByNumber (unsigned_in (item_at 0 items)) (signed_in (item_at 1 items)) else
-    ByTime (date_in (item_at 0 items)) (time_in (item_at 1 items)) (signed_in (item_at 2 items))
+abbrev pub extent_behind : ℕ → List Parameter → Extent
+extent_behind tag parameters =
+    if tag == 3 then ByPosition (unsigned_in (parameter_at 0 parameters)) (signed_in (parameter_at 1 parameters)) else
+    if tag == 6 then ByNumber (unsigned_in (parameter_at 0 parameters)) (signed_in (parameter_at 1 parameters)) else
+    ByTime (date_in (parameter_at 0 parameters)) (time_in (parameter_at 1 parameters)) (signed_in (parameter_at 2 parameters))
 
-abbrev pub extent_in : List Item → Extent
+abbrev pub extent_in : List Parameter → Extent
 extent_in [] = All
-extent_in (mark ∷ items) = extent_behind (mark_in mark) items
+extent_in (mark ∷ parameters) = extent_behind (mark_in mark) parameters

@@ -3,11 +3,11 @@ use Rattle.std.specs.Prelude.{◌<◌, ◌^◌, Bool, true, false, ℕ, List, []
 use Rattle.bac_wire.specs.Primitive.{Primitive, Unsigned, Enumerated, Object}
 use Rattle.bac_wire.specs.Canon.{IsValid}
 use Rattle.bac_apdu.specs.declared.service.i_am.IAm.{IAm}
-use Rattle.bac_apdu.specs.Form.{Form, end, part, application, unsigned, enumerated, object_identifier, Item, Value}
+use Rattle.bac_apdu.specs.Form.{Form, end, row, application, unsigned, enumerated, object_identifier, Parameter, Value}
 use Rattle.std.specs.Option.{option_map}
 use Rattle.std.specs.Result.{result_ok}
 use Rattle.bac_apdu.specs.FormReading.{form_at}
-use Rattle.bac_apdu.specs.Fields.{item_at, id_in, unsigned_in, enumerated_in}
+use Rattle.bac_apdu.specs.Fields.{parameter_at, id_in, unsigned_in, enumerated_in}
 
 -- any value of the type: a part's type is tested before its range
 
@@ -25,14 +25,14 @@ is_enumerated value = false
 
 abbrev pub i_am : Form
 i_am =
-    part (application object_identifier is_object)  -- I-Am device identifier
-    (part (application unsigned is_unsigned)  -- max APDU length accepted
-    (part (application enumerated is_enumerated)  -- segmentation supported
-    (part (application unsigned is_unsigned)  -- vendor identifier
+    row (application object_identifier is_object)  -- I-Am device identifier
+    (row (application unsigned is_unsigned)  -- max APDU length accepted
+    (row (application enumerated is_enumerated)  -- segmentation supported
+    (row (application unsigned is_unsigned)  -- vendor identifier
     end)))
 
-abbrev pub i_am_items : IAm → List Item
-i_am_items a = Value (Object a.device) ∷ Value (Unsigned a.max_apdu) ∷ Value (Enumerated a.segmentation) ∷ Value (Unsigned a.vendor) ∷ []
+abbrev pub i_am_parameters : IAm → List Parameter
+i_am_parameters a = Value (Object a.device) ∷ Value (Unsigned a.max_apdu) ∷ Value (Enumerated a.segmentation) ∷ Value (Unsigned a.vendor) ∷ []
 
 -- each number in the range of its type
 abbrev pub IsAnnouncement : IAm → Type 0
@@ -40,9 +40,9 @@ IsAnnouncement a = IsValid (Object a.device) × (a.max_apdu < 2 ^ 64) × (a.segm
 
 -- ---- with named fields
 
-abbrev pub i_am_in : List Item → IAm
-i_am_in items =
-    record { device = id_in (item_at 0 items); max_apdu = unsigned_in (item_at 1 items); segmentation = enumerated_in (item_at 2 items); vendor = unsigned_in (item_at 3 items) }
+abbrev pub i_am_in : List Parameter → IAm
+i_am_in parameters =
+    record { device = id_in (parameter_at 0 parameters); max_apdu = unsigned_in (parameter_at 1 parameters); segmentation = enumerated_in (parameter_at 2 parameters); vendor = unsigned_in (parameter_at 3 parameters) }
 
 -- the announcement that parameters are the encoding of
 unfoldable pub i_am_at : List ℕ → Option IAm

@@ -2,23 +2,23 @@
 use Rattle.std.specs.Prelude.{ℕ, ◌^◌, ◌<◌, List, [], ◌∷◌, Option, Some, None}
 use Rattle.bac_wire.specs.Canon.{IsValid}
 use Rattle.bac_wire.specs.Primitive.{Id, Enumerated, Object}
-use Rattle.bac_apdu.specs.Form.{Form, end, part, optional, context, anything, is_u32, unsigned, enumerated, object_identifier, Item, Value, number_item}
+use Rattle.bac_apdu.specs.Form.{Form, end, row, optional, context, anything, is_u32, unsigned, enumerated, object_identifier, Parameter, Value, number_parameter}
 use Rattle.bac_apdu.specs.FormCanon.{canon_form}
 
 -- these three, and then the parameters of another form
 abbrev pub property_then : Form → Form
 property_then form =
-    part (context 0 object_identifier anything)  -- object identifier
-    (part (context 1 enumerated anything)  -- property identifier
+    row (context 0 object_identifier anything)  -- object identifier
+    (row (context 1 enumerated anything)  -- property identifier
     (optional 2 unsigned is_u32  -- property array index, optional
     form))
 
-abbrev pub property_items_then : Id → ℕ → Option ℕ → List Item → List Item
-property_items_then object property index items = Value (Object object) ∷ Value (Enumerated property) ∷ number_item index ∷ items
+abbrev pub property_parameters_then : Id → ℕ → Option ℕ → List Parameter → List Parameter
+property_parameters_then object property index parameters = Value (Object object) ∷ Value (Enumerated property) ∷ number_parameter index ∷ parameters
 
 -- what is written of the three
 unfoldable pub property_octets : Id → ℕ → Option ℕ → List ℕ
-property_octets object property index = canon_form (property_then end) (property_items_then object property index [])
+property_octets object property index = canon_form (property_then end) (property_parameters_then object property index [])
 
 -- ---- each number in its range
 

@@ -3,27 +3,27 @@ use Rattle.std.specs.Prelude.{ℕ, List, [], ◌∷◌, Option}
 use Rattle.bac_wire.specs.Primitive.{Id}
 use Rattle.bac_apdu.specs.declared.service.read_property_ack.ReadPropertyAck.{ReadPropertyAck}
 use Rattle.bac_apdu.specs.FormCanon.{canon_form}
-use Rattle.bac_apdu.specs.Service.PropertyReference.{property_then, property_items_then}
-use Rattle.bac_apdu.specs.Form.{Form, end, part, opening, enclosed, Item, Mark, Inside}
+use Rattle.bac_apdu.specs.Service.PropertyReference.{property_then, property_parameters_then}
+use Rattle.bac_apdu.specs.Form.{Form, end, row, opening, enclosed, Parameter, Mark, Inside}
 use Rattle.std.specs.Option.{option_map}
 use Rattle.std.specs.Result.{result_ok}
 use Rattle.bac_apdu.specs.FormReading.{form_at}
-use Rattle.bac_apdu.specs.Fields.{item_at, id_in, enumerated_in, number_in, octets_in}
+use Rattle.bac_apdu.specs.Fields.{parameter_at, id_in, enumerated_in, number_in, octets_in}
 
 abbrev pub values : Form
 values =
-    part (opening 3)  -- property value, opened
-    (part (enclosed 3)  -- values, and the tag that closes
+    row (opening 3)  -- property value, opened
+    (row (enclosed 3)  -- values, and the tag that closes
     end)
 
 abbrev pub read_property_ack : Form
 read_property_ack = property_then values
 
-abbrev pub value_items : ReadPropertyAck → List Item
-value_items a = Mark 3 ∷ Inside a.values.now ∷ []
+abbrev pub value_parameters : ReadPropertyAck → List Parameter
+value_parameters a = Mark 3 ∷ Inside a.values.now ∷ []
 
-abbrev pub property_ack_items : ReadPropertyAck → List Item
-property_ack_items a = property_items_then a.object a.property a.index (value_items a)
+abbrev pub property_ack_parameters : ReadPropertyAck → List Parameter
+property_ack_parameters a = property_parameters_then a.object a.property a.index (value_parameters a)
 
 -- ---- with named fields
 
@@ -37,9 +37,9 @@ pub record PropertyAck : Type 0 where
 abbrev pub property_ack_of : ReadPropertyAck → PropertyAck
 property_ack_of a = record { object = a.object; property = a.property; index = a.index; values = a.values.now }
 
-abbrev pub property_ack_in : List Item → PropertyAck
-property_ack_in items =
-    record { object = id_in (item_at 0 items); property = enumerated_in (item_at 1 items); index = number_in (item_at 2 items); values = octets_in (item_at 4 items) }
+abbrev pub property_ack_in : List Parameter → PropertyAck
+property_ack_in parameters =
+    record { object = id_in (parameter_at 0 parameters); property = enumerated_in (parameter_at 1 parameters); index = number_in (parameter_at 2 parameters); values = octets_in (parameter_at 4 parameters) }
 
 -- the answer that parameters are the encoding of
 unfoldable pub read_property_ack_at : List ℕ → Option PropertyAck
@@ -47,8 +47,8 @@ read_property_ack_at bytes = option_map property_ack_in (result_ok (form_at read
 
 -- ---- written
 
-abbrev pub property_ack_fields : PropertyAck → List Item
-property_ack_fields a = property_items_then a.object a.property a.index (Mark 3 ∷ Inside a.values ∷ [])
+abbrev pub property_ack_fields : PropertyAck → List Parameter
+property_ack_fields a = property_parameters_then a.object a.property a.index (Mark 3 ∷ Inside a.values ∷ [])
 
 -- the parameters of an answer, each as short as can be
 abbrev pub property_ack_octets : PropertyAck → List ℕ

@@ -1,25 +1,25 @@
 -- ReadRange (clauses 15.8 and 21): its parameters, and what a request shows of its fields.
 use Rattle.std.specs.Prelude.{ℕ, List, drop, Result}
 use Rattle.bac_apdu.specs.declared.service.read_range.ReadRange.{ReadRange}
-use Rattle.bac_apdu.specs.Service.PropertyReference.{property_then, property_items_then}
-use Rattle.bac_apdu.specs.Form.{Form, Item}
-use Rattle.bac_apdu.specs.Service.Extent.{range, extent_items, extent_in}
+use Rattle.bac_apdu.specs.Service.PropertyReference.{property_then, property_parameters_then}
+use Rattle.bac_apdu.specs.Form.{Form, Parameter}
+use Rattle.bac_apdu.specs.Service.Extent.{range, extent_parameters, extent_in}
 use Rattle.bac_wire.specs.Chain.{result_map}
 use Rattle.bac_apdu.specs.declared.reason.Reason.{Reason}
 use Rattle.bac_apdu.specs.FormReading.{form_at}
-use Rattle.bac_apdu.specs.Fields.{item_at, id_in, enumerated_in, number_in}
+use Rattle.bac_apdu.specs.Fields.{parameter_at, id_in, enumerated_in, number_in}
 
 abbrev pub read_range : Form
 read_range = property_then range  -- range, optional
 
-abbrev pub range_items : ReadRange → List Item
-range_items r = property_items_then r.object r.property r.index (extent_items r.extent)
+abbrev pub range_parameters : ReadRange → List Parameter
+range_parameters r = property_parameters_then r.object r.property r.index (extent_parameters r.extent)
 
 -- ---- with named fields
 
-abbrev pub range_in : List Item → ReadRange
-range_in items =
-    record { object = id_in (item_at 0 items); property = enumerated_in (item_at 1 items); index = number_in (item_at 2 items); extent = extent_in (drop 3 items) }
+abbrev pub range_in : List Parameter → ReadRange
+range_in parameters =
+    record { object = id_in (parameter_at 0 parameters); property = enumerated_in (parameter_at 1 parameters); index = number_in (parameter_at 2 parameters); extent = extent_in (drop 3 parameters) }
 
 -- the request that parameters are the encoding of, or the reason of the first that is wrong
 unfoldable pub read_range_at : List ℕ → Result ReadRange Reason

@@ -2,11 +2,11 @@
 use Rattle.std.specs.Prelude.{ℕ, ◌≤◌, Bool, false, nat_le, List, [], ◌∷◌, Option, Some, None}
 use Rattle.bac_wire.specs.Primitive.{Primitive, Unsigned}
 use Rattle.bac_apdu.specs.declared.service.who_is.WhoIs.{WhoIs}
-use Rattle.bac_apdu.specs.Form.{Form, end, part, nothing_or, context, unsigned, Item, Value}
+use Rattle.bac_apdu.specs.Form.{Form, end, row, nothing_or, context, unsigned, Parameter, Value}
 use Rattle.std.specs.Option.{option_map}
 use Rattle.std.specs.Result.{result_ok}
 use Rattle.bac_apdu.specs.FormReading.{form_at}
-use Rattle.bac_apdu.specs.Fields.{item_at, number_in}
+use Rattle.bac_apdu.specs.Fields.{parameter_at, number_in}
 
 -- an instance number: at most 4194303
 abbrev pub is_instance : Primitive → Bool
@@ -16,16 +16,16 @@ is_instance value = false
 -- no parameter at all, or both
 abbrev pub who_is : Form
 who_is = nothing_or
-    (part (context 0 unsigned is_instance)  -- device instance range, low limit
-    (part (context 1 unsigned is_instance)  -- and high limit
+    (row (context 0 unsigned is_instance)  -- device instance range, low limit
+    (row (context 1 unsigned is_instance)  -- and high limit
     end))
 
-abbrev pub limit_items : Option (ℕ × ℕ) → List Item
-limit_items None = []
-limit_items (Some limits) = Value (Unsigned limits.0) ∷ Value (Unsigned limits.1) ∷ []
+abbrev pub limit_parameters : Option (ℕ × ℕ) → List Parameter
+limit_parameters None = []
+limit_parameters (Some limits) = Value (Unsigned limits.0) ∷ Value (Unsigned limits.1) ∷ []
 
-abbrev pub who_is_items : WhoIs → List Item
-who_is_items w = limit_items w.limits
+abbrev pub who_is_parameters : WhoIs → List Parameter
+who_is_parameters w = limit_parameters w.limits
 
 -- both are instance numbers
 abbrev pub AreLimits : Option (ℕ × ℕ) → Type 0
@@ -38,8 +38,8 @@ abbrev pub both : Option ℕ → Option ℕ → Option (ℕ × ℕ)
 both (Some low) (Some high) = Some (low, high)
 both low high = None
 
-abbrev pub who_is_in : List Item → WhoIs
-who_is_in items = record { limits = both (number_in (item_at 0 items)) (number_in (item_at 1 items)) }
+abbrev pub who_is_in : List Parameter → WhoIs
+who_is_in parameters = record { limits = both (number_in (parameter_at 0 parameters)) (number_in (parameter_at 1 parameters)) }
 
 -- the request that parameters are the encoding of
 unfoldable pub who_is_at : List ℕ → Option WhoIs

@@ -5,10 +5,10 @@ ghost use Rattle.std.specs.Result.{result_ok};
 ghost use Rattle.bac_wire.specs.Datagram.{Writes};
 ghost use Rattle.bac_wire.specs.Chain.{Gives};
 ghost use Rattle.bac_apdu.specs.Adding.{Adds};
-ghost use Rattle.bac_apdu.specs.Form.{Item, Reads};
+ghost use Rattle.bac_apdu.specs.Form.{Parameter, Reads};
 ghost use Rattle.bac_apdu.specs.FormReading.{form_at};
 ghost use Rattle.bac_apdu.specs.FormCanon.{canon_form};
-ghost use Rattle.bac_apdu.specs.Service.IAm.{i_am, i_am_items, i_am_at, IsAnnouncement};
+ghost use Rattle.bac_apdu.specs.Service.IAm.{i_am, i_am_parameters, i_am_at, IsAnnouncement};
 ghost use Rattle.bac_wire.specs.OptionChain.{GivesSome};
 
 use crate::parameters::Parameters;
@@ -33,11 +33,11 @@ impl IAm {
     /// The announcement that the parameters encode; `None` if they encode none.
     pub fn read(bytes: &[u8]) -> Option<IAm>
         // What is read is encoded so.
-        ensures found { IfSome result (λ a. Reads i_am bytes.now (i_am_items a)) }
+        ensures found { IfSome result (λ a. Reads i_am bytes.now (i_am_parameters a)) }
         // What is encoded so is read.
-        ensures only { (items : List Item) → Reads i_am bytes.now items → IsSomeAnd result (λ a. i_am_items a ≡ items) }
+        ensures only { (parameters : List Parameter) → Reads i_am bytes.now parameters → IsSomeAnd result (λ a. i_am_parameters a ≡ parameters) }
         // The same as a function, on which callers build.
-        ensures exact { GivesSome i_am_items result (result_ok (form_at i_am bytes.now)) }
+        ensures exact { GivesSome i_am_parameters result (result_ok (form_at i_am bytes.now)) }
         // The same with named fields.
         ensures named { result ≡ i_am_at bytes.now }
     {
@@ -46,7 +46,7 @@ impl IAm {
 
     #[tactic(auto, unfolding(crate::specs::FormReading::form_at))]
     fn parameters(bytes: &[u8]) -> Result<IAm, Reason>
-        ensures { Gives i_am_items result (form_at i_am bytes.now) }
+        ensures { Gives i_am_parameters result (form_at i_am bytes.now) }
     {
         let mut parameters = Parameters::of(bytes);
         let device = parameters.plain_object()?;
@@ -64,7 +64,7 @@ impl IAm {
 
     /// Appends the parameters, or nothing if they don't fit.
     pub fn write(&self, out: &mut Datagram) -> Result<(), Full>
-        ensures { Writes out.old (canon_form i_am (i_am_items self.now)) result out.new }
+        ensures { Writes out.old (canon_form i_am (i_am_parameters self.now)) result out.new }
     {
         let before = out.octets().len();
         let added = self.add(out);
@@ -72,7 +72,7 @@ impl IAm {
     }
 
     fn add(&self, out: &mut Datagram) -> Result<(), Full>
-        ensures { Adds out.old (canon_form i_am (i_am_items self.now)) result out.new }
+        ensures { Adds out.old (canon_form i_am (i_am_parameters self.now)) result out.new }
     {
         add_value(out, &Value::Object(self.device))?;
         add_value(out, &Value::Unsigned(self.max_apdu))?;
@@ -83,21 +83,21 @@ impl IAm {
 
     /// What is written is read back.
     pub fn canon_is_read()
-        ensures { (a : IAm) → IsAnnouncement a → Reads i_am (canon_form i_am (i_am_items a)) (i_am_items a) }
+        ensures { (a : IAm) → IsAnnouncement a → Reads i_am (canon_form i_am (i_am_parameters a)) (i_am_parameters a) }
     {}
 
     /// What is written is read back, with named fields.
     pub fn fields_are_read_back()
-        ensures { (a : IAm) → IsAnnouncement a → i_am_at (canon_form i_am (i_am_items a)) ≡ Some a }
+        ensures { (a : IAm) → IsAnnouncement a → i_am_at (canon_form i_am (i_am_parameters a)) ≡ Some a }
     {}
 
     /// An announcement has at most 35 octets of parameters.
     pub fn canon_is_short()
-        ensures { (a : IAm) → length (canon_form i_am (i_am_items a)) ≤ 35 }
+        ensures { (a : IAm) → length (canon_form i_am (i_am_parameters a)) ≤ 35 }
     {}
 
     /// Announcements that differ in any field have different parameters.
-    pub fn items_tell_fields()
-        ensures { (a b : IAm) → i_am_items a ≡ i_am_items b → a ≡ b }
+    pub fn parameters_tell_fields()
+        ensures { (a b : IAm) → i_am_parameters a ≡ i_am_parameters b → a ≡ b }
     {}
 }

@@ -4,10 +4,10 @@ ghost use Rattle.std.specs.Prelude.{◌≡◌, ◌≤◌, Ok, length, List, ℕ,
 ghost use Rattle.bac_wire.specs.Chain.{Gives};
 ghost use Rattle.bac_wire.specs.Datagram.{Writes};
 ghost use Rattle.bac_apdu.specs.Adding.{Adds};
-ghost use Rattle.bac_apdu.specs.Form.{Item, Reads};
+ghost use Rattle.bac_apdu.specs.Form.{Parameter, Reads};
 ghost use Rattle.bac_apdu.specs.FormReading.{form_at, Stops};
 ghost use Rattle.bac_apdu.specs.FormCanon.{canon_form};
-ghost use Rattle.bac_apdu.specs.Service.ReadProperty.{read_property, property_items, read_property_at, IsProperty};
+ghost use Rattle.bac_apdu.specs.Service.ReadProperty.{read_property, property_parameters, read_property_at, IsProperty};
 
 use crate::parameters::Parameters;
 use crate::parameters_out::cut_back;
@@ -28,13 +28,13 @@ impl ReadProperty {
     /// The request that the parameters encode, or the reason of the first that is wrong.
     pub fn read(bytes: &[u8]) -> Result<ReadProperty, Reason>
         // What is read is encoded so.
-        ensures found { IfOk result (λ p. Reads read_property bytes.now (property_items p)) }
+        ensures found { IfOk result (λ p. Reads read_property bytes.now (property_parameters p)) }
         // What is encoded so is read.
-        ensures only { (items : List Item) → Reads read_property bytes.now items → IsOkAnd result (λ p. property_items p ≡ items) }
+        ensures only { (parameters : List Parameter) → Reads read_property bytes.now parameters → IsOkAnd result (λ p. property_parameters p ≡ parameters) }
         // The reason is that of the parameter after the longest run of those that are right.
         ensures refused { IfErr result (λ reason. (count : ℕ) × Stops read_property bytes.now count reason) }
         // The same as a function, on which callers build.
-        ensures exact { Gives property_items result (form_at read_property bytes.now) }
+        ensures exact { Gives property_parameters result (form_at read_property bytes.now) }
         // The same with named fields.
         ensures named { result ≡ read_property_at bytes.now }
     {
@@ -43,7 +43,7 @@ impl ReadProperty {
 
     /// Appends the parameters, or nothing if they don't fit.
     pub fn write(&self, out: &mut Datagram) -> Result<(), Full>
-        ensures { Writes out.old (canon_form read_property (property_items self.now)) result out.new }
+        ensures { Writes out.old (canon_form read_property (property_parameters self.now)) result out.new }
     {
         let before = out.octets().len();
         let added = self.add(out);
@@ -52,14 +52,14 @@ impl ReadProperty {
 
     #[tactic(auto, unfolding(crate::specs::Service::PropertyReference::property_octets))]
     fn add(&self, out: &mut Datagram) -> Result<(), Full>
-        ensures { Adds out.old (canon_form read_property (property_items self.now)) result out.new }
+        ensures { Adds out.old (canon_form read_property (property_parameters self.now)) result out.new }
     {
         add_property(out, self.object, self.property, self.index)
     }
 
     #[tactic(auto, unfolding(crate::specs::FormReading::form_at))]
     fn parameters(bytes: &[u8]) -> Result<ReadProperty, Reason>
-        ensures { Gives property_items result (form_at read_property bytes.now) }
+        ensures { Gives property_parameters result (form_at read_property bytes.now) }
     {
         let mut parameters = Parameters::of(bytes);
         let object = parameters.object(0)?;
@@ -75,21 +75,21 @@ impl ReadProperty {
 
     /// What is written is read back.
     pub fn canon_is_read()
-        ensures { (p : ReadProperty) → IsProperty p.object p.property p.index → Reads read_property (canon_form read_property (property_items p)) (property_items p) }
+        ensures { (p : ReadProperty) → IsProperty p.object p.property p.index → Reads read_property (canon_form read_property (property_parameters p)) (property_parameters p) }
     {}
 
     /// What is written is read back, with named fields.
     pub fn fields_are_read_back()
-        ensures { (p : ReadProperty) → IsProperty p.object p.property p.index → read_property_at (canon_form read_property (property_items p)) ≡ Ok p }
+        ensures { (p : ReadProperty) → IsProperty p.object p.property p.index → read_property_at (canon_form read_property (property_parameters p)) ≡ Ok p }
     {}
 
     /// A request has at most 25 octets of parameters.
     pub fn canon_is_short()
-        ensures { (p : ReadProperty) → length (canon_form read_property (property_items p)) ≤ 25 }
+        ensures { (p : ReadProperty) → length (canon_form read_property (property_parameters p)) ≤ 25 }
     {}
 
     /// Requests that differ in any field have different parameters.
-    pub fn items_tell_fields()
-        ensures { (p q : ReadProperty) → property_items p ≡ property_items q → p ≡ q }
+    pub fn parameters_tell_fields()
+        ensures { (p q : ReadProperty) → property_parameters p ≡ property_parameters q → p ≡ q }
     {}
 }

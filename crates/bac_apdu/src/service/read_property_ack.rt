@@ -6,12 +6,12 @@ ghost use Rattle.bac_wire.specs.Datagram.{Writes};
 ghost use Rattle.bac_wire.specs.Chain.{Gives};
 ghost use Rattle.bac_wire.specs.Level.{IsLevel};
 ghost use Rattle.bac_apdu.specs.Adding.{Adds};
-ghost use Rattle.bac_apdu.specs.Form.{Item, Reads};
+ghost use Rattle.bac_apdu.specs.Form.{Parameter, Reads};
 ghost use Rattle.bac_apdu.specs.FormReading.{form_at};
 ghost use Rattle.bac_apdu.specs.FormCanon.{canon_form};
 ghost use Rattle.bac_wire.specs.OptionChain.{GivesSome};
 ghost use Rattle.bac_apdu.specs.Service.ReadProperty.{IsProperty};
-ghost use Rattle.bac_apdu.specs.Service.ReadPropertyAck.{read_property_ack, property_ack_items, PropertyAck, property_ack_of, property_ack_octets, read_property_ack_at, values, value_items};
+ghost use Rattle.bac_apdu.specs.Service.ReadPropertyAck.{read_property_ack, property_ack_parameters, PropertyAck, property_ack_of, property_ack_octets, read_property_ack_at, values, value_parameters};
 
 use crate::parameters::Parameters;
 use crate::parameters_out::{add_close, add_open, cut_back};
@@ -34,11 +34,11 @@ impl<'a> ReadPropertyAck<'a> {
     /// The answer that the parameters encode; `None` if they encode none.
     pub fn read(bytes: &'a [u8]) -> Option<ReadPropertyAck<'a>>
         // What is read is encoded so.
-        ensures found { IfSome result (λ a. Reads read_property_ack bytes.now (property_ack_items a)) }
+        ensures found { IfSome result (λ a. Reads read_property_ack bytes.now (property_ack_parameters a)) }
         // What is encoded so is read.
-        ensures only { (items : List Item) → Reads read_property_ack bytes.now items → IsSomeAnd result (λ a. property_ack_items a ≡ items) }
+        ensures only { (parameters : List Parameter) → Reads read_property_ack bytes.now parameters → IsSomeAnd result (λ a. property_ack_parameters a ≡ parameters) }
         // The same as a function, on which callers build.
-        ensures exact { GivesSome property_ack_items result (result_ok (form_at read_property_ack bytes.now)) }
+        ensures exact { GivesSome property_ack_parameters result (result_ok (form_at read_property_ack bytes.now)) }
         // The same with named fields.
         ensures named { GivesSome property_ack_of result (read_property_ack_at bytes.now) }
     {
@@ -50,7 +50,7 @@ impl<'a> ReadPropertyAck<'a> {
 
     #[tactic(auto, unfolding(crate::specs::FormReading::form_at))]
     fn parameters(bytes: &'a [u8]) -> Result<ReadPropertyAck<'a>, Reason>
-        ensures { Gives property_ack_items result (form_at read_property_ack bytes.now) }
+        ensures { Gives property_ack_parameters result (form_at read_property_ack bytes.now) }
     {
         let mut parameters = Parameters::of(bytes);
         let object = parameters.object(0)?;
@@ -69,7 +69,7 @@ impl<'a> ReadPropertyAck<'a> {
 
     /// Appends the parameters, or nothing if they don't fit.
     pub fn write(&self, out: &mut Datagram) -> Result<(), Full>
-        ensures { Writes out.old (canon_form read_property_ack (property_ack_items self.now)) result out.new }
+        ensures { Writes out.old (canon_form read_property_ack (property_ack_parameters self.now)) result out.new }
     {
         let before = out.octets().len();
         let added = self.add(out);
@@ -77,14 +77,14 @@ impl<'a> ReadPropertyAck<'a> {
     }
 
     fn add(&self, out: &mut Datagram) -> Result<(), Full>
-        ensures { Adds out.old (canon_form read_property_ack (property_ack_items self.now)) result out.new }
+        ensures { Adds out.old (canon_form read_property_ack (property_ack_parameters self.now)) result out.new }
     {
         add_property(out, self.object, self.property, self.index)?;
         self.add_values(out)
     }
 
     fn add_values(&self, out: &mut Datagram) -> Result<(), Full>
-        ensures { Adds out.old (canon_form values (value_items self.now)) result out.new }
+        ensures { Adds out.old (canon_form values (value_parameters self.now)) result out.new }
     {
         add_open(out, 3)?;
         write_octets(out, self.values)?;
@@ -94,7 +94,7 @@ impl<'a> ReadPropertyAck<'a> {
 
     /// What is written is read back.
     pub fn canon_is_read()
-        ensures { (a : ReadPropertyAck) → IsProperty a.object a.property a.index → IsLevel a.values.now → Reads read_property_ack (canon_form read_property_ack (property_ack_items a)) (property_ack_items a) }
+        ensures { (a : ReadPropertyAck) → IsProperty a.object a.property a.index → IsLevel a.values.now → Reads read_property_ack (canon_form read_property_ack (property_ack_parameters a)) (property_ack_parameters a) }
     {}
 
     /// What is written is read back, with named fields.
@@ -103,7 +103,7 @@ impl<'a> ReadPropertyAck<'a> {
     {}
 
     /// Answers that differ in any field have different parameters.
-    pub fn items_tell_fields()
-        ensures { (a b : ReadPropertyAck) → property_ack_items a ≡ property_ack_items b → (a.object ≡ b.object) × (a.property ≡ b.property) × (a.index ≡ b.index) × (a.values.now ≡ b.values.now) }
+    pub fn parameters_tell_fields()
+        ensures { (a b : ReadPropertyAck) → property_ack_parameters a ≡ property_ack_parameters b → (a.object ≡ b.object) × (a.property ≡ b.property) × (a.index ≡ b.index) × (a.values.now ≡ b.values.now) }
     {}
 }

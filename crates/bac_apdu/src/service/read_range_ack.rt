@@ -9,12 +9,12 @@ ghost use Rattle.bac_wire.specs.Chain.{Gives};
 ghost use Rattle.bac_wire.specs.Level.{IsLevel};
 ghost use Rattle.bac_apdu.specs.Adding.{Adds};
 ghost use Rattle.bac_apdu.specs.Apdu.{Complex, apdu_octets};
-ghost use Rattle.bac_apdu.specs.Form.{Item, Value as ItemValue, context, unsigned, bit_string, number_item, Reads};
-ghost use Rattle.bac_apdu.specs.FormReading.{part_at, optional_at, form_at};
+ghost use Rattle.bac_apdu.specs.Form.{Parameter, Value as ItemValue, context, unsigned, bit_string, number_parameter, Reads};
+ghost use Rattle.bac_apdu.specs.FormReading.{row_at, optional_at, form_at};
 ghost use Rattle.bac_apdu.specs.FormCanon.{canon_form};
 ghost use Rattle.bac_wire.specs.OptionChain.{GivesSome};
 ghost use Rattle.bac_apdu.specs.Service.ReadProperty.{IsProperty};
-ghost use Rattle.bac_apdu.specs.Service.ReadRangeAck.{read_range_ack, ack_items, RangeAck, range_ack_of, range_ack_octets, range_ack_size, read_range_ack_at, records, record_items, is_three, is_first, flag_bits, IsFirst, IsSmall, optional_size, ack_size};
+ghost use Rattle.bac_apdu.specs.Service.ReadRangeAck.{read_range_ack, ack_parameters, RangeAck, range_ack_of, range_ack_octets, range_ack_size, read_range_ack_at, records, record_parameters, is_three, is_first, flag_bits, IsFirst, IsSmall, optional_size, ack_size};
 
 use crate::parameters::Parameters;
 use crate::parameters_out::{add_close, add_context, add_open, cut_back};
@@ -43,11 +43,11 @@ impl<'a> ReadRangeAck<'a> {
     /// The answer that the parameters encode; `None` if they encode none.
     pub fn read(bytes: &'a [u8]) -> Option<ReadRangeAck<'a>>
         // What is read is encoded so.
-        ensures found { IfSome result (λ a. Reads read_range_ack bytes.now (ack_items a)) }
+        ensures found { IfSome result (λ a. Reads read_range_ack bytes.now (ack_parameters a)) }
         // What is encoded so is read.
-        ensures only { (items : List Item) → Reads read_range_ack bytes.now items → IsSomeAnd result (λ a. ack_items a ≡ items) }
+        ensures only { (parameters : List Parameter) → Reads read_range_ack bytes.now parameters → IsSomeAnd result (λ a. ack_parameters a ≡ parameters) }
         // The same as a function, on which callers build.
-        ensures exact { GivesSome ack_items result (result_ok (form_at read_range_ack bytes.now)) }
+        ensures exact { GivesSome ack_parameters result (result_ok (form_at read_range_ack bytes.now)) }
         // The same with named fields.
         ensures named { GivesSome range_ack_of result (read_range_ack_at bytes.now) }
         // The first number isn't 0.
@@ -64,7 +64,7 @@ impl<'a> ReadRangeAck<'a> {
     #[tactic(auto, unfolding(crate::specs::FormReading::form_at))]
     fn parameters(bytes: &'a [u8]) -> Result<ReadRangeAck<'a>, Reason>
         ensures low { IfOk result (λ a. a.flags % 32 ≡ 0) }
-        ensures exact { Gives ack_items result (form_at read_range_ack bytes.now) }
+        ensures exact { Gives ack_parameters result (form_at read_range_ack bytes.now) }
     {
         let mut parameters = Parameters::of(bytes);
         let object = parameters.object(0)?;
@@ -89,7 +89,7 @@ impl<'a> ReadRangeAck<'a> {
 
     /// Appends the parameters, or nothing if they don't fit.
     pub fn write(&self, out: &mut Datagram) -> Result<(), Full>
-        ensures { Writes out.old (canon_form read_range_ack (ack_items self.now)) result out.new }
+        ensures { Writes out.old (canon_form read_range_ack (ack_parameters self.now)) result out.new }
     {
         let before = out.octets().len();
         let added = self.add(out);
@@ -97,14 +97,14 @@ impl<'a> ReadRangeAck<'a> {
     }
 
     fn add(&self, out: &mut Datagram) -> Result<(), Full>
-        ensures { Adds out.old (canon_form read_range_ack (ack_items self.now)) result out.new }
+        ensures { Adds out.old (canon_form read_range_ack (ack_parameters self.now)) result out.new }
     {
         add_property(out, self.object, self.property, self.index)?;
         self.add_records(out)
     }
 
     fn add_records(&self, out: &mut Datagram) -> Result<(), Full>
-        ensures { Adds out.old (canon_form records (record_items self.now)) result out.new }
+        ensures { Adds out.old (canon_form records (record_parameters self.now)) result out.new }
     {
         // Three bits, in the high bits.
         add_context(
@@ -127,7 +127,7 @@ impl<'a> ReadRangeAck<'a> {
 
     /// What is written is read back.
     pub fn canon_is_read()
-        ensures { (a : ReadRangeAck) → IsProperty a.object a.property a.index → a.count < 2 ^ 64 → IsFirst a.first_number → IsLevel a.items.now → Reads read_range_ack (canon_form read_range_ack (ack_items a)) (ack_items a) }
+        ensures { (a : ReadRangeAck) → IsProperty a.object a.property a.index → a.count < 2 ^ 64 → IsFirst a.first_number → IsLevel a.items.now → Reads read_range_ack (canon_form read_range_ack (ack_parameters a)) (ack_parameters a) }
     {}
 
     /// What is written is read back, with named fields.
@@ -142,8 +142,8 @@ impl<'a> ReadRangeAck<'a> {
 
     /// Answers that differ in any field have different parameters, if the unused low bits of their
     /// flags are 0.
-    pub fn items_tell_fields()
-        ensures { (a b : ReadRangeAck) → a.flags < 256 → b.flags < 256 → a.flags % 32 ≡ 0 → b.flags % 32 ≡ 0 → ack_items a ≡ ack_items b
+    pub fn parameters_tell_fields()
+        ensures { (a b : ReadRangeAck) → a.flags < 256 → b.flags < 256 → a.flags % 32 ≡ 0 → b.flags % 32 ≡ 0 → ack_parameters a ≡ ack_parameters b
             → (a.object ≡ b.object) × (a.property ≡ b.property) × (a.index ≡ b.index) × (a.flags ≡ b.flags) × (a.count ≡ b.count) × (a.items.now ≡ b.items.now) × (a.first_number ≡ b.first_number) }
     {}
 
@@ -151,18 +151,18 @@ impl<'a> ReadRangeAck<'a> {
     /// no array, with fewer than 256 records, has 17 octets beside them and the first number, and
     /// that adds 2 to 5.
     pub fn canon_size()
-        ensures parameters { (a : ReadRangeAck) → a.property < 2 ^ 32 → IsSmall a.index → a.count < 2 ^ 32 → IsSmall a.first_number → length (canon_form read_range_ack (ack_items a)) ≡ ack_size a }
+        ensures parameters { (a : ReadRangeAck) → a.property < 2 ^ 32 → IsSmall a.index → a.count < 2 ^ 32 → IsSmall a.first_number → length (canon_form read_range_ack (ack_parameters a)) ≡ ack_size a }
         ensures apdu { (a : ReadRangeAck) (invoke : ℕ) → a.property < 2 ^ 8 → a.index ≡ None → a.count < 2 ^ 8 → IsSmall a.first_number
-            → length (apdu_octets (Complex false invoke 26 (canon_form read_range_ack (ack_items a)))) ≡ 17 + length a.items.now + optional_size a.first_number }
+            → length (apdu_octets (Complex false invoke 26 (canon_form read_range_ack (ack_parameters a)))) ≡ 17 + length a.items.now + optional_size a.first_number }
         ensures first_number { (n : ℕ) → (2 ≤ optional_size (Some n)) × (optional_size (Some n) ≤ 5) }
     {}
 }
 
 impl<'a> Parameters<'a> {
     /// An Unsigned of 1 to 4294967295.
-    #[tactic(auto, unfolding(crate::specs::FormReading::part_at))]
+    #[tactic(auto, unfolding(crate::specs::FormReading::row_at))]
     fn first(&mut self, tag: u8) -> Result<u32, Reason>
-        ensures { Gives (λ x. (ItemValue (Unsigned x), self.new)) result (part_at (context tag unsigned is_first) self.old) }
+        ensures { Gives (λ x. (ItemValue (Unsigned x), self.new)) result (row_at (context tag unsigned is_first) self.old) }
     {
         let contents = self.contents(tag)?;
         let number = as_unsigned(contents)?;
@@ -175,7 +175,7 @@ impl<'a> Parameters<'a> {
     /// The same, if it is there.
     #[tactic(auto, unfolding(crate::specs::FormReading::optional_at))]
     fn optional_first(&mut self, tag: u8) -> Result<Option<u32>, Reason>
-        ensures { Gives (λ x. (number_item x, self.new)) result (optional_at tag unsigned is_first self.old) }
+        ensures { Gives (λ x. (number_parameter x, self.new)) result (optional_at tag unsigned is_first self.old) }
     {
         if self.is_next(tag) {
             Ok(Some(self.first(tag)?))
@@ -185,10 +185,10 @@ impl<'a> Parameters<'a> {
     }
 
     /// Three bits, which come in the high bits.
-    #[tactic(auto, unfolding(crate::specs::FormReading::part_at))]
+    #[tactic(auto, unfolding(crate::specs::FormReading::row_at))]
     fn flags(&mut self, tag: u8) -> Result<u8, Reason>
         ensures low { IfOk result (λ x. x % 32 ≡ 0) }
-        ensures exact { Gives (λ x. (ItemValue (Bits (flag_bits x)), self.new)) result (part_at (context tag bit_string is_three) self.old) }
+        ensures exact { Gives (λ x. (ItemValue (Bits (flag_bits x)), self.new)) result (row_at (context tag bit_string is_three) self.old) }
     {
         let contents = self.contents(tag)?;
         let (unused, octets) = as_bits(contents)?;

@@ -6,10 +6,10 @@ ghost use Rattle.bac_wire.specs.Datagram.{Writes};
 ghost use Rattle.bac_wire.specs.Primitive.{Unsigned};
 ghost use Rattle.bac_wire.specs.Chain.{Gives};
 ghost use Rattle.bac_apdu.specs.Adding.{Adds};
-ghost use Rattle.bac_apdu.specs.Form.{Item, Value as ItemValue, context, unsigned, Reads};
-ghost use Rattle.bac_apdu.specs.FormReading.{part_at, form_at};
+ghost use Rattle.bac_apdu.specs.Form.{Parameter, Value as ItemValue, context, unsigned, Reads};
+ghost use Rattle.bac_apdu.specs.FormReading.{row_at, form_at};
 ghost use Rattle.bac_apdu.specs.FormCanon.{canon_form};
-ghost use Rattle.bac_apdu.specs.Service.WhoIs.{is_instance, who_is, who_is_items, who_is_at, AreLimits};
+ghost use Rattle.bac_apdu.specs.Service.WhoIs.{is_instance, who_is, who_is_parameters, who_is_at, AreLimits};
 ghost use Rattle.bac_wire.specs.OptionChain.{GivesSome};
 
 use crate::parameters::Parameters;
@@ -29,11 +29,11 @@ impl WhoIs {
     /// The request that the parameters encode; `None` if they encode none.
     pub fn read(bytes: &[u8]) -> Option<WhoIs>
         // What is read is encoded so.
-        ensures found { IfSome result (λ w. Reads who_is bytes.now (who_is_items w)) }
+        ensures found { IfSome result (λ w. Reads who_is bytes.now (who_is_parameters w)) }
         // What is encoded so is read.
-        ensures only { (items : List Item) → Reads who_is bytes.now items → IsSomeAnd result (λ w. who_is_items w ≡ items) }
+        ensures only { (parameters : List Parameter) → Reads who_is bytes.now parameters → IsSomeAnd result (λ w. who_is_parameters w ≡ parameters) }
         // The same as a function, on which callers build.
-        ensures exact { GivesSome who_is_items result (result_ok (form_at who_is bytes.now)) }
+        ensures exact { GivesSome who_is_parameters result (result_ok (form_at who_is bytes.now)) }
         // The same with named fields.
         ensures named { result ≡ who_is_at bytes.now }
         // It may be written.
@@ -44,7 +44,7 @@ impl WhoIs {
 
     #[tactic(auto, unfolding(crate::specs::FormReading::form_at))]
     fn parameters(bytes: &[u8]) -> Result<WhoIs, Reason>
-        ensures { Gives who_is_items result (form_at who_is bytes.now) }
+        ensures { Gives who_is_parameters result (form_at who_is bytes.now) }
     {
         match bytes {
             [] => Ok(WhoIs { limits: None }),
@@ -62,7 +62,7 @@ impl WhoIs {
 
     /// Appends the parameters, or nothing if they don't fit.
     pub fn write(&self, out: &mut Datagram) -> Result<(), Full>
-        ensures { Writes out.old (canon_form who_is (who_is_items self.now)) result out.new }
+        ensures { Writes out.old (canon_form who_is (who_is_parameters self.now)) result out.new }
     {
         let before = out.octets().len();
         let added = self.add(out);
@@ -70,7 +70,7 @@ impl WhoIs {
     }
 
     fn add(&self, out: &mut Datagram) -> Result<(), Full>
-        ensures { Adds out.old (canon_form who_is (who_is_items self.now)) result out.new }
+        ensures { Adds out.old (canon_form who_is (who_is_parameters self.now)) result out.new }
     {
         if let Some((low, high)) = self.limits {
             add_context(out, 0, &Value::Unsigned(low as u64))?;
@@ -81,25 +81,25 @@ impl WhoIs {
 
     /// What is written is read back.
     pub fn canon_is_read()
-        ensures { (w : WhoIs) → AreLimits w.limits → Reads who_is (canon_form who_is (who_is_items w)) (who_is_items w) }
+        ensures { (w : WhoIs) → AreLimits w.limits → Reads who_is (canon_form who_is (who_is_parameters w)) (who_is_parameters w) }
     {}
 
     /// What is written is read back, with named fields.
     pub fn fields_are_read_back()
-        ensures { (w : WhoIs) → AreLimits w.limits → who_is_at (canon_form who_is (who_is_items w)) ≡ Some w }
+        ensures { (w : WhoIs) → AreLimits w.limits → who_is_at (canon_form who_is (who_is_parameters w)) ≡ Some w }
     {}
 
     /// Requests that differ in any field have different parameters.
-    pub fn items_tell_fields()
-        ensures { (v w : WhoIs) → who_is_items v ≡ who_is_items w → v ≡ w }
+    pub fn parameters_tell_fields()
+        ensures { (v w : WhoIs) → who_is_parameters v ≡ who_is_parameters w → v ≡ w }
     {}
 }
 
 impl<'a> Parameters<'a> {
     /// An Unsigned of at most 4194303.
-    #[tactic(auto, unfolding(crate::specs::FormReading::part_at))]
+    #[tactic(auto, unfolding(crate::specs::FormReading::row_at))]
     fn instance(&mut self, tag: u8) -> Result<u32, Reason>
-        ensures { Gives (λ x. (ItemValue (Unsigned x), self.new)) result (part_at (context tag unsigned is_instance) self.old) }
+        ensures { Gives (λ x. (ItemValue (Unsigned x), self.new)) result (row_at (context tag unsigned is_instance) self.old) }
     {
         let contents = self.contents(tag)?;
         let number = as_unsigned(contents)?;

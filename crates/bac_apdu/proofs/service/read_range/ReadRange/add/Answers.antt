@@ -1,11 +1,11 @@
 use Rattle.bac_apdu.proofs.Additions.{property_adds, property_full}
-use Rattle.bac_apdu.specs.Service.Extent.{range, extent_items}
+use Rattle.bac_apdu.specs.Service.Extent.{range, extent_parameters}
 use Rattle.bac_apdu.proofs.service.read_range.ReadRange.add.Goals as goal
 
 pub returns-in_err-add_property-clause-written : goal.returns-in_err-add_property-clause-written
 returns-in_err-add_property-clause-written c =
-    property_full c.args.self.now.object c.args.self.now.property c.args.self.now.index range (extent_items c.args.self.now.extent) c.args.out.now c.add_property.new.out c.from_residual.result c.in_err-add_property.field-0.0 c.from_residual.ensures.0 c.in_err-add_property.ensures.written
+    property_full c.args.self.now.object c.args.self.now.property c.args.self.now.index range (extent_parameters c.args.self.now.extent) c.args.out.now c.add_property.new.out c.from_residual.result c.in_err-add_property.field-0.0 c.from_residual.ensures.0 c.in_err-add_property.ensures.written
 
 pub returns-clause-written : goal.returns-clause-written
 returns-clause-written c =
-    property_adds c.args.self.now.object c.args.self.now.property c.args.self.now.index range (extent_items c.args.self.now.extent) c.args.out.now c.add_property.new.out c.add_extent.new.out c.add_extent.result c.in_ok-add_property.ensures.written c.add_extent.ensures
+    property_adds c.args.self.now.object c.args.self.now.property c.args.self.now.index range (extent_parameters c.args.self.now.extent) c.args.out.now c.add_property.new.out c.add_extent.new.out c.add_extent.result c.in_ok-add_property.ensures.written c.add_extent.ensures

@@ -16,22 +16,22 @@ use Rattle.bac_apdu.specs.declared.service.extent.Extent.{Extent}
 use Rattle.bac_apdu.specs.declared.service.extent.Extent.TheVariants.{All, ByPosition, ByNumber, ByTime}
 use Rattle.bac_apdu.specs.declared.service.read_range.ReadRange.{ReadRange}
 use Rattle.bac_apdu.specs.declared.service.read_range_ack.ReadRangeAck.{ReadRangeAck}
-use Rattle.bac_apdu.specs.Form.{Item, Value, Mark, Inside, number_item}
-use Rattle.bac_apdu.specs.Service.WhoIs.{limit_items, who_is_items}
-use Rattle.bac_apdu.specs.Service.IAm.{i_am_items}
-use Rattle.bac_apdu.specs.Service.ReadProperty.{property_items}
-use Rattle.bac_apdu.specs.Service.ReadPropertyAck.{property_ack_items}
-use Rattle.bac_apdu.specs.Service.WriteProperty.{write_items}
-use Rattle.bac_apdu.specs.Service.Extent.{extent_items}
-use Rattle.bac_apdu.specs.Service.ReadRange.{range_items}
-use Rattle.bac_apdu.specs.Service.ReadRangeAck.{flag_bits, ack_items}
+use Rattle.bac_apdu.specs.Form.{Parameter, Value, Mark, Inside, number_parameter}
+use Rattle.bac_apdu.specs.Service.WhoIs.{limit_parameters, who_is_parameters}
+use Rattle.bac_apdu.specs.Service.IAm.{i_am_parameters}
+use Rattle.bac_apdu.specs.Service.ReadProperty.{property_parameters}
+use Rattle.bac_apdu.specs.Service.ReadPropertyAck.{property_ack_parameters}
+use Rattle.bac_apdu.specs.Service.WriteProperty.{write_parameters}
+use Rattle.bac_apdu.specs.Service.Extent.{extent_parameters}
+use Rattle.bac_apdu.specs.Service.ReadRange.{range_parameters}
+use Rattle.bac_apdu.specs.Service.ReadRangeAck.{flag_bits, ack_parameters}
 
 -- ---- lists of items
 
-first_item : (a b : Item) (l m : List Item) → a ∷ l ≡ b ∷ m → a ≡ b
+first_item : (a b : Parameter) (l m : List Parameter) → a ∷ l ≡ b ∷ m → a ≡ b
 first_item a b l m e = cc
 
-other_items : (a b : Item) (l m : List Item) → a ∷ l ≡ b ∷ m → l ≡ m
+other_items : (a b : Parameter) (l m : List Parameter) → a ∷ l ≡ b ∷ m → l ≡ m
 other_items a b l m e = cc
 
 same_object : (a b : Id) → Value (Object a) ≡ Value (Object b) → a ≡ b
@@ -52,33 +52,33 @@ same_value a b e = cc
 same_inside : (a b : List ℕ) → Inside a ≡ Inside b → a ≡ b
 same_inside a b e = cc
 
-same_number : (a b : Option ℕ) → number_item a ≡ number_item b → a ≡ b
+same_number : (a b : Option ℕ) → number_parameter a ≡ number_parameter b → a ≡ b
 same_number None None e = refl
 same_number None (Some n) e = absurd cc
 same_number (Some m) None e = absurd cc
 same_number (Some m) (Some n) e = cc
 
 -- object, property and index, before what each service has after them
-record SameTrio (a b : Id) (p q : ℕ) (i j : Option ℕ) (l m : List Item) : Type 0 where
+record SameTrio (a b : Id) (p q : ℕ) (i j : Option ℕ) (l m : List Parameter) : Type 0 where
   object : a ≡ b
   property : p ≡ q
   index : i ≡ j
   others : l ≡ m
 
-same_trio : (a b : Id) (p q : ℕ) (i j : Option ℕ) (l m : List Item) → Value (Object a) ∷ Value (Enumerated p) ∷ number_item i ∷ l ≡ Value (Object b) ∷ Value (Enumerated q) ∷ number_item j ∷ m → SameTrio a b p q i j l m
+same_trio : (a b : Id) (p q : ℕ) (i j : Option ℕ) (l m : List Parameter) → Value (Object a) ∷ Value (Enumerated p) ∷ number_parameter i ∷ l ≡ Value (Object b) ∷ Value (Enumerated q) ∷ number_parameter j ∷ m → SameTrio a b p q i j l m
 same_trio a b p q i j l m e =
-    let one = other_items (Value (Object a)) (Value (Object b)) (Value (Enumerated p) ∷ number_item i ∷ l) (Value (Enumerated q) ∷ number_item j ∷ m) e in
-    let two = other_items (Value (Enumerated p)) (Value (Enumerated q)) (number_item i ∷ l) (number_item j ∷ m) one in
+    let one = other_items (Value (Object a)) (Value (Object b)) (Value (Enumerated p) ∷ number_parameter i ∷ l) (Value (Enumerated q) ∷ number_parameter j ∷ m) e in
+    let two = other_items (Value (Enumerated p)) (Value (Enumerated q)) (number_parameter i ∷ l) (number_parameter j ∷ m) one in
     record {
-      object = same_object a b (first_item (Value (Object a)) (Value (Object b)) (Value (Enumerated p) ∷ number_item i ∷ l) (Value (Enumerated q) ∷ number_item j ∷ m) e);
-      property = same_enumerated p q (first_item (Value (Enumerated p)) (Value (Enumerated q)) (number_item i ∷ l) (number_item j ∷ m) one);
-      index = same_number i j (first_item (number_item i) (number_item j) l m two);
-      others = other_items (number_item i) (number_item j) l m two;
+      object = same_object a b (first_item (Value (Object a)) (Value (Object b)) (Value (Enumerated p) ∷ number_parameter i ∷ l) (Value (Enumerated q) ∷ number_parameter j ∷ m) e);
+      property = same_enumerated p q (first_item (Value (Enumerated p)) (Value (Enumerated q)) (number_parameter i ∷ l) (number_parameter j ∷ m) one);
+      index = same_number i j (first_item (number_parameter i) (number_parameter j) l m two);
+      others = other_items (number_parameter i) (number_parameter j) l m two;
     }
 
 -- ---- Who-Is and I-Am
 
-same_limits : (a b : Option (ℕ × ℕ)) → limit_items a ≡ limit_items b → a ≡ b
+same_limits : (a b : Option (ℕ × ℕ)) → limit_parameters a ≡ limit_parameters b → a ≡ b
 same_limits None None e = refl
 same_limits None (Some b) e = absurd cc
 same_limits (Some a) None e = absurd cc
@@ -90,7 +90,7 @@ same_limits (Some (a, b)) (Some (c, d)) e =
 abbrev who_is_with : Option (ℕ × ℕ) → WhoIs
 who_is_with limits = record { limits = limits }
 
-pub same_who_is : (v w : WhoIs) → who_is_items v ≡ who_is_items w → v ≡ w
+pub same_who_is : (v w : WhoIs) → who_is_parameters v ≡ who_is_parameters w → v ≡ w
 same_who_is v w e = ap who_is_with (same_limits v.limits w.limits e)
 
 abbrev announcement_with : Id → ℕ → ℕ → ℕ → IAm
@@ -99,7 +99,7 @@ announcement_with device max segmentation vendor = record { device = device; max
 announced : (a b : Id) (m n s t v w : ℕ) → a ≡ b → m ≡ n → s ≡ t → v ≡ w → announcement_with a m s v ≡ announcement_with b n t w
 announced a b m n s t v w d x y z = rw (d, x, y, z) refl
 
-pub same_announcement : (a b : IAm) → i_am_items a ≡ i_am_items b → a ≡ b
+pub same_announcement : (a b : IAm) → i_am_parameters a ≡ i_am_parameters b → a ≡ b
 same_announcement a b e =
     let device : a.device ≡ b.device = cc in
     let max : a.max_apdu ≡ b.max_apdu = cc in
@@ -115,28 +115,28 @@ property_with object property index = record { object = object; property = prope
 three : (a b : Id) (p q : ℕ) (i j : Option ℕ) → a ≡ b → p ≡ q → i ≡ j → property_with a p i ≡ property_with b q j
 three a b p q i j x y z = rw (x, y, z) refl
 
-pub same_property : (p q : ReadProperty) → property_items p ≡ property_items q → p ≡ q
+pub same_property : (p q : ReadProperty) → property_parameters p ≡ property_parameters q → p ≡ q
 same_property p q e =
     let t = same_trio p.object q.object p.property q.property p.index q.index [] [] e in
     three p.object q.object p.property q.property p.index q.index t.object t.property t.index
 
-pub same_property_ack : (a b : ReadPropertyAck) → property_ack_items a ≡ property_ack_items b → (a.object ≡ b.object) × (a.property ≡ b.property) × (a.index ≡ b.index) × (a.values.now ≡ b.values.now)
+pub same_property_ack : (a b : ReadPropertyAck) → property_ack_parameters a ≡ property_ack_parameters b → (a.object ≡ b.object) × (a.property ≡ b.property) × (a.index ≡ b.index) × (a.values.now ≡ b.values.now)
 same_property_ack a b e =
     let t = same_trio a.object b.object a.property b.property a.index b.index (Mark 3 ∷ Inside a.values.now ∷ []) (Mark 3 ∷ Inside b.values.now ∷ []) e in
     let others = other_items (Mark 3) (Mark 3) (Inside a.values.now ∷ []) (Inside b.values.now ∷ []) t.others in
     (t.object, t.property, t.index, same_inside a.values.now b.values.now (first_item (Inside a.values.now) (Inside b.values.now) [] [] others))
 
-pub same_write : (v w : WriteProperty) → write_items v ≡ write_items w → (v.object ≡ w.object) × (v.property ≡ w.property) × (v.index ≡ w.index) × (view v.value ≡ view w.value) × (v.priority ≡ w.priority)
+pub same_write : (v w : WriteProperty) → write_parameters v ≡ write_parameters w → (v.object ≡ w.object) × (v.property ≡ w.property) × (v.index ≡ w.index) × (view v.value ≡ view w.value) × (v.priority ≡ w.priority)
 same_write v w e =
-    let t = same_trio v.object w.object v.property w.property v.index w.index (Mark 3 ∷ Value (view v.value) ∷ Mark 3 ∷ number_item v.priority ∷ []) (Mark 3 ∷ Value (view w.value) ∷ Mark 3 ∷ number_item w.priority ∷ []) e in
-    let one = other_items (Mark 3) (Mark 3) (Value (view v.value) ∷ Mark 3 ∷ number_item v.priority ∷ []) (Value (view w.value) ∷ Mark 3 ∷ number_item w.priority ∷ []) t.others in
-    let two = other_items (Value (view v.value)) (Value (view w.value)) (Mark 3 ∷ number_item v.priority ∷ []) (Mark 3 ∷ number_item w.priority ∷ []) one in
-    let three = other_items (Mark 3) (Mark 3) (number_item v.priority ∷ []) (number_item w.priority ∷ []) two in (
+    let t = same_trio v.object w.object v.property w.property v.index w.index (Mark 3 ∷ Value (view v.value) ∷ Mark 3 ∷ number_parameter v.priority ∷ []) (Mark 3 ∷ Value (view w.value) ∷ Mark 3 ∷ number_parameter w.priority ∷ []) e in
+    let one = other_items (Mark 3) (Mark 3) (Value (view v.value) ∷ Mark 3 ∷ number_parameter v.priority ∷ []) (Value (view w.value) ∷ Mark 3 ∷ number_parameter w.priority ∷ []) t.others in
+    let two = other_items (Value (view v.value)) (Value (view w.value)) (Mark 3 ∷ number_parameter v.priority ∷ []) (Mark 3 ∷ number_parameter w.priority ∷ []) one in
+    let three = other_items (Mark 3) (Mark 3) (number_parameter v.priority ∷ []) (number_parameter w.priority ∷ []) two in (
       t.object,
       t.property,
       t.index,
-      same_value (view v.value) (view w.value) (first_item (Value (view v.value)) (Value (view w.value)) (Mark 3 ∷ number_item v.priority ∷ []) (Mark 3 ∷ number_item w.priority ∷ []) one),
-      same_number v.priority w.priority (first_item (number_item v.priority) (number_item w.priority) [] [] three),
+      same_value (view v.value) (view w.value) (first_item (Value (view v.value)) (Value (view w.value)) (Mark 3 ∷ number_parameter v.priority ∷ []) (Mark 3 ∷ number_parameter w.priority ∷ []) one),
+      same_number v.priority w.priority (first_item (number_parameter v.priority) (number_parameter w.priority) [] [] three),
     )
 
 -- ---- ranges
@@ -169,7 +169,7 @@ same_time a b e =
     let hundredth : a.hundredth ≡ b.hundredth = cc in
     timed a.hour a.minute a.second a.hundredth b.hour b.minute b.second b.hundredth hour minute second hundredth
 
-same_extent : (a b : Extent) → extent_items a ≡ extent_items b → a ≡ b
+same_extent : (a b : Extent) → extent_parameters a ≡ extent_parameters b → a ≡ b
 same_extent All All e = refl
 same_extent All (ByPosition r c) e = absurd cc
 same_extent All (ByNumber r c) e = absurd cc
@@ -203,9 +203,9 @@ range_with object property index extent = record { object = object; property = p
 four : (a b : Id) (p q : ℕ) (i j : Option ℕ) (x y : Extent) → a ≡ b → p ≡ q → i ≡ j → x ≡ y → range_with a p i x ≡ range_with b q j y
 four a b p q i j x y e f g h = rw (e, f, g, h) refl
 
-pub same_range : (r s : ReadRange) → range_items r ≡ range_items s → r ≡ s
+pub same_range : (r s : ReadRange) → range_parameters r ≡ range_parameters s → r ≡ s
 same_range r s e =
-    let t = same_trio r.object s.object r.property s.property r.index s.index (extent_items r.extent) (extent_items s.extent) e in
+    let t = same_trio r.object s.object r.property s.property r.index s.index (extent_parameters r.extent) (extent_parameters s.extent) e in
     four r.object s.object r.property s.property r.index s.index r.extent s.extent t.object t.property t.index (same_extent r.extent s.extent t.others)
 
 -- ---- the ACK of ReadRange
@@ -226,15 +226,15 @@ same_flags f g small low rest clear e =
     let c = same_bit ((f / 2 ^ 5) % 2) ((g / 2 ^ 5) % 2) (omega arith) (omega arith) five in
     omega arith
 
-pub same_range_ack : (a b : ReadRangeAck) → a.flags < 256 → b.flags < 256 → a.flags % 32 ≡ 0 → b.flags % 32 ≡ 0 → ack_items a ≡ ack_items b
+pub same_range_ack : (a b : ReadRangeAck) → a.flags < 256 → b.flags < 256 → a.flags % 32 ≡ 0 → b.flags % 32 ≡ 0 → ack_parameters a ≡ ack_parameters b
     → (a.object ≡ b.object) × (a.property ≡ b.property) × (a.index ≡ b.index) × (a.flags ≡ b.flags) × (a.count ≡ b.count) × (a.items.now ≡ b.items.now) × (a.first_number ≡ b.first_number)
 same_range_ack a b small low rest clear e =
     let t = same_trio a.object b.object a.property b.property a.index b.index
-    (Value (Bits (flag_bits a.flags)) ∷ Value (Unsigned a.count) ∷ Mark 5 ∷ Inside a.items.now ∷ number_item a.first_number ∷ [])
-    (Value (Bits (flag_bits b.flags)) ∷ Value (Unsigned b.count) ∷ Mark 5 ∷ Inside b.items.now ∷ number_item b.first_number ∷ []) e in
+    (Value (Bits (flag_bits a.flags)) ∷ Value (Unsigned a.count) ∷ Mark 5 ∷ Inside a.items.now ∷ number_parameter a.first_number ∷ [])
+    (Value (Bits (flag_bits b.flags)) ∷ Value (Unsigned b.count) ∷ Mark 5 ∷ Inside b.items.now ∷ number_parameter b.first_number ∷ []) e in
     let others = t.others in
     let flags : flag_bits a.flags ≡ flag_bits b.flags = cc in
     let count : a.count ≡ b.count = cc in
     let items : a.items.now ≡ b.items.now = cc in
-    let first : number_item a.first_number ≡ number_item b.first_number = cc in
+    let first : number_parameter a.first_number ≡ number_parameter b.first_number = cc in
     (t.object, t.property, t.index, same_flags a.flags b.flags small low rest clear flags, count, items, same_number a.first_number b.first_number first)

@@ -1,5 +1,0 @@
-use Rattle.bac_apdu.proofs.Items.{same_announcement}
-use Rattle.bac_apdu.proofs.service.i_am.IAm.items_tell_fields.Goals as goal
-
-pub returns : goal.returns
-returns c = same_announcement

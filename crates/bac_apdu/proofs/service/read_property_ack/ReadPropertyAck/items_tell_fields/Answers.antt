@@ -1,5 +1,0 @@
-use Rattle.bac_apdu.proofs.Items.{same_property_ack}
-use Rattle.bac_apdu.proofs.service.read_property_ack.ReadPropertyAck.items_tell_fields.Goals as goal
-
-pub returns : goal.returns
-returns c = same_property_ack

@@ -1,5 +1,0 @@
-use Rattle.bac_apdu.proofs.Items.{same_range_ack}
-use Rattle.bac_apdu.proofs.service.read_range_ack.ReadRangeAck.items_tell_fields.Goals as goal
-
-pub returns : goal.returns
-returns c = same_range_ack

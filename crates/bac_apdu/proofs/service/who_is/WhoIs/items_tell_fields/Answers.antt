@@ -1,5 +1,0 @@
-use Rattle.bac_apdu.proofs.Items.{same_who_is}
-use Rattle.bac_apdu.proofs.service.who_is.WhoIs.items_tell_fields.Goals as goal
-
-pub returns : goal.returns
-returns c = same_who_is

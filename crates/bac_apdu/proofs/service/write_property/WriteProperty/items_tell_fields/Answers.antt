@@ -1,5 +1,0 @@
-use Rattle.bac_apdu.proofs.Items.{same_write}
-use Rattle.bac_apdu.proofs.service.write_property.WriteProperty.items_tell_fields.Goals as goal
-
-pub returns : goal.returns
-returns c = same_write
