@@ -11,20 +11,9 @@ ghost use Rattle.bac_device.specs.Reply.{datagram_octets};
 use crate::device::Device;
 use crate::receiving::{heard_at, nak_code};
 use crate::reply::{Receiver, Reply, abort, nak_with, reject};
+use bac_apdu::choice::{READ_PROPERTY, READ_RANGE, WHO_IS, WRITE_PROPERTY};
 use bac_apdu::{Apdu, Frame, read_frame};
 use bac_wire::Datagram;
-
-/// Who-Is (clause 21, BACnetUnconfirmedServiceChoice).
-const WHO_IS: u8 = 8;
-
-/// ReadProperty (clause 21, BACnetConfirmedServiceChoice).
-pub(crate) const READ_PROPERTY: u8 = 12;
-
-/// WriteProperty (clause 21, BACnetConfirmedServiceChoice).
-pub(crate) const WRITE_PROPERTY: u8 = 15;
-
-/// ReadRange (clause 21, BACnetConfirmedServiceChoice).
-pub(crate) const READ_RANGE: u8 = 26;
 
 /// The reason that a service isn't there (clause 21, BACnetRejectReason).
 const UNRECOGNIZED_SERVICE: u8 = 9;

@@ -1,9 +1,11 @@
 //! What a device sends, and to whom.
 
-ghost use Rattle.std.specs.Prelude.{◌≡◌, ◌≤◌, false, length};
-ghost use Rattle.bac_apdu.specs.Apdu.{Complex, IsApdu, Reject, Simple, apdu_octets, apdu_of};
+ghost use Rattle.std.specs.Prelude.{◌≡◌, ◌≤◌, ◌++◌, false, length};
+ghost use Rattle.bac_apdu.specs.Apdu.{Apdu as ApduValue, Complex, IsApdu, Reject, Simple, apdu_octets, apdu_of};
+ghost use Rattle.bac_apdu.specs.Frame.{frame_octets};
+ghost use Rattle.bac_apdu.specs.Npdu.{header_octets};
 ghost use Rattle.bac_device.specs.Receiving.{nak_octets};
-ghost use Rattle.bac_device.specs.Reply.{abort, datagram_octets, error, limited};
+ghost use Rattle.bac_device.specs.Reply.{abort, datagram_octets, error, limited, plain};
 
 use bac_apdu::{Apdu, Npdu, write_apdu, write_datagram};
 use bac_objects::Fault;
@@ -46,9 +48,29 @@ pub(crate) fn datagram_with(apdu: &Apdu) -> Datagram
 {
     let mut octets = Datagram::new();
     write_apdu(&mut octets, apdu).unwrap();
+    framed(octets.octets())
+}
+
+/// The octets of an APDU in a datagram to one receiver.
+fn framed(apdu: &[u8]) -> Datagram
+    requires { length apdu.now ≤ 1476 }
+    ensures { result ≡ frame_octets (header_octets plain ++ apdu.now) }
+{
     let mut datagram = Datagram::new();
-    write_datagram(&mut datagram, &PLAIN, octets.octets()).unwrap();
+    write_datagram(&mut datagram, &PLAIN, apdu).unwrap();
     datagram
+}
+
+/// The octets of an APDU in a datagram to one receiver, where there are at most `limit`, else an
+/// Abort.
+pub(crate) fn within(limit: u16, invoke: u8, apdu: &[u8]) -> Datagram
+    requires { limit ≤ 1476 }
+    ensures { (m : ApduValue) → apdu.now ≡ apdu_octets m → result ≡ datagram_octets (limited limit invoke m) }
+{
+    if apdu.len() > limit as usize {
+        return abort(invoke);
+    }
+    framed(apdu)
 }
 
 /// The result with a code (clause J.2.1).

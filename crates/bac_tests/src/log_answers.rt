@@ -1,10 +1,10 @@
 //! What a trend log answers to a ReadRange.
-ghost use Rattle.std.specs.Prelude.{IfOk};
+ghost use Rattle.std.specs.Prelude.{◌≡◌, IfOk, None};
 ghost use Rattle.bac_log.specs.Entry.{IsLoggable};
 
-use bac_apdu::Extent;
-use bac_log::{Datum, Entry, Selected, TooSmall, TrendLog};
-use bac_wire::{Date4, Time4};
+use bac_apdu::{Extent, ReadRange};
+use bac_log::{AnswerFault, Datum, Entry, Selected, TooSmall, TrendLog};
+use bac_wire::{Datagram, Date4, ObjectId, Time4};
 use std::test::Fail;
 
 /// 2024-05-06, a Monday.
@@ -215,6 +215,87 @@ fn the_last_numbers_are_selected(rt: HostRuntime) -> Result<(), Fail> {
     Ok(())
 }
 
+/// A request for records of Trend Log 1.
+fn request(extent: Extent) -> Result<ReadRange, Fail>
+    ensures { IfOk result (λ r. (r.property ≡ 131) × (r.index ≡ None)) }
+{
+    Ok(ReadRange {
+        object: ObjectId::new(20, 1).ok_or("no such identifier")?,
+        property: 131,
+        index: None,
+        extent,
+    })
+}
+
+#[test]
+fn an_ack_is_appended(rt: HostRuntime) -> Result<(), Fail> {
+    // numbers 3, 4 and 5 at seconds 9, 10 and 11 are held
+    let log = log_of(&rt, 3, 0, &[7, 8, 9, 10, 11])?;
+    let by_number = request(by_number(1, 3))?;
+    let mut out = Datagram::new();
+    let refused = log.answer_into(1, &by_number, 37, &mut out);
+    assert_eq!(rt; refused, Err(AnswerFault::TooSmall));
+    assert_eq!(rt; out.octets().len(), 0);
+    let answered = log.answer_into(1, &by_number, 38, &mut out);
+    assert_eq!(rt; answered, Ok(selected(1, 1, 0x80, Some(3))));
+    let first = [
+        0x30, 0x01, 0x1a, 0x0c, 0x05, 0x00, 0x00, 0x01, 0x19, 0x83, 0x3a, 0x05, 0x80, 0x49, 0x01,
+        0x5e, 0x0e, 0xa4, 0x7c, 0x05, 0x06, 0x01, 0xb4, 0x07, 0x08, 0x09, 0x0a, 0x0f, 0x1e, 0x39,
+        0x00, 0x1f, 0x2a, 0x04, 0x00, 0x5f, 0x69, 0x03,
+    ];
+    assert_eq!(rt; out.octets(), &first[..]);
+    // behind it another, which shows no number
+    let all = request(Extent::All)?;
+    let answered = log.answer_into(255, &all, 74, &mut out);
+    assert_eq!(rt; answered, Ok(selected(1, 3, 0xc0, None)));
+    let second = [
+        0x30, 0xff, 0x1a, 0x0c, 0x05, 0x00, 0x00, 0x01, 0x19, 0x83, 0x3a, 0x05, 0xc0, 0x49, 0x03,
+        0x5e, 0x0e, 0xa4, 0x7c, 0x05, 0x06, 0x01, 0xb4, 0x07, 0x08, 0x09, 0x0a, 0x0f, 0x1e, 0x39,
+        0x00, 0x1f, 0x2a, 0x04, 0x00, 0x0e, 0xa4, 0x7c, 0x05, 0x06, 0x01, 0xb4, 0x07, 0x08, 0x0a,
+        0x0a, 0x0f, 0x1e, 0x39, 0x00, 0x1f, 0x2a, 0x04, 0x00, 0x0e, 0xa4, 0x7c, 0x05, 0x06, 0x01,
+        0xb4, 0x07, 0x08, 0x0b, 0x0a, 0x0f, 0x1e, 0x39, 0x00, 0x1f, 0x2a, 0x04, 0x00, 0x5f,
+    ];
+    assert_eq!(rt; &out.octets()[..38], &first[..]);
+    assert_eq!(rt; &out.octets()[38..], &second[..]);
+    Ok(())
+}
+
+#[test]
+fn an_ack_ends_within_its_datagram(rt: HostRuntime) -> Result<(), Fail> {
+    let log = log_of(&rt, 5, 0, &[9, 10, 11, 12, 13])?;
+    // 36 octets with one record, and 55 with two; 38 and 57 with the first number
+    let rows = [
+        (1465, Extent::All, 54, Ok(selected(1, 1, 0xa0, None))),
+        (1465, Extent::All, 55, Err(AnswerFault::Full)),
+        (1465, Extent::All, 65536, Err(AnswerFault::Full)),
+        (1465, Extent::All, 36, Ok(selected(1, 1, 0xa0, None))),
+        (1466, Extent::All, 36, Err(AnswerFault::Full)),
+        (1466, Extent::All, 35, Err(AnswerFault::TooSmall)),
+        (1463, by_number(1, 1), 38, Ok(selected(1, 1, 0x80, Some(1)))),
+        (1464, by_number(1, 1), 38, Err(AnswerFault::Full)),
+        // where not even the head fits, as where all of it does
+        (1501, Extent::All, 35, Err(AnswerFault::TooSmall)),
+        (1501, Extent::All, 36, Err(AnswerFault::Full)),
+        (1486, by_number(1, 1), 37, Err(AnswerFault::TooSmall)),
+        (1486, by_number(1, 1), 38, Err(AnswerFault::Full)),
+        // 17 octets without a record, whatever the limit
+        (1484, by_number(6, 1), 0, Ok(NOTHING)),
+        (1485, by_number(6, 1), 0, Err(AnswerFault::Full)),
+        (1501, by_number(6, 1), 1476, Err(AnswerFault::Full)),
+    ];
+    for (before, extent, limit, want) in rows {
+        let mut out = Datagram::of(&[0x55; 1501]).ok_or("1501 octets")?;
+        out.cut(before);
+        let request = request(extent)?;
+        let answered = log.answer_into(1, &request, limit, &mut out);
+        assert_eq!(rt; answered, want, "{before} {extent:?} {limit}");
+        let after = if want.is_ok() { 1501 } else { before };
+        assert_eq!(rt; out.octets().len(), after, "{before} {extent:?} {limit}");
+        assert!(rt; out.octets()[..before].iter().all(|octet| *octet == 0x55));
+    }
+    Ok(())
+}
+
 #[test]
 fn a_full_log_of_65535_records_answers(rt: HostRuntime) -> Result<(), Fail> {
     let mut log = TrendLog::new(rt.alloc(), 65535, 0)?;
@@ -236,6 +317,11 @@ fn a_full_log_of_65535_records_answers(rt: HostRuntime) -> Result<(), Fail> {
     ];
     for (extent, want) in rows {
         assert_eq!(rt; log.answer(&extent, WIDE), Ok(want), "{extent:?}");
+        let request = request(extent)?;
+        let mut out = Datagram::new();
+        let answered = log.answer_into(1, &request, WIDE, &mut out);
+        assert_eq!(rt; answered, Ok(want), "{extent:?}");
+        assert_eq!(rt; out.octets()[14] as u32, want.how_many, "{extent:?}");
     }
     Ok(())
 }

@@ -11,13 +11,11 @@ ghost use Rattle.bac_walk.specs.Spelled.{data_held, data_in};
 ghost use Rattle.bac_apdu.specs.Service.ReadRangeAck.{range_ack_of};
 
 use crate::walk::LOG_BUFFER;
+use bac_apdu::choice::READ_RANGE;
 use bac_apdu::{Apdu, ReadRangeAck};
 use bac_link::read_datagram;
 use bac_log::{Entry, read_entry};
 use bac_wire::ObjectId;
-
-/// The service choice of ReadRange (clause 21, BACnetConfirmedServiceChoice).
-const READ_RANGE: u8 = 26;
 
 /// The service parameters of the ACK of ReadRange in a datagram.
 pub(crate) fn ack_parameters(datagram: &[u8]) -> Option<&[u8]>

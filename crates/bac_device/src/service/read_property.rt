@@ -8,8 +8,8 @@ ghost use Rattle.bac_device.specs.Answer.{ack_octets, answer_read, own_id, read_
 ghost use Rattle.bac_device.specs.Reply.{datagram_octets, limited};
 
 use crate::device::Device;
-use crate::handle::READ_PROPERTY;
 use crate::reply::{abort, complex, error, reject};
+use bac_apdu::choice::READ_PROPERTY;
 use bac_apdu::{ReadProperty, ReadPropertyAck};
 use bac_objects::Refused;
 use bac_wire::{Datagram, ObjectId};

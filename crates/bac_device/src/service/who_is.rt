@@ -8,11 +8,9 @@ ghost use Rattle.bac_device.specs.Reply.{datagram_octets};
 
 use crate::device::Device;
 use crate::reply::datagram_with;
+use bac_apdu::choice::I_AM;
 use bac_apdu::{Apdu, IAm, WhoIs};
 use bac_wire::Datagram;
-
-/// I-Am (clause 21, BACnetUnconfirmedServiceChoice).
-const I_AM: u8 = 0;
 
 /// No segmentation in either direction (clause 21, BACnetSegmentation).
 const NO_SEGMENTATION: u32 = 3;

@@ -6,9 +6,9 @@ ghost use Rattle.bac_device.specs.Answer.{answer_write};
 ghost use Rattle.bac_device.specs.Reply.{datagram_octets};
 
 use crate::device::Device;
-use crate::handle::WRITE_PROPERTY;
 use crate::reply::{error, reject, simple};
 use bac_apdu::WriteProperty;
+use bac_apdu::choice::WRITE_PROPERTY;
 use bac_wire::Datagram;
 
 impl Device {
