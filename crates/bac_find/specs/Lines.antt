@@ -22,4 +22,5 @@ facts_text i_am =
 -- I-Am INSTANCE ADDRESS and the rest, a line
 unfoldable pub device_line : Announcement → List ℕ
 device_line said =
-    named (codes "I-Am ") said.i_am.device.instance ++ (32 ∷ (address_text said.address ++ (facts_text said.i_am ++ 10 ∷ [])))
+    named (codes "I-Am ") said.i_am.device.instance
+    ++ (32 ∷ (address_text said.address ++ (facts_text said.i_am ++ 10 ∷ [])))

@@ -253,8 +253,8 @@ const STRANGE: [&[u8]; 11] = [
     ],
 ];
 
-/// The strange datagrams and one that is too long, then nothing; and then an I-Am between two strange
-/// ones.
+/// The strange datagrams and one that is too long, then nothing; and then an I-Am between two that
+/// are too long.
 fn strange_ones() -> [Coming<'static>; 17] {
     let mut coming = [Coming::From(FIRST, &LONG); 17];
     for (place, octets) in coming.iter_mut().zip(STRANGE.iter()) {
