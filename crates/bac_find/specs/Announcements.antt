@@ -26,7 +26,7 @@ i_am_in (Unconfirmed service parameters) = if service == i_am_service then i_am_
 i_am_in other = None
 
 abbrev pub announcement : List ℕ → IAm → Announcement
-announcement address device = record { address = address; device = device }
+announcement address i_am = record { address = address; i_am = i_am }
 
 -- what an NPDU announces of the device at this address
 unfoldable pub announced_at : List ℕ → List ℕ → Option Announcement
@@ -34,8 +34,8 @@ announced_at address npdu = do
   header ← header_at npdu
   if is_heard header.0 then (do
     apdu ← apdu_at header.1
-    device ← i_am_in apdu
-    Some (announcement address device)) else None
+    i_am ← i_am_in apdu
+    Some (announcement address i_am)) else None
 
 -- the device is the sender, or has the address in a Forwarded-NPDU (J.2.5)
 abbrev pub announced_by_frame : List ℕ → Frame → Option Announcement

@@ -39,12 +39,14 @@ Came {P = P} receives (heard ∷ came) port new = (mid : P) × receives port (Ok
 
 -- so many came as may, or nothing came in time before that
 abbrev pub IsOver : {P : Type 0} → (P → Receiving → P → Type 0) → ℕ → List Heard → P → P → Type 0
-IsOver receives limit came port new = ((length came ≡ limit) × (new ≡ port)) ⊎ ((length came < limit) × receives port (Err Timeout) new)
+IsOver receives limit came port new =
+    ((length came ≡ limit) × (new ≡ port)) ⊎ ((length came < limit) × receives port (Err Timeout) new)
 
 -- the last datagram announces this device, and the lines of those before it were written
 abbrev pub IsLast : Announcement → List Heard → Held → Held → Type 0
 IsLast said came held after =
-    (earlier : List Heard) × (last : Heard) × (came ≡ earlier ++ last ∷ []) × (announced last ≡ Some said) × Appends held after (lines_of earlier)
+    (earlier : List Heard) × (last : Heard) × (came ≡ earlier ++ last ∷ [])
+    × (announced last ≡ Some said) × Appends held after (lines_of earlier)
 
 -- The lines of all were written. After a refused write the last is there in part, and without memory for it not at all.
 abbrev pub Ends : {P : Type 0} → (P → Receiving → P → Type 0) → ℕ → List Heard → P → Held → Found → P → Held → Type 0
@@ -55,8 +57,10 @@ Ends receives limit came port held (Err NoAnswer) new after =
 Ends receives limit came port held (Err Socket) new after =
     (length came < limit) × receives port (Err Failed) new × Appends held after (lines_of came)
 Ends receives limit came port held (Err Write) new after =
-    (new ≡ port) × ((said : Announcement) × (between : Held) × IsLast said came held between × AppendsPart between after (device_line said))
-Ends receives limit came port held (Err Memory) new after = (new ≡ port) × ((said : Announcement) × IsLast said came held after)
+    (new ≡ port)
+    × ((said : Announcement) × (between : Held) × IsLast said came held between × AppendsPart between after (device_line said))
+Ends receives limit came port held (Err Memory) new after =
+    (new ≡ port) × ((said : Announcement) × IsLast said came held after)
 
 -- Datagrams came, so many at most, and were shown. Each receive brings one, but for a last one in vain.
 abbrev pub Prints : {P : Type 0} → (P → Receiving → P → Type 0) → ℕ → P → Held → Found → P → Held → Type 0
@@ -72,7 +76,8 @@ IsSent (Err fault) port result new more = (result ≡ Err fault) × (new ≡ por
 IsSent (Ok done) port result new more = more
 
 -- the octets go to each address in order
-unfoldable pub AsksEach : {P : Type 0} → (P → List ℕ → List ℕ → Sending → P → Type 0) → List ℕ → List (List ℕ) → P → Sending → P → Type 0
+unfoldable pub AsksEach : {P : Type 0} → (P → List ℕ → List ℕ → Sending → P → Type 0) → List ℕ → List (List ℕ)
+    → P → Sending → P → Type 0
 AsksEach sends octets [] port result new = (result ≡ Ok tt) × (new ≡ port)
 AsksEach {P = P} sends octets (address ∷ addresses) port result new =
     (sent : Sending) × (mid : P) × sends port octets address sent mid

@@ -10,11 +10,12 @@ named word n = word ++ decimal n
 
 -- max-apdu N segmentation S vendor V
 unfoldable pub facts_text : IAm → List ℕ
-facts_text device =
-    named (codes " max-apdu ") device.max_apdu
-    ++ (named (codes " segmentation ") device.segmentation ++ named (codes " vendor ") device.vendor)
+facts_text i_am =
+    named (codes " max-apdu ") i_am.max_apdu
+    ++ (named (codes " segmentation ") i_am.segmentation ++ named (codes " vendor ") i_am.vendor)
 
 -- I-Am INSTANCE ADDRESS and the rest, a line
 unfoldable pub device_line : Announcement → List ℕ
 device_line said =
-    named (codes "I-Am ") said.device.device.instance ++ (32 ∷ (address_text said.address ++ (facts_text said.device ++ 10 ∷ [])))
+    named (codes "I-Am ") said.i_am.device.instance
+    ++ (32 ∷ (address_text said.address ++ (facts_text said.i_am ++ 10 ∷ [])))

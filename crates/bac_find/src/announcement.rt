@@ -16,7 +16,7 @@ const ALL_NETWORKS: u16 = 0xffff;
 pub(crate) struct Announcement {
     /// Four octets of IPv4 address and two of port, high octet first (Annex J.1.2).
     pub(crate) address: [u8; 6],
-    pub(crate) device: IAm,
+    pub(crate) i_am: IAm,
 }
 
 /// Whether what stands behind a header is for us (clause 6): no network message, from our own
@@ -45,8 +45,8 @@ fn announced_at(address: [u8; 6], npdu: &[u8]) -> Option<Announcement>
             service: I_AM,
             parameters,
         } => {
-            let device = IAm::read(parameters)?;
-            Some(Announcement { address, device })
+            let i_am = IAm::read(parameters)?;
+            Some(Announcement { address, i_am })
         }
         _ => None,
     }

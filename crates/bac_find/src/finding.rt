@@ -22,8 +22,9 @@ pub const RECEIVES: u32 = 4096;
 
 /// Sends the request to each address in order, and then prints a line for each I-Am that comes, up
 /// to a wait in which nothing comes: `I-Am INSTANCE A.B.C.D:PORT max-apdu N segmentation S vendor
-/// V`, each with one write, and flushed. An address is four octets of IPv4 address and two of port,
-/// high octet first (Annex J.1.2); that of an I-Am is its sender's, or the one in a Forwarded-NPDU.
+/// V`, each with one write, as far as the output takes it at once, and flushed. An address is four
+/// octets of IPv4 address and two of port, high octet first (Annex J.1.2); that of an I-Am is its
+/// sender's, or the one in a Forwarded-NPDU.
 ///
 /// Other datagrams are passed over. After 4096 datagrams, whatever they are, no more are received.
 /// A refused send, a failed receive, a refused write and want of memory for a line end it at once;

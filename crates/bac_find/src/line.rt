@@ -19,12 +19,12 @@ fn push_named(text: &mut Vec<u8>, word: &[u8], n: u64) -> Result<(), AllocError>
 
 /// Appends what a device says of itself behind its instance.
 #[tactic(auto, unfolding(crate::specs::Lines::facts_text))]
-fn push_facts(text: &mut Vec<u8>, device: &IAm) -> Result<(), AllocError>
-    ensures { OnOk result (text.new.items ≡ text.old.items ++ facts_text device.now) }
+fn push_facts(text: &mut Vec<u8>, i_am: &IAm) -> Result<(), AllocError>
+    ensures { OnOk result (text.new.items ≡ text.old.items ++ facts_text i_am.now) }
 {
-    push_named(text, b" max-apdu ", device.max_apdu)?;
-    push_named(text, b" segmentation ", u64::from(device.segmentation))?;
-    push_named(text, b" vendor ", device.vendor)
+    push_named(text, b" max-apdu ", i_am.max_apdu)?;
+    push_named(text, b" segmentation ", u64::from(i_am.segmentation))?;
+    push_named(text, b" vendor ", i_am.vendor)
 }
 
 /// Appends the line of a device: its instance, its address, and what else it says of itself.
@@ -32,9 +32,9 @@ fn push_facts(text: &mut Vec<u8>, device: &IAm) -> Result<(), AllocError>
 pub(crate) fn push_device(text: &mut Vec<u8>, said: &Announcement) -> Result<(), AllocError>
     ensures { OnOk result (text.new.items ≡ text.old.items ++ device_line said.now) }
 {
-    push_named(text, b"I-Am ", u64::from(said.device.device.instance()))?;
+    push_named(text, b"I-Am ", u64::from(said.i_am.device.instance()))?;
     text.extend_from_slice(b" ")?;
     push_address(text, said.address)?;
-    push_facts(text, &said.device)?;
+    push_facts(text, &said.i_am)?;
     text.extend_from_slice(b"\n")
 }

@@ -33,6 +33,12 @@ const GLOBAL: [u8; 24] = [
     0x91, 3, 0x21, 0,
 ];
 
+/// I-Am to all networks with an address behind them; what announces itself is Binary Value 5.
+const ODD: [u8; 25] = [
+    0x81, 0x0b, 0, 25, 1, 0x20, 0xff, 0xff, 1, 7, 0xff, 0x10, 0, 0xc4, 1, 0x40, 0, 5, 0x22, 5,
+    0xc4, 0x91, 3, 0x21, 0,
+];
+
 /// I-Am of device 123, forwarded from 192.168.10.255:65535.
 const FORWARDED: [u8; 26] = [
     0x81, 4, 0, 26, 192, 168, 10, 255, 0xff, 0xff, 1, 0, 0x10, 0, 0xc4, 2, 0, 0, 0x7b, 0x22, 5,
@@ -192,6 +198,7 @@ fn a_line_is_printed_for_each_i_am(rt: HostRuntime) {
         Coming::From(FIRST, &GLOBAL),
         Coming::From(SECOND, &FORWARDED),
         Coming::From(FIRST, &I_AM),
+        Coming::From(FIRST, &ODD),
         Coming::Nothing,
         Coming::From(FIRST, &I_AM),
     ];
@@ -203,10 +210,11 @@ fn a_line_is_printed_for_each_i_am(rt: HostRuntime) {
         I-Am 4194303 10.0.0.2:47809 max-apdu 50 segmentation 0 vendor 65535\n\
         I-Am 123 10.0.0.1:47808 max-apdu 1476 segmentation 3 vendor 0\n\
         I-Am 123 192.168.10.255:65535 max-apdu 1476 segmentation 3 vendor 0\n\
-        I-Am 123 10.0.0.1:47808 max-apdu 1476 segmentation 3 vendor 0\n";
+        I-Am 123 10.0.0.1:47808 max-apdu 1476 segmentation 3 vendor 0\n\
+        I-Am 5 10.0.0.1:47808 max-apdu 1476 segmentation 3 vendor 0\n";
     assert_eq!(rt; text.as_slice(), want.as_bytes());
     // the wait in which nothing came was the last
-    assert_eq!(rt; port.received, 6);
+    assert_eq!(rt; port.received, 7);
 }
 
 /// Datagrams that announce no device.
@@ -245,8 +253,8 @@ const STRANGE: [&[u8]; 11] = [
     ],
 ];
 
-/// The strange datagrams and one that is too long, then nothing; and then an I-Am between two strange
-/// ones.
+/// The strange datagrams and one that is too long, then nothing; and then an I-Am between two that
+/// are too long.
 fn strange_ones() -> [Coming<'static>; 17] {
     let mut coming = [Coming::From(FIRST, &LONG); 17];
     for (place, octets) in coming.iter_mut().zip(STRANGE.iter()) {
