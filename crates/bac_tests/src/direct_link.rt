@@ -1,8 +1,9 @@
 //! Walks over a link straight to a device, at which events happen between the answers.
 
+use crate::walk::StopsAt;
 use bac_client::{
-    DirectLink, Item, LinkEvent, LogLink, Lost, Outcome, Refusal, Transactions, Walk, WalkFault,
-    Why, collect,
+    DirectLink, Ended, Item, LinkEvent, LogLink, Lost, Outcome, Refusal, Transactions, Walk,
+    WalkFault, Why, collect, deliver,
 };
 use bac_device::{Device, DeviceLine, Name, ObjectLine};
 use bac_log::{Datum, Entry};
@@ -212,6 +213,47 @@ fn overwritten_records_are_a_gap(rt: HostRuntime) -> Result<(), Fail> {
     brought(&rt, &outcome, &items, 6, Why::CaughtUp);
     assert_eq!(rt; device.log(1).ok_or("no log")?.total(), 5);
     assert_eq!(rt; device.clock(), at(9, 0)?);
+    Ok(())
+}
+
+#[test]
+fn a_stopped_walk_is_resumed_after_samples(rt: HostRuntime) -> Result<(), Fail> {
+    let a = rt.alloc();
+    let mut device = plant(a, 1476, 3, 0, 0)?;
+    for number in 1..6u32 {
+        assert_eq!(rt; device.sample(1), Ok(number));
+    }
+    let log = ObjectId::new(20, 1).ok_or("no such identifier")?;
+    let mut walk = Walk::from_number(log, 1).ok_or("no walk")?;
+    let mut transactions = Transactions::new(3);
+    let mut sink = StopsAt {
+        number: 3,
+        items: Vec::new(a),
+    };
+    let mut link = DirectLink::new(&mut device, &[]);
+    let ended = deliver(&mut link, &mut transactions, &mut walk, 10, &mut sink);
+    assert_eq!(rt; ended, Ended::Stopped);
+    assert_eq!(rt; walk.next_number(), 4);
+    let items = [gap(1, 3), state(3, 8, 9, 0)?];
+    assert_eq!(rt; sink.items.as_slice(), items.as_slice());
+    assert_eq!(rt; device.sample(1), Ok(6));
+    assert_eq!(rt; device.sample(1), Ok(7));
+    let mut link = DirectLink::new(&mut device, &[]);
+    let ended = deliver(&mut link, &mut transactions, &mut walk, 10, &mut sink);
+    assert_eq!(rt; ended, Ended::CaughtUp);
+    assert_eq!(rt; walk.next_number(), 8);
+    let items = [
+        gap(1, 3),
+        state(3, 8, 9, 0)?,
+        gap(4, 5),
+        state(5, 8, 9, 0)?,
+        state(6, 8, 9, 0)?,
+        state(7, 8, 9, 0)?,
+    ];
+    assert_eq!(rt; sink.items.as_slice(), items.as_slice());
+    let ended = deliver(&mut link, &mut transactions, &mut walk, 0, &mut sink);
+    assert_eq!(rt; ended, Ended::StepLimit);
+    assert_eq!(rt; sink.items.len(), 6);
     Ok(())
 }
 

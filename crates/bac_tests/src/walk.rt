@@ -125,9 +125,9 @@ impl LogLink for Scripted<'_> {
 
 /// Keeps what it is given, and wants no more after the record of this number.
 #[derive(Drop)]
-struct StopsAt {
-    number: u32,
-    items: Vec<Item>,
+pub(crate) struct StopsAt {
+    pub(crate) number: u32,
+    pub(crate) items: Vec<Item>,
 }
 
 impl Sink for StopsAt {
@@ -163,7 +163,7 @@ fn a_walk_begins_at_a_number_or_at_the_oldest_record(rt: HostRuntime) -> Result<
 #[test]
 fn what_belongs_to_no_question_is_refused(rt: HostRuntime) -> Result<(), Fail> {
     let mut other_object = one(1, 3);
-    other_object[14] = 2;
+    other_object[13] = 2;
     let mut wrong_count = one(1, 3);
     wrong_count[20] = 2;
     let mut no_record = one(1, 3);
@@ -353,6 +353,34 @@ fn a_stopped_walk_goes_on_behind_the_record(rt: HostRuntime) -> Result<(), Fail>
     let ended = deliver(&mut link, &mut transactions, &mut walk, 0, &mut sink);
     assert_eq!(rt; ended, Ended::StepLimit);
     assert_eq!(rt; sink.items.len(), 4);
+    Ok(())
+}
+
+#[test]
+fn a_reply_with_a_broken_last_record_puts_nothing(rt: HostRuntime) -> Result<(), Fail> {
+    let whole = two(2, 1);
+    let mut broken = two(1, 1);
+    // The status flags of the second record have the tag 3, with which no record begins or goes on.
+    broken[57] = 0x3a;
+    let replies: [&[u8]; 2] = [&broken, &whole];
+    let mut link = Scripted {
+        replies: &replies,
+        failures: 0,
+    };
+    let mut transactions = Transactions::new(0);
+    let mut walk = walk_from(1)?;
+    let mut sink = StopsAt {
+        number: 9,
+        items: Vec::new(rt.alloc()),
+    };
+    let ended = deliver(&mut link, &mut transactions, &mut walk, 1, &mut sink);
+    assert_eq!(rt; ended, Ended::Fault(WalkFault::BadReply));
+    assert_eq!(rt; sink.items.len(), 0);
+    assert_eq!(rt; walk.next_number(), 1);
+    let ended = deliver(&mut link, &mut transactions, &mut walk, 1, &mut sink);
+    assert_eq!(rt; ended, Ended::StepLimit);
+    assert_eq!(rt; sink.items.as_slice(), [logged(1), logged(2)].as_slice());
+    assert_eq!(rt; walk.next_number(), 3);
     Ok(())
 }
 
