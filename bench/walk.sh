@@ -2,11 +2,16 @@
 # What a walk of a trend log costs, in memory: the log of a device of a script, walked by lines of the
 # same script. A script with ten walks and the same without them are played, and the difference is
 # the walks and the printing of what they bring. For three reply sizes, and for logs of three sizes.
+# Then `collect` alone, and its share of the speed of bench/walk/plain.rattle, which does the same
+# work in one file and without contracts but those of safety. Both are in one program, which is
+# proved and built over copies of the libraries (its files aren't named .rt, since the gate looks for
+# such files in crates/ alone). The libraries must have been built, by `rt all check` or `rt ci`.
 set -eu
 cd "$(dirname "$0")/.."
 program=${1:-crates/bac/out/bac}
 script=$(mktemp)
-trap 'rm -f "$script"' EXIT
+room=$(mktemp -d)
+trap 'rm -rf "$script" "$room"' EXIT
 
 # script_of REPLY RECORDS WALKS
 script_of() {
@@ -19,12 +24,12 @@ script_of() {
     }' > "$script"
 }
 
-# nanoseconds of a replay, the best of five
+# nanoseconds of a program with these words, the best of five
 best() {
     local least=0 start took
     for _ in 1 2 3 4 5; do
         start=$(date +%s%N)
-        "$program" replay < "$script" > /dev/null
+        "$@" < "$script" > /dev/null
         took=$(($(date +%s%N) - start))
         if [ "$least" -eq 0 ] || [ "$took" -lt "$least" ]; then least=$took; fi
     done
@@ -34,12 +39,40 @@ best() {
 for reply in 50 480 1476; do
     for records in 16384 32768 65535; do
         script_of "$reply" "$records" 0
-        without=$(best)
+        without=$(best "$program" replay)
         script_of "$reply" "$records" 10
-        with=$(best)
+        with=$(best "$program" replay)
         awk -v reply="$reply" -v records="$records" -v took=$((with - without)) 'BEGIN {
             printf "replies of %d octets, %d records: %.0f records per second\n", reply, records, records * 10 * 1e9 / took
         }'
     done
 done
-echo "cores: $(nproc)"
+
+libraries='bac_wire bac_apdu bac_log bac_objects bac_device bac_link bac_walk bac_client'
+mkdir -p "$room/crates/walk_bench/src"
+cp HANDLES "$room"
+for library in $libraries; do
+    cp -a "crates/$library" "$room/crates"
+    grep "^$library:" crates.txt >> "$room/crates.txt"
+done
+echo "walk_bench: $libraries arrayvec" >> "$room/crates.txt"
+for file in main plain; do
+    cp "bench/walk/$file.rattle" "$room/crates/walk_bench/src/$file.rt"
+done
+if ! (cd "$room/crates/walk_bench" && rt run -- plain 1476 1 1) > "$room/built" 2>&1; then
+    cat "$room/built"
+    exit 1
+fi
+walks=$room/crates/walk_bench/out/walk_bench
+for reply in 50 480 1476; do
+    declare -A took
+    for kind in collect plain; do
+        without=$(best "$walks" $kind $reply 65535 0)
+        with=$(best "$walks" $kind $reply 65535 20)
+        took[$kind]=$((with - without))
+    done
+    awk -v reply="$reply" -v collect="${took[collect]}" -v plain="${took[plain]}" 'BEGIN {
+        printf "replies of %d octets, %d records: collect %.0f, plain %.0f records per second, ratio %.2f\n", reply, 65535, 65535 * 20 * 1e9 / collect, 65535 * 20 * 1e9 / plain, plain / collect
+    }'
+done
+echo "cores: $(nproc), load: $(cut -d ' ' -f 1 /proc/loadavg)"
