@@ -1,0 +1,5 @@
+pub mod Announcements
+pub mod Lines
+pub mod Requests
+pub mod Hearing
+pub mod Finding

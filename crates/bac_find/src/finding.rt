@@ -1,0 +1,122 @@
+//! Finding devices: the requests, and the lines of the answers.
+
+ghost use Rattle.std.specs.Prelude.{◌≡◌, OnErr, OnOk, false};
+ghost use Rattle.std.specs.Io.KnownBytes.{Appends};
+ghost use Rattle.bac_find.specs.Announcements.{announced as announced_by};
+ghost use Rattle.bac_find.specs.Finding.{AsksEach, Finds};
+ghost use Rattle.bac_find.specs.Hearing.{Hears, Shows, ended};
+ghost use Rattle.bac_query.specs.Output.{AppendsPart};
+
+use crate::announcement::announced;
+use crate::fault::FindFault;
+use crate::line::push_device;
+use crate::request::datagram_of;
+use bac_apdu::WhoIs;
+use bac_ports::{Heard, Port, SocketFault};
+use bac_query::{WriteRefused, write_text};
+use std::alloc::Global;
+use std::io::Write;
+
+/// How many datagrams are received at most.
+pub const RECEIVES: u32 = 4096;
+
+/// Sends the request to each address in order, and then prints a line for each I-Am that comes, up
+/// to a wait in which nothing comes: `I-Am INSTANCE A.B.C.D:PORT max-apdu N segmentation S vendor
+/// V`, each with one write, as far as the output takes it at once, and flushed. An address is four
+/// octets of IPv4 address and two of port, high octet first (Annex J.1.2); that of an I-Am is its
+/// sender's, or the one in a Forwarded-NPDU.
+///
+/// Other datagrams are passed over. After 4096 datagrams, whatever they are, no more are received.
+/// A refused send, a failed receive, a refused write and want of memory for a line end it at once;
+/// the lines before are written. Where no I-Am came it is `NoAnswer`.
+pub fn find_devices<P: Port, W: Write>(
+    alloc: Global,
+    port: &mut P,
+    addresses: &[[u8; 6]],
+    request: &WhoIs,
+    out: &mut W,
+) -> Result<(), FindFault>
+    ensures { Finds P.sends P.receives RECEIVES request.now addresses.now port.old (W.contents out.old) result port.new (W.contents out.new) }
+{
+    let datagram = datagram_of(request);
+    match ask_each(port, datagram.octets(), addresses) {
+        Ok(()) => hear(alloc, port, RECEIVES, out),
+        Err(_) => Err(FindFault::Socket),
+    }
+}
+
+/// Sends the octets to each address in order, up to the first refused send.
+#[tactic(auto, unfolding(crate::specs::Finding::AsksEach))]
+fn ask_each<P: Port>(port: &mut P, octets: &[u8], addresses: &[[u8; 6]]) -> Result<(), SocketFault>
+    ensures { AsksEach P.sends octets.now addresses.now port.old result port.new }
+{
+    for address in addresses {
+        port.send(octets, *address)?;
+    }
+    Ok(())
+}
+
+/// Receives so many datagrams at most, and prints the lines of the I-Ams among them.
+#[tactic(auto, unfolding(crate::specs::Hearing::Hears))]
+fn hear<P: Port, W: Write>(
+    alloc: Global,
+    port: &mut P,
+    limit: u32,
+    out: &mut W,
+) -> Result<(), FindFault>
+    ensures { Hears P.receives limit false port.old (W.contents out.old) result port.new (W.contents out.new) }
+{
+    let mut line = Vec::new(alloc);
+    let mut taken = false;
+    for received in 0..limit {
+        match port.receive() {
+            Ok(heard) => {
+                let shown = show(&mut line, heard, out)?;
+                taken = taken || shown;
+            }
+            Err(SocketFault::Timeout) => return ended(taken),
+            Err(SocketFault::Failed) => return Err(FindFault::Socket),
+        }
+    }
+    ended(taken)
+}
+
+/// What hearing so long answers.
+fn ended(taken: bool) -> Result<(), FindFault>
+    ensures { result ≡ ended taken }
+{
+    if taken {
+        Ok(())
+    } else {
+        Err(FindFault::NoAnswer)
+    }
+}
+
+/// Prints the line of the device that a datagram announces; whether it announces one.
+fn show<W: Write>(line: &mut Vec<u8>, heard: Heard, out: &mut W) -> Result<bool, FindFault>
+    ensures { Shows (announced_by heard) result (W.contents out.old) (W.contents out.new) }
+{
+    let Some(said) = announced(heard) else {
+        return Ok(false);
+    };
+    line.clear();
+    if push_device(line, &said).is_err() {
+        return Err(FindFault::Memory);
+    }
+    match print(line.as_slice(), out) {
+        Ok(()) => Ok(true),
+        Err(_) => Err(FindFault::Write),
+    }
+}
+
+/// Writes a line, and has the writer pass it on.
+fn print<W: Write>(line: &[u8], out: &mut W) -> Result<(), WriteRefused>
+    ensures ok { OnOk result (Appends (W.contents out.old) (W.contents out.new) line.now) }
+    ensures err { OnErr result (AppendsPart (W.contents out.old) (W.contents out.new) line.now) }
+{
+    write_text(out, line)?;
+    match out.flush() {
+        Ok(()) => Ok(()),
+        Err(_) => Err(WriteRefused),
+    }
+}
