@@ -65,13 +65,90 @@ ended '1,048,576 octets' 0 '' "$room/answer"
 bac replay < "$room/longer"
 ended '1,048,577 octets' 1 $'script too long\n' "$room/answer"
 
-usage=$'usage: bac replay < SCRIPT\n'
+# clap's text is its own: it is there, and nothing is printed.
+mistaken() {
+    local status=$? told=
+    [ -s "$room/err" ] && told=$'told\n'
+    printf '%s' "$told" > "$room/err"
+    (exit "$status")
+    ended "$1" 1 $'told\n'
+}
 bac < who-is.script
-ended 'no word' 1 "$usage"
+mistaken 'no word'
 bac Replay < who-is.script
-ended 'another word' 1 "$usage"
+mistaken 'another word'
 bac replay again < who-is.script
-ended 'a second word' 1 "$usage"
+mistaken 'a second word'
+bac rp
+mistaken 'no words for rp'
+bac wi 127.0.0.1 --retries=1
+mistaken 'an option of other tools'
+bac serve 127.0.0.1 --count=1 --count=1
+mistaken 'an option twice'
+
+# helped NAME WORD: help is asked for and printed, and it has this word.
+helped() {
+    local status=$? found=
+    grep -q -e "$2" "$room/out" && found=yes
+    printf '%s' "$found" > "$room/out"
+    printf 'yes' > "$room/yes"
+    (exit "$status")
+    ended "$1" 0 '' "$room/yes"
+}
+bac --help
+helped 'help' 'Status: 0 done'
+bac --version
+helped 'the version' '^bac '
+for tool in wi rp wp log serve replay; do
+    bac "$tool" --help
+    helped "help of $tool" "Example: bac $tool "
+done
+
+# Values that a word or an option can't have: the second line tells which.
+wrong() {
+    ended "$1" 1 $'bad value\n'"$2"$'\n'
+}
+bac rp 127.0.0.256 8 123 77
+wrong 'a host that is none' 'ADDRESS: A.B.C.D or A.B.C.D:PORT, each of A to D from 0 to 255, PORT from 1 to 65535'
+bac rp 127.0.0.1:0 8 123 77
+wrong 'port 0' 'ADDRESS: A.B.C.D or A.B.C.D:PORT, each of A to D from 0 to 255, PORT from 1 to 65535'
+bac rp 127.0.0.1 1024 123 77
+wrong 'a type that no object has' 'TYPE: a number from 0 to 1023'
+bac rp 127.0.0.1 8 4194304 77
+wrong 'an instance that no object has' 'INSTANCE: a number from 0 to 4194303'
+bac rp 127.0.0.1 8 123 77 --timeout=0
+wrong 'no time to wait' '--timeout: a number from 1 to 60000'
+bac log 127.0.0.1 1 0
+wrong 'record 0' 'FROM: a number from 1 to 4294967295, or oldest'
+bac log 127.0.0.1 1 1 --retries=11
+wrong 'eleven retries' '--retries: a number from 0 to 10'
+bac wp 127.0.0.1 5 1 85 17 9 --value=1
+wrong 'priority 17' 'PRIORITY: a number from 0 to 16'
+bac wp 127.0.0.1 5 1 85 8 5 --value=1
+wrong 'a tag that is not written' 'TAG: 0, 1, 2, 3, 4, 7 or 9'
+bac wp 127.0.0.1 5 1 85 8 9
+wrong 'no value' '--value: a value of the tag: none for 0, else one; bac wp --help has the tags'
+bac wi 127.0.0.1 --max=5
+wrong '--max alone' '--max: a number from 0 to 4194303, beside --min'
+bac rp 127.0.0.1 8 123 $'\xff'
+wrong 'a word that is no text' "a word isn't UTF-8"
+
+# Configurations that are none.
+bac serve 127.0.0.1 < /dev/null
+wrong 'no device line' 'no device line'
+bac serve 127.0.0.1 < who-is.script
+ended 'an event in a configuration' 1 $'line 21: bad line\n'
+bac serve 127.0.0.1 < "$room/named"
+ended 'an event behind two objects of one name' 1 $'line 4: bad line\n'
+head -n 3 "$room/named" > "$room/configuration"
+bac serve 127.0.0.1 < "$room/configuration"
+ended 'a configuration with two objects of one name' 1 $'cannot build: duplicate name\n'
+bac serve 127.0.0.1 < "$room/longer"
+ended 'a configuration of 1,048,577 octets' 1 $'script too long\n'
+bac serve 127.0.0.1 < .
+ended 'a folder as configuration' 2 $'read fault\n'
+bac rp 127.0.0.1 8 123 77 --local=192.0.2.1
+ended 'an address of another machine' 2 $'socket fault\n'
 
 bac replay < .
 ended 'a folder as input' 2 $'read fault\n'
@@ -84,6 +161,20 @@ ended 'a full disk' 2 $'write fault\n'
 ended 'a full disk before a bad line' 2 $'write fault\n'
 "$program" replay < who-is.script >&- 2> "$room/err"
 ended 'no output' 2 $'write fault\n'
+
+: > "$room/out"
+"$program" --help > /dev/full 2> "$room/err"
+ended 'help on a full disk' 2 $'write fault\n'
+
+# The tools over sockets of this machine.
+./loopback.sh "$program" > "$room/loopback"
+status=$?
+read -r more fewer <<< "$(tail -n 1 "$room/loopback" | sed -nE 's/^([0-9]+) passed, ([0-9]+) failed$/\1 \2/p')"
+sed '$d' "$room/loopback"
+passed=$((passed + ${more:-0}))
+# A script that ends badly without a count of its failures has failed.
+[ "$status" -eq 0 ] || [ "${fewer:-0}" -gt 0 ] || fewer=1
+failed=$((failed + ${fewer:-1}))
 
 echo "$passed passed, $failed failed"
 [ "$failed" -eq 0 ]

@@ -16,7 +16,9 @@ use Rattle.bac_objects.specs.declared.build.BuildFault.{BuildFault}
 use Rattle.bac_query.specs.Fetching.{Fetching, PrintsItems}
 use Rattle.bac_query.specs.Reading.{Answer, Held, ReadsProperty}
 use Rattle.bac_query.specs.Writing.{WritesProperty}
+use Rattle.bac_run.specs.Ending.{Ending, IsClosed}
 use Rattle.bac_run.specs.Faults.{of_query}
+use Rattle.bac_run.specs.Finding.{Searches, who_is}
 use Rattle.bac_run.specs.Given.{value_of}
 use Rattle.bac_run.specs.Status.{exit_status, walk_status}
 use Rattle.bac_run.specs.declared.fault.Fault.{Fault}
@@ -32,10 +34,6 @@ use Rattle.bac_words.specs.declared.job.Job.{Job}
 use Rattle.bac_words.specs.declared.job.Job.TheVariants as job
 use Rattle.bac_words.specs.declared.word.Word.{Word}
 use Rattle.bac_words.specs.declared.word.Word.TheVariants.{Instance, From}
-
--- a tool ends with a status, or with a fault
-abbrev pub Ending : Type 0
-Ending = Result ℕ Fault
 
 -- ---- bac replay
 
@@ -59,10 +57,6 @@ of_answer (Err fault) = Err (of_query fault)
 abbrev pub of_fetching : Fetching → Ending
 of_fetching (Ok fetched) = Ok (walk_status fetched.why)
 of_fetching (Err fault) = Err (of_query fault)
-
--- without a socket nothing is asked and nothing printed
-abbrev pub IsClosed : Held → Held → Ending → Type 0
-IsClosed old new result = (result ≡ Err Socket) × Keeps old new
 
 -- ReadProperty, with invoke ID 1
 abbrev pub Reads : ReadProperty → Held → Held → Ending → Type 0
@@ -148,7 +142,7 @@ Works (job.Wp asked object_type instance property priority given index) input le
 Works (job.Log asked instance from steps) input left old new result =
     ((fault : Fault) × (IsNoWalk instance from fault × (result ≡ Err fault)) × Keeps old new) ⊎ Fetches old new result
 Works (job.Serve address count) input left old new result = Serves input left result × Keeps old new
-Works (job.Wi addresses min max local timeout) input left old new result = (result ≡ Err NoAnswer) × Keeps old new
+Works (job.Wi addresses min max local timeout) input left old new result = Searches (who_is min max) addresses old new result
 
 -- ---- the status
 

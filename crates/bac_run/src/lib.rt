@@ -8,6 +8,7 @@
 
 mod asking;
 mod fault;
+mod finding;
 mod playing;
 mod program;
 mod serving;

@@ -11,10 +11,11 @@ ghost use Rattle.bac_words.specs.declared.word.Word.{Word as AnyWord};
 
 use crate::asking::{log, rp, value_of, wp};
 use crate::fault::Fault;
+use crate::finding::{limits, wi};
 use crate::playing::replay;
 use crate::serving::serve;
 use crate::telling::tell;
-use bac_apdu::{ReadProperty, WriteProperty};
+use bac_apdu::{ReadProperty, WhoIs, WriteProperty};
 use bac_link::Request;
 use bac_print::write_text;
 use bac_serve::Clock;
@@ -74,7 +75,18 @@ fn work<R: Net, I: Read, O: Write, C: Clock>(
 {
     match job {
         Job::Replay => replay(alloc, input, output),
-        Job::Wi { .. } => Err(Fault::NoAnswer),
+        Job::Wi {
+            addresses,
+            min,
+            max,
+            local,
+            timeout,
+        } => {
+            let request = WhoIs {
+                limits: limits(*min, *max),
+            };
+            wi(rt, alloc, addresses, &request, *local, *timeout, output)
+        }
         Job::Rp {
             asked,
             object_type,

@@ -1,0 +1,190 @@
+#!/usr/bin/env bash
+# Serves plant.conf on the loopback interface, and finds, reads, writes and walks it with the other
+# tools, each as a program of its own. A walk is stopped after each few replies and resumed at the
+# number that it printed; no record may be lost or come twice.
+#
+#     examples/loopback.sh [PROGRAM]
+#
+# PROGRAM is crates/bac/out/bac where none is given. The last line is `N passed, M failed`.
+set -u
+cd "$(dirname "$0")"
+program=$(realpath -- "${1:-../crates/bac/out/bac}")
+room=$(mktemp -d)
+server=
+# The servers of this script are ended by their own numbers.
+trap '[ -z "$server" ] || kill "$server" 2> /dev/null; rm -rf "$room"' EXIT
+passed=0
+failed=0
+
+is() {
+    if [ "$2" = "$3" ]; then
+        passed=$((passed + 1))
+    else
+        failed=$((failed + 1))
+        printf '%s: %s\nis wanted, and it is: %s\n' "$1" "$3" "$2" | head -c 2000
+    fi
+}
+
+# Its output, its text on standard error and its status, in one text.
+bac() {
+    "$program" "$@" > "$room/out" 2> "$room/err"
+    status=$?
+    said="$(cat "$room/out")|$(cat "$room/err")|$status"
+}
+
+# served CONFIGURATION [OPTION..]: serves at a free port of 127.0.0.1, and waits until it answers.
+served() {
+    local configuration=$1 try wait
+    shift
+    for try in {1..50}; do
+        port=$((20000 + RANDOM))
+        at=127.0.0.1:$port
+        "$program" serve "$at" "$@" < "$configuration" > "$room/served" 2>&1 &
+        server=$!
+        for wait in {1..100}; do
+            bac wi "$at" --timeout=300
+            [ "$status" -ne 0 ] || return 0
+            kill -0 "$server" 2> /dev/null || break
+            sleep 0.1
+        done
+        # The port is in use: the next one is tried.
+        grep -q 'socket fault' "$room/served" || break
+    done
+    echo "no server: $(cat "$room/served")"
+    failed=$((failed + 1))
+    echo "$passed passed, $failed failed"
+    exit 1
+}
+
+# ---- a server of one datagram
+
+served plant.conf --count=1
+is 'found' "$said" "I-Am 123 $at max-apdu 1476 segmentation 3 vendor 0||0"
+wait "$server"
+is 'the server after one datagram' "$? $(cat "$room/served")" '0 '
+bac rp "$at" 8 123 77 --timeout=100 --retries=1
+is 'nobody is there' "$said" '|lost|2'
+bac wi "$at" --timeout=100
+is 'nobody answers' "$said" '|no answer|2'
+bac log "$at" 1 oldest --timeout=100 --retries=0
+is 'nobody is there to walk' "$said" 'lost, next 1||2'
+
+# ---- a server
+
+# Replies of 50 octets hold one record each.
+sed s/1476/50/ plant.conf > "$room/small.conf"
+served "$room/small.conf"
+bac serve "$at" --count=0 < plant.conf
+is 'an address in use' "$said" '|socket fault|2'
+bac wi "$at" --min=124 --timeout=250
+is 'another instance' "$said" '|no answer|2'
+
+bac rp "$at" 8 123 77
+is 'the name of the device' "$said" '"plant"||0'
+bac rp "$at" 8 4194303 75
+is 'the device that is asked' "$said" 'object(8,123)||0'
+bac rp "$at" 5 1 85
+is 'the pump is off' "$said" 'enum(0)||0'
+bac wp "$at" 5 1 85 8 9 --value=1
+is 'the pump is switched on' "$said" 'written||0'
+bac rp "$at" 5 1 85
+is 'the pump is on' "$said" 'enum(1)||0'
+bac rp "$at" 5 1 87 --index=8
+is 'the command at priority 8' "$said" 'enum(1)||0'
+bac rp "$at" 5 1 87 --index=0
+is 'the number of priorities' "$said" '16||0'
+bac wp "$at" 5 1 85 8 0
+is 'the command is taken back' "$said" 'written||0'
+bac rp "$at" 5 1 85
+is 'the pump is off again' "$said" 'enum(0)||0'
+bac wp "$at" 45 1 85 0 3 --value=-5
+is 'a level is written' "$said" 'written||0'
+bac rp "$at" 45 1 85
+is 'the level' "$said" '-5||0'
+bac rp "$at" 5 2 85
+is 'a binary value that is not there' "$said" '|refused: error 1 31|3'
+bac wp "$at" 5 1 85 6 9 --value=1
+is 'priority 6' "$said" '|refused: error 2 40|3'
+bac wp "$at" 5 1 85 8 2 --value=1
+is 'a value of another type' "$said" '|refused: error 2 9|3'
+bac rp "$at" 20 2 131
+is 'records are read by ranges' "$said" '|refused: error 2 27|3'
+bac log "$at" 9 1
+is 'a log that is not there' "$said" 'refused: error 1 31, next 1||3'
+
+# ---- a log that is walked in parts
+
+for turn in {1..20}; do
+    bac wp "$at" 20 2 133 0 1 --value=$((turn % 2 ? 0 : 1))
+    [ "$said" = 'written||0' ] || is 'the log is switched' "$said" 'written||0'
+done
+bac log "$at" 2 oldest
+is 'the whole log' "$(grep -c '^[0-9]* [^ ]* status' "$room/out") $(tail -n 1 "$room/out") $status" '20 caught up, next 21 0'
+sed '$d' "$room/out" > "$room/whole"
+bac log "$at" 2 21
+is 'nothing more' "$said" 'caught up, next 21||0'
+bac log "$at" 2 1 --steps=0
+is 'no step' "$said" 'step limit, next 1||0'
+
+# parts FROM: walks a step at a time, from the number that was printed last, up to the newest record.
+parts() {
+    local next=$1 walked
+    : > "$room/parts"
+    for walked in {1..400}; do
+        bac log "$at" "$log" "$next" --steps=1
+        sed '$d' "$room/out" >> "$room/parts"
+        next=$(sed -n '$s/^.*, next //p' "$room/out")
+        case $(tail -n 1 "$room/out") in
+            'step limit, next '*) ;;
+            'caught up, next '*) return 0 ;;
+            *) echo "a part of a walk: $said"; return 1 ;;
+        esac
+    done
+    return 1
+}
+
+log=2
+parts oldest
+is 'the walk in parts comes to the end' "$?" 0
+is 'the parts are the whole' "$(cat "$room/parts")" "$(cat "$room/whole")"
+
+# The log of the pump takes a record each second while it is walked.
+log=1
+for walk in 1 2 3; do
+    for try in {1..100}; do
+        bac log "$at" 1 oldest
+        [ "$(wc -l < "$room/out")" -le $((walk + 1)) ] || break
+        sleep 0.2
+    done
+done
+sed '$d' "$room/out" > "$room/whole"
+parts oldest
+is 'the walk of a growing log comes to the end' "$?" 0
+is 'no record is lost, and none comes twice' "$(cut -d ' ' -f 1 "$room/parts")" "$(seq "$(wc -l < "$room/parts")")"
+is 'the parts begin with the whole' "$(head -n "$(wc -l < "$room/whole")" "$room/parts")" "$(cat "$room/whole")"
+
+bac wp "$at" 20 2 141 0 2 --value=0
+is 'the log is purged' "$said" 'written||0'
+bac log "$at" 2 1
+is 'what went is one gap' "$(head -n 1 "$room/out")$(cut -d ' ' -f 1,3- "$room/out" | sed -n 2p) $(tail -n 1 "$room/out")" \
+    'gap 1 2021 status(010) - caught up, next 22'
+
+# ---- outputs that refuse
+
+"$program" log "$at" 1 oldest > /dev/full 2> "$room/err"
+is 'a full disk' "$? $(cat "$room/err")" '2 write fault'
+"$program" rp "$at" 8 123 77 >&- 2> "$room/err"
+is 'no output' "$? $(cat "$room/err")" '2 write fault'
+exec 3> >(exit 0)
+wait $!
+"$program" log "$at" 1 oldest >&3 2> "$room/err"
+is 'a pipe that nobody reads' "$? $(cat "$room/err")" '2 write fault'
+exec 3>&-
+
+kill "$server"
+wait "$server" 2> /dev/null
+is 'the server until it is ended' "$? $(cat "$room/served")" '143 '
+server=
+
+echo "$passed passed, $failed failed"
+[ "$failed" -eq 0 ]
