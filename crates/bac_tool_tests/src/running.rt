@@ -2,6 +2,9 @@
 
 use crate::memory_port::NoClock;
 use bac_run::run;
+use std::alloc::Global;
+use std::net::Net;
+use std::process::Abort;
 use std::test::Fail;
 
 /// What a run left.
@@ -13,16 +16,16 @@ struct Ran {
 }
 
 /// Runs the program with the words of a line, one blank between two, on this input.
-fn ran(rt: &HostRuntime, line: &str, input: &str) -> Result<Ran, Fail> {
-    let mut words = Vec::new(rt.alloc());
+fn left_by(rt: &impl Net, alloc: Global, line: &str, input: &str) -> Result<Ran, Fail> {
+    let mut words = Vec::new(alloc);
     for word in line.split(' ') {
-        words.push(String::from_str(rt.alloc(), word)?)?;
+        words.push(String::from_str(alloc, word)?)?;
     }
-    let mut output = Vec::new(rt.alloc());
-    let mut errors = Vec::new(rt.alloc());
+    let mut output = Vec::new(alloc);
+    let mut errors = Vec::new(alloc);
     let status = run(
         rt,
-        rt.alloc(),
+        alloc,
         &words,
         &mut input.as_bytes(),
         &mut output,
@@ -38,14 +41,15 @@ fn ran(rt: &HostRuntime, line: &str, input: &str) -> Result<Ran, Fail> {
 
 /// Runs it, and compares all that it left.
 fn runs(
-    rt: &HostRuntime,
+    rt: &(impl Net + Abort),
+    alloc: Global,
     line: &str,
     input: &str,
     status: u8,
     output: &str,
     errors: &str,
 ) -> Result<(), Fail> {
-    let ran = ran(rt, line, input)?;
+    let ran = left_by(rt, alloc, line, input)?;
     assert_eq!(rt; ran.status, status);
     assert_eq!(rt; ran.output.as_slice(), output.as_bytes());
     assert_eq!(rt; ran.errors.as_slice(), errors.as_bytes());
@@ -58,6 +62,7 @@ const DEVICE: &str = "device 123 plant 0 1476 2024-05-06T07:08:09.10\n";
 fn a_walk_of_a_script_is_printed(rt: HostRuntime) -> Result<(), Fail> {
     runs(
         &rt,
+        rt.alloc(),
         "bac replay",
         "device 123 plant 0 1476 2024-05-06T07:08:09.10
 binary 1 pump 0
@@ -87,9 +92,18 @@ caught up, next 6
 
 #[test]
 fn a_script_that_is_not_right_ends_with_status_1(rt: HostRuntime) -> Result<(), Fail> {
-    runs(&rt, "bac replay", "sample 1\n", 1, "", "line 1: bad line\n")?;
     runs(
         &rt,
+        rt.alloc(),
+        "bac replay",
+        "sample 1\n",
+        1,
+        "",
+        "line 1: bad line\n",
+    )?;
+    runs(
+        &rt,
+        rt.alloc(),
         "bac replay",
         "device 4194303 plant 0 1476 2024-05-06T07:08:09.10\n",
         1,
@@ -101,7 +115,7 @@ fn a_script_that_is_not_right_ends_with_status_1(rt: HostRuntime) -> Result<(), 
 #[test]
 fn words_that_are_missing_are_a_mistake(rt: HostRuntime) -> Result<(), Fail> {
     for line in ["bac", "bac rp", "bac frob", "bac replay again"] {
-        let ran = ran(&rt, line, "")?;
+        let ran = left_by(&rt, rt.alloc(), line, "")?;
         assert_eq!(rt; ran.status, 1);
         assert!(rt; ran.output.is_empty());
         assert!(rt; !ran.errors.is_empty());
@@ -117,7 +131,7 @@ fn help_is_printed(rt: HostRuntime) -> Result<(), Fail> {
         "bac help rp",
         "bac --version",
     ] {
-        let ran = ran(&rt, line, "")?;
+        let ran = left_by(&rt, rt.alloc(), line, "")?;
         assert_eq!(rt; ran.status, 0);
         assert!(rt; !ran.output.is_empty());
         assert!(rt; ran.errors.is_empty());
@@ -129,6 +143,7 @@ fn help_is_printed(rt: HostRuntime) -> Result<(), Fail> {
 fn a_bad_value_is_told_with_its_word(rt: HostRuntime) -> Result<(), Fail> {
     runs(
         &rt,
+        rt.alloc(),
         "bac rp 127.0.0.1 8 123 77 --timeout=0",
         "",
         1,
@@ -137,6 +152,7 @@ fn a_bad_value_is_told_with_its_word(rt: HostRuntime) -> Result<(), Fail> {
     )?;
     runs(
         &rt,
+        rt.alloc(),
         "bac wi 127.0.0.1 --max=5",
         "",
         1,
@@ -149,6 +165,7 @@ fn a_bad_value_is_told_with_its_word(rt: HostRuntime) -> Result<(), Fail> {
 fn a_device_is_served(rt: HostRuntime) -> Result<(), Fail> {
     runs(
         &rt,
+        rt.alloc(),
         "bac serve 127.0.0.1:47813 --count=0",
         DEVICE,
         0,
@@ -157,6 +174,7 @@ fn a_device_is_served(rt: HostRuntime) -> Result<(), Fail> {
     )?;
     runs(
         &rt,
+        rt.alloc(),
         "bac serve 127.0.0.1:47813 --count=0",
         "",
         1,
@@ -165,6 +183,7 @@ fn a_device_is_served(rt: HostRuntime) -> Result<(), Fail> {
     )?;
     runs(
         &rt,
+        rt.alloc(),
         "bac serve 127.0.0.1:47813 --count=0",
         "device 123 plant 0 1476 2024-05-06T07:08:09.10\nsample 1\n",
         1,
@@ -173,6 +192,7 @@ fn a_device_is_served(rt: HostRuntime) -> Result<(), Fail> {
     )?;
     runs(
         &rt,
+        rt.alloc(),
         "bac serve 127.0.0.1:47813 --count=0",
         "device 123 plant 0 49 2024-05-06T07:08:09.10\n",
         1,
@@ -185,6 +205,7 @@ fn a_device_is_served(rt: HostRuntime) -> Result<(), Fail> {
 fn nobody_answers(rt: HostRuntime) -> Result<(), Fail> {
     runs(
         &rt,
+        rt.alloc(),
         "bac wi 127.0.0.1:9 --timeout=20",
         "",
         2,
@@ -193,6 +214,7 @@ fn nobody_answers(rt: HostRuntime) -> Result<(), Fail> {
     )?;
     runs(
         &rt,
+        rt.alloc(),
         "bac rp 127.0.0.1:9 8 123 77 --timeout=20 --retries=1",
         "",
         2,
@@ -201,6 +223,7 @@ fn nobody_answers(rt: HostRuntime) -> Result<(), Fail> {
     )?;
     runs(
         &rt,
+        rt.alloc(),
         "bac wp 127.0.0.1:9 5 1 85 0 7 --value=on --timeout=20 --retries=0",
         "",
         2,
@@ -209,6 +232,7 @@ fn nobody_answers(rt: HostRuntime) -> Result<(), Fail> {
     )?;
     runs(
         &rt,
+        rt.alloc(),
         "bac log 127.0.0.1:9 1 oldest --timeout=20 --retries=0",
         "",
         2,
@@ -220,5 +244,5 @@ fn nobody_answers(rt: HostRuntime) -> Result<(), Fail> {
 #[test]
 fn an_address_of_another_machine_is_refused(rt: HostRuntime) -> Result<(), Fail> {
     let line = "bac rp 127.0.0.1:9 8 123 77 --local=192.0.2.1";
-    runs(&rt, line, "", 2, "", "socket fault\n")
+    runs(&rt, rt.alloc(), line, "", 2, "", "socket fault\n")
 }
