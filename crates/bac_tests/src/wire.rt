@@ -3,10 +3,10 @@
 ghost use Rattle.bac_wire.specs.View.{IsWellFormed};
 
 use bac_wire::{
-    Datagram, Date4, Full, ObjectId, Stamp, Time4, Value, WireFault, as_bits, as_boolean,
-    as_enumerated, as_object, as_signed, as_unsigned, is_opening_next, is_other_type_next,
-    is_value_next, octets_to_close, read_close, read_context, read_open, read_value, stamp_order,
-    write_close, write_context, write_octets, write_open, write_value,
+    Datagram, Date4, Full, ObjectId, PrimitiveType, Stamp, Time4, Value, WireFault, as_bits,
+    as_boolean, as_enumerated, as_object, as_signed, as_unsigned, is_opening_next,
+    is_other_type_next, is_value_next, octets_to_close, read_close, read_context, read_open,
+    read_value, stamp_order, write_close, write_context, write_octets, write_open, write_value,
 };
 use jiff::civil::DateTime;
 use std::alloc::AllocError;
@@ -300,8 +300,13 @@ fn next_tags(rt: HostRuntime) {
     assert!(rt; !is_value_next(&[0x2e], 2) && is_opening_next(&[0x2e], 2));
     assert!(rt; !is_value_next(&[0x2f], 2) && !is_opening_next(&[0x2f], 2));
     assert!(rt; !is_value_next(&[0x39], 2) && !is_opening_next(&[0x3e], 2));
-    assert!(rt; !is_value_next(&[0x21], 2) && !is_other_type_next(&[0x21], 2));
-    assert!(rt; is_other_type_next(&[0x21], 9) && !is_other_type_next(&[0x29], 9));
+    assert!(rt;
+        !is_value_next(&[0x21], 2) && !is_other_type_next(&[0x21], PrimitiveType::Unsigned)
+    );
+    assert!(rt;
+        is_other_type_next(&[0x21], PrimitiveType::Enumerated)
+            && !is_other_type_next(&[0x29], PrimitiveType::Enumerated)
+    );
     // number 254 in an octet of its own, and without it
     assert!(rt; is_value_next(&[0xf9, 254], 254) && !is_value_next(&[0xf9], 254));
     assert!(rt; !is_value_next(&[], 0));

@@ -6,7 +6,7 @@ ghost use Rattle.bac_wire.specs.Spelling.{IsTag};
 ghost use Rattle.bac_wire.specs.Level.{token_at, close_at, IsLevel, EndsAt};
 
 use crate::fault::WireFault;
-use crate::primitive::BOOLEAN;
+use crate::primitive_type::PrimitiveType;
 use crate::tag::{Mark, is_context_tag, length_of, number_of, octet_of, octets_of};
 
 /// A whole tag with its contents, or one that opens or closes a level.
@@ -34,7 +34,7 @@ fn token_of(bytes: &[u8]) -> Result<(Token, &[u8]), WireFault>
     if first % 8 == Mark::Closing.bits() {
         return Ok((Token::Close(tag), rest));
     }
-    if !context && tag == BOOLEAN {
+    if !context && tag == PrimitiveType::Boolean.number() {
         return Ok((Token::Whole, rest));
     }
     let (len, rest) = length_of(first % 8, rest)?;

@@ -2,6 +2,9 @@
 
 ghost use Rattle.std.specs.Prelude.{◌≡◌};
 ghost use Rattle.bac_wire.specs.Next.{next_tag, value_next, opening_next, other_next};
+ghost use Rattle.bac_wire.specs.PrimitiveType.{type_number};
+
+use crate::primitive_type::PrimitiveType;
 
 /// The low four bits of the next tag's first octet, which state its class and kind, and its number,
 /// if the octets that state them are there.
@@ -47,12 +50,12 @@ pub fn is_opening_next(bytes: &[u8], number: u8) -> bool
     }
 }
 
-/// Whether an application tag is next whose number, the type of its value, isn't this.
-pub fn is_other_type_next(bytes: &[u8], number: u8) -> bool
-    ensures { result ≡ other_next number bytes.now }
+/// Whether an application tag is next whose number is that of another type.
+pub fn is_other_type_next(bytes: &[u8], wanted: PrimitiveType) -> bool
+    ensures { result ≡ other_next (type_number wanted) bytes.now }
 {
     match next_tag(bytes) {
-        Some((low, tag)) => low <= 5 && tag != number,
+        Some((low, tag)) => low <= 5 && tag != wanted.number(),
         None => false,
     }
 }

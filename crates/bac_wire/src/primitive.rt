@@ -1,8 +1,9 @@
 //! The contents of each primitive type (clauses 20.2.2 to 20.2.14).
 
-ghost use Rattle.std.specs.Prelude.{◌≡◌, ◌-◌, ◌*◌, ◌^◌, ◌<◌, ◌≤◌, length, map, take, IfOk, true};
+ghost use Rattle.std.specs.Prelude.{◌≡◌, ◌≢◌, ◌-◌, ◌*◌, ◌^◌, ◌<◌, ◌≤◌, length, map, take, IfOk, true};
 ghost use Rattle.bac_wire.specs.Number.{number, signed, bits_of};
 ghost use Rattle.bac_wire.specs.Chain.{Gives};
+ghost use Rattle.bac_wire.specs.PrimitiveType.{type_number};
 ghost use Rattle.bac_wire.specs.Reading.{has_length, chars_in, bits_in, enumerated_in, value_in, contents_as};
 ghost use Rattle.bac_wire.specs.View.{view, IsWellFormed};
 ghost use Rattle.bac_wire.specs.Stamp.{date_octets, time_octets};
@@ -10,35 +11,9 @@ ghost use Rattle.bac_wire.specs.Primitive.{Boolean, Unsigned, Signed, Enumerated
 
 use crate::fault::WireFault;
 use crate::object_id::ObjectId;
+use crate::primitive_type::PrimitiveType;
 use crate::stamp::{Date4, Time4};
 use crate::value::Value;
-
-// The types by the numbers of their application tags (clause 20.2.1.4).
-pub(crate) const NULL: u8 = 0;
-
-pub(crate) const BOOLEAN: u8 = 1;
-
-pub(crate) const UNSIGNED: u8 = 2;
-
-pub(crate) const SIGNED: u8 = 3;
-
-pub(crate) const REAL: u8 = 4;
-
-pub(crate) const DOUBLE: u8 = 5;
-
-pub(crate) const OCTETS: u8 = 6;
-
-pub(crate) const CHARS: u8 = 7;
-
-pub(crate) const BITS: u8 = 8;
-
-pub(crate) const ENUMERATED: u8 = 9;
-
-pub(crate) const DATE: u8 = 10;
-
-pub(crate) const TIME: u8 = 11;
-
-pub(crate) const OBJECT: u8 = 12;
 
 /// An unsigned number, high octet first (clause 20.2.4).
 pub(crate) fn unsigned_of(octets: &[u8]) -> u64
@@ -79,41 +54,51 @@ fn signed_of(octets: &[u8]) -> i64
 }
 
 /// Which lengths the contents of a type have.
-pub(crate) fn has_length_of(tag: u8, len: usize) -> bool
-    ensures { result ≡ has_length tag len }
+pub(crate) fn has_length_of(kind: PrimitiveType, len: usize) -> bool
+    ensures { result ≡ has_length (type_number kind) len }
 {
-    match tag {
-        NULL => len == 0,
-        UNSIGNED | SIGNED | ENUMERATED => 1 <= len && len <= 8,
-        REAL | DATE | TIME | OBJECT => len == 4,
-        DOUBLE => len == 8,
-        OCTETS => true,
-        _ => 1 <= len,
+    match kind {
+        PrimitiveType::Null => len == 0,
+        PrimitiveType::Unsigned | PrimitiveType::Signed | PrimitiveType::Enumerated => {
+            1 <= len && len <= 8
+        }
+        PrimitiveType::Real
+        | PrimitiveType::Date
+        | PrimitiveType::Time
+        | PrimitiveType::ObjectIdentifier => len == 4,
+        PrimitiveType::Double => len == 8,
+        PrimitiveType::OctetString => true,
+        PrimitiveType::Boolean | PrimitiveType::CharacterString | PrimitiveType::BitString => {
+            1 <= len
+        }
     }
 }
 
-/// The value of contents that have a length of their type.
+/// The value of contents that have a length of their type. A Boolean has none behind its
+/// application tag.
 #[tactic(auto, unfolding(crate::specs::Reading::value_in))]
-pub(crate) fn value_of_contents(tag: u8, contents: &[u8]) -> Result<Value, WireFault>
-    requires length { has_length tag (length contents.now) ≡ true }
-    requires value { 0 < tag → 1 < tag }
-    requires known { tag ≤ 12 }
-    ensures exact { Gives view result (value_in tag contents.now) }
+pub(crate) fn value_of_contents(kind: PrimitiveType, contents: &[u8]) -> Result<Value, WireFault>
+    requires length { has_length (type_number kind) (length contents.now) ≡ true }
+    requires no_boolean { type_number kind ≢ 1 }
+    ensures exact { Gives view result (value_in (type_number kind) contents.now) }
     ensures well_formed { IfOk result IsWellFormed }
 {
-    Ok(match tag {
-        NULL => Value::Null,
-        UNSIGNED => Value::Unsigned(unsigned_of(contents)),
-        SIGNED => Value::Signed(signed_of(contents)),
-        REAL => Value::Real4(four_of(contents)),
-        DOUBLE => Value::Double8(eight_of(contents)),
-        OCTETS => Value::Octets(contents),
-        CHARS => return chars_of(contents),
-        BITS => return bits_of(contents),
-        ENUMERATED => return enumerated_of(contents),
-        DATE => Value::Date(date_in(contents)),
-        TIME => Value::Time(time_in(contents)),
-        _ => Value::Object(ObjectId::of_number(unsigned_of(contents) as u32)),
+    Ok(match kind {
+        PrimitiveType::Null => Value::Null,
+        PrimitiveType::Boolean => unreachable!(),
+        PrimitiveType::Unsigned => Value::Unsigned(unsigned_of(contents)),
+        PrimitiveType::Signed => Value::Signed(signed_of(contents)),
+        PrimitiveType::Real => Value::Real4(four_of(contents)),
+        PrimitiveType::Double => Value::Double8(eight_of(contents)),
+        PrimitiveType::OctetString => Value::Octets(contents),
+        PrimitiveType::CharacterString => return chars_of(contents),
+        PrimitiveType::BitString => return bits_of(contents),
+        PrimitiveType::Enumerated => return enumerated_of(contents),
+        PrimitiveType::Date => Value::Date(date_in(contents)),
+        PrimitiveType::Time => Value::Time(time_in(contents)),
+        PrimitiveType::ObjectIdentifier => {
+            Value::Object(ObjectId::of_number(unsigned_of(contents) as u32))
+        }
     })
 }
 
@@ -208,7 +193,7 @@ fn enumerated_of(contents: &[u8]) -> Result<Value, WireFault>
 pub fn as_unsigned(contents: &[u8]) -> Result<u64, WireFault>
     ensures { Gives (λ n. Unsigned n) result (contents_as 2 contents.now) }
 {
-    if !has_length_of(UNSIGNED, contents.len()) {
+    if !has_length_of(PrimitiveType::Unsigned, contents.len()) {
         return Err(WireFault::BadLength);
     }
     Ok(unsigned_of(contents))
@@ -220,7 +205,7 @@ pub fn as_unsigned(contents: &[u8]) -> Result<u64, WireFault>
 pub fn as_signed(contents: &[u8]) -> Result<i64, WireFault>
     ensures { Gives (λ z. Signed z) result (contents_as 3 contents.now) }
 {
-    if !has_length_of(SIGNED, contents.len()) {
+    if !has_length_of(PrimitiveType::Signed, contents.len()) {
         return Err(WireFault::BadLength);
     }
     Ok(signed_of(contents))
@@ -249,7 +234,7 @@ pub fn as_boolean(contents: &[u8]) -> Result<bool, WireFault>
 pub fn as_enumerated(contents: &[u8]) -> Result<u32, WireFault>
     ensures { Gives (λ n. Enumerated n) result (contents_as 9 contents.now) }
 {
-    if !has_length_of(ENUMERATED, contents.len()) {
+    if !has_length_of(PrimitiveType::Enumerated, contents.len()) {
         return Err(WireFault::BadLength);
     }
     let number = unsigned_of(contents);
@@ -284,7 +269,7 @@ pub fn as_bits(contents: &[u8]) -> Result<(u8, &[u8]), WireFault>
 pub fn as_object(contents: &[u8]) -> Result<ObjectId, WireFault>
     ensures { Gives (λ o. Object o) result (contents_as 12 contents.now) }
 {
-    if !has_length_of(OBJECT, contents.len()) {
+    if !has_length_of(PrimitiveType::ObjectIdentifier, contents.len()) {
         return Err(WireFault::BadLength);
     }
     Ok(ObjectId::of_number(unsigned_of(contents) as u32))

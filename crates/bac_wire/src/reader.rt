@@ -4,6 +4,7 @@ ghost use Rattle.std.specs.Prelude.{◌≡◌, ◌+◌, ◌-◌, length, take, I
 ghost use Rattle.bac_wire.specs.Chain.{Gives};
 ghost use Rattle.bac_wire.specs.Level.{close_at};
 ghost use Rattle.bac_wire.specs.Next.{value_next, opening_next, other_next};
+ghost use Rattle.bac_wire.specs.PrimitiveType.{type_number};
 ghost use Rattle.bac_wire.specs.Reading.{context_at, mark_at, value_at};
 ghost use Rattle.bac_wire.specs.View.{view, IsWellFormed};
 
@@ -11,6 +12,7 @@ use crate::context::{read_close, read_context, read_open};
 use crate::fault::WireFault;
 use crate::level::octets_to_close;
 use crate::next::{is_opening_next, is_other_type_next, is_value_next};
+use crate::primitive_type::PrimitiveType;
 use crate::reading::read_value;
 use crate::value::Value;
 use std::marker::Model;
@@ -61,10 +63,10 @@ impl<'a> Reader<'a> {
     }
 
     /// Whether an application tag of another type is next.
-    pub fn is_other_type_next(&self, number: u8) -> bool
-        ensures { result ≡ other_next number self.now }
+    pub fn is_other_type_next(&self, wanted: PrimitiveType) -> bool
+        ensures { result ≡ other_next (type_number wanted) self.now }
     {
-        is_other_type_next(self.rest, number)
+        is_other_type_next(self.rest, wanted)
     }
 
     // ---- what is next

@@ -10,10 +10,10 @@ ghost use Rattle.bac_apdu.specs.Form.{Value as Parameter, Mark, application, uns
 ghost use Rattle.bac_apdu.specs.FormReading.{row_at, form_at};
 ghost use Rattle.bac_apdu.specs.FormCanon.{canon_form};
 
-use crate::parameters::{DATE, Parameters, SIGNED, TIME, UNSIGNED};
+use crate::parameters::Parameters;
 use crate::parameters_out::{add_close, add_open, add_value};
 use crate::reason::Reason;
-use bac_wire::{Datagram, Date4, Full, Time4, Value};
+use bac_wire::{Datagram, Date4, Full, PrimitiveType, Time4, Value};
 
 /// Which records are asked for. A count above 0 goes on from the reference, one below 0 ends
 /// there; it isn't 0.
@@ -101,7 +101,7 @@ impl<'a> Parameters<'a> {
     fn plain_number(&mut self) -> Result<u32, Reason>
         ensures { Gives (λ x. (Parameter (Unsigned x), self.new)) result (row_at (application unsigned is_u32) self.old) }
     {
-        match self.typed(UNSIGNED) {
+        match self.typed(PrimitiveType::Unsigned) {
             Ok(Value::Unsigned(number)) => {
                 if number > u32::MAX as u64 {
                     return Err(Reason::OutOfRange);
@@ -118,7 +118,7 @@ impl<'a> Parameters<'a> {
     fn count(&mut self) -> Result<i32, Reason>
         ensures { Gives (λ x. (Parameter (Signed x), self.new)) result (row_at (application signed is_count) self.old) }
     {
-        match self.typed(SIGNED) {
+        match self.typed(PrimitiveType::Signed) {
             Ok(Value::Signed(number)) => {
                 if number == 0 || number < i32::MIN as i64 || number > i32::MAX as i64 {
                     return Err(Reason::OutOfRange);
@@ -135,7 +135,7 @@ impl<'a> Parameters<'a> {
     fn date(&mut self) -> Result<Date4, Reason>
         ensures { Gives (λ x. (Parameter (Date (date_octets x)), self.new)) result (row_at (application date is_date) self.old) }
     {
-        match self.typed(DATE) {
+        match self.typed(PrimitiveType::Date) {
             Ok(Value::Date(date)) => {
                 if !is_full_date(date) {
                     return Err(Reason::OutOfRange);
@@ -152,7 +152,7 @@ impl<'a> Parameters<'a> {
     fn time(&mut self) -> Result<Time4, Reason>
         ensures { Gives (λ x. (Parameter (Time (time_octets x)), self.new)) result (row_at (application time is_time) self.old) }
     {
-        match self.typed(TIME) {
+        match self.typed(PrimitiveType::Time) {
             Ok(Value::Time(time)) => {
                 if !is_full_time(time) {
                     return Err(Reason::OutOfRange);
