@@ -1,30 +1,23 @@
 -- What was read is in range, so that it may be written.
-use Rattle.std.proofs.Common.{◌≡◌, ℕ, ◌^◌, ◌<◌, ltb, Bool, true, false, List, [], ◌∷◌, Option, Some, None, Result, Ok, Err, refl, ap, subst, sym, ◌∙◌, ◌⊎◌, inl, inr}
-use Rattle.std.proofs.lemmas.Bool.{ltb-true, leb-true, and_parts}
-use Rattle.std.specs.Prelude.{IfOk, IfSome}
-use Rattle.std.specs.Option.{option_map}
-use Rattle.std.specs.Result.{result_ok}
+use Rattle.std.proofs.Common.{◌≡◌, ℕ, ◌^◌, ◌<◌, ltb, Bool, true, false, List, [], ◌∷◌, Result, Ok, Err, refl, ap, subst, sym, ◌∙◌, ◌⊎◌, inl, inr}
+use Rattle.std.proofs.lemmas.Bool.{ltb-true, and_parts}
+use Rattle.std.specs.Prelude.{IfOk}
 use Rattle.bac_wire.specs.Primitive.{Primitive, Null, Boolean, Unsigned, Signed, Real, Double, Octets, Chars, Bits, Enumerated, Date, Time, Object}
 use Rattle.bac_wire.specs.Chain.{◌>>=◌, Gives, result_map}
-use Rattle.bac_wire.specs.OptionChain.{GivesSome}
 use Rattle.bac_wire.specs.Reading.{context_at, contents_as, mark_at}
 use Rattle.bac_wire.specs.Stamp.{date_octets, time_octets}
 use Rattle.bac_wire.proofs.Steps.{bind_ok, want_ok, chosen, ok_is}
 use Rattle.bac_apdu.specs.declared.reason.Reason.{Reason}
 use Rattle.bac_apdu.specs.declared.reason.Reason.TheVariants.{OutOfRange}
 use Rattle.bac_apdu.specs.declared.service.read_range.ReadRange.{ReadRange}
-use Rattle.bac_apdu.specs.declared.service.read_range_ack.ReadRangeAck.{ReadRangeAck}
-use Rattle.bac_apdu.specs.declared.service.who_is.WhoIs.{WhoIs}
 use Rattle.bac_apdu.specs.Reason.{reasoned}
 use Rattle.bac_apdu.specs.Form.{Form, Row, Parameter, Value, Mark, Absent, end, row, optional, choice, context, application, opening, unsigned, signed, date, time, is_u32, value_next, opening_next}
 use Rattle.bac_apdu.specs.FormReading.{form_at, row_at, optional_at, typed_at, ranged}
 use Rattle.bac_apdu.specs.Fields.{number_in, unsigned_in, signed_in, date_in, time_in}
 use Rattle.bac_apdu.specs.Service.Extent.{range, by_reference, by_time, extent_in, is_count, is_date, is_time, date_fits, time_fits, IsExtent}
 use Rattle.bac_apdu.specs.Service.ReadRange.{read_range, read_range_at, range_in}
-use Rattle.bac_apdu.specs.Service.ReadRangeAck.{RangeAck, read_range_ack, read_range_ack_at, range_ack_in, range_ack_of, is_first, IsFirst}
 use Rattle.bac_apdu.specs.declared.service.write_property.WriteProperty.{WriteProperty}
 use Rattle.bac_apdu.specs.Service.WriteProperty.{PropertyWrite, write_property, write_property_at, write_in, write_of_code, is_priority, IsPriority}
-use Rattle.bac_apdu.specs.Service.WhoIs.{who_is, who_is_at, who_is_in, both, is_instance, AreLimits}
 
 -- ---- one parameter off the front
 
@@ -261,103 +254,6 @@ extents_valid bytes r h = range_read bytes (form_at read_range bytes) r refl h
 pub extent_bounded : (bytes : List ℕ) (r : Result ReadRange Reason) → r ≡ read_range_at bytes → IfOk r (λ x. IsExtent x.extent)
 extent_bounded bytes (Ok r) e = extents_valid bytes r (sym e)
 extent_bounded bytes (Err reason) e = tt
-
--- ---- the limits of Who-Is
-
-limits_in : (v w : Primitive) → is_instance v ≡ true → is_instance w ≡ true → AreLimits (both (number_in (Value v)) (number_in (Value w)))
-limits_in (Unsigned m) (Unsigned n) h k = (leb-true _ _ h, leb-true _ _ k)
-limits_in (Unsigned m) Null h k = no_value k
-limits_in (Unsigned m) (Boolean b) h k = no_value k
-limits_in (Unsigned m) (Signed z) h k = no_value k
-limits_in (Unsigned m) (Real octets) h k = no_value k
-limits_in (Unsigned m) (Double octets) h k = no_value k
-limits_in (Unsigned m) (Octets octets) h k = no_value k
-limits_in (Unsigned m) (Chars set octets) h k = no_value k
-limits_in (Unsigned m) (Bits bits) h k = no_value k
-limits_in (Unsigned m) (Enumerated n) h k = no_value k
-limits_in (Unsigned m) (Date octets) h k = no_value k
-limits_in (Unsigned m) (Time octets) h k = no_value k
-limits_in (Unsigned m) (Object id) h k = no_value k
-limits_in Null w h k = no_value h
-limits_in (Boolean b) w h k = no_value h
-limits_in (Signed z) w h k = no_value h
-limits_in (Real octets) w h k = no_value h
-limits_in (Double octets) w h k = no_value h
-limits_in (Octets octets) w h k = no_value h
-limits_in (Chars set octets) w h k = no_value h
-limits_in (Bits bits) w h k = no_value h
-limits_in (Enumerated n) w h k = no_value h
-limits_in (Date octets) w h k = no_value h
-limits_in (Time octets) w h k = no_value h
-limits_in (Object id) w h k = no_value h
-
-both_valid : (octet : ℕ) (bytes : List ℕ) (items : List Parameter) → form_at (row (context 0 unsigned is_instance) (row (context 1 unsigned is_instance) end)) (octet ∷ bytes) ≡ Ok items → AreLimits ((who_is_in items).limits)
-both_valid octet bytes items h =
-    let a = behind_row (context 0 unsigned is_instance) _ (octet ∷ bytes) items h in
-    let b = behind_row (context 1 unsigned is_instance) _ a.bytes a.tail a.rest in
-    let low = context_is 0 unsigned is_instance a.front (a.item, a.bytes) a.at in
-    let high = context_is 1 unsigned is_instance b.front (b.item, b.bytes) b.at in
-    let all : items ≡ a.item ∷ b.item ∷ b.tail = a.is ∙ ap (λ l. a.item ∷ l) b.is in
-    rw (all, low.1, high.1) (limits_in low.0 high.0 low.2 high.2)
-
-limits_valid : (bytes : List ℕ) (items : List Parameter) → form_at who_is bytes ≡ Ok items → AreLimits ((who_is_in items).limits)
-unfolding form_at
-limits_valid [] items h = rw (sym (ok_is {F = Reason} [] items h)) tt
-limits_valid (octet ∷ bytes) items h = both_valid octet bytes items h
-
-who_is_read : (bytes : List ℕ) (read : Result (List Parameter) Reason) (w : WhoIs) → form_at who_is bytes ≡ read → option_map who_is_in (result_ok read) ≡ Some w → AreLimits w.limits
-who_is_read bytes (Ok items) w e h = subst (λ (x : WhoIs). AreLimits x.limits) (let same : who_is_in items ≡ w = cc in same) (limits_valid bytes items e)
-who_is_read bytes (Err reason) w e h = absurd cc
-
-pub limits_bounded : (bytes : List ℕ) (r : Option WhoIs) → r ≡ who_is_at bytes → IfSome r (λ w. AreLimits w.limits)
-unfolding who_is_at
-limits_bounded bytes (Some w) e = who_is_read bytes (form_at who_is bytes) w refl (sym e)
-limits_bounded bytes None e = tt
-
--- ---- the first number in an ACK of ReadRange
-
-first_in : (v : Primitive) → is_first v ≡ true → IsFirst (number_in (Value v))
-first_in (Unsigned n) h = let p = and_parts (ltb 0 n) (ltb n (2 ^ 32)) h in (ltb-true _ _ p.0, ltb-true _ _ p.1)
-first_in Null h = tt
-first_in (Boolean b) h = tt
-first_in (Signed z) h = tt
-first_in (Real octets) h = tt
-first_in (Double octets) h = tt
-first_in (Octets octets) h = tt
-first_in (Chars set octets) h = tt
-first_in (Bits bits) h = tt
-first_in (Enumerated n) h = tt
-first_in (Date octets) h = tt
-first_in (Time octets) h = tt
-first_in (Object id) h = tt
-
-optional_first : (item : Parameter) → IsValue is_first item ⊎ (item ≡ Absent) → IsFirst (number_in item)
-optional_first item (inl v) = rw v.1 (first_in v.0 v.2)
-optional_first item (inr e) = rw e tt
-
-ack_valid : (bytes : List ℕ) (items : List Parameter) → form_at read_range_ack bytes ≡ Ok items → IsFirst ((range_ack_in items).first_number)
-ack_valid bytes items h =
-    let a = behind_row _ _ bytes items h in
-    let b = behind_row _ _ a.bytes a.tail a.rest in
-    let c = behind_optional _ _ _ _ b.bytes b.tail b.rest in
-    let d = behind_row _ _ c.bytes c.tail c.rest in
-    let e = behind_row _ _ d.bytes d.tail d.rest in
-    let f = behind_row _ _ e.bytes e.tail e.rest in
-    let g = behind_row _ _ f.bytes f.tail f.rest in
-    let k = behind_optional 6 unsigned is_first end g.bytes g.tail g.rest in
-    let first = optional_first k.item (optional_is 6 unsigned is_first k.front (k.item, k.bytes) k.at) in
-    let all : items ≡ a.item ∷ b.item ∷ c.item ∷ d.item ∷ e.item ∷ f.item ∷ g.item ∷ k.item ∷ k.tail =
-    a.is ∙ ap (λ l. a.item ∷ l) (b.is ∙ ap (λ l. b.item ∷ l) (c.is ∙ ap (λ l. c.item ∷ l) (d.is ∙ ap (λ l. d.item ∷ l) (e.is ∙ ap (λ l. e.item ∷ l) (f.is ∙ ap (λ l. f.item ∷ l) (g.is ∙ ap (λ l. g.item ∷ l) k.is)))))) in
-    rw all first
-
-ack_read : (bytes : List ℕ) (read : Result (List Parameter) Reason) (a : RangeAck) → form_at read_range_ack bytes ≡ read → option_map range_ack_in (result_ok read) ≡ Some a → IsFirst a.first_number
-ack_read bytes (Ok items) a e h = subst (λ (x : RangeAck). IsFirst x.first_number) (let same : range_ack_in items ≡ a = cc in same) (ack_valid bytes items e)
-ack_read bytes (Err reason) a e h = absurd cc
-
-pub first_bounded : (bytes : List ℕ) (r : Option ReadRangeAck) → GivesSome range_ack_of r (read_range_ack_at bytes) → IfSome r (λ a. IsFirst a.first_number)
-unfolding read_range_ack_at
-first_bounded bytes (Some a) e = ack_read bytes (form_at read_range_ack bytes) (range_ack_of a) refl e
-first_bounded bytes None e = tt
 
 -- ---- the priority of WriteProperty
 

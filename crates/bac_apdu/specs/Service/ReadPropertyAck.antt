@@ -1,9 +1,10 @@
 -- The ACK of ReadProperty (clauses 15.5 and 21): its parameters, and what it shows of its fields.
 use Rattle.std.specs.Prelude.{ℕ, List, [], ◌∷◌, Option}
 use Rattle.bac_wire.specs.Primitive.{Id}
+use Rattle.bac_wire.specs.Level.{IsLevel}
 use Rattle.bac_apdu.specs.declared.service.read_property_ack.ReadPropertyAck.{ReadPropertyAck}
 use Rattle.bac_apdu.specs.FormCanon.{canon_form}
-use Rattle.bac_apdu.specs.Service.PropertyReference.{property_then, property_parameters_then}
+use Rattle.bac_apdu.specs.Service.PropertyReference.{property_then, property_parameters_then, IsProperty}
 use Rattle.bac_apdu.specs.Form.{Form, end, row, opening, enclosed, Parameter, Mark, Inside}
 use Rattle.std.specs.Option.{option_map}
 use Rattle.std.specs.Result.{result_ok}
@@ -33,6 +34,10 @@ pub record PropertyAck : Type 0 where
   pub property : ℕ
   pub index : Option ℕ
   pub values : List ℕ
+
+-- each number in its range, and whole tags as values, each level that they open closed
+abbrev pub IsPropertyAck : PropertyAck → Type 0
+IsPropertyAck a = IsProperty a.object a.property a.index × IsLevel a.values
 
 abbrev pub property_ack_of : ReadPropertyAck → PropertyAck
 property_ack_of a = record { object = a.object; property = a.property; index = a.index; values = a.values.now }

@@ -1,9 +1,9 @@
 -- ReadRange (clauses 15.8 and 21): its parameters, and what a request shows of its fields.
 use Rattle.std.specs.Prelude.{ℕ, List, drop, Result}
 use Rattle.bac_apdu.specs.declared.service.read_range.ReadRange.{ReadRange}
-use Rattle.bac_apdu.specs.Service.PropertyReference.{property_then, property_parameters_then}
+use Rattle.bac_apdu.specs.Service.PropertyReference.{property_then, property_parameters_then, IsProperty}
 use Rattle.bac_apdu.specs.Form.{Form, Parameter}
-use Rattle.bac_apdu.specs.Service.Extent.{range, extent_parameters, extent_in}
+use Rattle.bac_apdu.specs.Service.Extent.{range, extent_parameters, extent_in, IsExtent}
 use Rattle.bac_wire.specs.Chain.{result_map}
 use Rattle.bac_apdu.specs.declared.reason.Reason.{Reason}
 use Rattle.bac_apdu.specs.FormReading.{form_at}
@@ -14,6 +14,10 @@ read_range = property_then range  -- range, optional
 
 abbrev pub range_parameters : ReadRange → List Parameter
 range_parameters r = property_parameters_then r.object r.property r.index (extent_parameters r.extent)
+
+-- each number in its range
+abbrev pub IsRange : ReadRange → Type 0
+IsRange r = IsProperty r.object r.property r.index × IsExtent r.extent
 
 -- ---- with named fields
 

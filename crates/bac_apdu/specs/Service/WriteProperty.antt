@@ -2,8 +2,9 @@
 use Rattle.std.specs.Prelude.{ℕ, ◌<◌, ◌&&◌, nat_lt, Bool, false, List, [], ◌∷◌, Option, Some, None, Result}
 use Rattle.bac_wire.specs.Primitive.{Id, Primitive, Unsigned}
 use Rattle.bac_wire.specs.View.{view}
+use Rattle.bac_wire.specs.Canon.{IsValid}
 use Rattle.bac_apdu.specs.declared.service.write_property.WriteProperty.{WriteProperty}
-use Rattle.bac_apdu.specs.Service.PropertyReference.{property_then, property_parameters_then}
+use Rattle.bac_apdu.specs.Service.PropertyReference.{property_then, property_parameters_then, IsProperty}
 use Rattle.bac_apdu.specs.Form.{Form, end, row, optional, opening, closing, any, unsigned, Parameter, Value, Mark, number_parameter}
 use Rattle.bac_wire.specs.Chain.{result_map}
 use Rattle.bac_apdu.specs.declared.reason.Reason.{Reason}
@@ -45,6 +46,10 @@ pub record PropertyWrite : Type 0 where
   pub index : Option ℕ
   pub value : Primitive
   pub priority : Option ℕ
+
+-- each number in its range, and a value that can be encoded
+abbrev pub IsPropertyWrite : PropertyWrite → Type 0
+IsPropertyWrite w = IsProperty w.object w.property w.index × IsValid w.value × IsPriority w.priority
 
 abbrev pub write_of_code : WriteProperty → PropertyWrite
 write_of_code w = record { object = w.object; property = w.property; index = w.index; value = view w.value; priority = w.priority }

@@ -1,6 +1,6 @@
 //! I-Am (clause 16.10).
 
-ghost use Rattle.std.specs.Prelude.{◌≡◌, ◌≤◌, Some, length, List, ℕ, IfSome, IsSomeAnd};
+ghost use Rattle.std.specs.Prelude.{◌≡◌, ◌≤◌, Some, length, List, ℕ, IfSome, IsSomeAnd, OnOk};
 ghost use Rattle.std.specs.Result.{result_ok};
 ghost use Rattle.bac_wire.specs.Datagram.{Writes};
 ghost use Rattle.bac_wire.specs.Chain.{Gives};
@@ -40,6 +40,8 @@ impl IAm {
         ensures exact { GivesSome i_am_parameters result (result_ok (form_at i_am bytes.now)) }
         // The same with named fields.
         ensures named { result ≡ i_am_at bytes.now }
+        // It may be written.
+        ensures in_range { IfSome result (λ a. IsAnnouncement a) }
     {
         IAm::parameters(bytes).ok()
     }
@@ -64,7 +66,9 @@ impl IAm {
 
     /// Appends the parameters, or nothing if they don't fit.
     pub fn write(&self, out: &mut Datagram) -> Result<(), Full>
-        ensures { Writes out.old (canon_form i_am (i_am_parameters self.now)) result out.new }
+        ensures written { Writes out.old (canon_form i_am (i_am_parameters self.now)) result out.new }
+        // What was written is read back.
+        ensures in_range { OnOk result (IsAnnouncement self.now) }
     {
         let before = out.octets().len();
         let added = self.add(out);
@@ -72,7 +76,8 @@ impl IAm {
     }
 
     fn add(&self, out: &mut Datagram) -> Result<(), Full>
-        ensures { Adds out.old (canon_form i_am (i_am_parameters self.now)) result out.new }
+        ensures written { Adds out.old (canon_form i_am (i_am_parameters self.now)) result out.new }
+        ensures in_range { OnOk result (IsAnnouncement self.now) }
     {
         add_value(out, &Value::Object(self.device))?;
         add_value(out, &Value::Unsigned(self.max_apdu))?;

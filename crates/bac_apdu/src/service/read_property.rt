@@ -1,6 +1,6 @@
 //! ReadProperty (clause 15.5).
 
-ghost use Rattle.std.specs.Prelude.{◌≡◌, ◌≤◌, Ok, length, List, ℕ, IfOk, IfErr, IsOkAnd};
+ghost use Rattle.std.specs.Prelude.{◌≡◌, ◌≤◌, Ok, length, List, ℕ, IfOk, IfErr, IsOkAnd, OnOk};
 ghost use Rattle.bac_wire.specs.Chain.{Gives};
 ghost use Rattle.bac_wire.specs.Datagram.{Writes};
 ghost use Rattle.bac_apdu.specs.Adding.{Adds};
@@ -37,13 +37,17 @@ impl ReadProperty {
         ensures exact { Gives property_parameters result (form_at read_property bytes.now) }
         // The same with named fields.
         ensures named { result ≡ read_property_at bytes.now }
+        // It may be written.
+        ensures in_range { IfOk result (λ p. IsProperty p.object p.property p.index) }
     {
         ReadProperty::parameters(bytes)
     }
 
     /// Appends the parameters, or nothing if they don't fit.
     pub fn write(&self, out: &mut Datagram) -> Result<(), Full>
-        ensures { Writes out.old (canon_form read_property (property_parameters self.now)) result out.new }
+        ensures written { Writes out.old (canon_form read_property (property_parameters self.now)) result out.new }
+        // What was written is read back.
+        ensures in_range { OnOk result (IsProperty self.now.object self.now.property self.now.index) }
     {
         let before = out.octets().len();
         let added = self.add(out);
@@ -52,7 +56,8 @@ impl ReadProperty {
 
     #[tactic(auto, unfolding(crate::specs::Service::PropertyReference::property_octets))]
     fn add(&self, out: &mut Datagram) -> Result<(), Full>
-        ensures { Adds out.old (canon_form read_property (property_parameters self.now)) result out.new }
+        ensures written { Adds out.old (canon_form read_property (property_parameters self.now)) result out.new }
+        ensures in_range { OnOk result (IsProperty self.now.object self.now.property self.now.index) }
     {
         add_property(out, self.object, self.property, self.index)
     }

@@ -1,6 +1,6 @@
 //! The ACK of ReadProperty (clause 15.5).
 
-ghost use Rattle.std.specs.Prelude.{◌≡◌, Some, List, ℕ, IfSome, IsSomeAnd};
+ghost use Rattle.std.specs.Prelude.{◌≡◌, Some, List, ℕ, IfSome, IsSomeAnd, OnOk};
 ghost use Rattle.std.specs.Result.{result_ok};
 ghost use Rattle.bac_wire.specs.Datagram.{Writes};
 ghost use Rattle.bac_wire.specs.Chain.{Gives};
@@ -11,7 +11,7 @@ ghost use Rattle.bac_apdu.specs.FormReading.{form_at};
 ghost use Rattle.bac_apdu.specs.FormCanon.{canon_form};
 ghost use Rattle.bac_wire.specs.OptionChain.{GivesSome};
 ghost use Rattle.bac_apdu.specs.Service.ReadProperty.{IsProperty};
-ghost use Rattle.bac_apdu.specs.Service.ReadPropertyAck.{read_property_ack, property_ack_parameters, PropertyAck, property_ack_of, property_ack_octets, read_property_ack_at, values, value_parameters};
+ghost use Rattle.bac_apdu.specs.Service.ReadPropertyAck.{read_property_ack, property_ack_parameters, PropertyAck, property_ack_of, property_ack_octets, IsPropertyAck, read_property_ack_at, values, value_parameters};
 
 use crate::parameters::Parameters;
 use crate::parameters_out::{add_close, add_open, cut_back};
@@ -41,6 +41,8 @@ impl<'a> ReadPropertyAck<'a> {
         ensures exact { GivesSome property_ack_parameters result (result_ok (form_at read_property_ack bytes.now)) }
         // The same with named fields.
         ensures named { GivesSome property_ack_of result (read_property_ack_at bytes.now) }
+        // It may be written.
+        ensures in_range { IfSome result (λ a. IsPropertyAck (property_ack_of a)) }
     {
         match ReadPropertyAck::parameters(bytes) {
             Ok(ack) => Some(ack),
@@ -69,7 +71,9 @@ impl<'a> ReadPropertyAck<'a> {
 
     /// Appends the parameters, or nothing if they don't fit.
     pub fn write(&self, out: &mut Datagram) -> Result<(), Full>
-        ensures { Writes out.old (canon_form read_property_ack (property_ack_parameters self.now)) result out.new }
+        ensures written { Writes out.old (canon_form read_property_ack (property_ack_parameters self.now)) result out.new }
+        // What was written is read back if the values are whole tags.
+        ensures in_range { OnOk result (IsProperty self.now.object self.now.property self.now.index) }
     {
         let before = out.octets().len();
         let added = self.add(out);
@@ -77,7 +81,8 @@ impl<'a> ReadPropertyAck<'a> {
     }
 
     fn add(&self, out: &mut Datagram) -> Result<(), Full>
-        ensures { Adds out.old (canon_form read_property_ack (property_ack_parameters self.now)) result out.new }
+        ensures written { Adds out.old (canon_form read_property_ack (property_ack_parameters self.now)) result out.new }
+        ensures in_range { OnOk result (IsProperty self.now.object self.now.property self.now.index) }
     {
         add_property(out, self.object, self.property, self.index)?;
         self.add_values(out)

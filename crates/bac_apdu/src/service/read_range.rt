@@ -11,7 +11,7 @@ ghost use Rattle.bac_apdu.specs.Form.{Parameter, Reads};
 ghost use Rattle.bac_apdu.specs.FormReading.{form_at, Stops};
 ghost use Rattle.bac_apdu.specs.FormCanon.{canon_form};
 ghost use Rattle.bac_apdu.specs.Service.ReadProperty.{IsProperty};
-ghost use Rattle.bac_apdu.specs.Service.ReadRange.{read_range, range_parameters, read_range_at};
+ghost use Rattle.bac_apdu.specs.Service.ReadRange.{read_range, range_parameters, read_range_at, IsRange};
 
 use crate::parameters::Parameters;
 use crate::parameters_out::cut_back;
@@ -44,7 +44,7 @@ impl ReadRange {
         // The same with named fields.
         ensures named { result ≡ read_range_at bytes.now }
         // It may be written.
-        ensures in_range { IfOk result (λ r. IsExtent r.extent) }
+        ensures in_range { IfOk result (λ r. IsRange r) }
     {
         ReadRange::parameters(bytes)
     }

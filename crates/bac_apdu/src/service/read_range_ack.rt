@@ -1,6 +1,6 @@
 //! The ACK of ReadRange (clause 15.8).
 
-ghost use Rattle.std.specs.Prelude.{◌≡◌, ◌+◌, ◌-◌, ◌*◌, ◌%◌, ◌^◌, ◌<◌, ◌≤◌, true, false, List, ℕ, length, take, Some, None, IfOk, IfSome, IsSomeAnd};
+ghost use Rattle.std.specs.Prelude.{◌≡◌, ◌+◌, ◌-◌, ◌*◌, ◌%◌, ◌^◌, ◌<◌, ◌≤◌, true, false, List, ℕ, length, take, Some, None, IfOk, IfSome, IsSomeAnd, OnOk};
 ghost use Rattle.std.specs.Result.{result_ok};
 ghost use Rattle.bac_wire.specs.Datagram.{Writes};
 ghost use Rattle.bac_wire.specs.Number.{bits_of};
@@ -9,12 +9,12 @@ ghost use Rattle.bac_wire.specs.Chain.{Gives};
 ghost use Rattle.bac_wire.specs.Level.{IsLevel};
 ghost use Rattle.bac_apdu.specs.Adding.{Adds};
 ghost use Rattle.bac_apdu.specs.Apdu.{Complex, apdu_octets};
-ghost use Rattle.bac_apdu.specs.Form.{Parameter, Value as ItemValue, context, unsigned, bit_string, number_parameter, Reads};
+ghost use Rattle.bac_apdu.specs.Form.{Parameter, Value as ParameterValue, context, unsigned, bit_string, number_parameter, Reads};
 ghost use Rattle.bac_apdu.specs.FormReading.{row_at, optional_at, form_at};
 ghost use Rattle.bac_apdu.specs.FormCanon.{canon_form};
 ghost use Rattle.bac_wire.specs.OptionChain.{GivesSome};
 ghost use Rattle.bac_apdu.specs.Service.ReadProperty.{IsProperty};
-ghost use Rattle.bac_apdu.specs.Service.ReadRangeAck.{read_range_ack, ack_parameters, RangeAck, range_ack_of, range_ack_octets, range_ack_size, read_range_ack_at, records, record_parameters, is_three, is_first, flag_bits, IsFirst, IsSmall, optional_size, ack_size};
+ghost use Rattle.bac_apdu.specs.Service.ReadRangeAck.{read_range_ack, ack_parameters, RangeAck, range_ack_of, range_ack_octets, range_ack_size, read_range_ack_at, records, record_parameters, is_three, is_first, flag_bits, IsFirst, IsRangeAck, IsSmall, optional_size, ack_size};
 
 use crate::parameters::Parameters;
 use crate::parameters_out::{add_close, add_context, add_open, cut_back};
@@ -50,8 +50,8 @@ impl<'a> ReadRangeAck<'a> {
         ensures exact { GivesSome ack_parameters result (result_ok (form_at read_range_ack bytes.now)) }
         // The same with named fields.
         ensures named { GivesSome range_ack_of result (read_range_ack_at bytes.now) }
-        // The first number isn't 0.
-        ensures in_range { IfSome result (λ a. IsFirst a.first_number) }
+        // It may be written.
+        ensures in_range { IfSome result (λ a. IsRangeAck (range_ack_of a)) }
         // The five unused low bits of the flags are 0.
         ensures low { IfSome result (λ a. a.flags % 32 ≡ 0) }
     {
@@ -89,7 +89,9 @@ impl<'a> ReadRangeAck<'a> {
 
     /// Appends the parameters, or nothing if they don't fit.
     pub fn write(&self, out: &mut Datagram) -> Result<(), Full>
-        ensures { Writes out.old (canon_form read_range_ack (ack_parameters self.now)) result out.new }
+        ensures written { Writes out.old (canon_form read_range_ack (ack_parameters self.now)) result out.new }
+        // What was written is read back if the items are whole tags and the first number isn't 0.
+        ensures in_range { OnOk result (IsProperty self.now.object self.now.property self.now.index × (self.now.count < 2 ^ 64)) }
     {
         let before = out.octets().len();
         let added = self.add(out);
@@ -97,14 +99,16 @@ impl<'a> ReadRangeAck<'a> {
     }
 
     fn add(&self, out: &mut Datagram) -> Result<(), Full>
-        ensures { Adds out.old (canon_form read_range_ack (ack_parameters self.now)) result out.new }
+        ensures written { Adds out.old (canon_form read_range_ack (ack_parameters self.now)) result out.new }
+        ensures in_range { OnOk result (IsProperty self.now.object self.now.property self.now.index × (self.now.count < 2 ^ 64)) }
     {
         add_property(out, self.object, self.property, self.index)?;
         self.add_records(out)
     }
 
     fn add_records(&self, out: &mut Datagram) -> Result<(), Full>
-        ensures { Adds out.old (canon_form records (record_parameters self.now)) result out.new }
+        ensures written { Adds out.old (canon_form records (record_parameters self.now)) result out.new }
+        ensures in_range { OnOk result (self.now.count < 2 ^ 64) }
     {
         // Three bits, in the high bits.
         add_context(
@@ -162,7 +166,7 @@ impl<'a> Parameters<'a> {
     /// An Unsigned of 1 to 4294967295.
     #[tactic(auto, unfolding(crate::specs::FormReading::row_at))]
     fn first(&mut self, tag: u8) -> Result<u32, Reason>
-        ensures { Gives (λ x. (ItemValue (Unsigned x), self.new)) result (row_at (context tag unsigned is_first) self.old) }
+        ensures { Gives (λ x. (ParameterValue (Unsigned x), self.new)) result (row_at (context tag unsigned is_first) self.old) }
     {
         let contents = self.contents(tag)?;
         let number = as_unsigned(contents)?;
@@ -188,7 +192,7 @@ impl<'a> Parameters<'a> {
     #[tactic(auto, unfolding(crate::specs::FormReading::row_at))]
     fn flags(&mut self, tag: u8) -> Result<u8, Reason>
         ensures low { IfOk result (λ x. x % 32 ≡ 0) }
-        ensures exact { Gives (λ x. (ItemValue (Bits (flag_bits x)), self.new)) result (row_at (context tag bit_string is_three) self.old) }
+        ensures exact { Gives (λ x. (ParameterValue (Bits (flag_bits x)), self.new)) result (row_at (context tag bit_string is_three) self.old) }
     {
         let contents = self.contents(tag)?;
         let (unused, octets) = as_bits(contents)?;

@@ -6,7 +6,7 @@ ghost use Rattle.bac_wire.specs.Datagram.{Writes};
 ghost use Rattle.bac_wire.specs.Primitive.{Unsigned};
 ghost use Rattle.bac_wire.specs.Chain.{Gives};
 ghost use Rattle.bac_apdu.specs.Adding.{Adds};
-ghost use Rattle.bac_apdu.specs.Form.{Parameter, Value as ItemValue, context, unsigned, Reads};
+ghost use Rattle.bac_apdu.specs.Form.{Parameter, Value as ParameterValue, context, unsigned, Reads};
 ghost use Rattle.bac_apdu.specs.FormReading.{row_at, form_at};
 ghost use Rattle.bac_apdu.specs.FormCanon.{canon_form};
 ghost use Rattle.bac_apdu.specs.Service.WhoIs.{is_instance, who_is, who_is_parameters, who_is_at, AreLimits};
@@ -99,7 +99,7 @@ impl<'a> Parameters<'a> {
     /// An Unsigned of at most 4194303.
     #[tactic(auto, unfolding(crate::specs::FormReading::row_at))]
     fn instance(&mut self, tag: u8) -> Result<u32, Reason>
-        ensures { Gives (λ x. (ItemValue (Unsigned x), self.new)) result (row_at (context tag unsigned is_instance) self.old) }
+        ensures { Gives (λ x. (ParameterValue (Unsigned x), self.new)) result (row_at (context tag unsigned is_instance) self.old) }
     {
         let contents = self.contents(tag)?;
         let number = as_unsigned(contents)?;

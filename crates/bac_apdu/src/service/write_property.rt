@@ -1,17 +1,17 @@
 //! WriteProperty (clause 15.9).
 
-ghost use Rattle.std.specs.Prelude.{◌≡◌, Ok, List, ℕ, IfOk, IfErr, IsOkAnd, OnOk};
+ghost use Rattle.std.specs.Prelude.{◌≡◌, ◌<◌, ◌^◌, Ok, length, List, ℕ, IfOk, IfErr, IsOkAnd, OnOk};
 ghost use Rattle.bac_wire.specs.Datagram.{Writes};
 ghost use Rattle.bac_wire.specs.Canon.{IsValid};
 ghost use Rattle.bac_wire.specs.Primitive.{Unsigned};
 ghost use Rattle.bac_wire.specs.Chain.{Gives};
 ghost use Rattle.bac_wire.specs.View.{view, IsWellFormed};
 ghost use Rattle.bac_apdu.specs.Adding.{Adds};
-ghost use Rattle.bac_apdu.specs.Form.{Parameter, Value as ItemValue, context, unsigned, number_parameter, Reads};
+ghost use Rattle.bac_apdu.specs.Form.{Parameter, Value as ParameterValue, context, unsigned, number_parameter, Reads};
 ghost use Rattle.bac_apdu.specs.FormReading.{row_at, optional_at, form_at, Stops};
 ghost use Rattle.bac_apdu.specs.FormCanon.{canon_form};
 ghost use Rattle.bac_apdu.specs.Service.ReadProperty.{IsProperty};
-ghost use Rattle.bac_apdu.specs.Service.WriteProperty.{write_property, write_parameters, PropertyWrite, write_of_code, write_property_at, setting, setting_parameters, is_priority, IsPriority};
+ghost use Rattle.bac_apdu.specs.Service.WriteProperty.{write_property, write_parameters, PropertyWrite, write_of_code, write_property_at, setting, setting_parameters, is_priority, IsPriority, IsPropertyWrite};
 
 use crate::parameters::Parameters;
 use crate::parameters_out::{add_close, add_context, add_open, add_value, cut_back};
@@ -48,6 +48,7 @@ impl<'a> WriteProperty<'a> {
         ensures bound { IfOk result (λ w. IsPriority w.priority) }
         // It may be written.
         ensures well_formed { IfOk result (λ w. IsWellFormed w.value) }
+        ensures in_range { length bytes.now < 2 ^ 29 → IfOk result (λ w. IsPropertyWrite (write_of_code w)) }
     {
         WriteProperty::parameters(bytes)
     }
@@ -140,7 +141,7 @@ impl<'a> Parameters<'a> {
     /// An Unsigned of 1 to 16.
     #[tactic(auto, unfolding(crate::specs::FormReading::row_at))]
     fn priority(&mut self, tag: u8) -> Result<u8, Reason>
-        ensures { Gives (λ x. (ItemValue (Unsigned x), self.new)) result (row_at (context tag unsigned is_priority) self.old) }
+        ensures { Gives (λ x. (ParameterValue (Unsigned x), self.new)) result (row_at (context tag unsigned is_priority) self.old) }
     {
         let contents = self.contents(tag)?;
         let number = as_unsigned(contents)?;

@@ -8,6 +8,7 @@ use Rattle.bac_apdu.specs.FormReading.{form_at}
 use Rattle.bac_apdu.specs.Service.ReadRange.{range_in, read_range_at}
 use Rattle.bac_apdu.proofs.Ranges.{extent_bounded}
 use Rattle.bac_apdu.proofs.Named.{is_named, is_same, range_back}
+use Rattle.bac_apdu.proofs.Encoded.{both_ok, range_in_range}
 use Rattle.bac_apdu.proofs.service.read_range.ReadRange.read.Goals as goal
 
 pub returns-clause-found : goal.returns-clause-found
@@ -28,4 +29,6 @@ pub returns-clause-named : goal.returns-clause-named
 returns-clause-named c = named c.args.bytes.now c.parameters.result c.parameters.ensures
 
 pub returns-clause-in_range : goal.returns-clause-in_range
-returns-clause-in_range c = extent_bounded c.args.bytes.now c.parameters.result (named c.args.bytes.now c.parameters.result c.parameters.ensures)
+returns-clause-in_range c =
+    let extent = extent_bounded c.args.bytes.now c.parameters.result (named c.args.bytes.now c.parameters.result c.parameters.ensures) in
+    both_ok (λ r reads extent. range_in_range c.args.bytes.now (λ i. omega (arith, c.type_inv.bytes i)) r reads extent) c.parameters.result (returns-clause-found c) extent

@@ -6,11 +6,11 @@ use Rattle.std.proofs.Common.{◌≡◌, ℕ, List, Option, Result, Some, None}
 use Rattle.bac_wire.specs.Chain.{Gives}
 use Rattle.bac_wire.specs.OptionChain.{GivesSome}
 use Rattle.bac_apdu.specs.declared.reason.Reason.{Reason}
-use Rattle.bac_apdu.proofs.Ranges.{first_bounded}
 use Rattle.std.specs.Result.{result_ok}
 use Rattle.bac_apdu.specs.FormReading.{form_at}
 use Rattle.bac_apdu.specs.Service.ReadRangeAck.{range_ack_of, range_ack_in, read_range_ack_at}
 use Rattle.bac_apdu.proofs.Named.{is_named_some, gives_ok, range_ack_shown}
+use Rattle.bac_apdu.proofs.Encoded.{range_ack_in_range}
 use Rattle.bac_apdu.proofs.service.read_range_ack.ReadRangeAck.read.Goals as goal
 
 pub returns-in-Ok-clause-found : goal.returns-in-Ok-clause-found
@@ -34,4 +34,4 @@ pub returns-in-Err-clause-named : goal.returns-in-Err-clause-named
 returns-in-Err-clause-named c = named c.args.bytes.now (Err c.in-Err.field-0) None refl c.in-Err.ensures.exact
 
 pub returns-in-Ok-clause-in_range : goal.returns-in-Ok-clause-in_range
-returns-in-Ok-clause-in_range c = first_bounded c.args.bytes.now (Some c.in-Ok.ack) (named c.args.bytes.now (Ok c.in-Ok.ack) (Some c.in-Ok.ack) refl c.in-Ok.ensures.exact)
+returns-in-Ok-clause-in_range c = range_ack_in_range c.args.bytes.now (λ i. omega (arith, c.type_inv.bytes i)) c.in-Ok.ack (returns-in-Ok-clause-found c)

@@ -7,8 +7,8 @@ use Rattle.bac_apdu.proofs.Forms.{is_found_some, is_only_some}
 use Rattle.std.specs.Result.{result_ok}
 use Rattle.bac_apdu.specs.FormReading.{form_at}
 use Rattle.bac_apdu.specs.Service.WhoIs.{who_is_in, who_is_at}
-use Rattle.bac_apdu.proofs.Ranges.{limits_bounded}
 use Rattle.bac_apdu.proofs.Named.{is_named_some, is_same_some, gives_ok, who_is_back}
+use Rattle.bac_apdu.proofs.Encoded.{if_some, who_is_in_range}
 use Rattle.bac_apdu.proofs.service.who_is.WhoIs.read.Goals as goal
 
 pub returns-clause-found : goal.returns-clause-found
@@ -26,4 +26,4 @@ pub returns-clause-named : goal.returns-clause-named
 returns-clause-named c = named c.args.bytes.now c.parameters.result c.ok.result c.ok.ensures.value c.parameters.ensures
 
 pub returns-clause-in_range : goal.returns-clause-in_range
-returns-clause-in_range c = limits_bounded c.args.bytes.now c.ok.result (named c.args.bytes.now c.parameters.result c.ok.result c.ok.ensures.value c.parameters.ensures)
+returns-clause-in_range c = if_some (λ w reads. who_is_in_range c.args.bytes.now w reads) c.ok.result (returns-clause-found c)

@@ -8,6 +8,7 @@ use Rattle.bac_apdu.specs.FormReading.{form_at}
 use Rattle.bac_apdu.specs.Service.WriteProperty.{write_of_code, write_in, write_property_at}
 use Rattle.bac_apdu.proofs.Ranges.{priority_bounded}
 use Rattle.bac_apdu.proofs.Named.{is_named, write_back}
+use Rattle.bac_apdu.proofs.Encoded.{both_ok, write_in_range}
 use Rattle.bac_apdu.proofs.service.write_property.WriteProperty.read.Goals as goal
 
 pub returns-clause-found : goal.returns-clause-found
@@ -29,3 +30,7 @@ returns-clause-named c = named c.args.bytes.now c.parameters.result c.parameters
 
 pub returns-clause-bound : goal.returns-clause-bound
 returns-clause-bound c = priority_bounded c.args.bytes.now c.parameters.result (named c.args.bytes.now c.parameters.result c.parameters.ensures.exact)
+
+pub returns-clause-in_range : goal.returns-clause-in_range
+returns-clause-in_range c few =
+    both_ok (λ w reads priority. write_in_range c.args.bytes.now (λ i. omega (arith, c.type_inv.bytes i)) few w reads priority) c.parameters.result (returns-clause-found c) (returns-clause-bound c)
