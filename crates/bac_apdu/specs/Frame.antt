@@ -1,5 +1,5 @@
 -- Frames (Annex J.2): what a whole datagram is, and how a frame to one device is written.
-use Rattle.std.specs.Prelude.{◌≡◌, ◌≢◌, ◌<◌, ℕ, ◌+◌, ◌&&◌, ◌==◌, List, [], ◌∷◌, ◌++◌, length, Option, Some, None, if◌then◌else◌}
+use Rattle.std.specs.Prelude.{◌≡◌, ◌≢◌, ◌<◌, ℕ, ◌+◌, ◌-◌, ◌/◌, ◌%◌, ◌&&◌, ◌==◌, List, [], ◌∷◌, ◌++◌, length, slice_set, Option, Some, None, if◌then◌else◌}
 use Rattle.std.specs.Int.{w16, to_be_bytes}
 use Rattle.bac_apdu.specs.declared.frame.Frame.{Frame as FrameCode}
 use Rattle.bac_apdu.specs.declared.frame.Frame.TheVariants as code
@@ -44,6 +44,18 @@ result_octets code = (0x81 ∷ 0x00 ∷ 0x00 ∷ 0x06 ∷ []) ++ to_be_bytes w16
 -- an Original-Unicast-NPDU (J.2.11)
 unfoldable pub frame_octets : List ℕ → List ℕ
 frame_octets body = (0x81 ∷ 0x0A ∷ to_be_bytes w16 (length body + 4)) ++ body
+
+-- ---- in two steps, around an APDU that is written in place
+
+-- the head of an Original-Unicast-NPDU that tells a length
+abbrev pub unicast_head : ℕ → List ℕ
+unicast_head len = 0x81 ∷ 0x0A ∷ to_be_bytes w16 len
+
+-- The head of the frame that begins at `start` tells its length, in the two octets behind type and function.
+abbrev pub with_length : ℕ → List ℕ → List ℕ
+with_length start octets =
+    let len = length octets - start in
+    slice_set (slice_set octets (start + 2) (len / 256 % 256)) (start + 3) (len % 256)
 
 -- ---- the grammar
 
