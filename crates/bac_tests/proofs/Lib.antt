@@ -1,3 +1,1 @@
 pub mod Passages
-pub mod Held
-pub mod Day

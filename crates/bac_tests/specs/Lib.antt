@@ -1,3 +1,1 @@
 pub mod Passage
-pub mod Held
-pub mod Day

@@ -1,6 +1,6 @@
 use Rattle.std.proofs.Common.{◌≡◌, drop, map}
 use Rattle.bac_device.specs.History.{after}
-use Rattle.bac_tests.proofs.commanding.give_all.Given as goal
+use Rattle.bac_device_tests.proofs.commanding.give_all.Given as goal
 
 -- what is left to give
 abbrev pub invariant-loop-datagram : goal.invariant-loop-datagram

@@ -2,7 +2,7 @@ use Rattle.std.proofs.Common.{◌≡◌, ◌∙◌, List, ℕ, map, sym, ap, sub
 use Rattle.bac_objects.specs.Build.{built, id_of}
 use Rattle.bac_objects.specs.State.{State}
 use Rattle.bac_device.specs.History.{IsCommanded, after, writes}
-use Rattle.bac_tests.proofs.commanding.build_and_give.Goals as goal
+use Rattle.bac_device_tests.proofs.commanding.build_and_give.Goals as goal
 
 pub returns : goal.returns
 returns c = λ i object default there is.

@@ -3,7 +3,7 @@ use Rattle.bac_wire.specs.Primitive.{Id}
 use Rattle.bac_link.specs.declared.item.Item.{Item}
 use Rattle.bac_walk.specs.Place.{Place}
 use Rattle.bac_walk.specs.Rests.{Rested, rest, Rests}
-use Rattle.bac_tests.proofs.walk_callers.all_records_from.Goals as goal
+use Rattle.bac_walk_tests.proofs.walk_callers.all_records_from.Goals as goal
 
 pub returns : goal.returns
 returns g c = λ r m H sure honest loggable enough.

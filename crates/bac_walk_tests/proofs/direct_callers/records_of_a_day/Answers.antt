@@ -6,9 +6,9 @@ use Rattle.bac_link.specs.Delivery.{DeliversTo, Moment}
 use Rattle.bac_client.specs.Ahead.{IsThere, history_ahead, moments_ahead}
 use Rattle.bac_client.specs.declared.event.LinkEvent.{LinkEvent}
 use Rattle.bac_client.specs.declared.event.LinkEvent.TheVariants.{Sample, Handle, Answer, Lose}
-use Rattle.bac_tests.proofs.Day.{day_is}
-use Rattle.bac_tests.specs.Day.{day, plant}
-use Rattle.bac_tests.proofs.direct_callers.records_of_a_day.Goals as goal
+use Rattle.bac_walk_tests.proofs.Day.{day_is}
+use Rattle.bac_walk_tests.specs.Day.{day, plant}
+use Rattle.bac_walk_tests.proofs.direct_callers.records_of_a_day.Goals as goal
 
 abbrev day_with : List ℕ → List LinkEvent
 day_with octets =

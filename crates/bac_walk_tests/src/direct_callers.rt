@@ -15,8 +15,8 @@ ghost use Rattle.bac_link.specs.Requests.{request_octets};
 ghost use Rattle.bac_walk.specs.Rests.{Misses};
 ghost use Rattle.bac_walk.specs.declared.outcome.Why.TheVariants as why;
 ghost use Rattle.bac_client.specs.Ahead.{history_ahead, IsThere, log_with, moments_ahead};
-ghost use Rattle.bac_tests.specs.Day.{day, day_moments, plant as plant_of};
-ghost use Rattle.bac_tests.specs.Held.{held_from};
+ghost use Rattle.bac_walk_tests.specs.Day.{day, day_moments, plant as plant_of};
+ghost use Rattle.bac_walk_tests.specs.Held.{held_from};
 
 use crate::direct_link::{PURGE, absent, at, brought, gap, name, plant, purged, state};
 use bac_client::{

@@ -11,8 +11,8 @@ use Rattle.bac_link.specs.Moments.{log_at}
 use Rattle.bac_walk.specs.Place.{Place}
 use Rattle.bac_walk.specs.Rests.{Misses, Rested, Rests, rest}
 use Rattle.bac_client.specs.Ahead.{Lacks, LiesAhead, history_ahead, log_with, moment_of}
-use Rattle.bac_tests.proofs.Held.{enough, held_all, held_now}
-use Rattle.bac_tests.proofs.direct_callers.all_records_from.Goals as goal
+use Rattle.bac_walk_tests.proofs.Held.{enough, held_all, held_now}
+use Rattle.bac_walk_tests.proofs.direct_callers.all_records_from.Goals as goal
 
 pub returns-clause-records : goal.returns-clause-records
 returns-clause-records c = λ there more.

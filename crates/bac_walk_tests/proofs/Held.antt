@@ -12,7 +12,7 @@ use Rattle.bac_walk.specs.Rests.{Rested, rest_all}
 use Rattle.bac_walk.specs.Walks.{numbered}
 use Rattle.bac_walk.specs.declared.outcome.Ended.TheVariants.{CaughtUp}
 use Rattle.bac_client.specs.Ahead.{moment_of}
-use Rattle.bac_tests.specs.Held.{held_from}
+use Rattle.bac_walk_tests.specs.Held.{held_from}
 
 -- the history of a log to which nothing happens
 abbrev pub history_of : Log → History

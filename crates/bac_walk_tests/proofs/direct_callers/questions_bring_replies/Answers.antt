@@ -3,7 +3,7 @@ use Rattle.bac_objects.specs.Sampling.{log_id}
 use Rattle.bac_device.specs.Answer.{answer, records_said}
 use Rattle.bac_device.specs.Reply.{datagram_octets}
 use Rattle.bac_link.specs.Links.{HasReply}
-use Rattle.bac_tests.proofs.direct_callers.questions_bring_replies.Goals as goal
+use Rattle.bac_walk_tests.proofs.direct_callers.questions_bring_replies.Goals as goal
 
 pub returns : goal.returns
 returns c = λ d n log invoke extent sound there ranged.

@@ -4,7 +4,7 @@ use Rattle.bac_objects.specs.Sampling.{log_id}
 use Rattle.bac_link.specs.Delivery.{DeliversTo}
 use Rattle.bac_walk.specs.Place.{Place}
 use Rattle.bac_client.specs.Ahead.{LiesAhead, history_ahead, moments_ahead}
-use Rattle.bac_tests.proofs.direct_callers.records_from.Goals as goal
+use Rattle.bac_walk_tests.proofs.direct_callers.records_from.Goals as goal
 
 pub returns-clause-delivers : goal.returns-clause-delivers
 returns-clause-delivers c = λ there.

@@ -13,7 +13,7 @@ use Rattle.bac_objects.specs.declared.lines.DeviceLine.{DeviceLine}
 use Rattle.bac_device.specs.Answer.{answer}
 use Rattle.bac_device.specs.Receiving.{heard_at}
 use Rattle.bac_client.specs.Ahead.{moments_ahead}
-use Rattle.bac_tests.specs.Day.{day, day_moments, plant}
+use Rattle.bac_walk_tests.specs.Day.{day, day_moments, plant}
 
 pub day_is : (device : DeviceLine) (name : List ℕ) (source : Id) → moments_ahead (plant device name source) 1 day ≡ day_moments
 unfolding answer heard_at write_property_at frame_at body_at header_at maybe_place_at place_at hops_at word_at octets_at apdu_at apdu_behind confirmed_at segment_at form_at row_at optional_at token_at close_at reading.number_at reading.length_at reading.value_in reading.tagged_at reading.value_at reading.context_at reading.mark_at reading.contents_as

@@ -1,0 +1,16 @@
+//! Tests of requests, links and walks by their public calls: over links that answer from a list and
+//! over a link straight to a device, and callers that see public contracts alone.
+#![tactic(auto)]
+
+#[cfg(test)]
+mod direct_callers;
+#[cfg(test)]
+mod direct_link;
+#[cfg(test)]
+mod link;
+#[cfg(test)]
+mod link_callers;
+#[cfg(test)]
+mod walk;
+#[cfg(test)]
+mod walk_callers;
