@@ -32,7 +32,7 @@ abbrev pub log_of : ℕ → List ℕ → Id → ℕ → ℕ → ℕ → ScriptLi
 log_of instance name source capacity interval logged = Object (Log instance name source capacity interval logged)
 
 abbrev pub event_of : event.Event → Event
-event_of (event.TheVariants.Received datagram) = Received datagram
+event_of (event.TheVariants.Received octets) = Received octets.now
 event_of (event.TheVariants.Clocked stamp) = Clocked stamp
 event_of (event.TheVariants.Sampled instance) = Sampled instance
 event_of (event.TheVariants.Walked words) = Walked words.log words.from words.steps

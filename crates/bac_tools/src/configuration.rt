@@ -10,6 +10,7 @@ ghost use Rattle.bac_tools.specs.Script.Line.{Device, Object};
 use crate::replay::LIMIT;
 use crate::replay::fault::{LineFault, ReplayFault};
 use crate::replay::input::{Ending, fill};
+use crate::script::hexadecimal::LONGEST;
 use crate::script::line::{Line, is_silent};
 use crate::script::lines::{split_line, without_return};
 use bac_device::{DeviceLine, ObjectLine};
@@ -64,7 +65,9 @@ fn add_text(alloc: Global, kept: &mut Option<Configuration>, text: &[u8]) -> Res
     if is_silent(text) {
         return Ok(());
     }
-    match Line::read(alloc, text) {
+    // A datagram is of no use here: its line is bad.
+    let mut room = [0; LONGEST];
+    match Line::read(alloc, text, &mut room) {
         Ok(Some(Line::Device(device))) => add_device(alloc, kept, device),
         Ok(Some(Line::Object(object))) => add_object(kept, object),
         Ok(_) => Err(LineFault::Bad),

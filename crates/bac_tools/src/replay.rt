@@ -19,7 +19,7 @@ mod walk;
 
 use crate::replay::fault::ReplayFault;
 use crate::replay::input::{Ending, fill};
-use crate::replay::session::Session;
+use crate::replay::session::{Scratch, Session};
 use crate::script::lines::{split_line, without_return};
 use bac_print::write_text;
 use std::alloc::Global;
@@ -32,6 +32,7 @@ pub const LIMIT: usize = 1_048_576;
 fn play_line<W: Write>(
     alloc: Global,
     session: &mut Session,
+    scratch: &mut Scratch,
     number: usize,
     line: &[u8],
     writer: &mut W,
@@ -40,11 +41,10 @@ fn play_line<W: Write>(
         × Appends (W.contents writer.old) (W.contents writer.new) text) }
     ensures err { IfErr result (LineStops (W.contents writer.old) (W.contents writer.new) number (state_of session.old) line.now) }
 {
-    let text = match session.play_text(alloc, line) {
-        Ok(text) => text,
-        Err(fault) => return Err(fault.at_line(number)),
-    };
-    match write_text(writer, text.as_slice()) {
+    if let Err(fault) = session.play_text(alloc, line, scratch) {
+        return Err(fault.at_line(number));
+    }
+    match write_text(writer, scratch.text()) {
         Ok(()) => Ok(()),
         Err(_) => Err(ReplayFault::Write),
     }
@@ -55,6 +55,7 @@ fn play_line<W: Write>(
 fn play_ended<'a, W: Write>(
     alloc: Global,
     session: &mut Session,
+    scratch: &mut Scratch,
     script: &'a [u8],
     writer: &mut W,
 ) -> Result<(usize, &'a [u8]), ReplayFault>
@@ -67,7 +68,14 @@ fn play_ended<'a, W: Write>(
     let mut rest = script;
     let mut number = 1;
     while let Some((line, more)) = split_line(rest) {
-        play_line(alloc, session, number, without_return(line), writer)?;
+        play_line(
+            alloc,
+            session,
+            scratch,
+            number,
+            without_return(line),
+            writer,
+        )?;
         rest = more;
         number += 1;
     }
@@ -81,7 +89,8 @@ fn play_cut<W: Write>(alloc: Global, script: &[u8], writer: &mut W) -> Result<()
     ensures err { IfErr result (Stops (W.contents writer.old) (W.contents writer.new) Empty (ended_lines script.now)) }
 {
     let mut session = Session::Empty;
-    play_ended(alloc, &mut session, script, writer)?;
+    let mut scratch = Scratch::new(alloc);
+    play_ended(alloc, &mut session, &mut scratch, script, writer)?;
     Ok(())
 }
 
@@ -96,11 +105,12 @@ fn play_all<W: Write>(
     ensures ok { OnOk result (PlaysAll (W.contents writer.old) (W.contents writer.new) (state_of session.old) (lines script.now) (state_of session.new)) }
     ensures err { IfErr result (Stops (W.contents writer.old) (W.contents writer.new) (state_of session.old) (lines script.now)) }
 {
-    let (number, rest) = play_ended(alloc, session, script, writer)?;
+    let mut scratch = Scratch::new(alloc);
+    let (number, rest) = play_ended(alloc, session, &mut scratch, script, writer)?;
     if rest.is_empty() {
         return Ok(());
     }
-    play_line(alloc, session, number, rest, writer)
+    play_line(alloc, session, &mut scratch, number, rest, writer)
 }
 
 /// Plays all the lines, and builds the device at the end where no line did.

@@ -1,6 +1,6 @@
 //! What the lines so far have made, and what one line does.
 
-ghost use Rattle.std.specs.Prelude.{◌≡◌, ◌++◌, None, IfOk, OnOk, IfErr};
+ghost use Rattle.std.specs.Prelude.{◌≡◌, ◌++◌, [], None, OnOk, IfErr};
 ghost use Rattle.std.specs.Option.{option_copied};
 ghost use Rattle.bac_objects.specs.Build.{Refuses};
 ghost use Rattle.bac_tools.specs.Session.{answer_text, clock_text, end_fault, happens, on_device, on_event, on_line, on_object, receiver_text, sample_text, step};
@@ -8,10 +8,11 @@ ghost use Rattle.bac_tools.specs.Views.{Meets, event_of, line_of, state_of};
 
 use crate::replay::fault::LineFault;
 use crate::replay::walk::print_walk;
+use crate::script::hexadecimal::LONGEST;
 use crate::script::line::{Event, Line, is_silent};
 use bac_client::Transactions;
 use bac_device::{BuildFault, Device, DeviceLine, ObjectLine, Receiver, Reply, SampleFault};
-use bac_print::{push_address, push_hex};
+use bac_print::{push_address, push_hex, push_number};
 use std::alloc::{AllocError, Global};
 
 /// What the lines so far have made.
@@ -23,6 +24,30 @@ pub(crate) enum Session {
     Described(DeviceLine, Vec<ObjectLine>),
     /// A device to which events happen, and the transactions of the clients that walk its logs.
     Running(Device, Transactions),
+}
+
+/// What each line uses anew: room for a datagram that is received, and for what the line prints.
+#[derive(Drop)]
+pub(crate) struct Scratch {
+    received: [u8; LONGEST],
+    text: Vec<u8>,
+}
+
+impl Scratch {
+    /// With nothing in it.
+    pub(crate) fn new(alloc: Global) -> Scratch {
+        Scratch {
+            received: [0; LONGEST],
+            text: Vec::new(alloc),
+        }
+    }
+
+    /// What the last line printed.
+    pub(crate) fn text(&self) -> &[u8]
+        ensures { result.now ≡ self.now.text.items }
+    {
+        self.text.as_slice()
+    }
 }
 
 /// How often the walks of a script ask again.
@@ -41,111 +66,118 @@ fn push_receiver(text: &mut Vec<u8>, to: Receiver) -> Result<(), AllocError>
     }
 }
 
-/// What an answer prints.
-fn print_answer(alloc: Global, answer: Option<&Reply>) -> Result<Vec<u8>, AllocError>
-    ensures { IfOk result (λ text. text.items ≡ answer_text (option_copied answer.entry)) }
+/// Writes what an answer prints.
+fn push_answer(text: &mut Vec<u8>, answer: Option<&Reply>) -> Result<(), AllocError>
+    ensures { OnOk result (text.new.items ≡ text.old.items ++ answer_text (option_copied answer.entry)) }
 {
-    let mut text = Vec::new(alloc);
     match answer {
         Some(reply) => {
             text.extend_from_slice(b"tx ")?;
-            push_hex(&mut text, reply.datagram.octets())?;
-            push_receiver(&mut text, reply.to)?;
-            text.push(b'\n')?;
+            push_hex(text, reply.datagram.octets())?;
+            push_receiver(text, reply.to)?;
+            text.extend_from_slice(b"\n")
         }
-        None => text.extend_from_slice(b"none\n")?,
+        None => text.extend_from_slice(b"none\n"),
     }
-    Ok(text)
 }
 
-/// What an advance of the clock prints, where it isn't set back.
-fn print_advance(alloc: Global, count: Option<usize>) -> Result<Vec<u8>, AllocError>
-    ensures { IfOk result (λ text. text.items ≡ clock_text count) }
+/// Writes what an advance of the clock prints, where it isn't set back.
+fn push_advance(text: &mut Vec<u8>, count: Option<usize>) -> Result<(), AllocError>
+    ensures { OnOk result (text.new.items ≡ text.old.items ++ clock_text count) }
 {
-    let mut text = Vec::new(alloc);
     match count {
         Some(count) => {
-            let line = format!(in alloc; "sampled {count}\n")?;
-            text.extend_from_slice(line.as_bytes())?;
+            text.extend_from_slice(b"sampled ")?;
+            push_number(text, count as u64)?;
+            text.extend_from_slice(b"\n")
         }
-        None => text.extend_from_slice(b"clock back\n")?,
+        None => text.extend_from_slice(b"clock back\n"),
     }
-    Ok(text)
 }
 
-/// What a sample on demand prints, where the log takes it and where it doesn't.
-fn print_sample(alloc: Global, taken: Result<u32, SampleFault>) -> Result<Vec<u8>, AllocError>
-    ensures { IfOk result (λ text. text.items ≡ sample_text taken) }
+/// Writes what a sample on demand prints, where the log takes it and where it doesn't.
+fn push_sample(text: &mut Vec<u8>, taken: Result<u32, SampleFault>) -> Result<(), AllocError>
+    ensures { OnOk result (text.new.items ≡ text.old.items ++ sample_text taken) }
 {
-    let mut text = Vec::new(alloc);
     match taken {
         Ok(number) => {
-            let line = format!(in alloc; "number {number}\n")?;
-            text.extend_from_slice(line.as_bytes())?;
+            text.extend_from_slice(b"number ")?;
+            push_number(text, u64::from(number))?;
+            text.extend_from_slice(b"\n")
         }
-        Err(SampleFault::NoSuchLog) => text.extend_from_slice(b"refused: no such log\n")?,
-        Err(SampleFault::Disabled) => text.extend_from_slice(b"refused: disabled\n")?,
-        Err(SampleFault::CycleFull) => text.extend_from_slice(b"refused: cycle full\n")?,
+        Err(SampleFault::NoSuchLog) => text.extend_from_slice(b"refused: no such log\n"),
+        Err(SampleFault::Disabled) => text.extend_from_slice(b"refused: disabled\n"),
+        Err(SampleFault::CycleFull) => text.extend_from_slice(b"refused: cycle full\n"),
     }
-    Ok(text)
 }
 
-/// What an event at a device prints.
+/// Writes what an event at a device prints.
 fn happen(
     device: &mut Device,
     transactions: &mut Transactions,
     alloc: Global,
-    event: &Event,
-) -> Result<Vec<u8>, AllocError>
-    ensures { IfOk result (λ text. happens device.old (event_of event.now) ≡ (text.items, device.new)) }
+    event: Event,
+    text: &mut Vec<u8>,
+) -> Result<(), AllocError>
+    requires { text.old.items ≡ [] }
+    ensures { OnOk result (happens device.old (event_of event.entry) ≡ (text.new.items, device.new)) }
 {
     match event {
-        Event::Received(datagram) => {
-            let reply = device.handle(datagram.octets());
-            print_answer(alloc, reply.as_ref())
+        Event::Received(octets) => {
+            let reply = device.handle(octets);
+            push_answer(text, reply.as_ref())
         }
-        Event::Clocked(stamp) => match device.advance(*stamp) {
-            Ok(count) => print_advance(alloc, Some(count)),
-            Err(_) => print_advance(alloc, None),
+        Event::Clocked(stamp) => match device.advance(stamp) {
+            Ok(count) => push_advance(text, Some(count)),
+            Err(_) => push_advance(text, None),
         },
         Event::Sampled(instance) => {
-            let taken = device.sample(*instance);
-            print_sample(alloc, taken)
+            let taken = device.sample(instance);
+            push_sample(text, taken)
         }
-        Event::Walked(words) => print_walk(alloc, device, transactions, *words),
+        Event::Walked(words) => {
+            *text = print_walk(alloc, device, transactions, words)?;
+            Ok(())
+        }
     }
 }
 
 impl Session {
     /// Plays a device line.
-    fn play_device(&mut self, alloc: Global, line: DeviceLine) -> Result<Vec<u8>, LineFault>
-        ensures { Meets (λ text. (text.items, state_of self.new)) result (on_device (state_of self.old) line) }
+    fn play_device(&mut self, alloc: Global, line: DeviceLine) -> Result<(), LineFault>
+        ensures { Meets (λ _. ([], state_of self.new)) result (on_device (state_of self.old) line) }
     {
         match self {
             Session::Empty => {
                 *self = Session::Described(line, Vec::new(alloc));
-                Ok(Vec::new(alloc))
+                Ok(())
             }
             _ => Err(LineFault::Bad),
         }
     }
 
     /// Plays an object line.
-    fn play_object(&mut self, alloc: Global, line: ObjectLine) -> Result<Vec<u8>, LineFault>
-        ensures { Meets (λ text. (text.items, state_of self.new)) result (on_object (state_of self.old) line) }
+    fn play_object(&mut self, line: ObjectLine) -> Result<(), LineFault>
+        ensures { Meets (λ _. ([], state_of self.new)) result (on_object (state_of self.old) line) }
     {
         match self {
             Session::Described(_, lines) => match lines.push(line) {
-                Ok(()) => Ok(Vec::new(alloc)),
+                Ok(()) => Ok(()),
                 Err(_) => Err(LineFault::Memory),
             },
             _ => Err(LineFault::Bad),
         }
     }
 
-    /// Plays an event.
-    fn play_event(&mut self, alloc: Global, event: &Event) -> Result<Vec<u8>, LineFault>
-        ensures { Meets (λ text. (text.items, state_of self.new)) result (on_event (state_of self.old) (event_of event.now)) }
+    /// Plays an event, and writes what it prints.
+    fn play_event(
+        &mut self,
+        alloc: Global,
+        event: Event,
+        text: &mut Vec<u8>,
+    ) -> Result<(), LineFault>
+        requires { text.old.items ≡ [] }
+        ensures { Meets (λ _. (text.new.items, state_of self.new)) result (on_event (state_of self.old) (event_of event.entry)) }
     {
         match self {
             Session::Empty => Err(LineFault::Bad),
@@ -155,47 +187,51 @@ impl Session {
                     Err(fault) => return Err(LineFault::of_build(fault)),
                 };
                 let mut transactions = Transactions::new(RETRIES);
-                match happen(&mut device, &mut transactions, alloc, event) {
-                    Ok(text) => {
+                match happen(&mut device, &mut transactions, alloc, event, text) {
+                    Ok(()) => {
                         *self = Session::Running(device, transactions);
-                        Ok(text)
+                        Ok(())
                     }
                     Err(_) => Err(LineFault::Memory),
                 }
             }
-            Session::Running(device, transactions) => match happen(
-                device,
-                transactions,
-                alloc,
-                event,
-            ) {
-                Ok(text) => Ok(text),
-                Err(_) => Err(LineFault::Memory),
-            },
+            Session::Running(device, transactions) => {
+                match happen(device, transactions, alloc, event, text) {
+                    Ok(()) => Ok(()),
+                    Err(_) => Err(LineFault::Memory),
+                }
+            }
         }
     }
 
-    /// Plays one line, and answers what it prints.
-    pub(crate) fn play(&mut self, alloc: Global, line: Line) -> Result<Vec<u8>, LineFault>
-        ensures { Meets (λ text. (text.items, state_of self.new)) result (on_line (state_of self.old) (line_of line)) }
+    /// Plays one line, and writes what it prints.
+    fn play(&mut self, alloc: Global, line: Line, text: &mut Vec<u8>) -> Result<(), LineFault>
+        requires { text.old.items ≡ [] }
+        ensures { Meets (λ _. (text.new.items, state_of self.new)) result (on_line (state_of self.old) (line_of line.entry)) }
     {
         match line {
             Line::Device(words) => self.play_device(alloc, words),
-            Line::Object(line) => self.play_object(alloc, line),
-            Line::Happens(event) => self.play_event(alloc, &event),
+            Line::Object(line) => self.play_object(line),
+            Line::Happens(event) => self.play_event(alloc, event, text),
         }
     }
 
-    /// Plays the line that a text says, and answers what it prints.
+    /// Plays the line that a text says. What it prints is the text of the scratch.
     #[tactic(auto, unfolding(crate::specs::Session::step))]
-    pub(crate) fn play_text(&mut self, alloc: Global, text: &[u8]) -> Result<Vec<u8>, LineFault>
-        ensures { Meets (λ printed. (printed.items, state_of self.new)) result (step (state_of self.old) text.now) }
+    pub(crate) fn play_text(
+        &mut self,
+        alloc: Global,
+        text: &[u8],
+        scratch: &mut Scratch,
+    ) -> Result<(), LineFault>
+        ensures { Meets (λ _. (scratch.new.text.items, state_of self.new)) result (step (state_of self.old) text.now) }
     {
+        scratch.text.clear();
         if is_silent(text) {
-            return Ok(Vec::new(alloc));
+            return Ok(());
         }
-        match Line::read(alloc, text) {
-            Ok(Some(line)) => self.play(alloc, line),
+        match Line::read(alloc, text, &mut scratch.received) {
+            Ok(Some(line)) => self.play(alloc, line, &mut scratch.text),
             Ok(None) => Err(LineFault::Bad),
             Err(_) => Err(LineFault::Memory),
         }

@@ -7,19 +7,19 @@ ghost use Rattle.bac_tools.specs.Script.Line.{binary_line, clock_line, device_li
 ghost use Rattle.bac_tools.specs.Views.{binary_of, device_of, integer_of, line_of, log_of, multistate_of};
 ghost use Rattle.bac_tools.specs.Script.Words.{words_of};
 
-use crate::script::hexadecimal::octets_in;
+use crate::script::hexadecimal::{LONGEST, octets_in};
 use crate::script::number::{i32_in, u16_in, u32_in};
 use crate::script::stamp::stamp_in;
 use crate::script::words::{last_word, split_word, text_in};
 use bac_device::{DeviceLine, Name, ObjectLine};
-use bac_wire::{Datagram, ObjectId, Stamp};
+use bac_wire::{ObjectId, Stamp};
 use std::alloc::{AllocError, Global};
 
 /// What happens to a device.
-#[derive(Debug, Drop)]
-pub(crate) enum Event {
-    /// It receives a datagram.
-    Received(Datagram),
+#[derive(Clone, Copy, Debug)]
+pub(crate) enum Event<'r> {
+    /// It receives a datagram of these octets.
+    Received(&'r [u8]),
     /// Its clock comes to a moment.
     Clocked(Stamp),
     /// Its Trend Log with this instance takes a sample.
@@ -39,13 +39,13 @@ pub(crate) struct WalkWords {
 
 /// What a line says.
 #[derive(Debug, Drop)]
-pub(crate) enum Line {
+pub(crate) enum Line<'r> {
     /// The device.
     Device(DeviceLine),
     /// An object of the device.
     Object(ObjectLine),
     /// An event.
-    Happens(Event),
+    Happens(Event<'r>),
 }
 
 /// What the words of a device line say; its name still lies in the script.
@@ -68,7 +68,7 @@ fn device_words(words: &[u8]) -> Option<(u32, &str, u16, u16, Stamp)>
 }
 
 /// The line of a device.
-fn device_line(alloc: Global, words: &[u8]) -> Result<Option<Line>, AllocError>
+fn device_line<'r>(alloc: Global, words: &[u8]) -> Result<Option<Line<'r>>, AllocError>
     ensures { IfOk result (λ line. device_line (words_of words.now) ≡ option_map line_of line) }
 {
     let Some((instance, name, vendor, reply_size, clock)) = device_words(words) else {
@@ -96,7 +96,7 @@ fn binary_words(words: &[u8]) -> Option<(u32, &str, u32)>
 }
 
 /// The line of a Binary Value.
-fn binary_line(alloc: Global, words: &[u8]) -> Result<Option<Line>, AllocError>
+fn binary_line<'r>(alloc: Global, words: &[u8]) -> Result<Option<Line<'r>>, AllocError>
     ensures { IfOk result (λ line. binary_line (words_of words.now) ≡ option_map line_of line) }
 {
     let Some((instance, name, default)) = binary_words(words) else {
@@ -128,7 +128,7 @@ fn multistate_words(words: &[u8]) -> Option<(u32, &str, u32, u32)>
 }
 
 /// The line of a Multi-state Value.
-fn multistate_line(alloc: Global, words: &[u8]) -> Result<Option<Line>, AllocError>
+fn multistate_line<'r>(alloc: Global, words: &[u8]) -> Result<Option<Line<'r>>, AllocError>
     ensures { IfOk result (λ line. multistate_line (words_of words.now) ≡ option_map line_of line) }
 {
     let Some((instance, name, states, default)) = multistate_words(words) else {
@@ -155,7 +155,7 @@ fn integer_words(words: &[u8]) -> Option<(u32, &str, i32)>
 }
 
 /// The line of an Integer Value.
-fn integer_line(alloc: Global, words: &[u8]) -> Result<Option<Line>, AllocError>
+fn integer_line<'r>(alloc: Global, words: &[u8]) -> Result<Option<Line<'r>>, AllocError>
     ensures { IfOk result (λ line. integer_line (words_of words.now) ≡ option_map line_of line) }
 {
     let Some((instance, name, default)) = integer_words(words) else {
@@ -225,7 +225,7 @@ fn log_words(words: &[u8]) -> Option<(u32, &str, ObjectId, u32, u32, u32)>
 }
 
 /// The line of a Trend Log.
-fn log_line(alloc: Global, words: &[u8]) -> Result<Option<Line>, AllocError>
+fn log_line<'r>(alloc: Global, words: &[u8]) -> Result<Option<Line<'r>>, AllocError>
     ensures { IfOk result (λ line. log_line (words_of words.now) ≡ option_map line_of line) }
 {
     let Some((instance, name, source, capacity, interval, logged)) = log_words(words) else {
@@ -244,16 +244,16 @@ fn log_line(alloc: Global, words: &[u8]) -> Result<Option<Line>, AllocError>
 
 /// The line of a datagram that is received.
 #[tactic(auto, unfolding(crate::specs::Script::Line::rx_line))]
-fn rx_line(words: &[u8]) -> Option<Line>
+fn rx_line<'r>(words: &[u8], room: &'r mut [u8; LONGEST]) -> Option<Line<'r>>
     ensures { rx_line (words_of words.now) ≡ option_map line_of result }
 {
     let hex = last_word(words)?;
-    Some(Line::Happens(Event::Received(octets_in(hex)?)))
+    Some(Line::Happens(Event::Received(octets_in(hex, room)?)))
 }
 
 /// The line of a clock that comes to a moment.
 #[tactic(auto, unfolding(crate::specs::Script::Line::clock_line))]
-fn clock_line(words: &[u8]) -> Option<Line>
+fn clock_line<'r>(words: &[u8]) -> Option<Line<'r>>
     ensures { clock_line (words_of words.now) ≡ option_map line_of result }
 {
     let stamp = last_word(words)?;
@@ -262,7 +262,7 @@ fn clock_line(words: &[u8]) -> Option<Line>
 
 /// The line of a sample on demand.
 #[tactic(auto, unfolding(crate::specs::Script::Line::sample_line))]
-fn sample_line(words: &[u8]) -> Option<Line>
+fn sample_line<'r>(words: &[u8]) -> Option<Line<'r>>
     ensures { sample_line (words_of words.now) ≡ option_map line_of result }
 {
     let instance = last_word(words)?;
@@ -291,7 +291,7 @@ fn start_in(word: &[u8]) -> Option<Option<u32>>
 
 /// The line of a walk.
 #[tactic(auto, unfolding(crate::specs::Script::Line::walk_line))]
-fn walk_line(words: &[u8]) -> Option<Line>
+fn walk_line<'r>(words: &[u8]) -> Option<Line<'r>>
     ensures { walk_line (words_of words.now) ≡ option_map line_of result }
 {
     let (log, rest) = split_word(words)?;
@@ -311,10 +311,15 @@ pub(crate) fn is_silent(text: &[u8]) -> bool
     text.is_empty() || text[0] == b'#'
 }
 
-impl Line {
-    /// What a text says that is neither empty nor a comment, where it is a line of a script.
+impl<'r> Line<'r> {
+    /// What a text says that is neither empty nor a comment, where it is a line of a script. The
+    /// octets of a datagram are put into the room.
     #[tactic(auto, unfolding(crate::specs::Script::Line::line_in, crate::specs::Script::Line::device_line, crate::specs::Script::Line::binary_line, crate::specs::Script::Line::multistate_line, crate::specs::Script::Line::integer_line, crate::specs::Script::Line::log_line, crate::specs::Script::Line::rx_line, crate::specs::Script::Line::clock_line, crate::specs::Script::Line::sample_line, crate::specs::Script::Line::walk_line))]
-    pub(crate) fn read(alloc: Global, text: &[u8]) -> Result<Option<Line>, AllocError>
+    pub(crate) fn read(
+        alloc: Global,
+        text: &[u8],
+        room: &'r mut [u8; LONGEST],
+    ) -> Result<Option<Line<'r>>, AllocError>
         ensures { IfOk result (λ line. line_in text.now ≡ option_map line_of line) }
     {
         let Some((word, words)) = split_word(text) else {
@@ -336,7 +341,7 @@ impl Line {
             return log_line(alloc, words);
         }
         if word == b"rx".as_slice() {
-            return Ok(rx_line(words));
+            return Ok(rx_line(words, room));
         }
         if word == b"clock".as_slice() {
             return Ok(clock_line(words));
