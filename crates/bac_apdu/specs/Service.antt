@@ -1,5 +1,6 @@
 -- The services, one file each: its list of parameters, and what it shows of its fields.
 pub mod Choice
+pub mod PropertyId
 pub mod WhoIs
 pub mod IAm
 pub mod PropertyReference

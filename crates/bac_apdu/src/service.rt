@@ -4,6 +4,8 @@
 pub mod choice;
 mod extent;
 mod i_am;
+pub mod object_type;
+pub mod property_id;
 mod property_reference;
 mod read_property;
 mod read_property_ack;

@@ -4,6 +4,7 @@ use Rattle.std.specs.Map.{lookup}
 use Rattle.bac_wire.specs.Chain.{◌>>=◌}
 use Rattle.bac_log.specs.TrendLog.{Log}
 use Rattle.bac_apdu.specs.declared.service.read_range.ReadRange.{ReadRange}
+use Rattle.bac_apdu.specs.Service.PropertyId.{log_buffer}
 use Rattle.bac_objects.specs.Chain.{or_fault}
 use Rattle.bac_objects.specs.Properties.{row, object_table, device_table}
 use Rattle.bac_objects.specs.State.{State, is_id}
@@ -17,7 +18,7 @@ use Rattle.bac_objects.specs.declared.object.Object as object
 -- Log_Buffer alone has records
 abbrev pub buffer_of : ℕ → Body → Result Log Fault
 buffer_of property (body.Command c) = Err NotList
-buffer_of property (body.Log l) = if property == 131 then Ok l.log else Err NotList
+buffer_of property (body.Log l) = if property == log_buffer then Ok l.log else Err NotList
 
 abbrev pub object_records : ReadRange → object.Object → Result Log Fault
 object_records r o = do

@@ -1,5 +1,7 @@
 //! The numbers of properties (clause 21, BACnetPropertyIdentifier).
 
+pub(crate) use bac_apdu::property_id::LOG_BUFFER;
+
 pub(crate) const APDU_TIMEOUT: u32 = 11;
 
 pub(crate) const APPLICATION_SOFTWARE_VERSION: u32 = 12;
@@ -57,8 +59,6 @@ pub(crate) const VENDOR_IDENTIFIER: u32 = 120;
 pub(crate) const VENDOR_NAME: u32 = 121;
 
 pub(crate) const BUFFER_SIZE: u32 = 126;
-
-pub(crate) const LOG_BUFFER: u32 = 131;
 
 pub(crate) const LOG_DEVICE_OBJECT_PROPERTY: u32 = 132;
 
