@@ -10,8 +10,8 @@ ghost use Rattle.bac_walk.specs.Reads.{IsCounted, IsSaid};
 ghost use Rattle.bac_walk.specs.Spelled.{data_held, data_in};
 ghost use Rattle.bac_apdu.specs.Service.ReadRangeAck.{range_ack_of};
 
-use crate::walk::LOG_BUFFER;
 use bac_apdu::choice::READ_RANGE;
+use bac_apdu::property_id::LOG_BUFFER;
 use bac_apdu::{Apdu, ReadRangeAck};
 use bac_link::read_datagram;
 use bac_log::{Entry, read_entry};

@@ -15,16 +15,12 @@ use crate::outcome::{BadReply, Progress};
 use crate::read::{data_in, next_record, said_of};
 use crate::reply::Verdict;
 use arrayvec::ArrayVec;
+use bac_apdu::object_type::TREND_LOG;
+use bac_apdu::property_id::LOG_BUFFER;
 use bac_apdu::{Extent, ReadRange};
 use bac_link::Request;
 use bac_wire::{Date4, ObjectId, Time4};
 use std::marker::Model;
-
-/// The object type of trend logs (clause 21, BACnetObjectType).
-const TREND_LOG: u16 = 20;
-
-/// The property that holds a log's records (clause 12.25, BACnetPropertyIdentifier).
-pub(crate) const LOG_BUFFER: u32 = 131;
 
 /// A place in a trend log, from which its records are asked for: a hundred at a time, by their
 /// numbers, and where none of these is held, the oldest.
