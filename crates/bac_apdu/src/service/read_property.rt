@@ -67,9 +67,7 @@ impl ReadProperty {
         ensures { Gives property_parameters result (form_at read_property bytes.now) }
     {
         let mut parameters = Parameters::of(bytes);
-        let object = parameters.object(0)?;
-        let property = parameters.enumerated(1)?;
-        let index = parameters.optional_number(2)?;
+        let (object, property, index) = parameters.property()?;
         parameters.end()?;
         Ok(ReadProperty {
             object,

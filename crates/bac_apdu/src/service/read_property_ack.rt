@@ -55,9 +55,7 @@ impl<'a> ReadPropertyAck<'a> {
         ensures { Gives property_ack_parameters result (form_at read_property_ack bytes.now) }
     {
         let mut parameters = Parameters::of(bytes);
-        let object = parameters.object(0)?;
-        let property = parameters.enumerated(1)?;
-        let index = parameters.optional_number(2)?;
+        let (object, property, index) = parameters.property()?;
         parameters.open(3)?;
         let values = parameters.inside(3)?;
         parameters.end()?;

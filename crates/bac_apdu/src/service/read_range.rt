@@ -72,9 +72,7 @@ impl ReadRange {
         ensures { Gives range_parameters result (form_at read_range bytes.now) }
     {
         let mut parameters = Parameters::of(bytes);
-        let object = parameters.object(0)?;
-        let property = parameters.enumerated(1)?;
-        let index = parameters.optional_number(2)?;
+        let (object, property, index) = parameters.property()?;
         let extent = extent_of(parameters)?;
         Ok(ReadRange {
             object,

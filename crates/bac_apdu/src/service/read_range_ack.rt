@@ -67,9 +67,7 @@ impl<'a> ReadRangeAck<'a> {
         ensures exact { Gives ack_parameters result (form_at read_range_ack bytes.now) }
     {
         let mut parameters = Parameters::of(bytes);
-        let object = parameters.object(0)?;
-        let property = parameters.enumerated(1)?;
-        let index = parameters.optional_number(2)?;
+        let (object, property, index) = parameters.property()?;
         let flags = parameters.flags(3)?;
         let count = parameters.wide_number(4)?;
         parameters.open(5)?;

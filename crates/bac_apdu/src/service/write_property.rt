@@ -59,9 +59,7 @@ impl<'a> WriteProperty<'a> {
         ensures well_formed { IfOk result (λ w. IsWellFormed w.value) }
     {
         let mut parameters = Parameters::of(bytes);
-        let object = parameters.object(0)?;
-        let property = parameters.enumerated(1)?;
-        let index = parameters.optional_number(2)?;
+        let (object, property, index) = parameters.property()?;
         parameters.open(3)?;
         let value = match parameters.any() {
             Ok(value) => value,
