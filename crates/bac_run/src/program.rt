@@ -15,6 +15,7 @@ use crate::finding::{limits, wi};
 use crate::playing::replay;
 use crate::serving::serve;
 use crate::telling::tell;
+use bac_apdu::object_type::TREND_LOG;
 use bac_apdu::{ReadProperty, WhoIs, WriteProperty};
 use bac_link::Request;
 use bac_print::write_text;
@@ -25,9 +26,6 @@ use bac_words::{Job, Word, WordsFault, read_words};
 use std::alloc::Global;
 use std::io::{Read, Write};
 use std::net::Net;
-
-/// The object type of a trend log (clause 21, BACnetObjectType).
-const TREND_LOG: u16 = 20;
 
 /// The object of a question.
 fn object(object_type: u16, instance: u32) -> Result<ObjectId, Fault>
