@@ -1,5 +1,5 @@
 -- What a ReadRange is answered.
-use Rattle.std.proofs.Common.{◌≡◌, refl, ap, sym, ◌∙◌, arith, ℕ, ◌+◌, ◌<◌, ◌≤◌, nat_lt, Bool, true, false, not, ◌&&◌, cond, List, [], ◌∷◌, ◌++◌, length}
+use Rattle.std.proofs.Common.{◌≡◌, refl, ap, sym, ◌∙◌, arith, ℕ, ◌+◌, ◌<◌, ◌≤◌, nat_lt, Bool, true, false, not, ◌&&◌, cond, List, [], ◌∷◌, length}
 use Rattle.std.specs.Prelude.{◌≢◌, Err, Ok, Result}
 use Rattle.std.proofs.lemmas.Bool.Decides.{nat_tests}
 use Rattle.bac_wire.specs.Primitive.{Id}
@@ -32,10 +32,6 @@ pub ack_text : (invoke : ℕ) (object : Id) (log : Log) (extent : Extent) (limit
 unfolding ack_apdu
 ack_text invoke object log extent limit = refl
 
--- what was appended to nothing
-pub fresh : (old text new : List ℕ) → new ≡ old ++ text → old ≡ [] → new ≡ text
-fresh old text new is none = is ∙ ap (λ (l : List ℕ). l ++ text) none
-
 -- an answer is no fault, and a fault is one alone
 pub not_err : (s : Selected) (why : AnswerFault) → (let r : Result Selected AnswerFault = Ok s in r) ≡ Err why → ⊥
 not_err s why e = cc
@@ -52,13 +48,13 @@ pub said_small : (limit invoke : ℕ) (object : Id) (extent : Extent) (log : Log
 said_small limit invoke object extent log some none =
     ap (λ (b : Bool). datagram_octets (cond b (abort invoke) (limited limit invoke (records_ack limit invoke object extent log)))) (sym (small_test (selected log extent) (packed extent limit (selected log extent)) some none))
 
-pub said_refused : (limit invoke : ℕ) (object : Id) (extent : Extent) (log : Log) (old : List ℕ) (why : AnswerFault) → limit ≤ 1476 → old ≡ []
+pub said_refused : (limit invoke : ℕ) (object : Id) (extent : Extent) (log : Log) (old : List ℕ) (why : AnswerFault) → limit ≤ 1476 → length old ≡ 6
     → (why ≡ fault.TooSmall → IsTooSmall log extent limit)
     → (why ≡ fault.Full → (IsTooSmall log extent limit → ⊥) × (1501 < length old + length (answer_octets invoke object log extent limit)))
     → datagram_octets (abort invoke) ≡ datagram_octets (records_said limit invoke object extent log)
-said_refused limit invoke object extent log old fault.TooSmall le none small full = let s = small refl in said_small limit invoke object extent log s.0 s.1
-said_refused limit invoke object extent log old fault.Full le none small full =
+said_refused limit invoke object extent log old fault.TooSmall le six small full = let s = small refl in said_small limit invoke object extent log s.0 s.1
+said_refused limit invoke object extent log old fault.Full le six small full =
     let f = full refl in
     let m : Apdu = records_ack limit invoke object extent log in
-    let size : limit < length (apdu_octets m) = omega (arith, le, f.1, ap (λ (l : List ℕ). length l) none, ap (λ (l : List ℕ). length l) (ack_text invoke object log extent limit)) in
+    let size : limit < length (apdu_octets m) = omega (arith, le, f.1, six, ap (λ (l : List ℕ). length l) (ack_text invoke object log extent limit)) in
     ap (λ (b : Bool). datagram_octets (cond b (abort invoke) m)) (sym (over limit (length (apdu_octets m)) size)) ∙ said_ack limit invoke object extent log f.0

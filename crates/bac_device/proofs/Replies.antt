@@ -1,5 +1,5 @@
 -- Replies fit a datagram.
-use Rattle.std.proofs.Common.{◌≡◌, ℕ, ◌+◌, ◌*◌, ◌^◌, ◌≤◌, Bool, true, false, cond, nat_lt, List, [], ◌∷◌, ◌++◌, length, Result, Ok, Err, refl, ap, ◌∙◌, arith, length-append}
+use Rattle.std.proofs.Common.{◌≡◌, ℕ, ◌+◌, ◌*◌, ◌^◌, ◌<◌, ◌≤◌, ◌/◌, ◌%◌, Bool, true, false, cond, nat_lt, List, [], ◌∷◌, ◌++◌, length, Option, Some, None, Result, Ok, Err, refl, ap, sym, ◌∙◌, arith, length-append}
 use Rattle.std.specs.Int.{w32, w64, to_be_bytes}
 use Rattle.std.specs.Result.{IsOk}
 use Rattle.bac_wire.specs.Primitive.{Id, Unsigned, Enumerated, Object}
@@ -8,16 +8,22 @@ use Rattle.bac_wire.specs.Canon.{shortened, without_needless, is_zero, unsigned_
 use Rattle.bac_apdu.specs.Adding.{value_octets}
 use Rattle.bac_apdu.specs.Apdu.{Apdu, apdu_octets}
 use Rattle.bac_apdu.specs.FormCanon.{canon_form}
-use Rattle.bac_apdu.specs.Frame.{frame_octets}
+use Rattle.std.specs.Prelude.{is_some}
+use Rattle.std.specs.Option.{option_map}
+use Rattle.std.proofs.lemmas.Bool.Decides.{nat_tests}
+use Rattle.bac_apdu.specs.Frame.{result_octets, unicast_head}
 use Rattle.bac_apdu.specs.Service.IAm.{i_am, i_am_parameters}
 use Rattle.bac_apdu.specs.Npdu.{place_octets, header_octets}
 use Rattle.bac_apdu.specs.declared.service.i_am.IAm.{IAm}
-use Rattle.bac_device.specs.Reply.{plain, datagram_octets}
+use Rattle.bac_device.specs.Receiving.{nak_octets}
+use Rattle.bac_device.specs.Reply.{abort, begun, datagram_octets, limited, plain, receiver_of, reply, reply_octets, said_octets}
+use Rattle.bac_device.specs.declared.reply.Receiver.{Receiver}
+use Rattle.bac_device.specs.declared.reply.Reply.{Reply}
 
--- what fits is written
-pub written : {E : Type 0} (old text : List ℕ) (r : Result (Unit {0}) E) (new : List ℕ) → Writes old text r new → old ≡ [] → length text ≤ 1501 → IsOk r × (new ≡ text)
-written old text (Ok x) new w empty fits = (refl, w.0 ∙ ap (λ l. l ++ text) empty)
-written old text (Err e) new w empty fits = absurd (omega (arith, w.1, ap length empty))
+-- what fits is appended
+pub fits_in : {E : Type 0} (old text : List ℕ) (r : Result (Unit {0}) E) (new : List ℕ) → Writes old text r new → length old + length text ≤ 1501 → IsOk r × (new ≡ old ++ text)
+fits_in old text (Ok x) new w fits = (refl, w.0)
+fits_in old text (Err e) new w fits = absurd (omega (arith, w.1, fits))
 
 shortened-len : (needless : ℕ → ℕ → Bool) (a : ℕ) (bs : List ℕ) → length (shortened needless a bs) ≤ 1 + length bs
 shortened-len needless a [] = omega arith
@@ -86,11 +92,72 @@ announcement-len a =
 pub error-len : (class code : ℕ) → length (value_octets (Enumerated class) ++ value_octets (Enumerated code)) ≤ 30
 error-len class code = omega (arith, enumerated-len class, enumerated-len code, length-append (value_octets (Enumerated class)) (value_octets (Enumerated code)))
 
--- behind a plain header, and in a frame
-pub frame-len : (apdu : List ℕ) → length apdu ≤ 1476 → length (frame_octets (header_octets plain ++ apdu)) ≤ 1501
-unfolding frame_octets place_octets
-frame-len apdu h = omega (arith, h)
+-- ---- datagrams that are begun
 
-pub framed : (apdu : List ℕ) (m : Apdu) → apdu ≡ apdu_octets m → frame_octets (header_octets plain ++ apdu) ≡ datagram_octets m
-unfolding datagram_octets
-framed apdu m e = ap (λ (l : List ℕ). frame_octets (header_octets plain ++ l)) e
+pub begun_more : (xs ys : List ℕ) → begun xs ++ ys ≡ begun (xs ++ ys)
+unfolding begun place_octets
+begun_more xs ys = refl
+
+pub begun_len : (apdu : List ℕ) → length (begun apdu) ≡ 6 + length apdu
+unfolding begun place_octets
+begun_len apdu = omega arith
+
+pub heads_are : begun [] ≡ unicast_head 0 ++ header_octets plain
+unfolding begun place_octets
+heads_are = refl
+
+pub begun_room : (out apdu : List ℕ) → out ≡ begun apdu → 6 ≤ length out
+begun_room out apdu e = omega (arith, ap (λ (l : List ℕ). length l) e, begun_len apdu)
+
+pub begun_size : (out apdu : List ℕ) → out ≡ begun apdu → length out ≡ 6 + length apdu
+begun_size out apdu e = ap (λ (l : List ℕ). length l) e ∙ begun_len apdu
+
+-- appended to one that was begun
+pub begun_with : (old out xs ys : List ℕ) → old ≡ begun xs → out ≡ old ++ ys → out ≡ begun (xs ++ ys)
+begun_with old out xs ys e is = is ∙ ap (λ (l : List ℕ). l ++ ys) e ∙ begun_more xs ys
+
+-- ---- answers that are too long
+
+over : (limit n : ℕ) → limit < n → nat_lt limit n ≡ true
+over limit n lt = grind (arith, nat_tests)
+
+not_over : (limit n : ℕ) → n ≤ limit → nat_lt limit n ≡ false
+not_over limit n le = grind (arith, nat_tests)
+
+pub too_long : (limit invoke : ℕ) (m : Apdu) → limit < length (apdu_octets m) → datagram_octets (abort invoke) ≡ datagram_octets (limited limit invoke m)
+too_long limit invoke m lt = ap (λ (b : Bool). datagram_octets (cond b (abort invoke) m)) (sym (over limit (length (apdu_octets m)) lt))
+
+pub short_enough : (limit invoke : ℕ) (m : Apdu) → length (apdu_octets m) ≤ limit → datagram_octets m ≡ datagram_octets (limited limit invoke m)
+short_enough limit invoke m le = ap (λ (b : Bool). datagram_octets (cond b (abort invoke) m)) (sym (not_over limit (length (apdu_octets m)) le))
+
+-- ---- refusals of functions
+
+pub nak_is : (code : ℕ) → code < 256 → result_octets code ≡ nak_octets code
+nak_is code lt =
+    let high : code / 256 % 256 ≡ 0 = omega (arith, lt) in
+    let low : code % 256 ≡ code = omega (arith, lt) in
+    ap (λ (n : ℕ). 129 ∷ 0 ∷ 0 ∷ 6 ∷ n ∷ code % 256 ∷ []) high ∙ ap (λ (n : ℕ). 129 ∷ 0 ∷ 0 ∷ 6 ∷ 0 ∷ n ∷ []) low
+
+-- ---- replies
+
+pub sent_octets : (to : Receiver) (said : Option Apdu) → reply_octets (option_map (reply to) said) ≡ said_octets said
+sent_octets to None = refl
+sent_octets to (Some m) = refl
+
+pub sent_to : (to : Receiver) (said : Option Apdu) → is_some said ≡ true → receiver_of (option_map (reply to) said) ≡ Some to
+sent_to to None e = absurd cc
+sent_to to (Some m) e = refl
+
+pub sent_nobody : (to : Receiver) (said : Option Apdu) → is_some said ≡ false → receiver_of (option_map (reply to) said) ≡ None
+sent_nobody to None e = refl
+sent_nobody to (Some m) e = absurd cc
+
+pub reply_is : (said : Option Reply) (to : Receiver) (octets : List ℕ) → Some to ≡ receiver_of said → octets ≡ reply_octets said → (let r : Reply = record { datagram = octets; to = to } in Some r) ≡ said
+reply_is None to octets e is = absurd cc
+reply_is (Some r) to octets e is =
+    let same : to ≡ r.to = cc in
+    ap (λ (l : List ℕ). (let x : Reply = record { datagram = l; to = to } in Some x)) is ∙ ap (λ (t : Receiver). (let x : Reply = record { datagram = r.datagram; to = t } in Some x)) same
+
+pub no_reply : (said : Option Reply) → None ≡ receiver_of said → None ≡ said
+no_reply None e = refl
+no_reply (Some r) e = absurd cc

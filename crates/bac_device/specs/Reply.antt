@@ -1,7 +1,8 @@
 -- What a device sends (clauses 6, 20.1, Annex J).
-use Rattle.std.specs.Prelude.{ℕ, nat_lt, true, false, if◌then◌else◌, List, ◌++◌, length, None}
+use Rattle.std.specs.Prelude.{ℕ, nat_lt, true, false, if◌then◌else◌, List, [], ◌++◌, length, Option, None, Some}
+use Rattle.std.specs.Option.{option_map}
 use Rattle.bac_apdu.specs.Apdu.{Apdu, Error, Reject, Abort, apdu_octets}
-use Rattle.bac_apdu.specs.Frame.{frame_octets}
+use Rattle.bac_apdu.specs.Frame.{frame_octets, unicast_head}
 use Rattle.bac_apdu.specs.Npdu.{Header, header_octets}
 use Rattle.bac_apdu.specs.Reason.{reason_code}
 use Rattle.bac_apdu.specs.declared.reason.Reason.{Reason}
@@ -22,6 +23,24 @@ datagram_octets apdu = frame_octets (header_octets plain ++ apdu_octets apdu)
 
 abbrev pub reply : Receiver → Apdu → Reply
 reply to apdu = record { datagram = datagram_octets apdu; to = to }
+
+-- the same up to the APDU, and with a length that isn't told yet
+unfoldable pub begun : List ℕ → List ℕ
+begun apdu = unicast_head 0 ++ (header_octets plain ++ apdu)
+
+-- the octets of an answer, or none
+abbrev pub said_octets : Option Apdu → List ℕ
+said_octets None = []
+said_octets (Some apdu) = datagram_octets apdu
+
+-- the octets of a reply, or none
+abbrev pub reply_octets : Option Reply → List ℕ
+reply_octets None = []
+reply_octets (Some reply) = reply.datagram
+
+-- who gets a reply
+abbrev pub receiver_of : Option Reply → Option Receiver
+receiver_of said = option_map (λ reply. reply.to) said
 
 -- ---- refusals
 

@@ -1,12 +1,11 @@
 //! What a device does with a datagram.
 
-ghost use Rattle.std.specs.Prelude.{◌≡◌};
-ghost use Rattle.std.specs.Option.{option_map};
+ghost use Rattle.std.specs.Prelude.{◌≡◌, [], is_some};
 ghost use Rattle.bac_apdu.specs.Apdu.{apdu_of};
 ghost use Rattle.bac_objects.specs.Sound.{IsSound};
 ghost use Rattle.bac_device.specs.Answer.{answer, answer_apdu, answer_heard, answer_request, nak, sent};
 ghost use Rattle.bac_device.specs.Receiving.{heard_at};
-ghost use Rattle.bac_device.specs.Reply.{datagram_octets};
+ghost use Rattle.bac_device.specs.Reply.{datagram_octets, receiver_of, reply_octets, said_octets};
 
 use crate::device::Device;
 use crate::receiving::{heard_at, nak_code};
@@ -19,33 +18,37 @@ use bac_wire::Datagram;
 const UNRECOGNIZED_SERVICE: u8 = 9;
 
 impl Device {
-    /// The answer to a confirmed request, and what the device is after it.
+    /// The answer to a confirmed request, in place of what `out` holds, and what the device is after
+    /// it.
     fn answer_request(
         &mut self,
+        out: &mut Datagram,
         segmented: bool,
         size: u16,
         invoke: u8,
         service: u8,
         parameters: &[u8],
-    ) -> Datagram
-        ensures apdu { result ≡ datagram_octets (answer_request self.old segmented size invoke service parameters.now).0 }
+    )
+        ensures apdu { out.new ≡ datagram_octets (answer_request self.old segmented size invoke service parameters.now).0 }
         ensures state { self.new ≡ (answer_request self.old segmented size invoke service parameters.now).1 }
     {
         if segmented {
-            return abort(invoke);
+            return abort(out, invoke);
         }
         let limit = size.min(self.database.reply_size());
         match service {
-            READ_PROPERTY => self.answer_read(limit, invoke, parameters),
-            WRITE_PROPERTY => self.answer_write(invoke, parameters),
-            READ_RANGE => self.answer_range(limit, invoke, parameters),
-            _ => reject(invoke, UNRECOGNIZED_SERVICE),
+            READ_PROPERTY => self.answer_read(out, limit, invoke, parameters),
+            WRITE_PROPERTY => self.answer_write(out, invoke, parameters),
+            READ_RANGE => self.answer_range(out, limit, invoke, parameters),
+            _ => reject(out, invoke, UNRECOGNIZED_SERVICE),
         }
     }
 
-    /// The answer to an APDU, where there is one, and what the device is after it.
-    fn answer_apdu(&mut self, to_all: bool, apdu: &Apdu) -> Option<Datagram>
-        ensures apdu { result ≡ option_map datagram_octets (answer_apdu self.old to_all (apdu_of apdu.now)).0 }
+    /// The answer to an APDU, whether there is one, and what the device is after it.
+    fn answer_apdu(&mut self, out: &mut Datagram, to_all: bool, apdu: &Apdu) -> bool
+        requires { out.old ≡ [] }
+        ensures answered { result ≡ is_some (answer_apdu self.old to_all (apdu_of apdu.now)).0 }
+        ensures apdu { out.new ≡ said_octets (answer_apdu self.old to_all (apdu_of apdu.now)).0 }
         ensures state { self.new ≡ (answer_apdu self.old to_all (apdu_of apdu.now)).1 }
     {
         match *apdu {
@@ -57,84 +60,122 @@ impl Device {
                 parameters,
             } => {
                 if to_all {
-                    return None;
+                    return false;
                 }
-                Some(self.answer_request(segmented, max_response, invoke, service, parameters))
+                self.answer_request(out, segmented, max_response, invoke, service, parameters);
+                true
             }
             Apdu::Unconfirmed {
                 service,
                 parameters,
             } => {
                 if service == WHO_IS {
-                    self.answer_who_is(parameters)
+                    self.answer_who_is(out, parameters)
+                } else {
+                    false
+                }
+            }
+            Apdu::Simple { .. } => false,
+            Apdu::Complex { .. } => false,
+            Apdu::SegmentAck { .. } => false,
+            Apdu::Error { .. } => false,
+            Apdu::Reject { .. } => false,
+            Apdu::Abort { .. } => false,
+        }
+    }
+
+    /// The reply to an NPDU, who gets it, and what the device is after it.
+    #[tactic(auto, using(crate::proofs::Replies::sent_nobody, crate::proofs::Replies::sent_octets, crate::proofs::Replies::sent_to))]
+    fn answer_npdu(
+        &mut self,
+        out: &mut Datagram,
+        to_all: bool,
+        to: Receiver,
+        npdu: &[u8],
+    ) -> Option<Receiver>
+        requires { out.old ≡ [] }
+        ensures receiver { result ≡ receiver_of (sent to (answer_heard self.old (heard_at to_all npdu.now))).0 }
+        ensures octets { out.new ≡ reply_octets (sent to (answer_heard self.old (heard_at to_all npdu.now))).0 }
+        ensures state { self.new ≡ (sent to (answer_heard self.old (heard_at to_all npdu.now))).1 }
+    {
+        match heard_at(to_all, npdu) {
+            Some(heard) => {
+                if self.answer_apdu(out, heard.to_all, &heard.apdu) {
+                    Some(to)
                 } else {
                     None
                 }
             }
-            Apdu::Simple { .. } => None,
-            Apdu::Complex { .. } => None,
-            Apdu::SegmentAck { .. } => None,
-            Apdu::Error { .. } => None,
-            Apdu::Reject { .. } => None,
-            Apdu::Abort { .. } => None,
-        }
-    }
-
-    /// The reply to an NPDU, and what the device is after it.
-    fn answer_npdu(&mut self, to_all: bool, to: Receiver, npdu: &[u8]) -> Option<Reply>
-        ensures reply { result ≡ (sent to (answer_heard self.old (heard_at to_all npdu.now))).0 }
-        ensures state { self.new ≡ (sent to (answer_heard self.old (heard_at to_all npdu.now))).1 }
-    {
-        match heard_at(to_all, npdu) {
-            Some(heard) => match self.answer_apdu(heard.to_all, &heard.apdu) {
-                Some(datagram) => Some(Reply { datagram, to }),
-                None => None,
-            },
             None => None,
         }
     }
 
     /// Takes a datagram, and gives the reply where there is one. Only an accepted WriteProperty
     /// changes the device.
+    #[tactic(auto, using(crate::proofs::Replies::no_reply, crate::proofs::Replies::reply_is))]
     pub fn handle(&mut self, datagram: &[u8]) -> Option<Reply>
         ensures reply { result ≡ (answer self.old datagram.now).0 }
         ensures state { self.new ≡ (answer self.old datagram.now).1 }
         ensures was_sound { IsSound self.old }
         ensures sound { IsSound self.new }
     {
-        let _ = &self.database;
-        let reply = self.answer(datagram);
-        let _ = &self.database;
-        reply
+        let mut octets = Datagram::new();
+        match self.answer_into(datagram, &mut octets) {
+            Some(to) => Some(Reply {
+                datagram: octets,
+                to,
+            }),
+            None => None,
+        }
     }
 
-    /// The reply to a datagram, where there is one.
+    /// Takes a datagram as [`handle`](Device::handle) does, and writes the octets of the reply into
+    /// `out` in place of what it holds: none where there is no reply. Answers who gets it.
+    pub fn answer_into(&mut self, datagram: &[u8], out: &mut Datagram) -> Option<Receiver>
+        ensures receiver { result ≡ receiver_of (answer self.old datagram.now).0 }
+        ensures octets { out.new ≡ reply_octets (answer self.old datagram.now).0 }
+        ensures state { self.new ≡ (answer self.old datagram.now).1 }
+        ensures was_sound { IsSound self.old }
+        ensures sound { IsSound self.new }
+    {
+        let _ = &self.database;
+        out.cut(0);
+        let to = self.answer(out, datagram);
+        let _ = &self.database;
+        to
+    }
+
+    /// The reply to a datagram, where there is one, and who gets it.
     #[tactic(auto, unfolding(crate::specs::Answer::answer))]
-    fn answer(&mut self, datagram: &[u8]) -> Option<Reply>
-        ensures reply { result ≡ (answer self.old datagram.now).0 }
+    fn answer(&mut self, out: &mut Datagram, datagram: &[u8]) -> Option<Receiver>
+        requires { out.old ≡ [] }
+        ensures receiver { result ≡ receiver_of (answer self.old datagram.now).0 }
+        ensures octets { out.new ≡ reply_octets (answer self.old datagram.now).0 }
         ensures state { self.new ≡ (answer self.old datagram.now).1 }
     {
         match read_frame(datagram) {
-            Some(Frame::Unicast(npdu)) => self.answer_npdu(false, Receiver::Sender, npdu),
-            Some(Frame::Broadcast(npdu)) => self.answer_npdu(true, Receiver::Sender, npdu),
+            Some(Frame::Unicast(npdu)) => self.answer_npdu(out, false, Receiver::Sender, npdu),
+            Some(Frame::Broadcast(npdu)) => self.answer_npdu(out, true, Receiver::Sender, npdu),
             Some(Frame::Forwarded(address, npdu)) => {
-                self.answer_npdu(true, Receiver::Address(address), npdu)
+                self.answer_npdu(out, true, Receiver::Address(address), npdu)
             }
-            Some(Frame::Function(function, _)) => refuse(function),
+            Some(Frame::Function(function, _)) => refuse(out, function),
             None => None,
         }
     }
 }
 
-/// The reply to a function that a device refuses.
-fn refuse(function: u8) -> Option<Reply>
-    ensures { result ≡ nak function }
+/// The reply to a function that a device refuses, and who gets it.
+fn refuse(out: &mut Datagram, function: u8) -> Option<Receiver>
+    requires { out.old ≡ [] }
+    ensures receiver { result ≡ receiver_of (nak function) }
+    ensures octets { out.new ≡ reply_octets (nak function) }
 {
     match nak_code(function) {
-        Some(code) => Some(Reply {
-            datagram: nak_with(code),
-            to: Receiver::Sender,
-        }),
+        Some(code) => {
+            nak_with(out, code);
+            Some(Receiver::Sender)
+        }
         None => None,
     }
 }

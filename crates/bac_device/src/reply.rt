@@ -1,13 +1,11 @@
 //! What a device sends, and to whom.
 
-ghost use Rattle.std.specs.Prelude.{◌≡◌, ◌≤◌, ◌++◌, false, length};
-ghost use Rattle.bac_apdu.specs.Apdu.{Apdu as ApduValue, Complex, IsApdu, Reject, Simple, apdu_octets, apdu_of};
-ghost use Rattle.bac_apdu.specs.Frame.{frame_octets};
-ghost use Rattle.bac_apdu.specs.Npdu.{header_octets};
+ghost use Rattle.std.specs.Prelude.{◌≡◌, ◌≤◌, [], length};
+ghost use Rattle.bac_apdu.specs.Apdu.{Apdu as ApduValue, IsApdu, Reject, Simple, apdu_octets, apdu_of};
 ghost use Rattle.bac_device.specs.Receiving.{nak_octets};
-ghost use Rattle.bac_device.specs.Reply.{abort, datagram_octets, error, limited, plain};
+ghost use Rattle.bac_device.specs.Reply.{abort, begun, datagram_octets, error, limited};
 
-use bac_apdu::{Apdu, Npdu, write_apdu, write_datagram};
+use bac_apdu::{Apdu, Npdu, begin_datagram, end_datagram, write_apdu, write_result};
 use bac_objects::Fault;
 use bac_wire::Datagram;
 
@@ -20,6 +18,9 @@ const PLAIN: Npdu = Npdu {
     source: None,
     hops: 0,
 };
+
+/// The octets before the APDU of a reply: the BVLC head and that header.
+const HEADS_SIZE: usize = 6;
 
 /// The reason of every Abort: segmentation-not-supported (clause 21, BACnetAbortReason).
 const NOT_SEGMENTED: u8 = 4;
@@ -40,98 +41,97 @@ pub struct Reply {
     pub to: Receiver,
 }
 
-/// An APDU in a datagram to one receiver.
-pub(crate) fn datagram_with(apdu: &Apdu) -> Datagram
+/// Begins a datagram to one receiver in place of what `out` holds.
+pub(crate) fn begin(out: &mut Datagram)
+    ensures { out.new ≡ begun [] }
+{
+    out.cut(0);
+    begin_datagram(out, &PLAIN).unwrap();
+}
+
+/// Begins a datagram to one receiver with an APDU, or with the front of one.
+pub(crate) fn begin_with(out: &mut Datagram, apdu: &Apdu)
     requires written { IsApdu (apdu_of apdu.now) }
     requires short { length (apdu_octets (apdu_of apdu.now)) ≤ 1476 }
-    ensures { result ≡ datagram_octets (apdu_of apdu.now) }
+    ensures { out.new ≡ begun (apdu_octets (apdu_of apdu.now)) }
 {
-    let mut octets = Datagram::new();
-    write_apdu(&mut octets, apdu).unwrap();
-    framed(octets.octets())
+    begin(out);
+    write_apdu(out, apdu).unwrap();
 }
 
-/// The octets of an APDU in a datagram to one receiver.
-fn framed(apdu: &[u8]) -> Datagram
-    requires { length apdu.now ≤ 1476 }
-    ensures { result ≡ frame_octets (header_octets plain ++ apdu.now) }
+/// Ends a datagram that was begun.
+pub(crate) fn end(out: &mut Datagram)
+    requires { 6 ≤ length out.old }
+    ensures { (m : ApduValue) → out.old ≡ begun (apdu_octets m) → out.new ≡ datagram_octets m }
 {
-    let mut datagram = Datagram::new();
-    write_datagram(&mut datagram, &PLAIN, apdu).unwrap();
-    datagram
+    end_datagram(out, 0);
 }
 
-/// The octets of an APDU in a datagram to one receiver, where there are at most `limit`, else an
-/// Abort.
-pub(crate) fn within(limit: u16, invoke: u8, apdu: &[u8]) -> Datagram
-    requires { limit ≤ 1476 }
-    ensures { (m : ApduValue) → apdu.now ≡ apdu_octets m → result ≡ datagram_octets (limited limit invoke m) }
+/// Ends a datagram that was begun, where its APDU has at most `limit` octets, else an Abort takes
+/// its place.
+pub(crate) fn end_within(out: &mut Datagram, limit: u16, invoke: u8)
+    requires { 6 ≤ length out.old }
+    ensures { (m : ApduValue) → out.old ≡ begun (apdu_octets m) → out.new ≡ datagram_octets (limited limit invoke m) }
 {
-    if apdu.len() > limit as usize {
-        return abort(invoke);
+    if out.octets().len() - HEADS_SIZE > limit as usize {
+        return abort(out, invoke);
     }
-    framed(apdu)
+    end(out);
 }
 
-/// The result with a code (clause J.2.1).
-pub(crate) fn nak_with(code: u8) -> Datagram
-    ensures { result ≡ nak_octets code }
+/// An APDU in a datagram to one receiver, in place of what `out` holds.
+pub(crate) fn write_reply(out: &mut Datagram, apdu: &Apdu)
+    requires written { IsApdu (apdu_of apdu.now) }
+    requires short { length (apdu_octets (apdu_of apdu.now)) ≤ 1476 }
+    ensures { out.new ≡ datagram_octets (apdu_of apdu.now) }
 {
-    match Datagram::of(&[0x81, 0, 0, 6, 0, code]) {
-        Some(datagram) => datagram,
-        None => unreachable!(),
-    }
+    begin_with(out, apdu);
+    end(out);
 }
 
-/// An Error.
-pub(crate) fn error(invoke: u8, service: u8, fault: Fault) -> Datagram
-    ensures { result ≡ datagram_octets (error invoke service fault) }
+/// The result with a code (clause J.2.1), in place of what `out` holds.
+pub(crate) fn nak_with(out: &mut Datagram, code: u8)
+    ensures { out.new ≡ nak_octets code }
 {
-    datagram_with(&Apdu::Error {
+    out.cut(0);
+    write_result(out, u16::from(code)).unwrap();
+}
+
+/// An Error, in place of what `out` holds.
+pub(crate) fn error(out: &mut Datagram, invoke: u8, service: u8, fault: Fault)
+    ensures { out.new ≡ datagram_octets (error invoke service fault) }
+{
+    let apdu = Apdu::Error {
         invoke,
         service,
         class: fault.class(),
         code: fault.code(),
-    })
+    };
+    write_reply(out, &apdu);
 }
 
-/// A Reject.
-pub(crate) fn reject(invoke: u8, reason: u8) -> Datagram
-    ensures { result ≡ datagram_octets (Reject invoke reason) }
+/// A Reject, in place of what `out` holds.
+pub(crate) fn reject(out: &mut Datagram, invoke: u8, reason: u8)
+    ensures { out.new ≡ datagram_octets (Reject invoke reason) }
 {
-    datagram_with(&Apdu::Reject { invoke, reason })
+    write_reply(out, &Apdu::Reject { invoke, reason });
 }
 
-/// An Abort of what would need segments.
-pub(crate) fn abort(invoke: u8) -> Datagram
-    ensures { result ≡ datagram_octets (abort invoke) }
+/// An Abort of what would need segments, in place of what `out` holds.
+pub(crate) fn abort(out: &mut Datagram, invoke: u8)
+    ensures { out.new ≡ datagram_octets (abort invoke) }
 {
-    datagram_with(&Apdu::Abort {
+    let apdu = Apdu::Abort {
         by_server: true,
         invoke,
         reason: NOT_SEGMENTED,
-    })
+    };
+    write_reply(out, &apdu);
 }
 
-/// A SimpleACK.
-pub(crate) fn simple(invoke: u8, service: u8) -> Datagram
-    ensures { result ≡ datagram_octets (Simple invoke service) }
+/// A SimpleACK, in place of what `out` holds.
+pub(crate) fn simple(out: &mut Datagram, invoke: u8, service: u8)
+    ensures { out.new ≡ datagram_octets (Simple invoke service) }
 {
-    datagram_with(&Apdu::Simple { invoke, service })
-}
-
-/// A ComplexACK, where it has at most `limit` octets, else an Abort.
-pub(crate) fn complex(limit: u16, invoke: u8, service: u8, parameters: &[u8]) -> Datagram
-    requires { limit ≤ 1476 }
-    ensures { result ≡ datagram_octets (limited limit invoke (Complex false invoke service parameters.now)) }
-{
-    if parameters.len() + 3 > limit as usize {
-        return abort(invoke);
-    }
-    datagram_with(&Apdu::Complex {
-        segmented: false,
-        invoke,
-        service,
-        parameters,
-    })
+    write_reply(out, &Apdu::Simple { invoke, service });
 }

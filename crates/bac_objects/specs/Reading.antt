@@ -63,6 +63,11 @@ abbrev pub fitted : Result (List ℕ) Fault → Result (List ℕ) Refused
 fitted (Ok octets) = if nat_lt 1501 (length octets) then Err refused.TooLong else Ok octets
 fitted (Err fault) = Err (refused.Fault fault)
 
+-- the octets that a datagram holds where they were written, or why they weren't
+abbrev pub told : Result (Unit {0}) Refused → List ℕ → Result (List ℕ) Refused
+told (Ok done) octets = Ok octets
+told (Err why) octets = Err why
+
 -- A value is appended, or it doesn't fit a datagram.
 abbrev pub Appends : List ℕ → Primitive → Result (Unit {0}) Refused → List ℕ → Type 0
 Appends old v (Ok done) new = (new ≡ old ++ value_octets v) × (length new < 1502)

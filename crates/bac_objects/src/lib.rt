@@ -1,9 +1,9 @@
 //! The objects of a device and their properties (clause 12): built of lines, read and written.
 //!
 //! [`Database::build`] makes a [`Database`] of a [`DeviceLine`] and [`ObjectLine`]s, or tells the
-//! first fault ([`BuildFault`]). [`Database::read`] gives the values of a property as octets, and
-//! [`Database::write`] sets one, each with the [`Fault`] of the standard. Contracts see a database
-//! as the record `State` of specs/State; specs/Properties has a row for each property.
+//! first fault ([`BuildFault`]). [`Database::read_into`] writes the values of a property as octets,
+//! and [`Database::write`] sets one, each with the [`Fault`] of the standard. Contracts see a
+//! database as the record `State` of specs/State; specs/Properties has a row for each property.
 //!
 //! Frames, network headers and the answers to services are in the crate above.
 #![tactic(auto)]

@@ -1,11 +1,11 @@
 //! Reads of properties, as octets (clause 15.5).
 
-ghost use Rattle.std.specs.Prelude.{◌≡◌, [], ◌∷◌, map, slice_get, Ok, IfSome};
+ghost use Rattle.std.specs.Prelude.{◌≡◌, [], ◌∷◌, map, slice_get, Ok, IfSome, OnErr};
 ghost use Rattle.std.specs.Option.{option_map};
 ghost use Rattle.bac_wire.specs.Primitive.{Object};
 ghost use Rattle.bac_wire.specs.View.{IsWellFormed, view};
 ghost use Rattle.bac_objects.specs.Properties.{Array, object_list, slot_value};
-ghost use Rattle.bac_objects.specs.Reading.{Appends, IsSound, elements, elements_of, fitted, read_of, reference_octets, shown_of, values_octets};
+ghost use Rattle.bac_objects.specs.Reading.{Appends, IsSound, elements, elements_of, fitted, read_of, reference_octets, shown_of, told, values_octets};
 
 use crate::command::{Setting, slot_value};
 use crate::database::Database;
@@ -26,62 +26,59 @@ fn add(out: &mut Datagram, value: &Value) -> Result<(), Refused>
 }
 
 /// One value.
-fn single(value: &Value) -> Result<Datagram, Refused>
-    requires { IsWellFormed value.now }
-    ensures { result ≡ fitted (Ok (values_octets (view value.now ∷ []))) }
+fn single(value: &Value, out: &mut Datagram) -> Result<(), Refused>
+    requires value { IsWellFormed value.now }
+    requires empty { out.old ≡ [] }
+    ensures { told result out.new ≡ fitted (Ok (values_octets (view value.now ∷ []))) }
 {
-    let mut out = Datagram::new();
-    match add(&mut out, value) {
-        Ok(()) => Ok(out),
+    match add(out, value) {
+        Ok(()) => Ok(()),
         Err(fault) => Err(fault),
     }
 }
 
-/// No value.
-#[tactic(auto, using(crate::proofs::Encodings::nothing))]
-fn none() -> Result<Datagram, Refused>
-    ensures { result ≡ fitted (Ok (values_octets [])) }
-{
-    Ok(Datagram::new())
-}
-
 /// A reference to a property of this device that is no array.
 #[tactic(auto, unfolding(crate::specs::Reading::reference_octets))]
-fn reference(object: ObjectId, property: u32) -> Result<Datagram, Refused>
-    ensures { result ≡ fitted (Ok (reference_octets object property)) }
+fn reference(object: ObjectId, property: u32, out: &mut Datagram) -> Result<(), Refused>
+    requires { out.old ≡ [] }
+    ensures { told result out.new ≡ fitted (Ok (reference_octets object property)) }
 {
-    let mut out = Datagram::new();
-    if write_context(&mut out, 0, &Value::Object(object)).is_err() {
+    if write_context(out, 0, &Value::Object(object)).is_err() {
         return Err(Refused::TooLong);
     }
-    if write_context(&mut out, 1, &Value::Enumerated(property)).is_err() {
+    if write_context(out, 1, &Value::Enumerated(property)).is_err() {
         return Err(Refused::TooLong);
     }
-    Ok(out)
+    Ok(())
 }
 
 /// The values of all priorities.
-fn all_slots(slots: &[Option<Setting>; 16]) -> Result<Datagram, Refused>
-    ensures { result ≡ fitted (Ok (values_octets (map slot_value slots.now))) }
+fn all_slots(slots: &[Option<Setting>; 16], out: &mut Datagram) -> Result<(), Refused>
+    requires { out.old ≡ [] }
+    ensures { told result out.new ≡ fitted (Ok (values_octets (map slot_value slots.now))) }
 {
-    let mut out = Datagram::new();
     for slot in slots {
-        if let Err(fault) = add(&mut out, &slot_value(*slot)) {
+        if let Err(fault) = add(out, &slot_value(*slot)) {
             return Err(fault);
         }
     }
-    Ok(out)
+    Ok(())
 }
 
 /// The priority array, or its element at an index.
-fn slots_at(slots: &[Option<Setting>; 16], index: Option<u32>) -> Result<Datagram, Refused>
-    ensures { result ≡ fitted (elements (Array (map slot_value slots.now)) index) }
+fn slots_at(
+    slots: &[Option<Setting>; 16],
+    index: Option<u32>,
+    out: &mut Datagram,
+) -> Result<(), Refused>
+    requires { out.old ≡ [] }
+    ensures { told result out.new ≡ fitted (elements (Array (map slot_value slots.now)) index) }
 {
     match index {
-        None => all_slots(slots),
-        Some(0) => single(&Value::Unsigned(16)),
+        None => all_slots(slots, out),
+        Some(0) => single(&Value::Unsigned(16), out),
         Some(index) => match slots.get(index as usize - 1) {
-            Some(slot) => single(&slot_value(*slot)),
+            Some(slot) => single(&slot_value(*slot), out),
             None => Err(Refused::Fault(Fault::BadIndex)),
         },
     }
@@ -89,23 +86,25 @@ fn slots_at(slots: &[Option<Setting>; 16], index: Option<u32>) -> Result<Datagra
 
 impl<'a> Property<'a> {
     /// The values of the property, or the element at an index.
-    fn octets(&self, index: Option<u32>) -> Result<Datagram, Refused>
-        requires { IsSound self.now }
-        ensures { result ≡ fitted (elements (shown_of self.now) index) }
+    #[tactic(auto, using(crate::proofs::Encodings::nothing))]
+    fn write_values(&self, index: Option<u32>, out: &mut Datagram) -> Result<(), Refused>
+        requires sound { IsSound self.now }
+        requires empty { out.old ≡ [] }
+        ensures { told result out.new ≡ fitted (elements (shown_of self.now) index) }
     {
         match self {
             Property::One(value) => match index {
-                None => single(value),
+                None => single(value, out),
                 Some(_) => Err(Refused::Fault(Fault::NotArray)),
             },
             Property::Nothing => match index {
-                None => none(),
+                None => Ok(()),
                 Some(_) => Err(Refused::Fault(Fault::NotArray)),
             },
-            Property::Slots(slots) => slots_at(slots, index),
-            Property::Objects(database) => database.objects_at(index),
+            Property::Slots(slots) => slots_at(slots, index, out),
+            Property::Objects(database) => database.objects_at(index, out),
             Property::Reference { object, property } => match index {
-                None => reference(*object, *property),
+                None => reference(*object, *property, out),
                 Some(_) => Err(Refused::Fault(Fault::NotArray)),
             },
             Property::Records => match index {
@@ -117,26 +116,32 @@ impl<'a> Property<'a> {
 }
 
 /// The values of a property that an object may have.
-fn octets_of(property: &Option<Property>, index: Option<u32>) -> Result<Datagram, Refused>
-    requires { IfSome property.now IsSound }
-    ensures { result ≡ fitted (elements_of (option_map shown_of property.now) index) }
+fn write_values_of(
+    property: &Option<Property>,
+    index: Option<u32>,
+    out: &mut Datagram,
+) -> Result<(), Refused>
+    requires sound { IfSome property.now IsSound }
+    requires empty { out.old ≡ [] }
+    ensures { told result out.new ≡ fitted (elements_of (option_map shown_of property.now) index) }
 {
     match property {
-        Some(property) => property.octets(index),
+        Some(property) => property.write_values(index, out),
         None => Err(Refused::Fault(Fault::UnknownProperty)),
     }
 }
 
 impl Database {
     /// The object list, or its element at an index.
-    fn objects_at(&self, index: Option<u32>) -> Result<Datagram, Refused>
-        ensures { result ≡ fitted (elements (Array (object_list self.now)) index) }
+    fn objects_at(&self, index: Option<u32>, out: &mut Datagram) -> Result<(), Refused>
+        requires { out.old ≡ [] }
+        ensures { told result out.new ≡ fitted (elements (Array (object_list self.now)) index) }
     {
         match index {
-            None => self.all_objects(),
-            Some(0) => single(&Value::Unsigned(self.objects.len() as u64 + 1)),
+            None => self.all_objects(out),
+            Some(0) => single(&Value::Unsigned(self.objects.len() as u64 + 1), out),
             Some(index) => match self.listed(index as usize - 1) {
-                Some(id) => single(&Value::Object(id)),
+                Some(id) => single(&Value::Object(id), out),
                 None => Err(Refused::Fault(Fault::BadIndex)),
             },
         }
@@ -157,36 +162,52 @@ impl Database {
     }
 
     /// The whole object list.
-    fn all_objects(&self) -> Result<Datagram, Refused>
-        ensures { result ≡ fitted (Ok (values_octets (object_list self.now))) }
+    fn all_objects(&self, out: &mut Datagram) -> Result<(), Refused>
+        requires { out.old ≡ [] }
+        ensures { told result out.new ≡ fitted (Ok (values_octets (object_list self.now))) }
     {
-        let mut out = Datagram::new();
-        if let Err(fault) = add(&mut out, &Value::Object(self.id())) {
+        if let Err(fault) = add(out, &Value::Object(self.id())) {
             return Err(fault);
         }
         for id in self.objects.keys() {
-            if let Err(fault) = add(&mut out, &Value::Object(*id)) {
+            if let Err(fault) = add(out, &Value::Object(*id)) {
                 return Err(fault);
             }
         }
-        Ok(out)
+        Ok(())
     }
 
-    /// The octets of the values that a request asks for, each in its shortest encoding. The first
-    /// fault decides: no such object, no such property, an index into what is no array, no such
-    /// element, records of a log, which ReadRange reads (clause 15.5.2).
-    pub fn read(&self, request: &ReadProperty) -> Result<Datagram, Refused>
-        ensures { result ≡ fitted (read_of self.now request.now) }
+    /// Writes the values that a request asks for into an empty datagram.
+    fn write_asked(&self, request: &ReadProperty, out: &mut Datagram) -> Result<(), Refused>
+        requires { out.old ≡ [] }
+        ensures { told result out.new ≡ fitted (read_of self.now request.now) }
     {
         if self.is_here(request.object) {
-            return octets_of(&self.property(request.property), request.index);
+            return write_values_of(&self.property(request.property), request.index, out);
         }
         match self.object(request.object) {
-            Some(object) => octets_of(
+            Some(object) => write_values_of(
                 &object.property(request.object, request.property),
                 request.index,
+                out,
             ),
             None => Err(Refused::Fault(Fault::UnknownObject)),
         }
+    }
+
+    /// Writes the values that a request asks for, each in its shortest encoding, into `values` in
+    /// place of what it holds. The first fault decides, and then `values` is empty: no such object,
+    /// no such property, an index into what is no array, no such element, records of a log, which
+    /// ReadRange reads (clause 15.5.2); or the values don't fit a datagram.
+    pub fn read_into(&self, request: &ReadProperty, values: &mut Datagram) -> Result<(), Refused>
+        ensures told { told result values.new ≡ fitted (read_of self.now request.now) }
+        ensures err { OnErr result (values.new ≡ []) }
+    {
+        values.cut(0);
+        let read = self.write_asked(request, values);
+        if read.is_err() {
+            values.cut(0);
+        }
+        read
     }
 }

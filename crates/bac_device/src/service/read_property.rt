@@ -8,33 +8,40 @@ ghost use Rattle.bac_device.specs.Answer.{ack_octets, answer_read, own_id, read_
 ghost use Rattle.bac_device.specs.Reply.{datagram_octets, limited};
 
 use crate::device::Device;
-use crate::reply::{abort, complex, error, reject};
+use crate::reply::{abort, begin_with, end_within, error, reject};
 use bac_apdu::choice::READ_PROPERTY;
-use bac_apdu::{ReadProperty, ReadPropertyAck};
+use bac_apdu::{Apdu, ReadProperty, ReadPropertyAck};
 use bac_objects::Refused;
 use bac_wire::{Datagram, ObjectId};
 
 /// The ACK with these values, where it has at most `limit` octets, else an Abort.
 fn acknowledge(
+    out: &mut Datagram,
     limit: u16,
     invoke: u8,
     object: ObjectId,
     request: &ReadProperty,
     values: &[u8],
-) -> Datagram
+)
     requires { limit ≤ 1476 }
-    ensures { result ≡ datagram_octets (limited limit invoke (Complex false invoke 12 (ack_octets object request.now.property request.now.index values.now))) }
+    ensures { out.new ≡ datagram_octets (limited limit invoke (Complex false invoke 12 (ack_octets object request.now.property request.now.index values.now))) }
 {
-    let mut parameters = Datagram::new();
+    let head = Apdu::Complex {
+        segmented: false,
+        invoke,
+        service: READ_PROPERTY,
+        parameters: &[],
+    };
+    begin_with(out, &head);
     let ack = ReadPropertyAck {
         object,
         property: request.property,
         index: request.index,
         values,
     };
-    match ack.write(&mut parameters) {
-        Ok(()) => complex(limit, invoke, READ_PROPERTY, parameters.octets()),
-        Err(_) => abort(invoke),
+    match ack.write(out) {
+        Ok(()) => end_within(out, limit, invoke),
+        Err(_) => abort(out, invoke),
     }
 }
 
@@ -50,32 +57,34 @@ impl Device {
         }
     }
 
-    /// The answer to what is asked for.
-    fn read_said(&self, limit: u16, invoke: u8, request: &ReadProperty) -> Datagram
+    /// The answer to what is asked for, in place of what `out` holds.
+    fn read_said(&self, out: &mut Datagram, limit: u16, invoke: u8, request: &ReadProperty)
         requires { limit ≤ 1476 }
-        ensures { result ≡ datagram_octets (read_said self.now limit invoke request.now (read_of self.now request.now)) }
+        ensures { out.new ≡ datagram_octets (read_said self.now limit invoke request.now (read_of self.now request.now)) }
     {
-        match self.database.read(request) {
-            Ok(values) => acknowledge(
+        let mut values = Datagram::new();
+        match self.database.read_into(request, &mut values) {
+            Ok(()) => acknowledge(
+                out,
                 limit,
                 invoke,
                 self.own_id(request.object),
                 request,
                 values.octets(),
             ),
-            Err(Refused::Fault(fault)) => error(invoke, READ_PROPERTY, fault),
-            Err(Refused::TooLong) => abort(invoke),
+            Err(Refused::Fault(fault)) => error(out, invoke, READ_PROPERTY, fault),
+            Err(Refused::TooLong) => abort(out, invoke),
         }
     }
 
-    /// The answer to a ReadProperty.
-    pub(crate) fn answer_read(&self, limit: u16, invoke: u8, parameters: &[u8]) -> Datagram
+    /// The answer to a ReadProperty, in place of what `out` holds.
+    pub(crate) fn answer_read(&self, out: &mut Datagram, limit: u16, invoke: u8, parameters: &[u8])
         requires { limit ≤ 1476 }
-        ensures { result ≡ datagram_octets (answer_read self.now limit invoke (read_property_at parameters.now)) }
+        ensures { out.new ≡ datagram_octets (answer_read self.now limit invoke (read_property_at parameters.now)) }
     {
         match ReadProperty::read(parameters) {
-            Ok(request) => self.read_said(limit, invoke, &request),
-            Err(reason) => reject(invoke, reason.code()),
+            Ok(request) => self.read_said(out, limit, invoke, &request),
+            Err(reason) => reject(out, invoke, reason.code()),
         }
     }
 }

@@ -1,13 +1,12 @@
 //! Who-Is and I-Am (clause 16.10).
 
-ghost use Rattle.std.specs.Prelude.{◌≡◌};
-ghost use Rattle.std.specs.Option.{option_map};
+ghost use Rattle.std.specs.Prelude.{◌≡◌, [], is_some};
 ghost use Rattle.bac_apdu.specs.Service.WhoIs.{who_is_at};
 ghost use Rattle.bac_device.specs.Answer.{announced, asks_for, i_am_apdu};
-ghost use Rattle.bac_device.specs.Reply.{datagram_octets};
+ghost use Rattle.bac_device.specs.Reply.{datagram_octets, said_octets};
 
 use crate::device::Device;
-use crate::reply::datagram_with;
+use crate::reply::{begin_with, end};
 use bac_apdu::choice::I_AM;
 use bac_apdu::{Apdu, IAm, WhoIs};
 use bac_wire::Datagram;
@@ -16,22 +15,23 @@ use bac_wire::Datagram;
 const NO_SEGMENTATION: u32 = 3;
 
 impl Device {
-    /// Its I-Am as a whole datagram.
-    fn announcement(&self) -> Datagram
-        ensures { result ≡ datagram_octets (i_am_apdu self.now) }
+    /// Its I-Am as a whole datagram, in place of what `out` holds.
+    fn announce(&self, out: &mut Datagram)
+        ensures { out.new ≡ datagram_octets (i_am_apdu self.now) }
     {
-        let mut parameters = Datagram::new();
+        let head = Apdu::Unconfirmed {
+            service: I_AM,
+            parameters: &[],
+        };
+        begin_with(out, &head);
         let announcement = IAm {
             device: self.database.id(),
             max_apdu: u64::from(self.database.reply_size()),
             segmentation: NO_SEGMENTATION,
             vendor: u64::from(self.database.vendor()),
         };
-        announcement.write(&mut parameters).unwrap();
-        datagram_with(&Apdu::Unconfirmed {
-            service: I_AM,
-            parameters: parameters.octets(),
-        })
+        announcement.write(out).unwrap();
+        end(out);
     }
 
     /// Whether limits ask for this device.
@@ -45,19 +45,21 @@ impl Device {
         }
     }
 
-    /// The answer to a Who-Is, where it asks for this device.
-    pub(crate) fn answer_who_is(&self, parameters: &[u8]) -> Option<Datagram>
-        ensures { result ≡ option_map datagram_octets (announced self.now (who_is_at parameters.now)) }
+    /// The answer to a Who-Is, and whether there is one: where it asks for this device.
+    pub(crate) fn answer_who_is(&self, out: &mut Datagram, parameters: &[u8]) -> bool
+        requires { out.old ≡ [] }
+        ensures answered { result ≡ is_some (announced self.now (who_is_at parameters.now)) }
+        ensures apdu { out.new ≡ said_octets (announced self.now (who_is_at parameters.now)) }
     {
         match WhoIs::read(parameters) {
             Some(who_is) => {
-                if self.is_asked(who_is.limits) {
-                    Some(self.announcement())
-                } else {
-                    None
+                let asked = self.is_asked(who_is.limits);
+                if asked {
+                    self.announce(out);
                 }
+                asked
             }
-            None => None,
+            None => false,
         }
     }
 }

@@ -12,17 +12,17 @@ use bac_apdu::choice::WRITE_PROPERTY;
 use bac_wire::Datagram;
 
 impl Device {
-    /// The answer to a WriteProperty, and what the device is after it.
-    pub(crate) fn answer_write(&mut self, invoke: u8, parameters: &[u8]) -> Datagram
-        ensures apdu { result ≡ datagram_octets (answer_write self.old invoke (write_property_at parameters.now)).0 }
+    /// The answer to a WriteProperty, in place of what `out` holds, and what the device is after it.
+    pub(crate) fn answer_write(&mut self, out: &mut Datagram, invoke: u8, parameters: &[u8])
+        ensures apdu { out.new ≡ datagram_octets (answer_write self.old invoke (write_property_at parameters.now)).0 }
         ensures state { self.new ≡ (answer_write self.old invoke (write_property_at parameters.now)).1 }
     {
         match WriteProperty::read(parameters) {
             Ok(request) => match self.database.write(&request) {
-                Ok(()) => simple(invoke, WRITE_PROPERTY),
-                Err(fault) => error(invoke, WRITE_PROPERTY, fault),
+                Ok(()) => simple(out, invoke, WRITE_PROPERTY),
+                Err(fault) => error(out, invoke, WRITE_PROPERTY, fault),
             },
-            Err(reason) => reject(invoke, reason.code()),
+            Err(reason) => reject(out, invoke, reason.code()),
         }
     }
 }

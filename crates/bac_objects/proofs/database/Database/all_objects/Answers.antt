@@ -11,15 +11,15 @@ pub returns-in-Err : goal.returns-in-Err
 returns-in-Err c =
     let w = c.in-Err.ensures {u = tt} in
     let d = c.args.self.now in
-    object_long (Object (device_id d)) (map (λ id. Object id) (keys_of d.objects)) (object_list d) c.new-out.result c.in-Err.fault (start (object_list d) c.new-out.result c.new-out.ensures) w.0 (subst (λ (id : Id). 1501 < length c.new-out.result + length (value_octets (Object id))) c.id.ensures w.1)
+    object_long (Object (device_id d)) (map (λ id. Object id) (keys_of d.objects)) (object_list d) c.args.out.now c.in-Err.fault (start (object_list d) c.args.out.now c.requires) w.0 (subst (λ (id : Id). 1501 < length c.args.out.now + length (value_octets (Object id))) c.id.ensures w.1)
 
 pub loop-id-init : goal.loop-id-init
 loop-id-init c =
     let w = c.in_default.ensures {u = tt} in
     let d = c.args.self.now in
     let keys : c.into_iter-id-iterator.result ≡ keys_of d.objects = search rules in
-    let text = one_more (Object (device_id d)) (map (λ id. Object id) (keys_of d.objects)) c.new-out.result c.add.new.out (values_octets (object_list d)) (start (object_list d) c.new-out.result c.new-out.ensures)
-    (w.0 ∙ ap (λ (id : Id). c.new-out.result ++ value_octets (Object id)) c.id.ensures) in
+    let text = one_more (Object (device_id d)) (map (λ id. Object id) (keys_of d.objects)) c.args.out.now c.add.new.out (values_octets (object_list d)) (start (object_list d) c.args.out.now c.requires)
+    (w.0 ∙ ap (λ (id : Id). c.args.out.now ++ value_octets (Object id)) c.id.ensures) in
     (tt, tt, ap (λ (l : List Id). c.add.new.out ++ values_octets (map (λ id. Object id) l)) keys ∙ text, w.1)
 
 pub returns-in-Err-add : goal.returns-in-Err-add
