@@ -87,7 +87,7 @@ fn values_out_of_range(rt: HostRuntime) -> Result<(), Fail> {
 }
 
 #[test]
-fn who_is_rows(rt: HostRuntime) -> Result<(), Fail> {
+fn who_is_to_all_networks(rt: HostRuntime) -> Result<(), Fail> {
     // to all networks, 255 hops: Who-Is without limits
     let all: [u8; 12] = [0x81, 0x0b, 0, 12, 0x01, 0x20, 0xff, 0xff, 0, 0xff, 0x10, 8];
     let npdu = match read_frame(&all).ok_or("frame")? {
@@ -99,7 +99,12 @@ fn who_is_rows(rt: HostRuntime) -> Result<(), Fail> {
     assert_eq!(rt; (dest.net, dest.address.len(), npdu.hops), (65535, 0, 255));
     assert!(rt; !npdu.network && !npdu.reply && npdu.source.is_none());
     assert!(rt; matches!(read_apdu(apdu), Some(Apdu::Unconfirmed { service: 8, .. })));
-    // the limits: none, 124 to 200, and one alone
+    Ok(())
+}
+
+#[test]
+fn limits_are_read(rt: HostRuntime) {
+    // none, 124 to 200, and one alone
     let rows: [(&[u8], Option<WhoIs>); 4] = [
         (&[], Some(WhoIs { limits: None })),
         (
@@ -115,7 +120,6 @@ fn who_is_rows(rt: HostRuntime) -> Result<(), Fail> {
     for (bytes, want) in rows {
         assert_eq!(rt; WhoIs::read(bytes), want);
     }
-    Ok(())
 }
 
 #[test]

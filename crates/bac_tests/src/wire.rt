@@ -31,11 +31,17 @@ fn fault_of(octets: &[u8]) -> Option<WireFault> {
 /// Whether the value at the front is written so.
 fn is_written_as(octets: &[u8], text: &[u8]) -> bool {
     match read_value(octets) {
-        Ok((value, _)) => match written(&value) {
-            Some(out) => out.octets() == text,
-            None => false,
-        },
+        Ok((value, _)) => is_written(&value, text),
         Err(_) => false,
+    }
+}
+
+fn is_written(value: &Value, text: &[u8]) -> bool
+    requires { IsWellFormed value.now }
+{
+    match written(value) {
+        Some(out) => out.octets() == text,
+        None => false,
     }
 }
 
@@ -158,15 +164,15 @@ fn no_values(rt: HostRuntime) {
 }
 
 #[test]
-fn shortest(rt: HostRuntime) -> Result<(), Fail> {
-    let zero = written(&Value::Unsigned(0)).ok_or("0")?;
-    assert_eq!(rt; zero.octets(), [0x21, 0].as_slice());
-    let unsigned = written(&Value::Unsigned(256)).ok_or("256")?;
-    assert_eq!(rt; unsigned.octets(), [0x22, 1, 0].as_slice());
-    let signed = written(&Value::Signed(128)).ok_or("128")?;
-    assert_eq!(rt; signed.octets(), [0x32, 0, 0x80].as_slice());
-    let negative = written(&Value::Signed(-129)).ok_or("-129")?;
-    assert_eq!(rt; negative.octets(), [0x32, 0xff, 0x7f].as_slice());
+fn shortest_numbers(rt: HostRuntime) {
+    assert!(rt; is_written(&Value::Unsigned(0), &[0x21, 0]));
+    assert!(rt; is_written(&Value::Unsigned(256), &[0x22, 1, 0]));
+    assert!(rt; is_written(&Value::Signed(128), &[0x32, 0, 0x80]));
+    assert!(rt; is_written(&Value::Signed(-129), &[0x32, 0xff, 0x7f]));
+}
+
+#[test]
+fn shortest_lengths(rt: HostRuntime) -> Result<(), Fail> {
     let octets = [7; 254];
     let shorter = written(&Value::Octets(&octets[..253])).ok_or("253 octets")?;
     assert_eq!(rt; shorter.octets().len(), 255);
@@ -177,46 +183,72 @@ fn shortest(rt: HostRuntime) -> Result<(), Fail> {
     Ok(())
 }
 
+/// [3] { [1] TRUE, [15] 42, Null }.
+const BEHIND_TAGS: [u8; 8] = [0x3e, 0x19, 1, 0xf9, 15, 42, 0x00, 0x3f];
+
 #[test]
-fn behind_context_tags(rt: HostRuntime) -> Result<(), Fail> {
+fn context_tags_are_written(rt: HostRuntime) -> Result<(), Fail> {
     let mut out = Datagram::new();
-    write_open(&mut out, 3).ok().ok_or("opening")?;
-    write_context(&mut out, 1, &Value::Boolean(true))
-        .ok()
-        .ok_or("boolean")?;
-    write_context(&mut out, 15, &Value::Unsigned(42))
-        .ok()
-        .ok_or("unsigned")?;
-    write_octets(&mut out, &[0x00]).ok().ok_or("null")?;
-    write_close(&mut out, 3).ok().ok_or("closing")?;
-    // [3] { [1] TRUE, [15] 42, Null }
-    let octets = [0x3e, 0x19, 1, 0xf9, 15, 42, 0x00, 0x3f];
-    assert_eq!(rt; out.octets(), octets.as_slice());
-    assert_eq!(rt; read_open(&octets, 3), Ok(1));
-    assert_eq!(rt; octets_to_close(&octets[1..], 3), Ok(6));
-    assert_eq!(rt; read_context(&octets[1..], 1), Ok(([1].as_slice(), 2)));
-    assert_eq!(rt; read_context(&octets[3..], 15), Ok(([42].as_slice(), 3)));
-    assert_eq!(rt; read_close(&octets[7..], 3), Ok(1));
-    // the number in an octet of its own
-    assert_eq!(rt; read_context(&[0xf9, 1, 42], 1), Ok(([42].as_slice(), 3)));
-    assert_eq!(rt; read_open(&[0xfe, 3], 3), Ok(2));
-    // another kind, another number, a number that is missing, contents that are missing
-    assert_eq!(rt; read_open(&[0xf9], 3), Err(WireFault::BadTag));
-    assert_eq!(rt; read_open(&[0x3f], 3), Err(WireFault::BadTag));
-    assert_eq!(rt; read_close(&[0x4f], 3), Err(WireFault::BadTag));
-    assert_eq!(rt; read_open(&[0xfe], 3), Err(WireFault::Ended));
-    assert_eq!(rt; read_context(&[0x0b, 5, 0], 0), Err(WireFault::Ended));
-    assert_eq!(rt; read_context(&[0x21, 5], 2), Err(WireFault::BadTag));
+    write_open(&mut out, 3)?;
+    write_context(&mut out, 1, &Value::Boolean(true))?;
+    write_context(&mut out, 15, &Value::Unsigned(42))?;
+    write_octets(&mut out, &[0x00])?;
+    write_close(&mut out, 3)?;
+    assert_eq!(rt; out.octets(), BEHIND_TAGS.as_slice());
     Ok(())
 }
 
 #[test]
-fn contents(rt: HostRuntime) {
+fn context_tags_are_read(rt: HostRuntime) {
+    let rows: [(&[u8], u8, Result<(&[u8], usize), WireFault>); 5] = [
+        (&BEHIND_TAGS[1..], 1, Ok((&[1], 2))),
+        (&BEHIND_TAGS[3..], 15, Ok((&[42], 3))),
+        // the number in an octet of its own
+        (&[0xf9, 1, 42], 1, Ok((&[42], 3))),
+        // contents that are missing, an application tag
+        (&[0x0b, 5, 0], 0, Err(WireFault::Ended)),
+        (&[0x21, 5], 2, Err(WireFault::BadTag)),
+    ];
+    for (octets, number, want) in rows {
+        assert_eq!(rt; read_context(octets, number), want, "of {octets:?}");
+    }
+}
+
+#[test]
+fn opening_tags_are_read(rt: HostRuntime) {
+    let rows: [(&[u8], Result<usize, WireFault>); 5] = [
+        (&BEHIND_TAGS, Ok(1)),
+        // the number in an octet of its own
+        (&[0xfe, 3], Ok(2)),
+        // another kind, a closing tag, a number that is missing
+        (&[0xf9], Err(WireFault::BadTag)),
+        (&[0x3f], Err(WireFault::BadTag)),
+        (&[0xfe], Err(WireFault::Ended)),
+    ];
+    for (octets, want) in rows {
+        assert_eq!(rt; read_open(octets, 3), want, "of {octets:?}");
+    }
+}
+
+#[test]
+fn closing_tags_are_read(rt: HostRuntime) {
+    assert_eq!(rt; octets_to_close(&BEHIND_TAGS[1..], 3), Ok(6));
+    assert_eq!(rt; read_close(&BEHIND_TAGS[7..], 3), Ok(1));
+    // another number
+    assert_eq!(rt; read_close(&[0x4f], 3), Err(WireFault::BadTag));
+}
+
+#[test]
+fn contents_of_numbers(rt: HostRuntime) {
     assert_eq!(rt; as_unsigned(&[0, 5]), Ok(5));
     assert_eq!(rt; as_unsigned(&[]), Err(WireFault::BadLength));
     assert_eq!(rt; as_unsigned(&[0; 9]), Err(WireFault::BadLength));
     assert_eq!(rt; as_signed(&[0xff, 0x80]), Ok(-128));
     assert_eq!(rt; as_signed(&[0x80, 0, 0, 0, 0, 0, 0, 0]), Ok(i64::MIN));
+}
+
+#[test]
+fn contents_of_choices(rt: HostRuntime) {
     assert_eq!(rt; as_boolean(&[1]), Ok(true));
     assert_eq!(rt; as_boolean(&[2]), Err(WireFault::BadContents));
     assert_eq!(rt; as_boolean(&[0, 0]), Err(WireFault::BadLength));
@@ -225,6 +257,10 @@ fn contents(rt: HostRuntime) {
         as_enumerated(&[1, 0, 0, 0, 0]),
         Err(WireFault::BadContents)
     );
+}
+
+#[test]
+fn contents_of_bits_and_identifiers(rt: HostRuntime) {
     assert_eq!(rt;
         as_bits(&[5, 0b1010_0000]),
         Ok((5, [0b1010_0000].as_slice()))
@@ -262,7 +298,7 @@ fn levels(rt: HostRuntime) {
 }
 
 #[test]
-fn full(rt: HostRuntime) -> Result<(), Fail> {
+fn what_does_not_fit_is_not_written(rt: HostRuntime) -> Result<(), Fail> {
     assert!(rt; Datagram::of(&[0; 1502]).is_none());
     let mut out = Datagram::of(&[0; 1499]).ok_or("1499 octets")?;
     let before = out.clone()?;
@@ -270,9 +306,15 @@ fn full(rt: HostRuntime) -> Result<(), Fail> {
     assert_eq!(rt; write_context(&mut out, 15, &Value::Unsigned(1)), Err(Full));
     assert_eq!(rt; write_octets(&mut out, &[1, 2, 3]), Err(Full));
     assert!(rt; out == before);
-    write_open(&mut out, 3).ok().ok_or("opening")?;
+    Ok(())
+}
+
+#[test]
+fn tags_fill_a_datagram(rt: HostRuntime) -> Result<(), Fail> {
+    let mut out = Datagram::of(&[0; 1499]).ok_or("1499 octets")?;
+    write_open(&mut out, 3)?;
     assert_eq!(rt; write_close(&mut out, 15), Err(Full));
-    write_close(&mut out, 3).ok().ok_or("closing")?;
+    write_close(&mut out, 3)?;
     assert_eq!(rt; out.octets().len(), 1501);
     assert_eq!(rt; &out.octets()[1499..], [0x3e, 0x3f].as_slice());
     assert!(rt; Datagram::default() == Datagram::new());
@@ -322,43 +364,60 @@ fn object_identifiers(rt: HostRuntime) -> Result<(), Fail> {
 }
 
 #[test]
-fn stamps(rt: HostRuntime) -> Result<(), Fail> {
+fn stamps_count_ticks(rt: HostRuntime) -> Result<(), Fail> {
     let first = Stamp::new(1990, 1, 1, 0, 0, 0, 0).ok_or("first")?;
     let next = Stamp::new(1990, 1, 2, 0, 0, 0, 1).ok_or("next")?;
     assert_eq!(rt; first.ticks(), 0);
     assert_eq!(rt; next.ticks(), 8640001);
     assert!(rt; first.is_before(&next));
     assert!(rt; next > first);
+    Ok(())
+}
+
+#[test]
+fn no_stamps(rt: HostRuntime) {
     assert_eq!(rt; Stamp::new(2023, 2, 29, 0, 0, 0, 0), None);
     assert_eq!(rt; Stamp::new(2024, 4, 30, 24, 0, 0, 0), None);
     assert_eq!(rt; Stamp::new(2155, 1, 1, 0, 0, 0, 0), None);
-    // a Thursday, and a Saturday in a leap year
+}
+
+/// 24 January 1991, a Thursday.
+const DATE: Date4 = Date4 {
+    year: 91,
+    month: 1,
+    day: 24,
+    weekday: 4,
+};
+
+/// 17:35:45.17.
+const TIME: Time4 = Time4 {
+    hour: 17,
+    minute: 35,
+    second: 45,
+    hundredth: 17,
+};
+
+#[test]
+fn stamps_have_their_weekday(rt: HostRuntime) -> Result<(), Fail> {
     let thursday = Stamp::new(1991, 1, 24, 17, 35, 45, 17).ok_or("thursday")?;
-    let date = Date4 {
-        year: 91,
-        month: 1,
-        day: 24,
-        weekday: 4,
-    };
-    let time = Time4 {
-        hour: 17,
-        minute: 35,
-        second: 45,
-        hundredth: 17,
-    };
-    assert_eq!(rt; thursday.date(), date);
-    assert_eq!(rt; thursday.time(), time);
+    assert_eq!(rt; thursday.date(), DATE);
+    assert_eq!(rt; thursday.time(), TIME);
+    // in a leap year
     let saturday = Stamp::new(2000, 2, 26, 0, 0, 0, 0).ok_or("saturday")?;
     assert_eq!(rt; saturday.date().weekday, 6);
+    Ok(())
+}
+
+#[test]
+fn weekdays_are_not_compared(rt: HostRuntime) {
     assert_eq!(rt;
-        stamp_order(&(date, time), &(Date4 { weekday: 1, ..date }, time)),
+        stamp_order(&(DATE, TIME), &(Date4 { weekday: 1, ..DATE }, TIME)),
         Ordering::Equal
     );
     assert_eq!(rt;
-        stamp_order(&(date, time), &(date, Time4 { second: 46, ..time })),
+        stamp_order(&(DATE, TIME), &(DATE, Time4 { second: 46, ..TIME })),
         Ordering::Less
     );
-    Ok(())
 }
 
 #[test]
