@@ -3,6 +3,7 @@ use Rattle.std.specs.Prelude.{ℕ, ◌+◌, ◌*◌, decimal, if◌then◌else�
 use Rattle.hex.specs.Hex.{encode_lower}
 use Rattle.bac_print.specs.Addresses.{address_text}
 use Rattle.bac_device.specs.Answer.{answer}
+use Rattle.bac_device.specs.Reply.{receiver_of, reply_octets}
 use Rattle.bac_objects.specs.Build.{build_fault, built}
 use Rattle.bac_objects.specs.Sampling.{sampled}
 use Rattle.bac_device.specs.Clock.{advanced}
@@ -50,10 +51,13 @@ abbrev pub receiver_text : Receiver → List ℕ
 receiver_text Sender = []
 receiver_text (Address address) = codes " to " ++ address_text address
 
--- what an answer prints
-abbrev pub answer_text : Option Reply → List ℕ
-answer_text None = codes "none" ++ 10 ∷ []
-answer_text (Some reply) = codes "tx " ++ (encode_lower reply.datagram ++ (receiver_text reply.to ++ 10 ∷ []))
+-- what a reply of these octets to this receiver prints, and what none does
+abbrev pub answer_text : Option Receiver → List ℕ → List ℕ
+answer_text None octets = codes "none" ++ 10 ∷ []
+answer_text (Some to) octets = codes "tx " ++ (encode_lower octets ++ (receiver_text to ++ 10 ∷ []))
+
+abbrev pub answered : Option Reply × device.State → List ℕ × device.State
+answered said = (answer_text (receiver_of said.0) (reply_octets said.0), said.1)
 
 -- what an advance of the clock prints: how many samples the logs took, or that it would go back
 abbrev pub clock_text : Option ℕ → List ℕ
@@ -77,7 +81,7 @@ sample_taken device (Err fault) = (sample_text (Err fault), device)
 
 -- what it prints, and the device after it
 abbrev pub happens : device.State → Event → List ℕ × device.State
-happens device (Received octets) = (answer_text (answer device octets).0, (answer device octets).1)
+happens device (Received octets) = answered (answer device octets)
 happens device (Clocked stamp) = clocked device (advanced device stamp)
 happens device (Sampled instance) = sample_taken device (sampled device instance)
 happens device (Walked log from steps) = (walk_text device log from steps, device)

@@ -1,7 +1,6 @@
 //! What the lines so far have made, and what one line does.
 
 ghost use Rattle.std.specs.Prelude.{◌≡◌, ◌++◌, [], None, OnOk, IfErr};
-ghost use Rattle.std.specs.Option.{option_copied};
 ghost use Rattle.bac_objects.specs.Build.{Refuses};
 ghost use Rattle.bac_tools.specs.Session.{answer_text, clock_text, end_fault, happens, on_device, on_event, on_line, on_object, receiver_text, sample_text, step};
 ghost use Rattle.bac_tools.specs.Views.{Meets, event_of, line_of, state_of};
@@ -11,8 +10,9 @@ use crate::replay::walk::print_walk;
 use crate::script::hexadecimal::LONGEST;
 use crate::script::line::{Event, Line, is_silent};
 use bac_client::Transactions;
-use bac_device::{BuildFault, Device, DeviceLine, ObjectLine, Receiver, Reply, SampleFault};
+use bac_device::{BuildFault, Device, DeviceLine, ObjectLine, Receiver, SampleFault};
 use bac_print::{push_address, push_hex, push_number};
+use bac_wire::Datagram;
 use std::alloc::{AllocError, Global};
 
 /// What the lines so far have made.
@@ -26,10 +26,12 @@ pub(crate) enum Session {
     Running(Device, Transactions),
 }
 
-/// What each line uses anew: room for a datagram that is received, and for what the line prints.
+/// What each line uses anew: room for a datagram that is received, for the reply to it, and for what
+/// the line prints.
 #[derive(Drop)]
 pub(crate) struct Scratch {
     received: [u8; LONGEST],
+    reply: Datagram,
     text: Vec<u8>,
 }
 
@@ -38,6 +40,7 @@ impl Scratch {
     pub(crate) fn new(alloc: Global) -> Scratch {
         Scratch {
             received: [0; LONGEST],
+            reply: Datagram::new(),
             text: Vec::new(alloc),
         }
     }
@@ -66,15 +69,15 @@ fn push_receiver(text: &mut Vec<u8>, to: Receiver) -> Result<(), AllocError>
     }
 }
 
-/// Writes what an answer prints.
-fn push_answer(text: &mut Vec<u8>, answer: Option<&Reply>) -> Result<(), AllocError>
-    ensures { OnOk result (text.new.items ≡ text.old.items ++ answer_text (option_copied answer.entry)) }
+/// Writes what a reply of these octets to this receiver prints, and what none does.
+fn push_answer(text: &mut Vec<u8>, to: Option<Receiver>, octets: &[u8]) -> Result<(), AllocError>
+    ensures { OnOk result (text.new.items ≡ text.old.items ++ answer_text to octets.now) }
 {
-    match answer {
-        Some(reply) => {
+    match to {
+        Some(to) => {
             text.extend_from_slice(b"tx ")?;
-            push_hex(text, reply.datagram.octets())?;
-            push_receiver(text, reply.to)?;
+            push_hex(text, octets)?;
+            push_receiver(text, to)?;
             text.extend_from_slice(b"\n")
         }
         None => text.extend_from_slice(b"none\n"),
@@ -116,28 +119,29 @@ fn happen(
     device: &mut Device,
     transactions: &mut Transactions,
     alloc: Global,
-    event: Event,
+    event: &Event,
+    reply: &mut Datagram,
     text: &mut Vec<u8>,
 ) -> Result<(), AllocError>
     requires { text.old.items ≡ [] }
-    ensures { OnOk result (happens device.old (event_of event.entry) ≡ (text.new.items, device.new)) }
+    ensures { OnOk result (happens device.old (event_of event.now) ≡ (text.new.items, device.new)) }
 {
     match event {
         Event::Received(octets) => {
-            let reply = device.handle(octets);
-            push_answer(text, reply.as_ref())
+            let to = device.answer_into(octets, reply);
+            push_answer(text, to, reply.octets())
         }
-        Event::Clocked(stamp) => match device.advance(stamp) {
+        Event::Clocked(stamp) => match device.advance(*stamp) {
             Ok(count) => push_advance(text, Some(count)),
             Err(_) => push_advance(text, None),
         },
         Event::Sampled(instance) => {
-            let taken = device.sample(instance);
+            let taken = device.sample(*instance);
             push_sample(text, taken)
         }
         Event::Walked(words) => {
-            *text = print_walk(alloc, device, transactions, words)?;
-            Ok(())
+            let lines = print_walk(alloc, device, transactions, *words)?;
+            text.extend_from_slice(lines.as_slice())
         }
     }
 }
@@ -173,11 +177,12 @@ impl Session {
     fn play_event(
         &mut self,
         alloc: Global,
-        event: Event,
+        event: &Event,
+        reply: &mut Datagram,
         text: &mut Vec<u8>,
     ) -> Result<(), LineFault>
         requires { text.old.items ≡ [] }
-        ensures { Meets (λ _. (text.new.items, state_of self.new)) result (on_event (state_of self.old) (event_of event.entry)) }
+        ensures { Meets (λ _. (text.new.items, state_of self.new)) result (on_event (state_of self.old) (event_of event.now)) }
     {
         match self {
             Session::Empty => Err(LineFault::Bad),
@@ -187,7 +192,7 @@ impl Session {
                     Err(fault) => return Err(LineFault::of_build(fault)),
                 };
                 let mut transactions = Transactions::new(RETRIES);
-                match happen(&mut device, &mut transactions, alloc, event, text) {
+                match happen(&mut device, &mut transactions, alloc, event, reply, text) {
                     Ok(()) => {
                         *self = Session::Running(device, transactions);
                         Ok(())
@@ -196,7 +201,7 @@ impl Session {
                 }
             }
             Session::Running(device, transactions) => {
-                match happen(device, transactions, alloc, event, text) {
+                match happen(device, transactions, alloc, event, reply, text) {
                     Ok(()) => Ok(()),
                     Err(_) => Err(LineFault::Memory),
                 }
@@ -205,14 +210,20 @@ impl Session {
     }
 
     /// Plays one line, and writes what it prints.
-    fn play(&mut self, alloc: Global, line: Line, text: &mut Vec<u8>) -> Result<(), LineFault>
+    fn play(
+        &mut self,
+        alloc: Global,
+        line: Line,
+        reply: &mut Datagram,
+        text: &mut Vec<u8>,
+    ) -> Result<(), LineFault>
         requires { text.old.items ≡ [] }
         ensures { Meets (λ _. (text.new.items, state_of self.new)) result (on_line (state_of self.old) (line_of line.entry)) }
     {
         match line {
             Line::Device(words) => self.play_device(alloc, words),
             Line::Object(line) => self.play_object(line),
-            Line::Happens(event) => self.play_event(alloc, event, text),
+            Line::Happens(event) => self.play_event(alloc, &event, reply, text),
         }
     }
 
@@ -231,7 +242,7 @@ impl Session {
             return Ok(());
         }
         match Line::read(alloc, text, &mut scratch.received) {
-            Ok(Some(line)) => self.play(alloc, line, &mut scratch.text),
+            Ok(Some(line)) => self.play(alloc, line, &mut scratch.reply, &mut scratch.text),
             Ok(None) => Err(LineFault::Bad),
             Err(_) => Err(LineFault::Memory),
         }
