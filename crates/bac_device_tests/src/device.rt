@@ -82,7 +82,13 @@ fn the_first_fault_of_object_lines(rt: HostRuntime) -> Result<(), Fail> {
     let beyond = [multistate(a, "mode", 3, 4)?];
     is_refused(&rt, a, &device, &beyond, Some(BuildFault::BadDefault))?;
     let stateless = [multistate(a, "mode", 0, 4)?];
-    is_refused(&rt, a, &device, &stateless, Some(BuildFault::BadStates))?;
+    is_refused(&rt, a, &device, &stateless, Some(BuildFault::BadStates))
+}
+
+#[test]
+fn what_stands_twice_is_refused(rt: HostRuntime) -> Result<(), Fail> {
+    let a = rt.alloc();
+    let device = plant(a, 123, "plant", 1476)?;
     // A line's least fault, and the first line that has one.
     let twice = [binary(a, 1, "pump", 0)?, binary(a, 1, "pump", 2)?];
     is_refused(&rt, a, &device, &twice, Some(BuildFault::DuplicateId))?;
@@ -93,8 +99,14 @@ fn the_first_fault_of_object_lines(rt: HostRuntime) -> Result<(), Fail> {
     ];
     is_refused(&rt, a, &device, &names, Some(BuildFault::DuplicateName))?;
     let own = [integer(a, "plant", 0)?];
-    is_refused(&rt, a, &device, &own, Some(BuildFault::DuplicateName))?;
-    // One instance of three types, and the least integer.
+    is_refused(&rt, a, &device, &own, Some(BuildFault::DuplicateName))
+}
+
+#[test]
+fn objects_of_three_types_are_built(rt: HostRuntime) -> Result<(), Fail> {
+    let a = rt.alloc();
+    let device = plant(a, 123, "plant", 1476)?;
+    // One instance, and the least integer.
     let good = [
         binary(a, 1, "pump", 1)?,
         multistate(a, "mode", 3, 3)?,

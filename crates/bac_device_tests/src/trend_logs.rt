@@ -230,23 +230,30 @@ fn numbers_run_out(rt: HostRuntime) -> Result<(), Fail> {
     Ok(())
 }
 
-#[test]
-fn sources_that_have_no_value_are_logged_as_failures(rt: HostRuntime) -> Result<(), Fail> {
-    let a = rt.alloc();
+/// Device 123 with Integer Value 1 and three Trend Logs: of it, of no object, and of the device.
+fn with_sources(alloc: Global) -> Result<Device, Fail> {
     let level = ObjectLine::Integer {
         instance: 1,
-        name: name(a, "level")?,
+        name: name(alloc, "level")?,
         default: 0,
     };
     let lines = [
         level,
-        log(a, 1, "trend", (45, 1), 3, 0, 0)?,
-        log(a, 2, "lone", (45, 9), 3, 0, 0)?,
-        log(a, 4, "own", (8, 123), 3, 0, 0)?,
+        log(alloc, 1, "trend", (45, 1), 3, 0, 0)?,
+        log(alloc, 2, "lone", (45, 9), 3, 0, 0)?,
+        log(alloc, 4, "own", (8, 123), 3, 0, 0)?,
     ];
-    let mut device = Device::build(a, &plant(a, 1476)?, &lines)
-        .ok()
-        .ok_or("not built")?;
+    Ok(
+        Device::build(alloc, &plant(alloc, 1476)?, &lines)
+            .ok()
+            .ok_or("not built")?,
+    )
+}
+
+#[test]
+fn the_value_of_a_source_is_logged(rt: HostRuntime) -> Result<(), Fail> {
+    let a = rt.alloc();
+    let mut device = with_sources(a)?;
     answers(
         &rt,
         a,
@@ -255,19 +262,23 @@ fn sources_that_have_no_value_are_logged_as_failures(rt: HostRuntime) -> Result<
         "810a0009010020010f",
     )?;
     assert_eq!(rt; device.sample(1), Ok(1));
-    assert_eq!(rt; device.sample(2), Ok(1));
-    assert_eq!(rt; device.sample(3), Err(SampleFault::NoSuchLog));
-    assert_eq!(rt; device.sample(4), Ok(1));
-    assert_eq!(rt; device.sample(4_194_304), Err(SampleFault::NoSuchLog));
-    assert!(rt; device.log(3).is_none());
-    // Signed -5 with flags 0000; failures object, unknown-object and property, unknown-property.
+    // Signed -5 with flags 0000.
     answers(
         &rt,
         a,
         &mut device,
         "810a001701040005011a0c0500000119836e210131646f",
         "810a002c010030011a0c0500000119833a05c049015e0ea47c050601b40708090a0f1e59fb1f2a04005f6901",
-    )?;
+    )
+}
+
+#[test]
+fn sources_that_have_no_value_are_logged_as_failures(rt: HostRuntime) -> Result<(), Fail> {
+    let a = rt.alloc();
+    let mut device = with_sources(a)?;
+    assert_eq!(rt; device.sample(2), Ok(1));
+    assert_eq!(rt; device.sample(4), Ok(1));
+    // Object, unknown-object and property, unknown-property.
     answers(
         &rt,
         a,
@@ -282,6 +293,16 @@ fn sources_that_have_no_value_are_logged_as_failures(rt: HostRuntime) -> Result<
         "810a001701040005011a0c0500000419836e210131646f",
         "810a002d010030011a0c0500000419833a05c049015e0ea47c050601b40708090a0f1e8e910291208f1f5f6901",
     )
+}
+
+#[test]
+fn a_log_that_is_not_there_takes_no_sample(rt: HostRuntime) -> Result<(), Fail> {
+    let a = rt.alloc();
+    let mut device = with_sources(a)?;
+    assert_eq!(rt; device.sample(3), Err(SampleFault::NoSuchLog));
+    assert_eq!(rt; device.sample(4_194_304), Err(SampleFault::NoSuchLog));
+    assert!(rt; device.log(3).is_none());
+    Ok(())
 }
 
 #[test]
@@ -391,68 +412,50 @@ fn a_disabled_log_takes_no_sample(rt: HostRuntime) -> Result<(), Fail> {
 fn errors_of_read_range_in_their_order(rt: HostRuntime) -> Result<(), Fail> {
     let a = rt.alloc();
     let mut device = with_trend(a, 1476, 3, 0, 0)?;
-    // Trend Log 2, and Device 4194303: object, unknown-object.
-    answers(
-        &rt,
-        a,
-        &mut device,
-        "810a001101040005011a0c050000021983",
-        "810a000d010050011a9101911f",
-    )?;
-    answers(
-        &rt,
-        a,
-        &mut device,
-        "810a001101040005011a0c023fffff1983",
-        "810a000d010050011a9101911f",
-    )?;
-    // Log_Buffer of Binary Value 1: property, unknown-property.
-    answers(
-        &rt,
-        a,
-        &mut device,
-        "810a001101040005011a0c014000011983",
-        "810a000d010050011a91029120",
-    )?;
-    // Log_Buffer with an index: property, property-is-not-an-array.
-    answers(
-        &rt,
-        a,
-        &mut device,
-        "810a001301040005011a0c0500000119832901",
-        "810a000d010050011a91029132",
-    )?;
-    // Enable, and Object_List of the device: services, property-is-not-a-list.
-    answers(
-        &rt,
-        a,
-        &mut device,
-        "810a001101040005011a0c050000011985",
-        "810a000d010050011a91059116",
-    )?;
-    answers(
-        &rt,
-        a,
-        &mut device,
-        "810a001101040005011a0c0200007b194c",
-        "810a000d010050011a91059116",
-    )?;
-    // ReadProperty of Log_Buffer: property, read-access-denied.
-    answers(
-        &rt,
-        a,
-        &mut device,
-        "810a001101040005010c0c050000011983",
-        "810a000d010050010c9102911b",
-    )?;
-    // Log_DeviceObjectProperty: Present_Value of Binary Value 1.
-    answers(
-        &rt,
-        a,
-        &mut device,
-        "810a001101040005010c0c050000011984",
-        "810a0019010030010c0c0500000119843e0c0140000119553f",
-    )
+    let rows = [
+        // Trend Log 2, and Device 4194303: object, unknown-object.
+        (
+            "810a001101040005011a0c050000021983",
+            "810a000d010050011a9101911f",
+        ),
+        (
+            "810a001101040005011a0c023fffff1983",
+            "810a000d010050011a9101911f",
+        ),
+        // Log_Buffer of Binary Value 1: property, unknown-property.
+        (
+            "810a001101040005011a0c014000011983",
+            "810a000d010050011a91029120",
+        ),
+        // Log_Buffer with an index: property, property-is-not-an-array.
+        (
+            "810a001301040005011a0c0500000119832901",
+            "810a000d010050011a91029132",
+        ),
+        // Enable, and Object_List of the device: services, property-is-not-a-list.
+        (
+            "810a001101040005011a0c050000011985",
+            "810a000d010050011a91059116",
+        ),
+        (
+            "810a001101040005011a0c0200007b194c",
+            "810a000d010050011a91059116",
+        ),
+        // ReadProperty of Log_Buffer: property, read-access-denied.
+        (
+            "810a001101040005010c0c050000011983",
+            "810a000d010050010c9102911b",
+        ),
+        // Log_DeviceObjectProperty: Present_Value of Binary Value 1.
+        (
+            "810a001101040005010c0c050000011984",
+            "810a0019010030010c0c0500000119843e0c0140000119553f",
+        ),
+    ];
+    for (asked, answered) in rows {
+        answers(&rt, a, &mut device, asked, answered)?;
+    }
+    Ok(())
 }
 
 #[test]
