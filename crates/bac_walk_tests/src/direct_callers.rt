@@ -149,14 +149,14 @@ fn a_day_is_delivered(rt: HostRuntime) -> Result<(), Fail> {
     let source = ObjectId::new(5, 1).ok_or("no such identifier")?;
     let outcome = records_of_a_day(a, &device, name(a, "trend")?, source, 10).ok_or("no walk")?;
     let items = [
-        absent(1)?,
-        absent(2)?,
+        absent(1),
+        absent(2),
         gap(3, 4),
-        absent(4)?,
-        absent(5)?,
-        absent(6)?,
+        absent(4),
+        absent(5),
+        absent(6),
         gap(7, 8),
-        purged(8)?,
+        purged(8),
     ];
     brought(&rt, &outcome, &items, 9, Why::CaughtUp);
     Ok(())
@@ -173,9 +173,9 @@ fn a_log_at_rest_is_delivered(rt: HostRuntime) -> Result<(), Fail> {
     let outcome = all_records_from(a, &mut device, log, 8, 10).ok_or("no walk")?;
     let items = [
         gap(8, 9),
-        state(9, 8, 9, 0)?,
-        state(10, 8, 9, 0)?,
-        state(11, 8, 9, 0)?,
+        state(9, 8, 9, 0),
+        state(10, 8, 9, 0),
+        state(11, 8, 9, 0),
     ];
     brought(&rt, &outcome, &items, 12, Why::CaughtUp);
     let outcome = all_records_from(a, &mut device, log, 11, 10).ok_or("no walk")?;

@@ -7,7 +7,7 @@ use bac_client::{
 };
 use bac_device::{Device, DeviceLine, Name, ObjectLine};
 use bac_log::{Datum, Entry};
-use bac_wire::{Datagram, ObjectId, Stamp};
+use bac_wire::{Datagram, Date4, ObjectId, Stamp, Time4};
 use std::alloc::Global;
 use std::process::Abort;
 use std::test::Fail;
@@ -76,46 +76,44 @@ fn start(alloc: Global) -> Result<LinkEvent, Fail> {
     Ok(LinkEvent::Handle(datagram(alloc, "810a001701040005010f0c0140000119553e91013f4908")?))
 }
 
-/// The record of a state at 07, this minute and second, and 10 hundredths.
-pub(crate) fn state(number: u32, minute: u8, second: u8, state: u32) -> Result<Item, Fail> {
-    let moment = at(minute, second)?;
-    Ok(Item::Logged {
+/// 2024-05-06, a Monday.
+const DATE: Date4 = Date4 {
+    year: 124,
+    month: 5,
+    day: 6,
+    weekday: 1,
+};
+
+/// The record of this datum at 07, this minute and second, and 10 hundredths.
+fn record(number: u32, minute: u8, second: u8, datum: Datum, flags: Option<u8>) -> Item {
+    Item::Logged {
         number,
         entry: Entry {
-            date: moment.date(),
-            time: moment.time(),
-            datum: Datum::Enumerated(state),
-            flags: Some(0),
+            date: DATE,
+            time: Time4 {
+                hour: 7,
+                minute,
+                second,
+                hundredth: 10,
+            },
+            datum,
+            flags,
         },
-    })
+    }
+}
+
+pub(crate) fn state(number: u32, minute: u8, second: u8, state: u32) -> Item {
+    record(number, minute, second, Datum::Enumerated(state), Some(0))
 }
 
 /// The record at 07:08:09.10 of a source that isn't there.
-pub(crate) fn absent(number: u32) -> Result<Item, Fail> {
-    let moment = at(8, 9)?;
-    Ok(Item::Logged {
-        number,
-        entry: Entry {
-            date: moment.date(),
-            time: moment.time(),
-            datum: Datum::Failure { class: 1, code: 31 },
-            flags: None,
-        },
-    })
+pub(crate) fn absent(number: u32) -> Item {
+    record(number, 8, 9, Datum::Failure { class: 1, code: 31 }, None)
 }
 
 /// The record of a purge at 07:08:09.10.
-pub(crate) fn purged(number: u32) -> Result<Item, Fail> {
-    let moment = at(8, 9)?;
-    Ok(Item::Logged {
-        number,
-        entry: Entry {
-            date: moment.date(),
-            time: moment.time(),
-            datum: Datum::LogStatus(64),
-            flags: None,
-        },
-    })
+pub(crate) fn purged(number: u32) -> Item {
+    record(number, 8, 9, Datum::LogStatus(64), None)
 }
 
 pub(crate) fn gap(first: u32, before: u32) -> Item {
@@ -147,7 +145,7 @@ fn retries_are_counted_for_each_request(rt: HostRuntime) -> Result<(), Fail> {
     let a = rt.alloc();
     let mut device = plant(a, 1476, 5, 0, 0)?;
     assert_eq!(rt; device.sample(1), Ok(1));
-    let first = [state(1, 8, 9, 0)?];
+    let first = [state(1, 8, 9, 0)];
     let events = [
         LinkEvent::Lose,
         LinkEvent::Answer,
@@ -166,6 +164,15 @@ fn retries_are_counted_for_each_request(rt: HostRuntime) -> Result<(), Fail> {
     ];
     let outcome = walked(a, &mut device, &events, 1, 1)?;
     brought(&rt, &outcome, &[], 1, Why::Fault(WalkFault::Lost));
+    Ok(())
+}
+
+#[test]
+fn three_losses_before_each_answer_lose_nothing(rt: HostRuntime) -> Result<(), Fail> {
+    let a = rt.alloc();
+    let mut device = plant(a, 1476, 5, 0, 0)?;
+    assert_eq!(rt; device.sample(1), Ok(1));
+    let first = [state(1, 8, 9, 0)];
     let events = [
         LinkEvent::Lose,
         LinkEvent::Lose,
@@ -204,11 +211,11 @@ fn overwritten_records_are_a_gap(rt: HostRuntime) -> Result<(), Fail> {
     ];
     let outcome = walked(a, &mut device, &events, 1, 1)?;
     let items = [
-        state(1, 8, 9, 0)?,
+        state(1, 8, 9, 0),
         gap(2, 3),
-        state(3, 8, 9, 0)?,
-        state(4, 8, 9, 0)?,
-        state(5, 9, 0, 1)?,
+        state(3, 8, 9, 0),
+        state(4, 8, 9, 0),
+        state(5, 9, 0, 1),
     ];
     brought(&rt, &outcome, &items, 6, Why::CaughtUp);
     assert_eq!(rt; device.log(1).ok_or("no log")?.total(), 5);
@@ -234,7 +241,7 @@ fn a_stopped_walk_is_resumed_after_samples(rt: HostRuntime) -> Result<(), Fail> 
     let ended = deliver(&mut link, &mut transactions, &mut walk, 10, &mut sink);
     assert_eq!(rt; ended, Ended::Stopped);
     assert_eq!(rt; walk.next_number(), 4);
-    let items = [gap(1, 3), state(3, 8, 9, 0)?];
+    let items = [gap(1, 3), state(3, 8, 9, 0)];
     assert_eq!(rt; sink.items.as_slice(), items.as_slice());
     assert_eq!(rt; device.sample(1), Ok(6));
     assert_eq!(rt; device.sample(1), Ok(7));
@@ -244,11 +251,11 @@ fn a_stopped_walk_is_resumed_after_samples(rt: HostRuntime) -> Result<(), Fail> 
     assert_eq!(rt; walk.next_number(), 8);
     let items = [
         gap(1, 3),
-        state(3, 8, 9, 0)?,
+        state(3, 8, 9, 0),
         gap(4, 5),
-        state(5, 8, 9, 0)?,
-        state(6, 8, 9, 0)?,
-        state(7, 8, 9, 0)?,
+        state(5, 8, 9, 0),
+        state(6, 8, 9, 0),
+        state(7, 8, 9, 0),
     ];
     assert_eq!(rt; sink.items.as_slice(), items.as_slice());
     let ended = deliver(&mut link, &mut transactions, &mut walk, 0, &mut sink);
@@ -271,12 +278,7 @@ fn a_purge_is_a_gap_up_to_its_record(rt: HostRuntime) -> Result<(), Fail> {
         LinkEvent::Sample(1),
     ];
     let outcome = walked(a, &mut device, &events, 1, 1)?;
-    let items = [
-        state(1, 8, 9, 0)?,
-        gap(2, 6),
-        purged(6)?,
-        state(7, 8, 9, 0)?,
-    ];
+    let items = [state(1, 8, 9, 0), gap(2, 6), purged(6), state(7, 8, 9, 0)];
     brought(&rt, &outcome, &items, 8, Why::CaughtUp);
     Ok(())
 }
@@ -296,10 +298,10 @@ fn due_samples_are_taken_between_answers(rt: HostRuntime) -> Result<(), Fail> {
     let outcome = walked(a, &mut device, &events, 1, 41)?;
     let items = [
         gap(41, 42),
-        state(42, 8, 10, 0)?,
+        state(42, 8, 10, 0),
         gap(43, 44),
-        state(44, 8, 12, 0)?,
-        state(45, 8, 13, 0)?,
+        state(44, 8, 12, 0),
+        state(45, 8, 13, 0),
     ];
     brought(&rt, &outcome, &items, 46, Why::CaughtUp);
     Ok(())

@@ -173,6 +173,13 @@ fn what_belongs_to_no_question_is_refused(rt: HostRuntime) -> Result<(), Fail> {
         assert!(rt; matches!(walk.take(&octets[9..]), Err(BadReply)));
         assert_eq!(rt; walk.next_number(), 1);
     }
+    Ok(())
+}
+
+#[test]
+fn numbers_that_were_not_asked_for_are_refused(rt: HostRuntime) -> Result<(), Fail> {
+    let mut wrong_count = one(1, 3);
+    wrong_count[20] = 2;
     // by number, records before the next one, and beyond the hundred that were asked for
     let mut walk = walk_from(5)?;
     assert!(rt; matches!(walk.take(&one(1, 3)[9..]), Err(BadReply)));
@@ -208,6 +215,11 @@ fn a_batch_has_the_gap_before_it(rt: HostRuntime) -> Result<(), Fail> {
         }
     );
     assert_eq!(rt; walk.next_number(), 5);
+    Ok(())
+}
+
+#[test]
+fn a_walk_from_the_oldest_record_has_no_gap_before_it(rt: HostRuntime) -> Result<(), Fail> {
     let mut walk = walk_from_oldest()?;
     let Ok(Progress::Batch(batch)) = walk.take(&one(1, 7)[9..]) else {
         return Err(Fail::from("no batch"));
@@ -269,7 +281,7 @@ fn items_are_collected_until_the_walk_is_caught_up(rt: HostRuntime) -> Result<()
 }
 
 #[test]
-fn a_lost_question_and_a_refusal_keep_what_came(rt: HostRuntime) -> Result<(), Fail> {
+fn a_lost_question_keeps_what_came(rt: HostRuntime) -> Result<(), Fail> {
     let first = one(1, 1);
     let replies: [&[u8]; 2] = [&NONE, &first];
     let mut link = Scripted {
@@ -288,6 +300,11 @@ fn a_lost_question_and_a_refusal_keep_what_came(rt: HostRuntime) -> Result<(), F
     assert_eq!(rt; outcome.next, 2);
     assert_eq!(rt; outcome.items.as_slice(), [logged(1)].as_slice());
     assert_eq!(rt; link.failures, 5);
+    Ok(())
+}
+
+#[test]
+fn a_refused_walk_stays_where_it_was(rt: HostRuntime) -> Result<(), Fail> {
     let replies: [&[u8]; 1] = [&UNKNOWN];
     let mut link = Scripted {
         replies: &replies,
