@@ -1,7 +1,7 @@
 //! Devices by their public calls: built of lines, asked by datagrams, and their clock.
 
 use bac_device::{BuildFault, ClockBack, Device, DeviceLine, Name, ObjectLine, Receiver};
-use bac_wire::Stamp;
+use bac_wire::{Datagram, Stamp};
 use std::alloc::Global;
 use std::process::Abort;
 use std::test::Fail;
@@ -145,6 +145,24 @@ fn a_reply_goes_to_its_receiver(rt: HostRuntime) -> Result<(), Fail> {
     assert_eq!(rt; far.datagram.octets(), I_AM.as_slice());
     assert_eq!(rt; far.to, Receiver::Address([127, 0, 0, 1, 0xba, 0xc1]));
     assert!(rt; device.handle(&WHO_IS[..11]).is_none());
+    Ok(())
+}
+
+#[test]
+fn a_reply_takes_the_place_of_the_one_before(rt: HostRuntime) -> Result<(), Fail> {
+    let a = rt.alloc();
+    let mut device = Device::build(a, &plant(a, 123, "plant", 1476)?, &[])
+        .ok()
+        .ok_or("not built")?;
+    let mut reply = Datagram::of(&[0xff; 1501]).ok_or("too long")?;
+    assert_eq!(rt;
+        device.answer_into(&WHO_IS, &mut reply),
+        Some(Receiver::Sender)
+    );
+    assert_eq!(rt; reply.octets(), I_AM.as_slice());
+    // no reply
+    assert_eq!(rt; device.answer_into(&WHO_IS[..11], &mut reply), None);
+    assert!(rt; reply.octets().is_empty());
     Ok(())
 }
 

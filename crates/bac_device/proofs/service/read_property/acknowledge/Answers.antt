@@ -8,16 +8,16 @@ pub end_within-requires : goal.end_within-requires
 end_within-requires c =
     let head = 48 ∷ c.args.invoke ∷ 12 ∷ [] in
     let text = ack_octets c.args.object c.args.request.now.property c.args.request.now.index c.args.values.now in
-    begun_room c.write.new.out (head ++ text) (begun_with c.begin_with.new.out c.write.new.out head text c.begin_with.ensures (c.in-Ok.ensures.written {u = tt}).0)
+    begun_room c.write.new.out (head ++ text) (begun_with c.begin_with.new.out c.write.new.out head text c.begin_with.ensures c.in-Ok.ensures.written.0)
 
 pub returns-in-Ok : goal.returns-in-Ok
 returns-in-Ok c =
     let head = 48 ∷ c.args.invoke ∷ 12 ∷ [] in
     let text = ack_octets c.args.object c.args.request.now.property c.args.request.now.index c.args.values.now in
-    c.end_within.ensures (Complex false c.args.invoke 12 text) (begun_with c.begin_with.new.out c.write.new.out head text c.begin_with.ensures (c.in-Ok.ensures.written {u = tt}).0)
+    c.end_within.ensures (Complex false c.args.invoke 12 text) (begun_with c.begin_with.new.out c.write.new.out head text c.begin_with.ensures c.in-Ok.ensures.written.0)
 
 pub returns-in-Err : goal.returns-in-Err
 returns-in-Err c =
     let head = 48 ∷ c.args.invoke ∷ 12 ∷ [] in
     let text = ack_octets c.args.object c.args.request.now.property c.args.request.now.index c.args.values.now in
-    c.abort.ensures ∙ too_long c.args.limit c.args.invoke (Complex false c.args.invoke 12 text) (omega (arith, c.requires, (c.in-Err.ensures {u = tt}).1, begun_size c.begin_with.new.out head c.begin_with.ensures))
+    c.abort.ensures ∙ too_long c.args.limit c.args.invoke (Complex false c.args.invoke 12 text) (omega (arith, c.requires, c.in-Err.ensures.written.1, begun_size c.begin_with.new.out head c.begin_with.ensures))
