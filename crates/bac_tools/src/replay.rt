@@ -98,6 +98,7 @@ fn play_cut<W: Write>(alloc: Global, script: &[u8], writer: &mut W) -> Result<()
 fn play_all<W: Write>(
     alloc: Global,
     session: &mut Session,
+    scratch: &mut Scratch,
     script: &[u8],
     writer: &mut W,
 ) -> Result<(), ReplayFault>
@@ -105,12 +106,11 @@ fn play_all<W: Write>(
     ensures ok { OnOk result (PlaysAll (W.contents writer.old) (W.contents writer.new) (state_of session.old) (lines script.now) (state_of session.new)) }
     ensures err { IfErr result (Stops (W.contents writer.old) (W.contents writer.new) (state_of session.old) (lines script.now)) }
 {
-    let mut scratch = Scratch::new(alloc);
-    let (number, rest) = play_ended(alloc, session, &mut scratch, script, writer)?;
+    let (number, rest) = play_ended(alloc, session, scratch, script, writer)?;
     if rest.is_empty() {
         return Ok(());
     }
-    play_line(alloc, session, &mut scratch, number, rest, writer)
+    play_line(alloc, session, scratch, number, rest, writer)
 }
 
 /// Plays all the lines, and builds the device at the end where no line did.
@@ -120,7 +120,8 @@ fn play_whole<W: Write>(alloc: Global, script: &[u8], writer: &mut W) -> Result<
     ensures err { IfErr result (ScriptStops (W.contents writer.old) (W.contents writer.new) script.now) }
 {
     let mut session = Session::Empty;
-    play_all(alloc, &mut session, script, writer)?;
+    let mut scratch = Scratch::new(alloc);
+    play_all(alloc, &mut session, &mut scratch, script, writer)?;
     match session.finish(alloc) {
         Ok(()) => Ok(()),
         Err(fault) => Err(ReplayFault::of_build(fault)),
