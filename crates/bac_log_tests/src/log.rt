@@ -2,7 +2,7 @@
 ghost use Rattle.std.specs.Prelude.{IfOk};
 ghost use Rattle.bac_log.specs.Entry.{IsLoggable};
 
-use bac_log::{CycleFull, Datum, Entry, LogFault, LogOp, TrendLog, replay};
+use bac_log::{Datum, Entry, LogFault, LogOp, TrendLog, replay};
 use bac_wire::{Date4, Stamp, Time4};
 use std::test::Fail;
 
@@ -68,19 +68,18 @@ fn a_full_log_drops_its_oldest(rt: HostRuntime) -> Result<(), Fail> {
 }
 
 #[test]
-fn nothing_follows_the_last_number(rt: HostRuntime) -> Result<(), Fail> {
+fn after_the_last_number_comes_1(rt: HostRuntime) -> Result<(), Fail> {
     let mut log = TrendLog::new(rt.alloc(), 3, 4294967293)?;
     assert_eq!(rt; (log.count(), log.total()), (0, 4294967293));
     assert_eq!(rt; log.append(sample(0)?), Ok(4294967294));
-    assert_eq!(rt; log.append(sample(1)?), Err(CycleFull));
-    assert_eq!(rt; log.purge(stamp()?), Err(CycleFull));
-    assert_eq!(rt; log.set_enabled(false, stamp()?), Err(CycleFull));
-    assert_eq!(rt; log.set_enabled(true, stamp()?), Ok(false));
-    assert_eq!(rt;
-        (log.count(), log.total(), log.enabled()),
-        (1, 4294967294, true)
-    );
-    assert_eq!(rt; log.get(1), Some(sample(0)?));
+    assert_eq!(rt; log.append(sample(1)?), Ok(4294967295));
+    assert_eq!(rt; log.purge(stamp()?), Ok(1));
+    assert_eq!(rt; log.set_enabled(false, stamp()?), Ok(true));
+    assert_eq!(rt; (log.count(), log.total(), log.enabled()), (2, 2, false));
+    let mut used = TrendLog::new(rt.alloc(), 1, 4294967295)?;
+    assert_eq!(rt; (used.count(), used.total()), (0, 4294967295));
+    assert_eq!(rt; used.append(sample(0)?), Ok(1));
+    assert_eq!(rt; (used.count(), used.total()), (1, 1));
     Ok(())
 }
 
@@ -122,20 +121,20 @@ fn operations_are_replayed(rt: HostRuntime) -> Result<(), Fail> {
 }
 
 #[test]
-fn refused_operations_are_passed_over(rt: HostRuntime) -> Result<(), Fail> {
+fn operations_are_replayed_round_the_count(rt: HostRuntime) -> Result<(), Fail> {
     let (entry, stamp) = (sample(1)?, stamp()?);
     let ops = [
         LogOp::Append(entry),
         LogOp::Purge(stamp),
         LogOp::SetEnabled(false, stamp),
-        // the numbers are used up
+        // the last number, and 1
         LogOp::Append(entry),
         LogOp::SetEnabled(true, stamp),
     ];
     let log = replay(rt.alloc(), 5, 4294967291, &ops)?;
     assert_eq!(rt;
         (log.count(), log.total(), log.enabled()),
-        (2, 4294967294, false)
+        (4, 1, true)
     );
     assert_eq!(rt;
         (status_at(&log, 1), status_at(&log, 2)),
@@ -150,7 +149,7 @@ fn logs_are_refused_in_order(rt: HostRuntime) -> Result<(), Fail> {
         (0, 0, Err(LogFault::BadCapacity)),
         (65536, 0, Err(LogFault::BadCapacity)),
         (0, 4294967295, Err(LogFault::BadCapacity)),
-        (1, 4294967295, Err(LogFault::BadLogged)),
+        (1, 4294967295, Ok(4294967295)),
         (1, 0, Ok(0)),
         (65535, 4294967294, Ok(4294967294)),
     ];

@@ -183,6 +183,27 @@ fn not_one_record_fits(rt: HostRuntime) -> Result<(), Fail> {
 }
 
 #[test]
+fn numbers_are_selected_round_the_count(rt: HostRuntime) -> Result<(), Fail> {
+    // numbers 1 and 2 are held, behind 4294967295
+    let log = log_of(&rt, 2, 4294967294, &[9, 10, 11])?;
+    let rows = [
+        (by_number(1, -3), selected(1, 1, 0x80, Some(1))),
+        (by_number(4294967295, 3), selected(1, 2, 0xc0, Some(1))),
+        (by_number(4294967294, 3), selected(1, 1, 0x80, Some(1))),
+        // 0 is as the last number
+        (by_number(0, 2), selected(1, 1, 0x80, Some(1))),
+        (by_number(0, -5), NOTHING),
+        (by_number(2, -2147483648), selected(1, 2, 0xc0, Some(1))),
+        (by_number(3, 2147483647), NOTHING),
+        (by_number(2147483651, 2147483647), selected(1, 2, 0xc0, Some(1))),
+    ];
+    for (extent, want) in rows {
+        assert_eq!(rt; log.answer(&extent, WIDE), Ok(want), "{extent:?}");
+    }
+    Ok(())
+}
+
+#[test]
 fn the_last_numbers_are_selected(rt: HostRuntime) -> Result<(), Fail> {
     let log = log_of(&rt, 2, 4294967291, &[9, 10, 11])?;
     // the first number takes 5 octets
