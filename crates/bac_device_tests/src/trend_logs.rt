@@ -199,26 +199,27 @@ fn fifty_octets_hold_one_record(rt: HostRuntime) -> Result<(), Fail> {
 }
 
 #[test]
-fn numbers_run_out(rt: HostRuntime) -> Result<(), Fail> {
+fn after_the_last_number_comes_1(rt: HostRuntime) -> Result<(), Fail> {
     let a = rt.alloc();
     let mut device = with_trend(a, 1476, 5, 0, 4_294_967_293)?;
     assert_eq!(rt; device.sample(1), Ok(4_294_967_294));
-    assert_eq!(rt; device.sample(1), Err(SampleFault::CycleFull));
-    // A purge, and a change of Enable, are refused: property, write-access-denied.
+    assert_eq!(rt; device.sample(1), Ok(4_294_967_295));
+    // A purge is number 1, and a change of Enable number 2.
     answers(
         &rt,
         a,
         &mut device,
         "810a001501040005090f0c05000001198d3e21003f",
-        "810a000d010050090f91029128",
+        "810a0009010020090f",
     )?;
     answers(
         &rt,
         a,
         &mut device,
         "810a001401040005010f0c0500000119853e103f",
-        "810a000d010050010f91029128",
+        "810a0009010020010f",
     )?;
+    assert_eq!(rt; device.log(1).ok_or("no log")?.total(), 2);
     answers(
         &rt,
         a,
@@ -226,7 +227,7 @@ fn numbers_run_out(rt: HostRuntime) -> Result<(), Fail> {
         "810a001401040005010f0c0500000119853e113f",
         "810a0009010020010f",
     )?;
-    assert_eq!(rt; device.log(1).ok_or("no log")?.count(), 1);
+    assert_eq!(rt; device.log(1).ok_or("no log")?.count(), 3);
     Ok(())
 }
 
@@ -472,12 +473,7 @@ fn the_first_fault_of_a_log_line(rt: HostRuntime) -> Result<(), Fail> {
         Device::build(a, &device, &fast).err(),
         Some(BuildFault::BadInterval)
     );
-    let used_up = [log(a, 1, "trend", (5, 1), 65_535, 100, 4_294_967_295)?];
-    assert_eq!(rt;
-        Device::build(a, &device, &used_up).err(),
-        Some(BuildFault::BadLogged)
-    );
-    let good = [log(a, 1, "trend", (5, 1), 65_535, 100, 4_294_967_294)?];
+    let good = [log(a, 1, "trend", (5, 1), 65_535, 100, 4_294_967_295)?];
     assert_eq!(rt; Device::build(a, &device, &good).err(), None);
     Ok(())
 }

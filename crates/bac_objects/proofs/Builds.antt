@@ -16,7 +16,7 @@ use Rattle.bac_objects.specs.declared.lines.ObjectLine.TheVariants.{Binary, Mult
 use Rattle.bac_objects.specs.declared.object.Body.{Body}
 use Rattle.bac_objects.specs.declared.object.Object.{Object}
 use Rattle.bac_objects.specs.declared.build.BuildFault.{BuildFault}
-use Rattle.bac_objects.specs.declared.build.BuildFault.TheVariants.{BadInstance, DuplicateId, BadName, DuplicateName, BadStates, BadDefault, BadCapacity, BadInterval, BadLogged, BadReplySize, Memory}
+use Rattle.bac_objects.specs.declared.build.BuildFault.TheVariants.{BadInstance, DuplicateId, BadName, DuplicateName, BadStates, BadDefault, BadCapacity, BadInterval, BadReplySize, Memory}
 
 -- ---- no line is faulty for want of memory
 
@@ -36,17 +36,16 @@ never_one : (a : Bool) → Never (first_of ((a, BadDefault) ∷ []))
 never_one true h = search rules
 never_one false h = search rules
 
-never_log : (a b c : Bool) → Never (first_of ((a, BadCapacity) ∷ (b, BadInterval) ∷ (c, BadLogged) ∷ []))
-never_log true b c h = search rules
-never_log false true c h = search rules
-never_log false false true h = search rules
-never_log false false false h = search rules
+never_log : (a b : Bool) → Never (first_of ((a, BadCapacity) ∷ (b, BadInterval) ∷ []))
+never_log true b h = search rules
+never_log false true h = search rules
+never_log false false h = search rules
 
 never_own : (line : ObjectLine) → Never (first_of (own_tests line))
 never_own (Binary instance name default) = never_one _
 never_own (Multistate instance name states default) = never_two _ _
 never_own (Integer instance name default) = λ h. search rules
-never_own (Log instance name source capacity interval logged) = never_log _ _ _
+never_own (Log instance name source capacity interval logged) = never_log _ _
 
 never_four : (a b c d : Bool) (rest : List (Bool × BuildFault)) → Never (first_of rest) → Never (first_of ((a, BadInstance) ∷ (b, DuplicateId) ∷ (c, BadName) ∷ (d, DuplicateName) ∷ rest))
 never_four true b c d rest k h = search rules

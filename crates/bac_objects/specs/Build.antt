@@ -4,13 +4,13 @@ use Rattle.std.specs.List.{list_any}
 use Rattle.std.specs.Option.{option_or}
 use Rattle.std.specs.Str.{bytes_eq}
 use Rattle.bac_wire.specs.Primitive.{Id}
-use Rattle.bac_log.specs.TrendLog.{empty_log, last_ordinal}
+use Rattle.bac_log.specs.TrendLog.{empty_log}
 use Rattle.bac_objects.specs.Command.{commanded}
 use Rattle.bac_objects.specs.State.{State, is_id}
 use Rattle.bac_objects.specs.declared.command.Setting.TheVariants as setting
 use Rattle.bac_objects.specs.declared.command.Range.TheVariants as range
 use Rattle.bac_objects.specs.declared.build.BuildFault.{BuildFault}
-use Rattle.bac_objects.specs.declared.build.BuildFault.TheVariants.{BadInstance, DuplicateId, BadName, DuplicateName, BadStates, BadDefault, BadCapacity, BadInterval, BadLogged, BadReplySize, Memory}
+use Rattle.bac_objects.specs.declared.build.BuildFault.TheVariants.{BadInstance, DuplicateId, BadName, DuplicateName, BadStates, BadDefault, BadCapacity, BadInterval, BadReplySize, Memory}
 use Rattle.bac_objects.specs.declared.lines.DeviceLine.{DeviceLine}
 use Rattle.bac_objects.specs.declared.lines.ObjectLine.{ObjectLine}
 use Rattle.bac_objects.specs.declared.lines.ObjectLine.TheVariants.{Binary, Multistate, Integer, Log}
@@ -63,12 +63,11 @@ has_id id lines = list_any (λ line. is_id id (id_of line)) lines
 abbrev pub has_name : List ℕ → List ObjectLine → Bool
 has_name name lines = list_any (λ line. bytes_eq name (name_of line)) lines
 
--- A log holds 1 to 65535 records, is sampled every second at most, and has a sequence number left.
-abbrev pub log_tests : ℕ → ℕ → ℕ → List (Bool × BuildFault)
-log_tests capacity interval logged =
+-- A log holds 1 to 65535 records, and is sampled every second at most.
+abbrev pub log_tests : ℕ → ℕ → List (Bool × BuildFault)
+log_tests capacity interval =
     (nat_lt capacity 1 || nat_lt 65535 capacity, BadCapacity)
     ∷ (nat_lt 0 interval && nat_lt interval 100, BadInterval)
-    ∷ (nat_lt last_ordinal logged, BadLogged)
     ∷ []
 
 -- the tests of what only lines of this kind say
@@ -77,7 +76,7 @@ own_tests (Binary instance name default) = (nat_lt 1 default, BadDefault) ∷ []
 own_tests (Multistate instance name states default) =
     (nat_lt states 1 || nat_lt 65535 states, BadStates) ∷ (nat_lt default 1 || nat_lt states default, BadDefault) ∷ []
 own_tests (Integer instance name default) = []
-own_tests (Log instance name source capacity interval logged) = log_tests capacity interval logged
+own_tests (Log instance name source capacity interval logged) = log_tests capacity interval
 
 -- the tests of an object line behind the device's line; whether a line before it has the same identifier, or name
 abbrev pub line_tests : DeviceLine → ObjectLine → Bool → Bool → List (Bool × BuildFault)

@@ -47,9 +47,6 @@ pub enum BuildFault {
     /// The interval of a log is 1 to 99 hundredths of a second.
     #[error("bad interval")]
     BadInterval,
-    /// So many records were logged before that no sequence number is left.
-    #[error("bad logged count")]
-    BadLogged,
     /// The reply size isn't 50 to 1476.
     #[error("bad reply size")]
     BadReplySize,
@@ -115,17 +112,14 @@ fn has_name(lines: &[ObjectLine], name: &[u8]) -> bool
 }
 
 /// The first fault of what a log's line says of its records.
-fn log_fault(capacity: u32, interval: u32, logged: u32) -> Option<BuildFault>
-    ensures { result ≡ first_of (log_tests capacity interval logged) }
+fn log_fault(capacity: u32, interval: u32) -> Option<BuildFault>
+    ensures { result ≡ first_of (log_tests capacity interval) }
 {
     if capacity < 1 || 65535 < capacity {
         return Some(BuildFault::BadCapacity);
     }
     if 0 < interval && interval < 100 {
         return Some(BuildFault::BadInterval);
-    }
-    if 4_294_967_294 < logged {
-        return Some(BuildFault::BadLogged);
     }
     None
 }
@@ -157,11 +151,8 @@ impl ObjectLine {
             }
             ObjectLine::Integer { .. } => None,
             ObjectLine::Log {
-                capacity,
-                interval,
-                logged,
-                ..
-            } => log_fault(*capacity, *interval, *logged),
+                capacity, interval, ..
+            } => log_fault(*capacity, *interval),
         }
     }
 
