@@ -1,12 +1,17 @@
 -- A walk's question is in range.
-use Rattle.std.proofs.Common.{◌≡◌, ℕ, ◌^◌, ◌<◌, Bool, true, false, None, Err, refl, sym, ap, ◌∙◌}
+use Rattle.std.proofs.Common.{◌≡◌, ℕ, ◌^◌, ◌<◌, ◌||◌, Bool, true, false, None, Err, pos, refl, sym, ap, ◌∙◌}
 use Rattle.bac_apdu.specs.Service.Extent.{IsExtent}
 use Rattle.bac_walk.specs.Place.{Place}
-use Rattle.bac_walk.specs.Replies.{FromNumber, FromOldest, extent_of}
-use Rattle.bac_walk.specs.Walks.{asks_oldest_now, wanted_of}
+use Rattle.bac_log.specs.TrendLog.{number}
+use Rattle.bac_link.specs.Delivery.{Moment}
+use Rattle.bac_walk.specs.Near.{IsNear}
+use Rattle.bac_walk.specs.Replies.{FromOrdinal, FromOldest, extent_of, first_date, first_time}
+use Rattle.bac_walk.specs.Walks.{asks_oldest_now, question_of, wanted_at}
+use Rattle.bac_walk.proofs.Bridge.{IsNearTo}
 use Rattle.std.specs.Prelude.{if◌then◌else◌}
 use Rattle.bac_wire.specs.Primitive.{Id}
 use Rattle.bac_apdu.specs.declared.service.extent.Extent.{Extent}
+use Rattle.bac_apdu.specs.declared.service.extent.Extent.TheVariants.{ByNumber, ByTime}
 use Rattle.bac_log.specs.Ack.{log_buffer}
 use Rattle.bac_link.specs.Exchanges.{IsExchangedOfNone, IsNotLost}
 use Rattle.bac_link.specs.Links.{question}
@@ -16,18 +21,37 @@ use Rattle.bac_link.specs.declared.exchanges.Refusal.{Refusal}
 use Rattle.bac_link.specs.declared.exchanges.Refusal.TheVariants as refusal
 use Rattle.bac_link.specs.declared.request.Request.TheVariants as request
 
-pub ranged_of : (w : Place) → w.next < 2 ^ 32 → IsExtent (extent_of (wanted_of w))
+pub ranged_of : (w : Place) → w.next < 2 ^ 32 → IsExtent (question_of w)
 ranged_of w lt = at (asks_oldest_now w)
   where
-    at : (b : Bool) → IsExtent (extent_of (if b then FromOldest else FromNumber w.next))
+    at : (b : Bool) → IsExtent (if b then ByTime first_date first_time (pos 100) else ByNumber w.next (pos 100))
     at true = (refl, refl, refl)
     at false = (lt, refl)
 
-pub question_is : (w : Place) (object : Id) (extent : Extent) → object ≡ w.log → extent ≡ extent_of (wanted_of w) →
-    request.ReadRange (record { object = object; property = log_buffer; index = None; extent = extent }) ≡ question w.log (extent_of (wanted_of w))
+pub question_is : (w : Place) (object : Id) (extent : Extent) → object ≡ w.log → extent ≡ question_of w →
+    request.ReadRange (record { object = object; property = log_buffer; index = None; extent = extent }) ≡ question w.log (question_of w)
 question_is w object extent log asks =
     ap (λ (o : Id). request.ReadRange (record { object = o; property = log_buffer; index = None; extent = extent })) log
     ∙ ap (λ (x : Extent). request.ReadRange (record { object = w.log; property = log_buffer; index = None; extent = x })) asks
+
+-- what is asked for where the walk is at ordinal s
+pub asks_at : (w : Place) (s : ℕ) → w.next ≡ number s → question_of w ≡ extent_of (wanted_at w s)
+asks_at w s next = at (asks_oldest_now w)
+  where
+    at : (b : Bool) → (if b then ByTime first_date first_time (pos 100) else ByNumber w.next (pos 100)) ≡ extent_of (if b then FromOldest else FromOrdinal s)
+    at true = refl
+    at false = ap (λ (n : ℕ). ByNumber n (pos 100)) next
+
+pub near_to : (w : Place) (s : ℕ) (m : Moment) → (w.fresh ≡ false → IsNear s m) → IsNearTo (wanted_at w s) m
+near_to w s m near = at (asks_oldest_now w) refl
+  where
+    left : (a b : Bool) → (a || b) ≡ false → a ≡ false
+    left true b h = absurd (cc)
+    left false b h = refl
+
+    at : (b : Bool) → asks_oldest_now w ≡ b → IsNearTo (if b then FromOldest else FromOrdinal s) m
+    at true is = tt
+    at false is = near (left w.fresh w.asks_oldest is)
 
 -- how a link that lacks the log ends an exchange
 pub lost_is : (f : ExchangeFault) → f ≡ fault.Lost → IsNotLost (Err f) → ⊥

@@ -19,8 +19,9 @@ use Rattle.bac_log.proofs.Acks.{length-ack_length}
 use Rattle.bac_log.proofs.Sizes.{entry_sized}
 use Rattle.bac_link.specs.Delivery.{History, Moment}
 use Rattle.bac_link.specs.Moments.{IsMoment, log_at, entries_from}
-use Rattle.bac_walk.specs.Replies.{IsShown, Wanted, FromNumber, FromOldest, extent_of, first_asked, asked_count, fitting, how_many}
+use Rattle.bac_walk.specs.Replies.{IsShown, Wanted, FromOrdinal, FromOldest, extent_of, first_asked, asked_count, fitting, how_many}
 use Rattle.bac_walk.specs.Replies.{IsAnswer}
+use Rattle.bac_walk.specs.Near.{IsNear}
 use Rattle.bac_walk.specs.Takes.{records_of, first_of}
 use Rattle.bac_walk.proofs.Asks.{selected-by_number, greatest_some}
 use Rattle.bac_walk.proofs.Oldest.{selected-from_oldest}
@@ -72,12 +73,12 @@ entries_in-numbered first [] = refl
 entries_in-numbered first (e ∷ es) = ap (λ (l : List Entry). e ∷ l) (entries_in-numbered (first + 1) es)
 
 shows : (wanted : Wanted) → shows_number (extent_of wanted) ≡ true
-shows (FromNumber n) = refl
+shows (FromOrdinal n) = refl
 shows FromOldest = refl
 
 first-numbered : (wanted : Wanted) (first : ℕ) (es : List Entry) → 0 < length es → first_shown (extent_of wanted) (numbered first es) ≡ Some (number first)
 first-numbered wanted first [] some = absurd (omega arith)
-first-numbered wanted first (e ∷ es) some = cond-true (shows_number (extent_of wanted)) (Some first) None (shows wanted)
+first-numbered wanted first (e ∷ es) some = cond-true (shows_number (extent_of wanted)) (Some (number first)) None (shows wanted)
 
 octets_same : (wanted : Wanted) (first k : ℕ) (es : List Entry) → 0 < k → k ≤ length es → reply_length (extent_of wanted) (take k (numbered first es)) ≡ ack_length (Some (number first)) (take k es)
 octets_same wanted first k es some within =
@@ -102,14 +103,20 @@ one_small [] some l = absurd (omega arith)
 one_small (e ∷ es) some l = omega (arith, sum_by-cons (λ (x : Entry). length (entry_octets x)) e [], (entry_sized e (l 0 e (omega arith))).most_of)
 
 -- one record always fits
-pub fitting_some : (r first : ℕ) (es : List Entry) → 44 ≤ r → first < 2 ^ 32 → All IsLoggable es → 0 < length es → 0 < fitting r first es
-fitting_some r first es room low l some =
+pub fitting_some : (r first : ℕ) (es : List Entry) → 44 ≤ r → All IsLoggable es → 0 < length es → 0 < fitting r first es
+fitting_some r first es room l some =
     let one : length (take 1 es) ≡ 1 = length-take-le 1 es (omega arith) in
+    let low : number first < 2 ^ 32 = omega arith in
     let size = length-ack_length (Some (number first)) (take 1 es) low (omega (arith, one)) in
     greatest_some (λ n. nat_le (ack_length (Some (number first)) (take n es)) r) (length es) some
     (le-leb _ _ (omega (arith, size, ap number_size one, one_small es some l, (first_size (number first)).1, room)))
 
 -- ---- the answer
+
+-- an ordinal that is asked for by its number is near
+abbrev pub IsNearTo : Wanted → Moment → Type 0
+IsNearTo (FromOrdinal s) m = IsNear s m
+IsNearTo FromOldest m = Unit {0}
 
 module _ (m : Moment) (H : History) (sound : IsMoment H.logged m) (within : m.newest ≤ H.logged + length H.entries) (loggable : All IsLoggable (log_at m H).entries) where
   length_held : length (log_at m H).entries ≡ m.newest + 1 - m.oldest
@@ -125,22 +132,22 @@ module _ (m : Moment) (H : History) (sound : IsMoment H.logged m) (within : m.ne
       (All-take IsLoggable c (drop (first - m.oldest) (log_at m H).entries) (All-drop IsLoggable (first - m.oldest) (log_at m H).entries loggable))
 
   part_loggable : (wanted : Wanted) → All IsLoggable (entries_from H (first_asked wanted m) (asked_count wanted m))
-  part_loggable (FromNumber n) = cut_loggable (max n m.oldest) (asked_count (FromNumber n) m) (omega arith) (omega arith)
+  part_loggable (FromOrdinal s) = cut_loggable (max s m.oldest) (asked_count (FromOrdinal s) m) (omega arith) (omega arith)
   part_loggable FromOldest = cut_loggable m.oldest (asked_count FromOldest m) (omega arith) (omega arith)
 
   pub shown : IsShown (log_at m H)
-  shown = record { numbered = omega (arith, length_held, sound.most, sound.above, sound.close); loggable = loggable }
+  shown = record { few = omega (arith, length_held, sound.few); loggable = loggable }
 
   -- what a walk's question selects
-  selected-is : (wanted : Wanted) → selected (log_at m H) (extent_of wanted) ≡ numbered (first_asked wanted m) (entries_from H (first_asked wanted m) (asked_count wanted m))
-  selected-is (FromNumber n) =
+  selected-is : (wanted : Wanted) → IsNearTo wanted m → selected (log_at m H) (extent_of wanted) ≡ numbered (first_asked wanted m) (entries_from H (first_asked wanted m) (asked_count wanted m))
+  selected-is (FromOrdinal s) near =
       let log : Log = log_at m H in
-      let f : ℕ = max n m.oldest in
-      let count : min ((n + 100) - f) (m.newest + 1 - f) ≡ asked_count (FromNumber n) m = omega arith in
-      selected-by_number log n
-      ∙ ap (λ k. numbered (max n k) (take ((n + 100) - max n k) (drop (max n k - k) log.entries))) oldest_is
-      ∙ ap (λ (l : List Entry). numbered f l) (held_part H m f ((n + 100) - f) sound.above (omega arith) ∙ ap (λ c. entries_from H f c) count)
-  selected-is FromOldest = elim (cases_lt 0 (length (log_at m H).entries)) [
+      let f : ℕ = max s m.oldest in
+      let count : min ((s + 100) - f) (m.newest + 1 - f) ≡ asked_count (FromOrdinal s) m = omega arith in
+      selected-by_number log s shown.few (omega (arith, oldest_is, near.above)) (omega (arith, oldest_is, near.below))
+      ∙ ap (λ k. numbered (max s k) (take ((s + 100) - max s k) (drop (max s k - k) log.entries))) oldest_is
+      ∙ ap (λ (l : List Entry). numbered f l) (held_part H m f ((s + 100) - f) sound.above (omega arith) ∙ ap (λ c. entries_from H f c) count)
+  selected-is FromOldest near = elim (cases_lt 0 (length (log_at m H).entries)) [
     | inl some ↦
         let log : Log = log_at m H in
         let count : min 100 (m.newest + 1 - m.oldest) ≡ asked_count FromOldest m = omega arith in
@@ -158,37 +165,33 @@ module _ (m : Moment) (H : History) (sound : IsMoment H.logged m) (within : m.ne
       none_selected log none = rw none refl
 
   length_asked : (wanted : Wanted) → length (entries_from H (first_asked wanted m) (asked_count wanted m)) ≡ asked_count wanted m
-  length_asked (FromNumber n) = length-take-le (asked_count (FromNumber n) m) (drop (max n m.oldest - (H.logged + 1)) H.entries) (omega (arith, sound.above, length-drop (max n m.oldest - (H.logged + 1)) H.entries))
+  length_asked (FromOrdinal s) = length-take-le (asked_count (FromOrdinal s) m) (drop (max s m.oldest - (H.logged + 1)) H.entries) (omega (arith, sound.above, length-drop (max s m.oldest - (H.logged + 1)) H.entries))
   length_asked FromOldest = length-take-le (asked_count FromOldest m) (drop (m.oldest - (H.logged + 1)) H.entries) (omega (arith, sound.above, length-drop (m.oldest - (H.logged + 1)) H.entries))
-
-  first_low : (wanted : Wanted) → 0 < asked_count wanted m → first_asked wanted m < 2 ^ 32
-  first_low (FromNumber n) some = omega (arith, sound.most)
-  first_low FromOldest some = omega (arith, sound.most)
 
   pub many_most : (r : ℕ) (wanted : Wanted) → how_many r H wanted m ≤ asked_count wanted m
   many_most r wanted = omega (arith, length_asked wanted, fitting_most r (first_asked wanted m) (entries_from H (first_asked wanted m) (asked_count wanted m)))
 
-  pub packed-is : (r : ℕ) (wanted : Wanted) → packed (extent_of wanted) r (selected (log_at m H) (extent_of wanted)) ≡ numbered (first_asked wanted m) (entries_from H (first_asked wanted m) (how_many r H wanted m))
-  packed-is r wanted =
+  pub packed-is : (r : ℕ) (wanted : Wanted) → IsNearTo wanted m → packed (extent_of wanted) r (selected (log_at m H) (extent_of wanted)) ≡ numbered (first_asked wanted m) (entries_from H (first_asked wanted m) (how_many r H wanted m))
+  packed-is r wanted near =
       let f : ℕ = first_asked wanted m in
       let c : ℕ = asked_count wanted m in
       let n : ℕ = how_many r H wanted m in
       let least : min n c ≡ n = omega (arith, many_most r wanted) in
-      ap (λ (rs : List Logged). packed (extent_of wanted) r rs) (selected-is wanted)
+      ap (λ (rs : List Logged). packed (extent_of wanted) r rs) (selected-is wanted near)
       ∙ packed-numbered r wanted f (entries_from H f c)
       ∙ ap (λ (l : List Entry). numbered f l) (take_min n c (drop (f - (H.logged + 1)) H.entries) ∙ ap (λ k. entries_from H f k) least)
 
   -- the records and the first number of an honest reply are the whole reply of the moment
-  pub answer_is : (r : ℕ) (wanted : Wanted) → 44 ≤ r → IsAnswer r m H wanted (first_of r (log_at m H) (extent_of wanted)) (records_of r (log_at m H) (extent_of wanted))
-  answer_is r wanted room =
+  pub answer_is : (r : ℕ) (wanted : Wanted) → IsNearTo wanted m → 44 ≤ r → IsAnswer r m H wanted (first_of r (log_at m H) (extent_of wanted)) (records_of r (log_at m H) (extent_of wanted))
+  answer_is r wanted near room =
       let f : ℕ = first_asked wanted m in
       let n : ℕ = how_many r H wanted m in
       let size : length (entries_from H f n) ≡ n =
       ap (λ (l : List Entry). length l) (sym (take_min n (asked_count wanted m) (drop (f - (H.logged + 1)) H.entries) ∙ ap (λ k. entries_from H f k) (let e : min n (asked_count wanted m) ≡ n = omega (arith, many_most r wanted) in e)))
       ∙ length-take-le n (entries_from H f (asked_count wanted m)) (omega (arith, many_most r wanted, length_asked wanted)) in
       record {
-        entries = ap (λ (rs : List Logged). entries_in rs) (packed-is r wanted) ∙ entries_in-numbered f (entries_from H f n);
-        first_is = λ some. ap (λ (rs : List Logged). first_shown (extent_of wanted) rs) (packed-is r wanted) ∙ first-numbered wanted f (entries_from H f n) (omega (arith, size, some));
-        some = λ asked. fitting_some r f (entries_from H f (asked_count wanted m)) room (first_low wanted asked) (part_loggable wanted) (omega (arith, length_asked wanted, asked));
+        entries = ap (λ (rs : List Logged). entries_in rs) (packed-is r wanted near) ∙ entries_in-numbered f (entries_from H f n);
+        first_is = λ some. ap (λ (rs : List Logged). first_shown (extent_of wanted) rs) (packed-is r wanted near) ∙ first-numbered wanted f (entries_from H f n) (omega (arith, size, some));
+        some = λ asked. fitting_some r f (entries_from H f (asked_count wanted m)) room (part_loggable wanted) (omega (arith, length_asked wanted, asked));
         most = many_most r wanted;
       }

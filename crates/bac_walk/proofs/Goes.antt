@@ -12,7 +12,7 @@ use Rattle.bac_walk.specs.declared.outcome.Progress.{Progress}
 use Rattle.bac_walk.specs.declared.outcome.Progress.TheVariants.{Batch as BatchOf, AskOldest, CaughtUp}
 use Rattle.bac_walk.specs.declared.outcome.Step.{Step}
 use Rattle.bac_log.specs.TrendLog.{number}
-use Rattle.bac_walk.specs.Ordinals.{distance, number_after, is_ahead}
+use Rattle.bac_walk.specs.Ordinals.{is_number, distance, number_after}
 use Rattle.bac_walk.specs.Turns.{Covers}
 use Rattle.bac_walk.specs.Walks.{shown_from, brought, asks_oldest_now, is_past, fits, items_in, Verdict, Refuse, Ask, End, Bring, verdict, IsTaken, IsTakenFrom}
 use Rattle.bac_walk.specs.Collects.{Goes, turn_items, asks_next, finished, step_items}
@@ -28,52 +28,44 @@ covers_shown s shown es is =
     subst Q (sym is) (after-number s (length es), subst P (sym (shown_numbered s es)) (Covers-numbered s es))
 
 -- a batch of a walk that isn't one from the oldest entry any more
-goes_on : (next first s : ℕ) (e : Entry) (es : List Entry) (lt : Bool) → nat_lt 0 (distance next first) ≡ lt → is_ahead next first ≡ true →
+goes_on : (next first s : ℕ) (e : Entry) (es : List Entry) (lt : Bool) → nat_lt 0 (distance next first) ≡ lt → is_number first ≡ true →
     next ≡ number s →
     (t : ℕ) × (number_after first (length (e ∷ es)) ≡ number t)
     × Covers s ((if lt then Gap next first ∷ [] else []) ++ shown_from first (e ∷ es)) t
-goes_on next first s e es true is ahead here =
-    let far : first ≡ number (s + distance next first) = number-distance next first s ahead here in
+goes_on next first s e es true is shows here =
+    let far : first ≡ number (s + distance next first) = number-distance next first s shows here in
     let rest = covers_shown (s + distance next first) first (e ∷ es) far in
     (_, rest.0, (here, ltb-true 0 (distance next first) is, rest.1))
-goes_on next first s e es false is ahead here =
+goes_on next first s e es false is shows here =
     let none : distance next first ≤ 0 = ltb-false 0 (distance next first) is in
     let same : s + distance next first ≡ s = omega (arith, none) in
-    let far : first ≡ number s = number-distance next first s ahead here ∙ ap number same in
+    let far : first ≡ number s = number-distance next first s shows here ∙ ap number same in
     let rest = covers_shown s first (e ∷ es) far in
     (_, rest.0, rest.1)
 
 -- the batch of a walk in either state
 goes_batch : (log : Id) (next s first : ℕ) (fresh asks : Bool) (e : Entry) (es : List Entry) (items : List Item) →
-    is_past (record { log = log; next = next; fresh = fresh; asks_oldest = asks }) first ≡ false →
     fits (record { log = log; next = next; fresh = fresh; asks_oldest = asks }) first (length (e ∷ es)) ≡ true →
     items ≡ brought (record { log = log; next = next; fresh = fresh; asks_oldest = asks }) first (e ∷ es) →
     Goes fresh next s items false (number_after first (length (e ∷ es)))
-goes_batch log next s first true asks e es items past fit is =
+goes_batch log next s first true asks e es items fit is =
     let P : List Item → Type 0 = λ xs. Goes true next s xs false (number_after first (length (e ∷ es))) in
     subst P (sym is) (λ here. (_, (covers_shown s first (e ∷ es) here).0, (covers_shown s first (e ∷ es) here).1), refl)
-goes_batch log next s first false asks e es items past fit is =
-    let ahead : is_ahead next first ≡ true = ahead_of asks (is_ahead next first) (nat_le (first + length (e ∷ es)) 4294967295)
-    (nat_le (distance next first + length (e ∷ es)) 100) past (and_parts (nat_le (length (e ∷ es)) 100) _ fit).1 in
-    gone (nat_lt 0 (distance next first)) refl ahead is
+goes_batch log next s first false asks e es items fit is =
+    let shows : is_number first ≡ true = (and_parts (is_number first) _ (and_parts (nat_le (length (e ∷ es)) 100) _ fit).1).0 in
+    gone (nat_lt 0 (distance next first)) refl shows is
   where
-    ahead_of : (asks ahead most within : Bool) → (asks && true && not ahead) ≡ false → (most && ((false || asks) || (ahead && within))) ≡ true → ahead ≡ true
-    ahead_of asks true most within past fit = refl
-    ahead_of true false most within past fit = absurd (cc)
-    ahead_of false false true within past fit = absurd (cc)
-    ahead_of false false false within past fit = absurd (cc)
-
-    gone : (lt : Bool) → nat_lt 0 (distance next first) ≡ lt → is_ahead next first ≡ true →
+    gone : (lt : Bool) → nat_lt 0 (distance next first) ≡ lt → is_number first ≡ true →
         items ≡ (if nat_lt 0 (distance next first) then Gap next first ∷ [] else []) ++ shown_from first (e ∷ es) →
         Goes false next s items false (number_after first (length (e ∷ es)))
-    gone true lt ahead eq =
+    gone true lt shows eq =
         let P : List Item → Type 0 = λ xs. Goes false next s xs false (number_after first (length (e ∷ es))) in
         subst P (sym (eq ∙ ap (λ b. (if b then Gap next first ∷ [] else []) ++ shown_from first (e ∷ es)) lt))
-        ((λ here. goes_on next first s e es true lt ahead here), refl)
-    gone false lt ahead eq =
+        ((λ here. goes_on next first s e es true lt shows here), refl)
+    gone false lt shows eq =
         let P : List Item → Type 0 = λ xs. Goes false next s xs false (number_after first (length (e ∷ es))) in
         subst P (sym (eq ∙ ap (λ b. (if b then Gap next first ∷ [] else []) ++ shown_from first (e ∷ es)) lt))
-        ((λ here. goes_on next first s e es false lt ahead here), refl)
+        ((λ here. goes_on next first s e es false lt shows here), refl)
 
 idle : (fresh : Bool) (before s : ℕ) (after_fresh : Bool) (next : ℕ) → next ≡ before → after_fresh ≡ fresh → Goes fresh before s [] after_fresh next
 idle true before s after_fresh next a b = (a, b)
@@ -87,18 +79,17 @@ brings w s first count [] f items is eq = none_empty (asks_oldest_now w) is
     none_empty true h = absurd (cc)
     none_empty false h = absurd (cc)
 brings w s None count (e ∷ es) f items is eq = absurd (cc)
-brings w s (Some g) count (e ∷ es) f items is eq = of_some (is_past w g) (count == length (e ∷ es)) (fits w g (length (e ∷ es))) refl refl is
+brings w s (Some g) count (e ∷ es) f items is eq = of_some (is_past w g) (count == length (e ∷ es)) (fits w g (length (e ∷ es))) refl is
   where
-    of_some : (a c b : Bool) → is_past w g ≡ a → fits w g (length (e ∷ es)) ≡ b →
+    of_some : (a c b : Bool) → fits w g (length (e ∷ es)) ≡ b →
         (if a then End else (if c && b then Bring g else Refuse)) ≡ Bring f → Goes w.fresh w.next s items false (number_after f (length (e ∷ es)))
-    of_some true c b past fit h = absurd (cc)
-    of_some false false b past fit h = absurd (cc)
-    of_some false true false past fit h = absurd (cc)
-    of_some false true true past fit h =
+    of_some true c b fit h = absurd (cc)
+    of_some false false b fit h = absurd (cc)
+    of_some false true false fit h = absurd (cc)
+    of_some false true true fit h =
         let same : g ≡ f = cc in
-        let P : ℕ → Type 0 = λ n. is_past w n ≡ false in
         let Q : ℕ → Type 0 = λ n. fits w n (length (e ∷ es)) ≡ true in
-        goes_batch w.log w.next s f w.fresh w.asks_oldest e es items (subst P same past) (subst Q same fit) eq
+        goes_batch w.log w.next s f w.fresh w.asks_oldest e es items (subst Q same fit) eq
 
 by_verdict : (w : Place) (s : ℕ) (first : Option ℕ) (count : ℕ) (es : List Entry) (p : Progress) (after : Place) (v : Verdict) → verdict w first count es ≡ v →
     IsTaken w es v (Ok p) after → Goes w.fresh w.next s (turn_items (Ok p)) after.fresh after.next

@@ -16,15 +16,17 @@ use Rattle.bac_log.specs.TrendLog.{number}
 use Rattle.bac_walk.specs.Ordinals.{distance, number_after}
 use Rattle.bac_link.specs.Delivery.{History, Moment, now, later}
 use Rattle.bac_link.specs.Laws.{after_answers}
+use Rattle.bac_walk.specs.Near.{IsNearStep}
 use Rattle.bac_walk.specs.Turns.{Covers, IsBatch}
 use Rattle.bac_walk.specs.Delivers.{end_of}
 use Rattle.bac_walk.specs.Walks.{gap_items, item_of, items_in}
-use Rattle.bac_walk.specs.Collects.{Goes, Collected, IsFreshAfter, batches, step_items, step_ended, is_fresh_after}
+use Rattle.bac_walk.specs.Collects.{Goes, Collected, IsFreshAfter, FoundEnd, FoundStep, batches, step_items, step_ended, is_fresh_after}
 use Rattle.bac_walk.specs.Sinks.{Call, put_items, gaps, Takes, PutAll, IsRun, Delivery}
-use Rattle.bac_walk.specs.Handing.{walk_after, ended_after, HandedOn, HasNext}
+use Rattle.bac_walk.specs.Handing.{walk_after, ended_after, HandedOn}
 use Rattle.bac_walk.proofs.Cuts.{Covers-cut, IsBatch-cut, Covers-end, end_of-append}
 use Rattle.bac_walk.proofs.Shown.{after-number}
 use Rattle.bac_walk.proofs.Joins.{step_fresh, whole_some}
+use Rattle.bac_walk.proofs.Near.{at_once}
 
 -- the calls that put so many records, the first with the gap
 abbrev pub calls_of : Option GapOf → List Numbered → List Call
@@ -81,15 +83,6 @@ put_up_to puts old gap (x ∷ xs) n new put =
           let rest = put_up_to puts more.0 None xs n new more.2 in
           record { before = x ∷ rest.before; last = rest.last; after = rest.after; is = ap (λ l. x ∷ l) rest.is; shown = rest.shown; takes = inr (more.0, more.1, rest.takes) }
     ]
-
--- the number of the record that stopped has one after it
-pub has_next : {S : Type 0} (puts : S → Option GapOf → Numbered → Bool → S → Type 0) (old : S) (z : Result Step WalkFault) (b : Batch) (refused : Option ℕ) (n : ℕ) (new : S) →
-    HasNext z → z ≡ Ok (StepOf b) → PutAll puts old b.gap b.entries.items refused new → refused ≡ Some n → n + 1 < 4294967296
-has_next puts old z b refused n new next is put some =
-    let P : Result Step WalkFault → Type 0 = λ x. HasNext x in
-    let Q : Option ℕ → Type 0 = λ x. PutAll puts old b.gap b.entries.items x new in
-    let c = put_up_to puts old b.gap b.entries.items n new (subst Q some put) in
-    omega (arith, subst P is next c.before c.last c.after c.is, c.shown)
 
 -- an entry shows the number of the ordinal where it stands
 pub shows : (s t k : ℕ) (e : Entry) (before after : List Item) → Covers s (before ++ Logged k e ∷ after) t → k ≡ number (end_of s before)
@@ -253,7 +246,7 @@ cut_run r H M false next retries old new t k e pre post ([] ∷ (x ∷ b) ∷ []
 abbrev pub IsStep : (ℕ → List Moment → History → Type 0) → (ℕ → List Moment → History → Type 0) → ℕ → ℕ → ℕ → Place → Place → Result Step WalkFault → Type 0
 IsStep was is retries old new before after z =
     ((s : ℕ) → Goes before.fresh before.next s (step_items z) after.fresh after.next)
-    × ((r : ℕ) (M : List Moment) (H : History) (s : ℕ) → was r M H → before.next ≡ number s →
+    × ((r : ℕ) (M : List Moment) (H : History) (s : ℕ) → was r M H → before.next ≡ number s → (before.fresh ≡ false → IsNearStep s M) →
     (answers : List (List Item)) × (t : ℕ) × (after.next ≡ number t)
     × Collected r H M before.fresh s 1 retries old new (step_items z) t (step_ended z) answers
     × is r (after_answers (length answers) M) H × (after.fresh ≡ is_fresh_after before.fresh z))
@@ -263,8 +256,8 @@ run_of_step : (was is : ℕ → List Moment → History → Type 0) (retries old
     IsStep was is retries old new before after z → IsRun was is retries old new before after 1 (step_ended z) (step_items z)
 run_of_step was is retries old new before after z step = (
   step.0,
-  λ r M H s honest next.
-      let run = step.1 r M H s honest next in
+  λ r M H s honest next near.
+      let run = step.1 r M H s honest next (at_once r H M before.fresh s 1 retries old (omega arith) near) in
       (run.0, run.1, run.2, run.3, run.4, step_fresh r H M before.fresh after.fresh s retries old new run.1 z run.0 run.3 run.5),
 )
 
@@ -286,8 +279,8 @@ run_of_cut was is retries old new k e before after pre post run = (
       let P : Bool → Type 0 = λ f. Goes before.fresh before.next s (pre ++ Logged k e ∷ []) f (number_after k 1) in
       subst P (old_after before.fresh before.next s k e pre post after.fresh after.next (run.0 s))
       (cut_goes before.fresh before.next s k e pre post after.fresh after.next (run.0 s))),
-  (λ r M H s honest next.
-      let whole = run.1 r M H s honest next in
+  (λ r M H s honest next near.
+      let whole = run.1 r M H s honest next near in
       let c = cut_run r H M before.fresh s retries old new whole.1 k e pre post whole.0 whole.3 in
       let P : ℕ → Type 0 = λ a. is r (after_answers a M) H in
       let some : 0 < batches whole.0 = omega (arith, whole.3.end.0) in
@@ -356,41 +349,13 @@ handed puts sink left was is retries old new before mid after (Ok (StepOf b)) en
     let Q : Ended → Type 0 = λ x. Delivery puts sink left was is retries old new before after 1 x in
     subst Q (sym put.3) (subst P (sym put.2) done)
 
-below : (s t k : ℕ) (e : Entry) (before after : List Item) → Covers s (before ++ Logged k e ∷ after) t → end_of s before < t
-below s t k e before after h =
-    let e1 : end_of s (before ++ Logged k e ∷ after) ≡ t = Covers-end s t (before ++ Logged k e ∷ after) h in
-    let e2 : end_of s (before ++ Logged k e ∷ after) ≡ end_of (end_of s before) (Logged k e ∷ after) = end_of-append s before (Logged k e ∷ after) in
-    omega (arith, e1, e2, end_up (end_of s before + 1) after)
+-- a step that isn't lost doesn't end as lost
+pub found_end : {S : Type 0} (puts : S → Option GapOf → Numbered → Bool → S → Type 0) (sink : S) (mid : Place) (z : Result Step WalkFault) (ended : Ended) (after : Place) (left : S) →
+    HandedOn puts sink mid z ended after left → FoundStep z → FoundEnd ended
+found_end puts sink mid (Err e) ended after left put found = let P : Ended → Type 0 = λ x. FoundEnd x in subst P (sym put.2) found
+found_end puts sink mid (Ok NoStep) ended after left put found = let P : Ended → Type 0 = λ x. FoundEnd x in subst P (sym put.2) tt
+found_end puts sink mid (Ok (StepOf b)) ended after left put found = let P : Ended → Type 0 = λ x. FoundEnd x in subst P (sym put.3) (of_put put.0)
   where
-    end_up : (u : ℕ) (xs : List Item) → u ≤ end_of u xs
-    end_up u [] = omega arith
-    end_up u (Gap f b ∷ xs) = omega (arith, end_up (u + distance f b) xs)
-    end_up u (Logged l d ∷ xs) = omega (arith, end_up (u + 1) xs)
-
--- an entry among the items of a step is below the walk's next number
-goes_below : (fresh : Bool) (before k : ℕ) (e : Entry) (pre post : List Item) (after : Bool) (next : ℕ) →
-    ((s : ℕ) → Goes fresh before s (pre ++ Logged k e ∷ post) after next) → k < next
-goes_below false before k e [] post after next goes =
-    let t = (goes before).0 refl in
-    omega (arith, t.1, shows before t.0 k e [] post t.2, below before t.0 k e [] post t.2)
-goes_below false before k e (p ∷ pre) post after next goes =
-    let t = (goes before).0 refl in
-    omega (arith, t.1, shows before t.0 k e (p ∷ pre) post t.2, below before t.0 k e (p ∷ pre) post t.2)
-goes_below true before k e [] post after next goes =
-    let t = (goes k).0 refl in
-    omega (arith, t.1, shows k t.0 k e [] post t.2, below k t.0 k e [] post t.2)
-goes_below true before k e (Gap f b ∷ pre) post after next goes = absurd (goes 0)
-goes_below true before k e (Logged l d ∷ pre) post after next goes =
-    let t = (goes l).0 refl in
-    omega (arith, t.1, shows l t.0 k e (Logged l d ∷ pre) post t.2, below l t.0 k e (Logged l d ∷ pre) post t.2)
-
-pub next_of_step : (fresh : Bool) (before : ℕ) (z : Result Step WalkFault) (after : Bool) (next : ℕ) → next < 4294967296 →
-    ((s : ℕ) → Goes fresh before s (step_items z) after next) → HasNext z
-next_of_step fresh before (Err e) after next most goes = tt
-next_of_step fresh before (Ok NoStep) after next most goes = tt
-next_of_step fresh before (Ok (StepOf b)) after next most goes = λ pre x post is.
-    let whole : items_in b ≡ (gap_items b.gap ++ map item_of pre) ++ item_of x ∷ map item_of post =
-    ap (λ l. gap_items b.gap ++ map item_of l) is ∙ ap (λ l. gap_items b.gap ++ l) (map-append pre (x ∷ post))
-    ∙ sym (append_assoc (gap_items b.gap) (map item_of pre) (item_of x ∷ map item_of post)) in
-    let P : List Item → Type 0 = λ l. (s : ℕ) → Goes fresh before s l after next in
-    omega (arith, most, goes_below fresh before x.number x.entry (gap_items b.gap ++ map item_of pre) (map item_of post) after next (subst P whole goes))
+    of_put : (refused : Option ℕ) → FoundEnd (ended_after refused)
+    of_put None = tt
+    of_put (Some n) = tt

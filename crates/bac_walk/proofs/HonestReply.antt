@@ -26,7 +26,7 @@ use Rattle.bac_link.specs.Moments.{AreServed, log_at}
 use Rattle.bac_walk.specs.Takes.{records_of, first_of, parameters_in, Says}
 use Rattle.bac_walk.specs.Replied.{heard_from, heard_in}
 use Rattle.bac_walk.proofs.Heards.{number_back}
-use Rattle.bac_walk.proofs.Bridge.{shown, answer_is}
+use Rattle.bac_walk.proofs.Bridge.{IsNearTo, shown, answer_is}
 use Rattle.bac_walk.proofs.Held.{Sound-now, In-now}
 use Rattle.bac_walk.proofs.ReadBack.{reply_reads, packed_loggable}
 
@@ -53,9 +53,9 @@ heard_reply id log extent r is most valid =
     ap (λ x. heard_if id (option_map range_ack_in (result_ok x))) (reply_reads log extent r is most id valid)
     ∙ heard_shown id (reply_of log extent (selected log extent) (packed extent r (selected log extent))).flags (first_of r log extent) (records_of r log extent) (packed_loggable log extent r is most)
 
-says_reply : (result : Option (List ℕ)) (datagram : List ℕ) (r : ℕ) (M : List Moment) (H : History) (id : Id) (wanted : Wanted) (invoke : ℕ) → result ≡ parameters_in (apdu_in datagram) → AreServed r M H → IsValid (Object id) →
+says_reply : (result : Option (List ℕ)) (datagram : List ℕ) (r : ℕ) (M : List Moment) (H : History) (id : Id) (wanted : Wanted) (invoke : ℕ) → result ≡ parameters_in (apdu_in datagram) → AreServed r M H → IsNearTo wanted (now M) → IsValid (Object id) →
     IsReply r (now M) H id (extent_of wanted) invoke datagram → IsSomeAnd result (λ p. Says r (now M) H wanted (heard_at id p))
-says_reply result datagram r M H id wanted invoke gives served valid reply =
+says_reply result datagram r M H id wanted invoke gives served near valid reply =
     let sound = Sound-now r M H served in
     let within = In-now r M H served in
     let is : IsShown (log_at (now M) H) = shown (now M) H sound within reply.0 in
@@ -63,7 +63,7 @@ says_reply result datagram r M H id wanted invoke gives served valid reply =
     let P : Option (List ℕ) → Type 0 = λ o. IsSomeAnd o (λ p. Says r (now M) H wanted (heard_at id p)) in
     let Q : Option Heard → Type 0 = λ o. Says r (now M) H wanted o in
     subst P (sym whole) (subst Q (sym (heard_reply id (log_at (now M) H) (extent_of wanted) r is served.greatest valid))
-    (answer_is (now M) H sound within reply.0 r wanted (omega (arith, served.least)), refl))
+    (answer_is (now M) H sound within reply.0 r wanted near (omega (arith, served.least)), refl))
 
 -- the same of a datagram
 says_heard : (o : Option (List ℕ)) (r : ℕ) (m : Moment) (H : History) (id : Id) (wanted : Wanted) → IsSomeAnd o (λ p. Says r m H wanted (heard_at id p)) →
@@ -71,7 +71,7 @@ says_heard : (o : Option (List ℕ)) (r : ℕ) (m : Moment) (H : History) (id : 
 says_heard None r m H id wanted h = absurd h
 says_heard (Some p) r m H id wanted h = h
 
-pub says_in : (datagram : List ℕ) (r : ℕ) (M : List Moment) (H : History) (id : Id) (wanted : Wanted) (invoke : ℕ) → AreServed r M H → IsValid (Object id) →
+pub says_in : (datagram : List ℕ) (r : ℕ) (M : List Moment) (H : History) (id : Id) (wanted : Wanted) (invoke : ℕ) → AreServed r M H → IsNearTo wanted (now M) → IsValid (Object id) →
     IsReply r (now M) H id (extent_of wanted) invoke datagram → Says r (now M) H wanted (heard_in id datagram)
-says_in datagram r M H id wanted invoke served valid reply =
-    says_heard (parameters_in (apdu_in datagram)) r (now M) H id wanted (says_reply (parameters_in (apdu_in datagram)) datagram r M H id wanted invoke refl served valid reply)
+says_in datagram r M H id wanted invoke served near valid reply =
+    says_heard (parameters_in (apdu_in datagram)) r (now M) H id wanted (says_reply (parameters_in (apdu_in datagram)) datagram r M H id wanted invoke refl served near valid reply)

@@ -108,7 +108,7 @@ start_of-append true next M [] ([] ∷ xs) ys h = absurd h
 start_of-append true next M [] ((x ∷ b) ∷ xs) ys h = refl
 start_of-append true next M (x ∷ b) xs ys h = refl
 
-start_of-nil : (fresh : Bool) (next : ℕ) (M : List Moment) → start_of fresh next M [] ≡ next
+pub start_of-nil : (fresh : Bool) (next : ℕ) (M : List Moment) → start_of fresh next M [] ≡ next
 start_of-nil true next M = refl
 start_of-nil false next M = refl
 

@@ -8,6 +8,7 @@ pub mod Spellings
 pub mod Heards
 pub mod WalkTakes
 pub mod Held
+pub mod Near
 pub mod HonestReply
 pub mod Shown
 pub mod Turns

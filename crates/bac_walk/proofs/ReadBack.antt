@@ -17,7 +17,6 @@ use Rattle.bac_log.specs.Record.{entry_octets, entries_octets}
 use Rattle.bac_log.specs.RecordReading.{entries_at}
 use Rattle.bac_log.specs.Select.{Logged, numbered, held, selected, packed, reply_of, reply_length, first_shown, entries_in, shows_number, is_asked, greatest}
 use Rattle.bac_log.specs.TrendLog.{Log, oldest, number}
-use Rattle.bac_log.specs.TrendLog.{newest}
 use Rattle.bac_log.proofs.Acks.{ack_reads, length-ack_length}
 use Rattle.bac_log.proofs.Records.{entries_back}
 use Rattle.bac_log.proofs.Sizes.{entry_sized}
@@ -25,49 +24,43 @@ use Rattle.bac_log.proofs.Packs.{length-numbered}
 use Rattle.bac_link.specs.Links.{reply_parameters}
 use Rattle.bac_walk.specs.Replies.{IsShown}
 
--- what holds of each record that a log holds
-record IsOf (last : ℕ) (r : Logged) : Type 0 where
-  pub some : 0 < r.ordinal
-  pub within : r.ordinal ≤ last
-  pub loggable : IsLoggable r.entry
+-- each record that a log holds is loggable
+abbrev Each : List Logged → Type 0
+Each [] = Unit {0}
+Each (r ∷ rs) = IsLoggable r.entry × Each rs
 
-abbrev Each : ℕ → List Logged → Type 0
-Each last [] = Unit {0}
-Each last (r ∷ rs) = IsOf last r × Each last rs
+each_numbered : (first : ℕ) (es : List Entry) → All IsLoggable es → Each (numbered first es)
+each_numbered first [] l = tt
+each_numbered first (e ∷ es) l = (l 0 e (omega arith), each_numbered (first + 1) es (λ k d lt. l (suc k) d (omega arith)))
 
-each_numbered : (last first : ℕ) (es : List Entry) → All IsLoggable es → 0 < first → first + length es ≤ last + 1 → Each last (numbered first es)
-each_numbered last first [] l some within = tt
-each_numbered last first (e ∷ es) l some within =
-    (record { some = some; within = omega arith; loggable = l 0 e (omega arith) }, each_numbered last (first + 1) es (λ k d lt. l (suc k) d (omega arith)) (omega arith) (omega arith))
-
-each_filter : (last : ℕ) (test : Logged → Bool) (rs : List Logged) → Each last rs → Each last (filter test rs)
-each_filter last test [] e = tt
-each_filter last test (r ∷ rs) e =
-    let rest : Each last (filter test rs) = each_filter last test rs e.1 in
+each_filter : (test : Logged → Bool) (rs : List Logged) → Each rs → Each (filter test rs)
+each_filter test [] e = tt
+each_filter test (r ∷ rs) e =
+    let rest : Each (filter test rs) = each_filter test rs e.1 in
     elim (cases_Bool (test r)) [
-      | inl p ↦ subst (Each last) (sym (cond-true (test r) (r ∷ filter test rs) (filter test rs) p)) (e.0, rest)
-      | inr p ↦ subst (Each last) (sym (cond-false (test r) (r ∷ filter test rs) (filter test rs) p)) rest
+      | inl p ↦ subst Each (sym (cond-true (test r) (r ∷ filter test rs) (filter test rs) p)) (e.0, rest)
+      | inr p ↦ subst Each (sym (cond-false (test r) (r ∷ filter test rs) (filter test rs) p)) rest
     ]
 
-each_take : (last n : ℕ) (rs : List Logged) → Each last rs → Each last (take n rs)
-each_take last zero rs e = tt
-each_take last (suc n) [] e = tt
-each_take last (suc n) (r ∷ rs) e = (e.0, each_take last n rs e.1)
+each_take : (n : ℕ) (rs : List Logged) → Each rs → Each (take n rs)
+each_take zero rs e = tt
+each_take (suc n) [] e = tt
+each_take (suc n) (r ∷ rs) e = (e.0, each_take n rs e.1)
 
 all_cons : (e : Entry) (es : List Entry) → IsLoggable e → All IsLoggable es → All IsLoggable (e ∷ es)
 all_cons e es one rest zero d lt = one
 all_cons e es one rest (suc k) d lt = rest k d (omega arith)
 
-each_loggable : (last : ℕ) (rs : List Logged) → Each last rs → All IsLoggable (entries_in rs)
-each_loggable last [] e = λ k d lt. absurd (omega arith)
-each_loggable last (r ∷ rs) e = all_cons r.entry (entries_in rs) e.0.loggable (each_loggable last rs e.1)
+each_loggable : (rs : List Logged) → Each rs → All IsLoggable (entries_in rs)
+each_loggable [] e = λ k d lt. absurd (omega arith)
+each_loggable (r ∷ rs) e = all_cons r.entry (entries_in rs) e.0 (each_loggable rs e.1)
 
-first_valid : (last : ℕ) (extent : Extent) (rs : List Logged) → last < 2 ^ 32 → Each last rs → IsFirst (first_shown extent rs)
-first_valid last extent [] lt e = tt
-first_valid last extent (r ∷ rs) lt e = shown (shows_number extent)
+first_valid : (extent : Extent) (rs : List Logged) → IsFirst (first_shown extent rs)
+first_valid extent [] = tt
+first_valid extent (r ∷ rs) = shown (shows_number extent)
   where
     shown : (b : Bool) → IsFirst (if b then Some (number r.ordinal) else None)
-    shown true = (e.0.some, omega (arith, e.0.within))
+    shown true = (omega arith, omega arith)
     shown false = tt
 
 length-entries_in : (rs : List Logged) → length (entries_in rs) ≡ length rs
@@ -112,17 +105,14 @@ module _ (log : Log) (extent : Extent) (limit : ℕ) (is : IsShown log) (most : 
   abbrev records : List Logged
   records = packed extent limit (selected log extent)
 
-  each_packed : Each (newest log) records
-  each_packed = each_take (newest log) _ (selected log extent) (each_filter (newest log) (λ r. is_asked log extent r.ordinal) (held log) (each_numbered (newest log) (oldest log) log.entries is.loggable (omega arith) (omega arith)))
-
-  low : newest log < 2 ^ 32
-  low = omega (arith, is.numbered)
+  each_packed : Each records
+  each_packed = each_take _ (selected log extent) (each_filter (λ r. is_asked log extent r.ordinal) (held log) (each_numbered (oldest log) log.entries is.loggable))
 
   pub packed_loggable : All IsLoggable (entries_in records)
-  packed_loggable = each_loggable (newest log) records each_packed
+  packed_loggable = each_loggable records each_packed
 
   pub packed_first : IsFirst (first_shown extent records)
-  packed_first = first_valid (newest log) extent records low each_packed
+  packed_first = first_valid extent records
 
   -- at most 85 fit into 1476 octets
   pub packed_few : length (entries_in records) ≤ 85
@@ -143,7 +133,7 @@ module _ (log : Log) (extent : Extent) (limit : ℕ) (is : IsShown log) (most : 
           let n : ℕ = greatest passes (length (selected log extent)) in
           let part : length records ≡ n = length-take-le n (selected log extent) (greatest_within passes (length (selected log extent))) in
           let whole : length (selected log extent) ≤ length (held log) = length_filter (λ r. is_asked log extent r.ordinal) (held log) in
-          omega (arith, length-entries_in records, part, greatest_within passes (length (selected log extent)), whole, length-numbered (oldest log) log.entries, is.numbered)
+          omega (arith, length-entries_in records, part, greatest_within passes (length (selected log extent)), whole, length-numbered (oldest log) log.entries, is.few)
 
   -- the ACK's parameters are read back
   pub reply_reads : (id : Id) → IsValid (Object id) → form_at read_range_ack (reply_parameters id log extent limit) ≡ Ok (shown_parameters id (reply_of log extent (selected log extent) records).flags (first_shown extent records) (entries_in records))

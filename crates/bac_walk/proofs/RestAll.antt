@@ -76,7 +76,7 @@ count_some r H m s far served loggable is held =
     let c = (min ((if far then max s m.oldest else s) + 99) m.newest + 1) - max s m.oldest in
     let some : (0 < c) × (b + c ≤ m.newest + 1) = at far is in
     let long : length (entries_from H b c) ≡ c = entries_count H m b c sound within (omega arith) (λ h. some.1) in (
-      fitting_some r b (entries_from H b c) (omega (arith, served.least)) (omega (arith, sound.most, held))
+      fitting_some r b (entries_from H b c) (omega (arith, served.least))
           (cut_loggable m H sound within loggable b c (omega arith) (omega (arith, some.1))) (omega (arith, long, some.0)),
       omega (arith, fitting_most r b (entries_from H b c), long, some.1),
     )
@@ -87,12 +87,12 @@ count_some r H m s far served loggable is held =
     at true e = (omega (arith, held), omega (arith, held))
     at false e = let near = ltb-false _ _ e in (omega (arith, near, held), omega (arith, near, held))
 
-pub rests_all : (r : ℕ) (H : History) (m : Moment) (s steps : ℕ) → AreServed r (m ∷ []) H → All IsLoggable (log_at m H).entries →
+pub rests_all : (r : ℕ) (H : History) (m : Moment) (s steps : ℕ) → AreServed r (m ∷ []) H → All IsLoggable (log_at m H).entries → m.oldest < s + 4294967295 →
     (m.newest + 1) - max s m.oldest < steps → rest_from r H m s steps ≡ rest_all H m s
-rests_all r H m s zero served loggable enough = absurd (omega arith)
-rests_all r H m s (suc n) served loggable enough = by_end (λ u lt. rests_all r H m u n served loggable lt) (nat_lt m.newest (max s m.oldest)) refl
+rests_all r H m s zero served loggable near enough = absurd (omega arith)
+rests_all r H m s (suc n) served loggable near enough = by_end (λ u ge lt. rests_all r H m u n served loggable (omega (arith, ge)) lt) (nat_lt m.newest (max s m.oldest)) refl
   where
-    by_end : ((u : ℕ) → (m.newest + 1) - max u m.oldest < n → rest_from r H m u n ≡ rest_all H m u) → (past : Bool) → nat_lt m.newest (max s m.oldest) ≡ past → rest_from r H m s (suc n) ≡ rest_all H m s
+    by_end : ((u : ℕ) → m.oldest ≤ u → (m.newest + 1) - max u m.oldest < n → rest_from r H m u n ≡ rest_all H m u) → (past : Bool) → nat_lt m.newest (max s m.oldest) ≡ past → rest_from r H m s (suc n) ≡ rest_all H m s
     by_end again true is = rw is refl
     by_end again false is =
         let sound = Sound-now r (m ∷ []) H served in
@@ -104,13 +104,13 @@ rests_all r H m s (suc n) served loggable enough = by_end (λ u lt. rests_all r 
         let count = count_some r H m s far served loggable refl held in
         let es = entries_from H b c in
         let long : length es ≡ c = entries_count H m b c sound within (omega arith) (λ h. count.1) in
-        let both = gapped H m s es (nat_lt s m.oldest) refl (omega (arith, long, count.0))
+        let both = gapped H m s es (nat_lt s m.oldest) refl near (omega (arith, long, count.0))
         (records H m b c (omega (arith, sound.above)) (omega arith) (omega (arith, count.1, long))) in
         let end : end_of s (whole_reply r H m far s) ≡ b + c =
         Covers-end s (b + length es) (whole_reply r H m far s) both.1 ∙ ap (λ k. b + k) long in
         let left = after_some H m b c (nat_lt m.newest (max (b + c) m.oldest)) refl (omega (arith, sound.above)) (omega arith) count.1 count.0 in
         let next : rest_from r H m (end_of s (whole_reply r H m far s)) n ≡ rest_all H m (b + c) =
-        ap (λ k. rest_from r H m k n) end ∙ again (b + c) (omega (arith, count.0)) in
+        ap (λ k. rest_from r H m k n) end ∙ again (b + c) (omega arith) (omega (arith, count.0)) in
         let G : List Item = (if nat_lt s m.oldest then Gap (number s) (number m.oldest) ∷ [] else []) in
         let sum : c + ((m.newest + 1) - (b + c)) ≡ (m.newest + 1) - b = omega (arith, count.1) in
         let joined : whole_reply r H m far s ++ (rest_all H m (b + c)).items ≡ G ++ numbered b (entries_from H b ((m.newest + 1) - b)) =

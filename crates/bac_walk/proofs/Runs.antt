@@ -12,6 +12,7 @@ use Rattle.bac_walk.specs.Outcomes.{IsRunOf, why_of}
 use Rattle.bac_log.specs.TrendLog.{number}
 use Rattle.bac_link.specs.Delivery.{History, Moment, items_of, Leads, DeliversTo}
 use Rattle.bac_link.specs.Laws.{after_answers}
+use Rattle.bac_walk.specs.Near.{StaysNear}
 use Rattle.bac_walk.specs.Walks.{gap_items, item_of}
 use Rattle.bac_walk.specs.Delivers.{end_of}
 use Rattle.bac_walk.specs.Collects.{start_of}
@@ -20,11 +21,12 @@ use Rattle.bac_walk.proofs.Joins.{join, fresh_join, no_steps, ended_early, after
 use Rattle.bac_walk.proofs.Goes.{join_goes, stays_goes}
 use Rattle.bac_walk.proofs.Cuts.{Covers-end}
 use Rattle.bac_walk.proofs.Headline.{leads}
+use Rattle.bac_walk.proofs.Near.{fewer_steps, next_step}
 
 pub no_run : (was : ℕ → List Moment → History → Type 0) (retries old : ℕ) (w : Place) → IsRun was was retries old old w w 0 StepLimit []
 no_run was retries old w = (
   (λ s. stays_goes w.fresh w.next s),
-  (λ r M H s honest next. ([], s, next, no_steps r H M w.fresh s retries old, honest, record { none = λ h. refl; some = λ h. absurd (omega arith) })),
+  (λ r M H s honest next near. ([], s, next, no_steps r H M w.fresh s retries old, honest, record { none = λ h. refl; some = λ h. absurd (omega arith) })),
 )
 
 pub join_run : (was mid is : ℕ → List Moment → History → Type 0) (retries old half new : ℕ) (before middle after : Place) (i : ℕ) (ended : Ended) (xs ys : List Item) →
@@ -32,9 +34,10 @@ pub join_run : (was mid is : ℕ → List Moment → History → Type 0) (retrie
     IsRun was is retries old new before after (i + 1) ended (xs ++ ys)
 join_run was mid is retries old half new before middle after i ended xs ys first rest up = (
   (λ s. join_goes before.fresh before.next xs middle.fresh middle.next ys after.fresh after.next first.0 rest.0 s),
-  (λ r M H s honest next.
-      let a = first.1 r M H s honest next in
-      let b = rest.1 r (after_answers (length a.0) M) H a.1 a.4 a.2 in
+  (λ r M H s honest next near.
+      let a = first.1 r M H s honest next (fewer_steps r H M before.fresh s i (i + 1) (omega arith) near) in
+      let b = rest.1 r (after_answers (length a.0) M) H a.1 a.4 a.2
+      (next_step r H M before.fresh middle.fresh s i retries old half a.1 xs a.0 near a.3 a.5) in
       let P : List Moment → Type 0 = λ N. is r N H in
       let e : after_answers (length (a.0 ++ b.0)) M ≡ after_answers (length b.0) (after_answers (length a.0) M) =
       ap (λ n. after_answers n M) (length-append a.0 b.0) ∙ after_answers-add (length a.0) (length b.0) M in (
@@ -51,8 +54,8 @@ pub run_early : (was is : ℕ → List Moment → History → Type 0) (retries o
     ended ≢ StepLimit → i ≤ n → IsRun was is retries old new before after i ended xs → IsRun was is retries old new before after n ended xs
 run_early was is retries old new before after i n ended xs not_limit le run = (
   run.0,
-  (λ r M H s honest next.
-      let a = run.1 r M H s honest next in
+  (λ r M H s honest next near.
+      let a = run.1 r M H s honest next (fewer_steps r H M before.fresh s i n le near) in
       (a.0, a.1, a.2, ended_early r H M before.fresh s i n retries old new xs a.1 ended a.0 not_limit le a.3, a.4, a.5)),
 )
 
@@ -136,9 +139,9 @@ start_old false s M answers old = refl
 
 pub headline_of : (was is : ℕ → List Moment → History → Type 0) (retries old new : ℕ) (before after : Place) (n : ℕ) (ended : Ended) (items : List Item) →
     IsRun was is retries old new before after n ended items → (r : ℕ) (M : List Moment) (H : History) (s : ℕ) → was r M H → before.next ≡ number s →
-    (b : ℕ) × (a : ℕ) × (t : ℕ) × (before.fresh ≡ false → b ≡ s) × (after.next ≡ number t) × DeliversTo H b items t M a × is r (after_answers a M) H
-headline_of was is retries old new before after n ended items run r M H s honest next =
-    let c = run.1 r M H s honest next in
+    StaysNear r H M before.fresh s n → (b : ℕ) × (a : ℕ) × (t : ℕ) × (before.fresh ≡ false → b ≡ s) × (after.next ≡ number t) × DeliversTo H b items t M a × is r (after_answers a M) H
+headline_of was is retries old new before after n ended items run r M H s honest next near =
+    let c = run.1 r M H s honest next near in
     let b = start_of before.fresh s M c.0 in
     let end : end_of b (items_of c.0) ≡ c.1 = ap (λ l. end_of b l) c.3.all ∙ Covers-end b c.1 items c.3.covers in
     let P : ℕ → Type 0 = λ u. Leads H M b c.0 u in

@@ -25,15 +25,14 @@ data_fields bytes None e = ap item_data e
 data_fields bytes (Some a) e = ap item_data e
 
 -- octets that were read as these records are right as a whole, where there are few enough
-pub whole_of : (first : ℕ) (octets : List ℕ) (es : List Entry) → records_in octets ≡ Ok es → 0 < length es → length es ≤ 100 → first + length es ≤ 4294967295 → IsWhole first octets
-whole_of first octets es read some most last =
+pub whole_of : (first : ℕ) (octets : List ℕ) (es : List Entry) → records_in octets ≡ Ok es → 0 < length es → length es ≤ 100 → IsWhole first octets
+whole_of first octets es read some most =
     let is : spelled octets ≡ es = ap (λ r. all_or_none (result_ok r)) read in
     let count : length (with_numbers first (spelled octets)) ≡ length es = length-with_numbers first (spelled octets) _ refl ∙ ap length is in
     record {
       read = read ∙ ap (λ (l : List Entry). Ok l) (sym is);
       some = omega (arith, count, some);
       most = omega (arith, count, most);
-      last = omega (arith, ap length is, last);
     }
 
 -- where no record is at the front, none is left

@@ -5,6 +5,7 @@ use Rattle.std.proofs.lemmas.Bool.{leb-true, and_parts, eq-eqb}
 use Rattle.std.proofs.lemmas.List.{take_all}
 use Rattle.bac_log.specs.declared.entry.Entry.{Entry}
 use Rattle.bac_walk.specs.Heard.{Heard}
+use Rattle.bac_walk.specs.Ordinals.{number_after}
 use Rattle.bac_walk.specs.Place.{Place}
 use Rattle.bac_walk.specs.declared.batch.Batch.{Batch}
 use Rattle.bac_walk.specs.declared.outcome.Progress.{Progress}
@@ -14,10 +15,8 @@ use Rattle.bac_walk.specs.Walks.{with_numbers, item_of, gap_items, gap_of, is_pa
 use Rattle.bac_walk.proofs.Numbers.{map-with_numbers}
 use Rattle.bac_walk.specs.Replies.{fitting}
 
-pub fits_few : (w : Place) (f n : ℕ) → fits w f n ≡ true → (n ≤ 100) × (f + n ≤ 4294967295)
-fits_few w f n e =
-    let one = and_parts (nat_le n 100) _ e in
-    (leb-true n 100 one.0, leb-true (f + n) 4294967295 (and_parts (nat_le (f + n) 4294967295) _ one.1).0)
+pub fits_few : (w : Place) (f n : ℕ) → fits w f n ≡ true → n ≤ 100
+fits_few w f n e = leb-true n 100 (and_parts (nat_le n 100) _ e).0
 
 pub kept_whole : (kept es : List Entry) → kept ≡ take 100 es → length es ≤ 100 → kept ≡ es
 kept_whole kept es is few = is ∙ take_all 100 es few
@@ -30,7 +29,7 @@ verdict-bring w f count (e ∷ es) some current same fitting = rw (current, fitt
 pub taken : (w : Place) (h : Heard) (heard : Option Heard) (f : ℕ) (b : Batch) (new : Place) → heard ≡ Some h → h.first ≡ Some f →
     0 < length h.entries → is_past w f ≡ false → h.count ≡ length h.entries → fits w f (length h.entries) ≡ true →
     gap_items b.gap ≡ gap_of w f → b.entries.items ≡ with_numbers f h.entries →
-    new ≡ record { log = w.log; next = f + length h.entries; fresh = false; asks_oldest = false } →
+    new ≡ record { log = w.log; next = number_after f (length h.entries); fresh = false; asks_oldest = false } →
     IsTakenFrom w heard (Ok (BatchOf b)) new
 taken w h heard f b new said is some current count fitting gap entries after =
     let v : verdict w h.first h.count h.entries ≡ Bring f = ap (λ o. verdict w o h.count h.entries) is ∙ verdict-bring w f h.count h.entries some current count fitting in

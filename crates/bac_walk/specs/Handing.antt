@@ -1,5 +1,5 @@
 -- What is made of a step: its batch is put into a sink.
-use Rattle.std.specs.Prelude.{◌≡◌, ℕ, ◌<◌, Bool, false, Option, Some, None, Result, Ok, Err, List, ◌∷◌, ◌++◌}
+use Rattle.std.specs.Prelude.{◌≡◌, ℕ, Bool, false, Option, Some, None, Result, Ok, Err}
 use Rattle.bac_walk.specs.declared.batch.Gap.{Gap as GapOf}
 use Rattle.bac_walk.specs.declared.batch.Numbered.{Numbered}
 use Rattle.bac_walk.specs.Place.{Place}
@@ -26,9 +26,3 @@ HandedOn puts sink w (Ok NoStep) ended after left = (left ≡ sink) × (after �
 HandedOn puts sink w (Ok (StepOf b)) ended after left =
     (refused : Option ℕ) × PutAll puts sink b.gap b.entries.items refused left
     × (after ≡ walk_after w refused) × (ended ≡ ended_after refused)
-
--- each number of a batch has one after it
-abbrev pub HasNext : Result Step WalkFault → Type 0
-HasNext (Err e) = Unit {0}
-HasNext (Ok NoStep) = Unit {0}
-HasNext (Ok (StepOf b)) = (before : List Numbered) (x : Numbered) (after : List Numbered) → b.entries.items ≡ before ++ x ∷ after → x.number < 4294967295

@@ -11,6 +11,7 @@ pub mod Turns
 pub mod Turned
 pub mod Delivers
 pub mod Collects
+pub mod Near
 pub mod Outcomes
 pub mod Rests
 pub mod Sinks

@@ -1,8 +1,7 @@
 -- What a log answers to the questions of a walk, at a moment.
 use Rattle.std.specs.Prelude.{◌≡◌, ℕ, ◌+◌, ◌-◌, ◌<◌, ◌≤◌, min, max, nat_le, Option, Some, List, length, take, pos, All}
 use Rattle.bac_log.specs.Entry.{IsLoggable}
-use Rattle.bac_log.specs.TrendLog.{Log, last_ordinal, number}
-use Rattle.bac_log.specs.TrendLog.{newest}
+use Rattle.bac_log.specs.TrendLog.{Log, number}
 use Rattle.bac_wire.specs.declared.stamp.Date4.{Date4}
 use Rattle.bac_wire.specs.declared.stamp.Time4.{Time4}
 use Rattle.bac_apdu.specs.declared.service.extent.Extent.{Extent}
@@ -20,22 +19,23 @@ first_date = record { year = 0; month = 1; day = 1; weekday = 1 }
 abbrev pub first_time : Time4
 first_time = record { hour = 0; minute = 0; second = 0; hundredth = 0 }
 
--- what a walk asks for: a hundred numbers from one on, or a hundred entries from the oldest held on
+-- what a walk asks for: the hundred ordinals from one on, which is asked for by its number, or a hundred entries from
+-- the oldest held on
 pub data Wanted : Type 0 where
-  FromNumber : ℕ → Wanted
+  FromOrdinal : ℕ → Wanted
   FromOldest : Wanted
 
 abbrev pub extent_of : Wanted → Extent
-extent_of (FromNumber n) = ByNumber n (pos 100)
+extent_of (FromOrdinal s) = ByNumber (number s) (pos 100)
 extent_of FromOldest = ByTime first_date first_time (pos 100)
 
 -- the first and the last ordinal that are held and asked for; where the first is above the last, there is none
 abbrev pub first_asked : Wanted → Moment → ℕ
-first_asked (FromNumber n) m = max n m.oldest
+first_asked (FromOrdinal s) m = max s m.oldest
 first_asked FromOldest m = m.oldest
 
 abbrev pub last_asked : Wanted → Moment → ℕ
-last_asked (FromNumber n) m = min (n + 99) m.newest
+last_asked (FromOrdinal s) m = min (s + 99) m.newest
 last_asked FromOldest m = min (m.oldest + 99) m.newest
 
 abbrev pub asked_count : Wanted → Moment → ℕ
@@ -58,5 +58,5 @@ pub record IsAnswer (r : ℕ) (m : Moment) (H : History) (wanted : Wanted) (firs
 
 -- what a log's answers rest on
 pub record IsShown (log : Log) : Type 0 where
-  pub numbered : newest log ≤ last_ordinal
+  pub few : length log.entries ≤ 65535
   pub loggable : All IsLoggable log.entries

@@ -15,6 +15,7 @@ use Rattle.bac_link.specs.Delivery.{History, Moment}
 use Rattle.bac_link.specs.Moments.{IsMoment, AreServed, log_at, entries_from}
 use Rattle.bac_link.specs.declared.item.Item.TheVariants.{Gap, Logged}
 use Rattle.bac_walk.specs.Delivers.{end_of}
+use Rattle.bac_walk.specs.Near.{IsNear}
 use Rattle.bac_walk.specs.Turns.{whole_reply}
 use Rattle.bac_walk.specs.Walks.{numbered}
 
@@ -75,9 +76,9 @@ rest_all H m s =
       ended = CaughtUp;
     }
 
--- with more steps than entries held from there on, a walk over a log that doesn't change delivers all of them
+-- with more steps than entries held from there on, a walk near a log that doesn't change delivers all of them
 abbrev pub RestsAll : Type 0
-RestsAll = (r : ℕ) (H : History) (m : Moment) (s steps : ℕ) → AreServed r (m ∷ []) H → All IsLoggable (log_at m H).entries →
+RestsAll = (r : ℕ) (H : History) (m : Moment) (s steps : ℕ) → AreServed r (m ∷ []) H → All IsLoggable (log_at m H).entries → IsNear s m →
     (m.newest + 1) - max s m.oldest < steps → rest_from r H m s steps ≡ rest_all H m s
 
 -- stopped after any entry and resumed at the next number, it delivers exactly what was left

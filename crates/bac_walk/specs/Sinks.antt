@@ -9,6 +9,7 @@ use Rattle.bac_walk.specs.declared.outcome.Ended.TheVariants.{CaughtUp, StepLimi
 use Rattle.bac_log.specs.TrendLog.{number}
 use Rattle.bac_link.specs.Delivery.{History, Moment}
 use Rattle.bac_link.specs.Laws.{after_answers}
+use Rattle.bac_walk.specs.Near.{StaysNear}
 use Rattle.bac_walk.specs.Walks.{gap_items, item_of}
 use Rattle.bac_walk.specs.Collects.{Goes, Collected, IsFreshAfter}
 
@@ -52,12 +53,12 @@ is_stopped Stopped = true
 is_stopped (Fault e) = false
 
 -- a run of at most so many steps: over any link its items cover all from the walk's number up to the new one; over one
--- that was honest, they are what its answers brought, and it is honest still
+-- that was honest, wherever the walk stays near, they are what its answers brought, and it is honest still
 abbrev pub IsRun : (ℕ → List Moment → History → Type 0) → (ℕ → List Moment → History → Type 0) → ℕ → ℕ → ℕ → Place → Place → ℕ → Ended → List Item → Type 0
 IsRun was is retries old new before after steps ended items =
     ((s : ℕ) → Goes before.fresh before.next s items after.fresh after.next)
     × ((r : ℕ) (M : List Moment) (H : History) (s : ℕ) → was r M H → before.next ≡ number s →
-    (answers : List (List Item)) × (t : ℕ) × (after.next ≡ number t)
+    StaysNear r H M before.fresh s steps → (answers : List (List Item)) × (t : ℕ) × (after.next ≡ number t)
     × Collected r H M before.fresh s steps retries old new items t ended answers
     × is r (after_answers (length answers) M) H × IsFreshAfter before.fresh answers after.fresh)
 

@@ -38,9 +38,8 @@ spelled octets = all_or_none (result_ok (records_in octets))
 abbrev pub records_from : ℕ → List ℕ → List Numbered
 records_from first octets = with_numbers first (spelled octets)
 
--- octets that are right as a whole: 1 to 100 records, each of which has a number, and nothing else
+-- octets that are right as a whole: 1 to 100 records, and nothing else
 pub record IsWhole (first : ℕ) (octets : List ℕ) : Type 0 where
   pub read : records_in octets ≡ Ok (spelled octets)
   pub some : 0 < length (records_from first octets)
   pub most : length (records_from first octets) ≤ 100
-  pub last : first + length (spelled octets) ≤ 4294967295

@@ -1,10 +1,12 @@
 -- What a walk asks, and what it makes of an answer.
-use Rattle.std.specs.Prelude.{◌≡◌, ℕ, Bool, true, false, ◌+◌, nat_lt, nat_le, not, ◌&&◌, ◌||◌, ◌==◌, if◌then◌else◌, Option, Some, None, Result, Ok, Err, List, [], ◌∷◌, ◌++◌, length, map}
+use Rattle.std.specs.Prelude.{◌≡◌, ℕ, Bool, true, false, ◌+◌, nat_lt, nat_le, not, ◌&&◌, ◌||◌, ◌==◌, if◌then◌else◌, Option, Some, None, Result, Ok, Err, List, [], ◌∷◌, ◌++◌, length, map, pos}
+use Rattle.bac_apdu.specs.declared.service.extent.Extent.{Extent}
+use Rattle.bac_apdu.specs.declared.service.extent.Extent.TheVariants.{ByNumber, ByTime}
 use Rattle.bac_log.specs.declared.entry.Entry.{Entry}
 use Rattle.bac_log.specs.TrendLog.{number}
-use Rattle.bac_walk.specs.Replies.{Wanted, FromNumber, FromOldest}
+use Rattle.bac_walk.specs.Replies.{Wanted, FromOrdinal, FromOldest, first_date, first_time}
 use Rattle.bac_walk.specs.Heard.{Heard}
-use Rattle.bac_walk.specs.Ordinals.{distance, number_after, is_ahead}
+use Rattle.bac_walk.specs.Ordinals.{is_number, distance, number_after, is_ahead}
 use Rattle.bac_link.specs.declared.item.Item.{Item}
 use Rattle.bac_link.specs.declared.item.Item.TheVariants.{Gap, Logged}
 use Rattle.bac_walk.specs.Place.{Place}
@@ -19,8 +21,14 @@ use Rattle.bac_walk.specs.declared.outcome.Progress.TheVariants.{Batch as BatchO
 abbrev pub asks_oldest_now : Place → Bool
 asks_oldest_now w = w.fresh || w.asks_oldest
 
-abbrev pub wanted_of : Place → Wanted
-wanted_of w = if asks_oldest_now w then FromOldest else FromNumber w.next
+-- the extent that is asked for: a hundred from the next number on, or a hundred from the oldest on, as those newer than
+-- 1900-01-01T00:00:00.00
+abbrev pub question_of : Place → Extent
+question_of w = if asks_oldest_now w then ByTime first_date first_time (pos 100) else ByNumber w.next (pos 100)
+
+-- what that is where the walk is at ordinal s
+abbrev pub wanted_at : Place → ℕ → Wanted
+wanted_at w s = if asks_oldest_now w then FromOldest else FromOrdinal s
 
 -- entries with their numbers, the first of which is this
 abbrev pub with_numbers : ℕ → List Entry → List Numbered
@@ -67,12 +75,12 @@ pub data Verdict : Type 0 where
   End : Verdict
   Bring : (first : ℕ) → Verdict
 
--- whether so many entries from number `first` on were asked for, and none has a number over 4294967294
+-- whether so many entries from number `first` on, which is one, were asked for
 abbrev pub fits : Place → ℕ → ℕ → Bool
 fits w first count =
     nat_le count 100
-    && (nat_le (first + count) 4294967295
-    && (asks_oldest_now w || (is_ahead w.next first && nat_le (distance w.next first + count) 100)))
+    && (is_number first
+    && (asks_oldest_now w || nat_le (distance w.next first + count) 100))
 
 -- without records: no more, or ask for the oldest; with records and no first number: refused; where those are past: no
 -- more; else they are taken where the count is right and they were asked for

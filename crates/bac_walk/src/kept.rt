@@ -5,6 +5,7 @@ ghost use Rattle.bac_log.specs.TrendLog.{number};
 ghost use Rattle.bac_link.specs.Delivery.{History, Moment, DeliversTo};
 ghost use Rattle.bac_link.specs.Laws.{after_answers};
 ghost use Rattle.bac_walk.specs.declared.outcome.Ended.{Ended as EndedOf};
+ghost use Rattle.bac_walk.specs.Near.{IsNear, StaysNear};
 ghost use Rattle.bac_walk.specs.Sinks.{IsRun};
 ghost use Rattle.bac_walk.specs.Kept.{IsKept};
 ghost use Rattle.bac_walk.specs.Outcomes.{IsRunOf};
@@ -66,9 +67,12 @@ pub fn collect<L: LogLink>(
     ensures log { walk.new.log ≡ walk.old.log }
     ensures begun { transactions.new.begun ≤ transactions.old.begun + 2 * steps }
     // Over an honest link it delivers the records from its number on that the log holds when each is
-    // reached, each once, in rising order, with one exact gap for what is gone.
+    // reached, each once, in rising order, with one exact gap for what is gone. The number is that of
+    // ordinal s, and wherever the walk comes it is less than half of the count away from the oldest
+    // record held.
     ensures headline { (r : ℕ) (M : List Moment) (H : History) (s : ℕ) →
         L.is_honest link.old walk.old.log r M H → walk.old.next ≡ number s →
+        StaysNear r H M walk.old.fresh s steps →
         (b : ℕ) × (a : ℕ) × (t : ℕ) × (walk.old.fresh ≡ false → b ≡ s) × (walk.new.next ≡ number t)
         × DeliversTo H b result.items.items t M a × L.is_honest link.new walk.old.log r (after_answers a M) H }
     // It is a run of so many steps, or of fewer that had no memory for the next: over any link, and
@@ -79,6 +83,7 @@ pub fn collect<L: LogLink>(
     // Over a link that loses nothing, of a log that doesn't change, or that the link lacks.
     ensures resting { (r : ℕ) (m : Moment) (H : History) (s : ℕ) →
         L.is_sure link.old → L.is_honest link.old walk.old.log r (m ∷ []) H → walk.old.next ≡ number s →
+        (walk.old.fresh ≡ false → IsNear s m) →
         Rests (rest r H m walk.old.fresh s steps) steps result.items.items result.next result.why }
     ensures missing { L.lacks link.old walk.old.log → L.is_sure link.old →
         Misses steps walk.old.next result.items.items result.next result.why }

@@ -1,4 +1,5 @@
 //! Laws of what a walk delivers, on lists alone.
+ghost use Rattle.bac_walk.specs.Near.{WindowsAreNear};
 ghost use Rattle.bac_walk.specs.Rests.{RestsAll, RestResumes};
 
 /// With steps enough, a walk over a log that doesn't change delivers all that is held from there on.
@@ -10,4 +11,10 @@ pub fn rests_all()
 /// delivers what was left.
 pub fn rest_resumes()
     ensures { RestResumes }
+{}
+
+/// A walk stays near its log where all moments lie within half of the count from one ordinal on, as
+/// does the ordinal where it begins, unless that is the oldest record.
+pub fn windows_are_near()
+    ensures { WindowsAreNear }
 {}

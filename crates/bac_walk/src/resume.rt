@@ -1,8 +1,9 @@
 //! Walks that are stopped and gone on with.
 
-ghost use Rattle.std.specs.Prelude.{false, ◌≡◌, ◌≤◌, ◌++◌, ℕ, List};
+ghost use Rattle.std.specs.Prelude.{false, ◌≡◌, ◌+◌, ◌<◌, ◌≤◌, ◌++◌, ℕ, List};
 ghost use Rattle.bac_log.specs.TrendLog.{number};
 ghost use Rattle.bac_link.specs.Delivery.{History, Moment, DeliversTo};
+ghost use Rattle.bac_walk.specs.Near.{AreInWindow};
 ghost use Rattle.bac_walk.specs.Sinks.{Call, Takes, put_items, is_stopped};
 
 use crate::outcome::Ended;
@@ -11,7 +12,7 @@ use crate::walk::Walk;
 use bac_link::{LogLink, Transactions};
 
 /// A walk into one sink, and a new walk from the number where it ended into another: over an honest
-/// link the two together deliver as one.
+/// link, all of whose moments lie within half of the count, the two together deliver as one.
 pub fn stop_and_resume<L: LogLink, S: Sink, R: Sink>(
     link: &mut L,
     transactions: &mut Transactions,
@@ -21,8 +22,9 @@ pub fn stop_and_resume<L: LogLink, S: Sink, R: Sink>(
     more: u32,
     rest: &mut R,
 ) -> (Ended, Ended)
-    ensures resumed { (r : ℕ) (M : List Moment) (H : History) (s : ℕ) →
+    ensures resumed { (r : ℕ) (M : List Moment) (H : History) (s low : ℕ) →
         walk.old.fresh ≡ false → L.is_honest link.old walk.old.log r M H → walk.old.next ≡ number s →
+        AreInWindow low M → low ≤ s → s < low + 2147483648 →
         (first : List Call) × (second : List Call) × (a : ℕ) × (t : ℕ) × (walk.new.next ≡ number t)
         × Takes S.puts sink.old first (is_stopped result.0) sink.new × Takes R.puts rest.old second (is_stopped result.1) rest.new
         × DeliversTo H s (put_items first ++ put_items second) t M a }

@@ -5,8 +5,9 @@ ghost use Rattle.bac_log.specs.TrendLog.{number};
 ghost use Rattle.bac_link.specs.Delivery.{History, Moment};
 ghost use Rattle.bac_walk.specs.declared.batch.Gap.{Gap as GapOf};
 ghost use Rattle.bac_walk.specs.declared.batch.Numbered.{Numbered as NumberedOf};
+ghost use Rattle.bac_walk.specs.Near.{StaysNear};
 ghost use Rattle.bac_walk.specs.Sinks.{PutAll, Delivery};
-ghost use Rattle.bac_walk.specs.Handing.{HandedOn, HasNext};
+ghost use Rattle.bac_walk.specs.Handing.{HandedOn};
 ghost use Rattle.bac_walk.specs.Replied.{step_of};
 ghost use Rattle.bac_walk.specs.Spelled.{IsWhole, records_from};
 ghost use Rattle.bac_walk.specs.Collects.{FoundEnd, MissingEnd};
@@ -51,7 +52,8 @@ pub fn deliver<L: LogLink, S: Sink>(
     ensures sure { L.is_sure link.old → L.is_sure link.new }
     ensures kept { L.is_sure link.old → L.keeps link.old link.new }
     ensures answered { (r : ℕ) (M : List Moment) (H : History) (s : ℕ) →
-        L.is_sure link.old → L.is_honest link.old walk.old.log r M H → walk.old.next ≡ number s → FoundEnd result }
+        L.is_sure link.old → L.is_honest link.old walk.old.log r M H → walk.old.next ≡ number s →
+        StaysNear r H M walk.old.fresh s steps → FoundEnd result }
     // A device without the log says so.
     ensures lacking { L.lacks link.old walk.old.log →
         MissingEnd steps result × (sink.new ≡ sink.old) × (walk.new.next ≡ walk.old.next) × L.lacks link.new walk.old.log }
@@ -83,7 +85,8 @@ fn deliver_step<L: LogLink, S: Sink>(
     ensures sure { L.is_sure link.old → L.is_sure link.new }
     ensures kept { L.is_sure link.old → L.keeps link.old link.new }
     ensures answered { (r : ℕ) (M : List Moment) (H : History) (s : ℕ) →
-        L.is_sure link.old → L.is_honest link.old walk.old.log r M H → walk.old.next ≡ number s → FoundEnd result }
+        L.is_sure link.old → L.is_honest link.old walk.old.log r M H → walk.old.next ≡ number s →
+        StaysNear r H M walk.old.fresh s 1 → FoundEnd result }
     ensures lacking { L.lacks link.old walk.old.log →
         MissingEnd 1 result × (sink.new ≡ sink.old) × (walk.new.next ≡ walk.old.next) × L.lacks link.new walk.old.log }
     ensures refused { L.lacks link.old walk.old.log → L.is_sure link.old → FoundEnd result }
@@ -95,7 +98,6 @@ fn deliver_step<L: LogLink, S: Sink>(
 
 // Puts the records of a step's reply into a sink. The walk goes back to the record that stops it.
 fn hand_on<S: Sink>(walk: &mut Walk, replied: Result<Replied, WalkFault>, sink: &mut S) -> Ended
-    requires { HasNext (step_of replied) }
     ensures { HandedOn S.puts sink.old walk.old (step_of replied) result walk.new sink.new }
 {
     let reply = match replied {

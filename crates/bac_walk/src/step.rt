@@ -1,9 +1,10 @@
 //! Steps of a walk over a link.
-ghost use Rattle.std.specs.Prelude.{[], ◌∷◌, ℕ, ◌≡◌, ◌+◌, ◌≤◌, List, length, true, OnErr};
+ghost use Rattle.std.specs.Prelude.{[], ◌∷◌, ℕ, ◌≡◌, ◌+◌, ◌≤◌, List, length, true, false, OnErr};
 ghost use Rattle.bac_link.specs.declared.item.Item.{Item};
 ghost use Rattle.bac_walk.specs.Collects.{FoundTurn, FoundStep, MissingTurn, MissingStep, Goes, turn_items, asks_next, finished, Collected, step_items, step_ended, is_fresh_after};
-ghost use Rattle.bac_link.specs.Delivery.{History, Moment};
+ghost use Rattle.bac_link.specs.Delivery.{History, Moment, now};
 ghost use Rattle.bac_link.specs.Laws.{after_answers};
+ghost use Rattle.bac_walk.specs.Near.{IsNear, IsNearStep};
 ghost use Rattle.bac_walk.specs.Turned.{IsTurned};
 ghost use Rattle.bac_walk.specs.Rests.{rest, IsRest};
 ghost use Rattle.bac_log.specs.TrendLog.{number};
@@ -59,7 +60,7 @@ impl Walk {
             MissingTurn (progress_of result) × L.lacks link.new self.old.log × (L.is_sure link.old → FoundTurn (progress_of result)) }
         ensures goes { (s : ℕ) → Goes self.old.fresh self.old.next s (turn_items (progress_of result)) self.new.fresh self.new.next }
         ensures honest { (r : ℕ) (M : List Moment) (H : History) (s : ℕ) →
-            L.is_honest link.old self.old.log r M H → self.old.next ≡ number s →
+            L.is_honest link.old self.old.log r M H → self.old.next ≡ number s → (self.old.fresh ≡ false → IsNear s (now M)) →
             IsTurned (λ N. L.is_honest link.new self.old.log r N H) r M H s self.old
             transactions.old.retries (L.failures link.old) (L.failures link.new) (progress_of result) self.new }
     {
@@ -92,19 +93,21 @@ impl Walk {
         ensures sure { L.is_sure link.old → L.is_sure link.new }
         ensures kept { L.is_sure link.old → L.keeps link.old link.new }
         ensures answered { (r : ℕ) (M : List Moment) (H : History) (s : ℕ) →
-            L.is_sure link.old → L.is_honest link.old self.old.log r M H → self.old.next ≡ number s → FoundStep result }
+            L.is_sure link.old → L.is_honest link.old self.old.log r M H → self.old.next ≡ number s →
+            (self.old.fresh ≡ false → IsNearStep s M) → FoundStep result }
         // Over a log that doesn't change it is one step of a walk of it.
         ensures resting { (r : ℕ) (m : Moment) (H : History) (s : ℕ) →
             L.is_sure link.old → L.is_honest link.old self.old.log r (m ∷ []) H → self.old.next ≡ number s →
+            (self.old.fresh ≡ false → IsNear s m) →
             IsRest (rest r H m self.old.fresh s 1) (step_items result) self.new.next (step_ended result) }
         // A device without the log says so.
         ensures lacking { L.lacks link.old self.old.log → MissingStep result × L.lacks link.new self.old.log }
         ensures refused { L.lacks link.old self.old.log → L.is_sure link.old → FoundStep result }
         // Over any link, the items cover all from the walk's number up to the new one.
         ensures goes { (s : ℕ) → Goes self.old.fresh self.old.next s (step_items result) self.new.fresh self.new.next }
-        // The walk is at ordinal s before the step, and at t after it.
+        // The walk is at ordinal s before the step, near its log, and at t after it.
         ensures honest { (r : ℕ) (M : List Moment) (H : History) (s : ℕ) →
-            L.is_honest link.old self.old.log r M H → self.old.next ≡ number s →
+            L.is_honest link.old self.old.log r M H → self.old.next ≡ number s → (self.old.fresh ≡ false → IsNearStep s M) →
             (answers : List (List Item)) × (t : ℕ) × (self.new.next ≡ number t)
             × Collected r H M self.old.fresh s 1
             transactions.old.retries (L.failures link.old) (L.failures link.new)
@@ -129,12 +132,13 @@ impl Walk {
         ensures sure { L.is_sure link.old → L.is_sure link.new }
         ensures kept { L.is_sure link.old → L.keeps link.old link.new }
         ensures answered { (r : ℕ) (M : List Moment) (H : History) (s : ℕ) →
-            L.is_sure link.old → L.is_honest link.old self.old.log r M H → self.old.next ≡ number s → FoundStep (step_of result) }
+            L.is_sure link.old → L.is_honest link.old self.old.log r M H → self.old.next ≡ number s →
+            (self.old.fresh ≡ false → IsNearStep s M) → FoundStep (step_of result) }
         ensures lacking { L.lacks link.old self.old.log → MissingStep (step_of result) × L.lacks link.new self.old.log }
         ensures refused { L.lacks link.old self.old.log → L.is_sure link.old → FoundStep (step_of result) }
         ensures goes { (s : ℕ) → Goes self.old.fresh self.old.next s (step_items (step_of result)) self.new.fresh self.new.next }
         ensures honest { (r : ℕ) (M : List Moment) (H : History) (s : ℕ) →
-            L.is_honest link.old self.old.log r M H → self.old.next ≡ number s →
+            L.is_honest link.old self.old.log r M H → self.old.next ≡ number s → (self.old.fresh ≡ false → IsNearStep s M) →
             (answers : List (List Item)) × (t : ℕ) × (self.new.next ≡ number t)
             × Collected r H M self.old.fresh s 1
             transactions.old.retries (L.failures link.old) (L.failures link.new)

@@ -1,12 +1,11 @@
 //! A walk of a log: which question comes next, and what an answer brings.
 ghost use Rattle.std.specs.Prelude.{ℕ, ◌≡◌, ◌+◌, ◌^◌, ◌<◌, ◌≤◌, ◌↔◌, true, false, length, IfSome, IsSome};
-ghost use Rattle.bac_walk.specs.Replies.{extent_of};
 ghost use Rattle.bac_walk.specs.Heard.{heard_at};
 ghost use Rattle.bac_link.specs.Links.{AsksFor};
 ghost use Rattle.bac_link.specs.Requests.{IsTooLong};
 ghost use Rattle.bac_walk.specs.Ordinals.{distance, number_after, is_ahead};
 ghost use Rattle.bac_walk.specs.Place.{Place, IsWalk, walk_at, walk_from_oldest};
-ghost use Rattle.bac_walk.specs.Walks.{asks_oldest_now, wanted_of, is_past, fits, gap_items, gap_of, IsTakenFrom};
+ghost use Rattle.bac_walk.specs.Walks.{asks_oldest_now, question_of, is_past, fits, gap_items, gap_of, IsTakenFrom};
 ghost use Rattle.bac_walk.specs.Replied.{IsJudged};
 ghost use Rattle.bac_walk.specs.Spelled.{IsWhole, records_from};
 
@@ -88,7 +87,7 @@ impl Walk {
     /// What to ask next: a hundred records from the next number on, or from the oldest. It always
     /// fits a request.
     pub fn question(&self) -> Request
-        ensures asks { AsksFor self.now.log (extent_of (wanted_of self.now)) result }
+        ensures asks { AsksFor self.now.log (question_of self.now) result }
         ensures fits { IsTooLong result → ⊥ }
     {
         let object = self.log();
@@ -107,7 +106,7 @@ impl Walk {
     // The hundred records that are asked for: from the next number on, or from the oldest held on,
     // as those newer than 1900-01-01T00:00:00.00.
     fn extent(&self) -> Extent
-        ensures { result ≡ extent_of (wanted_of self.now) }
+        ensures { result ≡ question_of self.now }
     {
         if self.asks_oldest_now() {
             Extent::ByTime {
@@ -142,7 +141,8 @@ impl Walk {
     }
 
     /// Takes the service parameters of the ACK that answers the question (clause 15.8). Records that
-    /// were asked for are a batch, with a gap before them where they begin behind the next number.
+    /// were asked for are a batch, with a gap before them where they begin behind the next number;
+    /// numbers come round, and half of them lie ahead.
     /// Without records, the oldest are asked for next; where none newer than the walk is there
     /// either, it is caught up. `BadReply`, with the walk as it was, where the ACK is that of
     /// another object or property or has an index, an item is no record, records have no first
@@ -233,10 +233,9 @@ impl Walk {
         ensures { result ≡ fits self.now first count }
     {
         count <= 100
-            && u64::from(first) + count as u64 <= 4294967295
+            && 0 < first
             && (self.asks_oldest_now()
-                || (is_ahead(self.next, first)
-                    && u64::from(distance(self.next, first)) + count as u64 <= 100))
+                || u64::from(distance(self.next, first)) + count as u64 <= 100)
     }
 
     // The gap before this number.
@@ -254,26 +253,25 @@ impl Walk {
     }
 }
 
-// Whether a number is that of the next entry, or of a later one.
+// Whether a number is that of the next entry, or of a later one: half of the numbers lie ahead.
 fn is_ahead(next: u32, first: u32) -> bool
     ensures { result ≡ is_ahead next first }
 {
-    next <= first
+    distance(next, first) < 2147483648
 }
 
-// How many numbers lie from one up to another.
+// How many numbers lie from one up to another, round the count.
 fn distance(first: u32, before: u32) -> u32
     ensures { result ≡ distance first before }
 {
-    before.saturating_sub(first)
+    ((u64::from(before) + 4294967295 - u64::from(first)) % 4294967295) as u32
 }
 
-// The number so many places after another.
+// The number so many places after another: after 4294967295 comes 1.
 pub(crate) fn number_after(first: u32, count: u32) -> u32
-    requires { first + count < 2 ^ 32 }
     ensures { result ≡ number_after first count }
 {
-    first + count
+    ((u64::from(first) + u64::from(count) + 4294967294) % 4294967295 + 1) as u32
 }
 
 /// The records of octets that are right as a whole, each with its number.

@@ -1,4 +1,4 @@
-use Rattle.std.proofs.Common.{◌≡◌, ◌+◌, ◌++◌, ℕ, List, [], ◌∷◌, length, vec_capacity, inr, refl, sym, ap, subst, ◌∙◌, arith}
+use Rattle.std.proofs.Common.{◌≡◌, ◌+◌, ◌++◌, ℕ, List, [], ◌∷◌, length, vec_capacity, inr, refl, sym, ap, subst, ◌∙◌, arith, rules}
 use Rattle.bac_wire.specs.Primitive.{Id}
 use Rattle.bac_link.specs.declared.item.Item.{Item}
 use Rattle.bac_walk.specs.declared.kept.Kept.{Kept}
@@ -11,7 +11,8 @@ use Rattle.bac_walk.specs.Sinks.{put_items, is_stopped, IsRun}
 use Rattle.bac_walk.specs.Outcomes.{IsRunOf}
 use Rattle.bac_walk.specs.Rests.{rest, Rests}
 use Rattle.bac_walk.specs.Collects.{MissingEnd}
-use Rattle.bac_walk.proofs.Runs.{headline_of, join_run, run_early, ends_run, not_limit, not_stopped, goes_on}
+use Rattle.bac_walk.proofs.Runs.{headline_of, join_run, no_run, run_early, ends_run, not_limit, not_stopped, goes_on}
+use Rattle.bac_walk.proofs.Near.{fewer_steps, next_step, rest_near}
 use Rattle.bac_walk.proofs.Keeps.{kept_all}
 use Rattle.bac_walk.proofs.Rests.{rested}
 use Rattle.bac_walk.proofs.kept.collect.Goals as goal
@@ -21,6 +22,23 @@ room k = vec_capacity k.items
 
 abbrev items_in_sink : Kept → List Item
 items_in_sink k = k.items.items
+
+pub loop-done-init : goal.loop-done-init
+loop-done-init g c =
+    let was : ℕ → List Moment → History → Type 0 = λ r M H. g.L.LogLink.is_honest c.args.link.now c.args.walk.now.log r M H in
+    let P : List Item → Type 0 = λ l. IsRun was was c.args.transactions.now.retries (g.L.LogLink.failures c.args.link.now) (g.L.LogLink.failures c.args.link.now)
+    c.args.walk.now c.args.walk.now 0 StepLimit l in
+    record {
+      log = refl;
+      retries = refl;
+      begun = omega arith;
+      never_falls = omega arith;
+      sure = λ h. h;
+      unchanged = λ h. g.met.L.LogLink.keeps_itself c.args.link.now;
+      missing = λ h. (h, refl);
+      none = λ h. (search rules, refl);
+      run = subst P (search rules) (no_run was c.args.transactions.now.retries (g.L.LogLink.failures c.args.link.now) c.args.walk.now);
+    }
 
 pub returns-then-not-make_room-clause-delivers : goal.returns-then-not-make_room-clause-delivers
 returns-then-not-make_room-clause-delivers g c =
@@ -61,7 +79,7 @@ returns-in-Some-clause-delivers g c =
     )
 
 pub returns-in-Some-clause-resting : goal.returns-in-Some-clause-resting
-returns-in-Some-clause-resting g c r m H s sure honest next =
+returns-in-Some-clause-resting g c r m H s sure honest next near =
     let was : ℕ → List Moment → History → Type 0 = λ r M H. g.L.LogLink.is_honest c.args.link.now c.args.walk.now.log r M H in
     let mid : ℕ → List Moment → History → Type 0 = λ r M H. g.L.LogLink.is_honest c.loop-done.link c.args.walk.now.log r M H in
     let is : ℕ → List Moment → History → Type 0 = λ r M H. g.L.LogLink.is_honest c.deliver-ended.new.link c.args.walk.now.log r M H in
@@ -86,11 +104,15 @@ returns-in-Some-clause-resting g c r m H s sure honest next =
     let early = run_early was is c.args.transactions.now.retries (g.L.LogLink.failures c.args.link.now) (g.L.LogLink.failures c.deliver-ended.new.link)
     c.args.walk.now c.deliver-ended.new.walk (c.loop-done.done + 1) c.args.steps c.deliver-ended.result c.deliver-ended.new.sink.items.items
     (not_limit c.deliver-ended.result c.in-Some.why some) (omega arith) run in
-    let half = c.loop-done.invariant.run.1 r (m ∷ []) H s honest next in
+    let stays = rest_near r H m c.args.walk.now.fresh s c.args.steps (g.met.L.LogLink.serves c.args.link.now c.args.walk.now.log r (m ∷ []) H honest) near in
+    let half = c.loop-done.invariant.run.1 r (m ∷ []) H s honest next (fewer_steps r H (m ∷ []) c.args.walk.now.fresh s c.loop-done.done c.args.steps (omega arith) stays) in
     let N : Id → Type 0 = λ n. g.L.LogLink.is_honest c.loop-done.link n r (after_answers (length half.0) (m ∷ [])) H in
     let found = c.deliver-ended.ensures.answered r (after_answers (length half.0) (m ∷ [])) H half.1 (c.loop-done.invariant.sure sure)
-    (subst N (sym c.loop-done.invariant.log) half.4) half.2 in
-    let whole = early.1 r (m ∷ []) H s honest next in
+    (subst N (sym c.loop-done.invariant.log) half.4) half.2
+    (next_step r H (m ∷ []) c.args.walk.now.fresh c.loop-done.walk.fresh s c.loop-done.done c.args.transactions.now.retries
+    (g.L.LogLink.failures c.args.link.now) (g.L.LogLink.failures c.loop-done.link) half.1 c.loop-done.kept.items.items half.0
+    (fewer_steps r H (m ∷ []) c.args.walk.now.fresh s (c.loop-done.done + 1) c.args.steps (omega arith) stays) half.3 half.5) in
+    let whole = early.1 r (m ∷ []) H s honest next stays in
     let rests = rested r H m c.args.walk.now.fresh s c.args.steps c.args.transactions.now.retries (g.L.LogLink.failures c.args.link.now)
     (g.L.LogLink.failures c.deliver-ended.new.link) c.deliver-ended.new.sink.items.items whole.1 c.deliver-ended.new.walk.next c.deliver-ended.result whole.0
     found (not_stopped c.deliver-ended.result all.0) whole.3 whole.2 in
@@ -145,9 +167,10 @@ returns-clause-delivers g c =
     (c.loop-done.done, StepLimit, (all, refl), c.loop-done.invariant.run)
 
 pub returns-clause-resting : goal.returns-clause-resting
-returns-clause-resting g c r m H s sure honest next =
+returns-clause-resting g c r m H s sure honest next near =
     let all : c.loop-done.done ≡ c.args.steps = omega arith in
-    let whole = c.loop-done.invariant.run.1 r (m ∷ []) H s honest next in
+    let stays = rest_near r H m c.args.walk.now.fresh s c.loop-done.done (g.met.L.LogLink.serves c.args.link.now c.args.walk.now.log r (m ∷ []) H honest) near in
+    let whole = c.loop-done.invariant.run.1 r (m ∷ []) H s honest next stays in
     let rests = rested r H m c.args.walk.now.fresh s c.loop-done.done c.args.transactions.now.retries (g.L.LogLink.failures c.args.link.now)
     (g.L.LogLink.failures c.loop-done.link) c.loop-done.kept.items.items whole.1 c.loop-done.walk.next StepLimit whole.0
     tt (λ e. cc) whole.3 whole.2 in
@@ -156,19 +179,24 @@ returns-clause-resting g c r m H s sure honest next =
     subst R all (inr (rests.0, c.next_number-2.ensures.next ∙ rests.1, subst E rests.2 (refl, refl)))
 
 pub returns-then-not-make_room-clause-headline : goal.returns-then-not-make_room-clause-headline
-returns-then-not-make_room-clause-headline g c r M H s honest next =
+unfolding returns-then-not-make_room-clause-delivers
+returns-then-not-make_room-clause-headline g c r M H s honest next near =
     let d = returns-then-not-make_room-clause-delivers g c in
     headline_of (λ r M H. g.L.LogLink.is_honest c.args.link.now c.args.walk.now.log r M H) (λ r M H. g.L.LogLink.is_honest c.loop-done.link c.args.walk.now.log r M H)
     c.args.transactions.now.retries (g.L.LogLink.failures c.args.link.now) (g.L.LogLink.failures c.loop-done.link) c.args.walk.now c.loop-done.walk d.0 d.1 c.make_room.new.kept.items.items d.3 r M H s honest next
+    (fewer_steps r H M c.args.walk.now.fresh s c.loop-done.done c.args.steps (omega arith) near)
 
 pub returns-in-Some-clause-headline : goal.returns-in-Some-clause-headline
-returns-in-Some-clause-headline g c r M H s honest next =
+unfolding returns-in-Some-clause-delivers
+returns-in-Some-clause-headline g c r M H s honest next near =
     let d = returns-in-Some-clause-delivers g c in
     headline_of (λ r M H. g.L.LogLink.is_honest c.args.link.now c.args.walk.now.log r M H) (λ r M H. g.L.LogLink.is_honest c.deliver-ended.new.link c.args.walk.now.log r M H)
-    c.args.transactions.now.retries (g.L.LogLink.failures c.args.link.now) (g.L.LogLink.failures c.deliver-ended.new.link) c.args.walk.now c.deliver-ended.new.walk d.0 d.1 c.deliver-ended.new.sink.items.items d.3 r M H s honest next
+    c.args.transactions.now.retries (g.L.LogLink.failures c.args.link.now) (g.L.LogLink.failures c.deliver-ended.new.link) c.args.walk.now c.deliver-ended.new.walk d.0 d.1 c.deliver-ended.new.sink.items.items d.3 r M H s honest next near
 
 pub returns-clause-headline : goal.returns-clause-headline
-returns-clause-headline g c r M H s honest next =
+unfolding returns-clause-delivers
+returns-clause-headline g c r M H s honest next near =
     let d = returns-clause-delivers g c in
     headline_of (λ r M H. g.L.LogLink.is_honest c.args.link.now c.args.walk.now.log r M H) (λ r M H. g.L.LogLink.is_honest c.loop-done.link c.args.walk.now.log r M H)
     c.args.transactions.now.retries (g.L.LogLink.failures c.args.link.now) (g.L.LogLink.failures c.loop-done.link) c.args.walk.now c.loop-done.walk d.0 d.1 c.loop-done.kept.items.items d.3 r M H s honest next
+    (fewer_steps r H M c.args.walk.now.fresh s c.loop-done.done c.args.steps (omega arith) near)

@@ -4,8 +4,9 @@ use Rattle.bac_walk.specs.declared.outcome.Ended.{Ended}
 use Rattle.bac_walk.specs.declared.outcome.Ended.TheVariants.{CaughtUp, StepLimit, Stopped, Fault}
 use Rattle.bac_link.specs.Delivery.{History, Moment}
 use Rattle.bac_link.specs.Laws.{after_answers}
-use Rattle.bac_walk.specs.Sinks.{Delivery}
+use Rattle.bac_walk.specs.Sinks.{Delivery, put_items}
 use Rattle.bac_walk.specs.Collects.{MissingEnd}
+use Rattle.bac_walk.proofs.Near.{fewer_steps, next_step}
 use Rattle.bac_walk.proofs.Runs.{no_delivery, join_delivers, delivers_early}
 use Rattle.bac_walk.proofs.sink.deliver.Goals as goal
 
@@ -60,11 +61,14 @@ returns-in_default g c =
       sure = λ h. c.deliver_step.ensures.sure (c.loop-done.invariant.sure h);
       kept = λ h. g.met.L.LogLink.keeps_on c.args.link.now c.loop-done.link c.deliver_step.new.link
           (c.loop-done.invariant.unchanged h) (c.deliver_step.ensures.kept (c.loop-done.invariant.sure h));
-      answered = λ r M H s sure honest next.
-          let run = c.loop-done.invariant.delivers.4.1 r M H s honest next in
+      answered = λ r M H s sure honest next near.
+          let run = c.loop-done.invariant.delivers.4.1 r M H s honest next (fewer_steps r H M c.args.walk.now.fresh s c.loop-done.done c.args.steps (omega arith) near) in
           let N : Id → Type 0 = λ n. g.L.LogLink.is_honest c.loop-done.link n r (after_answers (length run.0) M) H in
           c.deliver_step.ensures.answered r (after_answers (length run.0) M) H run.1 (c.loop-done.invariant.sure sure)
-          (subst N (sym c.loop-done.invariant.log) run.4) run.2;
+          (subst N (sym c.loop-done.invariant.log) run.4) run.2
+          (next_step r H M c.args.walk.now.fresh c.loop-done.walk.fresh s c.loop-done.done c.args.transactions.now.retries
+          (g.L.LogLink.failures c.args.link.now) (g.L.LogLink.failures c.loop-done.link) run.1 (put_items c.loop-done.invariant.delivers.0) run.0
+          (fewer_steps r H M c.args.walk.now.fresh s (c.loop-done.done + 1) c.args.steps (omega arith) near) run.3 run.5);
       lacking = λ lacks.
           let here = c.loop-done.invariant.missing lacks in
           let gone = c.deliver_step.ensures.lacking (subst K (sym c.loop-done.invariant.log) here.0) in

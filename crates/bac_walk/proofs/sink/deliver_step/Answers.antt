@@ -1,13 +1,9 @@
-use Rattle.std.proofs.Common.{arith, ℕ, List}
+use Rattle.std.proofs.Common.{ℕ, List, arith}
 use Rattle.bac_link.specs.Delivery.{History, Moment}
 use Rattle.bac_walk.specs.Replied.{step_of}
-use Rattle.bac_walk.proofs.Handed.{handed, next_of_step}
+use Rattle.bac_walk.proofs.Handed.{found_end, handed}
+use Rattle.bac_walk.proofs.Near.{at_once}
 use Rattle.bac_walk.proofs.sink.deliver_step.Goals as goal
-
-pub hand_on-requires : goal.hand_on-requires
-hand_on-requires g c =
-    next_of_step c.args.walk.now.fresh c.args.walk.now.next (step_of c.reply-replied.result) c.reply-replied.new.self.fresh c.reply-replied.new.self.next
-    (omega arith) c.reply-replied.ensures.goes
 
 pub returns-clause-delivers : goal.returns-clause-delivers
 returns-clause-delivers g c =
@@ -17,3 +13,9 @@ returns-clause-delivers g c =
     (g.L.LogLink.failures c.args.link.now) (g.L.LogLink.failures c.reply-replied.new.link)
     c.args.walk.now c.reply-replied.new.self c.hand_on.new.walk (step_of c.reply-replied.result) c.hand_on.result
     (c.reply-replied.ensures.goes, c.reply-replied.ensures.honest) c.hand_on.ensures
+
+-- the premises of a step are those of a run of one step
+pub returns-clause-answered : goal.returns-clause-answered
+returns-clause-answered g c r M H s sure honest next near =
+    found_end g.S.Sink.puts c.args.sink.now c.reply-replied.new.self (step_of c.reply-replied.result) c.hand_on.result c.hand_on.new.walk c.hand_on.new.sink c.hand_on.ensures
+    (c.reply-replied.ensures.answered r M H s sure honest next (at_once r H M c.args.walk.now.fresh s 1 0 0 (omega arith) near))

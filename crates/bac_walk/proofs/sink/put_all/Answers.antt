@@ -11,7 +11,6 @@ pub loop-taken-init : goal.loop-taken-init
 loop-taken-init g c = (
   spelled c.args.octets.now,
   ap (λ n. entries_at n c.args.octets.now) (omega arith) ∙ c.requires.read,
-  c.requires.last,
   λ refused new put. put,
 )
 
@@ -20,22 +19,14 @@ returns-in_default g c =
     let m = c.loop-taken.invariant in
     let none = left_none (length c.args.octets.now - c.loop-taken.taken) c.loop-taken.rest.now m.0 (c.in_default.ensures {u = tt}) m.1 in
     let P : List Entry → Type 0 = λ es. PutAll g.S.Sink.puts c.loop-taken.sink c.loop-taken.before (with_numbers c.loop-taken.number es) None c.loop-taken.sink in
-    m.3 None c.loop-taken.sink (subst P (sym none) (refl, refl))
+    m.2 None c.loop-taken.sink (subst P (sym none) (refl, refl))
 
 pub returns : goal.returns
 returns g c =
     let m = c.loop-taken.invariant in
     let none = left_last (length c.args.octets.now - c.loop-taken.taken) c.loop-taken.rest.now m.0 (omega (arith, c.loop-taken-test.false)) m.1 in
     let P : List Entry → Type 0 = λ es. PutAll g.S.Sink.puts c.loop-taken.sink c.loop-taken.before (with_numbers c.loop-taken.number es) None c.loop-taken.sink in
-    m.3 None c.loop-taken.sink (subst P (sym none) (refl, refl))
-
-pub number_after-number-requires : goal.number_after-number-requires
-number_after-number-requires g c =
-    let m = c.loop-taken.invariant in
-    let n : ℕ = length c.args.octets.now in
-    let place : n - c.loop-taken.taken ≡ suc (n - (c.loop-taken.taken + 1)) = omega (arith, c.loop-taken-test.true) in
-    let more = left_some (n - c.loop-taken.taken) (n - (c.loop-taken.taken + 1)) c.loop-taken.rest.now c.in-Some.entry c.in-Some.after.now m.0 place (c.in-Some.ensures {u = tt}) m.1 in
-    omega (arith, m.2, more.3)
+    m.2 None c.loop-taken.sink (subst P (sym none) (refl, refl))
 
 pub returns-then-not-put : goal.returns-then-not-put
 returns-then-not-put g c =
@@ -45,7 +36,7 @@ returns-then-not-put g c =
     let more = left_some (n - c.loop-taken.taken) (n - (c.loop-taken.taken + 1)) c.loop-taken.rest.now c.in-Some.entry c.in-Some.after.now m.0 place (c.in-Some.ensures {u = tt}) m.1 in
     let P : List Entry → Type 0 = λ es. PutAll g.S.Sink.puts c.loop-taken.sink c.loop-taken.before (with_numbers c.loop-taken.number es) (Some c.loop-taken.number) c.put.new.self in
     let Q : Bool → Type 0 = λ b. g.S.Sink.puts c.loop-taken.sink c.loop-taken.before (record { number = c.loop-taken.number; entry = c.in-Some.entry }) b c.put.new.self in
-    m.3 (Some c.loop-taken.number) c.put.new.self (subst P (sym more.1) (inl (subst Q c.if-not-put.true c.put.ensures, refl)))
+    m.2 (Some c.loop-taken.number) c.put.new.self (subst P (sym more.1) (inl (subst Q c.if-not-put.true c.put.ensures, refl)))
 
 pub loop-taken-preserved : goal.loop-taken-preserved
 loop-taken-preserved g c =
@@ -56,9 +47,8 @@ loop-taken-preserved g c =
     let Q : Bool → Type 0 = λ b. g.S.Sink.puts c.loop-taken.sink c.loop-taken.before (record { number = c.loop-taken.number; entry = c.in-Some.entry }) b c.put.new.self in (
       more.0,
       more.2,
-      omega (arith, m.2, more.3, c.number_after-number.ensures),
       λ refused new put.
           let P : List Entry → Type 0 = λ es. PutAll g.S.Sink.puts c.loop-taken.sink c.loop-taken.before (with_numbers c.loop-taken.number es) refused new in
           let R : ℕ → Type 0 = λ n. PutAll g.S.Sink.puts c.put.new.self None (with_numbers n more.0) refused new in
-          m.3 refused new (subst P (sym more.1) (inr (c.put.new.self, subst Q c.if-not-put.false c.put.ensures, subst R c.number_after-number.ensures put))),
+          m.2 refused new (subst P (sym more.1) (inr (c.put.new.self, subst Q c.if-not-put.false c.put.ensures, subst R c.number_after-number.ensures put))),
     )

@@ -9,6 +9,6 @@ use Rattle.bac_walk.proofs.sink.put_all.Given as goal
 -- the octets that are left are the records that are still put, which make the whole
 abbrev pub invariant-loop-taken : goal.invariant-loop-taken
 invariant-loop-taken g l =
-    (es : List Entry) × (entries_at (length l.octets - l.taken) l.rest ≡ Ok es) × (l.number + length es ≤ 4294967295)
+    (es : List Entry) × (entries_at (length l.octets - l.taken) l.rest ≡ Ok es)
     × ((refused : Option ℕ) (new : _) → PutAll g.S.Sink.puts l.sink l.before (with_numbers l.number es) refused new →
     PutAll g.S.Sink.puts l.fn.sink l.fn.gap (records_from l.fn.first l.fn.octets) refused new)

@@ -8,5 +8,5 @@ use Rattle.bac_walk.proofs.walk.numbered_from.Given as goal
 -- what the octets still hold makes the whole
 abbrev pub invariant-loop-taken : goal.invariant-loop-taken
 invariant-loop-taken l =
-    (es : List Entry) × (entries_at (length l.octets - l.taken) l.rest ≡ Ok es) × (l.number + length es ≤ 4294967295)
+    (es : List Entry) × (entries_at (length l.octets - l.taken) l.rest ≡ Ok es)
     × (length l.numbered.items + length es ≤ 100) × (records_from l.fn.first l.fn.octets ≡ l.numbered.items ++ with_numbers l.number es)

@@ -3,8 +3,7 @@ use Rattle.bac_wire.specs.Primitive.{Id}
 use Rattle.bac_link.specs.declared.request.Request.{Request}
 use Rattle.bac_link.specs.Requests.{IsTooLong}
 use Rattle.bac_link.proofs.Verdicts.{question_fits}
-use Rattle.bac_walk.specs.Replies.{extent_of}
-use Rattle.bac_walk.specs.Walks.{wanted_of}
+use Rattle.bac_walk.specs.Walks.{question_of}
 use Rattle.bac_walk.proofs.Asking.{ranged_of, question_is}
 use Rattle.bac_walk.proofs.walk.Walk.question.Goals as goal
 
@@ -23,4 +22,4 @@ returns-clause-fits c =
     let asks = returns-clause-asks c in
     λ long.
     let P : Request → Type 0 = λ r. IsTooLong r in
-    question_fits c.args.self.now.log (extent_of (wanted_of c.args.self.now)) (subst P asks.0 long)
+    question_fits c.args.self.now.log (question_of c.args.self.now) (subst P asks.0 long)

@@ -1,4 +1,5 @@
-use Rattle.std.proofs.Common.{true, ◌≡◌, ℕ, length, Result, Ok, Err, sym, ap, subst, ◌∙◌}
+use Rattle.std.proofs.Common.{true, false, ◌≡◌, ℕ, length, Result, Ok, Err, sym, ap, subst, ◌∙◌}
+use Rattle.std.proofs.lemmas.Bool.{or_parts}
 use Rattle.bac_wire.specs.Primitive.{Id}
 use Rattle.bac_walk.specs.Place.{Place}
 use Rattle.bac_walk.specs.declared.outcome.Step.{Step}
@@ -44,13 +45,14 @@ no_more (Ok p) asks h = h
 no_more (Err e) asks h = absurd (cc)
 
 pub returns-then-not-asks_next-clause-honest : goal.returns-then-not-asks_next-clause-honest
-returns-then-not-asks_next-clause-honest g c r M H s honest next =
+returns-then-not-asks_next-clause-honest g c r M H s honest next near =
     let log : c.restart.new.self.log ≡ c.args.self.now.log = ap (λ (v : Place). v.log) c.restart.ensures in
     let P : Id → Type 0 = λ n. g.L.LogLink.is_honest c.args.link.now n r M H in
     let shown : c.restart.new.self.next ≡ number s = ap (λ (v : Place). v.next) c.restart.ensures ∙ next in
+    let fresh : c.restart.new.self.fresh ≡ c.args.self.now.fresh = ap (λ (v : Place). v.fresh) c.restart.ensures in
     let done = first_at (λ N. g.L.LogLink.is_honest c.turn-first.new.link c.restart.new.self.log r N H) r H M s
     c.args.self.now c.restart.new.self c.args.transactions.now.retries (g.L.LogLink.failures c.args.link.now) (g.L.LogLink.failures c.turn-first.new.link) (progress_of c.turn-first.result) c.turn-first.new.self next c.restart.ensures
-    (c.turn-first.ensures.honest r M H s (subst P (sym log) honest) shown) (cc) in
+    (c.turn-first.ensures.honest r M H s (subst P (sym log) honest) shown (λ old. (near (sym fresh ∙ old)).0)) (cc) in
     let Q : Result Step WalkFault → Type 0 = λ z. Collected r H M c.args.self.now.fresh s 1
     c.args.transactions.now.retries (g.L.LogLink.failures c.args.link.now) (g.L.LogLink.failures c.turn-first.new.link)
     (step_items z) done.1 (step_ended z) done.0 in
@@ -66,14 +68,15 @@ returns-clause-fault g c =
     subst P (sym c.finished-2.ensures) (kept _ _ _ _ next c.turn.ensures.fault)
 
 pub returns-clause-honest : goal.returns-clause-honest
-returns-clause-honest g c r M H s honest next =
+returns-clause-honest g c r M H s honest next near =
     let log : c.restart.new.self.log ≡ c.args.self.now.log = ap (λ (v : Place). v.log) c.restart.ensures in
     let logs : c.turn-first.new.self.log ≡ c.args.self.now.log = c.turn-first.ensures.log ∙ log in
     let P : Id → Type 0 = λ n. g.L.LogLink.is_honest c.args.link.now n r M H in
     let shown : c.restart.new.self.next ≡ number s = ap (λ (v : Place). v.next) c.restart.ensures ∙ next in
+    let fresh : c.restart.new.self.fresh ≡ c.args.self.now.fresh = ap (λ (v : Place). v.fresh) c.restart.ensures in
     let first = asked (λ N. g.L.LogLink.is_honest c.turn-first.new.link c.restart.new.self.log r N H) r H M s
     c.args.self.now c.restart.new.self c.args.transactions.now.retries (g.L.LogLink.failures c.args.link.now) (g.L.LogLink.failures c.turn-first.new.link) (progress_of c.turn-first.result) c.turn-first.new.self c.restart.ensures
-    (c.turn-first.ensures.honest r M H s (subst P (sym log) honest) shown) (cc) in
+    (c.turn-first.ensures.honest r M H s (subst P (sym log) honest) shown (λ old. (near (sym fresh ∙ old)).0)) (cc) in
     let shown_next : c.turn-first.new.self.next ≡ number s = c.turn-first.ensures.asks (cc) ∙ shown in
     let U : Id → Type 0 = λ n. g.L.LogLink.is_honest c.turn-first.new.link n r (later M) H in
     let V : ℕ → Type 0 = λ n. IsTurned (λ N. g.L.LogLink.is_honest c.turn.new.link c.turn-first.new.self.log r N H) r (later M) H s c.turn-first.new.self n
@@ -83,7 +86,8 @@ returns-clause-honest g c r M H s honest next =
     (g.L.LogLink.failures c.turn-first.new.link) (g.L.LogLink.failures c.turn.new.link) (progress_of c.turn.result) c.turn.new.self
     next (g.met.L.LogLink.serves c.args.link.now c.args.self.now.log r M H honest)
     first.0 first.1 c.turn-first.ensures.never_falls first.2
-    (subst V c.turn-first.ensures.retries (c.turn.ensures.honest r (later M) H s (subst U (sym c.turn-first.ensures.log) first.3) shown_next)) in
+    (subst V c.turn-first.ensures.retries (c.turn.ensures.honest r (later M) H s (subst U (sym c.turn-first.ensures.log) first.3) shown_next
+    (λ old. (near (or_parts c.args.self.now.fresh false first.0).0).1 first.1))) in
     let Q : Result Step WalkFault → Type 0 = λ z. Collected r H M c.args.self.now.fresh s 1
     c.args.transactions.now.retries (g.L.LogLink.failures c.args.link.now) (g.L.LogLink.failures c.turn.new.link)
     (step_items z) done.1 (step_ended z) done.0 in
@@ -108,19 +112,20 @@ returns-clause-goes g c s =
     c.finished-2.ensures (c.turn.ensures.goes s))
 
 pub returns-clause-answered : goal.returns-clause-answered
-returns-clause-answered g c r M H s sure honest next =
+returns-clause-answered g c r M H s sure honest next near =
     let log : c.restart.new.self.log ≡ c.args.self.now.log = ap (λ (v : Place). v.log) c.restart.ensures in
     let P : Id → Type 0 = λ n. g.L.LogLink.is_honest c.args.link.now n r M H in
     let shown : c.restart.new.self.next ≡ number s = ap (λ (v : Place). v.next) c.restart.ensures ∙ next in
+    let fresh : c.restart.new.self.fresh ≡ c.args.self.now.fresh = ap (λ (v : Place). v.fresh) c.restart.ensures in
     let first = asked (λ N. g.L.LogLink.is_honest c.turn-first.new.link c.restart.new.self.log r N H) r H M s
     c.args.self.now c.restart.new.self c.args.transactions.now.retries (g.L.LogLink.failures c.args.link.now) (g.L.LogLink.failures c.turn-first.new.link) (progress_of c.turn-first.result) c.turn-first.new.self c.restart.ensures
-    (c.turn-first.ensures.honest r M H s (subst P (sym log) honest) shown) (cc) in
+    (c.turn-first.ensures.honest r M H s (subst P (sym log) honest) shown (λ old. (near (sym fresh ∙ old)).0)) (cc) in
     let U : Id → Type 0 = λ n. g.L.LogLink.is_honest c.turn-first.new.link n r (later M) H in
     found_step (progress_of c.turn.result) (step_of c.finished-2.result) c.finished-2.ensures
     (c.turn.ensures.answered r (later M) H (c.turn-first.ensures.sure sure) (subst U (sym c.turn-first.ensures.log) first.3))
 
 pub returns-then-not-asks_next-clause-answered : goal.returns-then-not-asks_next-clause-answered
-returns-then-not-asks_next-clause-answered g c r M H s sure honest next =
+returns-then-not-asks_next-clause-answered g c r M H s sure honest next near =
     let P : Id → Type 0 = λ n. g.L.LogLink.is_honest c.args.link.now n r M H in
     let log : c.restart.new.self.log ≡ c.args.self.now.log = ap (λ (v : Place). v.log) c.restart.ensures in
     found_step (progress_of c.turn-first.result) (step_of c.finished.result) c.finished.ensures

@@ -1,7 +1,8 @@
-use Rattle.std.proofs.Common.{[], ◌∷◌, List, subst, ◌∙◌}
+use Rattle.std.proofs.Common.{◌≡◌, false, [], ◌∷◌, List, subst, ◌∙◌}
 use Rattle.bac_link.specs.declared.item.Item.{Item}
 use Rattle.bac_walk.specs.declared.outcome.Ended.{Ended}
 use Rattle.bac_walk.specs.Collects.{Collected, Goes, step_items, step_ended}
+use Rattle.bac_walk.specs.Near.{IsNearStep}
 use Rattle.bac_walk.specs.Replied.{step_of}
 use Rattle.bac_walk.proofs.Rests.{rested_step}
 use Rattle.bac_walk.proofs.Sames.{same_step}
@@ -11,8 +12,8 @@ pub returns-clause-fault : goal.returns-clause-fault
 returns-clause-fault g c = (same_step (step_of c.reply.result) c.decoded.result c.decoded.ensures).fault c.reply.new.self.next c.args.self.now.next c.reply.ensures.fault
 
 pub returns-clause-answered : goal.returns-clause-answered
-returns-clause-answered g c r M H s sure honest next =
-    (same_step (step_of c.reply.result) c.decoded.result c.decoded.ensures).found (c.reply.ensures.answered r M H s sure honest next)
+returns-clause-answered g c r M H s sure honest next near =
+    (same_step (step_of c.reply.result) c.decoded.result c.decoded.ensures).found (c.reply.ensures.answered r M H s sure honest next near)
 
 pub returns-clause-lacking : goal.returns-clause-lacking
 returns-clause-lacking g c lacks =
@@ -29,9 +30,9 @@ returns-clause-goes g c s =
     subst P (same_step (step_of c.reply.result) c.decoded.result c.decoded.ensures).items (c.reply.ensures.goes s)
 
 pub returns-clause-honest : goal.returns-clause-honest
-returns-clause-honest g c r M H s honest next =
+returns-clause-honest g c r M H s honest next near =
     let same = same_step (step_of c.reply.result) c.decoded.result c.decoded.ensures in
-    let run = c.reply.ensures.honest r M H s honest next in
+    let run = c.reply.ensures.honest r M H s honest next near in
     let P : List Item → Type 0 = λ l. Collected r H M c.args.self.now.fresh s 1 c.args.transactions.now.retries
     (g.L.LogLink.failures c.args.link.now) (g.L.LogLink.failures c.reply.new.link) l run.1 (step_ended (step_of c.reply.result)) run.0 in
     let Q : Ended → Type 0 = λ e. Collected r H M c.args.self.now.fresh s 1 c.args.transactions.now.retries
@@ -39,7 +40,8 @@ returns-clause-honest g c r M H s honest next =
     (run.0, run.1, run.2, subst Q same.ended (subst P same.items run.3), run.4, run.5 ∙ same.fresh c.args.self.now.fresh)
 
 pub returns-clause-resting : goal.returns-clause-resting
-returns-clause-resting g c r m H s sure honest next =
-    let run = returns-clause-honest g c r (m ∷ []) H s honest next in
+returns-clause-resting g c r m H s sure honest next near =
+    let close : c.args.self.now.fresh ≡ false → IsNearStep s (m ∷ []) = λ old. (near old, λ none. near old) in
+    let run = returns-clause-honest g c r (m ∷ []) H s honest next close in
     rested_step r H m c.args.self.now.fresh s c.args.transactions.now.retries (g.L.LogLink.failures c.args.link.now) (g.L.LogLink.failures c.reply.new.link)
-    run.1 c.reply.new.self.next c.decoded.result run.0 (returns-clause-answered g c r (m ∷ []) H s sure honest next) run.3 run.2
+    run.1 c.reply.new.self.next c.decoded.result run.0 (returns-clause-answered g c r (m ∷ []) H s sure honest next close) run.3 run.2

@@ -1,53 +1,57 @@
-use Rattle.std.proofs.Common.{Ok, Err}
-use Rattle.bac_walk.specs.Replies.{extent_of}
+use Rattle.std.proofs.Common.{Ok, Err, subst}
+use Rattle.bac_apdu.specs.declared.service.extent.Extent.{Extent}
+use Rattle.bac_link.specs.Delivery.{now}
+use Rattle.bac_link.specs.Links.{IsReply}
 use Rattle.bac_walk.specs.Replied.{heard_in, progress_of}
-use Rattle.bac_walk.specs.Walks.{wanted_of}
-use Rattle.bac_walk.proofs.Asking.{lost_is, refused_is, bad_reply_is}
+use Rattle.bac_walk.specs.Walks.{question_of, wanted_at}
+use Rattle.bac_walk.proofs.Asking.{asks_at, near_to, lost_is, refused_is, bad_reply_is}
 use Rattle.bac_walk.proofs.Turns.{turn_of}
 use Rattle.bac_walk.proofs.HonestReply.{says_in}
 use Rattle.bac_walk.proofs.Hearing.{turned_of, turned_goes}
 use Rattle.bac_walk.proofs.walk.Walk.turn.Goals as goal
 
 pub returns-in-Ok-hear-clause-honest : goal.returns-in-Ok-hear-clause-honest
-returns-in-Ok-hear-clause-honest g c = λ r M H s honest next.
+returns-in-Ok-hear-clause-honest g c = λ r M H s honest next near.
     let w = c.args.self.now in
     let served = g.met.L.LogLink.serves c.args.link.now w.log r M H honest in
-    let a = (c.in-Ok.ensures.honest w.log r M H (extent_of (wanted_of w)) honest c.question-question.ensures.asks).0 in
-    let says = says_in c.in-Ok.datagram r M H w.log (wanted_of w) a.0.0 served c.question-question.ensures.asks.2 a.0.1 in
+    let a = (c.in-Ok.ensures.honest w.log r M H (question_of w) honest c.question-question.ensures.asks).0 in
+    let P : Extent → Type 0 = λ x. IsReply r (now M) H w.log x a.0.0 c.in-Ok.datagram in
+    let says = says_in c.in-Ok.datagram r M H w.log (wanted_at w s) a.0.0 served (near_to w s (now M) near) c.question-question.ensures.asks.2 (subst P (asks_at w s next) a.0.1) in
     turned_of (λ N. g.L.LogLink.is_honest c.exchange.new.link w.log r N H) r M H s w c.args.transactions.now.retries
     (g.L.LogLink.failures c.args.link.now) (g.L.LogLink.failures c.exchange.new.link) c.in-Ok-hear.turned c.hear.new.self
-    (turn_of H M r s w (heard_in w.log c.in-Ok.datagram) (progress_of (Ok c.in-Ok-hear.turned)) c.hear.new.self next served says (c.in-Ok-hear.ensures {u = tt})) a.1
+    (turn_of H M r s w (heard_in w.log c.in-Ok.datagram) (progress_of (Ok c.in-Ok-hear.turned)) c.hear.new.self next near served says (c.in-Ok-hear.ensures {u = tt})) a.1
 
 pub returns-in-Err-clause-honest : goal.returns-in-Err-clause-honest
-returns-in-Err-clause-honest g c = λ r M H s honest next.
+returns-in-Err-clause-honest g c = λ r M H s honest next near.
     let w = c.args.self.now in
     let served = g.met.L.LogLink.serves c.args.link.now w.log r M H honest in
-    let a = (c.in-Ok.ensures.honest w.log r M H (extent_of (wanted_of w)) honest c.question-question.ensures.asks).0 in
-    let says = says_in c.in-Ok.datagram r M H w.log (wanted_of w) a.0.0 served c.question-question.ensures.asks.2 a.0.1 in
-    turn_of H M r s w (heard_in w.log c.in-Ok.datagram) (Err c.in-Err.field-0) c.hear.new.self next served says (c.in-Err.ensures {u = tt})
+    let a = (c.in-Ok.ensures.honest w.log r M H (question_of w) honest c.question-question.ensures.asks).0 in
+    let P : Extent → Type 0 = λ x. IsReply r (now M) H w.log x a.0.0 c.in-Ok.datagram in
+    let says = says_in c.in-Ok.datagram r M H w.log (wanted_at w s) a.0.0 served (near_to w s (now M) near) c.question-question.ensures.asks.2 (subst P (asks_at w s next) a.0.1) in
+    turn_of H M r s w (heard_in w.log c.in-Ok.datagram) (Err c.in-Err.field-0) c.hear.new.self next near served says (c.in-Err.ensures {u = tt})
 
 pub returns-in-Ok-hear-clause-goes : goal.returns-in-Ok-hear-clause-goes
 returns-in-Ok-hear-clause-goes g c = λ s. turned_goes c.args.self.now s (heard_in c.args.self.now.log c.in-Ok.datagram) c.in-Ok-hear.turned c.hear.new.self (c.in-Ok-hear.ensures {u = tt})
 
 pub returns-in-Ok-hear-clause-lacking : goal.returns-in-Ok-hear-clause-lacking
 returns-in-Ok-hear-clause-lacking g c = λ lacks.
-    absurd (c.in-Ok.ensures.lacking c.args.self.now.log (extent_of (wanted_of c.args.self.now)) lacks c.question-question.ensures.asks).0
+    absurd (c.in-Ok.ensures.lacking c.args.self.now.log (question_of c.args.self.now) lacks c.question-question.ensures.asks).0
 
 pub returns-in-Err-clause-lacking : goal.returns-in-Err-clause-lacking
 returns-in-Err-clause-lacking g c = λ lacks.
-    absurd (c.in-Ok.ensures.lacking c.args.self.now.log (extent_of (wanted_of c.args.self.now)) lacks c.question-question.ensures.asks).0
+    absurd (c.in-Ok.ensures.lacking c.args.self.now.log (question_of c.args.self.now) lacks c.question-question.ensures.asks).0
 
 pub returns-in-Err-Lost-clause-lacking : goal.returns-in-Err-Lost-clause-lacking
 returns-in-Err-Lost-clause-lacking g c = λ lacks.
-    let e = (c.in-Err-Lost.ensures {u = tt}).lacking c.args.self.now.log (extent_of (wanted_of c.args.self.now)) lacks c.question-question.ensures.asks in
+    let e = (c.in-Err-Lost.ensures {u = tt}).lacking c.args.self.now.log (question_of c.args.self.now) lacks c.question-question.ensures.asks in
     (tt, e.1, λ sure. lost_is c.in-Err-Lost.field-0 c.in-Err-Lost.field-0-is (e.2 sure))
 
 pub returns-in-Err-Refused-clause-lacking : goal.returns-in-Err-Refused-clause-lacking
 returns-in-Err-Refused-clause-lacking g c = λ lacks.
-    let e = (c.in-Err-Refused.ensures {u = tt}).lacking c.args.self.now.log (extent_of (wanted_of c.args.self.now)) lacks c.question-question.ensures.asks in
+    let e = (c.in-Err-Refused.ensures {u = tt}).lacking c.args.self.now.log (question_of c.args.self.now) lacks c.question-question.ensures.asks in
     (refused_is c.args.transactions.now.retries (g.L.LogLink.failures c.args.link.now) (g.L.LogLink.failures c.exchange.new.link) c.in-Err-Refused.field-0 c.in-Err-Refused.refusal c.in-Err-Refused.field-0-is e.0, e.1, λ sure. tt)
 
 pub returns-in-Err-BadReply-clause-lacking : goal.returns-in-Err-BadReply-clause-lacking
 returns-in-Err-BadReply-clause-lacking g c = λ lacks.
-    let e = (c.in-Err-BadReply.ensures {u = tt}).lacking c.args.self.now.log (extent_of (wanted_of c.args.self.now)) lacks c.question-question.ensures.asks in
+    let e = (c.in-Err-BadReply.ensures {u = tt}).lacking c.args.self.now.log (question_of c.args.self.now) lacks c.question-question.ensures.asks in
     absurd (bad_reply_is c.args.transactions.now.retries (g.L.LogLink.failures c.args.link.now) (g.L.LogLink.failures c.exchange.new.link) c.in-Err-BadReply.field-0 c.in-Err-BadReply.field-0-is e.0)

@@ -1,0 +1,40 @@
+-- How near a walk is to its log. Numbers come round, so they tell ordinals apart within half of the count only.
+use Rattle.std.specs.Prelude.{◌≡◌, ℕ, Bool, true, false, ◌+◌, ◌<◌, ◌≤◌, List, [], ◌∷◌, length}
+use Rattle.bac_link.specs.declared.item.Item.{Item}
+use Rattle.bac_link.specs.Delivery.{History, Moment, now, later}
+use Rattle.bac_link.specs.Laws.{after_answers}
+use Rattle.bac_link.specs.Moments.{AreServed}
+use Rattle.bac_walk.specs.declared.outcome.Ended.TheVariants.{StepLimit}
+use Rattle.bac_walk.specs.Collects.{batches, Collected}
+use Rattle.bac_walk.specs.Turns.{NoneOfHundred}
+
+-- an ordinal is less than half of the count away from the oldest entry held
+pub record IsNear (s : ℕ) (m : Moment) : Type 0 where
+  pub above : m.oldest < s + 2147483648
+  pub below : s < m.oldest + 2147483648
+
+-- a walk at ordinal s is near at each answer of its next step: at the second where a second question is asked
+abbrev pub IsNearStep : ℕ → List Moment → Type 0
+IsNearStep s M = IsNear s (now M) × (NoneOfHundred s (now M) → IsNear s (now (later M)))
+
+-- Wherever fewer than so many steps may bring a walk that is at ordinal s, it is near at each answer of the next one. A
+-- walk from the oldest entry may be anywhere until its first batch.
+abbrev pub StaysNear : ℕ → History → List Moment → Bool → ℕ → ℕ → Type 0
+StaysNear r H M fresh s steps = (i retries old new t : ℕ) (items : List Item) (answers : List (List Item)) →
+    i < steps → Collected r H M fresh s i retries old new items t StepLimit answers → (batches answers ≡ 0 → fresh ≡ false) →
+    IsNearStep t (after_answers (length answers) M)
+
+-- A plain premise that is enough: all that is logged or held at any of the moments lies within half of the count from
+-- one ordinal on.
+pub record IsInWindow (low : ℕ) (m : Moment) : Type 0 where
+  pub oldest : low ≤ m.oldest
+  pub newest : m.newest + 1 < low + 2147483648
+
+abbrev pub AreInWindow : ℕ → List Moment → Type 0
+AreInWindow low [] = Unit {0}
+AreInWindow low (m ∷ M) = IsInWindow low m × AreInWindow low M
+
+-- and so does the ordinal where the walk begins, unless that is the oldest entry
+abbrev pub WindowsAreNear : Type 0
+WindowsAreNear = (r : ℕ) (H : History) (M : List Moment) (low s steps : ℕ) (fresh : Bool) → AreServed r M H → AreInWindow low M →
+    (fresh ≡ false → (low ≤ s) × (s < low + 2147483648)) → StaysNear r H M fresh s steps
