@@ -12,7 +12,7 @@ use Rattle.bac_device.specs.declared.reply.Reply.{Reply}
 use Rattle.bac_link.specs.Delivery.{History, Moment, now, later}
 use Rattle.bac_link.specs.Links.{IsAsked, IsAskedOfNone, IsQuestion, IsReply, IsUnknown}
 use Rattle.bac_link.specs.declared.link.Lost.{Lost}
-use Rattle.bac_client.specs.Ahead.{Lacks, LiesAhead, log_with}
+use Rattle.bac_client.specs.Ahead.{IsAhead, Lacks, LiesAhead, log_with}
 use Rattle.bac_client.specs.Events.{datagram_in, played, told}
 use Rattle.bac_objects.specs.Sound.{IsSound}
 use Rattle.bac_client.specs.declared.event.LinkEvent.{LinkEvent}
@@ -39,31 +39,31 @@ IsTold result d t = (result_ok result ≡ datagram_in t.0) × (d ≡ t.1)
 
 -- ---- over a log of the device
 
-honest : (lost : Bool) (p new : State) (rest : List LinkEvent) (id : Id) (r : ℕ) (M : List Moment) (H : History) (extent : Extent) (invoke : ℕ) (octets : List ℕ) (result : Result (List ℕ) Lost)
-    → IsStillAhead lost p rest id r M H → IsQuestion id extent invoke octets → IsTold result new (telling p lost octets)
-    → IsAsked (λ N. LiesAhead new rest id r N H) r M H id extent invoke result
-honest true p new rest id r M H extent invoke octets (Ok datagram) a asks t = absurd (no_datagram datagram t.0)
-honest true p new rest id r M H extent invoke octets (Err lost) a asks t = subst (λ (d : State). LiesAhead d rest id r M H) (sym t.1) a
-honest false p new rest id r M H extent invoke octets (Ok datagram) a asks t =
-    let said = log_answered p rest id r (later M) H extent invoke octets a.1 asks in
+honest : (rounds : ℕ) (lost : Bool) (p new : State) (rest : List LinkEvent) (id : Id) (r : ℕ) (M : List Moment) (H : History) (extent : Extent) (invoke : ℕ) (octets : List ℕ) (result : Result (List ℕ) Lost)
+    → IsStillAhead rounds lost p rest id r M H → IsQuestion id extent invoke octets → IsTold result new (telling p lost octets)
+    → IsAsked (λ N. IsAhead new rest id r N H) r M H id extent invoke result
+honest rounds true p new rest id r M H extent invoke octets (Ok datagram) a asks t = absurd (no_datagram datagram t.0)
+honest rounds true p new rest id r M H extent invoke octets (Err lost) a asks t = (rounds, subst (λ (d : State). LiesAhead rounds d rest id r M H) (sym t.1) a)
+honest rounds false p new rest id r M H extent invoke octets (Ok datagram) a asks t =
+    let said = log_answered rounds p rest id r (later M) H extent invoke octets a.1 asks in
     let text = datagram_octets (records_ack p.reply_size invoke id extent (log_with p id.instance)) in
     let is : datagram ≡ text = same_datagram datagram text (t.0 ∙ ap (λ (x : Option Reply × State). datagram_in x.0) said) in
     let left : new ≡ p = t.1 ∙ ap (λ (x : Option Reply × State). x.1) said in (
-      subst (λ (o : List ℕ). IsReply r (now M) H id extent invoke o) (sym is) (log_replied p rest id r (later M) H (now M) extent invoke a.1 a.0),
-      subst (λ (d : State). LiesAhead d rest id r (later M) H) (sym left) a.1,
+      subst (λ (o : List ℕ). IsReply r (now M) H id extent invoke o) (sym is) (log_replied rounds p rest id r (later M) H (now M) extent invoke a.1 a.0),
+      (rounds, subst (λ (d : State). LiesAhead rounds d rest id r (later M) H) (sym left) a.1),
     )
-honest false p new rest id r M H extent invoke octets (Err lost) a asks t =
-    let said = log_answered p rest id r (later M) H extent invoke octets a.1 asks in
+honest rounds false p new rest id r M H extent invoke octets (Err lost) a asks t =
+    let said = log_answered rounds p rest id r (later M) H extent invoke octets a.1 asks in
     absurd (no_datagram _ (sym (t.0 ∙ ap (λ (x : Option Reply × State). datagram_in x.0) said)))
 
 pub asked : (d new : State) (events rest : List LinkEvent) (id : Id) (r : ℕ) (M : List Moment) (H : History) (extent : Extent) (invoke : ℕ) (octets : List ℕ) (result : Result (List ℕ) Lost)
-    → IsSound (played d events).device → LiesAhead d events id r M H → IsQuestion id extent invoke octets
+    → IsSound (played d events).device → IsAhead d events id r M H → IsQuestion id extent invoke octets
     → result_ok result ≡ datagram_in (told (played d events) octets).0 → new ≡ (told (played d events) octets).1 → rest ≡ (played d events).rest
-    → IsAsked (λ N. LiesAhead new rest id r N H) r M H id extent invoke result
+    → IsAsked (λ N. IsAhead new rest id r N H) r M H id extent invoke result
 asked d new events rest id r M H extent invoke octets result sound a asks said left over =
     let p = played d events in
-    subst (λ (es : List LinkEvent). IsAsked (λ N. LiesAhead new es id r N H) r M H id extent invoke result) (sym over)
-    (honest p.lost p.device new p.rest id r M H extent invoke octets result (still_ahead d events id r M H sound a) asks (said, left))
+    subst (λ (es : List LinkEvent). IsAsked (λ N. IsAhead new es id r N H) r M H id extent invoke result) (sym over)
+    (honest a.0 p.lost p.device new p.rest id r M H extent invoke octets result (still_ahead a.0 d events id r M H sound a.1) asks (said, left))
 
 -- ---- without the log
 

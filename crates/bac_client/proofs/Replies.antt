@@ -29,10 +29,11 @@ use Rattle.bac_link.specs.Links.{HasReply, IsQuestion, IsReply, IsUnknown, quest
 use Rattle.bac_link.specs.Moments.{log_at}
 use Rattle.bac_link.specs.Requests.{request_octets}
 use Rattle.bac_link.proofs.Datagrams.{apdu_octets_again}
-use Rattle.bac_client.specs.Ahead.{entries_ahead, Lacks, LiesAhead, log_with, moment_of}
+use Rattle.bac_client.specs.Ahead.{entries_ahead, Lacks, LiesAhead, log_with, moment_of, placed, turn}
 use Rattle.bac_client.specs.declared.event.LinkEvent.{LinkEvent}
 use Rattle.bac_client.proofs.Ahead.{log_is}
 use Rattle.bac_client.proofs.Events.{log_there}
+use Rattle.bac_client.proofs.Placed.{log_placed, reply-placed}
 use Rattle.bac_client.proofs.Questions.{question_is}
 
 -- ---- a reply is read back
@@ -107,13 +108,14 @@ same_reply id a b e r p q =
 
 -- ---- the log that a moment cuts out of the history is the device's
 
-held_now : (d : State) (events : List LinkEvent) (id : Id) (r : ℕ) (M : List Moment) (H : History) → LiesAhead d events id r M H → (log_at (moment_of (log_with d id.instance)) H).entries ≡ (log_with d id.instance).entries
-held_now d events id r M H a =
+held_now : (rounds : ℕ) (d : State) (events : List LinkEvent) (id : Id) (r : ℕ) (M : List Moment) (H : History) → LiesAhead rounds d events id r M H → (log_at (placed rounds (moment_of (log_with d id.instance))) H).entries ≡ (log_with d id.instance).entries
+held_now rounds d events id r M H a =
     let log : Log = log_with d id.instance in
     let ahead : List Entry = entries_ahead d id.instance events in
-    let place : oldest log - (H.logged + 1) ≡ length a.past = omega (arith, a.gone) in
-    let size : newest log + 1 - oldest log ≡ length log.entries = omega arith in
-    ap (λ n. take n (drop (oldest log - (H.logged + 1)) H.entries)) size
+    let low : ℕ = oldest log + turn rounds in
+    let place : low - (H.logged + 1) ≡ length a.past = omega (arith, a.gone) in
+    let size : (newest log + turn rounds) + 1 - low ≡ length log.entries = omega arith in
+    ap (λ n. take n (drop (low - (H.logged + 1)) H.entries)) size
     ∙ ap (λ n. take (length log.entries) (drop n H.entries)) place
     ∙ ap (λ (es : List Entry). take (length log.entries) (drop (length a.past) es)) a.entries
     ∙ ap (λ (es : List Entry). take (length log.entries) es) (drop-append_seam a.past (log.entries ++ ahead))
@@ -132,9 +134,9 @@ asked_is id extent invoke octets kind asks = asks.0 ∙ ap (λ (i : Id). request
 abbrev log_reply : State → Id → Extent → ℕ → Apdu
 log_reply d id extent invoke = records_ack d.reply_size invoke id extent (log_with d id.instance)
 
-pub log_answered : (d : State) (events : List LinkEvent) (id : Id) (r : ℕ) (M : List Moment) (H : History) (extent : Extent) (invoke : ℕ) (octets : List ℕ) → LiesAhead d events id r M H → IsQuestion id extent invoke octets
+pub log_answered : (rounds : ℕ) (d : State) (events : List LinkEvent) (id : Id) (r : ℕ) (M : List Moment) (H : History) (extent : Extent) (invoke : ℕ) (octets : List ℕ) → LiesAhead rounds d events id r M H → IsQuestion id extent invoke octets
     → answer d octets ≡ (Some (reply Sender (log_reply d id extent invoke)), d)
-log_answered d events id r M H extent invoke octets a asks =
+log_answered rounds d events id r M H extent invoke octets a asks =
     let n = id.instance in
     let log : Log = log_with d n in
     let there : log_of d n ≡ Some log = a.there.1 ∙ sym (ap (λ (l : Log). Some l) (log_there d n a.there.0 a.there.1)) in
@@ -146,15 +148,17 @@ log_answered d events id r M H extent invoke octets a asks =
     ∙ ap (λ (i : Id). (Some (reply Sender (records_ack d.reply_size invoke i extent log)), d)) (sym (log_id_is id a.kind))
 
 -- it is an honest reply of the log's moment
-pub log_replied : (d : State) (events : List LinkEvent) (id : Id) (r : ℕ) (M : List Moment) (H : History) (m : Moment) (extent : Extent) (invoke : ℕ) → LiesAhead d events id r M H → m ≡ moment_of (log_with d id.instance)
+pub log_replied : (rounds : ℕ) (d : State) (events : List LinkEvent) (id : Id) (r : ℕ) (M : List Moment) (H : History) (m : Moment) (extent : Extent) (invoke : ℕ) → LiesAhead rounds d events id r M H → m ≡ placed rounds (moment_of (log_with d id.instance))
     → IsReply r m H id extent invoke (datagram_octets (log_reply d id extent invoke))
-log_replied d events id r M H m extent invoke a first =
+log_replied rounds d events id r M H m extent invoke a first =
     let log : Log = log_with d id.instance in
     let is : IsLog log = log_is d id.instance a.sound a.there in
-    let held = held_now d events id r M H a in
+    let held = held_now rounds d events id r M H a in
+    let cut : Log = log_at (placed rounds (moment_of log)) H in
     let short = short_ack d.reply_size invoke id extent log is (omega (arith, a.sound.least_reply)) in
-    let same : reply_parameters id log extent d.reply_size ≡ reply_parameters id (log_at (moment_of log) H) extent r =
-    same_reply id log (log_at (moment_of log) H) extent d.reply_size (omega arith) (sym held) ∙ ap (λ k. reply_parameters id (log_at (moment_of log) H) extent k) a.size in
+    let same : reply_parameters id log extent d.reply_size ≡ reply_parameters id cut extent r =
+    sym (reply-placed id rounds log extent d.reply_size)
+    ∙ same_reply id (log_placed rounds log) cut extent d.reply_size (omega arith) (sym held) ∙ ap (λ k. reply_parameters id cut extent k) a.size in
     subst (λ (k : Moment). IsReply r k H id extent invoke (datagram_octets (log_reply d id extent invoke))) (sym first) (
       subst (λ (es : List Entry). All IsLoggable es) (sym held) is.loggable,
       reply_again (log_reply d id extent invoke) refl (omega (arith, short, a.sound.greatest_reply))

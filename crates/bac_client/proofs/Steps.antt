@@ -1,12 +1,11 @@
 -- What one step of a log leads to.
-use Rattle.std.proofs.Common.{◌≡◌, ◌≢◌, inl, inr, ℕ, Bool, true, false, ◌+◌, ◌-◌, ◌<◌, ◌≤◌, max, nat_lt, List, [], ◌∷◌, ◌++◌, length, drop, refl, sym, ap, subst, ◌∙◌, arith}
-use Rattle.std.proofs.lemmas.Bool.Decides.{nat_tests}
+use Rattle.std.proofs.Common.{◌≡◌, inl, inr, ℕ, Bool, true, false, ◌+◌, ◌-◌, ◌≤◌, max, List, [], ◌∷◌, ◌++◌, length, drop, refl, sym, ap, subst, ◌∙◌, arith}
 use Rattle.std.proofs.lemmas.List.{length-append, length-drop, drop_all}
 use Rattle.std.proofs.Math.Seq.{drop-append_seam}
 use Rattle.bac_wire.specs.Stamp.{CivilTime}
 use Rattle.bac_log.specs.declared.entry.Entry.{Entry}
 use Rattle.bac_log.specs.Entry.{status_entry}
-use Rattle.bac_log.specs.TrendLog.{Log, oldest, newest, last_ordinal, logs, purges, enables}
+use Rattle.bac_log.specs.TrendLog.{Log, oldest, newest, logs, purges, enables}
 use Rattle.bac_device.specs.Logs.{StepsTo}
 use Rattle.bac_link.specs.Delivery.{Moment}
 use Rattle.bac_link.specs.Moments.{Change, Append, Purge, changed, changed_all}
@@ -66,17 +65,11 @@ since-logs log new e l =
 moment_same : (a b c d : ℕ) → a ≡ b → c ≡ d → (let m : Moment = record { newest = a; oldest = c } in m) ≡ record { newest = b; oldest = d }
 moment_same a b c d p q = ap (λ n. let m : Moment = record { newest = n; oldest = c } in m) p ∙ ap (λ n. let m : Moment = record { newest = b; oldest = n } in m) q
 
-lt_true : (a b : ℕ) → a < b → nat_lt a b ≡ true
-lt_true a b lt = grind (arith, nat_tests)
+appended : (log new : Log) → newest new ≡ newest log + 1 → oldest new ≡ max (oldest log) (newest log + 2 - log.capacity) → moment_of new ≡ changed log.capacity (moment_of log) Append
+appended log new n o = moment_same _ _ _ _ n o
 
-below : (a b : ℕ) → a ≤ b → a ≢ b → a < b
-below a b le ne = grind arith
-
-appended : (log new : Log) → newest log < last_ordinal → newest new ≡ newest log + 1 → oldest new ≡ max (oldest log) (newest log + 2 - log.capacity) → moment_of new ≡ changed log.capacity (moment_of log) Append
-appended log new lt n o = rw (lt_true (newest log) last_ordinal lt) (moment_same _ _ _ _ n o)
-
-purged : (log new : Log) → newest log < last_ordinal → newest new ≡ newest log + 1 → oldest new ≡ newest log + 1 → moment_of new ≡ changed log.capacity (moment_of log) Purge
-purged log new lt n o = rw (lt_true (newest log) last_ordinal lt) (moment_same _ _ _ _ n o)
+purged : (log new : Log) → newest new ≡ newest log + 1 → oldest new ≡ newest log + 1 → moment_of new ≡ changed log.capacity (moment_of log) Purge
+purged log new n o = moment_same _ _ _ _ n o
 
 -- ---- any step
 
@@ -89,7 +82,6 @@ pub record Gains (log new : Log) : Type 0 where
   pub capacity : new.capacity ≡ log.capacity
   pub changes : List Change
   pub moment : moment_of new ≡ changed_all log.capacity (moment_of log) changes
-  pub most : newest new ≤ last_ordinal
   pub more : newest new ≡ newest log + length (logged_since log new)
 
 none_since : (log : Log) → logged_since log log ≡ []
@@ -99,8 +91,8 @@ append_none : (es : List Entry) → es ≡ es ++ []
 append_none [] = refl
 append_none (e ∷ es) = ap (λ (xs : List Entry). e ∷ xs) (append_none es)
 
-rests : (log : Log) → newest log ≤ last_ordinal → Gains log log
-rests log most = record {
+rests : (log : Log) → Gains log log
+rests log = record {
   gone = 0;
   within = omega arith;
   before = omega arith;
@@ -108,12 +100,11 @@ rests log most = record {
   capacity = refl;
   changes = [];
   moment = refl;
-  most = most;
   more = omega (arith, ap (λ (es : List Entry). length es) (none_since log));
 }
 
-gains : (log new : Log) (e : Entry) (c : Change) → newest log < last_ordinal → Logs log new e → moment_of new ≡ changed log.capacity (moment_of log) c → Gains log new
-gains log new e c lt l moved = record {
+gains : (log new : Log) (e : Entry) (c : Change) → Logs log new e → moment_of new ≡ changed log.capacity (moment_of log) c → Gains log new
+gains log new e c l moved = record {
   gone = l.gone;
   within = l.within;
   before = l.before;
@@ -121,26 +112,22 @@ gains log new e c lt l moved = record {
   capacity = l.capacity;
   changes = c ∷ [];
   moment = moved;
-  most = omega (arith, newest-logs log new e l, lt);
   more = omega (arith, newest-logs log new e l, ap (λ (es : List Entry). length es) (since-logs log new e l));
 }
 
-pub steps_gain : (log new : Log) → StepsTo log new → 1 ≤ log.capacity → newest log ≤ last_ordinal → Gains log new
-steps_gain log new (inl e) some most = subst (λ (x : Log). Gains log x) (sym e) (rests log most)
-steps_gain log new (inr (inl x)) some most =
-    let lt = below (newest log) last_ordinal most x.0 in
+pub steps_gain : (log new : Log) → StepsTo log new → 1 ≤ log.capacity → Gains log new
+steps_gain log new (inl e) some = subst (λ (x : Log). Gains log x) (sym e) (rests log)
+steps_gain log new (inr (inl x)) some =
     let l = logs-logs log x.1.0 some in
-    subst (λ (y : Log). Gains log y) (sym x.1.1) (gains log (logs x.1.0 log) x.1.0 Append lt l
-    (appended log (logs x.1.0 log) lt (newest-logs log (logs x.1.0 log) x.1.0 l) (omega arith)))
-steps_gain log new (inr (inr (inl x))) some most =
-    let lt = below (newest log) last_ordinal most x.0 in
+    subst (λ (y : Log). Gains log y) (sym x.1.1) (gains log (logs x.1.0 log) x.1.0 Append l
+    (appended log (logs x.1.0 log) (newest-logs log (logs x.1.0 log) x.1.0 l) (omega arith)))
+steps_gain log new (inr (inr (inl x))) some =
     let e : Entry = status_entry x.1.0 log.enabled true in
     let l = purges-logs log x.1.0 some in
-    subst (λ (y : Log). Gains log y) (sym x.1.1) (gains log (purges x.1.0 log) e Purge lt l
-    (purged log (purges x.1.0 log) lt (newest-logs log (purges x.1.0 log) e l) (omega (arith, l.before))))
-steps_gain log new (inr (inr (inr x))) some most =
-    let lt = below (newest log) last_ordinal most x.0 in
+    subst (λ (y : Log). Gains log y) (sym x.1.1) (gains log (purges x.1.0 log) e Purge l
+    (purged log (purges x.1.0 log) (newest-logs log (purges x.1.0 log) e l) (omega (arith, l.before))))
+steps_gain log new (inr (inr (inr x))) some =
     let e : Entry = status_entry x.1.1.0 x.1.0 false in
     let l = enables-logs log x.1.0 x.1.1.0 some in
-    subst (λ (y : Log). Gains log y) (sym x.1.1.1) (gains log (enables x.1.0 x.1.1.0 log) e Append lt l
-    (appended log (enables x.1.0 x.1.1.0 log) lt (newest-logs log (enables x.1.0 x.1.1.0 log) e l) (omega arith)))
+    subst (λ (y : Log). Gains log y) (sym x.1.1.1) (gains log (enables x.1.0 x.1.1.0 log) e Append l
+    (appended log (enables x.1.0 x.1.1.0 log) (newest-logs log (enables x.1.0 x.1.1.0 log) e l) (omega arith)))

@@ -7,7 +7,7 @@ ghost use Rattle.bac_apdu.specs.declared.service.extent.Extent.{Extent as AnyExt
 ghost use Rattle.bac_objects.specs.Sampling.{log_id, log_of};
 ghost use Rattle.bac_link.specs.Delivery.{History, Moment};
 ghost use Rattle.bac_link.specs.Links.{IsAsked, IsAskedOfNone, IsQuestion, RisesBy};
-ghost use Rattle.bac_client.specs.Ahead.{history_ahead, IsThere, Lacks, LiesAhead, moments_ahead};
+ghost use Rattle.bac_client.specs.Ahead.{history_ahead, IsAhead, IsThere, Lacks, LiesAhead, moments_ahead, placed_all};
 ghost use Rattle.bac_client.specs.Events.{datagram_in, failures_after, happens, played, told};
 ghost use Rattle.bac_objects.specs.Sound.{IsSound};
 
@@ -72,10 +72,11 @@ impl<'a> DirectLink<'a> {
         ensures device { result.device.now ≡ device.old }
         ensures events { result.events.now ≡ events.now }
         ensures failures { result.failures ≡ 0 }
-        // It is honest for each log of the device, at the moments that the events lead to.
-        ensures honest { (n : ℕ) → IsThere device.old n →
-            LiesAhead result.device.now result.events.now (log_id n) device.old.reply_size
-            (moments_ahead device.old n events.now) (history_ahead device.old n events.now) }
+        // It is honest for each log of the device, at the moments that the events lead to, however
+        // many whole rounds of numbers further on.
+        ensures honest { (n rounds : ℕ) → IsThere device.old n →
+            LiesAhead rounds result.device.now result.events.now (log_id n) device.old.reply_size
+            (placed_all rounds (moments_ahead device.old n events.now)) (history_ahead rounds device.old n events.now) }
         // It lacks every other log.
         ensures lacks { (n : ℕ) → log_of device.old n ≡ None → Lacks result.device.now (log_id n) }
     {
@@ -115,11 +116,11 @@ impl<'a> DirectLink<'a> {
 impl<'a> LogLink for DirectLink<'a> {
     ghost use Rattle.std.specs.Prelude.{◌≡◌, [], refl};
     ghost use Rattle.std.proofs.Common.{◌∙◌};
-    ghost use Rattle.bac_client.specs.Ahead.{Lacks, LiesAhead};
+    ghost use Rattle.bac_client.specs.Ahead.{IsAhead, Lacks};
 
     ghost failures = { λ link. link.failures };
 
-    ghost is_honest = { λ link id r M H. LiesAhead link.device.now link.events.now id r M H };
+    ghost is_honest = { λ link id r M H. IsAhead link.device.now link.events.now id r M H };
 
     ghost lacks = { λ link id. Lacks link.device.now id };
 
@@ -133,8 +134,8 @@ impl<'a> LogLink for DirectLink<'a> {
         ensures never_falls { self.old.failures ≤ self.new.failures }
         ensures lost { OnErr result (RisesBy 1 self.old.failures self.new.failures) }
         ensures honest { (id : Id) (r : ℕ) (M : List Moment) (H : History) (extent : AnyExtent) (invoke : ℕ) →
-            LiesAhead self.old.device.now self.old.events.now id r M H → IsQuestion id extent invoke request.now →
-            IsAsked (λ N. LiesAhead self.new.device.now self.new.events.now id r N H) r M H id extent invoke result }
+            IsAhead self.old.device.now self.old.events.now id r M H → IsQuestion id extent invoke request.now →
+            IsAsked (λ N. IsAhead self.new.device.now self.new.events.now id r N H) r M H id extent invoke result }
         ensures lacking { (id : Id) (extent : AnyExtent) (invoke : ℕ) →
             Lacks self.old.device.now id → IsQuestion id extent invoke request.now →
             IsAskedOfNone invoke result × Lacks self.new.device.now id }
@@ -160,7 +161,7 @@ impl<'a> LogLink for DirectLink<'a> {
         }
     }
 
-    ghost serves = { λ link id r M H h. h.served };
+    ghost serves = { λ link id r M H h. h.1.served };
 
     ghost keeps_itself = { λ link. (refl, refl) };
 

@@ -17,7 +17,7 @@ pub use bac_link::{
 };
 pub use bac_walk::{
     BadReply, Batch, Ended, Gap, Numbered, Outcome, Progress, Sink, Step, Walk, WalkFault, Why,
-    collect, deliver, rest_resumes, rests_all, stop_and_resume,
+    collect, deliver, rest_resumes, rests_all, stop_and_resume, windows_are_near,
 };
 pub use direct_link::DirectLink;
 pub use event::LinkEvent;

@@ -1,6 +1,6 @@
 //! What a user of walks over a device in memory needs, proved from public contracts alone.
 
-ghost use Rattle.std.specs.Prelude.{ℕ, ◌≡◌, ◌<◌, ◌↔◌, List, Some, None, length, IfSome, IsSome, ◌⊎◌};
+ghost use Rattle.std.specs.Prelude.{ℕ, ◌≡◌, ◌+◌, ◌<◌, ◌≤◌, ◌↔◌, List, Some, None, length, IfSome, IsSome, ◌⊎◌};
 ghost use Rattle.bac_apdu.specs.Service.Extent.{IsExtent};
 ghost use Rattle.bac_apdu.specs.declared.service.extent.Extent.{Extent as AnyExtent};
 ghost use Rattle.bac_log.specs.TrendLog.{Log, number};
@@ -12,16 +12,17 @@ ghost use Rattle.bac_device.specs.declared.reply.Receiver.TheVariants as Receive
 ghost use Rattle.bac_link.specs.Delivery.{DeliversTo};
 ghost use Rattle.bac_link.specs.Links.{HasReply, question};
 ghost use Rattle.bac_link.specs.Requests.{request_octets};
+ghost use Rattle.bac_walk.specs.Near.{AreInWindow, IsNear};
 ghost use Rattle.bac_walk.specs.Rests.{Misses};
 ghost use Rattle.bac_walk.specs.declared.outcome.Why.TheVariants as why;
-ghost use Rattle.bac_client.specs.Ahead.{history_ahead, IsThere, log_with, moments_ahead};
+ghost use Rattle.bac_client.specs.Ahead.{history_ahead, IsThere, log_with, moment_of, moments_ahead, placed_all};
 ghost use Rattle.bac_walk_tests.specs.Day.{day, day_moments, plant as plant_of};
 ghost use Rattle.bac_walk_tests.specs.Held.{held_from};
 
 use crate::direct_link::{PURGE, absent, at, brought, gap, name, plant, purged, state};
 use bac_client::{
     DirectLink, LinkEvent, Outcome, Transactions, Walk, Why, collect, questions_are_the_devices,
-    replies_are_the_devices, rests_all,
+    replies_are_the_devices, rests_all, windows_are_near,
 };
 use bac_device::{Device, DeviceLine, Name, ObjectLine, questions_are_answered};
 use bac_wire::{Datagram, ObjectId};
@@ -42,8 +43,9 @@ pub fn questions_bring_replies()
 }
 
 /// Whatever happens at a device between its answers, steps of a walk from number s on deliver the
-/// records from s that the log holds when each is reached: the moments and the history are those
-/// that the device and the events lead to.
+/// records from its ordinal on that the log holds when each is reached: the moments and the history
+/// are those that the device and the events lead to, however many rounds of numbers further on,
+/// where they lie within half of the count.
 pub fn records_from(
     alloc: Global,
     device: &mut Device,
@@ -53,11 +55,13 @@ pub fn records_from(
     steps: u32,
 ) -> Option<Outcome>
     ensures is_some { IsSome result ↔ (0 < s) × (log.kind ≡ 20) }
-    ensures delivers { IfSome result (λ outcome. IsThere device.old log.instance →
+    ensures delivers { IfSome result (λ outcome. (rounds k low : ℕ) → IsThere device.old log.instance → s ≡ number k →
+        AreInWindow low (placed_all rounds (moments_ahead device.old log.instance events.now)) → low ≤ k → k < low + 2147483648 →
         (count : ℕ) × (t : ℕ) × (outcome.next ≡ number t)
-        × DeliversTo (history_ahead device.old log.instance events.now) s outcome.items.items t
-        (moments_ahead device.old log.instance events.now) count) }
+        × DeliversTo (history_ahead rounds device.old log.instance events.now) k outcome.items.items t
+        (placed_all rounds (moments_ahead device.old log.instance events.now)) count) }
 {
+    windows_are_near();
     let Some(mut walk) = Walk::from_number(log, s) else {
         return None;
     };
@@ -67,7 +71,8 @@ pub fn records_from(
 }
 
 /// Where nothing happens at a device, more steps than its log has records bring all that the log
-/// holds from number s on, unless memory runs out, and leave the device as it was.
+/// holds from the ordinal of number s on which is near, unless memory runs out, and leave the device
+/// as it was.
 pub fn all_records_from(
     alloc: Global,
     device: &mut Device,
@@ -76,9 +81,9 @@ pub fn all_records_from(
     steps: u32,
 ) -> Option<Outcome>
     ensures is_some { IsSome result ↔ (0 < s) × (log.kind ≡ 20) }
-    ensures records { IfSome result (λ outcome. IsThere device.old log.instance →
-        length (log_with device.old log.instance).entries < steps →
-        (outcome.why ≡ why.Memory) ⊎ (outcome.items.items ≡ held_from (log_with device.old log.instance) s)) }
+    ensures records { IfSome result (λ outcome. (k : ℕ) → IsThere device.old log.instance → s ≡ number k →
+        IsNear k (moment_of (log_with device.old log.instance)) → length (log_with device.old log.instance).entries < steps →
+        (outcome.why ≡ why.Memory) ⊎ (outcome.items.items ≡ held_from (log_with device.old log.instance) k)) }
     // Without the log, the device says so.
     ensures missing { IfSome result (λ outcome. log_of device.old log.instance ≡ None →
         Misses steps s outcome.items.items outcome.next outcome.why) }
@@ -104,7 +109,7 @@ pub fn records_of_a_day(
     steps: u32,
 ) -> Option<Outcome>
     ensures { IfSome result (λ outcome. (count : ℕ) × (t : ℕ) × (outcome.next ≡ number t)
-        × DeliversTo (history_ahead (plant_of device.now name source) 1 day) 1 outcome.items.items t day_moments count) }
+        × DeliversTo (history_ahead 0 (plant_of device.now name source) 1 day) 1 outcome.items.items t day_moments count) }
 {
     let log = ObjectId::new(20, 1)?;
     let purge = Datagram::of(&PURGE)?;
