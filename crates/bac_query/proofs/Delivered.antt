@@ -15,6 +15,7 @@ use Rattle.bac_walk.specs.declared.outcome.Ended.{Ended}
 use Rattle.bac_walk.specs.declared.outcome.Why.{Why}
 use Rattle.bac_walk.specs.declared.outcome.Ended.TheVariants.{CaughtUp, StepLimit, Stopped, Fault}
 use Rattle.bac_walk.specs.declared.outcome.Why.TheVariants.{CaughtUp as WasUp}
+use Rattle.bac_walk.proofs.Near.{fewer_steps}
 use Rattle.bac_walk.proofs.Runs.{headline_of, join_run}
 use Rattle.bac_report.specs.Ends.{end_line}
 use Rattle.bac_query.specs.Fetching.{Delivers, Fetching, NextIs, PrintsEnd, PrintsItems}
@@ -101,11 +102,11 @@ more_lines items more text old mid new same first rest =
 
 -- ---- what was delivered
 
-pub delivered : (was is : ℕ → List Moment → History → Type 0) (retries old new : ℕ) (before after : Place) (n : ℕ) (ended : Ended) (items : List Item)
-    (result : Fetching) → IsRun was is retries old new before after n ended items → ((t : ℕ) → after.next ≡ number t → NextIs result t) →
-    Delivers was before items result
-delivered was is retries old new before after n ended items result run next = λ r M H s honest at.
-    let h = headline_of was is retries old new before after n ended items run r M H s honest at in (h.0, h.1, h.2, h.3, next h.2 h.4, h.5)
+pub delivered : (was is : ℕ → List Moment → History → Type 0) (retries old new : ℕ) (before after : Place) (n steps : ℕ) (ended : Ended) (items : List Item)
+    (result : Fetching) → n ≤ steps → IsRun was is retries old new before after n ended items → ((t : ℕ) → after.next ≡ number t → NextIs result t) →
+    Delivers was before steps items result
+delivered was is retries old new before after n steps ended items result le run next = λ r M H s honest at near.
+    let h = headline_of was is retries old new before after n ended items run r M H s honest at (fewer_steps r H M before.fresh s n steps le near) in (h.0, h.1, h.2, h.3, next h.2 h.4, h.5)
 
 -- the number that was printed is the walk's
 pub next_is : (why : Why) (next : ℕ) (after : ℕ) (result : Fetching) (old new : Held) → next ≡ after → PrintsEnd why next result old new →

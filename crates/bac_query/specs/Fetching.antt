@@ -6,6 +6,7 @@ use Rattle.bac_link.specs.Delivery.{History, Moment, DeliversTo}
 use Rattle.bac_link.specs.declared.item.Item.{Item}
 use Rattle.bac_report.specs.Ends.{end_line}
 use Rattle.bac_report.specs.Items.{items_text}
+use Rattle.bac_walk.specs.Near.{StaysNear}
 use Rattle.bac_walk.specs.Place.{Place}
 use Rattle.bac_walk.specs.declared.outcome.Why.{Why}
 use Rattle.bac_print.specs.Output.{AppendsPart}
@@ -37,9 +38,9 @@ abbrev pub NextIs : Fetching → ℕ → Type 0
 NextIs (Ok fetched) t = fetched.next ≡ number t
 NextIs (Err fault) t = Unit {0}
 
--- over an honest link the items are the records that the log holds when each is reached, from the walk's place up to
--- the number that comes next
-abbrev pub Delivers : (ℕ → List Moment → History → Type 0) → Place → List Item → Fetching → Type 0
-Delivers was walk items result =
-    (r : ℕ) (M : List Moment) (H : History) (s : ℕ) → was r M H → walk.next ≡ number s →
+-- over an honest link the items of so many steps are the records that the log holds when each is reached, from the
+-- walk's place up to the number that comes next
+abbrev pub Delivers : (ℕ → List Moment → History → Type 0) → Place → ℕ → List Item → Fetching → Type 0
+Delivers was walk steps items result =
+    (r : ℕ) (M : List Moment) (H : History) (s : ℕ) → was r M H → walk.next ≡ number s → StaysNear r H M walk.fresh s steps →
     (b : ℕ) × (a : ℕ) × (t : ℕ) × (walk.fresh ≡ false → b ≡ s) × NextIs result t × DeliversTo H b items t M a

@@ -40,7 +40,7 @@ pub fn fetch_log<L: LogLink, W: Write>(
 ) -> Result<Fetched, QueryFault>
     // What is printed are the lines of items; over an honest link these are what the log holds.
     ensures { (items : List Item) × PrintsItems items result (W.contents out.old) (W.contents out.new)
-        × Delivers (λ r M H. L.is_honest link.old walk.log r M H) walk items result }
+        × Delivers (λ r M H. L.is_honest link.old walk.log r M H) walk steps items result }
 {
     let mut lines = Lines {
         text: Vec::new(alloc),

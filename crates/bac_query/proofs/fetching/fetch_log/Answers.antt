@@ -24,7 +24,7 @@ returns-in-Stopped g c =
     let is : ℕ → List Moment → History → Type 0 = λ r M H. g.L.LogLink.is_honest c.loop-done.link c.args.walk.log r M H in (
       v.0,
       ended_by v.0 why.Memory c.next_number-before.result c.end.result _ _ _ v.4 c.end.ensures,
-      delivered was is _ _ _ c.args.walk c.loop-done.walk _ StepLimit v.0 c.end.result v.5
+      delivered was is _ _ _ c.args.walk c.loop-done.walk c.loop-done.done c.args.steps StepLimit v.0 c.end.result (omega arith) v.5
           (next_is why.Memory c.next_number-before.result c.loop-done.walk.next c.end.result _ _ c.next_number-before.ensures.next c.end.ensures),
     )
 
@@ -44,7 +44,7 @@ returns-in_err-print g c =
     let Q : Fetching → Type 0 = λ r. (t : ℕ) → c.deliver_lines.new.walk.next ≡ number t → NextIs r t in (
       v.0 ++ step.0,
       subst P (sym e) (refused_by v.0 step.0 c.deref.result.now c.in_err-print.field-0.0 _ _ _ same v.4 c.in_err-print.ensures),
-      delivered (was c.args.walk.log) (is c.args.walk.log) _ _ _ c.args.walk c.deliver_lines.new.walk _ c.deliver_lines.result (v.0 ++ step.0) c.from_residual.result run
+      delivered (was c.args.walk.log) (is c.args.walk.log) _ _ _ c.args.walk c.deliver_lines.new.walk (c.loop-done.done + 1) c.args.steps c.deliver_lines.result (v.0 ++ step.0) c.from_residual.result (omega arith) run
           (subst Q (sym e) (λ t at. tt)),
     )
 
@@ -62,7 +62,7 @@ returns-in-Some g c =
     let written = more_lines v.0 step.0 c.deref.result.now _ _ _ same v.4 c.in_ok-print.ensures in (
       v.0 ++ step.0,
       ended_by (v.0 ++ step.0) c.in-Some.why c.next_number.result c.end-in-Some.result _ _ _ written c.end-in-Some.ensures,
-      delivered (was c.args.walk.log) (is c.args.walk.log) _ _ _ c.args.walk c.deliver_lines.new.walk _ c.deliver_lines.result (v.0 ++ step.0) c.end-in-Some.result run
+      delivered (was c.args.walk.log) (is c.args.walk.log) _ _ _ c.args.walk c.deliver_lines.new.walk (c.loop-done.done + 1) c.args.steps c.deliver_lines.result (v.0 ++ step.0) c.end-in-Some.result (omega arith) run
           (next_is c.in-Some.why c.next_number.result c.deliver_lines.new.walk.next c.end-in-Some.result _ _ c.next_number.ensures.next c.end-in-Some.ensures),
     )
 
@@ -95,6 +95,6 @@ returns g c =
     let is : ℕ → List Moment → History → Type 0 = λ r M H. g.L.LogLink.is_honest c.loop-done.link c.args.walk.log r M H in (
       v.0,
       ended_by v.0 why.StepLimit c.next_number-2.result c.end-2.result _ _ _ v.4 c.end-2.ensures,
-      delivered was is _ _ _ c.args.walk c.loop-done.walk _ StepLimit v.0 c.end-2.result v.5
+      delivered was is _ _ _ c.args.walk c.loop-done.walk c.loop-done.done c.args.steps StepLimit v.0 c.end-2.result (omega arith) v.5
           (next_is why.StepLimit c.next_number-2.result c.loop-done.walk.next c.end-2.result _ _ c.next_number-2.ensures.next c.end-2.ensures),
     )
