@@ -301,10 +301,7 @@ const OBJECTS: [(&[u8], Option<BuildFault>); 24] = [
         b"log 1 trend binary 1 3 99 0\n",
         Some(BuildFault::BadInterval),
     ),
-    (
-        b"log 1 trend binary 1 3 0 4294967295\n",
-        Some(BuildFault::BadLogged),
-    ),
+    (b"log 1 trend binary 1 3 0 4294967295\n", None),
     (
         b"log 1 trend binary 1 0 99 4294967295\n",
         Some(BuildFault::BadCapacity),
@@ -452,10 +449,6 @@ fn faults_have_their_texts(rt: HostRuntime) -> Result<(), Fail> {
         (
             ReplayFault::Build(BuildFault::BadInterval),
             "cannot build: bad interval",
-        ),
-        (
-            ReplayFault::Build(BuildFault::BadLogged),
-            "cannot build: bad logged count",
         ),
         (
             ReplayFault::Build(BuildFault::BadReplySize),

@@ -4,7 +4,7 @@ use crate::replay::{DEVICE, plays};
 use bac_tools::ReplayFault;
 use std::test::Fail;
 
-/// Trend Log 2 samples Binary Value 1 each second, and has three sequence numbers left.
+/// Trend Log 2 samples Binary Value 1 each second; four sequence numbers are left before 1 comes again.
 const LOG: &[u8] = b"binary 1 pump 0\nlog 2 trend binary 1 3 100 4294967291\n";
 
 #[test]
@@ -22,7 +22,7 @@ fn samples_are_numbered(rt: HostRuntime) -> Result<(), Fail> {
         &[
             b"number 4294967292\nrefused: no such log\nrefused: no such log\n",
             b"sampled 0\nsampled 1\n",
-            b"number 4294967294\nrefused: cycle full\nsampled 0\n",
+            b"number 4294967294\nnumber 4294967295\nsampled 1\n",
         ],
         Ok(()),
     )?;
@@ -122,6 +122,72 @@ fn a_walk_tells_what_was_purged(rt: HostRuntime) -> Result<(), Fail> {
     )
 }
 
+/// Binary Value 1, and Trend Log 1 of it with room for five records, which has two numbers left before 1.
+const ROUND: &[u8] = b"binary 1 pump 0\nlog 1 trend binary 1 5 0 4294967293\n";
+
+#[test]
+fn a_walk_goes_round_the_count(rt: HostRuntime) -> Result<(), Fail> {
+    plays(
+        &rt,
+        rt.alloc(),
+        &[
+            DEVICE,
+            ROUND,
+            b"sample 1\nsample 1\nsample 1\nsample 1\n",
+            b"walk 1 4294967294 10\nwalk 1 1 10\nwalk 1 oldest 1\n",
+        ],
+        &[
+            b"number 4294967294\nnumber 4294967295\nnumber 1\nnumber 2\n",
+            b"4294967294 2024-05-06T07:08:09.10 enum(0) 0000\n",
+            b"4294967295 2024-05-06T07:08:09.10 enum(0) 0000\n",
+            b"1 2024-05-06T07:08:09.10 enum(0) 0000\n",
+            b"2 2024-05-06T07:08:09.10 enum(0) 0000\n",
+            b"caught up, next 3\n",
+            b"1 2024-05-06T07:08:09.10 enum(0) 0000\n",
+            b"2 2024-05-06T07:08:09.10 enum(0) 0000\n",
+            b"caught up, next 3\n",
+            b"4294967294 2024-05-06T07:08:09.10 enum(0) 0000\n",
+            b"4294967295 2024-05-06T07:08:09.10 enum(0) 0000\n",
+            b"1 2024-05-06T07:08:09.10 enum(0) 0000\n",
+            b"2 2024-05-06T07:08:09.10 enum(0) 0000\n",
+            b"step limit, next 3\n",
+        ],
+        Ok(()),
+    )
+}
+
+/// The same log with room for two records and one number left, and its records up to number 1, three
+/// of them at most.
+const TWO: &[u8] = b"binary 1 pump 0\nlog 1 trend binary 1 2 0 4294967294\n";
+
+const UP_TO_1: &[u8] = b"rx 810a001701040005011a0c0500000119836e210131fd6f\n";
+
+#[test]
+fn a_gap_goes_round_the_count(rt: HostRuntime) -> Result<(), Fail> {
+    plays(
+        &rt,
+        rt.alloc(),
+        &[
+            DEVICE,
+            TWO,
+            b"sample 1\nsample 1\nsample 1\nwalk 1 4294967294 10\n",
+            UP_TO_1,
+            b"walk 1 4294967200 1\n",
+        ],
+        &[
+            b"number 4294967295\nnumber 1\nnumber 2\n",
+            b"gap 4294967294 4294967295\n1 2024-05-06T07:08:09.10 enum(0) 0000\n",
+            b"2 2024-05-06T07:08:09.10 enum(0) 0000\ncaught up, next 3\n",
+            b"tx 810a002c010030011a0c0500000119833a058049015e",
+            b"0ea47c050601b4070809",
+            b"0a0f1e39001f2a04005f6901\n",
+            b"gap 4294967200 4294967295\n1 2024-05-06T07:08:09.10 enum(0) 0000\n",
+            b"2 2024-05-06T07:08:09.10 enum(0) 0000\nstep limit, next 3\n",
+        ],
+        Ok(()),
+    )
+}
+
 #[test]
 fn walks_end_without_records(rt: HostRuntime) -> Result<(), Fail> {
     plays(
@@ -132,12 +198,12 @@ fn walks_end_without_records(rt: HostRuntime) -> Result<(), Fail> {
             FIVE,
             FIVE_SAMPLES,
             b"walk 1 100 10\nwalk 1 0 10\nwalk 2 1 10\nwalk 2 oldest 10\n",
-            b"walk 1 1 0\nwalk 1 4294967295 1\n",
+            b"walk 1 1 0\n",
         ],
         &[
             FIVE_NUMBERS,
             b"caught up, next 100\nno walk\nrefused: error 1 31, next 1\n",
-            b"refused: error 1 31, next 1\nstep limit, next 1\ncaught up, next 4294967295\n",
+            b"refused: error 1 31, next 1\nstep limit, next 1\n",
         ],
         Ok(()),
     )

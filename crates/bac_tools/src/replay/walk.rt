@@ -1,10 +1,11 @@
 //! What a walk of a trend log prints.
 
-ghost use Rattle.std.specs.Prelude.{◌≡◌, [], ◌∷◌, ℕ, IfOk};
+ghost use Rattle.std.specs.Prelude.{◌≡◌, [], ◌∷◌, ℕ, false, IfOk};
 ghost use Rattle.bac_log.specs.TrendLog.{number};
 ghost use Rattle.bac_link.specs.Delivery.{History, Moment};
+ghost use Rattle.bac_walk.specs.Near.{IsNear};
 ghost use Rattle.bac_walk.specs.Rests.{rest};
-ghost use Rattle.bac_tools.specs.Walk.{missed, outcome_text, rested_text, start_of, walk_text};
+ghost use Rattle.bac_tools.specs.Walk.{missed_text, outcome_text, rested_text, start_of, walk_text};
 
 use crate::script::line::WalkWords;
 use bac_client::{DirectLink, LogLink, Outcome, Transactions, Walk, Why, collect};
@@ -33,9 +34,10 @@ fn walk_over<L: LogLink>(
 ) -> Result<Vec<u8>, AllocError>
     ensures rests { (r : ℕ) (m : Moment) (H : History) (s : ℕ) →
         L.is_sure link.old → L.is_honest link.old walk.old.log r (m ∷ []) H → walk.old.next ≡ number s →
+        (walk.old.fresh ≡ false → IsNear s m) →
         IfOk result (λ text. text.items ≡ rested_text (rest r H m walk.old.fresh s steps)) }
     ensures missing { L.lacks link.old walk.old.log → L.is_sure link.old →
-        IfOk result (λ text. text.items ≡ rested_text (missed walk.old.next steps)) }
+        IfOk result (λ text. text.items ≡ missed_text walk.old.next steps) }
     ensures kept { L.is_sure link.old → L.keeps link.old link.new }
 {
     let outcome = collect(alloc, link, transactions, walk, steps);
@@ -71,6 +73,8 @@ pub(crate) fn print_walk(
         text.extend_from_slice(b"no walk\n")?;
         return Ok(text);
     };
+    // It is a number.
+    let _next = walk.next_number();
     let mut link = DirectLink::new(&mut *device, &[]);
     walk_over(alloc, &mut link, transactions, &mut walk, steps)
 }
