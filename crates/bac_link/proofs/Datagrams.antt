@@ -2,12 +2,16 @@
 use Rattle.std.proofs.Common.{◌≡◌, ℕ, ◌+◌, ◌<◌, ◌≤◌, true, false, List, [], ◌∷◌, ◌++◌, length, Option, Some, None, refl, ap, arith, inr}
 use Rattle.std.proofs.lemmas.Bool.{eq-eqb}
 use Rattle.std.proofs.lemmas.List.{length-append}
-use Rattle.bac_apdu.specs.Apdu.{Apdu, Confirmed, Complex, Error, apdu_octets}
+use Rattle.std.specs.Str.{bytes_eq}
+use Rattle.std.proofs.lemmas.Slice.Eq.{bytes_eq-Decides}
+use Rattle.bac_apdu.specs.Apdu.{Apdu, Confirmed, Complex, Error, IsApdu, apdu_at, apdu_octets}
 use Rattle.bac_apdu.specs.Frame.{frame_octets}
-use Rattle.bac_apdu.specs.Npdu.{Header, header_octets, place_octets, IsHeader}
+use Rattle.bac_apdu.specs.Npdu.{Header, Place, control_of, header_octets, hops_octets, place_octets, HasHops, IsHeader, IsPlace}
+use Rattle.bac_apdu.specs.Route.{IsWay}
 use Rattle.bac_apdu.proofs.Heads.{frame_again, header_again, message_again}
-use Rattle.bac_link.specs.Datagrams.{is_local, apdu_octets_in, apdu_in, asked_id, answer_in, same_id, answers_to}
-use Rattle.bac_link.specs.Requests.{asking, service_of, parameters_of, request_apdu, request_octets}
+use Rattle.bac_link.specs.Datagrams.{carried_in, message_in, path_in, apdu_in, asked_id, answer_in, same_id, same_path, answers_to}
+use Rattle.bac_link.specs.Path.{Path, AreWays, back, path_of, same_place, towards}
+use Rattle.bac_link.specs.Requests.{asking, hops_to, service_of, parameters_of, request_apdu, request_octets}
 use Rattle.bac_link.specs.Transactions.{is_awaited}
 use Rattle.bac_link.specs.declared.request.Request.{Request}
 use Rattle.bac_link.specs.declared.transactions.Pending.{Pending}
@@ -16,44 +20,110 @@ length-frame_octets : (body : List ℕ) → length (frame_octets body) ≡ 4 + l
 unfolding frame_octets
 length-frame_octets body = omega arith
 
-asking_is : header_octets asking ≡ 1 ∷ 4 ∷ []
-unfolding place_octets
-asking_is = refl
+-- ---- how long a header is
 
-length-asking : length (header_octets asking) ≡ 2
-length-asking = ap (λ (l : List ℕ). length l) asking_is
+pub length-place : (place : Option Place) → IsWay place → length (place_octets place) ≤ 18
+unfolding place_octets
+length-place None way = omega arith
+length-place (Some place) way = omega (arith, way.3)
+
+pub length-hops : (place : Option Place) (hops : ℕ) → length (hops_octets place hops) ≤ 1
+length-hops None hops = omega arith
+length-hops (Some place) hops = omega arith
+
+pub length-asking : (path : Path) → AreWays path → length (header_octets (asking path)) ≤ 39
+length-asking path ways =
+    let h : Header = asking path in
+    omega (
+      arith,
+      length-place path.dest ways.0,
+      length-place path.source ways.1,
+      length-hops path.dest h.hops,
+      length-append (1 ∷ control_of h ∷ []) (place_octets path.dest ++ (place_octets path.source ++ hops_octets path.dest h.hops)),
+      length-append (place_octets path.dest) (place_octets path.source ++ hops_octets path.dest h.hops),
+      length-append (place_octets path.source) (hops_octets path.dest h.hops),
+    )
+
+pub none_long : length (place_octets None) ≡ 0
+unfolding place_octets
+none_long = refl
+
+-- to a place, and from this network
+abbrev to_place : Option Place → ℕ → Header
+to_place place hops = record { network = false; reply = true; priority = 0; dest = place; source = None; hops = hops }
+
+length-to_place : (place : Option Place) (hops : ℕ) → IsWay place → length (header_octets (to_place place hops)) ≤ 21
+length-to_place place hops way =
+    omega (
+      arith,
+      length-place place way,
+      none_long,
+      length-hops place hops,
+      length-append (1 ∷ control_of (to_place place hops) ∷ []) (place_octets place ++ (place_octets None ++ hops_octets place hops)),
+      length-append (place_octets place) (place_octets None ++ hops_octets place hops),
+      length-append (place_octets None) (hops_octets place hops),
+    )
 
 -- the frame of an APDU of 1476 octets fits
-pub frame_fits : (old apdu : List ℕ) → old ≡ [] → length apdu ≤ 1476 → 1501 < length old + length (frame_octets (header_octets asking ++ apdu)) → ⊥
-frame_fits old apdu none small large =
+pub frame_fits : (place : Option Place) (hops : ℕ) (old apdu : List ℕ) → IsWay place → old ≡ [] → length apdu ≤ 1476 → 1501 < length old + length (frame_octets (header_octets (to_place place hops) ++ apdu)) → ⊥
+frame_fits place hops old apdu way none small large =
+    let h : List ℕ = header_octets (to_place place hops) in
     let zero : length old ≡ 0 = ap (λ (l : List ℕ). length l) none in
-    omega (arith, length-frame_octets (header_octets asking ++ apdu), length-append (header_octets asking) apdu, length-asking, zero, large)
+    omega (arith, length-frame_octets (h ++ apdu), length-append h apdu, length-to_place place hops way, zero, large)
 
--- what stands in a frame to one device, behind a header that names no other network
-pub apdu_octets_again : (h : Header) (apdu : List ℕ) → IsHeader h → is_local h ≡ true → length (header_octets h ++ apdu) + 4 < 65536 → apdu_octets_in (frame_octets (header_octets h ++ apdu)) ≡ Some apdu
-unfolding apdu_octets_in
-apdu_octets_again h apdu valid here small = rw (frame_again (header_octets h ++ apdu) small, header_again h apdu valid, here) refl
+-- ---- what is read back
 
-asking_valid : IsHeader asking
-asking_valid = (omega arith, tt, tt, refl)
+-- what stands in a frame to one device, behind a header of no network message
+pub carried_again : (h : Header) (apdu : List ℕ) → IsHeader h → h.network ≡ false → length (header_octets h ++ apdu) + 4 < 65536 → carried_in (frame_octets (header_octets h ++ apdu)) ≡ Some (path_of h, apdu)
+unfolding carried_in
+carried_again h apdu valid here small = rw (frame_again (header_octets h ++ apdu) small, header_again h apdu valid, here) refl
+
+pub message_of : (h : Header) (apdu : List ℕ) (m : Apdu) → IsHeader h → h.network ≡ false → apdu_at apdu ≡ Some m → length (header_octets h ++ apdu) + 4 < 65536 → message_in (frame_octets (header_octets h ++ apdu)) ≡ Some (path_of h, m)
+unfolding message_in
+message_of h apdu m valid here is small = rw (carried_again h apdu valid here small, is) refl
+
+pub message_back : (h : Header) (m : Apdu) → IsHeader h → h.network ≡ false → IsApdu m → length (header_octets h ++ apdu_octets m) + 4 < 65536 → message_in (frame_octets (header_octets h ++ apdu_octets m)) ≡ Some (path_of h, m)
+message_back h m valid here is small = message_of h (apdu_octets m) m valid here (message_again m is) small
+
+pub place_valid : (place : Option Place) → IsWay place → IsPlace place
+place_valid None way = tt
+place_valid (Some place) way = (omega (arith, way.1), omega (arith, way.3))
+
+pub hops_valid : (place : Option Place) → HasHops place (hops_to place)
+hops_valid None = refl
+hops_valid (Some place) = tt
+
+pub asking_valid : (path : Path) → AreWays path → IsHeader (asking path)
+asking_valid path ways = (omega arith, place_valid path.dest ways.0, place_valid path.source ways.1, hops_valid path.dest)
 
 -- a request is read back
-pub request_again : (invoke : ℕ) (r : Request) → length (request_apdu invoke r) ≤ 1476 → apdu_in (request_octets invoke r) ≡ Some (Confirmed false 1476 invoke (service_of r) (parameters_of r))
-unfolding apdu_in request_octets request_apdu
-request_again invoke r small =
+pub request_again : (path : Path) (invoke : ℕ) (r : Request) → AreWays path → length (request_apdu invoke r) ≤ 1476 → message_in (request_octets path invoke r) ≡ Some (path, Confirmed false 1476 invoke (service_of r) (parameters_of r))
+unfolding request_octets request_apdu
+request_again path invoke r ways small =
     let m : Apdu = Confirmed false 1476 invoke (service_of r) (parameters_of r) in
-    let size : length (header_octets asking ++ apdu_octets m) + 4 < 65536 = omega (arith, length-append (header_octets asking) (apdu_octets m), length-asking, small) in
-    rw (apdu_octets_again asking (apdu_octets m) asking_valid refl size, message_again m (refl, inr (inr (inr (inr (inr refl)))))) refl
+    let size : length (header_octets (asking path) ++ apdu_octets m) + 4 < 65536 = omega (arith, length-append (header_octets (asking path)) (apdu_octets m), length-asking path ways, small) in
+    message_back (asking path) m (asking_valid path ways) refl (refl, inr (inr (inr (inr (inr refl))))) size
 
--- a ComplexACK with its invoke ID answers it
-pub ack_answers : (invoke : ℕ) (r : Request) (datagram : List ℕ) (service : ℕ) (parameters : List ℕ) → length (request_apdu invoke r) ≤ 1476 → apdu_in datagram ≡ Some (Complex false invoke service parameters) → answers_to (request_octets invoke r) datagram ≡ true
+-- ---- what answers it
+
+same_place_self : (place : Option Place) → same_place place place ≡ true
+same_place_self None = refl
+same_place_self (Some place) = rw (eq-eqb place.net place.net refl, bytes_self place.address) refl
+  where
+    bytes_self : (xs : List ℕ) → bytes_eq xs xs ≡ true
+    bytes_self xs = (bytes_eq-Decides xs xs).1 refl
+
+-- a ComplexACK with its invoke ID, from where it went, answers it
+pub ack_answers : (place : Option Place) (invoke : ℕ) (r : Request) (datagram : List ℕ) (service : ℕ) (parameters : List ℕ) → IsWay place → length (request_apdu invoke r) ≤ 1476 →
+    message_in datagram ≡ Some (back (towards place), Complex false invoke service parameters) → answers_to (request_octets (towards place) invoke r) datagram ≡ true
 unfolding answers_to
-ack_answers invoke r datagram service parameters small e = rw (request_again invoke r small, e) (eq-eqb invoke invoke refl)
+ack_answers place invoke r datagram service parameters way small e = rw (request_again (towards place) invoke r (way, tt) small, e) (rw (eq-eqb invoke invoke refl) (same_place_self place))
 
 -- and so does an Error with it
-pub error_answers : (invoke : ℕ) (r : Request) (datagram : List ℕ) (service class code : ℕ) → length (request_apdu invoke r) ≤ 1476 → apdu_in datagram ≡ Some (Error invoke service class code) → answers_to (request_octets invoke r) datagram ≡ true
+pub error_answers : (place : Option Place) (invoke : ℕ) (r : Request) (datagram : List ℕ) (service class code : ℕ) → IsWay place → length (request_apdu invoke r) ≤ 1476 →
+    message_in datagram ≡ Some (back (towards place), Error invoke service class code) → answers_to (request_octets (towards place) invoke r) datagram ≡ true
 unfolding answers_to
-error_answers invoke r datagram service class code small e = rw (request_again invoke r small, e) (eq-eqb invoke invoke refl)
+error_answers place invoke r datagram service class code way small e = rw (request_again (towards place) invoke r (way, tt) small, e) (rw (eq-eqb invoke invoke refl) (same_place_self place))
 
 same_none : (invoke : Option ℕ) → same_id invoke None ≡ false
 same_none None = refl
@@ -63,4 +133,4 @@ same_none (Some invoke) = refl
 pub not_awaited : (pending : Option Pending) (datagram : List ℕ) → None ≡ answer_in (apdu_in datagram) → is_awaited pending datagram ≡ false
 unfolding answers_to
 not_awaited None datagram e = refl
-not_awaited (Some p) datagram e = rw (← e) (same_none (asked_id (apdu_in p.request)))
+not_awaited (Some p) datagram e = rw (← e) (rw (same_none (asked_id (apdu_in p.request))) refl)

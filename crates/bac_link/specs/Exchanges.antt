@@ -14,6 +14,7 @@ use Rattle.bac_link.specs.declared.transactions.Transactions.{Transactions}
 use Rattle.bac_link.specs.Datagrams.{answers_to, apdu_in}
 use Rattle.bac_link.specs.Delivery.{History, Moment, now, later}
 use Rattle.bac_link.specs.Links.{IsReply, IsUnknown, RisesBy}
+use Rattle.bac_link.specs.Path.{Path}
 use Rattle.bac_link.specs.Requests.{has_result, request_octets, service_of}
 use Rattle.bac_link.specs.Transactions.{begun_with, closed}
 
@@ -29,17 +30,17 @@ verdict_of r (Some (apdu.Abort by_server invoke reason)) = Refused (refusal.Abor
 verdict_of r _ = BadReply
 
 -- a datagram that answers the request, and this is the verdict on it
-abbrev pub IsAnswer : ℕ → Request → Verdict → List ℕ → Type 0
-IsAnswer invoke r verdict datagram =
-    (answers_to (request_octets invoke r) datagram ≡ true) × (verdict_of r (apdu_in datagram) ≡ verdict)
+abbrev pub IsAnswer : Path → ℕ → Request → Verdict → List ℕ → Type 0
+IsAnswer path invoke r verdict datagram =
+    (answers_to (request_octets path invoke r) datagram ≡ true) × (verdict_of r (apdu_in datagram) ≡ verdict)
 
 -- what is returned is the verdict on a datagram that came and answers the request
-abbrev pub Concludes : ℕ → Request → Result (List ℕ) ExchangeFault → Type 0
-Concludes invoke r (Ok datagram) = IsAnswer invoke r Ack datagram
-Concludes invoke r (Err (fault.Refused refusal)) = (datagram : List ℕ) × IsAnswer invoke r (Refused refusal) datagram
-Concludes invoke r (Err fault.BadReply) = (datagram : List ℕ) × IsAnswer invoke r BadReply datagram
-Concludes invoke r (Err fault.Lost) = Unit {0}
-Concludes invoke r (Err fault.TooLong) = Unit {0}
+abbrev pub Concludes : Path → ℕ → Request → Result (List ℕ) ExchangeFault → Type 0
+Concludes path invoke r (Ok datagram) = IsAnswer path invoke r Ack datagram
+Concludes path invoke r (Err (fault.Refused refusal)) = (datagram : List ℕ) × IsAnswer path invoke r (Refused refusal) datagram
+Concludes path invoke r (Err fault.BadReply) = (datagram : List ℕ) × IsAnswer path invoke r BadReply datagram
+Concludes path invoke r (Err fault.Lost) = Unit {0}
+Concludes path invoke r (Err fault.TooLong) = Unit {0}
 
 -- one more transaction was begun, and nothing is open; where the request doesn't fit, nothing changes
 abbrev pub Leaves : Request → Transactions → Result (List ℕ) ExchangeFault → Transactions → Type 0
@@ -52,13 +53,13 @@ Leaves r old (Ok datagram) new = new ≡ closed (begun_with r old)
 -- ---- over an honest link
 
 -- the reply of the next moment, or Lost where the count of failures rose by more than the retries, and nothing else
-abbrev pub IsExchanged : (List Moment → Type 0) → ℕ → List Moment → History → Id → Extent → ℕ → ℕ → ℕ → Result (List ℕ) ExchangeFault → Type 0
-IsExchanged stays r M H id extent retries old new (Ok datagram) =
-    ((invoke : ℕ) × IsReply r (now M) H id extent invoke datagram) × stays (later M)
-IsExchanged stays r M H id extent retries old new (Err fault.Lost) = RisesBy (retries + 1) old new × stays M
-IsExchanged stays r M H id extent retries old new (Err (fault.Refused refusal)) = ⊥
-IsExchanged stays r M H id extent retries old new (Err fault.BadReply) = ⊥
-IsExchanged stays r M H id extent retries old new (Err fault.TooLong) = ⊥
+abbrev pub IsExchanged : (List Moment → Type 0) → ℕ → List Moment → History → Id → Extent → Path → ℕ → ℕ → ℕ → Result (List ℕ) ExchangeFault → Type 0
+IsExchanged stays r M H id extent path retries old new (Ok datagram) =
+    ((invoke : ℕ) × IsReply r (now M) H id extent path invoke datagram) × stays (later M)
+IsExchanged stays r M H id extent path retries old new (Err fault.Lost) = RisesBy (retries + 1) old new × stays M
+IsExchanged stays r M H id extent path retries old new (Err (fault.Refused refusal)) = ⊥
+IsExchanged stays r M H id extent path retries old new (Err fault.BadReply) = ⊥
+IsExchanged stays r M H id extent path retries old new (Err fault.TooLong) = ⊥
 
 -- over a link that lacks the log: it is refused as unknown, or Lost likewise
 abbrev pub IsExchangedOfNone : ℕ → ℕ → ℕ → Result (List ℕ) ExchangeFault → Type 0
@@ -81,11 +82,11 @@ IsNotLost (Err fault.TooLong) = Unit {0}
 -- ---- one try
 
 -- over an honest link: the reply of the next moment, or a failure
-abbrev pub IsHeard : (List Moment → Type 0) → ℕ → List Moment → History → Id → Extent → ℕ → ℕ → ℕ → Option (List ℕ) → Type 0
-IsHeard stays r M H id extent invoke old new (Some datagram) = IsReply r (now M) H id extent invoke datagram × stays (later M)
-IsHeard stays r M H id extent invoke old new None = RisesBy 1 old new × stays M
+abbrev pub IsHeard : (List Moment → Type 0) → ℕ → List Moment → History → Id → Extent → Path → ℕ → ℕ → ℕ → Option (List ℕ) → Type 0
+IsHeard stays r M H id extent path invoke old new (Some datagram) = IsReply r (now M) H id extent path invoke datagram × stays (later M)
+IsHeard stays r M H id extent path invoke old new None = RisesBy 1 old new × stays M
 
 -- over a link that lacks the log
-abbrev pub IsHeardOfNone : ℕ → ℕ → ℕ → Option (List ℕ) → Type 0
-IsHeardOfNone invoke old new (Some datagram) = IsUnknown invoke datagram
-IsHeardOfNone invoke old new None = RisesBy 1 old new
+abbrev pub IsHeardOfNone : Path → ℕ → ℕ → ℕ → Option (List ℕ) → Type 0
+IsHeardOfNone path invoke old new (Some datagram) = IsUnknown path invoke datagram
+IsHeardOfNone path invoke old new None = RisesBy 1 old new

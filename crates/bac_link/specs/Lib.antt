@@ -1,4 +1,5 @@
 pub mod Answer
+pub mod Path
 pub mod Datagrams
 pub mod Requests
 pub mod Transactions

@@ -12,9 +12,10 @@ use Rattle.bac_log.specs.TrendLog.{Log}
 use Rattle.bac_link.specs.declared.link.Lost.{Lost}
 use Rattle.bac_link.specs.declared.request.Request.{Request}
 use Rattle.bac_link.specs.declared.request.Request.TheVariants as request
-use Rattle.bac_link.specs.Datagrams.{apdu_in}
+use Rattle.bac_link.specs.Datagrams.{message_in}
 use Rattle.bac_link.specs.Delivery.{History, Moment, now, later}
 use Rattle.bac_link.specs.Moments.{log_at}
+use Rattle.bac_link.specs.Path.{Path, AreWays, back}
 use Rattle.bac_link.specs.Requests.{request_octets}
 
 -- ---- questions
@@ -26,9 +27,10 @@ question log extent = request.ReadRange (record { object = log; property = log_b
 abbrev pub AsksFor : Id → Extent → Request → Type 0
 AsksFor log extent r = (r ≡ question log extent) × IsExtent extent × IsValid (Object log)
 
--- the same as the datagram that `begin` gives
-abbrev pub IsQuestion : Id → Extent → ℕ → List ℕ → Type 0
-IsQuestion log extent invoke octets = (octets ≡ request_octets invoke (question log extent)) × IsExtent extent × IsValid (Object log)
+-- The same as the datagram that `begin` gives; or as a router hands it on, with the place that it is from.
+abbrev pub IsQuestion : Id → Extent → Path → ℕ → List ℕ → Type 0
+IsQuestion log extent path invoke octets =
+    (octets ≡ request_octets path invoke (question log extent)) × IsExtent extent × IsValid (Object log) × AreWays path
 
 -- ---- replies
 
@@ -38,19 +40,19 @@ reply_parameters id log extent limit =
     let records = packed extent limit (selected log extent) in
     ack_parameters id (answer_of log extent limit).flags (first_shown extent records) (entries_in records)
 
--- that ACK, in a datagram to one device that names no other network
-abbrev pub HasReply : ℕ → Log → Id → Extent → ℕ → List ℕ → Type 0
-HasReply r log id extent invoke datagram =
-    apdu_in datagram ≡ Some (Complex false invoke read_range_service (reply_parameters id log extent r))
+-- that ACK, in a datagram to one device that goes back the way the question came
+abbrev pub HasReply : ℕ → Log → Id → Extent → Path → ℕ → List ℕ → Type 0
+HasReply r log id extent path invoke datagram =
+    message_in datagram ≡ Some (back path, Complex false invoke read_range_service (reply_parameters id log extent r))
 
 -- the reply of the log at a moment, whose entries are loggable
-abbrev pub IsReply : ℕ → Moment → History → Id → Extent → ℕ → List ℕ → Type 0
-IsReply r m H id extent invoke datagram =
-    All IsLoggable (log_at m H).entries × HasReply r (log_at m H) id extent invoke datagram
+abbrev pub IsReply : ℕ → Moment → History → Id → Extent → Path → ℕ → List ℕ → Type 0
+IsReply r m H id extent path invoke datagram =
+    All IsLoggable (log_at m H).entries × HasReply r (log_at m H) id extent path invoke datagram
 
 -- the Error of a device that has no such log: class object, code unknown-object (clause 18)
-abbrev pub IsUnknown : ℕ → List ℕ → Type 0
-IsUnknown invoke datagram = apdu_in datagram ≡ Some (Error invoke read_range_service 1 31)
+abbrev pub IsUnknown : Path → ℕ → List ℕ → Type 0
+IsUnknown path invoke datagram = message_in datagram ≡ Some (back path, Error invoke read_range_service 1 31)
 
 -- ---- one ask
 
@@ -59,11 +61,11 @@ abbrev pub RisesBy : ℕ → ℕ → ℕ → Type 0
 RisesBy k old new = min (old + k) 18446744073709551615 ≤ new
 
 -- of an honest link: the reply of the next moment, which is then used up; a loss leaves the moments
-abbrev pub IsAsked : (List Moment → Type 0) → ℕ → List Moment → History → Id → Extent → ℕ → Result (List ℕ) Lost → Type 0
-IsAsked stays r M H id extent invoke (Ok datagram) = IsReply r (now M) H id extent invoke datagram × stays (later M)
-IsAsked stays r M H id extent invoke (Err lost) = stays M
+abbrev pub IsAsked : (List Moment → Type 0) → ℕ → List Moment → History → Id → Extent → Path → ℕ → Result (List ℕ) Lost → Type 0
+IsAsked stays r M H id extent path invoke (Ok datagram) = IsReply r (now M) H id extent path invoke datagram × stays (later M)
+IsAsked stays r M H id extent path invoke (Err lost) = stays M
 
 -- of a link that lacks the log
-abbrev pub IsAskedOfNone : ℕ → Result (List ℕ) Lost → Type 0
-IsAskedOfNone invoke (Ok datagram) = IsUnknown invoke datagram
-IsAskedOfNone invoke (Err lost) = Unit {0}
+abbrev pub IsAskedOfNone : Path → ℕ → Result (List ℕ) Lost → Type 0
+IsAskedOfNone path invoke (Ok datagram) = IsUnknown path invoke datagram
+IsAskedOfNone path invoke (Err lost) = Unit {0}

@@ -1,14 +1,15 @@
 -- Confirmed requests, and the datagrams that carry them.
-use Rattle.std.specs.Prelude.{ℕ, ◌+◌, ◌%◌, ◌<◌, Bool, true, false, List, ◌++◌, length, None}
+use Rattle.std.specs.Prelude.{ℕ, ◌+◌, ◌%◌, ◌<◌, Bool, true, false, List, ◌++◌, length, Option, Some, None}
 use Rattle.bac_wire.specs.View.{IsWellFormed}
 use Rattle.bac_apdu.specs.Apdu.{Confirmed, apdu_octets}
 use Rattle.bac_apdu.specs.FormCanon.{canon_form}
 use Rattle.bac_apdu.specs.Frame.{frame_octets}
-use Rattle.bac_apdu.specs.Npdu.{Header, header_octets}
+use Rattle.bac_apdu.specs.Npdu.{Header, Place, header_octets}
 use Rattle.bac_apdu.specs.Service.Choice.{read_property_service, write_property_service, read_range_service}
 use Rattle.bac_apdu.specs.Service.ReadProperty.{read_property, property_parameters}
 use Rattle.bac_apdu.specs.Service.WriteProperty.{write_property, write_parameters}
 use Rattle.bac_apdu.specs.Service.ReadRange.{read_range, range_parameters}
+use Rattle.bac_link.specs.Path.{Path}
 use Rattle.bac_link.specs.declared.request.Request.{Request}
 use Rattle.bac_link.specs.declared.request.Request.TheVariants as request
 
@@ -35,17 +36,23 @@ IsSendable (request.ReadProperty r) = Unit {0}
 IsSendable (request.WriteProperty w) = IsWellFormed w.value
 IsSendable (request.ReadRange r) = Unit {0}
 
--- a reply is expected, and no other network is named: 01 04
-abbrev pub asking : Header
-asking = record { network = false; reply = true; priority = 0; dest = None; source = None; hops = 0 }
+-- a message may pass so many routers, where it has another network to go to (6.2.3)
+abbrev pub hops_to : Option Place → ℕ
+hops_to None = 0
+hops_to (Some place) = 255
+
+-- a reply is expected: 01 04, or 01 24 with the place that it is for
+abbrev pub asking : Path → Header
+asking path =
+    record { network = false; reply = true; priority = 0; dest = path.dest; source = path.source; hops = hops_to path.dest }
 
 -- a Confirmed-Request that isn't segmented and takes an answer of 1476 octets
 unfoldable pub request_apdu : ℕ → Request → List ℕ
 request_apdu invoke r = apdu_octets (Confirmed false 1476 invoke (service_of r) (parameters_of r))
 
--- in a frame to one device
-unfoldable pub request_octets : ℕ → Request → List ℕ
-request_octets invoke r = frame_octets (header_octets asking ++ request_apdu invoke r)
+-- in a frame to one device, by other networks or by none
+unfoldable pub request_octets : Path → ℕ → Request → List ℕ
+request_octets path invoke r = frame_octets (header_octets (asking path) ++ request_apdu invoke r)
 
 -- the invoke ID after this one: after 255 comes 0
 abbrev pub next_invoke : ℕ → ℕ

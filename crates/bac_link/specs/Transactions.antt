@@ -10,6 +10,7 @@ use Rattle.bac_link.specs.declared.transactions.Received.TheVariants.{Done, Igno
 use Rattle.bac_link.specs.declared.request.Request.{Request}
 use Rattle.bac_link.specs.Answer.{Answer, answer_of}
 use Rattle.bac_link.specs.Datagrams.{answer_in, answers_to, apdu_in}
+use Rattle.bac_link.specs.Path.{towards}
 use Rattle.bac_link.specs.Requests.{request_octets, next_invoke}
 
 abbrev pub maybe_answer_of : Option (ℕ × AnswerCode) → Option (ℕ × Answer)
@@ -29,7 +30,7 @@ abbrev pub begun_with : Request → Transactions → Transactions
 begun_with r old = record old {
   invoke = next_invoke old.invoke;
   begun = bumped old.begun;
-  pending = Some (record { request = request_octets (next_invoke old.invoke) r; repeats = 0 });
+  pending = Some (record { request = request_octets (towards old.route) (next_invoke old.invoke) r; repeats = 0 });
 }
 
 -- the same octets once more, as long as repeats are left, or the end

@@ -1,12 +1,14 @@
 //! The exchange of a request for its answer, over any link.
 
-ghost use Rattle.std.specs.Prelude.{◌≡◌, ℕ, ◌≤◌, ◌↔◌, true, List, Err, IfSome, IsSome};
+ghost use Rattle.std.specs.Prelude.{◌≡◌, ℕ, ◌≤◌, ◌↔◌, true, List, Option, Err, IfSome, IsSome};
 ghost use Rattle.bac_wire.specs.Primitive.{Id};
 ghost use Rattle.bac_apdu.specs.declared.service.extent.Extent.{Extent as AnyExtent};
 ghost use Rattle.bac_link.specs.Datagrams.{answers_to, apdu_in};
 ghost use Rattle.bac_link.specs.Delivery.{History, Moment};
 ghost use Rattle.bac_link.specs.Exchanges.{verdict_of, Concludes, Leaves, IsExchanged, IsExchangedOfNone, IsNotLost, IsHeard, IsHeardOfNone};
 ghost use Rattle.bac_link.specs.Links.{AsksFor, IsQuestion};
+ghost use Rattle.bac_apdu.specs.Npdu.{Place};
+ghost use Rattle.bac_link.specs.Path.{Path, towards};
 ghost use Rattle.bac_link.specs.Requests.{next_invoke, IsSendable, IsTooLong};
 
 use crate::answer::{answers, read_datagram};
@@ -88,17 +90,17 @@ pub fn judge(request: &Request, datagram: &[u8]) -> Verdict
 fn heard<L: LogLink>(link: &mut L, request: &[u8]) -> Option<Datagram>
     ensures never_falls { L.failures link.old ≤ L.failures link.new }
     ensures answers { IfSome result (λ d. answers_to request.now d ≡ true) }
-    ensures honest { (id : Id) (r : ℕ) (M : List Moment) (H : History) (extent : AnyExtent) (invoke : ℕ) →
-        L.is_honest link.old id r M H → IsQuestion id extent invoke request.now →
-        IsHeard (λ N. L.is_honest link.new id r N H) r M H id extent invoke (L.failures link.old) (L.failures link.new) result
-        × (L.is_sure link.old → IsSome result) }
-    ensures lacking { (id : Id) (extent : AnyExtent) (invoke : ℕ) →
-        L.lacks link.old id → IsQuestion id extent invoke request.now →
-        IsHeardOfNone invoke (L.failures link.old) (L.failures link.new) result × L.lacks link.new id
-        × (L.is_sure link.old → IsSome result) }
-    ensures stays_sure { L.is_sure link.old → L.is_sure link.new }
-    ensures kept { (id : Id) (extent : AnyExtent) (invoke : ℕ) →
-        L.is_sure link.old → IsQuestion id extent invoke request.now → L.keeps link.old link.new }
+    ensures honest { (id : Id) (r : ℕ) (M : List Moment) (H : History) (extent : AnyExtent) (place : Option Place) (invoke : ℕ) →
+        L.is_honest link.old id r M H → IsQuestion id extent (towards place) invoke request.now →
+        IsHeard (λ N. L.is_honest link.new id r N H) r M H id extent (towards place) invoke (L.failures link.old) (L.failures link.new) result
+        × (L.is_sure link.old (towards place) → IsSome result) }
+    ensures lacking { (id : Id) (extent : AnyExtent) (place : Option Place) (invoke : ℕ) →
+        L.lacks link.old id → IsQuestion id extent (towards place) invoke request.now →
+        IsHeardOfNone (towards place) invoke (L.failures link.old) (L.failures link.new) result × L.lacks link.new id
+        × (L.is_sure link.old (towards place) → IsSome result) }
+    ensures stays_sure { (path : Path) → L.is_sure link.old path → L.is_sure link.new path }
+    ensures kept { (id : Id) (extent : AnyExtent) (place : Option Place) (invoke : ℕ) →
+        L.is_sure link.old (towards place) → IsQuestion id extent (towards place) invoke request.now → L.keeps link.old link.new }
 {
     match link.ask(request) {
         Ok(reply) => {
@@ -122,25 +124,25 @@ pub fn exchange<L: LogLink>(
 ) -> Result<Datagram, ExchangeFault>
     requires { IsSendable request.now }
     // What is returned is the verdict on a datagram that answers the request.
-    ensures answers { Concludes (next_invoke transactions.old.invoke) request.now result }
+    ensures answers { Concludes (towards transactions.old.route) (next_invoke transactions.old.invoke) request.now result }
     ensures too_long { (result ≡ Err ExchangeFault.TooLong) ↔ IsTooLong request.now }
     ensures leaves { Leaves request.now transactions.old result transactions.new }
     ensures never_falls { L.failures link.old ≤ L.failures link.new }
     // Over an honest link: the reply of the next moment, or Lost after more failures than retries.
     ensures honest { (id : Id) (r : ℕ) (M : List Moment) (H : History) (extent : AnyExtent) →
         L.is_honest link.old id r M H → AsksFor id extent request.now →
-        IsExchanged (λ N. L.is_honest link.new id r N H) r M H id extent
+        IsExchanged (λ N. L.is_honest link.new id r N H) r M H id extent (towards transactions.old.route)
         transactions.old.retries (L.failures link.old) (L.failures link.new) result
-        × (L.is_sure link.old → IsNotLost result) }
+        × (L.is_sure link.old (towards transactions.old.route) → IsNotLost result) }
     // Over a link without the log: the Error that says so, or Lost likewise.
     ensures lacking { (id : Id) (extent : AnyExtent) →
         L.lacks link.old id → AsksFor id extent request.now →
         IsExchangedOfNone transactions.old.retries (L.failures link.old) (L.failures link.new) result × L.lacks link.new id
-        × (L.is_sure link.old → IsNotLost result) }
-    ensures stays_sure { L.is_sure link.old → L.is_sure link.new }
+        × (L.is_sure link.old (towards transactions.old.route) → IsNotLost result) }
+    ensures stays_sure { (path : Path) → L.is_sure link.old path → L.is_sure link.new path }
     // A question changes nothing.
     ensures kept { (id : Id) (extent : AnyExtent) →
-        L.is_sure link.old → AsksFor id extent request.now → L.keeps link.old link.new }
+        L.is_sure link.old (towards transactions.old.route) → AsksFor id extent request.now → L.keeps link.old link.new }
 {
     let Ok(datagram) = transactions.begin(request) else {
         return Err(ExchangeFault::TooLong);

@@ -6,6 +6,7 @@ ghost use Rattle.bac_apdu.specs.declared.service.extent.Extent.{Extent as AnyExt
 ghost use Rattle.bac_link.specs.Delivery.{History, Moment};
 ghost use Rattle.bac_link.specs.Links.{IsAsked, IsAskedOfNone, IsQuestion, RisesBy};
 ghost use Rattle.bac_link.specs.Moments.{AreServed};
+ghost use Rattle.bac_link.specs.Path.{Path};
 
 use bac_wire::Datagram;
 
@@ -16,8 +17,8 @@ pub struct Lost;
 /// Carries a request to a device and brings its answer, or loses either.
 ///
 /// What a link must promise to be *honest* for a trend log: a question for the log's records (a
-/// ReadRange of its Log_Buffer, as [`Transactions::begin`](crate::Transactions::begin) gives it)
-/// is answered as that log answers it at some moment, with as many records as a reply of the link's
+/// ReadRange of its Log_Buffer, as [`Transactions::begin`](crate::Transactions::begin) gives it, or
+/// as a router hands it on) is answered as that log answers it at some moment, with as many records as a reply of the link's
 /// size holds, and the reply arrives unchanged; or it is lost, and the link counts a failure. The
 /// moments are those of one log that records and purges as it goes on, and never go back. Nothing
 /// is promised of other requests, of when an answer comes, or of how often one is lost.
@@ -35,8 +36,8 @@ pub trait LogLink {
     /// It knows no log of this identifier.
     ghost lacks: { Self → Id → Type 0 };
 
-    /// No question for a log's records is lost.
-    ghost is_sure: { Self → Type 0 };
+    /// No question for a log's records that goes by these networks is lost.
+    ghost is_sure: { Self → Path → Type 0 };
 
     /// What questions leave as it is, where none of them is lost: for a device in memory, the device.
     ghost keeps: { Self → Self → Type 0 };
@@ -45,17 +46,17 @@ pub trait LogLink {
     fn ask(&mut self, request: &[u8]) -> Result<Datagram, Lost>
         ensures never_falls { failures self.old ≤ failures self.new }
         ensures lost { OnErr result (RisesBy 1 (failures self.old) (failures self.new)) }
-        ensures honest { (id : Id) (r : ℕ) (M : List Moment) (H : History) (extent : AnyExtent) (invoke : ℕ) →
-            is_honest self.old id r M H → IsQuestion id extent invoke request.now →
-            IsAsked (λ N. is_honest self.new id r N H) r M H id extent invoke result }
-        ensures lacking { (id : Id) (extent : AnyExtent) (invoke : ℕ) →
-            lacks self.old id → IsQuestion id extent invoke request.now →
-            IsAskedOfNone invoke result × lacks self.new id }
-        ensures stays_sure { is_sure self.old → is_sure self.new }
-        ensures answered { (id : Id) (extent : AnyExtent) (invoke : ℕ) →
-            is_sure self.old → IsQuestion id extent invoke request.now → IsOk result }
-        ensures kept { (id : Id) (extent : AnyExtent) (invoke : ℕ) →
-            is_sure self.old → IsQuestion id extent invoke request.now → keeps self.old self.new };
+        ensures honest { (id : Id) (r : ℕ) (M : List Moment) (H : History) (extent : AnyExtent) (path : Path) (invoke : ℕ) →
+            is_honest self.old id r M H → IsQuestion id extent path invoke request.now →
+            IsAsked (λ N. is_honest self.new id r N H) r M H id extent path invoke result }
+        ensures lacking { (id : Id) (extent : AnyExtent) (path : Path) (invoke : ℕ) →
+            lacks self.old id → IsQuestion id extent path invoke request.now →
+            IsAskedOfNone path invoke result × lacks self.new id }
+        ensures stays_sure { (path : Path) → is_sure self.old path → is_sure self.new path }
+        ensures answered { (id : Id) (extent : AnyExtent) (path : Path) (invoke : ℕ) →
+            is_sure self.old path → IsQuestion id extent path invoke request.now → IsOk result }
+        ensures kept { (id : Id) (extent : AnyExtent) (path : Path) (invoke : ℕ) →
+            is_sure self.old path → IsQuestion id extent path invoke request.now → keeps self.old self.new };
 
     /// A reply has room for a record at least, and the moments are those of one log, whose history
     /// has their entries.

@@ -2,10 +2,13 @@
 
 ghost use Rattle.std.specs.Prelude.{◌≡◌, ◌≤◌, ◌↔◌, length, IfOk, IsErr};
 ghost use Rattle.bac_wire.specs.Datagram.{Writes};
-ghost use Rattle.bac_link.specs.Requests.{service_of, parameters_of, has_result as has_result_of, request_apdu, request_octets, IsSendable, IsTooLong};
+ghost use Rattle.bac_apdu.specs.Npdu.{maybe_place_of};
+ghost use Rattle.bac_apdu.specs.Route.{IsWay};
+ghost use Rattle.bac_link.specs.Path.{towards};
+ghost use Rattle.bac_link.specs.Requests.{service_of, parameters_of, has_result as has_result_of, hops_to, request_apdu, request_octets, IsSendable, IsTooLong};
 
 use bac_apdu::choice::{READ_PROPERTY, READ_RANGE, WRITE_PROPERTY};
-use bac_apdu::{Apdu, Npdu, ReadProperty, ReadRange, WriteProperty, write_apdu, write_datagram};
+use bac_apdu::{Apdu, Far, Npdu, ReadProperty, ReadRange, WriteProperty, write_apdu, write_datagram};
 use bac_wire::{Datagram, Full};
 
 /// The most octets that an APDU may have, which is also what a request says that it takes.
@@ -79,11 +82,30 @@ fn apdu_of(invoke: u8, request: &Request) -> Result<Datagram, Full>
     Ok(apdu)
 }
 
-/// The datagram that carries the request to one device.
+/// How many routers a request may pass (clause 6.2.3).
+const MOST_HOPS: u8 = 255;
+
+/// How many routers a request to a destination may pass.
+fn hops_to(dest: Option<Far>) -> u8
+    ensures { result ≡ hops_to (maybe_place_of dest.entry) }
+{
+    match dest {
+        Some(_) => MOST_HOPS,
+        None => 0,
+    }
+}
+
+/// The datagram that carries the request to one device: on this network, or at a place behind a
+/// router.
 #[tactic(auto, unfolding(crate::specs::Requests::request_octets, bac_apdu::specs::Frame::frame_octets))]
-pub(crate) fn datagram_of(invoke: u8, request: &Request) -> Result<Datagram, Full>
-    requires { IsSendable request.now }
-    ensures ok { IfOk result (λ d. d ≡ request_octets invoke request.now) }
+pub(crate) fn datagram_of(
+    invoke: u8,
+    dest: Option<Far>,
+    request: &Request,
+) -> Result<Datagram, Full>
+    requires sendable { IsSendable request.now }
+    requires way { IsWay (maybe_place_of dest) }
+    ensures ok { IfOk result (λ d. d ≡ request_octets (towards (maybe_place_of dest.entry)) invoke request.now) }
     ensures full { IsErr result ↔ IsTooLong request.now }
 {
     let apdu = apdu_of(invoke, request)?;
@@ -91,9 +113,9 @@ pub(crate) fn datagram_of(invoke: u8, request: &Request) -> Result<Datagram, Ful
         network: false,
         reply: true,
         priority: 0,
-        dest: None,
+        dest,
         source: None,
-        hops: 0,
+        hops: hops_to(dest),
     };
     let mut datagram = Datagram::new();
     match write_datagram(&mut datagram, &npdu, apdu.octets()) {

@@ -1,11 +1,15 @@
 //! One transaction at a time (clause 5.4.4).
 
-ghost use Rattle.std.specs.Prelude.{◌≡◌, ◌↔◌, None, IfOk, IsErr, OnErr};
+ghost use Rattle.std.specs.Prelude.{◌≡◌, ◌↔◌, Some, None, IfOk, IsErr, OnErr};
+ghost use Rattle.bac_apdu.specs.Npdu.{maybe_place_of};
+ghost use Rattle.bac_apdu.specs.Route.{IsWay};
+ghost use Rattle.bac_link.specs.Path.{towards};
 ghost use Rattle.bac_link.specs.Requests.{request_octets, next_invoke, IsSendable, IsTooLong};
 ghost use Rattle.bac_link.specs.Transactions.{begun_with, closed, is_awaited as is_awaited_by, Receives, TimesOut};
 
 use crate::answer::{Answer, answer_in, answers};
 use crate::request::{Request, datagram_of};
+use bac_apdu::{Far, Route};
 use bac_wire::{Datagram, Full};
 
 /// A request that waits for its answer.
@@ -39,6 +43,8 @@ pub enum Received<'a> {
 pub struct Transactions {
     /// How often a request is repeated.
     retries: u8,
+    /// The place that requests are for, where it is behind a router.
+    route: Option<Route>,
     /// The invoke ID of the last request.
     invoke: u8,
     /// How many requests were begun; at its greatest value it stays.
@@ -49,13 +55,34 @@ pub struct Transactions {
 impl Transactions {
     /// None begun, each to be repeated so many times.
     pub fn new(retries: u8) -> Transactions
-        ensures { result ≡ record { retries = retries; invoke = 0; begun = 0; pending = None } }
+        ensures { result ≡ record { retries = retries; route = None; invoke = 0; begun = 0; pending = None } }
     {
         Transactions {
             retries,
+            route: None,
             invoke: 0,
             begun: 0,
             pending: None,
+        }
+    }
+
+    /// The same with a device behind a router: each request has its place as DNET and DADR.
+    pub fn through(retries: u8, route: Route) -> Transactions
+        ensures { result ≡ record { retries = retries; route = Some route; invoke = 0; begun = 0; pending = None } }
+    {
+        let mut transactions = Transactions::new(retries);
+        transactions.route = Some(route);
+        transactions
+    }
+
+    /// The place that requests are for.
+    fn dest(&self) -> Option<Far>
+        ensures value { maybe_place_of result ≡ self.now.route }
+        ensures way { IsWay self.now.route }
+    {
+        match &self.route {
+            Some(route) => Some(route.far()),
+            None => None,
         }
     }
 
@@ -64,13 +91,14 @@ impl Transactions {
     /// then nothing changes.
     pub fn begin(&mut self, request: &Request) -> Result<Datagram, Full>
         requires { IsSendable request.now }
-        ensures datagram { IfOk result (λ d. d ≡ request_octets (next_invoke self.old.invoke) request.now) }
+        ensures datagram { IfOk result (λ d. d ≡ request_octets (towards self.old.route) (next_invoke self.old.invoke) request.now) }
+        ensures way { IsWay self.old.route }
         ensures opened { IfOk result (λ d. self.new ≡ begun_with request.now self.old) }
         ensures full { IsErr result ↔ IsTooLong request.now }
         ensures err { OnErr result (self.new ≡ self.old) }
     {
         let invoke = self.invoke.wrapping_add(1);
-        let datagram = datagram_of(invoke, request)?;
+        let datagram = datagram_of(invoke, self.dest(), request)?;
         self.invoke = invoke;
         self.begun = self.begun.saturating_add(1);
         self.pending = Some(Pending {

@@ -5,6 +5,7 @@ use Rattle.bac_link.specs.Requests.{request_octets, next_invoke, IsTooLong}
 use Rattle.bac_link.specs.Links.{IsQuestion}
 use Rattle.bac_link.specs.Delivery.{now}
 use Rattle.bac_link.specs.Moments.{log_at}
+use Rattle.bac_link.specs.Path.{towards}
 use Rattle.bac_link.proofs.Verdicts.{question_fits, honest_verdict, rises_more}
 use Rattle.bac_link.proofs.exchanges.exchange.Goals as goal
 
@@ -18,31 +19,35 @@ pub returns-in-Ack-clause-honest : goal.returns-in-Ack-clause-honest
 returns-in-Ack-clause-honest g c = λ id r M H extent h asks.
     let i = c.loop-tried.invariant.honest id r M H extent h asks in
     let n = next_invoke c.args.transactions.now.invoke in
-    let is : IsQuestion id extent n c.octets.result.now = (c.octets.ensures.value ∙ (c.in-Ok.ensures {u = tt}).datagram ∙ ap (request_octets n) asks.0, asks.1, asks.2) in
-    let a = (c.in-Some.ensures {u = tt}).honest id r M H extent n i.1 is in
+    let route = c.args.transactions.now.route in
+    let is : IsQuestion id extent (towards route) n c.octets.result.now = (c.octets.ensures.value ∙ (c.in-Ok.ensures {u = tt}).datagram ∙ ap (request_octets (towards route) n) asks.0, asks.1, asks.2, ((c.in-Ok.ensures {u = tt}).way, tt)) in
+    let a = (c.in-Some.ensures {u = tt}).honest id r M H extent route n i.1 is in
     (((n, a.0.0), a.0.1), λ sure. tt)
 
 pub returns-in-Refused-clause-honest : goal.returns-in-Refused-clause-honest
 returns-in-Refused-clause-honest g c = λ id r M H extent h asks.
     let i = c.loop-tried.invariant.honest id r M H extent h asks in
     let n = next_invoke c.args.transactions.now.invoke in
-    let is : IsQuestion id extent n c.octets.result.now = (c.octets.ensures.value ∙ (c.in-Ok.ensures {u = tt}).datagram ∙ ap (request_octets n) asks.0, asks.1, asks.2) in
-    let a = (c.in-Some.ensures {u = tt}).honest id r M H extent n i.1 is in
-    let v = honest_verdict r (log_at (now M) H) id extent n c.in-Some.reply a.0.0.1 in
+    let route = c.args.transactions.now.route in
+    let is : IsQuestion id extent (towards route) n c.octets.result.now = (c.octets.ensures.value ∙ (c.in-Ok.ensures {u = tt}).datagram ∙ ap (request_octets (towards route) n) asks.0, asks.1, asks.2, ((c.in-Ok.ensures {u = tt}).way, tt)) in
+    let a = (c.in-Some.ensures {u = tt}).honest id r M H extent route n i.1 is in
+    let v = honest_verdict r (log_at (now M) H) id extent (towards route) n c.in-Some.reply a.0.0.1 in
     absurd (cc (v, asks.0, c.octets-in-Some.ensures.value, c.in-Refused.ensures {u = tt}))
 
 pub returns-in-BadReply-clause-honest : goal.returns-in-BadReply-clause-honest
 returns-in-BadReply-clause-honest g c = λ id r M H extent h asks.
     let i = c.loop-tried.invariant.honest id r M H extent h asks in
     let n = next_invoke c.args.transactions.now.invoke in
-    let is : IsQuestion id extent n c.octets.result.now = (c.octets.ensures.value ∙ (c.in-Ok.ensures {u = tt}).datagram ∙ ap (request_octets n) asks.0, asks.1, asks.2) in
-    let a = (c.in-Some.ensures {u = tt}).honest id r M H extent n i.1 is in
-    let v = honest_verdict r (log_at (now M) H) id extent n c.in-Some.reply a.0.0.1 in
+    let route = c.args.transactions.now.route in
+    let is : IsQuestion id extent (towards route) n c.octets.result.now = (c.octets.ensures.value ∙ (c.in-Ok.ensures {u = tt}).datagram ∙ ap (request_octets (towards route) n) asks.0, asks.1, asks.2, ((c.in-Ok.ensures {u = tt}).way, tt)) in
+    let a = (c.in-Some.ensures {u = tt}).honest id r M H extent route n i.1 is in
+    let v = honest_verdict r (log_at (now M) H) id extent (towards route) n c.in-Some.reply a.0.0.1 in
     absurd (cc (v, asks.0, c.octets-in-Some.ensures.value, c.in-BadReply.ensures {u = tt}))
 
 pub loop-tried-preserved : goal.loop-tried-preserved
 loop-tried-preserved g c =
     let n = next_invoke c.args.transactions.now.invoke in
+    let route = c.args.transactions.now.route in
     let heard = c.in_default-heard.ensures {u = tt} in
     let before = g.L.LogLink.failures c.args.link.now in
     let mid = g.L.LogLink.failures c.loop-tried.link in
@@ -50,21 +55,21 @@ loop-tried-preserved g c =
     record {
       begun = c.loop-tried.invariant.begun;
       never_falls = omega (arith, c.loop-tried.invariant.never_falls, heard.never_falls);
-      sure = λ s. heard.stays_sure (c.loop-tried.invariant.sure s);
+      sure = λ path s. heard.stays_sure path (c.loop-tried.invariant.sure path s);
       kept = λ id extent s asks.
-          let is : IsQuestion id extent n c.octets.result.now = (c.octets.ensures.value ∙ (c.in-Ok.ensures {u = tt}).datagram ∙ ap (request_octets n) asks.0, asks.1, asks.2) in
+          let is : IsQuestion id extent (towards route) n c.octets.result.now = (c.octets.ensures.value ∙ (c.in-Ok.ensures {u = tt}).datagram ∙ ap (request_octets (towards route) n) asks.0, asks.1, asks.2, ((c.in-Ok.ensures {u = tt}).way, tt)) in
           g.met.L.LogLink.keeps_on c.args.link.now c.loop-tried.link c.heard.new.link
-          (c.loop-tried.invariant.kept id extent s asks) (heard.kept id extent n (c.loop-tried.invariant.sure s) is);
+          (c.loop-tried.invariant.kept id extent s asks) (heard.kept id extent route n (c.loop-tried.invariant.sure (towards route) s) is);
       honest = λ id r M H extent h asks.
           let i = c.loop-tried.invariant.honest id r M H extent h asks in
-          let is : IsQuestion id extent n c.octets.result.now = (c.octets.ensures.value ∙ (c.in-Ok.ensures {u = tt}).datagram ∙ ap (request_octets n) asks.0, asks.1, asks.2) in
-          let a = heard.honest id r M H extent n i.1 is in
-          (rises_more c.loop-tried.tried before mid after i.0 a.0.0, a.0.1, λ s. absurd (false≢true (a.1 (c.loop-tried.invariant.sure s))));
+          let is : IsQuestion id extent (towards route) n c.octets.result.now = (c.octets.ensures.value ∙ (c.in-Ok.ensures {u = tt}).datagram ∙ ap (request_octets (towards route) n) asks.0, asks.1, asks.2, ((c.in-Ok.ensures {u = tt}).way, tt)) in
+          let a = heard.honest id r M H extent route n i.1 is in
+          (rises_more c.loop-tried.tried before mid after i.0 a.0.0, a.0.1, λ s. absurd (false≢true (a.1 (c.loop-tried.invariant.sure (towards route) s))));
       lacking = λ id extent h asks.
           let i = c.loop-tried.invariant.lacking id extent h asks in
-          let is : IsQuestion id extent n c.octets.result.now = (c.octets.ensures.value ∙ (c.in-Ok.ensures {u = tt}).datagram ∙ ap (request_octets n) asks.0, asks.1, asks.2) in
-          let a = heard.lacking id extent n i.1 is in
-          (rises_more c.loop-tried.tried before mid after i.0 a.0, a.1, λ s. absurd (false≢true (a.2 (c.loop-tried.invariant.sure s))));
+          let is : IsQuestion id extent (towards route) n c.octets.result.now = (c.octets.ensures.value ∙ (c.in-Ok.ensures {u = tt}).datagram ∙ ap (request_octets (towards route) n) asks.0, asks.1, asks.2, ((c.in-Ok.ensures {u = tt}).way, tt)) in
+          let a = heard.lacking id extent route n i.1 is in
+          (rises_more c.loop-tried.tried before mid after i.0 a.0, a.1, λ s. absurd (false≢true (a.2 (c.loop-tried.invariant.sure (towards route) s))));
     }
 
 pub returns-clause-honest : goal.returns-clause-honest
