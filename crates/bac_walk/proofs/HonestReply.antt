@@ -22,6 +22,7 @@ use Rattle.bac_link.specs.Datagrams.{apdu_in}
 use Rattle.bac_walk.specs.Heard.{Heard, heard_at, heard_if, heard_of, records_in, same_id}
 use Rattle.bac_link.specs.Links.{IsReply, reply_parameters}
 use Rattle.bac_link.specs.Delivery.{History, Moment, now}
+use Rattle.bac_link.specs.Path.{Path}
 use Rattle.bac_link.specs.Moments.{AreServed, log_at}
 use Rattle.bac_walk.specs.Takes.{records_of, first_of, parameters_in, Says}
 use Rattle.bac_walk.specs.Replied.{heard_from, heard_in}
@@ -53,13 +54,13 @@ heard_reply id log extent r is most valid =
     ap (λ x. heard_if id (option_map range_ack_in (result_ok x))) (reply_reads log extent r is most id valid)
     ∙ heard_shown id (reply_of log extent (selected log extent) (packed extent r (selected log extent))).flags (first_of r log extent) (records_of r log extent) (packed_loggable log extent r is most)
 
-says_reply : (result : Option (List ℕ)) (datagram : List ℕ) (r : ℕ) (M : List Moment) (H : History) (id : Id) (wanted : Wanted) (invoke : ℕ) → result ≡ parameters_in (apdu_in datagram) → AreServed r M H → IsNearTo wanted (now M) → IsValid (Object id) →
-    IsReply r (now M) H id (extent_of wanted) invoke datagram → IsSomeAnd result (λ p. Says r (now M) H wanted (heard_at id p))
-says_reply result datagram r M H id wanted invoke gives served near valid reply =
+says_reply : (result : Option (List ℕ)) (datagram : List ℕ) (r : ℕ) (M : List Moment) (H : History) (id : Id) (wanted : Wanted) (path : Path) (invoke : ℕ) → result ≡ parameters_in (apdu_in datagram) → AreServed r M H → IsNearTo wanted (now M) → IsValid (Object id) →
+    IsReply r (now M) H id (extent_of wanted) path invoke datagram → IsSomeAnd result (λ p. Says r (now M) H wanted (heard_at id p))
+says_reply result datagram r M H id wanted path invoke gives served near valid reply =
     let sound = Sound-now r M H served in
     let within = In-now r M H served in
     let is : IsShown (log_at (now M) H) = shown (now M) H sound within reply.0 in
-    let whole : result ≡ Some (reply_parameters id (log_at (now M) H) (extent_of wanted) r) = gives ∙ ap parameters_in reply.1 in
+    let whole : result ≡ Some (reply_parameters id (log_at (now M) H) (extent_of wanted) r) = gives ∙ ap (λ m. parameters_in (option_map (λ message. message.1) m)) reply.1 in
     let P : Option (List ℕ) → Type 0 = λ o. IsSomeAnd o (λ p. Says r (now M) H wanted (heard_at id p)) in
     let Q : Option Heard → Type 0 = λ o. Says r (now M) H wanted o in
     subst P (sym whole) (subst Q (sym (heard_reply id (log_at (now M) H) (extent_of wanted) r is served.greatest valid))
@@ -71,7 +72,7 @@ says_heard : (o : Option (List ℕ)) (r : ℕ) (m : Moment) (H : History) (id : 
 says_heard None r m H id wanted h = absurd h
 says_heard (Some p) r m H id wanted h = h
 
-pub says_in : (datagram : List ℕ) (r : ℕ) (M : List Moment) (H : History) (id : Id) (wanted : Wanted) (invoke : ℕ) → AreServed r M H → IsNearTo wanted (now M) → IsValid (Object id) →
-    IsReply r (now M) H id (extent_of wanted) invoke datagram → Says r (now M) H wanted (heard_in id datagram)
-says_in datagram r M H id wanted invoke served near valid reply =
-    says_heard (parameters_in (apdu_in datagram)) r (now M) H id wanted (says_reply (parameters_in (apdu_in datagram)) datagram r M H id wanted invoke refl served near valid reply)
+pub says_in : (datagram : List ℕ) (r : ℕ) (M : List Moment) (H : History) (id : Id) (wanted : Wanted) (path : Path) (invoke : ℕ) → AreServed r M H → IsNearTo wanted (now M) → IsValid (Object id) →
+    IsReply r (now M) H id (extent_of wanted) path invoke datagram → Says r (now M) H wanted (heard_in id datagram)
+says_in datagram r M H id wanted path invoke served near valid reply =
+    says_heard (parameters_in (apdu_in datagram)) r (now M) H id wanted (says_reply (parameters_in (apdu_in datagram)) datagram r M H id wanted path invoke refl served near valid reply)

@@ -11,13 +11,13 @@ use Rattle.bac_apdu.specs.FormReading.{form_at}
 use Rattle.bac_apdu.specs.Service.ReadRangeAck.{read_range_ack, IsFirst, IsSmall}
 use Rattle.bac_apdu.proofs.Forms.{form_again}
 use Rattle.bac_log.specs.declared.entry.Entry.{Entry}
-use Rattle.bac_log.specs.Ack.{shown_parameters, ack_parameters}
+use Rattle.bac_log.specs.Ack.{shown_parameters, ack_apdu, ack_parameters}
 use Rattle.bac_log.specs.Entry.{IsLoggable}
 use Rattle.bac_log.specs.Record.{entry_octets, entries_octets}
 use Rattle.bac_log.specs.RecordReading.{entries_at}
 use Rattle.bac_log.specs.Select.{Logged, numbered, held, selected, packed, reply_of, reply_length, first_shown, entries_in, shows_number, is_asked, greatest}
 use Rattle.bac_log.specs.TrendLog.{Log, oldest, number}
-use Rattle.bac_log.proofs.Acks.{ack_reads, length-ack_length}
+use Rattle.bac_log.proofs.Acks.{ack_reads, length-ack_length, same_octets}
 use Rattle.bac_log.proofs.Records.{entries_back}
 use Rattle.bac_log.proofs.Sizes.{entry_sized}
 use Rattle.bac_log.proofs.Packs.{length-numbered}
@@ -146,3 +146,24 @@ module _ (log : Log) (extent : Extent) (limit : ℕ) (is : IsShown log) (most : 
   -- and its items are exactly the log's records
   pub items_read : entries_at 100 (entries_octets (entries_in records)) ≡ Ok (entries_in records)
   items_read = entries_back (entries_in records) 100 packed_loggable (omega (arith, packed_few))
+
+  -- the whole ACK is within the limit
+  packed_short : 44 ≤ limit → reply_length extent records ≤ limit
+  packed_short room =
+      let passes : ℕ → Bool = λ n. nat_le (reply_length extent (take n (selected log extent))) limit in
+      elim (greatest_passes passes (length (selected log extent))) [
+        | inl none ↦
+            let rs : records ≡ [] = ap (λ n. take n (selected log extent)) none in
+            omega (arith, ap (λ (l : List Logged). reply_length extent l) rs, length-ack_length None [] tt (omega arith), room)
+        | inr fits ↦ omega (arith, leb-true _ _ fits)
+      ]
+
+  pub reply_short : (id : Id) → 44 ≤ limit → 3 + length (reply_parameters id log extent limit) ≤ limit
+  unfolding reply_parameters ack_apdu
+  reply_short id room =
+      let flags : ℕ = (reply_of log extent (selected log extent) records).flags in
+      omega (
+        arith,
+        same_octets 0 id flags (first_shown extent records) (entries_in records) (first_small (first_shown extent records) packed_first) (omega (arith, packed_few)),
+        packed_short room,
+      )

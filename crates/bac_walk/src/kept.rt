@@ -3,6 +3,7 @@
 ghost use Rattle.std.specs.Prelude.{true, false, [], ◌∷◌, ◌≡◌, ℕ, ◌+◌, ◌*◌, ◌≤◌, List, length, vec_capacity};
 ghost use Rattle.bac_log.specs.TrendLog.{number};
 ghost use Rattle.bac_link.specs.Delivery.{History, Moment, DeliversTo};
+ghost use Rattle.bac_link.specs.Path.{towards};
 ghost use Rattle.bac_link.specs.Laws.{after_answers};
 ghost use Rattle.bac_walk.specs.declared.outcome.Ended.{Ended as EndedOf};
 ghost use Rattle.bac_walk.specs.Near.{IsNear, StaysNear};
@@ -82,13 +83,13 @@ pub fn collect<L: LogLink>(
         transactions.old.retries (L.failures link.old) (L.failures link.new) walk.old walk.new n ended result.items.items }
     // Over a link that loses nothing, of a log that doesn't change, or that the link lacks.
     ensures resting { (r : ℕ) (m : Moment) (H : History) (s : ℕ) →
-        L.is_sure link.old → L.is_honest link.old walk.old.log r (m ∷ []) H → walk.old.next ≡ number s →
+        L.is_sure link.old (towards transactions.old.route) → L.is_honest link.old walk.old.log r (m ∷ []) H → walk.old.next ≡ number s →
         (walk.old.fresh ≡ false → IsNear s m) →
         Rests (rest r H m walk.old.fresh s steps) steps result.items.items result.next result.why }
-    ensures missing { L.lacks link.old walk.old.log → L.is_sure link.old →
+    ensures missing { L.lacks link.old walk.old.log → L.is_sure link.old (towards transactions.old.route) →
         Misses steps walk.old.next result.items.items result.next result.why }
     // Asking over such a link changes nothing.
-    ensures kept { L.is_sure link.old → L.keeps link.old link.new }
+    ensures kept { L.is_sure link.old (towards transactions.old.route) → L.keeps link.old link.new }
 {
     let mut kept = Kept {
         items: Vec::new(alloc),

@@ -3,6 +3,7 @@
 ghost use Rattle.std.specs.Prelude.{◌≡◌, ◌≤◌, ◌+◌, ◌*◌, ℕ, Bool, Option, List};
 ghost use Rattle.bac_log.specs.TrendLog.{number};
 ghost use Rattle.bac_link.specs.Delivery.{History, Moment};
+ghost use Rattle.bac_link.specs.Path.{towards};
 ghost use Rattle.bac_walk.specs.declared.batch.Gap.{Gap as GapOf};
 ghost use Rattle.bac_walk.specs.declared.batch.Numbered.{Numbered as NumberedOf};
 ghost use Rattle.bac_walk.specs.Near.{StaysNear};
@@ -49,15 +50,15 @@ pub fn deliver<L: LogLink, S: Sink>(
         (λ r M H. L.is_honest link.old walk.old.log r M H) (λ r M H. L.is_honest link.new walk.old.log r M H)
         transactions.old.retries (L.failures link.old) (L.failures link.new) walk.old walk.new steps result }
     // Over a link that loses nothing, nothing is lost, and asking changes nothing.
-    ensures sure { L.is_sure link.old → L.is_sure link.new }
-    ensures kept { L.is_sure link.old → L.keeps link.old link.new }
+    ensures sure { L.is_sure link.old (towards transactions.old.route) → L.is_sure link.new (towards transactions.new.route) }
+    ensures kept { L.is_sure link.old (towards transactions.old.route) → L.keeps link.old link.new }
     ensures answered { (r : ℕ) (M : List Moment) (H : History) (s : ℕ) →
-        L.is_sure link.old → L.is_honest link.old walk.old.log r M H → walk.old.next ≡ number s →
+        L.is_sure link.old (towards transactions.old.route) → L.is_honest link.old walk.old.log r M H → walk.old.next ≡ number s →
         StaysNear r H M walk.old.fresh s steps → FoundEnd result }
     // A device without the log says so.
     ensures lacking { L.lacks link.old walk.old.log →
         MissingEnd steps result × (sink.new ≡ sink.old) × (walk.new.next ≡ walk.old.next) × L.lacks link.new walk.old.log }
-    ensures refused { L.lacks link.old walk.old.log → L.is_sure link.old → FoundEnd result }
+    ensures refused { L.lacks link.old walk.old.log → L.is_sure link.old (towards transactions.old.route) → FoundEnd result }
 {
     for done in 0..steps {
         match deliver_step(link, transactions, walk, sink) {
@@ -82,14 +83,14 @@ fn deliver_step<L: LogLink, S: Sink>(
     ensures delivers { Delivery S.puts sink.old sink.new
         (λ r M H. L.is_honest link.old walk.old.log r M H) (λ r M H. L.is_honest link.new walk.old.log r M H)
         transactions.old.retries (L.failures link.old) (L.failures link.new) walk.old walk.new 1 result }
-    ensures sure { L.is_sure link.old → L.is_sure link.new }
-    ensures kept { L.is_sure link.old → L.keeps link.old link.new }
+    ensures sure { L.is_sure link.old (towards transactions.old.route) → L.is_sure link.new (towards transactions.new.route) }
+    ensures kept { L.is_sure link.old (towards transactions.old.route) → L.keeps link.old link.new }
     ensures answered { (r : ℕ) (M : List Moment) (H : History) (s : ℕ) →
-        L.is_sure link.old → L.is_honest link.old walk.old.log r M H → walk.old.next ≡ number s →
+        L.is_sure link.old (towards transactions.old.route) → L.is_honest link.old walk.old.log r M H → walk.old.next ≡ number s →
         StaysNear r H M walk.old.fresh s 1 → FoundEnd result }
     ensures lacking { L.lacks link.old walk.old.log →
         MissingEnd 1 result × (sink.new ≡ sink.old) × (walk.new.next ≡ walk.old.next) × L.lacks link.new walk.old.log }
-    ensures refused { L.lacks link.old walk.old.log → L.is_sure link.old → FoundEnd result }
+    ensures refused { L.lacks link.old walk.old.log → L.is_sure link.old (towards transactions.old.route) → FoundEnd result }
 {
     let replied = walk.reply(link, transactions);
     let _next = walk.next_number();

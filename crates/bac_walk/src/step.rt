@@ -3,6 +3,7 @@ ghost use Rattle.std.specs.Prelude.{[], ◌∷◌, ℕ, ◌≡◌, ◌+◌, ◌�
 ghost use Rattle.bac_link.specs.declared.item.Item.{Item};
 ghost use Rattle.bac_walk.specs.Collects.{FoundTurn, FoundStep, MissingTurn, MissingStep, Goes, turn_items, asks_next, finished, Collected, step_items, step_ended, is_fresh_after};
 ghost use Rattle.bac_link.specs.Delivery.{History, Moment, now};
+ghost use Rattle.bac_link.specs.Path.{towards};
 ghost use Rattle.bac_link.specs.Laws.{after_answers};
 ghost use Rattle.bac_walk.specs.Near.{IsNear, IsNearStep};
 ghost use Rattle.bac_walk.specs.Turned.{IsTurned};
@@ -52,12 +53,12 @@ impl Walk {
         ensures fault { OnErr (progress_of result) (self.new ≡ self.old) }
         ensures asks { asks_next (progress_of result) ≡ true → self.new.next ≡ self.old.next }
         ensures log { self.new.log ≡ self.old.log }
-        ensures sure { L.is_sure link.old → L.is_sure link.new }
-        ensures kept { L.is_sure link.old → L.keeps link.old link.new }
+        ensures sure { L.is_sure link.old (towards transactions.old.route) → L.is_sure link.new (towards transactions.new.route) }
+        ensures kept { L.is_sure link.old (towards transactions.old.route) → L.keeps link.old link.new }
         ensures answered { (r : ℕ) (M : List Moment) (H : History) →
-            L.is_sure link.old → L.is_honest link.old self.old.log r M H → FoundTurn (progress_of result) }
+            L.is_sure link.old (towards transactions.old.route) → L.is_honest link.old self.old.log r M H → FoundTurn (progress_of result) }
         ensures lacking { L.lacks link.old self.old.log →
-            MissingTurn (progress_of result) × L.lacks link.new self.old.log × (L.is_sure link.old → FoundTurn (progress_of result)) }
+            MissingTurn (progress_of result) × L.lacks link.new self.old.log × (L.is_sure link.old (towards transactions.old.route) → FoundTurn (progress_of result)) }
         ensures goes { (s : ℕ) → Goes self.old.fresh self.old.next s (turn_items (progress_of result)) self.new.fresh self.new.next }
         ensures honest { (r : ℕ) (M : List Moment) (H : History) (s : ℕ) →
             L.is_honest link.old self.old.log r M H → self.old.next ≡ number s → (self.old.fresh ≡ false → IsNear s (now M)) →
@@ -90,19 +91,19 @@ impl Walk {
         ensures fault { OnErr result (self.new.next ≡ self.old.next) }
         ensures log { self.new.log ≡ self.old.log }
         // Over a link that loses nothing, nothing is lost, and asking changes nothing.
-        ensures sure { L.is_sure link.old → L.is_sure link.new }
-        ensures kept { L.is_sure link.old → L.keeps link.old link.new }
+        ensures sure { L.is_sure link.old (towards transactions.old.route) → L.is_sure link.new (towards transactions.new.route) }
+        ensures kept { L.is_sure link.old (towards transactions.old.route) → L.keeps link.old link.new }
         ensures answered { (r : ℕ) (M : List Moment) (H : History) (s : ℕ) →
-            L.is_sure link.old → L.is_honest link.old self.old.log r M H → self.old.next ≡ number s →
+            L.is_sure link.old (towards transactions.old.route) → L.is_honest link.old self.old.log r M H → self.old.next ≡ number s →
             (self.old.fresh ≡ false → IsNearStep s M) → FoundStep result }
         // Over a log that doesn't change it is one step of a walk of it.
         ensures resting { (r : ℕ) (m : Moment) (H : History) (s : ℕ) →
-            L.is_sure link.old → L.is_honest link.old self.old.log r (m ∷ []) H → self.old.next ≡ number s →
+            L.is_sure link.old (towards transactions.old.route) → L.is_honest link.old self.old.log r (m ∷ []) H → self.old.next ≡ number s →
             (self.old.fresh ≡ false → IsNear s m) →
             IsRest (rest r H m self.old.fresh s 1) (step_items result) self.new.next (step_ended result) }
         // A device without the log says so.
         ensures lacking { L.lacks link.old self.old.log → MissingStep result × L.lacks link.new self.old.log }
-        ensures refused { L.lacks link.old self.old.log → L.is_sure link.old → FoundStep result }
+        ensures refused { L.lacks link.old self.old.log → L.is_sure link.old (towards transactions.old.route) → FoundStep result }
         // Over any link, the items cover all from the walk's number up to the new one.
         ensures goes { (s : ℕ) → Goes self.old.fresh self.old.next s (step_items result) self.new.fresh self.new.next }
         // The walk is at ordinal s before the step, near its log, and at t after it.
@@ -129,13 +130,13 @@ impl Walk {
         ensures begun { transactions.new.begun ≤ transactions.old.begun + 2 }
         ensures fault { OnErr (step_of result) (self.new.next ≡ self.old.next) }
         ensures log { self.new.log ≡ self.old.log }
-        ensures sure { L.is_sure link.old → L.is_sure link.new }
-        ensures kept { L.is_sure link.old → L.keeps link.old link.new }
+        ensures sure { L.is_sure link.old (towards transactions.old.route) → L.is_sure link.new (towards transactions.new.route) }
+        ensures kept { L.is_sure link.old (towards transactions.old.route) → L.keeps link.old link.new }
         ensures answered { (r : ℕ) (M : List Moment) (H : History) (s : ℕ) →
-            L.is_sure link.old → L.is_honest link.old self.old.log r M H → self.old.next ≡ number s →
+            L.is_sure link.old (towards transactions.old.route) → L.is_honest link.old self.old.log r M H → self.old.next ≡ number s →
             (self.old.fresh ≡ false → IsNearStep s M) → FoundStep (step_of result) }
         ensures lacking { L.lacks link.old self.old.log → MissingStep (step_of result) × L.lacks link.new self.old.log }
-        ensures refused { L.lacks link.old self.old.log → L.is_sure link.old → FoundStep (step_of result) }
+        ensures refused { L.lacks link.old self.old.log → L.is_sure link.old (towards transactions.old.route) → FoundStep (step_of result) }
         ensures goes { (s : ℕ) → Goes self.old.fresh self.old.next s (step_items (step_of result)) self.new.fresh self.new.next }
         ensures honest { (r : ℕ) (M : List Moment) (H : History) (s : ℕ) →
             L.is_honest link.old self.old.log r M H → self.old.next ≡ number s → (self.old.fresh ≡ false → IsNearStep s M) →

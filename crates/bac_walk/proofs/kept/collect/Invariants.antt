@@ -1,6 +1,7 @@
 use Rattle.std.proofs.Common.{[], ◌≡◌, ◌+◌, ◌*◌, ◌≤◌}
 use Rattle.bac_walk.specs.declared.outcome.Ended.TheVariants.{StepLimit}
 use Rattle.bac_walk.specs.Sinks.{IsRun}
+use Rattle.bac_link.specs.Path.{towards}
 use Rattle.bac_walk.proofs.kept.collect.Given as goal
 
 -- so far it was a run of so many steps
@@ -10,8 +11,8 @@ invariant-loop-done g l = record {
   retries : l.transactions.retries ≡ l.fn.transactions.retries;
   begun : l.transactions.begun ≤ l.fn.transactions.begun + 2 * l.done;
   never_falls : g.L.LogLink.failures l.fn.link ≤ g.L.LogLink.failures l.link;
-  sure : g.L.LogLink.is_sure l.fn.link → g.L.LogLink.is_sure l.link;
-  unchanged : g.L.LogLink.is_sure l.fn.link → g.L.LogLink.keeps l.fn.link l.link;
+  sure : g.L.LogLink.is_sure l.fn.link (towards l.fn.transactions.route) → g.L.LogLink.is_sure l.link (towards l.transactions.route);
+  unchanged : g.L.LogLink.is_sure l.fn.link (towards l.fn.transactions.route) → g.L.LogLink.keeps l.fn.link l.link;
   missing : g.L.LogLink.lacks l.fn.link l.fn.walk.log → g.L.LogLink.lacks l.link l.fn.walk.log × (l.done ≡ 0);
   none : l.done ≡ 0 → (l.kept.items.items ≡ []) × (l.walk.next ≡ l.fn.walk.next);
   run : IsRun (λ r M H. g.L.LogLink.is_honest l.fn.link l.fn.walk.log r M H) (λ r M H. g.L.LogLink.is_honest l.link l.fn.walk.log r M H)

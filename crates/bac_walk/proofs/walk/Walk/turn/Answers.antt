@@ -2,6 +2,7 @@ use Rattle.std.proofs.Common.{Ok, Err, subst}
 use Rattle.bac_apdu.specs.declared.service.extent.Extent.{Extent}
 use Rattle.bac_link.specs.Delivery.{now}
 use Rattle.bac_link.specs.Links.{IsReply}
+use Rattle.bac_link.specs.Path.{towards}
 use Rattle.bac_walk.specs.Replied.{heard_in, progress_of}
 use Rattle.bac_walk.specs.Walks.{question_of, wanted_at}
 use Rattle.bac_walk.proofs.Asking.{asks_at, near_to, lost_is, refused_is, bad_reply_is}
@@ -15,8 +16,8 @@ returns-in-Ok-hear-clause-honest g c = λ r M H s honest next near.
     let w = c.args.self.now in
     let served = g.met.L.LogLink.serves c.args.link.now w.log r M H honest in
     let a = (c.in-Ok.ensures.honest w.log r M H (question_of w) honest c.question-question.ensures.asks).0 in
-    let P : Extent → Type 0 = λ x. IsReply r (now M) H w.log x a.0.0 c.in-Ok.datagram in
-    let says = says_in c.in-Ok.datagram r M H w.log (wanted_at w s) a.0.0 served (near_to w s (now M) near) c.question-question.ensures.asks.2 (subst P (asks_at w s next) a.0.1) in
+    let P : Extent → Type 0 = λ x. IsReply r (now M) H w.log x (towards c.args.transactions.now.route) a.0.0 c.in-Ok.datagram in
+    let says = says_in c.in-Ok.datagram r M H w.log (wanted_at w s) (towards c.args.transactions.now.route) a.0.0 served (near_to w s (now M) near) c.question-question.ensures.asks.2 (subst P (asks_at w s next) a.0.1) in
     turned_of (λ N. g.L.LogLink.is_honest c.exchange.new.link w.log r N H) r M H s w c.args.transactions.now.retries
     (g.L.LogLink.failures c.args.link.now) (g.L.LogLink.failures c.exchange.new.link) c.in-Ok-hear.turned c.hear.new.self
     (turn_of H M r s w (heard_in w.log c.in-Ok.datagram) (progress_of (Ok c.in-Ok-hear.turned)) c.hear.new.self next near served says (c.in-Ok-hear.ensures {u = tt})) a.1
@@ -26,8 +27,8 @@ returns-in-Err-clause-honest g c = λ r M H s honest next near.
     let w = c.args.self.now in
     let served = g.met.L.LogLink.serves c.args.link.now w.log r M H honest in
     let a = (c.in-Ok.ensures.honest w.log r M H (question_of w) honest c.question-question.ensures.asks).0 in
-    let P : Extent → Type 0 = λ x. IsReply r (now M) H w.log x a.0.0 c.in-Ok.datagram in
-    let says = says_in c.in-Ok.datagram r M H w.log (wanted_at w s) a.0.0 served (near_to w s (now M) near) c.question-question.ensures.asks.2 (subst P (asks_at w s next) a.0.1) in
+    let P : Extent → Type 0 = λ x. IsReply r (now M) H w.log x (towards c.args.transactions.now.route) a.0.0 c.in-Ok.datagram in
+    let says = says_in c.in-Ok.datagram r M H w.log (wanted_at w s) (towards c.args.transactions.now.route) a.0.0 served (near_to w s (now M) near) c.question-question.ensures.asks.2 (subst P (asks_at w s next) a.0.1) in
     turn_of H M r s w (heard_in w.log c.in-Ok.datagram) (Err c.in-Err.field-0) c.hear.new.self next near served says (c.in-Err.ensures {u = tt})
 
 pub returns-in-Ok-hear-clause-goes : goal.returns-in-Ok-hear-clause-goes
