@@ -2,6 +2,7 @@
 use Rattle.std.proofs.Common.{◌≡◌, refl, ℕ, min, false, List, Option, Some, None, Ok}
 use Rattle.bac_apdu.specs.Apdu.{Confirmed}
 use Rattle.bac_apdu.specs.Frame.{Frame, Unicast, Broadcast, Forwarded, Function, frame_at}
+use Rattle.bac_apdu.specs.Npdu.{Place}
 use Rattle.bac_apdu.specs.declared.service.read_property.ReadProperty.{ReadProperty}
 use Rattle.bac_objects.specs.State.{State}
 use Rattle.bac_apdu.specs.Service.ReadProperty.{read_property_at}
@@ -16,17 +17,17 @@ use Rattle.bac_device.specs.declared.reply.Receiver.TheVariants.{Sender, Address
 none_some : (h : Heard) → None ≡ Some h → ⊥
 none_some h e = cc
 
-answered : (d : State) (f : Option Frame) (size invoke : ℕ) (parameters : List ℕ) (r : ReadProperty) (values : List ℕ)
-    → heard_in f ≡ Some (record { to_all = false; apdu = Confirmed false size invoke 12 parameters }) → read_property_at parameters ≡ Ok r → read_of d r ≡ Ok values
-    → (to : Receiver) × ((answer_frame d f).0 ≡ Some (reply to (limited (min size d.reply_size) invoke (ack invoke d r values))))
-answered d None size invoke parameters r values h e v = absurd (none_some _ h)
-answered d (Some (Unicast npdu)) size invoke parameters r values h e v = (Sender, rw (h, e, v) refl)
-answered d (Some (Broadcast npdu)) size invoke parameters r values h e v = (Sender, rw (h, e, v) refl)
-answered d (Some (Forwarded address npdu)) size invoke parameters r values h e v = (Address address, rw (h, e, v) refl)
-answered d (Some (Function function rest)) size invoke parameters r values h e v = absurd (none_some _ h)
+answered : (d : State) (f : Option Frame) (source : Option Place) (size invoke : ℕ) (parameters : List ℕ) (r : ReadProperty) (values : List ℕ)
+    → heard_in f ≡ Some (record { to_all = false; source = source; apdu = Confirmed false size invoke 12 parameters }) → read_property_at parameters ≡ Ok r → read_of d r ≡ Ok values
+    → (to : Receiver) × ((answer_frame d f).0 ≡ Some (reply (record { to = to; place = source }) (limited (min size d.reply_size) invoke (ack invoke d r values))))
+answered d None source size invoke parameters r values h e v = absurd (none_some _ h)
+answered d (Some (Unicast npdu)) source size invoke parameters r values h e v = (Sender, rw (h, e, v) refl)
+answered d (Some (Broadcast npdu)) source size invoke parameters r values h e v = (Sender, rw (h, e, v) refl)
+answered d (Some (Forwarded address npdu)) source size invoke parameters r values h e v = (Address address, rw (h, e, v) refl)
+answered d (Some (Function function rest)) source size invoke parameters r values h e v = absurd (none_some _ h)
 
-pub read_answered : (d : State) (datagram : List ℕ) (size invoke : ℕ) (parameters : List ℕ) (r : ReadProperty) (values : List ℕ)
-    → heard_in (frame_at datagram) ≡ Some (record { to_all = false; apdu = Confirmed false size invoke 12 parameters }) → read_property_at parameters ≡ Ok r → read_of d r ≡ Ok values
-    → (to : Receiver) × ((answer d datagram).0 ≡ Some (reply to (limited (min size d.reply_size) invoke (ack invoke d r values))))
+pub read_answered : (d : State) (datagram : List ℕ) (source : Option Place) (size invoke : ℕ) (parameters : List ℕ) (r : ReadProperty) (values : List ℕ)
+    → heard_in (frame_at datagram) ≡ Some (record { to_all = false; source = source; apdu = Confirmed false size invoke 12 parameters }) → read_property_at parameters ≡ Ok r → read_of d r ≡ Ok values
+    → (to : Receiver) × ((answer d datagram).0 ≡ Some (reply (record { to = to; place = source }) (limited (min size d.reply_size) invoke (ack invoke d r values))))
 unfolding answer
-read_answered d datagram size invoke parameters r values h e v = answered d (frame_at datagram) size invoke parameters r values h e v
+read_answered d datagram source size invoke parameters r values h e v = answered d (frame_at datagram) source size invoke parameters r values h e v

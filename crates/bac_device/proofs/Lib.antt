@@ -4,6 +4,7 @@ pub mod Priorities
 pub mod ReadBack
 pub mod Asking
 pub mod Told
+pub mod Said
 pub mod History
 pub mod Built
 pub mod Ranges

@@ -1,11 +1,14 @@
 -- Questions for the records of a trend log.
-use Rattle.std.proofs.Common.{◌≡◌, refl, ap, sym, ◌∙◌, arith, ℕ, ◌<◌, nat_lt, min, Bool, true, false, cond, List, [], ◌∷◌, ◌++◌, map, length, Option, Some, None, Ok, Err, inr, length-append}
+use Rattle.std.proofs.Common.{◌≡◌, ◌≤◌, refl, ap, sym, ◌∙◌, arith, ℕ, ◌<◌, nat_lt, min, Bool, true, false, cond, List, [], ◌∷◌, ◌++◌, map, length, Option, Some, None, Ok, Err, inr, length-append}
 use Rattle.std.specs.Map.{lookup}
 use Rattle.std.proofs.lemmas.Bool.Decides.{nat_tests}
 use Rattle.bac_apdu.specs.Apdu.{Apdu, Confirmed, apdu_octets}
 use Rattle.bac_apdu.specs.FormCanon.{canon_form}
 use Rattle.bac_apdu.specs.Frame.{Unicast, frame_at}
-use Rattle.bac_apdu.specs.Npdu.{IsHeader, header_octets, place_octets}
+use Rattle.bac_apdu.specs.Npdu.{IsHeader, Place, control_of, header_octets, hops_octets, place_octets}
+use Rattle.bac_apdu.specs.Route.{IsWay}
+use Rattle.std.proofs.lemmas.Bool.{le-leb}
+use Rattle.bac_device.proofs.Told.{place_valid}
 use Rattle.bac_apdu.specs.Service.Extent.{IsExtent}
 use Rattle.bac_apdu.specs.Service.ReadRange.{read_range, range_parameters, range_in, read_range_at}
 use Rattle.bac_apdu.specs.declared.service.extent.Extent.{Extent}
@@ -30,30 +33,52 @@ use Rattle.bac_objects.specs.declared.object.Object as object
 use Rattle.bac_device.specs.Answer.{answer, range_said, records_said}
 use Rattle.bac_objects.specs.Sound.{HasLogs}
 use Rattle.bac_device.specs.Logs.{asking, question, question_octets}
-use Rattle.bac_device.specs.Receiving.{heard_at}
+use Rattle.bac_device.specs.Receiving.{heard_at, is_answerable}
 use Rattle.bac_device.specs.Reply.{error, reply}
 use Rattle.bac_device.specs.declared.reply.Receiver.TheVariants.{Sender}
 
 -- ---- the question is read back
 
-asking_is : header_octets asking ≡ 1 ∷ 4 ∷ []
-unfolding place_octets
-asking_is = refl
+asking_valid : (source : Option Place) → IsWay source → IsHeader (asking source)
+asking_valid source way = (omega arith, tt, place_valid source way, refl)
 
-asking_valid : IsHeader asking
-asking_valid = (omega arith, tt, tt, refl)
+length-from : (place : Option Place) → IsWay place → length (place_octets place) ≤ 18
+unfolding place_octets
+length-from None way = omega arith
+length-from (Some place) way = omega (arith, way.3)
+
+none_long : length (place_octets None) ≡ 0
+unfolding place_octets
+none_long = refl
+
+length-asking : (source : Option Place) → IsWay source → length (header_octets (asking source)) ≤ 20
+length-asking source way =
+    omega (
+      arith,
+      none_long,
+      length-from source way,
+      length-append (1 ∷ control_of (asking source) ∷ []) (place_octets None ++ (place_octets source ++ hops_octets None 0)),
+      length-append (place_octets None) (place_octets source ++ hops_octets None 0),
+      length-append (place_octets source) (hops_octets None 0),
+    )
+
+is_answered : (source : Option Place) → IsWay source → is_answerable source ≡ true
+is_answered None way = refl
+is_answered (Some place) way =
+    rw (le-leb 1 place.net way.0, le-leb place.net 65534 way.1, le-leb 1 (length place.address) way.2, le-leb (length place.address) 15 way.3) refl
 
 abbrev asked : ℕ → ℕ → Extent → Apdu
 asked invoke n extent = Confirmed false 1476 invoke 26 (canon_form read_range (range_parameters (question n extent)))
 
-frame_is : (invoke n : ℕ) (extent : Extent) → frame_at (question_octets invoke n extent) ≡ Some (Unicast (header_octets asking ++ apdu_octets (asked invoke n extent)))
-frame_is invoke n extent =
-    let two : length (header_octets asking) ≡ 2 = ap (λ (l : List ℕ). length l) asking_is in
-    frame_again (header_octets asking ++ apdu_octets (asked invoke n extent)) (omega (arith, two, range_apdu_short (question n extent) 1476 invoke, length-append (header_octets asking) (apdu_octets (asked invoke n extent))))
+frame_is : (source : Option Place) (invoke n : ℕ) (extent : Extent) → IsWay source → frame_at (question_octets source invoke n extent) ≡ Some (Unicast (header_octets (asking source) ++ apdu_octets (asked invoke n extent)))
+frame_is source invoke n extent way =
+    frame_again (header_octets (asking source) ++ apdu_octets (asked invoke n extent))
+    (omega (arith, length-asking source way, range_apdu_short (question n extent) 1476 invoke, length-append (header_octets (asking source)) (apdu_octets (asked invoke n extent))))
 
-heard_is : (invoke n : ℕ) (extent : Extent) → heard_at false (header_octets asking ++ apdu_octets (asked invoke n extent)) ≡ Some (record { to_all = false; apdu = asked invoke n extent })
+heard_is : (source : Option Place) (invoke n : ℕ) (extent : Extent) → IsWay source → heard_at false (header_octets (asking source) ++ apdu_octets (asked invoke n extent)) ≡ Some (record { to_all = false; source = source; apdu = asked invoke n extent })
 unfolding heard_at
-heard_is invoke n extent = rw (header_again asking (apdu_octets (asked invoke n extent)) asking_valid, message_again (asked invoke n extent) (refl, inr (inr (inr (inr (inr refl)))))) refl
+heard_is source invoke n extent way =
+    rw (header_again (asking source) (apdu_octets (asked invoke n extent)) (asking_valid source way), is_answered source way, message_again (asked invoke n extent) (refl, inr (inr (inr (inr (inr refl)))))) refl
 
 read_is : (n : ℕ) (extent : Extent) → n < 4194304 → IsExtent extent → read_range_at (canon_form read_range (range_parameters (question n extent))) ≡ Ok (question n extent)
 unfolding read_range_at
@@ -61,10 +86,10 @@ read_is n extent lt valid =
     let q : ReadRange = question n extent in
     fields_again range_in read_range (canon_form read_range (range_parameters q)) (range_parameters q) q (range_again q ((omega arith, lt), omega arith, tt) valid) (range_back q)
 
-answer_is : (d : State) (invoke n : ℕ) (extent : Extent) → n < 4194304 → IsExtent extent
-    → answer d (question_octets invoke n extent) ≡ (Some (reply Sender (range_said (min 1476 d.reply_size) invoke (question n extent) (records_of d (question n extent)))), d)
+answer_is : (d : State) (source : Option Place) (invoke n : ℕ) (extent : Extent) → IsWay source → n < 4194304 → IsExtent extent
+    → answer d (question_octets source invoke n extent) ≡ (Some (reply (record { to = Sender; place = source }) (range_said (min 1476 d.reply_size) invoke (question n extent) (records_of d (question n extent)))), d)
 unfolding answer
-answer_is d invoke n extent lt valid = rw (frame_is invoke n extent, heard_is invoke n extent, read_is n extent lt valid) refl
+answer_is d source invoke n extent way lt valid = rw (frame_is source invoke n extent way, heard_is source invoke n extent way, read_is n extent lt valid) refl
 
 -- ---- the log
 
@@ -100,13 +125,13 @@ shows d n log e = shows_object (nat_lt 4194303 n) d n log (lookup (is_id (log_id
 found : (d : State) (n : ℕ) (extent : Extent) (o : object.Object) (l : Logger) → lookup (is_id (log_id n)) d.objects ≡ Some o → o.body ≡ body.Log l → records_of d (question n extent) ≡ Ok l.log
 found d n extent o l at is = rw at (rw is refl)
 
-pub question_answered : (d : State) (n : ℕ) (log : Log) (invoke : ℕ) (extent : Extent) → log_of d n ≡ Some log → IsExtent extent
-    → answer d (question_octets invoke n extent) ≡ (Some (reply Sender (records_said (min 1476 d.reply_size) invoke (log_id n) extent log)), d)
-question_answered d n log invoke extent e valid =
+pub question_answered : (d : State) (source : Option Place) (n : ℕ) (log : Log) (invoke : ℕ) (extent : Extent) → IsWay source → log_of d n ≡ Some log → IsExtent extent
+    → answer d (question_octets source invoke n extent) ≡ (Some (reply (record { to = Sender; place = source }) (records_said (min 1476 d.reply_size) invoke (log_id n) extent log)), d)
+question_answered d source n log invoke extent way e valid =
     let s = shows d n log e in
-    answer_is d invoke n extent s.low valid
-    ∙ ap (λ x. (Some (reply Sender (range_said (min 1476 d.reply_size) invoke (question n extent) x)), d)) (found d n extent s.o s.l s.at s.is)
-    ∙ ap (λ (x : Log). (Some (reply Sender (records_said (min 1476 d.reply_size) invoke (log_id n) extent x)), d)) s.records
+    answer_is d source invoke n extent way s.low valid
+    ∙ ap (λ x. (Some (reply (record { to = Sender; place = source }) (range_said (min 1476 d.reply_size) invoke (question n extent) x)), d)) (found d n extent s.o s.l s.at s.is)
+    ∙ ap (λ (x : Log). (Some (reply (record { to = Sender; place = source }) (records_said (min 1476 d.reply_size) invoke (log_id n) extent x)), d)) s.records
 
 -- ---- without the log
 
@@ -126,12 +151,12 @@ lacks_object d n (Some o) has e =
     let log : log_in (Some o) ≡ Some l.0.log = ap (λ (b : Body). records_in (logger_in b)) l.1 in
     absurd (some_log l.0.log (sym log ∙ e))
 
-pub question_refused : (d : State) (n : ℕ) (invoke : ℕ) (extent : Extent) → HasLogs d → log_of d n ≡ None → n < 4194304 → IsExtent extent
-    → answer d (question_octets invoke n extent) ≡ (Some (reply Sender (error invoke 26 UnknownObject)), d)
-question_refused d n invoke extent has e lt valid =
+pub question_refused : (d : State) (source : Option Place) (n : ℕ) (invoke : ℕ) (extent : Extent) → IsWay source → HasLogs d → log_of d n ≡ None → n < 4194304 → IsExtent extent
+    → answer d (question_octets source invoke n extent) ≡ (Some (reply (record { to = Sender; place = source }) (error invoke 26 UnknownObject)), d)
+question_refused d source n invoke extent way has e lt valid =
     let none : log_in (lookup (is_id (log_id n)) d.objects) ≡ None = sym (ap (λ (b : Bool). log_in (cond b None (lookup (is_id (log_id n)) d.objects))) (low n lt)) ∙ e in
-    answer_is d invoke n extent lt valid
-    ∙ ap (λ x. (Some (reply Sender (range_said (min 1476 d.reply_size) invoke (question n extent) x)), d)) (missing d n extent (lacks_object d n (lookup (is_id (log_id n)) d.objects) (has n) none))
+    answer_is d source invoke n extent way lt valid
+    ∙ ap (λ x. (Some (reply (record { to = Sender; place = source }) (range_said (min 1476 d.reply_size) invoke (question n extent) x)), d)) (missing d n extent (lacks_object d n (lookup (is_id (log_id n)) d.objects) (has n) none))
 
 -- ---- built devices
 

@@ -13,10 +13,10 @@ use Rattle.std.specs.Option.{option_map}
 use Rattle.std.proofs.lemmas.Bool.Decides.{nat_tests}
 use Rattle.bac_apdu.specs.Frame.{result_octets, unicast_head}
 use Rattle.bac_apdu.specs.Service.IAm.{i_am, i_am_parameters}
-use Rattle.bac_apdu.specs.Npdu.{place_octets, header_octets}
+use Rattle.bac_apdu.specs.Npdu.{Place, place_octets, header_octets}
 use Rattle.bac_apdu.specs.declared.service.i_am.IAm.{IAm}
 use Rattle.bac_device.specs.Receiving.{nak_octets}
-use Rattle.bac_device.specs.Reply.{abort, begun, datagram_octets, limited, plain, receiver_of, reply, reply_octets, said_octets}
+use Rattle.bac_device.specs.Reply.{Return, abort, begun, datagram_octets, datagram_to, limited, plain, receiver_of, reply, reply_octets}
 use Rattle.bac_device.specs.declared.reply.Receiver.{Receiver}
 use Rattle.bac_device.specs.declared.reply.Reply.{Reply}
 
@@ -140,15 +140,19 @@ nak_is code lt =
 
 -- ---- replies
 
-pub sent_octets : (to : Receiver) (said : Option Apdu) → reply_octets (option_map (reply to) said) ≡ said_octets said
+abbrev said_to : Option Place → Option Apdu → List ℕ
+said_to place None = []
+said_to place (Some m) = datagram_to place m
+
+pub sent_octets : (to : Return) (said : Option Apdu) → reply_octets (option_map (reply to) said) ≡ said_to to.place said
 sent_octets to None = refl
 sent_octets to (Some m) = refl
 
-pub sent_to : (to : Receiver) (said : Option Apdu) → is_some said ≡ true → receiver_of (option_map (reply to) said) ≡ Some to
+pub sent_to : (to : Return) (said : Option Apdu) → is_some said ≡ true → receiver_of (option_map (reply to) said) ≡ Some to.to
 sent_to to None e = absurd cc
 sent_to to (Some m) e = refl
 
-pub sent_nobody : (to : Receiver) (said : Option Apdu) → is_some said ≡ false → receiver_of (option_map (reply to) said) ≡ None
+pub sent_nobody : (to : Return) (said : Option Apdu) → is_some said ≡ false → receiver_of (option_map (reply to) said) ≡ None
 sent_nobody to None e = refl
 sent_nobody to (Some m) e = absurd cc
 

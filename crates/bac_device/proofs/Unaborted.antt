@@ -34,13 +34,15 @@ use Rattle.bac_device.specs.Answer.{answer, answer_frame, answer_range, is_too_s
 use Rattle.bac_device.specs.History.{heard_in}
 use Rattle.bac_device.specs.Logs.{is_aborted, log_answer, log_said}
 use Rattle.bac_device.specs.Receiving.{Heard, heard_at, is_heard}
-use Rattle.bac_device.specs.Reply.{abort, error, reject, reply}
+use Rattle.bac_apdu.specs.Npdu.{Place}
+use Rattle.bac_apdu.specs.Route.{IsWay}
+use Rattle.bac_device.specs.Reply.{Return, abort, error, reject, reply}
 use Rattle.bac_device.specs.declared.reply.Reply.{Reply}
 use Rattle.bac_device.specs.declared.reply.Receiver.{Receiver}
 use Rattle.bac_device.specs.declared.reply.Receiver.TheVariants.{Sender, Address}
 use Rattle.bac_device.proofs.Fits.{records_fit}
 use Rattle.bac_device.proofs.Replies.{error-len}
-use Rattle.bac_device.proofs.Told.{again, small}
+use Rattle.bac_device.proofs.Told.{heard_way, again, small}
 
 -- ---- each request takes an answer of 50 octets
 
@@ -130,8 +132,8 @@ frame_room (Some (Broadcast npdu)) = heard_room true npdu
 frame_room (Some (Forwarded address npdu)) = heard_room true npdu
 frame_room (Some (Function function rest)) = tt
 
-asked_room : (f : Option Frame) (to_all : Bool) (size invoke : ℕ) (parameters : List ℕ) → heard_in f ≡ Some (record { to_all = to_all; apdu = Confirmed false size invoke 26 parameters }) → 50 ≤ size
-asked_room f to_all size invoke parameters h = subst (λ (o : Option Heard). AnyOf HeardRoom o) h (frame_room f)
+asked_room : (f : Option Frame) (to_all : Bool) (source : Option Place) (size invoke : ℕ) (parameters : List ℕ) → heard_in f ≡ Some (record { to_all = to_all; source = source; apdu = Confirmed false size invoke 26 parameters }) → 50 ≤ size
+asked_room f to_all source size invoke parameters h = subst (λ (o : Option Heard). AnyOf HeardRoom o) h (frame_room f)
 
 -- ---- the records that a sound device answers are a log
 
@@ -181,28 +183,36 @@ range_is d limit invoke (Err reason) is ge = refl
 no_heard : (h : Heard) → None ≡ Some h → ⊥
 no_heard h e = cc
 
-abbrev said_to : State → ℕ → ℕ → List ℕ → Receiver → Option Reply × State
+abbrev said_to : State → ℕ → ℕ → List ℕ → Return → Option Reply × State
 said_to d size invoke parameters to = (Some (reply to (log_answer d (min size d.reply_size) invoke (read_range_at parameters))), d)
 
-said_so : (d : State) (size invoke : ℕ) (parameters : List ℕ) (to : Receiver) → IsSound d → 50 ≤ size
+said_so : (d : State) (size invoke : ℕ) (parameters : List ℕ) (to : Return) → IsSound d → 50 ≤ size
     → (let said : Option Reply × State = (Some (reply to (answer_range d (min size d.reply_size) invoke (read_range_at parameters))), d) in said) ≡ said_to d size invoke parameters to
 said_so d size invoke parameters to is room =
     ap (λ (a : Apdu). let said : Option Reply × State = (Some (reply to a), d) in said) (range_is d (min size d.reply_size) invoke (read_range_at parameters) is (omega (arith, le-min room is.least_reply)))
 
-frame_answered : (d : State) (f : Option Frame) (size invoke : ℕ) (parameters : List ℕ) → IsSound d → 50 ≤ size
-    → heard_in f ≡ Some (record { to_all = false; apdu = Confirmed false size invoke 26 parameters }) → (to : Receiver) × (answer_frame d f ≡ said_to d size invoke parameters to)
-frame_answered d None size invoke parameters is room h = absurd (no_heard _ h)
-frame_answered d (Some (Unicast npdu)) size invoke parameters is room h = (Sender, rw h (said_so d size invoke parameters Sender is room))
-frame_answered d (Some (Broadcast npdu)) size invoke parameters is room h = (Sender, rw h (said_so d size invoke parameters Sender is room))
-frame_answered d (Some (Forwarded address npdu)) size invoke parameters is room h = (Address address, rw h (said_so d size invoke parameters (Address address) is room))
-frame_answered d (Some (Function function rest)) size invoke parameters is room h = absurd (no_heard _ h)
+frame_answered : (d : State) (f : Option Frame) (source : Option Place) (size invoke : ℕ) (parameters : List ℕ) → IsSound d → 50 ≤ size
+    → heard_in f ≡ Some (record { to_all = false; source = source; apdu = Confirmed false size invoke 26 parameters }) → (to : Receiver) × (answer_frame d f ≡ said_to d size invoke parameters (record { to = to; place = source }))
+frame_answered d None source size invoke parameters is room h = absurd (no_heard _ h)
+frame_answered d (Some (Unicast npdu)) source size invoke parameters is room h = (Sender, rw h (said_so d size invoke parameters (record { to = Sender; place = source }) is room))
+frame_answered d (Some (Broadcast npdu)) source size invoke parameters is room h = (Sender, rw h (said_so d size invoke parameters (record { to = Sender; place = source }) is room))
+frame_answered d (Some (Forwarded address npdu)) source size invoke parameters is room h = (Address address, rw h (said_so d size invoke parameters (record { to = Address address; place = source }) is room))
+frame_answered d (Some (Function function rest)) source size invoke parameters is room h = absurd (no_heard _ h)
 
-pub ranges_answered : (d : State) (datagram : List ℕ) (size invoke : ℕ) (parameters : List ℕ) → IsSound d
-    → heard_in (frame_at datagram) ≡ Some (record { to_all = false; apdu = Confirmed false size invoke 26 parameters }) → (to : Receiver) × (answer d datagram ≡ said_to d size invoke parameters to)
+pub ranges_answered : (d : State) (datagram : List ℕ) (source : Option Place) (size invoke : ℕ) (parameters : List ℕ) → IsSound d
+    → heard_in (frame_at datagram) ≡ Some (record { to_all = false; source = source; apdu = Confirmed false size invoke 26 parameters }) → (to : Receiver) × (answer d datagram ≡ said_to d size invoke parameters (record { to = to; place = source }))
 unfolding answer
-ranges_answered d datagram size invoke parameters is h = frame_answered d (frame_at datagram) size invoke parameters is (asked_room (frame_at datagram) false size invoke parameters h) h
+ranges_answered d datagram source size invoke parameters is h = frame_answered d (frame_at datagram) source size invoke parameters is (asked_room (frame_at datagram) false source size invoke parameters h) h
 
 -- ---- and it is read back
+
+-- a request is heard from where an answer can go
+frame_way : (f : Option Frame) (x : Heard) → heard_in f ≡ Some x → IsWay x.source
+frame_way None x h = absurd (no_heard _ h)
+frame_way (Some (Unicast npdu)) x h = heard_way false npdu x h
+frame_way (Some (Broadcast npdu)) x h = heard_way true npdu x h
+frame_way (Some (Forwarded address npdu)) x h = heard_way true npdu x h
+frame_way (Some (Function function rest)) x h = absurd (no_heard _ h)
 
 within_limit : (small over : Bool) (limit invoke n : ℕ) (parameters : List ℕ) → nat_lt limit n ≡ over
     → cond small (abort invoke) (cond over (abort invoke) (Complex false invoke 26 parameters)) ≡ Complex false invoke 26 parameters → n ≤ limit
@@ -213,29 +223,29 @@ within_limit false false limit invoke n parameters e h = grind (arith, nat_tests
 ack_short : (limit invoke : ℕ) (object : Id) (extent : Extent) (log : Log) → IsLog log → 44 ≤ limit → length (apdu_octets (records_ack limit invoke object extent log)) ≤ limit
 ack_short limit invoke object extent log is ge = within_limit (is_too_small limit extent log) (nat_lt limit _) limit invoke _ _ refl (records_fit limit invoke object extent log is ge)
 
-log_unaborted : (to : Receiver) (limit invoke : ℕ) (r : ReadRange) (x : Result Log Fault) → 44 ≤ limit → limit ≤ 1476 → AnyOk IsLog x → is_aborted (Some (reply to (log_said limit invoke r x))) ≡ false
-log_unaborted to limit invoke r (Ok log) ge le is = rw (again (records_ack limit invoke r.object r.extent log) refl (omega (arith, le, ack_short limit invoke r.object r.extent log is ge))) refl
-log_unaborted to limit invoke r (Err f) ge le is = rw (again (error invoke 26 f) (small f) (omega (arith, error-len (class_of f) (code_of f)))) refl
+log_unaborted : (to : Return) (way : IsWay to.place) (limit invoke : ℕ) (r : ReadRange) (x : Result Log Fault) → 44 ≤ limit → limit ≤ 1476 → AnyOk IsLog x → is_aborted (Some (reply to (log_said limit invoke r x))) ≡ false
+log_unaborted to way limit invoke r (Ok log) ge le is = rw (again to.place (records_ack limit invoke r.object r.extent log) way refl (omega (arith, le, ack_short limit invoke r.object r.extent log is ge))) refl
+log_unaborted to way limit invoke r (Err f) ge le is = rw (again to.place (error invoke 26 f) way (small f) (omega (arith, error-len (class_of f) (code_of f)))) refl
 
-unaborted : (d : State) (to : Receiver) (limit invoke : ℕ) (x : Result ReadRange Reason) → IsSound d → 44 ≤ limit → limit ≤ 1476 → is_aborted (Some (reply to (log_answer d limit invoke x))) ≡ false
-unaborted d to limit invoke (Ok r) is ge le = log_unaborted to limit invoke r (records_of d r) ge le (records_log d r is)
-unaborted d to limit invoke (Err reason) is ge le = rw (again (reject invoke reason) tt (omega arith)) refl
+unaborted : (d : State) (to : Return) (way : IsWay to.place) (limit invoke : ℕ) (x : Result ReadRange Reason) → IsSound d → 44 ≤ limit → limit ≤ 1476 → is_aborted (Some (reply to (log_answer d limit invoke x))) ≡ false
+unaborted d to way limit invoke (Ok r) is ge le = log_unaborted to way limit invoke r (records_of d r) ge le (records_log d r is)
+unaborted d to way limit invoke (Err reason) is ge le = rw (again to.place (reject invoke reason) way tt (omega arith)) refl
 
-frame_unaborted : (d : State) (f : Option Frame) (size invoke : ℕ) (parameters : List ℕ)
-    → heard_in f ≡ Some (record { to_all = true; apdu = Confirmed false size invoke 26 parameters }) → is_aborted (answer_frame d f).0 ≡ false
-frame_unaborted d None size invoke parameters h = absurd (no_heard _ h)
-frame_unaborted d (Some (Unicast npdu)) size invoke parameters h = rw h refl
-frame_unaborted d (Some (Broadcast npdu)) size invoke parameters h = rw h refl
-frame_unaborted d (Some (Forwarded address npdu)) size invoke parameters h = rw h refl
-frame_unaborted d (Some (Function function rest)) size invoke parameters h = absurd (no_heard _ h)
+frame_unaborted : (d : State) (f : Option Frame) (source : Option Place) (size invoke : ℕ) (parameters : List ℕ)
+    → heard_in f ≡ Some (record { to_all = true; source = source; apdu = Confirmed false size invoke 26 parameters }) → is_aborted (answer_frame d f).0 ≡ false
+frame_unaborted d None source size invoke parameters h = absurd (no_heard _ h)
+frame_unaborted d (Some (Unicast npdu)) source size invoke parameters h = rw h refl
+frame_unaborted d (Some (Broadcast npdu)) source size invoke parameters h = rw h refl
+frame_unaborted d (Some (Forwarded address npdu)) source size invoke parameters h = rw h refl
+frame_unaborted d (Some (Function function rest)) source size invoke parameters h = absurd (no_heard _ h)
 
-pub ranges_unaborted : (d : State) (datagram : List ℕ) (to_all : Bool) (size invoke : ℕ) (parameters : List ℕ) → IsSound d
-    → heard_in (frame_at datagram) ≡ Some (record { to_all = to_all; apdu = Confirmed false size invoke 26 parameters }) → is_aborted (answer d datagram).0 ≡ false
+pub ranges_unaborted : (d : State) (datagram : List ℕ) (to_all : Bool) (source : Option Place) (size invoke : ℕ) (parameters : List ℕ) → IsSound d
+    → heard_in (frame_at datagram) ≡ Some (record { to_all = to_all; source = source; apdu = Confirmed false size invoke 26 parameters }) → is_aborted (answer d datagram).0 ≡ false
 unfolding answer
-ranges_unaborted d datagram true size invoke parameters is h = frame_unaborted d (frame_at datagram) size invoke parameters h
-ranges_unaborted d datagram false size invoke parameters is h =
-    let room = asked_room (frame_at datagram) false size invoke parameters h in
-    let said = ranges_answered d datagram size invoke parameters is h in
+ranges_unaborted d datagram true source size invoke parameters is h = frame_unaborted d (frame_at datagram) source size invoke parameters h
+ranges_unaborted d datagram false source size invoke parameters is h =
+    let room = asked_room (frame_at datagram) false source size invoke parameters h in
+    let said = ranges_answered d datagram source size invoke parameters is h in
     let limit = min size d.reply_size in
     ap (λ (x : Option Reply × State). is_aborted x.0) said.1
-    ∙ unaborted d said.0 limit invoke (read_range_at parameters) is (omega (arith, le-min room is.least_reply)) (omega (arith, min-le_right size d.reply_size, is.greatest_reply))
+    ∙ unaborted d (record { to = said.0; place = source }) (frame_way (frame_at datagram) _ h) limit invoke (read_range_at parameters) is (omega (arith, le-min room is.least_reply)) (omega (arith, min-le_right size d.reply_size, is.greatest_reply))

@@ -29,7 +29,7 @@ use Rattle.bac_objects.specs.State.{State}
 use Rattle.bac_objects.specs.Writing.{write_of}
 use Rattle.bac_objects.specs.declared.fault.Fault.{Fault}
 use Rattle.bac_device.specs.Receiving.{Heard, heard_at, nak_code, nak_octets}
-use Rattle.bac_device.specs.Reply.{abort, error, limited, reject, reply}
+use Rattle.bac_device.specs.Reply.{Return, abort, error, limited, reject, reply}
 use Rattle.bac_device.specs.declared.reply.Receiver.{Receiver}
 use Rattle.bac_device.specs.declared.reply.Receiver.TheVariants.{Sender, Address}
 use Rattle.bac_device.specs.declared.reply.Reply.{Reply}
@@ -161,9 +161,16 @@ answer_heard d (Some heard) = answer_apdu d heard.to_all heard.apdu
 
 -- ---- datagrams
 
--- the answer goes to where the frame says
-abbrev pub sent : Receiver → Option Apdu × State → Option Reply × State
-sent to said = (option_map (reply to) said.0, said.1)
+-- the answer goes to where the frame says, by the way that the request came
+abbrev pub sent : Return → Option Apdu × State → Option Reply × State
+sent back said = (option_map (reply back) said.0, said.1)
+
+abbrev pub returning : Receiver → Option Heard → Return
+returning to None = record { to = to; place = None }
+returning to (Some heard) = record { to = to; place = heard.source }
+
+abbrev pub answer_npdu : State → Receiver → Option Heard → Option Reply × State
+answer_npdu d to heard = sent (returning to heard) (answer_heard d heard)
 
 -- what refuses a function of broadcast management
 abbrev pub nak : ℕ → Option Reply
@@ -173,9 +180,9 @@ nak function =
 -- Original-Unicast-NPDU and Original-Broadcast-NPDU are answered to their sender, Forwarded-NPDU to its address (J.2.5).
 abbrev pub answer_frame : State → Option Frame → Option Reply × State
 answer_frame d None = (None, d)
-answer_frame d (Some (Unicast npdu)) = sent Sender (answer_heard d (heard_at false npdu))
-answer_frame d (Some (Broadcast npdu)) = sent Sender (answer_heard d (heard_at true npdu))
-answer_frame d (Some (Forwarded address npdu)) = sent (Address address) (answer_heard d (heard_at true npdu))
+answer_frame d (Some (Unicast npdu)) = answer_npdu d Sender (heard_at false npdu)
+answer_frame d (Some (Broadcast npdu)) = answer_npdu d Sender (heard_at true npdu)
+answer_frame d (Some (Forwarded address npdu)) = answer_npdu d (Address address) (heard_at true npdu)
 answer_frame d (Some (Function function rest)) = (nak function, d)
 
 -- the reply to a datagram, where there is one, and the device after it

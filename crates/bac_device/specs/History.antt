@@ -5,8 +5,10 @@ use Rattle.std.specs.Map.{lookup}
 use Rattle.std.specs.Option.{option_or, unwrap_or}
 use Rattle.std.specs.Result.{result_ok}
 use Rattle.bac_wire.specs.Primitive.{Primitive, Unsigned, Signed, Enumerated, Object, Id}
-use Rattle.bac_apdu.specs.Apdu.{Apdu, Confirmed, Simple}
+use Rattle.bac_wire.specs.OptionChain.{◌>>=◌}
+use Rattle.bac_apdu.specs.Apdu.{Apdu, Confirmed, Simple, apdu_at}
 use Rattle.bac_apdu.specs.Frame.{Frame, Unicast, Broadcast, Forwarded, Function, frame_at}
+use Rattle.bac_apdu.specs.Npdu.{header_at}
 use Rattle.bac_objects.specs.Build.{id_of}
 use Rattle.bac_objects.specs.Command.{present}
 use Rattle.bac_objects.specs.Properties.{slot_value, value_of}
@@ -52,14 +54,24 @@ abbrev pub is_simple : Apdu → Bool
 is_simple (Simple invoke service) = true
 is_simple other = false
 
-abbrev pub heard_simple : Option Heard → Bool
-heard_simple None = false
-heard_simple (Some heard) = is_simple heard.apdu
+-- the APDU in a datagram to one receiver, by whatever networks it goes
+unfoldable pub apdu_told : List ℕ → Option Apdu
+apdu_told npdu = do
+  header ← header_at npdu
+  apdu_at header.1
+
+abbrev pub told_in : Option Frame → Option Apdu
+told_in (Some (Unicast npdu)) = apdu_told npdu
+told_in other = None
+
+abbrev pub told_simple : Option Apdu → Bool
+told_simple None = false
+told_simple (Some apdu) = is_simple apdu
 
 -- the reply is a SimpleACK
 abbrev pub is_done : Option Reply → Bool
 is_done None = false
-is_done (Some reply) = heard_simple (heard_in (frame_at reply.datagram))
+is_done (Some reply) = told_simple (told_in (frame_at reply.datagram))
 
 -- ---- after datagrams
 

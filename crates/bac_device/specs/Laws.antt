@@ -9,6 +9,7 @@ use Rattle.bac_apdu.specs.Frame.{frame_at}
 use Rattle.bac_apdu.specs.Service.ReadProperty.{IsProperty}
 use Rattle.bac_apdu.specs.Service.ReadPropertyAck.{read_property_ack}
 use Rattle.bac_apdu.specs.declared.service.read_property.ReadProperty.{ReadProperty}
+use Rattle.bac_apdu.specs.Npdu.{Place}
 use Rattle.bac_objects.specs.Build.{build_fault, built, id_of}
 use Rattle.bac_objects.specs.Reading.{AreValid, read_of, values_octets}
 use Rattle.bac_apdu.specs.Service.ReadProperty.{read_property_at}
@@ -63,11 +64,11 @@ ObjectListKeepsTheOrderOfLines =
 -- a ReadProperty to this device alone is answered by the ACK with the values that are read, within the limit
 abbrev pub ReadsAreAnswered : Type 0
 ReadsAreAnswered =
-    (d : State) (datagram : List ℕ) (size invoke : ℕ) (parameters : List ℕ) (r : ReadProperty) (values : List ℕ)
+    (d : State) (datagram : List ℕ) (source : Option Place) (size invoke : ℕ) (parameters : List ℕ) (r : ReadProperty) (values : List ℕ)
     → heard_in (frame_at datagram)
-    ≡ Some (record { to_all = false; apdu = Confirmed false size invoke read_property_service parameters })
+    ≡ Some (record { to_all = false; source = source; apdu = Confirmed false size invoke read_property_service parameters })
     → read_property_at parameters ≡ Ok r → read_of d r ≡ Ok values
-    → (to : Receiver) × ((answer d datagram).0 ≡ Some (reply to (limited (min size d.reply_size) invoke (ack invoke d r values))))
+    → (to : Receiver) × ((answer d datagram).0 ≡ Some (reply (record { to = to; place = source }) (limited (min size d.reply_size) invoke (ack invoke d r values))))
 
 -- what an ACK has is read back
 abbrev pub AcksAreReadBack : Type 0

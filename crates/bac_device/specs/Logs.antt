@@ -5,7 +5,7 @@ use Rattle.bac_wire.specs.Stamp.{CivilTime}
 use Rattle.bac_apdu.specs.Apdu.{Apdu, Confirmed, Abort, apdu_octets}
 use Rattle.bac_apdu.specs.FormCanon.{canon_form}
 use Rattle.bac_apdu.specs.Frame.{frame_at, frame_octets}
-use Rattle.bac_apdu.specs.Npdu.{Header, header_octets}
+use Rattle.bac_apdu.specs.Npdu.{Header, Place, header_octets}
 use Rattle.bac_apdu.specs.Service.ReadRange.{read_range, range_parameters, read_range_at}
 use Rattle.bac_apdu.specs.declared.reason.Reason.{Reason}
 use Rattle.bac_apdu.specs.declared.service.extent.Extent.{Extent}
@@ -19,8 +19,7 @@ use Rattle.bac_objects.specs.Sound.{HasLogs, IsSound}
 use Rattle.bac_objects.specs.State.{State}
 use Rattle.bac_objects.specs.declared.fault.Fault.{Fault}
 use Rattle.bac_device.specs.Answer.{answer, records_ack}
-use Rattle.bac_device.specs.History.{heard_in}
-use Rattle.bac_device.specs.Receiving.{Heard}
+use Rattle.bac_device.specs.History.{heard_in, told_in}
 use Rattle.bac_device.specs.Reply.{error, reject, reply}
 use Rattle.bac_device.specs.declared.reply.Receiver.{Receiver}
 use Rattle.bac_device.specs.declared.reply.Reply.{Reply}
@@ -46,17 +45,17 @@ pub record Keeps (d new : State) : Type 0 where
 
 -- ---- questions
 
--- a reply is expected, and no other network is named: 01 04
-abbrev pub asking : Header
-asking = record { network = false; reply = true; priority = 0; dest = None; source = None; hops = 0 }
+-- a reply is expected: 01 04, or 01 0c with the place behind a router that it comes from
+abbrev pub asking : Option Place → Header
+asking source = record { network = false; reply = true; priority = 0; dest = None; source = source; hops = 0 }
 
 -- a ReadRange of the Log_Buffer of a Trend Log
 abbrev pub question : ℕ → Extent → ReadRange
 question n extent = record { object = log_id n; property = log_buffer; index = None; extent = extent }
 
 -- as a datagram that takes an answer of 1476 octets
-abbrev pub question_octets : ℕ → ℕ → Extent → List ℕ
-question_octets invoke n extent = frame_octets (header_octets asking ++ apdu_octets (Confirmed false 1476 invoke read_range_service (canon_form read_range (range_parameters (question n extent)))))
+abbrev pub question_octets : Option Place → ℕ → ℕ → Extent → List ℕ
+question_octets source invoke n extent = frame_octets (header_octets (asking source) ++ apdu_octets (Confirmed false 1476 invoke read_range_service (canon_form read_range (range_parameters (question n extent)))))
 
 -- ---- answers to any ReadRange
 
@@ -64,24 +63,24 @@ abbrev pub is_abort : Apdu → Bool
 is_abort (Abort by_server invoke reason) = true
 is_abort other = false
 
-abbrev pub heard_abort : Option Heard → Bool
-heard_abort None = false
-heard_abort (Some heard) = is_abort heard.apdu
+abbrev pub told_abort : Option Apdu → Bool
+told_abort None = false
+told_abort (Some apdu) = is_abort apdu
 
 -- the reply is an Abort
 abbrev pub is_aborted : Option Reply → Bool
 is_aborted None = false
-is_aborted (Some reply) = heard_abort (heard_in (frame_at reply.datagram))
+is_aborted (Some reply) = told_abort (told_in (frame_at reply.datagram))
 
 -- an unsegmented ReadRange, whatever it asks for, and whatever the greatest answer is that it takes
-abbrev pub IsRangeAsked : List ℕ → Bool → ℕ → ℕ → List ℕ → Type 0
-IsRangeAsked datagram to_all size invoke parameters =
-    heard_in (frame_at datagram) ≡ Some (record { to_all = to_all; apdu = Confirmed false size invoke read_range_service parameters })
+abbrev pub IsRangeAsked : List ℕ → Bool → Option Place → ℕ → ℕ → List ℕ → Type 0
+IsRangeAsked datagram to_all source size invoke parameters =
+    heard_in (frame_at datagram) ≡ Some (record { to_all = to_all; source = source; apdu = Confirmed false size invoke read_range_service parameters })
 
 abbrev pub RangesAreNotAborted : Type 0
 RangesAreNotAborted =
-    (d : State) (datagram : List ℕ) (to_all : Bool) (size invoke : ℕ) (parameters : List ℕ)
-    → IsSound d → IsRangeAsked datagram to_all size invoke parameters → is_aborted (answer d datagram).0 ≡ false
+    (d : State) (datagram : List ℕ) (to_all : Bool) (source : Option Place) (size invoke : ℕ) (parameters : List ℕ)
+    → IsSound d → IsRangeAsked datagram to_all source size invoke parameters → is_aborted (answer d datagram).0 ≡ false
 
 -- the records that fit, or the first error
 abbrev pub log_said : ℕ → ℕ → ReadRange → Result Log Fault → Apdu
@@ -96,6 +95,6 @@ log_answer d limit invoke (Err reason) = reject invoke reason
 -- to this device alone it is answered so, and changes nothing
 abbrev pub RangesAreAnswered : Type 0
 RangesAreAnswered =
-    (d : State) (datagram : List ℕ) (size invoke : ℕ) (parameters : List ℕ)
-    → IsSound d → IsRangeAsked datagram false size invoke parameters
-    → (to : Receiver) × (answer d datagram ≡ (Some (reply to (log_answer d (min size d.reply_size) invoke (read_range_at parameters))), d))
+    (d : State) (datagram : List ℕ) (source : Option Place) (size invoke : ℕ) (parameters : List ℕ)
+    → IsSound d → IsRangeAsked datagram false source size invoke parameters
+    → (to : Receiver) × (answer d datagram ≡ (Some (reply (record { to = to; place = source }) (log_answer d (min size d.reply_size) invoke (read_range_at parameters))), d))

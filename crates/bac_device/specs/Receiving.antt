@@ -1,5 +1,5 @@
 -- What reaches a device (Annex J, clause 6).
-use Rattle.std.specs.Prelude.{ℕ, ◌==◌, ◌||◌, ◌&&◌, not, Bool, true, is_none, is_some, if◌then◌else◌, List, [], ◌∷◌, length, Option, None, Some}
+use Rattle.std.specs.Prelude.{ℕ, ◌==◌, ◌||◌, ◌&&◌, not, nat_le, Bool, true, is_some, if◌then◌else◌, List, [], ◌∷◌, length, Option, None, Some}
 use Rattle.std.specs.Map.{lookup}
 use Rattle.bac_wire.specs.OptionChain.{◌>>=◌}
 use Rattle.bac_apdu.specs.Apdu.{Apdu, apdu_at}
@@ -36,15 +36,23 @@ abbrev pub is_for_all : Option Place → Bool
 is_for_all None = true
 is_for_all (Some place) = place.net == all_networks && length place.address == 0
 
--- no network message, none from another network, and none to another network
+-- From this network, or from a place that an answer can go to: a network that is neither 0 nor all of them, and an
+-- address of 1 to 15 octets there.
+abbrev pub is_answerable : Option Place → Bool
+is_answerable None = true
+is_answerable (Some place) =
+    nat_le 1 place.net && (nat_le place.net 65534 && (nat_le 1 (length place.address) && nat_le (length place.address) 15))
+
+-- no network message, none from where no answer can go, and none to another network
 abbrev pub is_heard : Header → Bool
-is_heard header = not header.network && is_none header.source && is_for_all header.dest
+is_heard header = not header.network && (is_answerable header.source && is_for_all header.dest)
 
 -- ---- APDUs
 
--- an APDU, and whether it went to all devices
+-- an APDU, whether it went to all devices, and the place behind a router that it came from
 pub record Heard : Type 0 where
   pub to_all : Bool
+  pub source : Option Place
   pub apdu : Apdu
 
 -- what an NPDU has for a device: its frame or its header says whether it went to all
@@ -53,4 +61,4 @@ heard_at to_all npdu = do
   header ← header_at npdu
   if is_heard header.0 then (do
     apdu ← apdu_at header.1
-    Some (record { to_all = to_all || is_some header.0.dest; apdu = apdu })) else None
+    Some (record { to_all = to_all || is_some header.0.dest; source = header.0.source; apdu = apdu })) else None

@@ -3,7 +3,7 @@ use Rattle.std.specs.Prelude.{ℕ, nat_lt, true, false, if◌then◌else◌, Lis
 use Rattle.std.specs.Option.{option_map}
 use Rattle.bac_apdu.specs.Apdu.{Apdu, Error, Reject, Abort, apdu_octets}
 use Rattle.bac_apdu.specs.Frame.{frame_octets, unicast_head}
-use Rattle.bac_apdu.specs.Npdu.{Header, header_octets}
+use Rattle.bac_apdu.specs.Npdu.{Header, Place, header_octets}
 use Rattle.bac_apdu.specs.Reason.{reason_code}
 use Rattle.bac_apdu.specs.declared.reason.Reason.{Reason}
 use Rattle.bac_objects.specs.Fault.{class_of, code_of}
@@ -21,8 +21,22 @@ plain = record { network = false; reply = false; priority = 0; dest = None; sour
 unfoldable pub datagram_octets : Apdu → List ℕ
 datagram_octets apdu = frame_octets (header_octets plain ++ apdu_octets apdu)
 
-abbrev pub reply : Receiver → Apdu → Reply
-reply to apdu = record { datagram = datagram_octets apdu; to = to }
+-- By the way that the request came (6.2.2): to the place behind a router that it came from, 01 20, with the greatest
+-- hop count; or 01 00, to a device of this network.
+abbrev pub plain_to : Option Place → Header
+plain_to None = plain
+plain_to (Some place) = record plain { dest = Some place; hops = 255 }
+
+unfoldable pub datagram_to : Option Place → Apdu → List ℕ
+datagram_to place apdu = frame_octets (header_octets (plain_to place) ++ apdu_octets apdu)
+
+-- who gets an answer, and the place behind a router that it is for
+pub record Return : Type 0 where
+  pub to : Receiver
+  pub place : Option Place
+
+abbrev pub reply : Return → Apdu → Reply
+reply back apdu = record { datagram = datagram_to back.place apdu; to = back.to }
 
 -- the same up to the APDU, and with a length that isn't told yet
 unfoldable pub begun : List ℕ → List ℕ

@@ -3,13 +3,13 @@
 ghost use Rattle.std.specs.Prelude.{◌≡◌, [], is_some};
 ghost use Rattle.bac_apdu.specs.Apdu.{apdu_of};
 ghost use Rattle.bac_objects.specs.Sound.{IsSound};
-ghost use Rattle.bac_device.specs.Answer.{answer, answer_apdu, answer_heard, answer_request, nak, sent};
+ghost use Rattle.bac_device.specs.Answer.{answer, answer_apdu, answer_heard, answer_npdu, answer_request, nak};
 ghost use Rattle.bac_device.specs.Receiving.{heard_at};
 ghost use Rattle.bac_device.specs.Reply.{datagram_octets, receiver_of, reply_octets, said_octets};
 
 use crate::device::Device;
 use crate::receiving::{heard_at, nak_code};
-use crate::reply::{Receiver, Reply, abort, nak_with, reject};
+use crate::reply::{Receiver, Reply, abort, nak_with, reject, send_back};
 use bac_apdu::choice::{READ_PROPERTY, READ_RANGE, WHO_IS, WRITE_PROPERTY};
 use bac_apdu::{Apdu, Frame, read_frame};
 use bac_wire::Datagram;
@@ -85,7 +85,7 @@ impl Device {
     }
 
     /// The reply to an NPDU, who gets it, and what the device is after it.
-    #[tactic(auto, using(crate::proofs::Replies::sent_nobody, crate::proofs::Replies::sent_octets, crate::proofs::Replies::sent_to))]
+    #[tactic(auto, using(crate::proofs::Replies::sent_nobody, crate::proofs::Replies::sent_to))]
     fn answer_npdu(
         &mut self,
         out: &mut Datagram,
@@ -94,13 +94,15 @@ impl Device {
         npdu: &[u8],
     ) -> Option<Receiver>
         requires { out.old ≡ [] }
-        ensures receiver { result ≡ receiver_of (sent to (answer_heard self.old (heard_at to_all npdu.now))).0 }
-        ensures octets { out.new ≡ reply_octets (sent to (answer_heard self.old (heard_at to_all npdu.now))).0 }
-        ensures state { self.new ≡ (sent to (answer_heard self.old (heard_at to_all npdu.now))).1 }
+        ensures receiver { result ≡ receiver_of (answer_npdu self.old to (heard_at to_all npdu.now)).0 }
+        ensures octets { out.new ≡ reply_octets (answer_npdu self.old to (heard_at to_all npdu.now)).0 }
+        ensures state { self.new ≡ (answer_npdu self.old to (heard_at to_all npdu.now)).1 }
     {
+        let _ = self.database.reply_size();
         match heard_at(to_all, npdu) {
             Some(heard) => {
                 if self.answer_apdu(out, heard.to_all, &heard.apdu) {
+                    send_back(out, heard.source);
                     Some(to)
                 } else {
                     None

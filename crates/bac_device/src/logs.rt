@@ -1,8 +1,10 @@
 //! Laws of a device's trend logs. Each function does nothing: what it ensures is the law.
 
-ghost use Rattle.std.specs.Prelude.{◌≡◌, ◌<◌, ◌≤◌, ℕ, List, Ok, Some, None, min};
+ghost use Rattle.std.specs.Prelude.{◌≡◌, ◌<◌, ◌≤◌, ℕ, List, Option, Ok, Some, None, min};
 ghost use Rattle.bac_wire.specs.Primitive.{Id};
 ghost use Rattle.bac_wire.specs.Stamp.{CivilTime};
+ghost use Rattle.bac_apdu.specs.Npdu.{Place};
+ghost use Rattle.bac_apdu.specs.Route.{IsWay};
 ghost use Rattle.bac_apdu.specs.Service.Extent.{IsExtent};
 ghost use Rattle.bac_apdu.specs.declared.service.extent.Extent.{Extent as AnyExtent};
 ghost use Rattle.bac_log.specs.TrendLog.{IsLog, Log};
@@ -34,13 +36,13 @@ pub fn built_devices_have_logs()
 /// A question for the records of a log of the device is answered by that log, within the reply size
 /// and 1476 octets, and changes nothing.
 pub fn questions_are_answered()
-    ensures { (d : State) (n : ℕ) (log : Log) (invoke : ℕ) (extent : AnyExtent) → log_of d n ≡ Some log → IsExtent extent → answer d (question_octets invoke n extent) ≡ (Some (reply Receiver.Sender (records_said (min 1476 d.reply_size) invoke (log_id n) extent log)), d) }
+    ensures { (d : State) (source : Option Place) (n : ℕ) (log : Log) (invoke : ℕ) (extent : AnyExtent) → IsWay source → log_of d n ≡ Some log → IsExtent extent → answer d (question_octets source invoke n extent) ≡ (Some (reply (record { to = Receiver.Sender; place = source }) (records_said (min 1476 d.reply_size) invoke (log_id n) extent log)), d) }
 {}
 
 /// A question for the records of a log that isn't there is answered by the Error object,
 /// unknown-object, and changes nothing.
 pub fn questions_for_no_log_are_refused()
-    ensures { (d : State) (n : ℕ) (invoke : ℕ) (extent : AnyExtent) → HasLogs d → log_of d n ≡ None → n < 4194304 → IsExtent extent → answer d (question_octets invoke n extent) ≡ (Some (reply Receiver.Sender (error invoke 26 Fault.UnknownObject)), d) }
+    ensures { (d : State) (source : Option Place) (n : ℕ) (invoke : ℕ) (extent : AnyExtent) → IsWay source → HasLogs d → log_of d n ≡ None → n < 4194304 → IsExtent extent → answer d (question_octets source invoke n extent) ≡ (Some (reply (record { to = Receiver.Sender; place = source }) (error invoke 26 Fault.UnknownObject)), d) }
 {}
 
 /// An answer of 44 octets holds a record of any log, so no question for records is answered by an

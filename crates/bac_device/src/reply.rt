@@ -1,11 +1,15 @@
 //! What a device sends, and to whom.
 
-ghost use Rattle.std.specs.Prelude.{◌≡◌, ◌≤◌, [], length};
+ghost use Rattle.std.specs.Prelude.{◌≡◌, ◌≤◌, Some, [], length};
 ghost use Rattle.bac_apdu.specs.Apdu.{Apdu as ApduValue, IsApdu, Reject, Simple, apdu_octets, apdu_of};
+ghost use Rattle.bac_apdu.specs.Npdu.{maybe_place_of, place_of};
+ghost use Rattle.bac_apdu.specs.Route.{IsRoute, IsWay};
 ghost use Rattle.bac_device.specs.Receiving.{nak_octets};
-ghost use Rattle.bac_device.specs.Reply.{abort, begun, datagram_octets, error, limited};
+ghost use Rattle.bac_device.specs.Reply.{abort, begun, datagram_octets, datagram_to, error, limited};
 
-use bac_apdu::{Apdu, Npdu, begin_datagram, end_datagram, write_apdu, write_result};
+use bac_apdu::{
+    Apdu, Far, Npdu, begin_datagram, end_datagram, write_apdu, write_datagram, write_result,
+};
 use bac_objects::Fault;
 use bac_wire::Datagram;
 
@@ -87,6 +91,41 @@ pub(crate) fn write_reply(out: &mut Datagram, apdu: &Apdu)
 {
     begin_with(out, apdu);
     end(out);
+}
+
+/// How many routers a reply may pass (clause 6.2.3).
+const MOST_HOPS: u8 = 255;
+
+/// Sends a reply the way that its request came: to the place behind a router that it came from, if
+/// it came from one.
+pub(crate) fn send_back(out: &mut Datagram, source: Option<Far>)
+    requires heads { 6 ≤ length out.old }
+    requires way { IsWay (maybe_place_of source) }
+    ensures { (m : ApduValue) → length (apdu_octets m) ≤ 1476 → out.old ≡ datagram_octets m → out.new ≡ datagram_to (maybe_place_of source.entry) m }
+{
+    match source {
+        Some(place) => send_to(out, place),
+        None => {}
+    }
+}
+
+/// The same reply to a place behind a router.
+fn send_to(out: &mut Datagram, place: Far)
+    requires heads { 6 ≤ length out.old }
+    requires route { IsRoute (place_of place) }
+    ensures { (m : ApduValue) → length (apdu_octets m) ≤ 1476 → out.old ≡ datagram_octets m → out.new ≡ datagram_to (Some (place_of place.entry)) m }
+{
+    let header = Npdu {
+        network: false,
+        reply: false,
+        priority: 0,
+        dest: Some(place),
+        source: None,
+        hops: MOST_HOPS,
+    };
+    let mut routed = Datagram::new();
+    let _ = write_datagram(&mut routed, &header, &out.octets()[HEADS_SIZE..]);
+    *out = routed;
 }
 
 /// The result with a code (clause J.2.1), in place of what `out` holds.
