@@ -5,3 +5,5 @@ pub mod Placed
 pub mod Questions
 pub mod Replies
 pub mod Asks
+pub mod Fitting
+pub mod Routing

@@ -1,14 +1,14 @@
 -- The device's answers to a link's questions are honest replies.
-use Rattle.std.proofs.Common.{◌≡◌, refl, ap, sym, subst, ◌∙◌, arith, ℕ, ◌+◌, ◌-◌, ◌≤◌, min, nat_lt, Bool, true, false, cond, pos, negsuc, List, [], ◌∷◌, ◌++◌, take, drop, length, Some, length-append}
+use Rattle.std.proofs.Common.{◌≡◌, refl, ap, sym, subst, ◌∙◌, arith, ℕ, ◌+◌, ◌-◌, ◌≤◌, min, nat_lt, Bool, true, false, cond, pos, negsuc, List, [], ◌∷◌, ◌++◌, take, drop, length, Option, Some, None, length-append}
 use Rattle.std.specs.Prelude.{All}
 use Rattle.std.proofs.lemmas.Bool.Decides.{nat_tests}
 use Rattle.std.proofs.Math.Seq.{drop-append_seam, take-append_seam}
 use Rattle.bac_wire.specs.Primitive.{Id}
 use Rattle.bac_apdu.specs.Apdu.{Apdu, Complex, IsApdu, apdu_octets}
-use Rattle.bac_apdu.specs.Npdu.{IsHeader, header_octets, place_octets}
+use Rattle.bac_apdu.specs.Npdu.{IsHeader, Place, header_octets}
+use Rattle.bac_apdu.specs.Route.{IsWay}
 use Rattle.bac_apdu.specs.declared.service.extent.Extent.{Extent}
 use Rattle.bac_apdu.specs.declared.service.extent.Extent.TheVariants as extent
-use Rattle.bac_apdu.proofs.Heads.{message_again}
 use Rattle.bac_apdu.proofs.Shorts.{error_short}
 use Rattle.bac_log.specs.Ack.{ack_parameters, read_range_service}
 use Rattle.bac_log.specs.Entry.{IsLoggable}
@@ -19,16 +19,18 @@ use Rattle.bac_objects.specs.Sampling.{log_id, log_of}
 use Rattle.bac_objects.specs.State.{State}
 use Rattle.bac_objects.specs.declared.fault.Fault.TheVariants.{UnknownObject}
 use Rattle.bac_device.specs.Answer.{answer, is_too_small, records_ack, records_said}
-use Rattle.bac_device.specs.Reply.{abort, datagram_octets, error, plain, reply}
+use Rattle.bac_device.specs.Reply.{Return, abort, datagram_to, error, plain_to, reply}
 use Rattle.bac_device.specs.declared.reply.Receiver.TheVariants.{Sender}
 use Rattle.bac_device.proofs.Fits.{records_fit}
 use Rattle.bac_device.proofs.Questions.{question_answered, question_refused}
-use Rattle.bac_link.specs.Datagrams.{apdu_in}
+use Rattle.bac_device.proofs.Told.{length-plain_to}
+use Rattle.bac_link.specs.Datagrams.{message_in}
+use Rattle.bac_link.specs.Path.{Path, back, path_of, towards}
 use Rattle.bac_link.specs.Delivery.{History, Moment}
 use Rattle.bac_link.specs.Links.{HasReply, IsQuestion, IsReply, IsUnknown, question, reply_parameters}
 use Rattle.bac_link.specs.Moments.{log_at}
 use Rattle.bac_link.specs.Requests.{request_octets}
-use Rattle.bac_link.proofs.Datagrams.{apdu_octets_again}
+use Rattle.bac_link.proofs.Datagrams.{message_back, place_valid}
 use Rattle.bac_client.specs.Ahead.{entries_ahead, Lacks, LiesAhead, log_with, moment_of, placed, turn}
 use Rattle.bac_client.specs.declared.event.LinkEvent.{LinkEvent}
 use Rattle.bac_client.proofs.Ahead.{log_is}
@@ -38,18 +40,24 @@ use Rattle.bac_client.proofs.Questions.{question_is}
 
 -- ---- a reply is read back
 
-plain_is : header_octets plain ≡ 1 ∷ 0 ∷ []
-unfolding place_octets
-plain_is = refl
+plain_to_valid : (place : Option Place) → IsWay place → IsHeader (plain_to place)
+plain_to_valid None way = (omega arith, tt, tt, refl)
+plain_to_valid (Some place) way = (omega arith, place_valid (Some place) way, tt, tt)
 
-plain_valid : IsHeader plain
-plain_valid = (omega arith, tt, tt, refl)
+plain_to_path : (place : Option Place) → path_of (plain_to place) ≡ towards place
+plain_to_path None = refl
+plain_to_path (Some place) = refl
 
-pub reply_again : (apdu : Apdu) → IsApdu apdu → length (apdu_octets apdu) ≤ 1476 → apdu_in (datagram_octets apdu) ≡ Some apdu
-unfolding apdu_in datagram_octets
-reply_again apdu valid short =
-    let two : length (header_octets plain) ≡ 2 = ap (λ (l : List ℕ). length l) plain_is in
-    rw (apdu_octets_again plain (apdu_octets apdu) plain_valid refl (omega (arith, two, short, length-append (header_octets plain) (apdu_octets apdu))), message_again apdu valid) refl
+no_message : (place : Option Place) → (plain_to place).network ≡ false
+no_message None = refl
+no_message (Some place) = refl
+
+pub reply_again : (place : Option Place) (apdu : Apdu) → IsWay place → IsApdu apdu → length (apdu_octets apdu) ≤ 1476 → message_in (datagram_to place apdu) ≡ Some (towards place, apdu)
+unfolding datagram_to
+reply_again place apdu way valid short =
+    let head : List ℕ = header_octets (plain_to place) in
+    message_back (plain_to place) apdu (plain_to_valid place way) (no_message place) valid (omega (arith, length-plain_to place way, short, length-append head (apdu_octets apdu)))
+    ∙ ap (λ (p : Path). Some (p, apdu)) (plain_to_path place)
 
 -- ---- the ACK with records
 
@@ -77,12 +85,12 @@ short_ack limit invoke id extent log is ge =
     ack_short (is_too_small limit extent log) (nat_lt limit (length (apdu_octets (records_ack limit invoke id extent log)))) limit invoke invoke read_range_service _ refl (records_fit limit invoke id extent log is ge)
 
 -- what the device answers by a log is read back as that ACK
-pub said_again : (limit invoke : ℕ) (id : Id) (extent : Extent) (log : Log) → IsLog log → 44 ≤ limit → limit ≤ 1476
-    → HasReply limit log id extent invoke (datagram_octets (records_said limit invoke id extent log))
-said_again limit invoke id extent log is ge le =
-    ap (λ (m : Apdu). apdu_in (datagram_octets m)) (records_fit limit invoke id extent log is ge)
-    ∙ reply_again (records_ack limit invoke id extent log) refl (omega (arith, le, short_ack limit invoke id extent log is ge))
-    ∙ ap (λ (m : Apdu). Some m) (ack_is limit invoke id extent log)
+pub said_again : (source : Option Place) (limit invoke : ℕ) (id : Id) (extent : Extent) (log : Log) → IsWay source → IsLog log → 44 ≤ limit → limit ≤ 1476
+    → HasReply limit log id extent (back (towards source)) invoke (datagram_to source (records_said limit invoke id extent log))
+said_again source limit invoke id extent log way is ge le =
+    ap (λ (m : Apdu). message_in (datagram_to source m)) (records_fit limit invoke id extent log is ge)
+    ∙ reply_again source (records_ack limit invoke id extent log) way refl (omega (arith, le, short_ack limit invoke id extent log is ge))
+    ∙ ap (λ (m : Apdu). Some (towards source, m)) (ack_is limit invoke id extent log)
 
 -- ---- capacity and Enable don't matter to a reply
 
@@ -127,30 +135,34 @@ pub log_id_is : (id : Id) → id.kind ≡ 20 → id ≡ log_id id.instance
 log_id_is id kind = ap (λ k. let i : Id = record { kind = k; instance = id.instance } in i) kind
 
 -- a question for a log of the device is one that the device's laws speak of
-asked_is : (id : Id) (extent : Extent) (invoke : ℕ) (octets : List ℕ) → id.kind ≡ 20 → IsQuestion id extent invoke octets → octets ≡ request_octets invoke (question (log_id id.instance) extent)
-asked_is id extent invoke octets kind asks = asks.0 ∙ ap (λ (i : Id). request_octets invoke (question i extent)) (log_id_is id kind)
+asked_is : (source : Option Place) (id : Id) (extent : Extent) (invoke : ℕ) (octets : List ℕ) → id.kind ≡ 20 → IsQuestion id extent (back (towards source)) invoke octets → octets ≡ request_octets (back (towards source)) invoke (question (log_id id.instance) extent)
+asked_is source id extent invoke octets kind asks = asks.0 ∙ ap (λ (i : Id). request_octets (back (towards source)) invoke (question i extent)) (log_id_is id kind)
+
+-- an answer that goes back to its sender by the way that the request came
+abbrev pub back_to : Option Place → Return
+back_to source = record { to = Sender; place = source }
 
 -- the reply to a question for a log of the device
 abbrev log_reply : State → Id → Extent → ℕ → Apdu
 log_reply d id extent invoke = records_ack d.reply_size invoke id extent (log_with d id.instance)
 
-pub log_answered : (rounds : ℕ) (d : State) (events : List LinkEvent) (id : Id) (r : ℕ) (M : List Moment) (H : History) (extent : Extent) (invoke : ℕ) (octets : List ℕ) → LiesAhead rounds d events id r M H → IsQuestion id extent invoke octets
-    → answer d octets ≡ (Some (reply Sender (log_reply d id extent invoke)), d)
-log_answered rounds d events id r M H extent invoke octets a asks =
+pub log_answered : (rounds : ℕ) (d : State) (events : List LinkEvent) (source : Option Place) (id : Id) (r : ℕ) (M : List Moment) (H : History) (extent : Extent) (invoke : ℕ) (octets : List ℕ) → LiesAhead rounds d events id r M H
+    → IsQuestion id extent (back (towards source)) invoke octets → answer d octets ≡ (Some (reply (back_to source) (log_reply d id extent invoke)), d)
+log_answered rounds d events source id r M H extent invoke octets a asks =
     let n = id.instance in
     let log : Log = log_with d n in
     let there : log_of d n ≡ Some log = a.there.1 ∙ sym (ap (λ (l : Log). Some l) (log_there d n a.there.0 a.there.1)) in
     let size : min 1476 d.reply_size ≡ d.reply_size = omega (arith, a.sound.greatest_reply) in
-    ap (λ (o : List ℕ). answer d o) (asked_is id extent invoke octets a.kind asks ∙ question_is invoke n extent)
-    ∙ question_answered d n log invoke extent there asks.1
-    ∙ ap (λ k. (Some (reply Sender (records_said k invoke (log_id n) extent log)), d)) size
-    ∙ ap (λ (m : Apdu). (Some (reply Sender m), d)) (records_fit d.reply_size invoke (log_id n) extent log (log_is d n a.sound a.there) (omega (arith, a.sound.least_reply)))
-    ∙ ap (λ (i : Id). (Some (reply Sender (records_ack d.reply_size invoke i extent log)), d)) (sym (log_id_is id a.kind))
+    ap (λ (o : List ℕ). answer d o) (asked_is source id extent invoke octets a.kind asks ∙ question_is source invoke n extent)
+    ∙ question_answered d source n log invoke extent asks.3.1 there asks.1
+    ∙ ap (λ k. (Some (reply (back_to source) (records_said k invoke (log_id n) extent log)), d)) size
+    ∙ ap (λ (m : Apdu). (Some (reply (back_to source) m), d)) (records_fit d.reply_size invoke (log_id n) extent log (log_is d n a.sound a.there) (omega (arith, a.sound.least_reply)))
+    ∙ ap (λ (i : Id). (Some (reply (back_to source) (records_ack d.reply_size invoke i extent log)), d)) (sym (log_id_is id a.kind))
 
 -- it is an honest reply of the log's moment
-pub log_replied : (rounds : ℕ) (d : State) (events : List LinkEvent) (id : Id) (r : ℕ) (M : List Moment) (H : History) (m : Moment) (extent : Extent) (invoke : ℕ) → LiesAhead rounds d events id r M H → m ≡ placed rounds (moment_of (log_with d id.instance))
-    → IsReply r m H id extent invoke (datagram_octets (log_reply d id extent invoke))
-log_replied rounds d events id r M H m extent invoke a first =
+pub log_replied : (rounds : ℕ) (d : State) (events : List LinkEvent) (source : Option Place) (id : Id) (r : ℕ) (M : List Moment) (H : History) (m : Moment) (extent : Extent) (invoke : ℕ) → IsWay source → LiesAhead rounds d events id r M H
+    → m ≡ placed rounds (moment_of (log_with d id.instance)) → IsReply r m H id extent (back (towards source)) invoke (datagram_to source (log_reply d id extent invoke))
+log_replied rounds d events source id r M H m extent invoke way a first =
     let log : Log = log_with d id.instance in
     let is : IsLog log = log_is d id.instance a.sound a.there in
     let held = held_now rounds d events id r M H a in
@@ -159,20 +171,20 @@ log_replied rounds d events id r M H m extent invoke a first =
     let same : reply_parameters id log extent d.reply_size ≡ reply_parameters id cut extent r =
     sym (reply-placed id rounds log extent d.reply_size)
     ∙ same_reply id (log_placed rounds log) cut extent d.reply_size (omega arith) (sym held) ∙ ap (λ k. reply_parameters id cut extent k) a.size in
-    subst (λ (k : Moment). IsReply r k H id extent invoke (datagram_octets (log_reply d id extent invoke))) (sym first) (
+    subst (λ (k : Moment). IsReply r k H id extent (back (towards source)) invoke (datagram_to source (log_reply d id extent invoke))) (sym first) (
       subst (λ (es : List Entry). All IsLoggable es) (sym held) is.loggable,
-      reply_again (log_reply d id extent invoke) refl (omega (arith, short, a.sound.greatest_reply))
-          ∙ ap (λ (x : Apdu). Some x) (ack_is d.reply_size invoke id extent log)
-          ∙ ap (λ (p : List ℕ). Some (Complex false invoke read_range_service p)) same,
+      reply_again source (log_reply d id extent invoke) way refl (omega (arith, short, a.sound.greatest_reply))
+          ∙ ap (λ (x : Apdu). Some (towards source, x)) (ack_is d.reply_size invoke id extent log)
+          ∙ ap (λ (p : List ℕ). Some (towards source, Complex false invoke read_range_service p)) same,
     )
 
 -- ---- without the log
 
-pub none_answered : (d : State) (id : Id) (extent : Extent) (invoke : ℕ) (octets : List ℕ) → Lacks d id → IsQuestion id extent invoke octets
-    → answer d octets ≡ (Some (reply Sender (error invoke 26 UnknownObject)), d)
-none_answered d id extent invoke octets a asks =
-    ap (λ (o : List ℕ). answer d o) (asked_is id extent invoke octets a.kind asks ∙ question_is invoke id.instance extent)
-    ∙ question_refused d id.instance invoke extent a.sound.has a.none (omega (arith, asks.2.1)) asks.1
+pub none_answered : (d : State) (source : Option Place) (id : Id) (extent : Extent) (invoke : ℕ) (octets : List ℕ) → Lacks d id → IsQuestion id extent (back (towards source)) invoke octets
+    → answer d octets ≡ (Some (reply (back_to source) (error invoke 26 UnknownObject)), d)
+none_answered d source id extent invoke octets a asks =
+    ap (λ (o : List ℕ). answer d o) (asked_is source id extent invoke octets a.kind asks ∙ question_is source invoke id.instance extent)
+    ∙ question_refused d source id.instance invoke extent asks.3.1 a.sound.has a.none (omega (arith, asks.2.1)) asks.1
 
-pub none_replied : (invoke : ℕ) → IsUnknown invoke (datagram_octets (error invoke 26 UnknownObject))
-none_replied invoke = reply_again (error invoke 26 UnknownObject) (omega arith, omega arith) (omega (arith, error_short invoke 26 1 31))
+pub none_replied : (source : Option Place) (invoke : ℕ) → IsWay source → IsUnknown (back (towards source)) invoke (datagram_to source (error invoke 26 UnknownObject))
+none_replied source invoke way = reply_again source (error invoke 26 UnknownObject) way (omega arith, omega arith) (omega (arith, error_short invoke 26 1 31))

@@ -1,5 +1,8 @@
 -- What happens at a link straight to a device, and what it makes of the device.
 use Rattle.std.specs.Prelude.{◌+◌, min, ℕ, Bool, true, false, if◌then◌else◌, List, [], ◌∷◌, Option, None, Some}
+use Rattle.bac_wire.specs.OptionChain.{◌>>=◌}
+use Rattle.bac_apdu.specs.Frame.{Frame, Unicast, Broadcast, Forwarded, Function, frame_at}
+use Rattle.bac_apdu.specs.Npdu.{Header, header_at, is_there}
 use Rattle.bac_objects.specs.State.{State}
 use Rattle.bac_device.specs.Answer.{answer}
 use Rattle.bac_device.specs.Run as run
@@ -34,6 +37,28 @@ played d (Lose ∷ events) = record { device = d; rest = events; lost = true }
 played d (event ∷ events) = played (happens event d) events
 
 -- ---- one ask
+
+-- the NPDU of a frame that has one (Annex J.2)
+abbrev pub npdu_in : Option Frame → Option (List ℕ)
+npdu_in (Some (Unicast npdu)) = Some npdu
+npdu_in (Some (Broadcast npdu)) = Some npdu
+npdu_in (Some (Forwarded address npdu)) = Some npdu
+npdu_in (Some (Function function rest)) = None
+npdu_in None = None
+
+abbrev pub has_dest : Option (Header × List ℕ) → Bool
+has_dest None = false
+has_dest (Some header) = is_there header.0.dest
+
+-- whether a datagram names a destination on another network, or on all (6.2.2): a link straight to a device has no router
+unfoldable pub goes_on : List ℕ → Bool
+goes_on datagram = has_dest (do
+  npdu ← npdu_in (frame_at datagram)
+  header_at npdu)
+
+-- what a request meets: one that goes on is lost, and nothing is played
+abbrev pub meets : State → List LinkEvent → List ℕ → Played
+meets d events request = if goes_on request then record { device = d; rest = events; lost = true } else played d events
 
 -- the datagram of a reply, where there is one
 abbrev pub datagram_in : Option Reply → Option (List ℕ)

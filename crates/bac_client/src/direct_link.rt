@@ -7,11 +7,13 @@ ghost use Rattle.bac_apdu.specs.declared.service.extent.Extent.{Extent as AnyExt
 ghost use Rattle.bac_objects.specs.Sampling.{log_id, log_of};
 ghost use Rattle.bac_link.specs.Delivery.{History, Moment};
 ghost use Rattle.bac_link.specs.Links.{IsAsked, IsAskedOfNone, IsQuestion, RisesBy};
+ghost use Rattle.bac_link.specs.Path.{Path};
 ghost use Rattle.bac_client.specs.Ahead.{history_ahead, IsAhead, IsThere, Lacks, LiesAhead, moments_ahead, placed_all};
-ghost use Rattle.bac_client.specs.Events.{datagram_in, failures_after, happens, played, told};
+ghost use Rattle.bac_client.specs.Events.{datagram_in, failures_after, goes_on, happens, meets, played, told};
 ghost use Rattle.bac_objects.specs.Sound.{IsSound};
 
 use crate::event::LinkEvent;
+use bac_apdu::{Frame, read_frame, read_npdu};
 use bac_device::Device;
 use bac_link::{LogLink, Lost};
 use bac_wire::Datagram;
@@ -56,6 +58,24 @@ fn play(device: &mut Device, events: &[LinkEvent]) -> (usize, bool)
     (count, false)
 }
 
+/// Whether a datagram names a destination on another network, or on all.
+#[tactic(auto, unfolding(crate::specs::Events::goes_on))]
+fn goes_on(datagram: &[u8]) -> bool
+    ensures { result ≡ goes_on datagram.now }
+{
+    let npdu = match read_frame(datagram) {
+        Some(Frame::Unicast(npdu)) => npdu,
+        Some(Frame::Broadcast(npdu)) => npdu,
+        Some(Frame::Forwarded(_, npdu)) => npdu,
+        Some(Frame::Function(_, _)) => return false,
+        None => return false,
+    };
+    match read_npdu(npdu) {
+        Some((header, _)) => header.dest.is_some(),
+        None => false,
+    }
+}
+
 /// A link straight to a device, which plays events between the answers. When they are used up, each
 /// request is answered.
 #[derive(Drop)]
@@ -89,15 +109,20 @@ impl<'a> DirectLink<'a> {
         }
     }
 
-    /// Plays events up to the next answer, and gives it, unless it is lost or the device has none.
+    /// Plays events up to the next answer, and gives it, unless it is lost or the device has none. A
+    /// request to another network is lost, and nothing is played.
     fn tell(&mut self, request: &[u8]) -> Option<Datagram>
-        ensures reply { result ≡ datagram_in (told (played self.old.device.now self.old.events.now) request.now).0 }
-        ensures device { self.new.device.now ≡ (told (played self.old.device.now self.old.events.now) request.now).1 }
-        ensures events { self.new.events.now ≡ (played self.old.device.now self.old.events.now).rest }
+        ensures reply { result ≡ datagram_in (told (meets self.old.device.now self.old.events.now request.now) request.now).0 }
+        ensures device { self.new.device.now ≡ (told (meets self.old.device.now self.old.events.now request.now) request.now).1 }
+        ensures events { self.new.events.now ≡ (meets self.old.device.now self.old.events.now request.now).rest }
         ensures failures { self.new.failures ≡ self.old.failures }
         ensures same_reference { self.new.device.ghost_name ≡ self.old.device.ghost_name }
-        ensures sound { IsSound (played self.old.device.now self.old.events.now).device }
+        ensures sound { IsSound (meets self.old.device.now self.old.events.now request.now).device }
     {
+        if goes_on(request) {
+            let _clock = self.device.clock();
+            return None;
+        }
         let events = self.events;
         let (count, lost) = play(&mut *self.device, events);
         self.events = &events[count..];
@@ -114,7 +139,7 @@ impl<'a> DirectLink<'a> {
 }
 
 impl<'a> LogLink for DirectLink<'a> {
-    ghost use Rattle.std.specs.Prelude.{◌≡◌, [], refl};
+    ghost use Rattle.std.specs.Prelude.{◌≡◌, [], None, refl};
     ghost use Rattle.std.proofs.Common.{◌∙◌};
     ghost use Rattle.bac_client.specs.Ahead.{IsAhead, Lacks};
 
@@ -124,32 +149,33 @@ impl<'a> LogLink for DirectLink<'a> {
 
     ghost lacks = { λ link id. Lacks link.device.now id };
 
-    ghost is_sure = { λ link. link.events.now ≡ [] };
+    ghost is_sure = { λ link path. (link.events.now ≡ []) × (path.dest ≡ None) };
 
     ghost keeps = { λ a b. (a.device.now ≡ b.device.now) × (a.device.ghost_name ≡ b.device.ghost_name) };
 
     /// Plays events up to and with the next answer or loss, and lets the device answer. `Lost` where
-    /// the answer is lost, and where the device doesn't answer the request: one failure more each.
+    /// the answer is lost, and where the device doesn't answer the request: one failure more each. So
+    /// is a request to another network, which has a DNET; then nothing is played.
     fn ask(&mut self, request: &[u8]) -> Result<Datagram, Lost>
         ensures never_falls { self.old.failures ≤ self.new.failures }
         ensures lost { OnErr result (RisesBy 1 self.old.failures self.new.failures) }
-        ensures honest { (id : Id) (r : ℕ) (M : List Moment) (H : History) (extent : AnyExtent) (invoke : ℕ) →
-            IsAhead self.old.device.now self.old.events.now id r M H → IsQuestion id extent invoke request.now →
-            IsAsked (λ N. IsAhead self.new.device.now self.new.events.now id r N H) r M H id extent invoke result }
-        ensures lacking { (id : Id) (extent : AnyExtent) (invoke : ℕ) →
-            Lacks self.old.device.now id → IsQuestion id extent invoke request.now →
-            IsAskedOfNone invoke result × Lacks self.new.device.now id }
-        ensures stays_sure { self.old.events.now ≡ [] → self.new.events.now ≡ [] }
-        ensures answered { (id : Id) (extent : AnyExtent) (invoke : ℕ) →
-            self.old.events.now ≡ [] → IsQuestion id extent invoke request.now → IsOk result }
-        ensures kept { (id : Id) (extent : AnyExtent) (invoke : ℕ) →
-            self.old.events.now ≡ [] → IsQuestion id extent invoke request.now →
+        ensures honest { (id : Id) (r : ℕ) (M : List Moment) (H : History) (extent : AnyExtent) (path : Path) (invoke : ℕ) →
+            IsAhead self.old.device.now self.old.events.now id r M H → IsQuestion id extent path invoke request.now →
+            IsAsked (λ N. IsAhead self.new.device.now self.new.events.now id r N H) r M H id extent path invoke result }
+        ensures lacking { (id : Id) (extent : AnyExtent) (path : Path) (invoke : ℕ) →
+            Lacks self.old.device.now id → IsQuestion id extent path invoke request.now →
+            IsAskedOfNone path invoke result × Lacks self.new.device.now id }
+        ensures stays_sure { (path : Path) → (self.old.events.now ≡ []) × (path.dest ≡ None) → (self.new.events.now ≡ []) × (path.dest ≡ None) }
+        ensures answered { (id : Id) (extent : AnyExtent) (path : Path) (invoke : ℕ) →
+            (self.old.events.now ≡ []) × (path.dest ≡ None) → IsQuestion id extent path invoke request.now → IsOk result }
+        ensures kept { (id : Id) (extent : AnyExtent) (path : Path) (invoke : ℕ) →
+            (self.old.events.now ≡ []) × (path.dest ≡ None) → IsQuestion id extent path invoke request.now →
             (self.old.device.now ≡ self.new.device.now) × (self.old.device.ghost_name ≡ self.new.device.ghost_name) }
         // What it makes of the device, and the answer, exactly.
-        ensures reply { result_ok result ≡ datagram_in (told (played self.old.device.now self.old.events.now) request.now).0 }
-        ensures device { self.new.device.now ≡ (told (played self.old.device.now self.old.events.now) request.now).1 }
-        ensures events { self.new.events.now ≡ (played self.old.device.now self.old.events.now).rest }
-        ensures failures { self.new.failures ≡ failures_after self.old.failures (told (played self.old.device.now self.old.events.now) request.now).0 }
+        ensures reply { result_ok result ≡ datagram_in (told (meets self.old.device.now self.old.events.now request.now) request.now).0 }
+        ensures device { self.new.device.now ≡ (told (meets self.old.device.now self.old.events.now request.now) request.now).1 }
+        ensures events { self.new.events.now ≡ (meets self.old.device.now self.old.events.now request.now).rest }
+        ensures failures { self.new.failures ≡ failures_after self.old.failures (told (meets self.old.device.now self.old.events.now request.now) request.now).0 }
         ensures same_reference { self.new.device.ghost_name ≡ self.old.device.ghost_name }
     {
         match self.tell(request) {

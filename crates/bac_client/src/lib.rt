@@ -9,6 +9,7 @@
 mod direct_link;
 mod event;
 mod laws;
+mod routed_link;
 
 pub use bac_link::{
     Answer, ExchangeFault, Item, LogLink, Lost, Pending, Received, Refusal, Request, Timeout,
@@ -22,3 +23,4 @@ pub use bac_walk::{
 pub use direct_link::DirectLink;
 pub use event::LinkEvent;
 pub use laws::{questions_are_the_devices, replies_are_the_devices};
+pub use routed_link::RoutedLink;

@@ -1,0 +1,26 @@
+-- What a router makes of a datagram that it hands on (clause 6.5): of a request on its way, and of the reply on its way back.
+use Rattle.std.specs.Prelude.{ℕ, Bool, not, ◌&&◌, nat_lt, if◌then◌else◌, List, ◌++◌, length, Option, None, Some}
+use Rattle.bac_wire.specs.OptionChain.{◌>>=◌}
+use Rattle.bac_apdu.specs.Frame.{frame_at, frame_octets}
+use Rattle.bac_apdu.specs.Npdu.{Header, Place, header_at, header_octets, is_there}
+use Rattle.bac_link.specs.Datagrams.{unicast_in}
+use Rattle.bac_link.specs.Path.{same_place}
+
+-- to this place, from the network on which the router hears it
+abbrev pub is_for : Place → Header → Bool
+is_for dest h = same_place h.dest (Some dest) && not (is_there h.source)
+
+-- to a device of the network that it is handed on to, from a place elsewhere; its hop count goes with its destination
+abbrev pub handed : Place → Header → Header
+handed source h = record h { dest = None; source = Some source; hops = 0 }
+
+-- where it is no longer than a datagram can be
+abbrev pub whole : List ℕ → Option (List ℕ)
+whole octets = if nat_lt 1501 (length octets) then None else Some octets
+
+-- a datagram to the place `dest`, handed on to it as one from the place `source`
+unfoldable pub handed_on : Place → Place → List ℕ → Option (List ℕ)
+handed_on dest source datagram = do
+  npdu ← unicast_in (frame_at datagram)
+  header ← header_at npdu
+  if is_for dest header.0 then whole (frame_octets (header_octets (handed source header.0) ++ header.1)) else None
