@@ -46,7 +46,7 @@ impl<P: Port> LogLink for UdpLink<P> {
 
     ghost lacks = { λ link id. ⊥ };
 
-    ghost is_sure = { λ link. ⊥ };
+    ghost is_sure = { λ link path. ⊥ };
 
     ghost keeps = { λ a b. a ≡ b };
 

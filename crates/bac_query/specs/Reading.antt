@@ -8,6 +8,7 @@ use Rattle.bac_apdu.specs.Service.ReadPropertyAck.{read_property_ack_at}
 use Rattle.bac_apdu.specs.declared.service.read_property.ReadProperty.{ReadProperty}
 use Rattle.bac_link.specs.Datagrams.{apdu_in}
 use Rattle.bac_link.specs.Exchanges.{Concludes}
+use Rattle.bac_link.specs.Path.{Path}
 use Rattle.bac_link.specs.declared.exchanges.ExchangeFault.{ExchangeFault}
 use Rattle.bac_link.specs.declared.exchanges.ExchangeFault.TheVariants.{BadReply}
 use Rattle.bac_link.specs.declared.request.Request.TheVariants as request
@@ -53,6 +54,6 @@ PrintsAnswer (Err fault) result old new = (result ≡ Err (Exchange fault)) × K
 PrintsAnswer (Ok datagram) result old new = PrintsValues (values_in (apdu_in datagram)) result old new
 
 -- an exchange of the request, and the values of its ACK are printed
-abbrev pub ReadsProperty : ℕ → ReadProperty → Answer → Held → Held → Type 0
-ReadsProperty invoke asked result old new =
-    (answer : Result (List ℕ) ExchangeFault) × Concludes invoke (request.ReadProperty asked) answer × PrintsAnswer answer result old new
+abbrev pub ReadsProperty : Path → ℕ → ReadProperty → Answer → Held → Held → Type 0
+ReadsProperty path invoke asked result old new =
+    (answer : Result (List ℕ) ExchangeFault) × Concludes path invoke (request.ReadProperty asked) answer × PrintsAnswer answer result old new

@@ -2,6 +2,7 @@
 use Rattle.std.specs.Prelude.{◌≡◌, ℕ, List, [], ◌∷◌, ◌++◌, codes, Result, Ok, Err}
 use Rattle.std.specs.Io.KnownBytes.{Keeps}
 use Rattle.bac_link.specs.Exchanges.{Concludes}
+use Rattle.bac_link.specs.Path.{Path}
 use Rattle.bac_link.specs.declared.exchanges.ExchangeFault.{ExchangeFault}
 use Rattle.bac_link.specs.declared.request.Request.{Request}
 use Rattle.bac_query.specs.Reading.{Answer, Held, Prints}
@@ -17,6 +18,6 @@ PrintsIfDone (Err fault) result old new = (result ≡ Err (Exchange fault)) × K
 PrintsIfDone (Ok datagram) result old new = PrintsDone result old new
 
 -- an exchange of the request, and the line where it was done
-abbrev pub WritesProperty : ℕ → Request → Answer → Held → Held → Type 0
-WritesProperty invoke asked result old new =
-    (answer : Result (List ℕ) ExchangeFault) × Concludes invoke asked answer × PrintsIfDone answer result old new
+abbrev pub WritesProperty : Path → ℕ → Request → Answer → Held → Held → Type 0
+WritesProperty path invoke asked result old new =
+    (answer : Result (List ℕ) ExchangeFault) × Concludes path invoke asked answer × PrintsIfDone answer result old new

@@ -4,6 +4,7 @@ ghost use Rattle.std.specs.Prelude.{◌≡◌, List, ℕ, OnOk};
 ghost use Rattle.bac_wire.specs.OptionChain.{GivesSome};
 ghost use Rattle.bac_link.specs.Datagrams.{apdu_in};
 ghost use Rattle.bac_link.specs.Exchanges.{Leaves};
+ghost use Rattle.bac_link.specs.Path.{towards};
 ghost use Rattle.bac_link.specs.Requests.{next_invoke};
 ghost use Rattle.bac_query.specs.Reading.{ReadsProperty, PrintsValues, Prints, values_in};
 ghost use Rattle.bac_query.specs.Values.{IsShown};
@@ -27,7 +28,7 @@ pub fn read_property<L: LogLink, W: Write>(
     asked: ReadProperty,
     out: &mut W,
 ) -> Result<(), QueryFault>
-    ensures { ReadsProperty (next_invoke transactions.old.invoke) asked result (W.contents out.old) (W.contents out.new) }
+    ensures { ReadsProperty (towards transactions.old.route) (next_invoke transactions.old.invoke) asked result (W.contents out.old) (W.contents out.new) }
 {
     let request = Request::ReadProperty(asked);
     match exchange(link, transactions, &request) {

@@ -1,5 +1,6 @@
 //! WriteProperty (clause 15.9) and what is printed of its answer.
 
+ghost use Rattle.bac_link.specs.Path.{towards};
 ghost use Rattle.bac_link.specs.Requests.{next_invoke, IsSendable};
 ghost use Rattle.bac_query.specs.Writing.{PrintsDone, WritesProperty};
 
@@ -16,7 +17,7 @@ pub fn write_property<L: LogLink, W: Write>(
     out: &mut W,
 ) -> Result<(), QueryFault>
     requires { IsSendable asked.now }
-    ensures { WritesProperty (next_invoke transactions.old.invoke) asked.now result (W.contents out.old) (W.contents out.new) }
+    ensures { WritesProperty (towards transactions.old.route) (next_invoke transactions.old.invoke) asked.now result (W.contents out.old) (W.contents out.new) }
 {
     match exchange(link, transactions, asked) {
         Ok(_) => print_done(out),

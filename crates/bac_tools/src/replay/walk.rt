@@ -3,6 +3,7 @@
 ghost use Rattle.std.specs.Prelude.{◌≡◌, [], ◌∷◌, ℕ, false, IfOk};
 ghost use Rattle.bac_log.specs.TrendLog.{number};
 ghost use Rattle.bac_link.specs.Delivery.{History, Moment};
+ghost use Rattle.bac_link.specs.Path.{towards};
 ghost use Rattle.bac_walk.specs.Near.{IsNear};
 ghost use Rattle.bac_walk.specs.Rests.{rest};
 ghost use Rattle.bac_tools.specs.Walk.{missed_text, outcome_text, rested_text, start_of, walk_text};
@@ -33,12 +34,12 @@ fn walk_over<L: LogLink>(
     steps: u32,
 ) -> Result<Vec<u8>, AllocError>
     ensures rests { (r : ℕ) (m : Moment) (H : History) (s : ℕ) →
-        L.is_sure link.old → L.is_honest link.old walk.old.log r (m ∷ []) H → walk.old.next ≡ number s →
+        L.is_sure link.old (towards transactions.old.route) → L.is_honest link.old walk.old.log r (m ∷ []) H → walk.old.next ≡ number s →
         (walk.old.fresh ≡ false → IsNear s m) →
         IfOk result (λ text. text.items ≡ rested_text (rest r H m walk.old.fresh s steps)) }
-    ensures missing { L.lacks link.old walk.old.log → L.is_sure link.old →
+    ensures missing { L.lacks link.old walk.old.log → L.is_sure link.old (towards transactions.old.route) →
         IfOk result (λ text. text.items ≡ missed_text walk.old.next steps) }
-    ensures kept { L.is_sure link.old → L.keeps link.old link.new }
+    ensures kept { L.is_sure link.old (towards transactions.old.route) → L.keeps link.old link.new }
 {
     let outcome = collect(alloc, link, transactions, walk, steps);
     match outcome.why {
