@@ -8,6 +8,7 @@ use Rattle.clap.specs.declared.error.kind.ErrorKind.TheVariants.{DisplayHelp, Di
 use Rattle.bac_apdu.specs.Service.WriteProperty.{PropertyWrite, write_of_code}
 use Rattle.bac_apdu.specs.declared.service.read_property.ReadProperty.{ReadProperty}
 use Rattle.bac_apdu.specs.declared.service.write_property.WriteProperty.{WriteProperty}
+use Rattle.bac_link.specs.Path.{towards}
 use Rattle.bac_link.specs.declared.item.Item.{Item}
 use Rattle.bac_link.specs.declared.request.Request.{Request}
 use Rattle.bac_link.specs.declared.request.Request.TheVariants as request
@@ -61,12 +62,12 @@ of_fetching (Err fault) = Err (of_query fault)
 -- ReadProperty, with invoke ID 1
 abbrev pub Reads : ReadProperty → Held → Held → Ending → Type 0
 Reads asked old new result =
-    IsClosed old new result ⊎ ((answer : Answer) × ReadsProperty 1 asked answer old new × (result ≡ of_answer answer))
+    IsClosed old new result ⊎ ((answer : Answer) × ReadsProperty (towards None) 1 asked answer old new × (result ≡ of_answer answer))
 
 -- WriteProperty, with invoke ID 1
 abbrev pub Writes : Request → Held → Held → Ending → Type 0
 Writes asked old new result =
-    IsClosed old new result ⊎ ((answer : Answer) × WritesProperty 1 asked answer old new × (result ≡ of_answer answer))
+    IsClosed old new result ⊎ ((answer : Answer) × WritesProperty (towards None) 1 asked answer old new × (result ≡ of_answer answer))
 
 -- lines of records and gaps, and the line of the end
 abbrev pub Fetches : Held → Held → Ending → Type 0
