@@ -1,6 +1,6 @@
 //! What a user of walks over a device in memory needs, proved from public contracts alone.
 
-ghost use Rattle.std.specs.Prelude.{ℕ, ◌≡◌, ◌+◌, ◌<◌, ◌≤◌, ◌↔◌, List, Some, None, length, IfSome, IsSome, ◌⊎◌};
+ghost use Rattle.std.specs.Prelude.{ℕ, ◌≡◌, ◌+◌, ◌<◌, ◌≤◌, ◌↔◌, List, Option, Some, None, length, IfSome, IsSome, ◌⊎◌};
 ghost use Rattle.bac_apdu.specs.Service.Extent.{IsExtent};
 ghost use Rattle.bac_apdu.specs.declared.service.extent.Extent.{Extent as AnyExtent};
 ghost use Rattle.bac_log.specs.TrendLog.{Log, number};
@@ -11,6 +11,9 @@ ghost use Rattle.bac_device.specs.Answer.{answer};
 ghost use Rattle.bac_device.specs.declared.reply.Receiver.TheVariants as Receiver;
 ghost use Rattle.bac_link.specs.Delivery.{DeliversTo};
 ghost use Rattle.bac_link.specs.Links.{HasReply, question};
+ghost use Rattle.bac_apdu.specs.Npdu.{Place};
+ghost use Rattle.bac_apdu.specs.Route.{IsWay};
+ghost use Rattle.bac_link.specs.Path.{back, towards};
 ghost use Rattle.bac_link.specs.Requests.{request_octets};
 ghost use Rattle.bac_walk.specs.Near.{AreInWindow, IsNear};
 ghost use Rattle.bac_walk.specs.Rests.{Misses};
@@ -32,10 +35,10 @@ use std::test::Fail;
 /// A link's question for the records of a log of a device brings the honest reply of that log, and
 /// changes nothing.
 pub fn questions_bring_replies()
-    ensures { (d : State) (n : ℕ) (log : Log) (invoke : ℕ) (extent : AnyExtent) →
-        IsSound d → log_of d n ≡ Some log → IsExtent extent →
-        (octets : List ℕ) × (answer d (request_octets invoke (question (log_id n) extent)) ≡ (Some (record { datagram = octets; to = Receiver.Sender }), d))
-        × HasReply d.reply_size log (log_id n) extent invoke octets }
+    ensures { (d : State) (source : Option Place) (n : ℕ) (log : Log) (invoke : ℕ) (extent : AnyExtent) →
+        IsSound d → IsWay source → log_of d n ≡ Some log → IsExtent extent →
+        (octets : List ℕ) × (answer d (request_octets (back (towards source)) invoke (question (log_id n) extent)) ≡ (Some (record { datagram = octets; to = Receiver.Sender }), d))
+        × HasReply d.reply_size log (log_id n) extent (back (towards source)) invoke octets }
 {
     questions_are_the_devices();
     questions_are_answered();

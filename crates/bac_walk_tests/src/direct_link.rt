@@ -323,7 +323,7 @@ fn each_request_takes_its_answer(rt: HostRuntime) -> Result<(), Fail> {
     let mut device = plant(a, 1476, 2, 0, 0)?;
     let events = [LinkEvent::Lose, LinkEvent::Answer, LinkEvent::Lose];
     let mut link = DirectLink::new(&mut device, &events);
-    let who_is = datagram(a, "810b000c0120ffff00ff1008")?;
+    let who_is = datagram(a, "810b000801001008")?;
     let i_am = datagram(a, "810a001401001000c40200007b2205c491032100")?;
     assert_eq!(rt; link.ask(who_is.octets()), Err(Lost));
     // The device doesn't answer this one, and the answer is used up.

@@ -11,6 +11,8 @@ mod link;
 #[cfg(test)]
 mod link_callers;
 #[cfg(test)]
+mod routed_link;
+#[cfg(test)]
 mod walk;
 #[cfg(test)]
 mod walk_callers;

@@ -130,7 +130,7 @@ impl LogLink for Scripted<'_> {
 
     ghost lacks = { λ link id. ⊥ };
 
-    ghost is_sure = { λ link. ⊥ };
+    ghost is_sure = { λ link path. ⊥ };
 
     ghost keeps = { λ a b. Unit {0} };
 

@@ -4,6 +4,7 @@ ghost use Rattle.std.specs.Prelude.{◌≡◌, ◌↔◌, ◌≤◌, ◌+◌, �
 ghost use Rattle.bac_apdu.specs.declared.service.extent.Extent.TheVariants.{ByNumber as by_number};
 ghost use Rattle.bac_link.specs.Delivery.{History, Moment, now, later};
 ghost use Rattle.bac_link.specs.Links.{IsReply, RisesBy};
+ghost use Rattle.bac_link.specs.Path.{towards};
 ghost use Rattle.bac_link.specs.Requests.{IsSendable, IsTooLong};
 
 use bac_apdu::{Extent, ReadRange};
@@ -34,8 +35,8 @@ pub fn records_from<L: LogLink>(
     log: ObjectId,
     from: u32,
 ) -> Result<Datagram, ExchangeFault>
-    ensures replied { (r : ℕ) (M : List Moment) (H : History) → L.is_honest link.old log r M H → L.is_sure link.old →
-        IsOkAnd result (λ d. ((invoke : ℕ) × IsReply r (now M) H log (by_number from (pos 100)) invoke d) × L.is_honest link.new log r (later M) H) }
+    ensures replied { (r : ℕ) (M : List Moment) (H : History) → L.is_honest link.old log r M H → L.is_sure link.old (towards transactions.old.route) →
+        IsOkAnd result (λ d. ((invoke : ℕ) × IsReply r (now M) H log (by_number from (pos 100)) (towards transactions.old.route) invoke d) × L.is_honest link.new log r (later M) H) }
     ensures lost { (r : ℕ) (M : List Moment) (H : History) → L.is_honest link.old log r M H →
         OnErr result (RisesBy (transactions.old.retries + 1) (L.failures link.old) (L.failures link.new)) }
 {

@@ -1,11 +1,12 @@
 //! What a user of walks needs, proved from their public contracts alone.
 
-ghost use Rattle.std.specs.Prelude.{ℕ, ◌≡◌, ◌+◌, ◌-◌, ◌<◌, ◌≤◌, ◌⊎◌, false, max, List, [], ◌∷◌, IfSome, All};
+ghost use Rattle.std.specs.Prelude.{ℕ, ◌≡◌, ◌+◌, ◌-◌, ◌<◌, ◌≤◌, ◌⊎◌, false, max, List, [], ◌∷◌, None, IfSome, All};
 ghost use Rattle.bac_log.specs.Entry.{IsLoggable};
 ghost use Rattle.bac_log.specs.TrendLog.{number};
 ghost use Rattle.bac_link.specs.Delivery.{History, Moment, DeliversTo};
 ghost use Rattle.bac_link.specs.Laws.{after_answers};
 ghost use Rattle.bac_link.specs.Moments.{log_at};
+ghost use Rattle.bac_link.specs.Path.{towards};
 ghost use Rattle.bac_walk.specs.declared.outcome.Why.TheVariants as why;
 ghost use Rattle.bac_walk.specs.Near.{AreInWindow, IsNear};
 ghost use Rattle.bac_walk.specs.Rests.{rest_all};
@@ -48,7 +49,7 @@ pub fn all_records_from<L: LogLink>(
     steps: u32,
 ) -> Option<Outcome>
     ensures { IfSome result (λ outcome. (r : ℕ) (m : Moment) (H : History) (k : ℕ) →
-        L.is_sure link.old → L.is_honest link.old log r (m ∷ []) H → s ≡ number k → IsNear k m → All IsLoggable (log_at m H).entries →
+        L.is_sure link.old (towards None) → L.is_honest link.old log r (m ∷ []) H → s ≡ number k → IsNear k m → All IsLoggable (log_at m H).entries →
         (m.newest + 1) - max k m.oldest < steps →
         (outcome.why ≡ why.Memory) ⊎ (outcome.items.items ≡ (rest_all H m k).items)) }
 {
