@@ -1,6 +1,6 @@
 //! A link through a router.
 
-ghost use Rattle.std.specs.Prelude.{◌≡◌, ◌≤◌, ℕ, List, None, OnErr, IsErr, IsOk};
+ghost use Rattle.std.specs.Prelude.{◌≡◌, ◌≤◌, ℕ, List, None, OnErr, OnOk, IsErr, IsOk};
 ghost use Rattle.bac_wire.specs.Primitive.{Id};
 ghost use Rattle.bac_apdu.specs.declared.service.extent.Extent.{Extent as AnyExtent};
 ghost use Rattle.bac_apdu.specs.Npdu.{header_of, maybe_place_of};
@@ -100,6 +100,7 @@ impl<L: LogLink> LogLink for RoutedLink<L> {
             ⊥ → IsQuestion id extent path invoke request.now → L.keeps self.old.inner self.new.inner }
         // Its failures are its own, and its places stay.
         ensures failures { OnErr result (self.new.failures ≡ one_more self.old.failures) }
+        ensures stays { OnOk result (self.new.failures ≡ self.old.failures) }
         ensures far { self.new.far ≡ self.old.far }
         ensures near { self.new.near ≡ self.old.near }
         ensures idle { handed_on self.old.far self.old.near request.now ≡ None → IsErr result × (self.new.inner ≡ self.old.inner) }
