@@ -23,7 +23,7 @@ use Rattle.bac_walk.specs.Walks.{gap_items, item_of, items_in}
 use Rattle.bac_walk.specs.Collects.{Goes, Collected, IsFreshAfter, FoundEnd, FoundStep, batches, step_items, step_ended, is_fresh_after}
 use Rattle.bac_walk.specs.Sinks.{Call, put_items, gaps, Takes, PutAll, IsRun, Delivery}
 use Rattle.bac_walk.specs.Handing.{walk_after, ended_after, HandedOn}
-use Rattle.bac_walk.proofs.Cuts.{Covers-cut, IsBatch-cut, Covers-end, end_of-append}
+use Rattle.bac_walk.proofs.Cuts.{Covers-cut, IsBatch-cut}
 use Rattle.bac_walk.proofs.Shown.{after-number}
 use Rattle.bac_walk.proofs.Joins.{step_fresh, whole_some}
 use Rattle.bac_walk.proofs.Near.{at_once}

@@ -1,5 +1,5 @@
 -- Facts of the moments of one log.
-use Rattle.std.proofs.Common.{◌≡◌, ℕ, ◌+◌, ◌<◌, ◌≤◌, List, [], ◌∷◌, ◌++◌, length, refl, sym, subst, arith}
+use Rattle.std.proofs.Common.{◌≡◌, ℕ, ◌+◌, ◌≤◌, List, [], ◌∷◌, ◌++◌, length, refl, sym, subst, arith}
 use Rattle.bac_link.specs.Moments.{AreMoments, AreServed, IsMoment, Change, Append, Purge, changed, changed_all}
 use Rattle.bac_link.specs.Delivery.{History, Moment, now, later}
 

@@ -1,5 +1,5 @@
 -- Records that stand in a reply as octets.
-use Rattle.std.specs.Prelude.{◌≡◌, ℕ, ◌+◌, ◌<◌, ◌≤◌, List, [], length, Option, Some, None, Ok}
+use Rattle.std.specs.Prelude.{◌≡◌, ℕ, ◌<◌, ◌≤◌, List, [], length, Option, Some, None, Ok}
 use Rattle.std.specs.Result.{result_ok}
 use Rattle.bac_apdu.specs.Service.ReadRangeAck.{RangeAck, read_range_ack_at}
 use Rattle.bac_log.specs.declared.entry.Entry.{Entry}

@@ -67,6 +67,7 @@ pub fn collect<L: LogLink>(
     ensures oldest { walk.new.fresh ≡ true → result.next ≡ 1 }
     ensures log { walk.new.log ≡ walk.old.log }
     ensures begun { transactions.new.begun ≤ transactions.old.begun + 2 * steps }
+    ensures route { transactions.new.route ≡ transactions.old.route }
     // Over an honest link it delivers the records from its number on that the log holds when each is
     // reached, each once, in rising order, with one exact gap for what is gone. The number is that of
     // ordinal s, and wherever the walk comes it is less than half of the count away from the oldest

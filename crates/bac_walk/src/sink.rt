@@ -44,6 +44,7 @@ pub fn deliver<L: LogLink, S: Sink>(
 ) -> Ended
     ensures never_falls { L.failures link.old ≤ L.failures link.new }
     ensures retries { transactions.new.retries ≡ transactions.old.retries }
+    ensures route { transactions.new.route ≡ transactions.old.route }
     ensures begun { transactions.new.begun ≤ transactions.old.begun + 2 * steps }
     ensures log { walk.new.log ≡ walk.old.log }
     ensures delivers { Delivery S.puts sink.old sink.new
@@ -78,6 +79,7 @@ fn deliver_step<L: LogLink, S: Sink>(
 ) -> Ended
     ensures never_falls { L.failures link.old ≤ L.failures link.new }
     ensures retries { transactions.new.retries ≡ transactions.old.retries }
+    ensures route { transactions.new.route ≡ transactions.old.route }
     ensures begun { transactions.new.begun ≤ transactions.old.begun + 2 }
     ensures log { walk.new.log ≡ walk.old.log }
     ensures delivers { Delivery S.puts sink.old sink.new

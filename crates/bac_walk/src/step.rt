@@ -49,6 +49,7 @@ impl Walk {
     ) -> Result<Turned, WalkFault>
         ensures never_falls { L.failures link.old ≤ L.failures link.new }
         ensures retries { transactions.new.retries ≡ transactions.old.retries }
+        ensures route { transactions.new.route ≡ transactions.old.route }
         ensures begun { transactions.new.begun ≤ transactions.old.begun + 1 }
         ensures fault { OnErr (progress_of result) (self.new ≡ self.old) }
         ensures asks { asks_next (progress_of result) ≡ true → self.new.next ≡ self.old.next }
@@ -87,6 +88,7 @@ impl Walk {
     ) -> Result<Step, WalkFault>
         ensures never_falls { L.failures link.old ≤ L.failures link.new }
         ensures retries { transactions.new.retries ≡ transactions.old.retries }
+        ensures route { transactions.new.route ≡ transactions.old.route }
         ensures begun { transactions.new.begun ≤ transactions.old.begun + 2 }
         ensures fault { OnErr result (self.new.next ≡ self.old.next) }
         ensures log { self.new.log ≡ self.old.log }
@@ -127,6 +129,7 @@ impl Walk {
     ) -> Result<Replied, WalkFault>
         ensures never_falls { L.failures link.old ≤ L.failures link.new }
         ensures retries { transactions.new.retries ≡ transactions.old.retries }
+        ensures route { transactions.new.route ≡ transactions.old.route }
         ensures begun { transactions.new.begun ≤ transactions.old.begun + 2 }
         ensures fault { OnErr (step_of result) (self.new.next ≡ self.old.next) }
         ensures log { self.new.log ≡ self.old.log }

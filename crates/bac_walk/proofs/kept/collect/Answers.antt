@@ -31,6 +31,7 @@ loop-done-init g c =
     record {
       log = refl;
       retries = refl;
+      route = refl;
       begun = omega arith;
       never_falls = omega arith;
       sure = λ h. h;
@@ -149,6 +150,7 @@ loop-done-preserved g c =
     record {
       log = c.deliver-ended.ensures.log ∙ c.loop-done.invariant.log;
       retries = c.deliver-ended.ensures.retries ∙ c.loop-done.invariant.retries;
+      route = c.deliver-ended.ensures.route ∙ c.loop-done.invariant.route;
       begun = omega (arith, c.loop-done.invariant.begun, c.deliver-ended.ensures.begun);
       never_falls = omega (arith, c.loop-done.invariant.never_falls, c.deliver-ended.ensures.never_falls);
       sure = λ h. c.deliver-ended.ensures.sure (c.loop-done.invariant.sure h);

@@ -20,6 +20,7 @@ pub loop-done-init : goal.loop-done-init
 loop-done-init g c = record {
   log = refl;
   retries = refl;
+  route = refl;
   begun = omega arith;
   never_falls = omega arith;
   sure = λ h. h;
@@ -49,6 +50,7 @@ returns-in_default g c =
     record {
       never_falls = omega (arith, c.loop-done.invariant.never_falls, c.deliver_step.ensures.never_falls);
       retries = c.deliver_step.ensures.retries ∙ c.loop-done.invariant.retries;
+      route = c.deliver_step.ensures.route ∙ c.loop-done.invariant.route;
       begun = omega (arith, c.loop-done.invariant.begun, c.deliver_step.ensures.begun);
       log = c.deliver_step.ensures.log ∙ c.loop-done.invariant.log;
       delivers = delivers_early g.S.Sink.puts c.args.sink.now c.deliver_step.new.sink was is c.args.transactions.now.retries
@@ -99,6 +101,7 @@ loop-done-preserved g c =
     record {
       log = c.deliver_step.ensures.log ∙ c.loop-done.invariant.log;
       retries = c.deliver_step.ensures.retries ∙ c.loop-done.invariant.retries;
+      route = c.deliver_step.ensures.route ∙ c.loop-done.invariant.route;
       begun = omega (arith, c.loop-done.invariant.begun, c.deliver_step.ensures.begun);
       never_falls = omega (arith, c.loop-done.invariant.never_falls, c.deliver_step.ensures.never_falls);
       sure = λ h. c.deliver_step.ensures.sure (c.loop-done.invariant.sure h);

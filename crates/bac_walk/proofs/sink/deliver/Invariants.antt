@@ -9,6 +9,7 @@ abbrev pub invariant-loop-done : goal.invariant-loop-done
 invariant-loop-done g l = record {
   log : l.walk.log ≡ l.fn.walk.log;
   retries : l.transactions.retries ≡ l.fn.transactions.retries;
+  route : l.transactions.route ≡ l.fn.transactions.route;
   begun : l.transactions.begun ≤ l.fn.transactions.begun + 2 * l.done;
   never_falls : g.L.LogLink.failures l.fn.link ≤ g.L.LogLink.failures l.link;
   sure : g.L.LogLink.is_sure l.fn.link (towards l.fn.transactions.route) → g.L.LogLink.is_sure l.link (towards l.transactions.route);

@@ -1,4 +1,4 @@
-use Rattle.std.proofs.Common.{◌≡◌, ◌+◌, ◌-◌, ◌≤◌, ℕ, List, Option, length, Ok}
+use Rattle.std.proofs.Common.{◌≡◌, ◌-◌, ℕ, List, Option, length, Ok}
 use Rattle.bac_log.specs.declared.entry.Entry.{Entry}
 use Rattle.bac_log.specs.RecordReading.{entries_at}
 use Rattle.bac_walk.specs.Sinks.{PutAll}
