@@ -6,10 +6,9 @@ ghost use Rattle.bac_tools.specs.Session.{answer_text, clock_text, end_fault, ha
 ghost use Rattle.bac_tools.specs.Views.{Meets, event_of, line_of, state_of};
 
 use crate::replay::fault::LineFault;
-use crate::replay::walk::print_walk;
+use crate::replay::walk::{Local, print_walk};
 use crate::script::hexadecimal::LONGEST;
 use crate::script::line::{Event, Line, is_silent};
-use bac_client::Transactions;
 use bac_device::{BuildFault, Device, DeviceLine, ObjectLine, Receiver, SampleFault};
 use bac_print::{push_address, push_hex, push_number};
 use bac_wire::Datagram;
@@ -23,7 +22,7 @@ pub(crate) enum Session {
     /// A device line, the object lines behind it, and no event.
     Described(DeviceLine, Vec<ObjectLine>),
     /// A device to which events happen, and the transactions of the clients that walk its logs.
-    Running(Device, Transactions),
+    Running(Device, Local),
 }
 
 /// What each line uses anew: room for a datagram that is received, for the reply to it, and for what
@@ -117,7 +116,7 @@ fn push_sample(text: &mut Vec<u8>, taken: Result<u32, SampleFault>) -> Result<()
 /// Writes what an event at a device prints.
 fn happen(
     device: &mut Device,
-    transactions: &mut Transactions,
+    local: &mut Local,
     alloc: Global,
     event: &Event,
     reply: &mut Datagram,
@@ -140,7 +139,7 @@ fn happen(
             push_sample(text, taken)
         }
         Event::Walked(words) => {
-            let lines = print_walk(alloc, device, transactions, *words)?;
+            let lines = print_walk(alloc, device, local, *words)?;
             text.extend_from_slice(lines.as_slice())
         }
     }
@@ -191,17 +190,17 @@ impl Session {
                     Ok(device) => device,
                     Err(fault) => return Err(LineFault::of_build(fault)),
                 };
-                let mut transactions = Transactions::new(RETRIES);
-                match happen(&mut device, &mut transactions, alloc, event, reply, text) {
+                let mut local = Local::new(RETRIES);
+                match happen(&mut device, &mut local, alloc, event, reply, text) {
                     Ok(()) => {
-                        *self = Session::Running(device, transactions);
+                        *self = Session::Running(device, local);
                         Ok(())
                     }
                     Err(_) => Err(LineFault::Memory),
                 }
             }
-            Session::Running(device, transactions) => {
-                match happen(device, transactions, alloc, event, reply, text) {
+            Session::Running(device, local) => {
+                match happen(device, local, alloc, event, reply, text) {
                     Ok(()) => Ok(()),
                     Err(_) => Err(LineFault::Memory),
                 }

@@ -13,6 +13,33 @@ use bac_client::{DirectLink, LogLink, Outcome, Transactions, Walk, Why, collect}
 use bac_device::Device;
 use bac_report::{push_end, push_items};
 use std::alloc::{AllocError, Global};
+use std::marker::Model;
+
+/// Transactions with devices of this network: they have no route.
+#[derive(Drop)]
+pub(crate) struct Local {
+    transactions: Transactions,
+}
+
+impl Model for Local {
+    ghost use Rattle.std.specs.Prelude.{◌≡◌, None};
+    ghost use Rattle.bac_link.specs.declared.transactions.Transactions.{Transactions};
+
+    ghost Value = { Transactions };
+
+    ghost view = { λ local. local.transactions };
+
+    ghost invariant = { λ local. local.transactions.route ≡ None };
+}
+
+impl Local {
+    /// None begun, each to be repeated so many times.
+    pub(crate) fn new(retries: u8) -> Local {
+        Local {
+            transactions: Transactions::new(retries),
+        }
+    }
+}
 
 /// The lines of what a walk delivered, and of its end.
 fn print_outcome(alloc: Global, outcome: &Outcome) -> Result<Vec<u8>, AllocError>
@@ -40,6 +67,7 @@ fn walk_over<L: LogLink>(
     ensures missing { L.lacks link.old walk.old.log → L.is_sure link.old (towards transactions.old.route) →
         IfOk result (λ text. text.items ≡ missed_text walk.old.next steps) }
     ensures kept { L.is_sure link.old (towards transactions.old.route) → L.keeps link.old link.new }
+    ensures route { transactions.new.route ≡ transactions.old.route }
 {
     let outcome = collect(alloc, link, transactions, walk, steps);
     match outcome.why {
@@ -62,7 +90,7 @@ fn begin(words: WalkWords) -> Option<Walk>
 pub(crate) fn print_walk(
     alloc: Global,
     device: &mut Device,
-    transactions: &mut Transactions,
+    local: &mut Local,
     words: WalkWords,
 ) -> Result<Vec<u8>, AllocError>
     ensures text { IfOk result (λ text. text.items ≡ walk_text device.old words.log words.from words.steps) }
@@ -77,5 +105,5 @@ pub(crate) fn print_walk(
     // It is a number.
     let _next = walk.next_number();
     let mut link = DirectLink::new(&mut *device, &[]);
-    walk_over(alloc, &mut link, transactions, &mut walk, steps)
+    walk_over(alloc, &mut link, &mut local.transactions, &mut walk, steps)
 }
