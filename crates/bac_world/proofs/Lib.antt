@@ -1,0 +1,10 @@
+pub mod Grows
+pub mod Verdicts
+pub mod Windows
+pub mod Answered
+pub mod Lasts
+pub mod Packets
+pub mod Done
+pub mod Keeps
+pub mod Withstands
+pub mod Played

@@ -1,0 +1,15 @@
+//! Laws of a walk over a network. Each function does nothing: what it ensures is the law.
+
+ghost use Rattle.bac_world.specs.Runs.{WindowsStayNear, Withstands};
+
+/// Whatever a network keeps, repeats or reorders, a walk over it delivers what the log held when it
+/// answered, each record once, in rising order; each reply that it takes answers its open request.
+pub fn withstands_all()
+    ensures { Withstands }
+{}
+
+/// A walk over a network stays near its log where all moments lie within half of the count from one
+/// ordinal on, as does the ordinal where it begins, unless that is the oldest record.
+pub fn windows_stay_near()
+    ensures { WindowsStayNear }
+{}
