@@ -16,3 +16,7 @@ mod routed_link;
 mod walk;
 #[cfg(test)]
 mod walk_callers;
+#[cfg(test)]
+mod world;
+#[cfg(test)]
+mod world_callers;
