@@ -145,3 +145,54 @@ fn refused_memory_leaves_the_events_before(rt: HostRuntime) -> Result<(), Fail> 
     delivered(&rt, &world, &[state(1, 8, 9, 0)], Some(2));
     Ok(())
 }
+
+/// Number 4294967294 was logged before, and isn't held: it is a gap. The records are 4294967295, 1
+/// and 2, and then 3; with 4 as the next number the oldest is behind.
+#[test]
+fn a_walk_over_a_network_goes_round_the_count(rt: HostRuntime) -> Result<(), Fail> {
+    let mut world = world_from(rt.alloc(), 4294967294, 3, 4294967294, 3)?;
+    let events = [
+        WorldEvent::Ask,
+        WorldEvent::Deliver(0),
+        WorldEvent::Deliver(1),
+        WorldEvent::Deliver(1),
+        WorldEvent::Sample(1),
+        WorldEvent::Ask,
+        WorldEvent::Timeout,
+        WorldEvent::Deliver(3),
+        WorldEvent::Deliver(2),
+        WorldEvent::Deliver(4),
+        WorldEvent::Deliver(5),
+        WorldEvent::Ask,
+        WorldEvent::Deliver(6),
+        WorldEvent::Deliver(7),
+        WorldEvent::Ask,
+        WorldEvent::Deliver(8),
+        WorldEvent::Deliver(9),
+    ];
+    assert_eq!(rt; world.play_all(&events), Ok(15));
+    let items = [
+        gap(4294967294, 4294967295),
+        state(4294967295, 8, 9, 0),
+        state(1, 8, 9, 0),
+        state(2, 8, 9, 0),
+        state(3, 8, 9, 0),
+    ];
+    delivered(&rt, &world, &items, Some(4));
+    Ok(())
+}
+
+#[test]
+fn a_gap_goes_round_the_count(rt: HostRuntime) -> Result<(), Fail> {
+    let mut world = world_from(rt.alloc(), 4294967294, 3, 4294967294, 3)?;
+    let purge = Datagram::of(&PURGE).ok_or("too long")?;
+    let events = [
+        WorldEvent::Handle(purge),
+        WorldEvent::Ask,
+        WorldEvent::Deliver(0),
+        WorldEvent::Deliver(1),
+    ];
+    assert_eq!(rt; world.play_all(&events), Ok(4));
+    delivered(&rt, &world, &[gap(4294967294, 3), purged(3)], None);
+    Ok(())
+}
