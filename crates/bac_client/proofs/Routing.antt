@@ -40,6 +40,7 @@ same_is (Some place) far e =
     let net : place.net ≡ far.net = eqb-true place.net far.net parts.0 in
     let address : place.address ≡ far.address = (bytes_eq-Decides place.address far.address).0 parts.1 in
     ap (λ n. (let p : Place = record { net = n; address = place.address } in Some p)) net ∙ ap (λ a. (let p : Place = record { net = far.net; address = a } in Some p)) address
+
 same_self : (far : Place) → same_place (Some far) (Some far) ≡ true
 same_self far = rw (eq-eqb far.net far.net refl, (bytes_eq-Decides far.address far.address).1 refl) refl
 
@@ -80,8 +81,7 @@ question_handed far near path id extent invoke octets inner near_is asks e =
           let tests = both (same_place path.dest (Some far)) (not (is_there path.source)) on.0 in
           let dest : path.dest ≡ Some far = same_is path.dest far tests.0 in
           let source : path.source ≡ None = none_there path.source tests.1 in
-          let is : inner ≡ own = (whole_is own inner on.1).0 in
-          (
+          let is : inner ≡ own = (whole_is own inner on.1).0 in (
             (is, asks.1, asks.2, (tt, near_is)),
             ap (λ d. (let p : Path = record { dest = d; source = path.source } in p)) dest ∙ ap (λ s. (let p : Path = record { dest = Some far; source = s } in p)) source,
           )

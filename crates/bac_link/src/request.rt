@@ -8,7 +8,9 @@ ghost use Rattle.bac_link.specs.Path.{towards};
 ghost use Rattle.bac_link.specs.Requests.{service_of, parameters_of, has_result as has_result_of, hops_to, request_apdu, request_octets, IsSendable, IsTooLong};
 
 use bac_apdu::choice::{READ_PROPERTY, READ_RANGE, WRITE_PROPERTY};
-use bac_apdu::{Apdu, Far, Npdu, ReadProperty, ReadRange, WriteProperty, write_apdu, write_datagram};
+use bac_apdu::{
+    Apdu, Far, Npdu, ReadProperty, ReadRange, WriteProperty, write_apdu, write_datagram,
+};
 use bac_wire::{Datagram, Full};
 
 /// The most octets that an APDU may have, which is also what a request says that it takes.

@@ -132,10 +132,7 @@ fn operations_are_replayed_round_the_count(rt: HostRuntime) -> Result<(), Fail> 
         LogOp::SetEnabled(true, stamp),
     ];
     let log = replay(rt.alloc(), 5, 4294967291, &ops)?;
-    assert_eq!(rt;
-        (log.count(), log.total(), log.enabled()),
-        (4, 1, true)
-    );
+    assert_eq!(rt; (log.count(), log.total(), log.enabled()), (4, 1, true));
     assert_eq!(rt;
         (status_at(&log, 1), status_at(&log, 2)),
         (Some(0x40), Some(0x80))

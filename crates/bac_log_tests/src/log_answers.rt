@@ -195,7 +195,10 @@ fn numbers_are_selected_round_the_count(rt: HostRuntime) -> Result<(), Fail> {
         (by_number(0, -5), NOTHING),
         (by_number(2, -2147483648), selected(1, 2, 0xc0, Some(1))),
         (by_number(3, 2147483647), NOTHING),
-        (by_number(2147483651, 2147483647), selected(1, 2, 0xc0, Some(1))),
+        (
+            by_number(2147483651, 2147483647),
+            selected(1, 2, 0xc0, Some(1)),
+        ),
     ];
     for (extent, want) in rows {
         assert_eq!(rt; log.answer(&extent, WIDE), Ok(want), "{extent:?}");

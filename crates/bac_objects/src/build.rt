@@ -151,7 +151,9 @@ impl ObjectLine {
             }
             ObjectLine::Integer { .. } => None,
             ObjectLine::Log {
-                capacity, interval, ..
+                capacity,
+                interval,
+                ..
             } => log_fault(*capacity, *interval),
         }
     }

@@ -11,7 +11,11 @@ use std::alloc::AllocError;
 fn number_before(n: u32) -> u32
     ensures { result ≡ number_before n }
 {
-    if n == 1 { 4294967295 } else { n.saturating_sub(1) }
+    if n == 1 {
+        4294967295
+    } else {
+        n.saturating_sub(1)
+    }
 }
 
 /// Appends the line of an item: a record with its sequence number, or the first and the last of the

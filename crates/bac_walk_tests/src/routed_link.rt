@@ -3,7 +3,9 @@
 
 use crate::direct_link::{brought, gap, plant, state};
 use bac_apdu::Route;
-use bac_client::{DirectLink, LinkEvent, LogLink, Lost, RoutedLink, Transactions, Walk, Why, collect};
+use bac_client::{
+    DirectLink, LinkEvent, LogLink, Lost, RoutedLink, Transactions, Walk, Why, collect,
+};
 use bac_device::Device;
 use bac_wire::{Datagram, ObjectId};
 use std::alloc::Global;
@@ -69,7 +71,11 @@ fn an_answer_goes_by_the_way_that_the_request_came(rt: HostRuntime) -> Result<()
     is_dropped(&rt, a, "810a000b01080005001008")?;
     is_dropped(&rt, a, "810a000c01080000017f1008")?;
     is_dropped(&rt, a, "810a000c0108ffff017f1008")?;
-    is_dropped(&rt, a, "810a001b0108000510000102030405060708090a0b0c0d0e0f1008")?;
+    is_dropped(
+        &rt,
+        a,
+        "810a001b0108000510000102030405060708090a0b0c0d0e0f1008",
+    )?;
     Ok(())
 }
 

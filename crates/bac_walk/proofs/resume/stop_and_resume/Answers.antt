@@ -23,7 +23,7 @@ returns g c = record {
       let a = headline_of (λ r M H. g.L.LogLink.is_honest c.args.link.now c.args.walk.now.log r M H)
       (λ r M H. g.L.LogLink.is_honest c.deliver-first.new.link c.args.walk.now.log r M H) c.args.transactions.now.retries
       (g.L.LogLink.failures c.args.link.now) (g.L.LogLink.failures c.deliver-first.new.link) c.args.walk.now c.deliver-first.new.walk
-      c.args.steps c.deliver-first.result (put_items x.0) x.4 r M H s honest next 
+      c.args.steps c.deliver-first.result (put_items x.0) x.4 r M H s honest next
       (windows_near r H M low s c.args.steps c.args.walk.now.fresh served window (λ is. (above, below))) in
       let K : Id → Type 0 = λ n. g.L.LogLink.is_honest c.deliver-first.new.link n r (after_answers a.1 M) H in
       let P : ℕ → Type 0 = λ n. DeliversTo H n (put_items x.0) a.2 M a.1 in
