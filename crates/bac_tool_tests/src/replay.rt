@@ -57,9 +57,9 @@ const NOT_ANSWERED: [&[u8]; 10] = [
     b"rx 810b000d0120ffff00ff1008",
     b"rx 8103000c0120ffff00ff1008",
     b"rx 810b000c0220ffff00ff1008",
-    // A network message; from network 5; to network 5; to one device of all networks.
+    // A network message; from network 0; to network 5; to one device of all networks.
     b"rx 810b000801801200",
-    b"rx 810b000c0108000501071008",
+    b"rx 810b000c0108000001071008",
     b"rx 810b000c0120000500ff1008",
     b"rx 810b000d0120ffff0107ff1008",
     // I-Am.
@@ -80,6 +80,18 @@ fn the_rest_is_not_answered(rt: HostRuntime) -> Result<(), Fail> {
         plays(&rt, rt.alloc(), &[DEVICE, datagram], &[NONE], Ok(()))?;
     }
     Ok(())
+}
+
+#[test]
+fn a_request_from_another_network_is_answered_there(rt: HostRuntime) -> Result<(), Fail> {
+    // From address 07 of network 5.
+    plays(
+        &rt,
+        rt.alloc(),
+        &[DEVICE, b"rx 810b000c0108000501071008"],
+        &[b"tx 810a0019012000050107ff1000c40200007b2205c491032100\n"],
+        Ok(()),
+    )
 }
 
 #[test]
