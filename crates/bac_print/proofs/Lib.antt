@@ -1,2 +1,3 @@
 mod Pieces
 pub mod Octets
+pub mod PlainMoments

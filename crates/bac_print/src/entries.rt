@@ -1,13 +1,13 @@
 //! Records of trend logs, and the lines of what a walk delivers.
 
-ghost use Rattle.std.specs.Prelude.{◌≡◌, ◌++◌, OnOk, codes};
+ghost use Rattle.std.specs.Prelude.{◌≡◌, ◌∷◌, [], ◌++◌, OnOk, codes};
 ghost use Rattle.std.specs.Int.{w32, to_be_bytes};
 ghost use Rattle.bac_print.specs.Numbers.{called};
 ghost use Rattle.bac_print.specs.Entries.{datum_text, first_bits, entry_text, flags_text, gap_line, record_line};
 
-use crate::moments::{push_day, push_time};
+use crate::moments::push_moment;
 use crate::numbers::{
-    push_bits, push_called_bits, push_called_hex, push_called_number, push_called_two,
+    bit_digit, push_called_bits, push_called_hex, push_called_number, push_called_two,
     push_counted, push_number, push_signed,
 };
 use crate::values::push_boolean;
@@ -22,13 +22,32 @@ fn push_bit_string(text: &mut Vec<u8>, count: u8, bits: u32) -> Result<(), Alloc
     push_called_bits(text, "bits", &bits.to_be_bytes(), unused)
 }
 
+/// Appends a log-status.
+fn push_status(text: &mut Vec<u8>, bits: u8) -> Result<(), AllocError>
+    ensures { OnOk result (text.new.items ≡ text.old.items ++ called (codes "status") (first_bits 3 (bits ∷ []))) }
+{
+    text.extend_from_slice(&[
+        b's',
+        b't',
+        b'a',
+        b't',
+        b'u',
+        b's',
+        b'(',
+        bit_digit(bits, 7),
+        bit_digit(bits, 6),
+        bit_digit(bits, 5),
+        b')',
+    ])
+}
+
 /// Appends what was logged.
 #[tactic(auto, unfolding(crate::specs::Entries::datum_text))]
 fn push_datum(text: &mut Vec<u8>, datum: &Datum) -> Result<(), AllocError>
     ensures { OnOk result (text.new.items ≡ text.old.items ++ datum_text datum.now) }
 {
     match *datum {
-        Datum::LogStatus(bits) => push_called_bits(text, "status", &[bits], 5),
+        Datum::LogStatus(bits) => push_status(text, bits),
         Datum::Boolean(flag) => push_boolean(text, flag),
         Datum::Real4(octets) => push_called_hex(text, "real", octets.as_slice()),
         Datum::Enumerated(n) => push_called_number(text, "enum", u64::from(n)),
@@ -51,7 +70,12 @@ fn push_flags(text: &mut Vec<u8>, flags: Option<u8>) -> Result<(), AllocError>
     ensures { OnOk result (text.new.items ≡ text.old.items ++ flags_text flags) }
 {
     match flags {
-        Some(flags) => push_bits(text, &[flags], 4),
+        Some(flags) => text.extend_from_slice(&[
+            bit_digit(flags, 7),
+            bit_digit(flags, 6),
+            bit_digit(flags, 5),
+            bit_digit(flags, 4),
+        ]),
         None => text.extend_from_slice(b"-"),
     }
 }
@@ -62,9 +86,7 @@ fn push_flags(text: &mut Vec<u8>, flags: Option<u8>) -> Result<(), AllocError>
 pub fn push_entry(text: &mut Vec<u8>, entry: &Entry) -> Result<(), AllocError>
     ensures { OnOk result (text.new.items ≡ text.old.items ++ entry_text entry.now) }
 {
-    push_day(text, entry.date)?;
-    text.extend_from_slice(b"T")?;
-    push_time(text, entry.time)?;
+    push_moment(text, entry.date, entry.time)?;
     text.extend_from_slice(b" ")?;
     push_datum(text, &entry.datum)?;
     text.extend_from_slice(b" ")?;

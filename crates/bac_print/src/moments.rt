@@ -1,6 +1,6 @@
 //! Dates and times (clauses 20.2.12 and 20.2.13).
 
-ghost use Rattle.std.specs.Prelude.{◌≡◌, ◌++◌, OnOk};
+ghost use Rattle.std.specs.Prelude.{◌≡◌, ◌<◌, ◌∷◌, ◌++◌, OnOk};
 ghost use Rattle.bac_wire.specs.Stamp.{date_octets, time_octets};
 ghost use Rattle.bac_print.specs.Moments.{date_text, day_text, part_text, time_text, weekday_text, year_text};
 
@@ -75,4 +75,56 @@ pub(crate) fn push_time(text: &mut Vec<u8>, time: Time4) -> Result<(), AllocErro
     push_part(text, time.second)?;
     text.extend_from_slice(b".")?;
     push_part(text, time.hundredth)
+}
+
+/// Appends `YYYY-MM-DDTHH:MM:SS.hh` of parts that have no star and two digits each, at once.
+fn push_plain_moment(text: &mut Vec<u8>, date: Date4, time: Time4) -> Result<(), AllocError>
+    requires year { date.year < 255 }
+    requires month { date.month < 100 }
+    requires day { date.day < 100 }
+    requires hour { time.hour < 100 }
+    requires minute { time.minute < 100 }
+    requires second { time.second < 100 }
+    requires hundredth { time.hundredth < 100 }
+    ensures { OnOk result (text.new.items ≡ text.old.items ++ (day_text (date_octets date) ++ (84 ∷ time_text (time_octets time)))) }
+{
+    let year = 1900 + date.year as u16;
+    text.extend_from_slice(&[
+        b'0' + (year / 1000) as u8,
+        b'0' + (year / 100 % 10) as u8,
+        b'0' + (year / 10 % 10) as u8,
+        b'0' + (year % 10) as u8,
+        b'-',
+        b'0' + date.month / 10,
+        b'0' + date.month % 10,
+        b'-',
+        b'0' + date.day / 10,
+        b'0' + date.day % 10,
+        b'T',
+        b'0' + time.hour / 10,
+        b'0' + time.hour % 10,
+        b':',
+        b'0' + time.minute / 10,
+        b'0' + time.minute % 10,
+        b':',
+        b'0' + time.second / 10,
+        b'0' + time.second % 10,
+        b'.',
+        b'0' + time.hundredth / 10,
+        b'0' + time.hundredth % 10,
+    ])
+}
+
+/// Appends `YYYY-MM-DDTHH:MM:SS.hh`.
+pub(crate) fn push_moment(text: &mut Vec<u8>, date: Date4, time: Time4) -> Result<(), AllocError>
+    ensures { OnOk result (text.new.items ≡ text.old.items ++ (day_text (date_octets date) ++ (84 ∷ time_text (time_octets time)))) }
+{
+    if date.year < UNSPECIFIED && date.month < 100 && date.day < 100 {
+        if time.hour < 100 && time.minute < 100 && time.second < 100 && time.hundredth < 100 {
+            return push_plain_moment(text, date, time);
+        }
+    }
+    push_day(text, date)?;
+    text.extend_from_slice(b"T")?;
+    push_time(text, time)
 }

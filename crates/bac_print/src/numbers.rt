@@ -35,7 +35,7 @@ pub(crate) fn push_two_digits(text: &mut Vec<u8>, n: u8) -> Result<(), AllocErro
 }
 
 /// The digit of a bit of an octet, the lowest bit being at place 0.
-fn bit_digit(octet: u8, place: u32) -> u8
+pub(crate) fn bit_digit(octet: u8, place: u32) -> u8
     requires { place ≤ 7 }
     ensures { result ≡ bit_digit (bit octet place) }
 {

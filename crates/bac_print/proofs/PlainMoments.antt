@@ -1,0 +1,65 @@
+-- The text of a moment whose parts have no star and two digits each.
+use Rattle.std.proofs.Common.{◌≡◌, ℕ, ◌+◌, ◌/◌, ◌%◌, ◌<◌, ◌≤◌, eqb, ltb, true, false, List, [], ◌∷◌, ◌++◌, refl, ap, ◌∙◌, inl, inr, arith}
+use Rattle.std.specs.Prelude.{decimal}
+use Rattle.std.specs.Fmt.{digits}
+use Rattle.std.proofs.lemmas.Bool.{ne_eqb, eq-eqb, lt-ltb, le-ltb, cases_lt}
+use Rattle.bac_print.specs.Moments.{year_text, part_text, day_text, time_text}
+
+one_digit : (n : ℕ) → n < 10 → decimal n ≡ (48 + n) ∷ []
+unfolding digits
+one_digit n lt =
+    let over : eqb (n / 10) 0 ≡ true = eq-eqb _ _ (omega arith) in
+    let last : n % 10 ≡ n = omega arith in
+    let small : ltb n 10 ≡ true = lt-ltb _ _ lt in
+    rw (over, last, small) refl
+
+two_digits_are : (n : ℕ) → 10 ≤ n → n < 100 → decimal n ≡ (48 + n / 10) ∷ (48 + n % 10) ∷ []
+unfolding digits
+two_digits_are n ge lt =
+    let more : eqb (n / 10) 0 ≡ false = ne_eqb _ _ (λ e. omega (arith, e)) in
+    let over : eqb (n / 10 / 10) 0 ≡ true = eq-eqb _ _ (omega arith) in
+    let first : n / 10 % 10 ≡ n / 10 = omega arith in
+    let small : ltb (n / 10) 10 ≡ true = lt-ltb _ _ (omega arith) in
+    let last : ltb (n % 10) 10 ≡ true = lt-ltb _ _ (omega arith) in
+    rw (more, over, first, small, last) refl
+
+pub part_is : (n : ℕ) → n < 100 → part_text n ≡ (48 + n / 10) ∷ (48 + n % 10) ∷ []
+part_is n lt =
+    let plain : eqb n 255 ≡ false = ne_eqb _ _ (λ e. omega (arith, e)) in
+    elim (cases_lt n 10) [
+      | inl l ↦
+          let few : ltb n 10 ≡ true = lt-ltb _ _ l in
+          let high : n / 10 ≡ 0 = omega arith in
+          let low : n % 10 ≡ n = omega arith in
+          rw (plain, few, high, low) (ap (λ (l : List ℕ). 48 ∷ l) (one_digit n l))
+      | inr g ↦ let many : ltb n 10 ≡ false = le-ltb _ _ g in rw (plain, many) (two_digits_are n g lt)
+    ]
+
+four_digits_are : (n : ℕ) → 1000 ≤ n → n < 10000 → decimal n ≡ (48 + n / 1000) ∷ (48 + n / 100 % 10) ∷ (48 + n / 10 % 10) ∷ (48 + n % 10) ∷ []
+unfolding digits
+four_digits_are n ge lt =
+    let m1 : eqb (n / 10) 0 ≡ false = ne_eqb _ _ (λ e. omega (arith, e)) in
+    let m2 : eqb (n / 10 / 10) 0 ≡ false = ne_eqb _ _ (λ e. omega (arith, e)) in
+    let m3 : eqb (n / 10 / 10 / 10) 0 ≡ false = ne_eqb _ _ (λ e. omega (arith, e)) in
+    let m4 : eqb (n / 10 / 10 / 10 / 10) 0 ≡ true = eq-eqb _ _ (omega arith) in
+    let l1 : ltb (n % 10) 10 ≡ true = lt-ltb _ _ (omega arith) in
+    let l2 : ltb (n / 10 % 10) 10 ≡ true = lt-ltb _ _ (omega arith) in
+    let l3 : ltb (n / 10 / 10 % 10) 10 ≡ true = lt-ltb _ _ (omega arith) in
+    let l4 : ltb (n / 10 / 10 / 10 % 10) 10 ≡ true = lt-ltb _ _ (omega arith) in
+    let d3 : n / 10 / 10 % 10 ≡ n / 100 % 10 = omega arith in
+    let d4 : n / 10 / 10 / 10 % 10 ≡ n / 1000 = omega arith in
+    rw (m1, m2, m3, m4, l1, l2, l3, l4, d3, d4) refl
+
+pub year_is : (y : ℕ) → y < 255
+    → year_text y ≡ (48 + (1900 + y) / 1000) ∷ (48 + (1900 + y) / 100 % 10) ∷ (48 + (1900 + y) / 10 % 10) ∷ (48 + (1900 + y) % 10) ∷ []
+year_is y lt = let plain : eqb y 255 ≡ false = ne_eqb _ _ (λ e. omega (arith, e)) in rw plain (four_digits_are (1900 + y) (omega arith) (omega arith))
+
+pub moment_is : (year month day weekday hour minute second hundredth : ℕ) → year < 255 → month < 100 → day < 100 → hour < 100 → minute < 100 → second < 100 → hundredth < 100
+    → day_text (year ∷ month ∷ day ∷ weekday ∷ []) ++ (84 ∷ time_text (hour ∷ minute ∷ second ∷ hundredth ∷ []))
+    ≡ (48 + (1900 + year) / 1000) ∷ (48 + (1900 + year) / 100 % 10) ∷ (48 + (1900 + year) / 10 % 10) ∷ (48 + (1900 + year) % 10) ∷ 45
+    ∷ (48 + month / 10) ∷ (48 + month % 10) ∷ 45 ∷ (48 + day / 10) ∷ (48 + day % 10) ∷ 84
+    ∷ (48 + hour / 10) ∷ (48 + hour % 10) ∷ 58 ∷ (48 + minute / 10) ∷ (48 + minute % 10) ∷ 58 ∷ (48 + second / 10) ∷ (48 + second % 10) ∷ 46
+    ∷ (48 + hundredth / 10) ∷ (48 + hundredth % 10) ∷ []
+unfolding day_text time_text
+moment_is year month day weekday hour minute second hundredth y m d h i s c =
+    rw (year_is year y, part_is month m, part_is day d, part_is hour h, part_is minute i, part_is second s, part_is hundredth c) refl
