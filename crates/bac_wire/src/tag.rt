@@ -29,7 +29,7 @@ impl Class {
     ghost use Rattle.bac_wire.specs.Tag.{class_bits};
 
     /// Bit 3 of a tag's first octet.
-    fn bits(self) -> u8
+    pub(crate) fn bits(self) -> u8
         ensures value { result ≡ class_bits self }
         ensures bound { result ≤ 8 }
     {
