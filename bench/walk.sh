@@ -48,7 +48,7 @@ for reply in 50 480 1476; do
     done
 done
 
-libraries='bac_wire bac_apdu bac_log bac_objects bac_device bac_link bac_walk bac_client'
+libraries='bac_wire bac_apdu bac_log bac_objects bac_device bac_link bac_walk bac_direct'
 mkdir -p "$room/crates/walk_bench/src"
 cp HANDLES "$room"
 for library in $libraries; do

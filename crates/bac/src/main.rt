@@ -1,9 +1,8 @@
 //! The program `bac`: its words, its standard streams and the machine's clock. What it does with them
-//! is in the crate bac_run.
+//! is in the crate bac_tools.
 #![tactic(auto)]
 
-use bac_run::{Fault, run, tell};
-use bac_serve::SystemClock;
+use bac_tools::{Fault, SystemClock, run, tell};
 use std::env::Args;
 use std::io::{BufWriter, ErrorKind};
 use std::process::ExitCode;

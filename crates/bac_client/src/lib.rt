@@ -1,26 +1,22 @@
-//! The client of a device: links to one, and what is asked over them.
+//! The client of a device: requests, links, ports and the walk of a trend log.
 //!
-//! [`DirectLink`] is a link straight to a [`Device`](bac_device::Device) in memory, at which events
-//! happen between the answers. It is honest for each trend log of the device, at the moments that
-//! the events lead to: specs/Ahead says which these are, specs/Events what an event does. Requests
-//! and links (bac_link) and walks (bac_walk) are given on from here.
+//! This crate is the door: it has no code of its own, and gives on what a tool needs. Requests,
+//! transactions and links are of bac_link, the walk of bac_walk, ports and links over them of
+//! bac_ports, links in memory of bac_direct, and a network that repeats and reorders of bac_world.
 #![tactic(auto)]
 
-mod direct_link;
-mod event;
-mod laws;
-mod routed_link;
-
+pub use bac_apdu::Route;
+pub use bac_direct::{
+    DirectLink, LinkEvent, RoutedLink, questions_are_the_devices, replies_are_the_devices,
+};
 pub use bac_link::{
     Answer, ExchangeFault, Item, LogLink, Lost, Pending, Received, Refusal, Request, Timeout,
     Transactions, Verdict, answers, can_be_joined, can_be_resumed, delivers_each_once, exchange,
     judge, read_datagram,
 };
+pub use bac_ports::{Heard, Port, SocketFault, UdpLink, UdpPort};
 pub use bac_walk::{
     BadReply, Batch, Ended, Gap, Numbered, Outcome, Progress, Sink, Step, Walk, WalkFault, Why,
     collect, deliver, rest_resumes, rests_all, stop_and_resume, windows_are_near,
 };
-pub use direct_link::DirectLink;
-pub use event::LinkEvent;
-pub use laws::{questions_are_the_devices, replies_are_the_devices};
-pub use routed_link::RoutedLink;
+pub use bac_world::{Memory, Packet, Side, World, WorldEvent, windows_stay_near, withstands_all};

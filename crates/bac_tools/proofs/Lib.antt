@@ -1,9 +1,0 @@
-pub mod Octets
-pub mod Splits
-pub mod LineLemmas
-pub mod PlayLemmas
-pub mod EndLemmas
-pub mod Moments
-pub mod Walks
-pub mod Outcomes
-pub mod ConfigurationLemmas

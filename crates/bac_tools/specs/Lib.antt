@@ -1,10 +1,6 @@
-pub mod Script
-pub mod Input
-pub mod Fault
-pub mod Walk
-pub mod Session
-pub mod Views
-pub mod Replay
-pub mod Outcomes
-pub mod Stops
-pub mod Configuration
+pub mod Ending
+pub mod Faults
+pub mod Status
+pub mod Given
+pub mod Finding
+pub mod Run

@@ -1,20 +1,25 @@
-//! What the program `bac` does, over values, readers and writers that a contract can name.
+//! What the program `bac` does: the tool that its words name, over streams and a clock that the
+//! caller hands in, and over sockets.
 //!
-//! [`run_replay`] plays a script: each line is a device to describe or a datagram that it receives,
-//! and what it answers is written. The text that a script makes is stated in specs/Replay, line by
-//! line from specs/Session, and `run_replay` is proved to write that text and nothing else, also
-//! where the reader, the writer or memory refuses ([`ReplayFault`]).
+//! [`run`] reads the words, does what they ask for and answers the exit status. What it leaves on its
+//! output is stated tool by tool in specs/Run, and the status of each end in specs/Status. Nothing
+//! is said of sockets: what comes from one may come from anyone.
 //!
-//! `script` reads: a script is cut into lines, and `Line::read` tells what a line says, apart from
-//! what the lines before it have made. `replay` plays: a session holds what the lines so far have
-//! made, and answers what one more prints. The device itself is in the crate bac_device; the
-//! program's words, its standard streams and its exit status are in the crate bac.
+//! The crate is the door of the program: scripts (bac_script), words (bac_words) and serving
+//! (bac_serve) are reached from here.
 #![tactic(auto)]
 
-mod configuration;
-mod replay;
-mod script;
+mod asking;
+mod fault;
+mod finding;
+mod playing;
+mod program;
+mod serving;
+mod telling;
 
-pub use configuration::{Configuration, read_configuration};
-pub use replay::fault::ReplayFault;
-pub use replay::{LIMIT, run_replay, run_replay_buffered};
+pub use bac_script::{Configuration, LIMIT, ReplayFault, read_configuration, run_replay};
+pub use bac_serve::{Clock, SystemClock, serve, serve_one};
+pub use bac_words::{Addresses, Asked, Given, Job, Word, WordsFault, read_words};
+pub use fault::Fault;
+pub use program::run;
+pub use telling::tell;

@@ -16,11 +16,11 @@ use Rattle.bac_link.specs.Transactions.{is_awaited}
 use Rattle.bac_link.specs.declared.transactions.Pending.{Pending}
 use Rattle.bac_walk.specs.Heard.{Heard}
 use Rattle.bac_walk.specs.Walks.{Verdict, Bring, Refuse, Ask, End, verdict}
-use Rattle.bac_client.specs.Ahead.{IsThere, log_with, logged_since, moment_of, placed, turn}
-use Rattle.bac_client.specs.declared.event.LinkEvent.TheVariants as link
-use Rattle.bac_client.proofs.Ahead.{log_is}
-use Rattle.bac_client.proofs.Events.{event_keeps, log_there}
-use Rattle.bac_client.proofs.Steps.{Gains, steps_gain}
+use Rattle.bac_direct.specs.Ahead.{IsThere, log_with, logged_since, moment_of, placed, turn}
+use Rattle.bac_direct.specs.declared.event.LinkEvent.TheVariants as link
+use Rattle.bac_direct.proofs.Ahead.{log_is}
+use Rattle.bac_direct.proofs.Events.{event_keeps, log_there}
+use Rattle.bac_direct.proofs.Steps.{Gains, steps_gain}
 use Rattle.bac_world.specs.declared.event.WorldEvent.{WorldEvent}
 use Rattle.bac_world.specs.declared.event.WorldEvent.TheVariants as event
 use Rattle.bac_world.specs.declared.packet.Packet.{Packet}

@@ -1,5 +1,0 @@
-use Rattle.bac_client.proofs.Questions.{question_is}
-use Rattle.bac_client.proofs.laws.questions_are_the_devices.Goals as goal
-
-pub returns : goal.returns
-returns c = question_is

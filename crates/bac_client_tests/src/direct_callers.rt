@@ -1,0 +1,191 @@
+//! What a user of walks over a device in memory needs, proved from public contracts alone.
+
+ghost use Rattle.std.specs.Prelude.{ℕ, ◌≡◌, ◌+◌, ◌<◌, ◌≤◌, ◌↔◌, List, Option, Some, None, length, IfSome, IsSome, ◌⊎◌};
+ghost use Rattle.bac_apdu.specs.Service.Extent.{IsExtent};
+ghost use Rattle.bac_apdu.specs.declared.service.extent.Extent.{Extent as AnyExtent};
+ghost use Rattle.bac_log.specs.TrendLog.{Log, number};
+ghost use Rattle.bac_objects.specs.Sampling.{log_id, log_of};
+ghost use Rattle.bac_objects.specs.Sound.{IsSound};
+ghost use Rattle.bac_objects.specs.State.{State};
+ghost use Rattle.bac_device.specs.Answer.{answer};
+ghost use Rattle.bac_device.specs.declared.reply.Receiver.TheVariants as Receiver;
+ghost use Rattle.bac_link.specs.Delivery.{DeliversTo};
+ghost use Rattle.bac_link.specs.Links.{HasReply, question};
+ghost use Rattle.bac_apdu.specs.Npdu.{Place};
+ghost use Rattle.bac_apdu.specs.Route.{IsWay};
+ghost use Rattle.bac_link.specs.Path.{back, towards};
+ghost use Rattle.bac_link.specs.Requests.{request_octets};
+ghost use Rattle.bac_walk.specs.Near.{AreInWindow, IsNear};
+ghost use Rattle.bac_walk.specs.Rests.{Misses};
+ghost use Rattle.bac_walk.specs.declared.outcome.Why.TheVariants as why;
+ghost use Rattle.bac_direct.specs.Ahead.{history_ahead, IsThere, log_with, moment_of, moments_ahead, placed_all};
+ghost use Rattle.bac_client_tests.specs.Day.{day, day_moments, plant as plant_of};
+ghost use Rattle.bac_client_tests.specs.Held.{held_from};
+
+use crate::direct_link::{PURGE, absent, at, brought, gap, name, plant, purged, state};
+use bac_device::{Device, DeviceLine, Name, ObjectLine, questions_are_answered};
+use bac_direct::{DirectLink, LinkEvent, questions_are_the_devices, replies_are_the_devices};
+use bac_link::Transactions;
+use bac_walk::{Outcome, Walk, Why, collect, rests_all, windows_are_near};
+use bac_wire::{Datagram, ObjectId};
+use std::alloc::Global;
+use std::test::Fail;
+
+/// A link's question for the records of a log of a device brings the honest reply of that log, and
+/// changes nothing.
+pub fn questions_bring_replies()
+    ensures { (d : State) (source : Option Place) (n : ℕ) (log : Log) (invoke : ℕ) (extent : AnyExtent) →
+        IsSound d → IsWay source → log_of d n ≡ Some log → IsExtent extent →
+        (octets : List ℕ) × (answer d (request_octets (back (towards source)) invoke (question (log_id n) extent)) ≡ (Some (record { datagram = octets; to = Receiver.Sender }), d))
+        × HasReply d.reply_size log (log_id n) extent (back (towards source)) invoke octets }
+{
+    questions_are_the_devices();
+    questions_are_answered();
+    replies_are_the_devices();
+}
+
+/// Whatever happens at a device between its answers, steps of a walk from number s on deliver the
+/// records from its ordinal on that the log holds when each is reached: the moments and the history
+/// are those that the device and the events lead to, however many rounds of numbers further on,
+/// where they lie within half of the count.
+pub fn records_from(
+    alloc: Global,
+    device: &mut Device,
+    events: &[LinkEvent],
+    log: ObjectId,
+    s: u32,
+    steps: u32,
+) -> Option<Outcome>
+    ensures is_some { IsSome result ↔ (0 < s) × (log.kind ≡ 20) }
+    ensures delivers { IfSome result (λ outcome. (rounds k low : ℕ) → IsThere device.old log.instance → s ≡ number k →
+        AreInWindow low (placed_all rounds (moments_ahead device.old log.instance events.now)) → low ≤ k → k < low + 2147483648 →
+        (count : ℕ) × (t : ℕ) × (outcome.next ≡ number t)
+        × DeliversTo (history_ahead rounds device.old log.instance events.now) k outcome.items.items t
+        (placed_all rounds (moments_ahead device.old log.instance events.now)) count) }
+{
+    windows_are_near();
+    let Some(mut walk) = Walk::from_number(log, s) else {
+        return None;
+    };
+    let mut link = DirectLink::new(device, events);
+    let mut transactions = Transactions::new(3);
+    Some(collect(alloc, &mut link, &mut transactions, &mut walk, steps))
+}
+
+/// Where nothing happens at a device, more steps than its log has records bring all that the log
+/// holds from the ordinal of number s on which is near, unless memory runs out, and leave the device
+/// as it was.
+pub fn all_records_from(
+    alloc: Global,
+    device: &mut Device,
+    log: ObjectId,
+    s: u32,
+    steps: u32,
+) -> Option<Outcome>
+    ensures is_some { IsSome result ↔ (0 < s) × (log.kind ≡ 20) }
+    ensures records { IfSome result (λ outcome. (k : ℕ) → IsThere device.old log.instance → s ≡ number k →
+        IsNear k (moment_of (log_with device.old log.instance)) → length (log_with device.old log.instance).entries < steps →
+        (outcome.why ≡ why.Memory) ⊎ (outcome.items.items ≡ held_from (log_with device.old log.instance) k)) }
+    // Without the log, the device says so.
+    ensures missing { IfSome result (λ outcome. log_of device.old log.instance ≡ None →
+        Misses steps s outcome.items.items outcome.next outcome.why) }
+    ensures unchanged { device.new ≡ device.old }
+{
+    rests_all();
+    let Some(mut walk) = Walk::from_number(log, s) else {
+        return None;
+    };
+    let mut link = DirectLink::new(device, &[]);
+    let mut transactions = Transactions::new(0);
+    Some(collect(alloc, &mut link, &mut transactions, &mut walk, steps))
+}
+
+/// A day at a device with one log of three records: appends that overwrite, a purge, and a loss,
+/// between answers. Steps of a walk from number 1 on deliver exactly what the log holds at the
+/// moments of its answers, which are computed here.
+pub fn records_of_a_day(
+    alloc: Global,
+    device: &DeviceLine,
+    name: Name,
+    source: ObjectId,
+    steps: u32,
+) -> Option<Outcome>
+    ensures { IfSome result (λ outcome. (count : ℕ) × (t : ℕ) × (outcome.next ≡ number t)
+        × DeliversTo (history_ahead 0 (plant_of device.now name source) 1 day) 1 outcome.items.items t day_moments count) }
+{
+    let log = ObjectId::new(20, 1)?;
+    let purge = Datagram::of(&PURGE)?;
+    let lines = [ObjectLine::Log {
+        instance: 1,
+        name,
+        source,
+        capacity: 3,
+        interval: 0,
+        logged: 0,
+    }];
+    let Ok(mut built) = Device::build(alloc, device, &lines) else {
+        return None;
+    };
+    let events = [
+        LinkEvent::Sample(1),
+        LinkEvent::Sample(1),
+        LinkEvent::Answer,
+        LinkEvent::Sample(1),
+        LinkEvent::Sample(1),
+        LinkEvent::Lose,
+        LinkEvent::Sample(1),
+        LinkEvent::Sample(1),
+        LinkEvent::Answer,
+        LinkEvent::Sample(1),
+        LinkEvent::Handle(purge),
+    ];
+    let outcome = records_from(alloc, &mut built, &events, log, 1, steps)?;
+    Some(outcome)
+}
+
+#[test]
+fn a_day_is_delivered(rt: HostRuntime) -> Result<(), Fail> {
+    let a = rt.alloc();
+    let device = DeviceLine {
+        instance: 123,
+        name: name(a, "plant")?,
+        vendor: 0,
+        reply_size: 1476,
+        clock: at(8, 9)?,
+    };
+    let source = ObjectId::new(5, 1).ok_or("no such identifier")?;
+    let outcome = records_of_a_day(a, &device, name(a, "trend")?, source, 10).ok_or("no walk")?;
+    let items = [
+        absent(1),
+        absent(2),
+        gap(3, 4),
+        absent(4),
+        absent(5),
+        absent(6),
+        gap(7, 8),
+        purged(8),
+    ];
+    brought(&rt, &outcome, &items, 9, Why::CaughtUp);
+    Ok(())
+}
+
+#[test]
+fn a_log_at_rest_is_delivered(rt: HostRuntime) -> Result<(), Fail> {
+    let a = rt.alloc();
+    let mut device = plant(a, 50, 3, 0, 6)?;
+    for number in 7..12u32 {
+        assert_eq!(rt; device.sample(1), Ok(number));
+    }
+    let log = ObjectId::new(20, 1).ok_or("no such identifier")?;
+    let outcome = all_records_from(a, &mut device, log, 8, 10).ok_or("no walk")?;
+    let items = [
+        gap(8, 9),
+        state(9, 8, 9, 0),
+        state(10, 8, 9, 0),
+        state(11, 8, 9, 0),
+    ];
+    brought(&rt, &outcome, &items, 12, Why::CaughtUp);
+    let outcome = all_records_from(a, &mut device, log, 11, 10).ok_or("no walk")?;
+    brought(&rt, &outcome, &items[3..], 12, Why::CaughtUp);
+    Ok(())
+}

@@ -1,0 +1,48 @@
+//! What a user of a walk over a network needs, proved from public contracts alone.
+
+ghost use Rattle.std.specs.Prelude.{ℕ, ◌≡◌, ◌+◌, ◌<◌, ◌≤◌, ◌↔◌, length, IfOk, IfSome, IsSome};
+ghost use Rattle.bac_log.specs.TrendLog.{number};
+ghost use Rattle.bac_link.specs.Delivery.{DeliversTo};
+ghost use Rattle.bac_walk.specs.Near.{AreInWindow};
+ghost use Rattle.bac_walk.specs.Place.{walk_at};
+ghost use Rattle.bac_direct.specs.Ahead.{IsThere};
+ghost use Rattle.bac_world.specs.Network.{started};
+ghost use Rattle.bac_world.specs.Runs.{history_of, moments_of};
+ghost use Rattle.bac_world.specs.Views.{network_of};
+
+use bac_device::Device;
+use bac_walk::Walk;
+use bac_wire::ObjectId;
+use bac_world::{Memory, World, WorldEvent, windows_stay_near};
+use std::alloc::Global;
+
+/// Whatever a network makes of the packets between a device and a walk from number s on, the walk
+/// delivers the records from its ordinal on that the log held when it answered: the moments and the
+/// history are those that the device and the events lead to, however many rounds of numbers further
+/// on, where they lie within half of the count.
+pub fn records_over_a_network(
+    alloc: Global,
+    device: Device,
+    log: ObjectId,
+    s: u32,
+    retries: u8,
+    events: &[WorldEvent],
+) -> Option<Result<World, Memory>>
+    ensures is_some { IsSome result ↔ (0 < s) × (log.kind ≡ 20) }
+    ensures delivers { IfSome result (λ played. IfOk played (λ world. (rounds k low : ℕ) → IsThere device log.instance → s ≡ number k →
+        AreInWindow low (moments_of rounds log.instance (started device (walk_at log s) retries) events.now) → low ≤ k → k < low + 2147483648 →
+        (t : ℕ) × ((network_of world).walk.next ≡ number t)
+        × DeliversTo (history_of rounds log.instance (started device (walk_at log s) retries) events.now) k (network_of world).items t
+        (moments_of rounds log.instance (started device (walk_at log s) retries) events.now)
+        (length (moments_of rounds log.instance (started device (walk_at log s) retries) events.now)))) }
+{
+    windows_stay_near();
+    let Some(walk) = Walk::from_number(log, s) else {
+        return None;
+    };
+    let mut world = World::new(alloc, device, walk, retries);
+    match world.play_all(events) {
+        Ok(_) => Some(Ok(world)),
+        Err(Memory) => Some(Err(Memory)),
+    }
+}

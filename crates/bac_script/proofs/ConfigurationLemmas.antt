@@ -1,0 +1,46 @@
+-- The lines of a configuration, one after the other.
+use Rattle.std.proofs.Common.{◌≡◌, ℕ, ◌+◌, ◌<◌, List, [], ◌∷◌, ◌++◌, length, Some, Result, Err, sym, ap, ◌∙◌, arith}
+use Rattle.std.specs.Str.Lines.{strip_carriage_return, lines}
+use Rattle.bac_script.specs.Configuration.{Plan, plan_of, next_plan, with_text, AddsLine, Describes}
+use Rattle.bac_script.specs.Script.Lines.{parts, all_but_last, last_if_any, ended_lines, open_line}
+use Rattle.bac_script.specs.declared.replay.fault.ReplayFault.{ReplayFault}
+use Rattle.bac_script.specs.declared.replay.fault.ReplayFault.TheVariants.{BadLine, Build, Read, TooLong, Write, Memory}
+use Rattle.bac_script.proofs.LineLemmas.{ended_lines-first, open_line-first, lines-parts}
+
+-- the first line, and the lines of the rest
+pub lines-first : (text line more : List ℕ) → parts text ≡ line ∷ parts more → lines text ≡ strip_carriage_return line ∷ lines more
+lines-first text line more h =
+    lines-parts text
+    ∙ ap (λ l. l ++ open_line text) (ended_lines-first text line more h)
+    ∙ ap (λ l. (strip_carriage_return line ∷ ended_lines more) ++ l) (open_line-first text line more h)
+    ∙ ap (λ l. strip_carriage_return line ∷ l) (sym (lines-parts more))
+
+-- a plan of the lines of a text is one of its first line and the lines behind it
+pub plan_of-cut : (said : Result Plan ℕ) (n : ℕ) (plan : Plan) (text line more first : List ℕ) → said ≡ plan_of n plan (lines text)
+    → parts text ≡ line ∷ parts more → first ≡ strip_carriage_return line → said ≡ plan_of n plan (first ∷ lines more)
+plan_of-cut said n plan text line more first is h e =
+    is ∙ ap (plan_of n plan) (lines-first text line more h ∙ ap (λ l. l ∷ lines more) (sym e))
+
+-- a text without a line feed
+lines-open : (text : List ℕ) → parts text ≡ text ∷ [] → lines text ≡ last_if_any (text ∷ [])
+lines-open text h = lines-parts text ∙ ap (λ l. l ++ open_line text) (ap all_but_last h) ∙ ap last_if_any h
+
+pub lines-none : (text : List ℕ) → parts text ≡ text ∷ [] → length text ≡ 0 → lines text ≡ []
+lines-none [] h e = lines-open [] h
+lines-none (b ∷ bs) h e = absurd (omega arith)
+
+pub lines-one : (text : List ℕ) → parts text ≡ text ∷ [] → 0 < length text → lines text ≡ text ∷ []
+lines-one [] h e = absurd (omega arith)
+lines-one (b ∷ bs) h e = lines-open (b ∷ bs) h
+
+module _ (said : Result Plan ℕ) (n : ℕ) (plan new : Plan) (text : List ℕ) (more : List (List ℕ)) (is : said ≡ plan_of n plan (text ∷ more)) where
+  pub plan_of-line : with_text plan text ≡ Some new → said ≡ plan_of (n + 1) new more
+  plan_of-line e = is ∙ ap (λ o. next_plan n o (λ next. plan_of (n + 1) next more)) e
+
+  pub Describes-fault : (f : ReplayFault) → AddsLine (with_text plan text) n (Err f) new → Describes said (Err f)
+  Describes-fault (BadLine k) h = is ∙ ap (λ o. next_plan n o (λ next. plan_of (n + 1) next more)) h.0 ∙ ap Err (sym h.1)
+  Describes-fault (Build f) h = h
+  Describes-fault Read h = h
+  Describes-fault TooLong h = h
+  Describes-fault Write h = h
+  Describes-fault Memory h = tt

@@ -1,0 +1,5 @@
+use Rattle.bac_script.proofs.EndLemmas.{Ends-refused}
+use Rattle.bac_script.proofs.replay.replay_within.Goals as goal
+
+pub returns-in-Err-clause-ends : goal.returns-in-Err-clause-ends
+returns-in-Err-clause-ends g c = Ends-refused c.args.limit (g.R.Read.remaining c.args.reader.now) (g.R.Read.remaining c.args.reader.now) (g.W.Write.contents c.args.writer.now)

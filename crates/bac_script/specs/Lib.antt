@@ -1,0 +1,10 @@
+pub mod Script
+pub mod Input
+pub mod Fault
+pub mod Walk
+pub mod Session
+pub mod Views
+pub mod Replay
+pub mod Outcomes
+pub mod Stops
+pub mod Configuration

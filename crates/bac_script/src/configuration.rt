@@ -1,0 +1,164 @@
+//! A configuration: the lines of a script that describe a device, without an event.
+
+ghost use Rattle.std.specs.Prelude.{◌≡◌, ◌+◌, ◌<◌, ◌≤◌, length, None, OnOk};
+ghost use Rattle.std.specs.Io.KnownBytes.{IsAtEnd};
+ghost use Rattle.std.specs.Str.Lines.{lines};
+ghost use Rattle.bac_script.specs.Configuration.{AddsLine, Configures, Describes, IsAdded, kept_plan, plan_of, with_line, with_text};
+ghost use Rattle.bac_script.specs.Input.{ConsumesUpTo};
+ghost use Rattle.bac_script.specs.Script.Line.{Device, Object};
+
+use crate::replay::LIMIT;
+use crate::replay::fault::{LineFault, ReplayFault};
+use crate::replay::input::{Ending, fill};
+use crate::script::hexadecimal::LONGEST;
+use crate::script::line::{Line, is_silent};
+use crate::script::lines::{split_line, without_return};
+use bac_device::{DeviceLine, ObjectLine};
+use std::alloc::Global;
+use std::io::Read;
+
+/// A device that is described, and its objects in the order of their lines.
+#[derive(Debug, Drop)]
+pub struct Configuration {
+    pub device: DeviceLine,
+    pub objects: Vec<ObjectLine>,
+}
+
+/// Adds the device.
+fn add_device(
+    alloc: Global,
+    kept: &mut Option<Configuration>,
+    device: DeviceLine,
+) -> Result<(), LineFault>
+    ensures { IsAdded (with_line (kept_plan kept.old) (Device device)) result (kept_plan kept.new) }
+{
+    match kept {
+        None => {
+            *kept = Some(Configuration {
+                device,
+                objects: Vec::new(alloc),
+            });
+            Ok(())
+        }
+        Some(_) => Err(LineFault::Bad),
+    }
+}
+
+/// Adds an object of the device.
+fn add_object(kept: &mut Option<Configuration>, object: ObjectLine) -> Result<(), LineFault>
+    ensures { IsAdded (with_line (kept_plan kept.old) (Object object)) result (kept_plan kept.new) }
+{
+    match kept {
+        Some(configuration) => match configuration.objects.push(object) {
+            Ok(()) => Ok(()),
+            Err(_) => Err(LineFault::Memory),
+        },
+        None => Err(LineFault::Bad),
+    }
+}
+
+/// Adds what a text says.
+#[tactic(auto, unfolding(crate::specs::Configuration::with_text))]
+fn add_text(alloc: Global, kept: &mut Option<Configuration>, text: &[u8]) -> Result<(), LineFault>
+    ensures { IsAdded (with_text (kept_plan kept.old) text.now) result (kept_plan kept.new) }
+{
+    if is_silent(text) {
+        return Ok(());
+    }
+    // A datagram is of no use here: its line is bad.
+    let mut room = [0; LONGEST];
+    match Line::read(alloc, text, &mut room) {
+        Ok(Some(Line::Device(device))) => add_device(alloc, kept, device),
+        Ok(Some(Line::Object(object))) => add_object(kept, object),
+        Ok(_) => Err(LineFault::Bad),
+        Err(_) => Err(LineFault::Memory),
+    }
+}
+
+/// Adds what a line with this number says.
+fn add_line(
+    alloc: Global,
+    kept: &mut Option<Configuration>,
+    number: usize,
+    text: &[u8],
+) -> Result<(), ReplayFault>
+    ensures { AddsLine (with_text (kept_plan kept.old) text.now) number result (kept_plan kept.new) }
+{
+    match add_text(alloc, kept, text) {
+        Ok(()) => Ok(()),
+        Err(fault) => Err(fault.at_line(number)),
+    }
+}
+
+/// What the lines of a text describe.
+fn described(alloc: Global, text: &[u8]) -> Result<Option<Configuration>, ReplayFault>
+    requires { length text.now ≤ LIMIT }
+    ensures { Describes (plan_of 1 None (lines text.now)) result }
+{
+    let mut kept = None;
+    let mut rest = text;
+    let mut number = 1;
+    while let Some((line, more)) = split_line(rest) {
+        add_line(alloc, &mut kept, number, without_return(line))?;
+        rest = more;
+        number += 1;
+    }
+    if rest.is_empty() {
+        return Ok(kept);
+    }
+    add_line(alloc, &mut kept, number, rest)?;
+    Ok(kept)
+}
+
+/// What the reader has, which is read into the buffer.
+fn configuration_in<R: Read>(
+    alloc: Global,
+    limit: usize,
+    buffer: &mut [u8],
+    reader: &mut R,
+) -> Result<Option<Configuration>, ReplayFault>
+    requires limit { limit ≤ LIMIT }
+    requires room { length buffer.old ≡ limit + 1 }
+    ensures configures { Configures limit (R.remaining reader.old) (R.remaining reader.new) result }
+    ensures read { ConsumesUpTo (limit + 1) (R.remaining reader.old) (R.remaining reader.new) }
+    ensures whole { OnOk result (IsAtEnd (R.remaining reader.new)) }
+{
+    let (filled, ending) = fill(reader, buffer);
+    match ending {
+        Ending::End => described(alloc, &buffer[..filled]),
+        Ending::Full => Err(ReplayFault::TooLong),
+        Ending::Refused => Err(ReplayFault::Read),
+    }
+}
+
+/// The same, with a buffer of its own.
+fn configuration_within<R: Read>(
+    alloc: Global,
+    limit: usize,
+    reader: &mut R,
+) -> Result<Option<Configuration>, ReplayFault>
+    requires { limit ≤ LIMIT }
+    ensures configures { Configures limit (R.remaining reader.old) (R.remaining reader.new) result }
+    ensures read { ConsumesUpTo (limit + 1) (R.remaining reader.old) (R.remaining reader.new) }
+    ensures whole { OnOk result (IsAtEnd (R.remaining reader.new)) }
+{
+    match vec![in alloc; 0u8; limit + 1] {
+        Ok(mut buffer) => configuration_in(alloc, limit, &mut buffer, reader),
+        Err(_) => Err(ReplayFault::Memory),
+    }
+}
+
+/// Reads a configuration to its end: lines of a script that describe a device and its objects, and
+/// no event, which is a bad line here. `None` where no line describes a device. Lines are looked at
+/// once all is read: a refused read and a configuration of over 1,048,576 octets come before a bad
+/// line.
+pub fn read_configuration<R: Read>(
+    alloc: Global,
+    reader: &mut R,
+) -> Result<Option<Configuration>, ReplayFault>
+    ensures configures { Configures LIMIT (R.remaining reader.old) (R.remaining reader.new) result }
+    ensures read { ConsumesUpTo (LIMIT + 1) (R.remaining reader.old) (R.remaining reader.new) }
+    ensures whole { OnOk result (IsAtEnd (R.remaining reader.new)) }
+{
+    configuration_within(alloc, LIMIT, reader)
+}

@@ -1,0 +1,76 @@
+//! Why a replay ends early.
+
+ghost use Rattle.std.specs.Prelude.{◌≡◌};
+ghost use Rattle.bac_script.specs.Fault.{line_fault, replay_fault, told};
+
+use bac_device::BuildFault;
+use thiserror::Error;
+
+/// Why a line can't be played.
+#[derive(Clone, Copy, Debug, PartialEq, Eq)]
+pub(crate) enum LineFault {
+    /// It is none of the lines of a script, or stands in the wrong place.
+    Bad,
+    /// It is the first event, and the device can't be built.
+    Build(BuildFault),
+    /// No memory for what it prints or says.
+    Memory,
+}
+
+/// Why a replay ends early.
+#[derive(Clone, Copy, Debug, PartialEq, Eq, Error)]
+pub enum ReplayFault {
+    /// This line, counted from 1, is none of a script, or stands in the wrong place.
+    #[error("line {0}: bad line")]
+    BadLine(usize),
+    /// The device can't be built, for another reason than memory.
+    #[error("cannot build: {0}")]
+    Build(BuildFault),
+    /// The reader refused.
+    #[error("read fault")]
+    Read,
+    /// The script has more than 1,048,576 octets.
+    #[error("script too long")]
+    TooLong,
+    /// The writer refused.
+    #[error("write fault")]
+    Write,
+    /// No memory.
+    #[error("out of memory")]
+    Memory,
+}
+
+impl LineFault {
+    /// The fault of a line whose event builds the device.
+    pub(crate) fn of_build(fault: BuildFault) -> LineFault
+        ensures { result ≡ line_fault fault }
+    {
+        match fault {
+            BuildFault::Memory => LineFault::Memory,
+            fault => LineFault::Build(fault),
+        }
+    }
+
+    /// The fault of the replay where this is that of the line with this number.
+    pub(crate) fn at_line(self, number: usize) -> ReplayFault
+        ensures { result ≡ told number self }
+    {
+        match self {
+            LineFault::Bad => ReplayFault::BadLine(number),
+            LineFault::Build(fault) => ReplayFault::Build(fault),
+            LineFault::Memory => ReplayFault::Memory,
+        }
+    }
+}
+
+impl ReplayFault {
+    /// The fault of a replay whose device can't be built.
+    pub(crate) fn of_build(fault: BuildFault) -> ReplayFault
+        ensures { result ≡ replay_fault fault }
+    {
+        match fault {
+            BuildFault::Memory => ReplayFault::Memory,
+            fault => ReplayFault::Build(fault),
+        }
+    }
+}

@@ -1,0 +1,357 @@
+//! What one line of a script says.
+
+ghost use Rattle.std.specs.Prelude.{◌≡◌, ◌<◌, IfOk, IfSome};
+ghost use Rattle.std.specs.Option.{option_map};
+ghost use Rattle.bac_wire.specs.OptionChain.{GivesSome};
+ghost use Rattle.bac_script.specs.Script.Line.{binary_line, clock_line, device_line, integer_line, is_silent, kind_in, line_in, log_line, multistate_line, rx_line, sample_line, source_in, start_in, walk_line, walked_log};
+ghost use Rattle.bac_script.specs.Views.{binary_of, device_of, integer_of, line_of, log_of, multistate_of};
+ghost use Rattle.bac_script.specs.Script.Words.{words_of};
+
+use crate::script::hexadecimal::{LONGEST, octets_in};
+use crate::script::number::{i32_in, u16_in, u32_in};
+use crate::script::stamp::stamp_in;
+use crate::script::words::{last_word, split_word, text_in};
+use bac_device::{DeviceLine, Name, ObjectLine};
+use bac_wire::{ObjectId, Stamp};
+use std::alloc::{AllocError, Global};
+
+/// What happens to a device.
+#[derive(Clone, Copy, Debug)]
+pub(crate) enum Event<'r> {
+    /// It receives a datagram of these octets.
+    Received(&'r [u8]),
+    /// Its clock comes to a moment.
+    Clocked(Stamp),
+    /// Its Trend Log with this instance takes a sample.
+    Sampled(u32),
+    /// A client walks a trend log.
+    Walked(WalkWords),
+}
+
+/// A walk of a trend log: from a sequence number or, without one, from the oldest record, in at most
+/// so many steps.
+#[derive(Clone, Copy, Debug, PartialEq, Eq)]
+pub(crate) struct WalkWords {
+    pub log: ObjectId,
+    pub from: Option<u32>,
+    pub steps: u32,
+}
+
+/// What a line says.
+#[derive(Debug, Drop)]
+pub(crate) enum Line<'r> {
+    /// The device.
+    Device(DeviceLine),
+    /// An object of the device.
+    Object(ObjectLine),
+    /// An event.
+    Happens(Event<'r>),
+}
+
+/// What the words of a device line say; its name still lies in the script.
+#[tactic(auto, unfolding(crate::specs::Script::Line::device_line))]
+fn device_words(words: &[u8]) -> Option<(u32, &str, u16, u16, Stamp)>
+    ensures { GivesSome (λ x. device_of x.0 x.1.now x.2 x.3 x.4) result (device_line (words_of words.now)) }
+{
+    let (instance, rest) = split_word(words)?;
+    let (name, rest) = split_word(rest)?;
+    let (vendor, rest) = split_word(rest)?;
+    let (reply_size, rest) = split_word(rest)?;
+    let clock = last_word(rest)?;
+    Some((
+        u32_in(instance)?,
+        text_in(name)?,
+        u16_in(vendor)?,
+        u16_in(reply_size)?,
+        stamp_in(clock)?,
+    ))
+}
+
+/// The line of a device.
+fn device_line<'r>(alloc: Global, words: &[u8]) -> Result<Option<Line<'r>>, AllocError>
+    ensures { IfOk result (λ line. device_line (words_of words.now) ≡ option_map line_of line) }
+{
+    let Some((instance, name, vendor, reply_size, clock)) = device_words(words) else {
+        return Ok(None);
+    };
+    let name = Name::of(String::from_str(alloc, name)?);
+    Ok(Some(Line::Device(DeviceLine {
+        instance,
+        name,
+        vendor,
+        reply_size,
+        clock,
+    })))
+}
+
+/// What the words of a binary line say; its name still lies in the script.
+#[tactic(auto, unfolding(crate::specs::Script::Line::binary_line))]
+fn binary_words(words: &[u8]) -> Option<(u32, &str, u32)>
+    ensures { GivesSome (λ x. binary_of x.0 x.1.now x.2) result (binary_line (words_of words.now)) }
+{
+    let (instance, rest) = split_word(words)?;
+    let (name, rest) = split_word(rest)?;
+    let default = last_word(rest)?;
+    Some((u32_in(instance)?, text_in(name)?, u32_in(default)?))
+}
+
+/// The line of a Binary Value.
+fn binary_line<'r>(alloc: Global, words: &[u8]) -> Result<Option<Line<'r>>, AllocError>
+    ensures { IfOk result (λ line. binary_line (words_of words.now) ≡ option_map line_of line) }
+{
+    let Some((instance, name, default)) = binary_words(words) else {
+        return Ok(None);
+    };
+    let name = Name::of(String::from_str(alloc, name)?);
+    Ok(Some(Line::Object(ObjectLine::Binary {
+        instance,
+        name,
+        default,
+    })))
+}
+
+/// What the words of a multi-state line say; its name still lies in the script.
+#[tactic(auto, unfolding(crate::specs::Script::Line::multistate_line))]
+fn multistate_words(words: &[u8]) -> Option<(u32, &str, u32, u32)>
+    ensures { GivesSome (λ x. multistate_of x.0 x.1.now x.2 x.3) result (multistate_line (words_of words.now)) }
+{
+    let (instance, rest) = split_word(words)?;
+    let (name, rest) = split_word(rest)?;
+    let (states, rest) = split_word(rest)?;
+    let default = last_word(rest)?;
+    Some((
+        u32_in(instance)?,
+        text_in(name)?,
+        u32_in(states)?,
+        u32_in(default)?,
+    ))
+}
+
+/// The line of a Multi-state Value.
+fn multistate_line<'r>(alloc: Global, words: &[u8]) -> Result<Option<Line<'r>>, AllocError>
+    ensures { IfOk result (λ line. multistate_line (words_of words.now) ≡ option_map line_of line) }
+{
+    let Some((instance, name, states, default)) = multistate_words(words) else {
+        return Ok(None);
+    };
+    let name = Name::of(String::from_str(alloc, name)?);
+    Ok(Some(Line::Object(ObjectLine::Multistate {
+        instance,
+        name,
+        states,
+        default,
+    })))
+}
+
+/// What the words of an integer line say; its name still lies in the script.
+#[tactic(auto, unfolding(crate::specs::Script::Line::integer_line))]
+fn integer_words(words: &[u8]) -> Option<(u32, &str, i32)>
+    ensures { GivesSome (λ x. integer_of x.0 x.1.now x.2) result (integer_line (words_of words.now)) }
+{
+    let (instance, rest) = split_word(words)?;
+    let (name, rest) = split_word(rest)?;
+    let default = last_word(rest)?;
+    Some((u32_in(instance)?, text_in(name)?, i32_in(default)?))
+}
+
+/// The line of an Integer Value.
+fn integer_line<'r>(alloc: Global, words: &[u8]) -> Result<Option<Line<'r>>, AllocError>
+    ensures { IfOk result (λ line. integer_line (words_of words.now) ≡ option_map line_of line) }
+{
+    let Some((instance, name, default)) = integer_words(words) else {
+        return Ok(None);
+    };
+    let name = Name::of(String::from_str(alloc, name)?);
+    Ok(Some(Line::Object(ObjectLine::Integer {
+        instance,
+        name,
+        default,
+    })))
+}
+
+/// The number of the object type that a word says (clause 21, BACnetObjectType).
+fn kind_in(word: &[u8]) -> Option<u16>
+    ensures value { result ≡ kind_in word.now }
+    ensures bound { IfSome result (λ kind. kind < 1024) }
+{
+    if word == b"device".as_slice() {
+        return Some(8);
+    }
+    if word == b"binary".as_slice() {
+        return Some(5);
+    }
+    if word == b"multistate".as_slice() {
+        return Some(19);
+    }
+    if word == b"integer".as_slice() {
+        return Some(45);
+    }
+    if word == b"log".as_slice() {
+        return Some(20);
+    }
+    None
+}
+
+/// The object whose type and instance two words say.
+#[tactic(auto, unfolding(crate::specs::Script::Line::source_in))]
+fn source_in(kind: &[u8], instance: &[u8]) -> Option<ObjectId>
+    ensures { result ≡ source_in kind.now instance.now }
+{
+    let kind = kind_in(kind)?;
+    let instance = u32_in(instance)?;
+    ObjectId::new(kind, instance)
+}
+
+/// What the words of a log line say; its name still lies in the script.
+#[tactic(auto, unfolding(crate::specs::Script::Line::log_line))]
+fn log_words(words: &[u8]) -> Option<(u32, &str, ObjectId, u32, u32, u32)>
+    ensures { GivesSome (λ x. log_of x.0 x.1.now x.2 x.3 x.4 x.5) result (log_line (words_of words.now)) }
+{
+    let (instance, rest) = split_word(words)?;
+    let (name, rest) = split_word(rest)?;
+    let (kind, rest) = split_word(rest)?;
+    let (source, rest) = split_word(rest)?;
+    let (capacity, rest) = split_word(rest)?;
+    let (interval, rest) = split_word(rest)?;
+    let logged = last_word(rest)?;
+    Some((
+        u32_in(instance)?,
+        text_in(name)?,
+        source_in(kind, source)?,
+        u32_in(capacity)?,
+        u32_in(interval)?,
+        u32_in(logged)?,
+    ))
+}
+
+/// The line of a Trend Log.
+fn log_line<'r>(alloc: Global, words: &[u8]) -> Result<Option<Line<'r>>, AllocError>
+    ensures { IfOk result (λ line. log_line (words_of words.now) ≡ option_map line_of line) }
+{
+    let Some((instance, name, source, capacity, interval, logged)) = log_words(words) else {
+        return Ok(None);
+    };
+    let name = Name::of(String::from_str(alloc, name)?);
+    Ok(Some(Line::Object(ObjectLine::Log {
+        instance,
+        name,
+        source,
+        capacity,
+        interval,
+        logged,
+    })))
+}
+
+/// The line of a datagram that is received.
+#[tactic(auto, unfolding(crate::specs::Script::Line::rx_line))]
+fn rx_line<'r>(words: &[u8], room: &'r mut [u8; LONGEST]) -> Option<Line<'r>>
+    ensures { rx_line (words_of words.now) ≡ option_map line_of result }
+{
+    let hex = last_word(words)?;
+    Some(Line::Happens(Event::Received(octets_in(hex, room)?)))
+}
+
+/// The line of a clock that comes to a moment.
+#[tactic(auto, unfolding(crate::specs::Script::Line::clock_line))]
+fn clock_line<'r>(words: &[u8]) -> Option<Line<'r>>
+    ensures { clock_line (words_of words.now) ≡ option_map line_of result }
+{
+    let stamp = last_word(words)?;
+    Some(Line::Happens(Event::Clocked(stamp_in(stamp)?)))
+}
+
+/// The line of a sample on demand.
+#[tactic(auto, unfolding(crate::specs::Script::Line::sample_line))]
+fn sample_line<'r>(words: &[u8]) -> Option<Line<'r>>
+    ensures { sample_line (words_of words.now) ≡ option_map line_of result }
+{
+    let instance = last_word(words)?;
+    Some(Line::Happens(Event::Sampled(u32_in(instance)?)))
+}
+
+/// The Trend Log with the instance that a word says.
+#[tactic(auto, unfolding(crate::specs::Script::Line::walked_log))]
+fn walked_log(word: &[u8]) -> Option<ObjectId>
+    ensures { result ≡ walked_log word.now }
+{
+    let instance = u32_in(word)?;
+    ObjectId::new(20, instance)
+}
+
+/// Where a walk starts: at a number, or at the oldest record.
+#[tactic(auto, unfolding(crate::specs::Script::Line::start_in))]
+fn start_in(word: &[u8]) -> Option<Option<u32>>
+    ensures { result ≡ start_in word.now }
+{
+    if word == b"oldest".as_slice() {
+        return Some(None);
+    }
+    Some(Some(u32_in(word)?))
+}
+
+/// The line of a walk.
+#[tactic(auto, unfolding(crate::specs::Script::Line::walk_line))]
+fn walk_line<'r>(words: &[u8]) -> Option<Line<'r>>
+    ensures { walk_line (words_of words.now) ≡ option_map line_of result }
+{
+    let (log, rest) = split_word(words)?;
+    let (from, rest) = split_word(rest)?;
+    let steps = last_word(rest)?;
+    Some(Line::Happens(Event::Walked(WalkWords {
+        log: walked_log(log)?,
+        from: start_in(from)?,
+        steps: u32_in(steps)?,
+    })))
+}
+
+/// Whether a text is empty or a comment.
+pub(crate) fn is_silent(text: &[u8]) -> bool
+    ensures { result ≡ is_silent text.now }
+{
+    text.is_empty() || text[0] == b'#'
+}
+
+impl<'r> Line<'r> {
+    /// What a text says that is neither empty nor a comment, where it is a line of a script. The
+    /// octets of a datagram are put into the room.
+    #[tactic(auto, unfolding(crate::specs::Script::Line::line_in, crate::specs::Script::Line::device_line, crate::specs::Script::Line::binary_line, crate::specs::Script::Line::multistate_line, crate::specs::Script::Line::integer_line, crate::specs::Script::Line::log_line, crate::specs::Script::Line::rx_line, crate::specs::Script::Line::clock_line, crate::specs::Script::Line::sample_line, crate::specs::Script::Line::walk_line))]
+    pub(crate) fn read(
+        alloc: Global,
+        text: &[u8],
+        room: &'r mut [u8; LONGEST],
+    ) -> Result<Option<Line<'r>>, AllocError>
+        ensures { IfOk result (λ line. line_in text.now ≡ option_map line_of line) }
+    {
+        let Some((word, words)) = split_word(text) else {
+            return Ok(None);
+        };
+        if word == b"device".as_slice() {
+            return device_line(alloc, words);
+        }
+        if word == b"binary".as_slice() {
+            return binary_line(alloc, words);
+        }
+        if word == b"multistate".as_slice() {
+            return multistate_line(alloc, words);
+        }
+        if word == b"integer".as_slice() {
+            return integer_line(alloc, words);
+        }
+        if word == b"log".as_slice() {
+            return log_line(alloc, words);
+        }
+        if word == b"rx".as_slice() {
+            return Ok(rx_line(words, room));
+        }
+        if word == b"clock".as_slice() {
+            return Ok(clock_line(words));
+        }
+        if word == b"sample".as_slice() {
+            return Ok(sample_line(words));
+        }
+        if word == b"walk".as_slice() {
+            return Ok(walk_line(words));
+        }
+        Ok(None)
+    }
+}

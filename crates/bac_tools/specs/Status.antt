@@ -1,0 +1,49 @@
+-- The program's exit statuses: 0 done; 1 the words, the script or the configuration aren't right; 2 no answer, or a read,
+-- a write or a socket failed; 3 the device refused; 4 a reply that doesn't belong; 5 out of memory.
+use Rattle.std.specs.Prelude.{ℕ}
+use Rattle.bac_link.specs.declared.exchanges.ExchangeFault.{ExchangeFault}
+use Rattle.bac_link.specs.declared.exchanges.ExchangeFault.TheVariants as exchange
+use Rattle.bac_tools.specs.declared.fault.Fault.{Fault}
+use Rattle.bac_tools.specs.declared.fault.Fault.TheVariants.{NotText, BadValue, NoDevice, Script, Socket, NoAnswer, Exchange, Write, Memory}
+use Rattle.bac_script.specs.declared.replay.fault.ReplayFault.{ReplayFault}
+use Rattle.bac_script.specs.declared.replay.fault.ReplayFault.TheVariants as replay
+use Rattle.bac_walk.specs.declared.outcome.WalkFault.TheVariants as walk
+use Rattle.bac_walk.specs.declared.outcome.Why.{Why}
+use Rattle.bac_walk.specs.declared.outcome.Why.TheVariants as why
+
+-- of a script that isn't played to its end
+abbrev pub script_status : ReplayFault → ℕ
+script_status (replay.BadLine number) = 1
+script_status (replay.Build fault) = 1
+script_status replay.TooLong = 1
+script_status replay.Read = 2
+script_status replay.Write = 2
+script_status replay.Memory = 5
+
+-- of an exchange without the ACK
+abbrev pub exchange_status : ExchangeFault → ℕ
+exchange_status exchange.TooLong = 1
+exchange_status exchange.Lost = 2
+exchange_status (exchange.Refused refusal) = 3
+exchange_status exchange.BadReply = 4
+
+-- of any fault
+abbrev pub exit_status : Fault → ℕ
+exit_status NotText = 1
+exit_status (BadValue word) = 1
+exit_status NoDevice = 1
+exit_status (Script fault) = script_status fault
+exit_status Socket = 2
+exit_status NoAnswer = 2
+exit_status (Exchange fault) = exchange_status fault
+exit_status Write = 2
+exit_status Memory = 5
+
+-- of a walk, by why it ended
+abbrev pub walk_status : Why → ℕ
+walk_status why.CaughtUp = 0
+walk_status why.StepLimit = 0
+walk_status (why.Fault walk.Lost) = 2
+walk_status (why.Fault (walk.Refused refusal)) = 3
+walk_status (why.Fault walk.BadReply) = 4
+walk_status why.Memory = 5

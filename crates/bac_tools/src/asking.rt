@@ -1,0 +1,106 @@
+//! The tools that ask one device.
+
+ghost use Rattle.std.specs.Prelude.{◌≡◌, IfErr};
+ghost use Rattle.bac_link.specs.Requests.{IsSendable};
+ghost use Rattle.bac_wire.specs.View.{view, IsWellFormed};
+ghost use Rattle.bac_tools.specs.Given.{value_of};
+ghost use Rattle.bac_tools.specs.Run.{Fetches, Reads, Writes};
+
+use crate::fault::{Fault, walk_status};
+use bac_apdu::ReadProperty;
+use bac_link::{Request, Transactions};
+use bac_ports::{UdpLink, UdpPort};
+use bac_query::{fetch_log, read_property, write_property};
+use bac_walk::Walk;
+use bac_wire::Value;
+use bac_words::{Asked, Given};
+use std::alloc::Global;
+use std::io::Write;
+use std::net::Net;
+
+/// Any address of this machine, and any free port.
+pub(crate) const ANY: [u8; 6] = [0; 6];
+
+/// A link to the device that is asked.
+fn link_to<R: Net>(rt: &R, asked: &Asked) -> Result<UdpLink<UdpPort>, Fault>
+    ensures { IfErr result (λ fault. fault ≡ Fault.Socket) }
+{
+    match UdpPort::open(rt, asked.local.unwrap_or(ANY), asked.timeout) {
+        Ok(port) => Ok(UdpLink::new(port, asked.address)),
+        Err(_) => Err(Fault::Socket),
+    }
+}
+
+/// Reads a property, and prints its values.
+pub(crate) fn rp<R: Net, O: Write>(
+    rt: &R,
+    alloc: Global,
+    asked: &Asked,
+    question: ReadProperty,
+    output: &mut O,
+) -> Result<u8, Fault>
+    ensures { Reads question (O.contents output.old) (O.contents output.new) result }
+{
+    let mut link = link_to(rt, asked)?;
+    let mut transactions = Transactions::new(asked.retries);
+    match read_property(alloc, &mut link, &mut transactions, question, output) {
+        Ok(()) => Ok(0),
+        Err(fault) => Err(Fault::of_query(fault)),
+    }
+}
+
+/// Writes a property, and prints that it was done.
+pub(crate) fn wp<R: Net, O: Write>(
+    rt: &R,
+    asked: &Asked,
+    question: &Request,
+    output: &mut O,
+) -> Result<u8, Fault>
+    requires { IsSendable question.now }
+    ensures { Writes question.now (O.contents output.old) (O.contents output.new) result }
+{
+    let mut link = link_to(rt, asked)?;
+    let mut transactions = Transactions::new(asked.retries);
+    match write_property(&mut link, &mut transactions, question, output) {
+        Ok(()) => Ok(0),
+        Err(fault) => Err(Fault::of_query(fault)),
+    }
+}
+
+/// Walks a log, and prints what it brings.
+pub(crate) fn log<R: Net, O: Write>(
+    rt: &R,
+    alloc: Global,
+    asked: &Asked,
+    walk: Walk,
+    steps: u32,
+    output: &mut O,
+) -> Result<u8, Fault>
+    ensures { Fetches (O.contents output.old) (O.contents output.new) result }
+{
+    let mut link = link_to(rt, asked)?;
+    let mut transactions = Transactions::new(asked.retries);
+    match fetch_log(alloc, &mut link, &mut transactions, walk, steps, output) {
+        Ok(fetched) => Ok(walk_status(fetched.why)),
+        Err(fault) => Err(Fault::of_query(fault)),
+    }
+}
+
+/// The value to write.
+pub(crate) fn value_of(given: &Given) -> Value<'_>
+    ensures value { view result ≡ value_of given.now }
+    ensures well_formed { IsWellFormed result }
+{
+    match given {
+        Given::Null => Value::Null,
+        Given::Boolean(value) => Value::Boolean(*value),
+        Given::Unsigned(value) => Value::Unsigned(*value),
+        Given::Signed(value) => Value::Signed(*value),
+        Given::Real4(octets) => Value::Real4(*octets),
+        Given::Text(text) => Value::Chars {
+            set: 0,
+            octets: text.octets(),
+        },
+        Given::Enumerated(value) => Value::Enumerated(*value),
+    }
+}

@@ -1,0 +1,94 @@
+//! Why a tool doesn't do what it was asked for.
+
+ghost use Rattle.std.specs.Prelude.{◌≡◌};
+ghost use Rattle.bac_tools.specs.Faults.{of_query};
+ghost use Rattle.bac_tools.specs.Status.{exit_status, exchange_status, script_status, walk_status};
+
+use bac_link::ExchangeFault;
+use bac_query::QueryFault;
+use bac_script::ReplayFault;
+use bac_walk::{WalkFault, Why};
+use bac_words::Word;
+
+/// Why a tool ends without what it was asked for.
+#[derive(Clone, Copy, Debug, PartialEq, Eq)]
+pub enum Fault {
+    /// A word isn't text in UTF-8.
+    NotText,
+    /// A word or an option has a value that it can't have.
+    BadValue(Word),
+    /// The configuration describes no device.
+    NoDevice,
+    /// A script or a configuration is wrong, or a stream refused while it was played.
+    Script(ReplayFault),
+    /// A socket couldn't be opened, or it failed.
+    Socket,
+    /// No device announced itself.
+    NoAnswer,
+    /// The device's answer didn't come, or isn't the ACK that belongs to the request.
+    Exchange(ExchangeFault),
+    /// The output refused a write.
+    Write,
+    /// Out of memory.
+    Memory,
+}
+
+fn script_status(fault: ReplayFault) -> u8
+    ensures { result ≡ script_status fault }
+{
+    match fault {
+        ReplayFault::BadLine(_) | ReplayFault::Build(_) | ReplayFault::TooLong => 1,
+        ReplayFault::Read | ReplayFault::Write => 2,
+        ReplayFault::Memory => 5,
+    }
+}
+
+fn exchange_status(fault: ExchangeFault) -> u8
+    ensures { result ≡ exchange_status fault }
+{
+    match fault {
+        ExchangeFault::TooLong => 1,
+        ExchangeFault::Lost => 2,
+        ExchangeFault::Refused(_) => 3,
+        ExchangeFault::BadReply => 4,
+    }
+}
+
+impl Fault {
+    /// The program's exit status.
+    pub fn status(self) -> u8
+        ensures { result ≡ exit_status self }
+    {
+        match self {
+            Fault::NotText | Fault::BadValue(_) | Fault::NoDevice => 1,
+            Fault::Script(fault) => script_status(fault),
+            Fault::Socket | Fault::NoAnswer | Fault::Write => 2,
+            Fault::Exchange(fault) => exchange_status(fault),
+            Fault::Memory => 5,
+        }
+    }
+
+    /// The fault of a tool whose query wasn't done.
+    pub(crate) fn of_query(fault: QueryFault) -> Fault
+        ensures { result ≡ of_query fault }
+    {
+        match fault {
+            QueryFault::Exchange(fault) => Fault::Exchange(fault),
+            QueryFault::Write => Fault::Write,
+            QueryFault::Memory => Fault::Memory,
+        }
+    }
+}
+
+/// The exit status of a walk that ended so; its line is on the output, whatever it says.
+pub(crate) fn walk_status(why: Why) -> u8
+    ensures { result ≡ walk_status why }
+{
+    match why {
+        Why::CaughtUp | Why::StepLimit => 0,
+        Why::Fault(WalkFault::Lost) => 2,
+        Why::Fault(WalkFault::Refused(_)) => 3,
+        Why::Fault(WalkFault::BadReply) => 4,
+        Why::Memory => 5,
+    }
+}

@@ -1,0 +1,31 @@
+//! The tool that plays a script.
+
+ghost use Rattle.std.specs.Prelude.{◌≡◌};
+ghost use Rattle.bac_tools.specs.Run.{Plays};
+
+use crate::fault::Fault;
+use bac_script::{ReplayFault, run_replay};
+use std::alloc::Global;
+use std::io::{Read, Write};
+
+/// Plays the script on the input, and flushes the output, also before a fault is told. After a
+/// refused write nothing more is written.
+pub(crate) fn replay<I: Read, O: Write>(
+    alloc: Global,
+    input: &mut I,
+    output: &mut O,
+) -> Result<u8, Fault>
+    ensures { Plays (I.remaining input.old) (I.remaining input.new) (O.contents output.old) (O.contents output.new) result }
+{
+    let played = run_replay(alloc, input, output);
+    if let Err(ReplayFault::Write) = played {
+        return Err(Fault::Script(ReplayFault::Write));
+    }
+    if output.flush().is_err() {
+        return Err(Fault::Script(ReplayFault::Write));
+    }
+    match played {
+        Ok(()) => Ok(0),
+        Err(fault) => Err(Fault::Script(fault)),
+    }
+}

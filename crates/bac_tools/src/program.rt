@@ -1,0 +1,183 @@
+//! The whole program.
+
+ghost use Rattle.std.specs.Prelude.{◌≡◌, ◌⊎◌, ◌≤◌, map, IfOk, IfErr};
+ghost use Rattle.std.specs.Io.KnownBytes.{Keeps};
+ghost use Rattle.std.specs.String.{string_bytes};
+ghost use Rattle.clap.specs.Values.{kind_of};
+ghost use Rattle.bac_tools.specs.Run.{AreMistaken, AreWrong, AskFor, Ends, IsMistake, IsNoWalk, IsOutside, IsTold, Runs, Works, priority_of};
+ghost use Rattle.bac_tools.specs.Status.{exit_status};
+ghost use Rattle.bac_words.specs.declared.job.Job.{Job as AnyJob};
+ghost use Rattle.bac_words.specs.declared.word.Word.{Word as AnyWord};
+
+use crate::asking::{log, rp, value_of, wp};
+use crate::fault::Fault;
+use crate::finding::{limits, wi};
+use crate::playing::replay;
+use crate::serving::serve;
+use crate::telling::tell;
+use bac_apdu::object_type::TREND_LOG;
+use bac_apdu::{ReadProperty, WhoIs, WriteProperty};
+use bac_link::Request;
+use bac_print::write_text;
+use bac_serve::Clock;
+use bac_walk::Walk;
+use bac_wire::ObjectId;
+use bac_words::{Job, Word, WordsFault, read_words};
+use std::alloc::Global;
+use std::io::{Read, Write};
+use std::net::Net;
+
+/// The object of a question.
+fn object(object_type: u16, instance: u32) -> Result<ObjectId, Fault>
+    ensures ok { IfOk result (λ id. id ≡ record { kind = object_type; instance = instance }) }
+    ensures err { IfErr result (λ fault. (fault ≡ Fault.BadValue Word.Instance) × IsOutside object_type instance) }
+{
+    match ObjectId::new(object_type, instance) {
+        Some(object) => Ok(object),
+        None => Err(Fault::BadValue(Word::Instance)),
+    }
+}
+
+/// The walk of a log from a number, or from the oldest record.
+fn walk(instance: u32, from: Option<u32>) -> Result<Walk, Fault>
+    ensures { IfErr result (IsNoWalk instance from) }
+{
+    let log = object(TREND_LOG, instance)?;
+    let walk = match from {
+        Some(number) => Walk::from_number(log, number),
+        None => Walk::oldest(log),
+    };
+    match walk {
+        Some(walk) => Ok(walk),
+        None => Err(Fault::BadValue(Word::From)),
+    }
+}
+
+/// The priority to write at, where there is one.
+fn priority(number: u8) -> Option<u8>
+    ensures { result ≡ priority_of number }
+{
+    if number == 0 { None } else { Some(number) }
+}
+
+/// Does what a job asks for; answers the exit status.
+fn work<R: Net, I: Read, O: Write, C: Clock>(
+    rt: &R,
+    alloc: Global,
+    job: &Job,
+    input: &mut I,
+    output: &mut O,
+    clock: &mut C,
+) -> Result<u8, Fault>
+    ensures { Works job.now (I.remaining input.old) (I.remaining input.new) (O.contents output.old) (O.contents output.new) result }
+{
+    match job {
+        Job::Replay => replay(alloc, input, output),
+        Job::Wi {
+            addresses,
+            min,
+            max,
+            local,
+            timeout,
+        } => {
+            let request = WhoIs {
+                limits: limits(*min, *max),
+            };
+            wi(rt, alloc, addresses, &request, *local, *timeout, output)
+        }
+        Job::Rp {
+            asked,
+            object_type,
+            instance,
+            property,
+            index,
+        } => {
+            let question = ReadProperty {
+                object: object(*object_type, *instance)?,
+                property: *property,
+                index: *index,
+            };
+            rp(rt, alloc, asked, question, output)
+        }
+        Job::Wp {
+            asked,
+            object_type,
+            instance,
+            property,
+            priority: number,
+            given,
+            index,
+        } => {
+            let question = Request::WriteProperty(WriteProperty {
+                object: object(*object_type, *instance)?,
+                property: *property,
+                index: *index,
+                value: value_of(given),
+                priority: priority(*number),
+            });
+            wp(rt, asked, &question, output)
+        }
+        Job::Log {
+            asked,
+            instance,
+            from,
+            steps,
+        } => log(rt, alloc, asked, walk(*instance, *from)?, *steps, output),
+        Job::Serve { address, count } => serve(rt, alloc, *address, *count, input, clock),
+    }
+}
+
+/// What `clap` says of the words: help and the version on the output, mistakes on the errors.
+fn explain<O: Write, E: Write>(
+    alloc: Global,
+    error: &clap::Error,
+    output: &mut O,
+    errors: &mut E,
+) -> u8
+    ensures { IsMistake (kind_of error.now) →
+        Keeps (O.contents output.old) (O.contents output.new) × ((result ≡ 1) ⊎ (result ≡ exit_status Fault.Memory)) }
+{
+    let Ok(text) = format!(in alloc; "{error}") else {
+        return tell(alloc, Fault::Memory, errors);
+    };
+    if error.use_stderr() {
+        let _ = write_text(errors, text.as_bytes());
+        return 1;
+    }
+    if write_text(output, text.as_bytes()).is_err() || output.flush().is_err() {
+        return tell(alloc, Fault::Write, errors);
+    }
+    0
+}
+
+/// The program `bac`: does what its words ask for, the first of which is its name, and answers the
+/// exit status. Results and help go to the output, faults to the errors, each with one write.
+pub fn run<R: Net, I: Read, O: Write, E: Write, C: Clock>(
+    rt: &R,
+    alloc: Global,
+    words: &[String],
+    input: &mut I,
+    output: &mut O,
+    errors: &mut E,
+    clock: &mut C,
+) -> u8
+    // The tool that the words name does what they say.
+    ensures done { (job : AnyJob) → AskFor (map string_bytes words.now) job →
+        Runs job (I.remaining input.old) (I.remaining input.new) (O.contents output.old) (O.contents output.new) result }
+    // Words that are wrong leave the output as it is.
+    ensures bad_value { (word : AnyWord) → AreWrong (map string_bytes words.now) word →
+        Keeps (O.contents output.old) (O.contents output.new) × IsTold (Fault.BadValue word) result }
+    ensures mistake { AreMistaken (map string_bytes words.now) →
+        Keeps (O.contents output.old) (O.contents output.new) × ((result ≡ 1) ⊎ (result ≡ exit_status Fault.Memory)) }
+{
+    let job = match read_words(alloc, words) {
+        Ok(job) => job,
+        Err(WordsFault::Usage(error)) => return explain(alloc, &error, output, errors),
+        Err(WordsFault::BadValue(word)) => return tell(alloc, Fault::BadValue(word), errors),
+        Err(WordsFault::Memory) => return tell(alloc, Fault::Memory, errors),
+    };
+    match work(rt, alloc, &job, input, output, clock) {
+        Ok(status) => status,
+        Err(fault) => tell(alloc, fault, errors),
+    }
+}

@@ -1,0 +1,239 @@
+//! Scripts whose reader or writer fails, is interrupted, or gives and takes single octets.
+
+use crate::replay::{DEVICE, I_AM, NONE, WHO_IS};
+use bac_script::{ReplayFault, run_replay, run_replay_buffered};
+use std::io::{self, BufWriter, Read, Write};
+use std::process::Abort;
+use std::test::Fail;
+
+/// A reader over memory that refuses the read after so many.
+#[derive(Drop)]
+struct Failing<'a> {
+    rest: &'a [u8],
+    reads: usize,
+}
+
+impl Read for Failing<'_> {
+    ghost use Rattle.std.specs.Prelude.{Some};
+
+    ghost remaining = { λ s. Some s.rest.now };
+
+    fn read(&mut self, buf: &mut [u8]) -> io::Result<usize> {
+        if self.reads == 0 {
+            return Err(io::Error::from(io::ErrorKind::Other));
+        }
+        self.reads -= 1;
+        self.rest.read(buf)
+    }
+}
+
+/// A writer over memory that takes so many octets, and then refuses.
+#[derive(Drop)]
+struct Short {
+    text: Vec<u8>,
+    room: usize,
+}
+
+impl Write for Short {
+    ghost use Rattle.std.specs.Prelude.{Some};
+
+    ghost contents = { λ s. Some s.text.items };
+
+    fn write(&mut self, buf: &[u8]) -> io::Result<usize> {
+        if self.room == 0 {
+            return Err(io::Error::from(io::ErrorKind::Other));
+        }
+        let n = buf.len().min(self.room);
+        self.text.extend_from_slice(&buf[..n])?;
+        self.room -= n;
+        Ok(n)
+    }
+
+    fn flush(&mut self) -> io::Result<()> {
+        Ok(())
+    }
+}
+
+#[test]
+fn a_refused_read_is_answered_last(rt: HostRuntime) -> Result<(), Fail> {
+    // The last line has no line feed yet, and isn't played.
+    let script = [DEVICE, WHO_IS, b"rx 00"].concat(rt.alloc())?;
+    let mut reader = Failing {
+        rest: script.as_slice(),
+        reads: 1,
+    };
+    let mut text = Vec::new(rt.alloc());
+    let ended = run_replay(rt.alloc(), &mut reader, &mut text);
+    assert_eq!(rt; ended, Err(ReplayFault::Read));
+    assert_eq!(rt; text.as_slice(), I_AM);
+    // A bad line before it is the fault.
+    let script = [DEVICE, WHO_IS, b"rx 8\n"].concat(rt.alloc())?;
+    let mut reader = Failing {
+        rest: script.as_slice(),
+        reads: 1,
+    };
+    let mut text = Vec::new(rt.alloc());
+    let ended = run_replay(rt.alloc(), &mut reader, &mut text);
+    assert_eq!(rt; ended, Err(ReplayFault::BadLine(3)));
+    assert_eq!(rt; text.as_slice(), I_AM);
+    Ok(())
+}
+
+#[test]
+fn a_refused_write_ends_the_replay(rt: HostRuntime) -> Result<(), Fail> {
+    let script = [DEVICE, WHO_IS, b"rx 8\n"].concat(rt.alloc())?;
+    let mut reader = script.as_slice();
+    let mut writer = Short {
+        text: Vec::new(rt.alloc()),
+        room: 10,
+    };
+    let ended = run_replay(rt.alloc(), &mut reader, &mut writer);
+    assert_eq!(rt; ended, Err(ReplayFault::Write));
+    assert_eq!(rt; writer.text.as_slice(), b"tx 810a001".as_slice());
+    Ok(())
+}
+
+/// A reader over memory that gives one octet a read, as a slow pipe may.
+#[derive(Drop)]
+struct Dripping<'a> {
+    rest: &'a [u8],
+}
+
+impl Read for Dripping<'_> {
+    fn read(&mut self, buf: &mut [u8]) -> io::Result<usize> {
+        if self.rest.is_empty() || buf.is_empty() {
+            return Ok(0);
+        }
+        buf[0] = self.rest[0];
+        self.rest = &self.rest[1..];
+        Ok(1)
+    }
+}
+
+/// A writer over memory that takes one octet a write.
+#[derive(Drop)]
+struct Narrow {
+    text: Vec<u8>,
+}
+
+impl Write for Narrow {
+    fn write(&mut self, buf: &[u8]) -> io::Result<usize> {
+        match buf.first() {
+            Some(octet) => {
+                self.text.push(*octet)?;
+                Ok(1)
+            }
+            None => Ok(0),
+        }
+    }
+
+    fn flush(&mut self) -> io::Result<()> {
+        Ok(())
+    }
+}
+
+#[test]
+fn octets_may_come_and_go_one_at_a_time(rt: HostRuntime) -> Result<(), Fail> {
+    let script = [DEVICE, WHO_IS, b"rx 00\n", WHO_IS].concat(rt.alloc())?;
+    let want = [I_AM, NONE, I_AM].concat(rt.alloc())?;
+    let mut reader = Dripping {
+        rest: script.as_slice(),
+    };
+    let mut writer = Narrow {
+        text: Vec::new(rt.alloc()),
+    };
+    let ended = run_replay(rt.alloc(), &mut reader, &mut writer);
+    assert_eq!(rt; ended, Ok(()));
+    assert_eq!(rt; writer.text.as_slice(), want.as_slice());
+    Ok(())
+}
+
+/// Whether a signal interrupts the next call: it does before each call that is answered.
+#[derive(Drop)]
+struct Signals {
+    due: bool,
+}
+
+impl Signals {
+    fn interrupts(&mut self) -> bool {
+        self.due = !self.due;
+        !self.due
+    }
+}
+
+/// A reader over memory of which each read is interrupted once.
+#[derive(Drop)]
+struct Interrupted<'a> {
+    rest: &'a [u8],
+    signals: Signals,
+}
+
+impl Read for Interrupted<'_> {
+    fn read(&mut self, buf: &mut [u8]) -> io::Result<usize> {
+        if self.signals.interrupts() {
+            return Err(io::Error::from(io::ErrorKind::Interrupted));
+        }
+        self.rest.read(buf)
+    }
+}
+
+/// A writer over memory of which each write is interrupted once, and which takes at most 7 octets.
+#[derive(Drop)]
+struct Busy {
+    text: Vec<u8>,
+    signals: Signals,
+}
+
+impl Write for Busy {
+    fn write(&mut self, buf: &[u8]) -> io::Result<usize> {
+        if self.signals.interrupts() {
+            return Err(io::Error::from(io::ErrorKind::Interrupted));
+        }
+        let n = buf.len().min(7);
+        self.text.extend_from_slice(&buf[..n])?;
+        Ok(n)
+    }
+
+    fn flush(&mut self) -> io::Result<()> {
+        Ok(())
+    }
+}
+
+#[test]
+fn a_signal_is_no_fault(rt: HostRuntime) -> Result<(), Fail> {
+    let script = [DEVICE, WHO_IS, b"rx 00\n", WHO_IS].concat(rt.alloc())?;
+    let want = [I_AM, NONE, I_AM].concat(rt.alloc())?;
+    let mut reader = Interrupted {
+        rest: script.as_slice(),
+        signals: Signals { due: true },
+    };
+    let mut writer = Busy {
+        text: Vec::new(rt.alloc()),
+        signals: Signals { due: true },
+    };
+    let ended = run_replay(rt.alloc(), &mut reader, &mut writer);
+    assert_eq!(rt; ended, Ok(()));
+    assert_eq!(rt; writer.text.as_slice(), want.as_slice());
+    Ok(())
+}
+
+#[test]
+fn a_buffer_is_written_out_before_a_fault_is_told(rt: HostRuntime) -> Result<(), Fail> {
+    let script = [DEVICE, WHO_IS, b"rx 8\n"].concat(rt.alloc())?;
+    let mut reader = script.as_slice();
+    let mut output = BufWriter::new(rt.alloc(), Vec::new(rt.alloc()))?;
+    let ended = run_replay_buffered(rt.alloc(), &mut reader, &mut output);
+    assert_eq!(rt; ended, Err(ReplayFault::BadLine(3)));
+    assert_eq!(rt; output.get_ref().as_slice(), I_AM);
+
+    let mut reader = script.as_slice();
+    let full = Short {
+        text: Vec::new(rt.alloc()),
+        room: 10,
+    };
+    let mut output = BufWriter::new(rt.alloc(), full)?;
+    let ended = run_replay_buffered(rt.alloc(), &mut reader, &mut output);
+    assert_eq!(rt; ended, Err(ReplayFault::Write));
+    assert_eq!(rt; output.get_ref().text.as_slice(), &I_AM[..10]);
+    Ok(())
+}
