@@ -3,7 +3,7 @@
 
 use crate::memory_port::{Coming, MemoryPort};
 use bac_apdu::WhoIs;
-use bac_find::{FindFault, find_devices};
+use bac_find::{FindFault, Search, find_devices};
 use bac_ports::{Heard, Port, SocketFault};
 use bac_wire::Datagram;
 use std::alloc::Global;
@@ -14,7 +14,10 @@ const FIRST: [u8; 6] = [10, 0, 0, 1, 0xba, 0xc0];
 
 const SECOND: [u8; 6] = [10, 0, 0, 2, 0xba, 0xc1];
 
-const ANY: WhoIs = WhoIs { limits: None };
+const ANY: Search = Search {
+    network: None,
+    who_is: WhoIs { limits: None },
+};
 
 /// I-Am to one device: device 123, 1476 octets, no segmentation, vendor 0.
 const I_AM: [u8; 20] = [
@@ -158,8 +161,11 @@ fn each_address_is_asked_in_order(rt: HostRuntime) {
 fn limits_are_sent(rt: HostRuntime) {
     let mut port = new_station(0);
     let mut text = Vec::new(rt.alloc());
-    let asked = WhoIs {
-        limits: Some((123, 4194303)),
+    let asked = Search {
+        network: None,
+        who_is: WhoIs {
+            limits: Some((123, 4194303)),
+        },
     };
     let found = find_devices(rt.alloc(), &mut port, &[SECOND], &asked, &mut text);
     assert_eq!(rt; found, Err(FindFault::NoAnswer));
@@ -218,21 +224,17 @@ fn a_line_is_printed_for_each_i_am(rt: HostRuntime) {
 }
 
 /// Datagrams that announce no device.
-const STRANGE: [&[u8]; 11] = [
+const STRANGE: [&[u8]; 10] = [
     &[],
     // a BVLC-Result, and a Who-Is
     &[0x81, 0, 0, 6, 0, 0x30],
     &[0x81, 0x0b, 0, 8, 1, 0, 0x10, 8],
     // a Reject
     &[0x81, 0x0a, 0, 9, 1, 0, 0x60, 1, 9],
-    // an I-Am for network 5, from network 5, and behind a message of the network layer
+    // an I-Am for network 5, and behind a message of the network layer
     &[
         0x81, 0x0a, 0, 24, 1, 0x20, 0, 5, 0, 0xff, 0x10, 0, 0xc4, 2, 0, 0, 0x7b, 0x22, 5, 0xc4,
         0x91, 3, 0x21, 0,
-    ],
-    &[
-        0x81, 0x0a, 0, 24, 1, 8, 0, 5, 1, 7, 0x10, 0, 0xc4, 2, 0, 0, 0x7b, 0x22, 5, 0xc4, 0x91, 3,
-        0x21, 0,
     ],
     &[
         0x81, 0x0a, 0, 20, 1, 0x80, 0x10, 0, 0xc4, 2, 0, 0, 0x7b, 0x22, 5, 0xc4, 0x91, 3, 0x21, 0,
@@ -255,14 +257,14 @@ const STRANGE: [&[u8]; 11] = [
 
 /// The strange datagrams and one that is too long, then nothing; and then an I-Am between two that
 /// are too long.
-fn strange_ones() -> [Coming<'static>; 17] {
-    let mut coming = [Coming::From(FIRST, &LONG); 17];
+fn strange_ones() -> [Coming<'static>; 16] {
+    let mut coming = [Coming::From(FIRST, &LONG); 16];
     for (place, octets) in coming.iter_mut().zip(STRANGE.iter()) {
         *place = Coming::From(FIRST, octets);
     }
-    coming[12] = Coming::Nothing;
-    coming[14] = Coming::From(FIRST, &I_AM);
-    coming[16] = Coming::Nothing;
+    coming[11] = Coming::Nothing;
+    coming[13] = Coming::From(FIRST, &I_AM);
+    coming[15] = Coming::Nothing;
     coming
 }
 
@@ -274,11 +276,11 @@ fn other_datagrams_are_passed_over(rt: HostRuntime) {
     let found = find_devices(rt.alloc(), &mut port, &[FIRST], &ANY, &mut text);
     assert_eq!(rt; found, Err(FindFault::NoAnswer));
     assert!(rt; text.is_empty());
-    assert_eq!(rt; port.received, 13);
+    assert_eq!(rt; port.received, 12);
     let found = find_devices(rt.alloc(), &mut port, &[FIRST], &ANY, &mut text);
     assert_eq!(rt; found, Ok(()));
     assert_eq!(rt; text.as_slice(), I_AM_LINE.as_bytes());
-    assert_eq!(rt; port.received, 17);
+    assert_eq!(rt; port.received, 16);
 }
 
 #[test]

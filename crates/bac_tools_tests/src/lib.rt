@@ -20,6 +20,8 @@ mod queries;
 #[cfg(test)]
 mod replay;
 #[cfg(test)]
+mod routes;
+#[cfg(test)]
 mod running;
 #[cfg(test)]
 mod script_logs;

@@ -28,7 +28,7 @@ fn told(alloc: Global, words: &[String]) -> Result<String, Fail> {
 }
 
 /// Each row has words with a blank between them, and what they come to.
-fn compare(rt: &(impl Abort + AllocGlobal), rows: &[(&str, &str)]) -> Result<(), Fail> {
+pub(crate) fn compare(rt: &(impl Abort + AllocGlobal), rows: &[(&str, &str)]) -> Result<(), Fail> {
     for (line, wanted) in rows {
         let words = words_of(rt.alloc(), line, ' ')?;
         let told = told(rt.alloc(), words.as_slice())?;
@@ -46,23 +46,23 @@ fn each_tool_with_its_defaults(rt: HostRuntime) -> Result<(), Fail> {
             (
                 "wi 10.0.0.1",
                 "Wi { addresses: Addresses { list: [[10, 0, 0, 1, 186, 192]] }, min: None, \
-                 max: None, local: None, timeout: 3000 }",
+                 max: None, dnet: None, local: None, timeout: 3000 }",
             ),
             (
                 "rp 10.0.0.1 8 123 77",
                 "Rp { asked: Asked { address: [10, 0, 0, 1, 186, 192], local: None, timeout: 3000, \
-                 retries: 3 }, object_type: 8, instance: 123, property: 77, index: None }",
+                 retries: 3, route: None }, object_type: 8, instance: 123, property: 77, index: None }",
             ),
             (
                 "wp 10.0.0.1 5 1 85 8 0",
                 "Wp { asked: Asked { address: [10, 0, 0, 1, 186, 192], local: None, timeout: 3000, \
-                 retries: 3 }, object_type: 5, instance: 1, property: 85, priority: 8, \
+                 retries: 3, route: None }, object_type: 5, instance: 1, property: 85, priority: 8, \
                  given: Null, index: None }",
             ),
             (
                 "log 10.0.0.1 1 oldest",
                 "Log { asked: Asked { address: [10, 0, 0, 1, 186, 192], local: None, \
-                 timeout: 3000, retries: 3 }, instance: 1, from: None, steps: 1000 }",
+                 timeout: 3000, retries: 3, route: None }, instance: 1, from: None, steps: 1000 }",
             ),
             (
                 "serve 10.0.0.1",
@@ -80,25 +80,25 @@ fn each_tool_with_the_least_values(rt: HostRuntime) -> Result<(), Fail> {
             (
                 "wi 0.0.0.0:1 --min=0 --max=0 --local=0.0.0.0:1 --timeout=1",
                 "Wi { addresses: Addresses { list: [[0, 0, 0, 0, 0, 1]] }, min: Some(0), \
-                 max: Some(0), local: Some([0, 0, 0, 0, 0, 1]), timeout: 1 }",
+                 max: Some(0), dnet: None, local: Some([0, 0, 0, 0, 0, 1]), timeout: 1 }",
             ),
             (
                 "rp 0.0.0.0:1 0 0 0 --index=0 --local=0.0.0.0:1 --timeout=1 --retries=0",
                 "Rp { asked: Asked { address: [0, 0, 0, 0, 0, 1], \
-                 local: Some([0, 0, 0, 0, 0, 1]), timeout: 1, retries: 0 }, object_type: 0, \
+                 local: Some([0, 0, 0, 0, 0, 1]), timeout: 1, retries: 0, route: None }, object_type: 0, \
                  instance: 0, property: 0, index: Some(0) }",
             ),
             (
                 "wp 0.0.0.0:1 0 0 0 0 1 --index=0 --value=0 --local=0.0.0.0:1 --timeout=1 \
                  --retries=0",
                 "Wp { asked: Asked { address: [0, 0, 0, 0, 0, 1], \
-                 local: Some([0, 0, 0, 0, 0, 1]), timeout: 1, retries: 0 }, object_type: 0, \
+                 local: Some([0, 0, 0, 0, 0, 1]), timeout: 1, retries: 0, route: None }, object_type: 0, \
                  instance: 0, property: 0, priority: 0, given: Boolean(false), index: Some(0) }",
             ),
             (
                 "log 0.0.0.0:1 0 1 --steps=0 --local=0.0.0.0:1 --timeout=1 --retries=0",
                 "Log { asked: Asked { address: [0, 0, 0, 0, 0, 1], \
-                 local: Some([0, 0, 0, 0, 0, 1]), timeout: 1, retries: 0 }, instance: 0, \
+                 local: Some([0, 0, 0, 0, 0, 1]), timeout: 1, retries: 0, route: None }, instance: 0, \
                  from: Some(1), steps: 0 }",
             ),
             (
@@ -118,14 +118,14 @@ fn each_tool_with_the_greatest_values(rt: HostRuntime) -> Result<(), Fail> {
                 "wi 255.255.255.255:65535 10.0.0.2 --min=4194303 --max=4194303 \
                  --local=255.255.255.255:65535 --timeout=60000",
                 "Wi { addresses: Addresses { list: [[255, 255, 255, 255, 255, 255], \
-                 [10, 0, 0, 2, 186, 192]] }, min: Some(4194303), max: Some(4194303), \
+                 [10, 0, 0, 2, 186, 192]] }, min: Some(4194303), max: Some(4194303), dnet: None, \
                  local: Some([255, 255, 255, 255, 255, 255]), timeout: 60000 }",
             ),
             (
                 "rp 255.255.255.255:65535 1023 4194303 4294967295 --index=4294967295 \
                  --local=255.255.255.255:65535 --timeout=60000 --retries=10",
                 "Rp { asked: Asked { address: [255, 255, 255, 255, 255, 255], \
-                 local: Some([255, 255, 255, 255, 255, 255]), timeout: 60000, retries: 10 }, \
+                 local: Some([255, 255, 255, 255, 255, 255]), timeout: 60000, retries: 10, route: None }, \
                  object_type: 1023, instance: 4194303, property: 4294967295, \
                  index: Some(4294967295) }",
             ),
@@ -133,7 +133,7 @@ fn each_tool_with_the_greatest_values(rt: HostRuntime) -> Result<(), Fail> {
                 "wp 255.255.255.255:65535 1023 4194303 4294967295 16 9 --index=4294967295 \
                  --value=4294967295 --local=255.255.255.255:65535 --timeout=60000 --retries=10",
                 "Wp { asked: Asked { address: [255, 255, 255, 255, 255, 255], \
-                 local: Some([255, 255, 255, 255, 255, 255]), timeout: 60000, retries: 10 }, \
+                 local: Some([255, 255, 255, 255, 255, 255]), timeout: 60000, retries: 10, route: None }, \
                  object_type: 1023, instance: 4194303, property: 4294967295, priority: 16, \
                  given: Enumerated(4294967295), index: Some(4294967295) }",
             ),
@@ -141,7 +141,7 @@ fn each_tool_with_the_greatest_values(rt: HostRuntime) -> Result<(), Fail> {
                 "log 255.255.255.255:65535 4194303 4294967295 --steps=4294967295 \
                  --local=255.255.255.255:65535 --timeout=60000 --retries=10",
                 "Log { asked: Asked { address: [255, 255, 255, 255, 255, 255], \
-                 local: Some([255, 255, 255, 255, 255, 255]), timeout: 60000, retries: 10 }, \
+                 local: Some([255, 255, 255, 255, 255, 255]), timeout: 60000, retries: 10, route: None }, \
                  instance: 4194303, from: Some(4294967295), steps: 4294967295 }",
             ),
             (
@@ -220,7 +220,7 @@ fn told_of_value(alloc: Global, end: &str) -> Result<String, Fail> {
 
 /// What the text of a `wp` at priority 8 has before its value, and behind it.
 const BEFORE_VALUE: &str = "Wp { asked: Asked { address: [10, 0, 0, 1, 186, 192], local: None, \
-                            timeout: 3000, retries: 3 }, object_type: 5, instance: 1, \
+                            timeout: 3000, retries: 3, route: None }, object_type: 5, instance: 1, \
                             property: 85, priority: 8, given: ";
 
 const BEHIND_VALUE: &str = ", index: None }";
