@@ -216,6 +216,7 @@ counted ./rows.sh
 # The tools over sockets of this machine: with a socket that says what a file says, and with a server.
 counted ./talk.py
 counted ./loopback.sh
+counted ./edges.sh
 
 echo "$passed passed, $failed failed"
 [ "$failed" -eq 0 ]

@@ -13,6 +13,7 @@ Each FILE, or each *.talk of this folder, has talks of these lines:
     < OCTETS       ADDRESS answers it
     <2 OCTETS      OTHER sends this to where the last datagram came from
     | TEXT         a line of the output
+    .              the lines of the output above have come by now
     ! TEXT         a line on standard error
     = STATUS       the exit status, at the end of the talk
 
@@ -23,6 +24,7 @@ after the other, and `OCTETS up to N` has zeros behind them up to N octets. The 
 
 import os
 import re
+import select
 import shlex
 import socket
 import subprocess
@@ -54,7 +56,7 @@ def talks(file):
                 found.append((number, line[len("$ bac ") :], []))
             elif line and not line.startswith("#"):
                 mark, _, text = line.partition(" ")
-                if mark not in (">", ">2", "<", "<2", "|", "!", "="):
+                if mark not in (">", ">2", "<", "<2", "|", ".", "!", "="):
                     sys.exit(f"{file}:{number}: no line of a talk")
                 found[-1][2].append((mark, text))
     return found
@@ -71,6 +73,19 @@ def heard(peer, wanted):
     return sender
 
 
+def read_more(output, size):
+    """So many octets of the output, while the program goes on."""
+    found = b""
+    while len(found) < size:
+        if not select.select([output], [], [], WAIT)[0]:
+            raise Mismatch(f"the output isn't there yet, but {found!r}")
+        more = os.read(output.fileno(), size - len(found))
+        if not more:
+            break
+        found += more
+    return found
+
+
 def play(program, words, lines):
     peers = [socket.socket(socket.AF_INET, socket.SOCK_DGRAM) for _ in range(2)]
     for peer in peers:
@@ -81,6 +96,9 @@ def play(program, words, lines):
     def named(text):
         return text.replace("ADDRESS", at).replace("OTHER", other)
 
+    def printed(lines):
+        return "".join(named(text) + "\n" for mark, text in lines if mark == "|").encode()
+
     with subprocess.Popen(
         [program, *shlex.split(named(words))],
         stdin=subprocess.DEVNULL,
@@ -88,15 +106,18 @@ def play(program, words, lines):
         stderr=subprocess.PIPE,
     ) as run:
         try:
-            sender = None
-            for mark, text in lines:
-                if mark[0] == ">":
+            sender, begun = None, b""
+            for place, (mark, text) in enumerate(lines):
+                if mark == ".":
+                    begun += read_more(run.stdout, len(printed(lines[:place])) - len(begun))
+                elif mark[0] == ">":
                     for wanted in datagrams(text):
                         sender = heard(peers[mark == ">2"], wanted)
                 elif mark[0] == "<":
                     for datagram in datagrams(text):
                         peers[mark == "<2"].sendto(datagram, sender)
             output, errors = run.communicate(timeout=60)
+            output = begun + output
         except subprocess.TimeoutExpired:
             raise Mismatch("it doesn't end") from None
         finally:
@@ -107,10 +128,10 @@ def play(program, words, lines):
             raise Mismatch(f"one datagram more was sent: {peer.recv(4096).hex()}")
         except BlockingIOError:
             peer.close()
-    for name, got, mark in (("output", output, "|"), ("standard error", errors, "!")):
-        wanted = "".join(named(text) + "\n" for found, text in lines if found == mark)
-        if got != wanted.encode():
-            raise Mismatch(f"{name}: {got!r}\nwanted: {wanted.encode()!r}")
+    told = printed(("|", text) for mark, text in lines if mark == "!")
+    for name, got, wanted in (("output", output, printed(lines)), ("standard error", errors, told)):
+        if got != wanted:
+            raise Mismatch(f"{name}: {got!r}\nwanted: {wanted!r}")
     wanted = [int(text) for mark, text in lines if mark == "="]
     if [run.returncode] != wanted:
         raise Mismatch(f"status {run.returncode}; wanted: {wanted}")
