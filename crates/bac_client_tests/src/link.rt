@@ -134,6 +134,8 @@ impl LogLink for Scripted<'_> {
 
     ghost keeps = { λ a b. Unit {0} };
 
+    ghost asks = { λ old octets answer new. Unit {0} };
+
     fn ask(&mut self, _request: &[u8]) -> Result<Datagram, Lost> {
         if self.losses > 0 {
             self.losses -= 1;

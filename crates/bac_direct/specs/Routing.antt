@@ -1,10 +1,12 @@
 -- What a router makes of a datagram that it hands on (clause 6.5): of a request on its way, and of the reply on its way back.
-use Rattle.std.specs.Prelude.{ℕ, Bool, not, ◌&&◌, nat_lt, if◌then◌else◌, List, ◌++◌, length, Option, None, Some}
+use Rattle.std.specs.Prelude.{◌≡◌, ℕ, Bool, not, ◌&&◌, nat_lt, if◌then◌else◌, List, ◌++◌, length, Option, None, Some, Result, Ok, Err}
+use Rattle.std.specs.Result.{result_ok}
 use Rattle.bac_wire.specs.OptionChain.{◌>>=◌}
 use Rattle.bac_apdu.specs.Frame.{frame_at, frame_octets}
 use Rattle.bac_apdu.specs.Npdu.{Header, Place, header_at, header_octets, is_there}
 use Rattle.bac_link.specs.Datagrams.{unicast_in}
 use Rattle.bac_link.specs.Path.{same_place}
+use Rattle.bac_link.specs.declared.link.Lost.{Lost}
 
 -- to this place, from the network on which the router hears it
 abbrev pub is_for : Place → Header → Bool
@@ -24,3 +26,15 @@ handed_on dest source datagram = do
   npdu ← unicast_in (frame_at datagram)
   header ← header_at npdu
   if is_for dest header.0 then whole (frame_octets (header_octets (handed source header.0) ++ header.1)) else None
+
+-- the reply on its way back, where one came and is handed on
+abbrev pub IsHandedBack : Place → Place → Result (List ℕ) Lost → Result (List ℕ) Lost → Type 0
+IsHandedBack far near (Ok reply) answer = result_ok answer ≡ handed_on near far reply
+IsHandedBack far near (Err lost) answer = result_ok answer ≡ None
+
+-- an ask through a router: the request that is handed on is asked behind it; where it isn't handed on, nothing is
+abbrev pub PassesOn : {S : Type 0} → (S → List ℕ → Result (List ℕ) Lost → S → Type 0) → Place → Place → Option (List ℕ) → S →
+    Result (List ℕ) Lost → S → Type 0
+PassesOn {S = S} asks far near None old answer new = (result_ok answer ≡ None) × (new ≡ old)
+PassesOn {S = S} asks far near (Some request) old answer new =
+    (reply : Result (List ℕ) Lost) × asks old request reply new × IsHandedBack far near reply answer

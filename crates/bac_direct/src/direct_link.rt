@@ -9,7 +9,7 @@ ghost use Rattle.bac_link.specs.Delivery.{History, Moment};
 ghost use Rattle.bac_link.specs.Links.{IsAsked, IsAskedOfNone, IsQuestion, RisesBy};
 ghost use Rattle.bac_link.specs.Path.{Path};
 ghost use Rattle.bac_direct.specs.Ahead.{history_ahead, IsAhead, IsThere, Lacks, LiesAhead, moments_ahead, placed_all};
-ghost use Rattle.bac_direct.specs.Events.{datagram_in, failures_after, goes_on, happens, meets, played, told};
+ghost use Rattle.bac_direct.specs.Events.{datagram_in, failures_after, goes_on, happens, IsAnswered, meets, played, told};
 ghost use Rattle.bac_objects.specs.Sound.{IsSound};
 
 use crate::event::LinkEvent;
@@ -153,6 +153,10 @@ impl<'a> LogLink for DirectLink<'a> {
 
     ghost keeps = { λ a b. (a.device.now ≡ b.device.now) × (a.device.ghost_name ≡ b.device.ghost_name) };
 
+    // The device's answer after the next events.
+    ghost asks = { λ old octets answer new.
+        IsAnswered old.device.now old.events.now octets answer new.device.now new.events.now };
+
     /// Plays events up to and with the next answer or loss, and lets the device answer. `Lost` where
     /// the answer is lost, and where the device doesn't answer the request: one failure more each. So
     /// is a request to another network, which has a DNET; then nothing is played.
@@ -171,6 +175,7 @@ impl<'a> LogLink for DirectLink<'a> {
         ensures kept { (id : Id) (extent : AnyExtent) (path : Path) (invoke : ℕ) →
             (self.old.events.now ≡ []) × (path.dest ≡ None) → IsQuestion id extent path invoke request.now →
             (self.old.device.now ≡ self.new.device.now) × (self.old.device.ghost_name ≡ self.new.device.ghost_name) }
+        ensures asked { IsAnswered self.old.device.now self.old.events.now request.now result self.new.device.now self.new.events.now }
         // What it makes of the device, and the answer, exactly.
         ensures reply { result_ok result ≡ datagram_in (told (meets self.old.device.now self.old.events.now request.now) request.now).0 }
         ensures device { self.new.device.now ≡ (told (meets self.old.device.now self.old.events.now request.now) request.now).1 }

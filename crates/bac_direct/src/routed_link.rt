@@ -9,7 +9,7 @@ ghost use Rattle.bac_link.specs.Delivery.{History, Moment};
 ghost use Rattle.bac_link.specs.Links.{IsAsked, IsAskedOfNone, IsQuestion, RisesBy};
 ghost use Rattle.bac_link.specs.Path.{Path};
 ghost use Rattle.bac_direct.specs.Events.{one_more};
-ghost use Rattle.bac_direct.specs.Routing.{handed_on, is_for};
+ghost use Rattle.bac_direct.specs.Routing.{handed_on, is_for, PassesOn};
 
 use bac_apdu::{Frame, Npdu, Route, read_frame, read_npdu, write_datagram};
 use bac_link::{LogLink, Lost};
@@ -48,6 +48,7 @@ impl<L: LogLink> RoutedLink<L> {
         ensures far { self.new.far ≡ self.old.far }
         ensures near { self.new.near ≡ self.old.near }
         ensures idle { handed_on self.old.far self.old.near request.now ≡ None → IsErr result × (self.new.inner ≡ self.old.inner) }
+        ensures passes { PassesOn L.asks self.old.far self.old.near (handed_on self.old.far self.old.near request.now) self.old.inner result self.new.inner }
         ensures honest { (id : Id) (r : ℕ) (M : List Moment) (H : History) (extent : AnyExtent) (path : Path) (invoke : ℕ) →
             L.is_honest self.old.inner id r M H → IsQuestion id extent path invoke request.now →
             IsAsked (λ N. L.is_honest self.new.inner id r N H) r M H id extent path invoke result }
@@ -80,6 +81,9 @@ impl<L: LogLink> LogLink for RoutedLink<L> {
 
     ghost keeps = { λ a b. L.keeps a.inner b.inner };
 
+    ghost asks = { λ old octets answer new.
+        PassesOn L.asks old.far old.near (handed_on old.far old.near octets) old.inner answer new.inner };
+
     /// Asks the inner link with `near` as SNET and SADR in place of `far`, and gives its reply with
     /// `far` as SNET and SADR in place of its DNET and DADR. `Lost` where the request isn't for `far`
     /// or has an SNET, and nothing is asked; where the inner link loses it; and where the reply isn't
@@ -98,6 +102,7 @@ impl<L: LogLink> LogLink for RoutedLink<L> {
             ⊥ → IsQuestion id extent path invoke request.now → IsOk result }
         ensures kept { (id : Id) (extent : AnyExtent) (path : Path) (invoke : ℕ) →
             ⊥ → IsQuestion id extent path invoke request.now → L.keeps self.old.inner self.new.inner }
+        ensures passes { PassesOn L.asks self.old.far self.old.near (handed_on self.old.far self.old.near request.now) self.old.inner result self.new.inner }
         // Its failures are its own, and its places stay.
         ensures failures { OnErr result (self.new.failures ≡ one_more self.old.failures) }
         ensures stays { OnOk result (self.new.failures ≡ self.old.failures) }

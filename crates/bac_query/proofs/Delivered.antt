@@ -1,5 +1,5 @@
 -- Lines that were put into a sink one by one, and runs whose lines were printed.
-use Rattle.std.proofs.Common.{◌≡◌, ◌≢◌, ◌≤◌, ◌+◌, ℕ, Bool, true, false, inl, inr, Option, Some, None, Ok, Err, List, [], ◌∷◌, ◌++◌, refl, sym, ap, subst, ◌∙◌, append_assoc, append-nil}
+use Rattle.std.proofs.Common.{◌≡◌, ◌≢◌, ◌≤◌, ◌*◌, ◌+◌, ℕ, Bool, true, false, inl, inr, Option, Some, None, Ok, Err, List, [], ◌∷◌, ◌++◌, length, arith, refl, sym, ap, subst, ◌∙◌, append_assoc, append-nil}
 use Rattle.std.specs.Io.KnownBytes.{Appends, Keeps}
 use Rattle.std.proofs.KnownBytes.{Appends-trans}
 use Rattle.bac_wire.specs.Primitive.{Id}
@@ -11,14 +11,17 @@ use Rattle.bac_walk.specs.declared.batch.Gap.{Gap as GapOf}
 use Rattle.bac_walk.specs.declared.batch.Numbered.{Numbered}
 use Rattle.bac_walk.specs.Place.{Place}
 use Rattle.bac_walk.specs.Sinks.{Call, put_items, IsRun, Takes, is_stopped}
+use Rattle.bac_walk.specs.Collects.{IsEnded}
+use Rattle.bac_walk.specs.Outcomes.{IsRunOf, why_of}
 use Rattle.bac_walk.specs.declared.outcome.Ended.{Ended}
+use Rattle.bac_walk.specs.declared.outcome.WalkFault.TheVariants.{Lost, Refused, BadReply}
 use Rattle.bac_walk.specs.declared.outcome.Why.{Why}
 use Rattle.bac_walk.specs.declared.outcome.Ended.TheVariants.{CaughtUp, StepLimit, Stopped, Fault}
 use Rattle.bac_walk.specs.declared.outcome.Why.TheVariants.{CaughtUp as WasUp}
 use Rattle.bac_walk.proofs.Near.{fewer_steps}
-use Rattle.bac_walk.proofs.Runs.{headline_of, join_run}
+use Rattle.bac_walk.proofs.Runs.{headline_of, join_run, not_limit, run_early}
 use Rattle.bac_report.specs.Ends.{end_line}
-use Rattle.bac_query.specs.Fetching.{Delivers, Fetching, NextIs, PrintsEnd, PrintsItems}
+use Rattle.bac_query.specs.Fetching.{Delivers, EndsAs, Fetching, IsFetched, NextIs, PrintsEnd, PrintsItems}
 use Rattle.bac_print.specs.Output.{AppendsPart}
 use Rattle.bac_query.specs.Reading.{Held, Prints}
 use Rattle.bac_query.specs.declared.fault.QueryFault.{QueryFault}
@@ -123,3 +126,72 @@ run_on was mid is log here retries now old half new before middle after i ended 
     let P : Id → Type 0 = λ id. IsRun (mid id) (is id) now half new middle after 1 ended ys in
     let Q : ℕ → Type 0 = λ n. IsRun (mid log) (is log) n half new middle after 1 ended ys in
     join_run (was log) (mid log) (is log) retries old half new before middle after i ended xs ys first (subst Q same_retries (subst P same_log step)) up
+
+-- ---- how it ended
+
+-- no less is lost later, and what the link is then isn't said
+ended_later : (ended : Ended) (fresh : Bool) (t : ℕ) (M : List Moment) (answers : List (List Item)) (steps retries old new more : ℕ) → new ≤ more →
+    IsEnded ended fresh t M answers steps retries old new → IsEnded ended fresh t M answers steps retries old more
+ended_later CaughtUp fresh t M answers steps retries old new more le is = is
+ended_later StepLimit fresh t M answers steps retries old new more le is = is
+ended_later Stopped fresh t M answers steps retries old new more le is = is
+ended_later (Fault Lost) fresh t M answers steps retries old new more le is = omega (arith, le, is)
+ended_later (Fault (Refused refusal)) fresh t M answers steps retries old new more le is = is
+ended_later (Fault BadReply) fresh t M answers steps retries old new more le is = is
+
+run_later : (was is : ℕ → List Moment → History → Type 0) (retries old new more : ℕ) (before after : Place) (n : ℕ) (ended : Ended) (items : List Item) → new ≤ more →
+    IsRun was is retries old new before after n ended items → IsRun was (λ r M H. Unit {0}) retries old more before after n ended items
+run_later was is retries old new more before after n ended items le run = (
+  run.0,
+  λ r M H s honest at near.
+      let a = run.1 r M H s honest at near in (
+        a.0,
+        a.1,
+        a.2,
+        record {
+          covers = a.3.covers;
+          all = a.3.all;
+          each = a.3.each;
+          twice_steps = a.3.twice_steps;
+          twice_batches = a.3.twice_batches;
+          paced = a.3.paced;
+          whole = a.3.whole;
+          end = ended_later ended before.fresh a.1 M a.0 n retries old new more le a.3.end;
+        },
+        tt,
+        a.5,
+      ),
+)
+
+pub fetched : (was is : ℕ → List Moment → History → Type 0) (retries old new more : ℕ) (before after : Place) (n : ℕ) (ended : Ended) (items : List Item) → new ≤ more →
+    IsRun was is retries old new before after n ended items → length items ≤ 101 * n → (ended ≡ StepLimit → n ≤ length items) →
+    IsFetched was retries old more before after n ended items
+fetched was is retries old new more before after n ended items le run few many =
+    (run_later was is retries old new more before after n ended items le run, few, many)
+
+-- the end line was that of the run, or a front part of it, or there was no memory for it
+pub ends_as : (items : List Item) (steps n : ℕ) (ended : Ended) (after : Place) (why : Why) (next : ℕ) (result : Fetching) (old mid new : Held) →
+    n ≤ steps → IsRunOf why steps n ended → next ≡ after.next → Appends old mid (items_text items) → PrintsEnd why next result mid new →
+    EndsAs items steps n ended after result old new
+ends_as items steps n ended after why next (Ok done) old mid new le run at first (same, is, last) =
+    let P : Why → Type 0 = λ w. IsRunOf w steps n ended in (subst P (sym same) run, is ∙ at)
+ends_as items steps n ended after why next (Err Write) old mid new le run at first part =
+    (le, inr (why, next, (run, at), behind_first old mid new (items_text items) (end_line why next) first part))
+ends_as items steps n ended after why next (Err Memory) old mid new le run at first kept = (why, next, (run, at))
+ends_as items steps n ended after why next (Err (Exchange fault)) old mid new le run at first never = absurd never
+
+-- the write of the lines of more items was refused
+pub ends_refused : (items more : List Item) (text : List ℕ) (steps n : ℕ) (ended : Ended) (after : Place) (fault : QueryFault) (old mid new : Held) → n ≤ steps →
+    text ≡ items_text more → Appends old mid (items_text items) → Prints text (Err fault) mid new → EndsAs (items ++ more) steps n ended after (Err fault) old new
+ends_refused items more text steps n ended after Write old mid new le same first part =
+    let P : List ℕ → Type 0 = λ t. AppendsPart mid new t in
+    let Q : List ℕ → Type 0 = λ t. AppendsPart old new t in
+    (le, inl (subst Q (sym (items_text-append items more)) (behind_first old mid new (items_text items) (items_text more) first (subst P same part))))
+ends_refused items more text steps n ended after Memory old mid new le same first never = absurd never
+ends_refused items more text steps n ended after (Exchange fault) old mid new le same first never = absurd never
+
+-- a run of fewer steps that wasn't ended by their number
+pub run_whole : (was is : ℕ → List Moment → History → Type 0) (retries old new : ℕ) (before after : Place) (i n : ℕ) (ended : Ended) (why : Why) (items : List Item) →
+    why_of ended ≡ Some why → i ≤ n → IsRun was is retries old new before after i ended items → IsRun was is retries old new before after n ended items
+run_whole was is retries old new before after i n ended why items some le run =
+    run_early was is retries old new before after i n ended items (not_limit ended why some) le run

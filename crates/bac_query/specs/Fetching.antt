@@ -1,5 +1,5 @@
 -- What fetching the records of a trend log prints, over any link and any writer.
-use Rattle.std.specs.Prelude.{◌≡◌, ℕ, false, List, ◌++◌, Result, Ok, Err}
+use Rattle.std.specs.Prelude.{◌≡◌, ℕ, false, ◌*◌, ◌≤◌, ◌⊎◌, List, ◌++◌, length, Result, Ok, Err}
 use Rattle.std.specs.Io.KnownBytes.{Appends, Keeps}
 use Rattle.bac_log.specs.TrendLog.{number}
 use Rattle.bac_link.specs.Delivery.{History, Moment, DeliversTo}
@@ -8,6 +8,10 @@ use Rattle.bac_report.specs.Ends.{end_line}
 use Rattle.bac_report.specs.Items.{items_text}
 use Rattle.bac_walk.specs.Near.{StaysNear}
 use Rattle.bac_walk.specs.Place.{Place}
+use Rattle.bac_walk.specs.Outcomes.{IsRunOf}
+use Rattle.bac_walk.specs.Sinks.{IsRun}
+use Rattle.bac_walk.specs.declared.outcome.Ended.{Ended}
+use Rattle.bac_walk.specs.declared.outcome.Ended.TheVariants.{StepLimit}
 use Rattle.bac_walk.specs.declared.outcome.Why.{Why}
 use Rattle.bac_print.specs.Output.{AppendsPart}
 use Rattle.bac_query.specs.Reading.{Held}
@@ -44,3 +48,25 @@ abbrev pub Delivers : (ℕ → List Moment → History → Type 0) → Place →
 Delivers was walk steps items result =
     (r : ℕ) (M : List Moment) (H : History) (s : ℕ) → was r M H → walk.next ≡ number s → StaysNear r H M walk.fresh s steps →
     (b : ℕ) × (a : ℕ) × (t : ℕ) × (walk.fresh ≡ false → b ≡ s) × NextIs result t × DeliversTo H b items t M a
+
+-- why the walk ended, and the number that comes next: those of a run of n steps that ended so and left the walk here
+abbrev pub IsEnd : ℕ → ℕ → Ended → Place → Why → ℕ → Type 0
+IsEnd steps n ended after why next = IsRunOf why steps n ended × (next ≡ after.next)
+
+-- What was told or written at the end is the end of that run. Where a write was refused, it was that of lines of items,
+-- or of the end line.
+abbrev pub EndsAs : List Item → ℕ → ℕ → Ended → Place → Fetching → Held → Held → Type 0
+EndsAs items steps n ended after (Ok fetched) old new = IsEnd steps n ended after fetched.why fetched.next
+EndsAs items steps n ended after (Err Write) old new =
+    (n ≤ steps)
+    × (AppendsPart old new (items_text items)
+    ⊎ ((why : Why) × (next : ℕ) × IsEnd steps n ended after why next × AppendsPart old new (items_text items ++ end_line why next)))
+EndsAs items steps n ended after (Err Memory) old new = (why : Why) × (next : ℕ) × IsEnd steps n ended after why next
+EndsAs items steps n ended after (Err (Exchange fault)) old new = ⊥
+
+-- The items are those of a run of n steps of the walk, over any link: each step brought at most 100 records and one gap,
+-- and a record at least where all were whole. Over an honest link they are what its answers brought.
+abbrev pub IsFetched : (ℕ → List Moment → History → Type 0) → ℕ → ℕ → ℕ → Place → Place → ℕ → Ended → List Item → Type 0
+IsFetched was retries old new before after n ended items =
+    IsRun was (λ r M H. Unit {0}) retries old new before after n ended items
+    × (length items ≤ 101 * n) × (ended ≡ StepLimit → n ≤ length items)

@@ -1,9 +1,10 @@
 -- What writing a property prints, over any link and any writer. Read from the end.
 use Rattle.std.specs.Prelude.{◌≡◌, ℕ, List, [], ◌∷◌, ◌++◌, codes, Result, Ok, Err}
 use Rattle.std.specs.Io.KnownBytes.{Keeps}
-use Rattle.bac_link.specs.Exchanges.{Concludes}
+use Rattle.bac_link.specs.Exchanges.{Concludes, Exchanges}
 use Rattle.bac_link.specs.Path.{Path}
 use Rattle.bac_link.specs.declared.exchanges.ExchangeFault.{ExchangeFault}
+use Rattle.bac_link.specs.declared.link.Lost.{Lost}
 use Rattle.bac_link.specs.declared.request.Request.{Request}
 use Rattle.bac_query.specs.Reading.{Answer, Held, Prints}
 use Rattle.bac_query.specs.declared.fault.QueryFault.TheVariants.{Exchange}
@@ -21,3 +22,9 @@ PrintsIfDone (Ok datagram) result old new = PrintsDone result old new
 abbrev pub WritesProperty : Path → ℕ → Request → Answer → Held → Held → Type 0
 WritesProperty path invoke asked result old new =
     (answer : Result (List ℕ) ExchangeFault) × Concludes path invoke asked answer × PrintsIfDone answer result old new
+
+-- and that exchange was one over the link, with as many retries
+abbrev pub WritesOver : {S : Type 0} → (S → List ℕ → Result (List ℕ) Lost → S → Type 0) → Path → ℕ → Request → ℕ → S → Answer → S →
+    Held → Held → Type 0
+WritesOver {S = S} asks path invoke asked retries link result left old new =
+    (answer : Result (List ℕ) ExchangeFault) × Exchanges asks path invoke asked retries link answer left × PrintsIfDone answer result old new

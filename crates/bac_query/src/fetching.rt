@@ -1,12 +1,16 @@
 //! Fetching the records of a trend log, and what is printed of them.
 
-ghost use Rattle.std.specs.Prelude.{◌≡◌, ◌≢◌, ◌≤◌, ℕ, List};
+ghost use Rattle.std.specs.Prelude.{◌≡◌, ◌≢◌, ◌≤◌, ℕ, List, length};
 ghost use Rattle.std.specs.Io.KnownBytes.{Appends};
 ghost use Rattle.bac_link.specs.declared.item.Item.{Item};
 ghost use Rattle.bac_report.specs.Ends.{end_line};
 ghost use Rattle.bac_report.specs.Items.{items_text};
+ghost use Rattle.bac_link.specs.Path.{towards};
+ghost use Rattle.bac_walk.specs.Place.{Place};
 ghost use Rattle.bac_walk.specs.Sinks.{IsRun};
-ghost use Rattle.bac_query.specs.Fetching.{Delivers, PrintsEnd, PrintsItems};
+ghost use Rattle.bac_walk.specs.Told.{Told};
+ghost use Rattle.bac_walk.specs.declared.outcome.Ended.{Ended as EndedOf};
+ghost use Rattle.bac_query.specs.Fetching.{Delivers, EndsAs, IsFetched, PrintsEnd, PrintsItems};
 ghost use Rattle.bac_query.specs.Reading.{Prints};
 
 use crate::fault::QueryFault;
@@ -38,9 +42,13 @@ pub fn fetch_log<L: LogLink, W: Write>(
     steps: u32,
     out: &mut W,
 ) -> Result<Fetched, QueryFault>
-    // What is printed are the lines of items; over an honest link these are what the log holds.
+    // What is printed are the lines of items, and the line that says how their run ended: so many
+    // steps, or what the last exchange told. Over an honest link the items are what the log holds.
     ensures { (items : List Item) × PrintsItems items result (W.contents out.old) (W.contents out.new)
-        × Delivers (λ r M H. L.is_honest link.old walk.log r M H) walk steps items result }
+        × Delivers (λ r M H. L.is_honest link.old walk.log r M H) walk steps items result
+        × ((n : ℕ) × (ended : EndedOf) × (after : Place) × EndsAs items steps n ended after result (W.contents out.old) (W.contents out.new)
+        × IsFetched (λ r M H. L.is_honest link.old walk.log r M H) transactions.old.retries (L.failures link.old) (L.failures link.new) walk after n ended items
+        × Told L.asks (towards transactions.old.route) transactions.old.retries ended after link.new) }
 {
     let mut lines = Lines {
         text: Vec::new(alloc),
@@ -68,10 +76,13 @@ fn deliver_lines<L: LogLink>(
 ) -> Ended
     ensures never_falls { L.failures link.old ≤ L.failures link.new }
     ensures retries { transactions.new.retries ≡ transactions.old.retries }
+    ensures route { transactions.new.route ≡ transactions.old.route }
+    ensures told { Told L.asks (towards transactions.old.route) transactions.old.retries result walk.new link.new }
     ensures log { walk.new.log ≡ walk.old.log }
     ensures step { (items : List Item) × (result ≢ Ended.Stopped → lines.new.text.items ≡ items_text items)
         × IsRun (λ r M H. L.is_honest link.old walk.old.log r M H) (λ r M H. L.is_honest link.new walk.old.log r M H)
-        transactions.old.retries (L.failures link.old) (L.failures link.new) walk.old walk.new 1 result items }
+        transactions.old.retries (L.failures link.old) (L.failures link.new) walk.old walk.new 1 result items
+        × (length items ≤ 101) × (result ≡ Ended.StepLimit → 1 ≤ length items) }
 {
     lines.text.clear();
     deliver(link, transactions, walk, 1, lines)

@@ -2,7 +2,7 @@
 
 ghost use Rattle.bac_link.specs.Path.{towards};
 ghost use Rattle.bac_link.specs.Requests.{next_invoke, IsSendable};
-ghost use Rattle.bac_query.specs.Writing.{PrintsDone, WritesProperty};
+ghost use Rattle.bac_query.specs.Writing.{PrintsDone, WritesOver, WritesProperty};
 
 use crate::fault::QueryFault;
 use crate::reading::print;
@@ -17,7 +17,11 @@ pub fn write_property<L: LogLink, W: Write>(
     out: &mut W,
 ) -> Result<(), QueryFault>
     requires { IsSendable asked.now }
-    ensures { WritesProperty (towards transactions.old.route) (next_invoke transactions.old.invoke) asked.now result (W.contents out.old) (W.contents out.new) }
+    ensures printed { WritesProperty (towards transactions.old.route) (next_invoke transactions.old.invoke) asked.now result (W.contents out.old) (W.contents out.new) }
+    // Over any link it is asked once, and as often again as the retries say; what is printed came
+    // over the link.
+    ensures asked { WritesOver L.asks (towards transactions.old.route) (next_invoke transactions.old.invoke) asked.now
+        transactions.old.retries link.old result link.new (W.contents out.old) (W.contents out.new) }
 {
     match exchange(link, transactions, asked) {
         Ok(_) => print_done(out),

@@ -29,6 +29,8 @@ impl LogLink for Scripted<'_> {
 
     ghost keeps = { λ a b. Unit {0} };
 
+    ghost asks = { λ old octets answer new. Unit {0} };
+
     fn ask(&mut self, _request: &[u8]) -> Result<Datagram, Lost> {
         if let [reply, rest @ ..] = self.replies {
             self.replies = rest;

@@ -1,6 +1,7 @@
-use Rattle.std.proofs.Common.{Bool, List, ℕ, ◌++◌, ◌∙◌, ap, subst}
+use Rattle.std.proofs.Common.{Bool, List, ℕ, ◌++◌, ◌∙◌, ap, subst, arith}
 use Rattle.bac_report.specs.Items.{items_text}
 use Rattle.bac_walk.specs.Sinks.{put_items, Takes}
+use Rattle.bac_walk.proofs.Keeps.{put_length}
 use Rattle.bac_query.specs.declared.record_lines.Lines.{Lines}
 use Rattle.bac_query.proofs.Delivered.{Puts, all_put, not_stopped}
 use Rattle.bac_query.proofs.fetching.deliver_lines.Goals as goal
@@ -17,4 +18,6 @@ returns-clause-step g c =
       λ on. all_put text_of sink d.0 c.deliver.new.sink (subst P (not_stopped c.deliver.result on) d.1)
           ∙ ap (λ l. l ++ items_text (put_items d.0)) c.clear.ensures.items,
       d.4,
+      omega (arith, put_length d.0, d.2, d.3),
+      λ limit. omega (arith, put_length d.0, d.5 limit),
     )

@@ -1,4 +1,4 @@
-use Rattle.std.proofs.Common.{◌≡◌, ◌+◌, ◌++◌, ℕ, List, [], Err, refl, sym, subst, ◌∙◌, rules, arith}
+use Rattle.std.proofs.Common.{◌≡◌, ◌+◌, ◌++◌, ℕ, List, [], Some, Err, refl, sym, ap, subst, ◌∙◌, rules, arith, length-append}
 use Rattle.std.proofs.KnownBytes.{Appends-nil}
 use Rattle.bac_wire.specs.Primitive.{Id}
 use Rattle.bac_log.specs.TrendLog.{number}
@@ -7,15 +7,18 @@ use Rattle.bac_walk.specs.Sinks.{IsRun}
 use Rattle.bac_walk.specs.declared.outcome.Ended.{Ended}
 use Rattle.bac_walk.specs.declared.outcome.Ended.TheVariants.{StepLimit}
 use Rattle.bac_walk.specs.declared.outcome.Why.TheVariants as why
-use Rattle.bac_walk.proofs.Runs.{goes_on, no_run}
-use Rattle.bac_query.specs.Fetching.{Fetching, NextIs, PrintsItems}
-use Rattle.bac_query.proofs.Delivered.{delivered, ended_by, more_lines, next_is, refused_by, run_on}
+use Rattle.bac_link.specs.Path.{towards}
+use Rattle.bac_walk.specs.Outcomes.{why_of}
+use Rattle.bac_walk.proofs.Runs.{ends_run, goes_on, no_run, not_limit}
+use Rattle.bac_walk.proofs.Told.{told_same}
+use Rattle.bac_query.specs.Fetching.{EndsAs, Fetching, NextIs, PrintsItems}
+use Rattle.bac_query.proofs.Delivered.{delivered, ended_by, ends_as, ends_refused, fetched, more_lines, next_is, not_stopped, refused_by, run_on, run_whole}
 use Rattle.bac_query.proofs.fetching.fetch_log.Goals as goal
 
 pub loop-done-init : goal.loop-done-init
 loop-done-init g c =
     let was : ℕ → List Moment → History → Type 0 = λ r M H. g.L.LogLink.is_honest c.args.link.now c.args.walk.log r M H in
-    ([], refl, refl, omega arith, Appends-nil _, no_run was c.args.transactions.now.retries (g.L.LogLink.failures c.args.link.now) c.args.walk)
+    ([], refl, refl, omega arith, Appends-nil _, no_run was c.args.transactions.now.retries (g.L.LogLink.failures c.args.link.now) c.args.walk, refl, omega arith, omega arith)
 
 pub returns-in-Stopped : goal.returns-in-Stopped
 returns-in-Stopped g c =
@@ -26,6 +29,16 @@ returns-in-Stopped g c =
       ended_by v.0 why.Memory c.next_number-before.result c.end.result _ _ _ v.4 c.end.ensures,
       delivered was is _ _ _ c.args.walk c.loop-done.walk c.loop-done.done c.args.steps StepLimit v.0 c.end.result (omega arith) v.5
           (next_is why.Memory c.next_number-before.result c.loop-done.walk.next c.end.result _ _ c.next_number-before.ensures.next c.end.ensures),
+      (
+        c.loop-done.done,
+        StepLimit,
+        c.loop-done.walk,
+        ends_as v.0 c.args.steps c.loop-done.done StepLimit c.loop-done.walk why.Memory c.next_number-before.result c.end.result _ _ _ (omega arith) (omega arith, refl)
+            c.next_number-before.ensures.next v.4 c.end.ensures,
+        fetched was is c.args.transactions.now.retries (g.L.LogLink.failures c.args.link.now) (g.L.LogLink.failures c.loop-done.link) (g.L.LogLink.failures c.deliver_lines.new.link)
+            c.args.walk c.loop-done.walk c.loop-done.done StepLimit v.0 c.deliver_lines.ensures.never_falls v.5 v.7 (λ limit. v.8),
+        tt,
+      ),
     )
 
 pub returns-in_err-print : goal.returns-in_err-print
@@ -41,11 +54,25 @@ returns-in_err-print g c =
     c.args.walk c.loop-done.walk c.deliver_lines.new.walk c.loop-done.done c.deliver_lines.result v.0 step.0 v.1 v.2 v.3 v.5 step.2 in
     let e : c.from_residual.result ≡ Err c.in_err-print.field-0.0 = search rules in
     let P : Fetching → Type 0 = λ r. PrintsItems (v.0 ++ step.0) r (g.W.Write.contents c.args.out.now) (g.W.Write.contents c.print.new.out) in
-    let Q : Fetching → Type 0 = λ r. (t : ℕ) → c.deliver_lines.new.walk.next ≡ number t → NextIs r t in (
+    let Q : Fetching → Type 0 = λ r. (t : ℕ) → c.deliver_lines.new.walk.next ≡ number t → NextIs r t in
+    let S : Fetching → Type 0 = λ r. EndsAs (v.0 ++ step.0) c.args.steps (c.loop-done.done + 1) c.deliver_lines.result c.deliver_lines.new.walk r
+    (g.W.Write.contents c.args.out.now) (g.W.Write.contents c.print.new.out) in (
       v.0 ++ step.0,
       subst P (sym e) (refused_by v.0 step.0 c.deref.result.now c.in_err-print.field-0.0 _ _ _ same v.4 c.in_err-print.ensures),
       delivered (was c.args.walk.log) (is c.args.walk.log) _ _ _ c.args.walk c.deliver_lines.new.walk (c.loop-done.done + 1) c.args.steps c.deliver_lines.result (v.0 ++ step.0) c.from_residual.result (omega arith) run
           (subst Q (sym e) (λ t at. tt)),
+      (
+        c.loop-done.done + 1,
+        c.deliver_lines.result,
+        c.deliver_lines.new.walk,
+        subst S (sym e) (ends_refused v.0 step.0 c.deref.result.now c.args.steps (c.loop-done.done + 1) c.deliver_lines.result c.deliver_lines.new.walk c.in_err-print.field-0.0
+            _ _ _ (omega arith) same v.4 c.in_err-print.ensures),
+        fetched (was c.args.walk.log) (is c.args.walk.log) c.args.transactions.now.retries (g.L.LogLink.failures c.args.link.now) (g.L.LogLink.failures c.deliver_lines.new.link)
+            (g.L.LogLink.failures c.deliver_lines.new.link) c.args.walk c.deliver_lines.new.walk (c.loop-done.done + 1) c.deliver_lines.result (v.0 ++ step.0) (omega arith) run
+            (omega (arith, length-append v.0 step.0, v.7, step.3)) (λ limit. omega (arith, length-append v.0 step.0, v.8, step.4 limit)),
+        told_same g.L.LogLink.asks (towards c.args.transactions.now.route) (towards c.loop-done.transactions.route) c.args.transactions.now.retries c.loop-done.transactions.retries
+            c.deliver_lines.result c.deliver_lines.new.walk c.deliver_lines.new.link (ap towards v.6) v.2 c.deliver_lines.ensures.told,
+      ),
     )
 
 pub returns-in-Some : goal.returns-in-Some
@@ -59,11 +86,26 @@ returns-in-Some g c =
     let run = run_on was mid is c.args.walk.log c.loop-done.walk.log c.args.transactions.now.retries c.loop-done.transactions.retries
     (g.L.LogLink.failures c.args.link.now) (g.L.LogLink.failures c.loop-done.link) (g.L.LogLink.failures c.deliver_lines.new.link)
     c.args.walk c.loop-done.walk c.deliver_lines.new.walk c.loop-done.done c.deliver_lines.result v.0 step.0 v.1 v.2 v.3 v.5 step.2 in
-    let written = more_lines v.0 step.0 c.deref.result.now _ _ _ same v.4 c.in_ok-print.ensures in (
+    let written = more_lines v.0 step.0 c.deref.result.now _ _ _ same v.4 c.in_ok-print.ensures in
+    let some : why_of c.deliver_lines.result ≡ Some c.in-Some.why = sym c.why.ensures ∙ c.in-Some.is in
+    let whole = run_whole (was c.args.walk.log) (is c.args.walk.log) c.args.transactions.now.retries (g.L.LogLink.failures c.args.link.now) (g.L.LogLink.failures c.deliver_lines.new.link)
+    c.args.walk c.deliver_lines.new.walk (c.loop-done.done + 1) c.args.steps c.deliver_lines.result c.in-Some.why (v.0 ++ step.0) some (omega arith) run in (
       v.0 ++ step.0,
       ended_by (v.0 ++ step.0) c.in-Some.why c.next_number.result c.end-in-Some.result _ _ _ written c.end-in-Some.ensures,
       delivered (was c.args.walk.log) (is c.args.walk.log) _ _ _ c.args.walk c.deliver_lines.new.walk (c.loop-done.done + 1) c.args.steps c.deliver_lines.result (v.0 ++ step.0) c.end-in-Some.result (omega arith) run
           (next_is c.in-Some.why c.next_number.result c.deliver_lines.new.walk.next c.end-in-Some.result _ _ c.next_number.ensures.next c.end-in-Some.ensures),
+      (
+        c.args.steps,
+        c.deliver_lines.result,
+        c.deliver_lines.new.walk,
+        ends_as (v.0 ++ step.0) c.args.steps c.args.steps c.deliver_lines.result c.deliver_lines.new.walk c.in-Some.why c.next_number.result c.end-in-Some.result _ _ _ (omega arith)
+            (ends_run c.deliver_lines.result c.in-Some.why c.args.steps (not_stopped c.deliver_lines.result c.in_default.not-Stopped) some) c.next_number.ensures.next written c.end-in-Some.ensures,
+        fetched (was c.args.walk.log) (is c.args.walk.log) c.args.transactions.now.retries (g.L.LogLink.failures c.args.link.now) (g.L.LogLink.failures c.deliver_lines.new.link)
+            (g.L.LogLink.failures c.deliver_lines.new.link) c.args.walk c.deliver_lines.new.walk c.args.steps c.deliver_lines.result (v.0 ++ step.0) (omega arith) whole
+            (omega (arith, length-append v.0 step.0, v.7, step.3)) (λ limit. absurd (not_limit c.deliver_lines.result c.in-Some.why some limit)),
+        told_same g.L.LogLink.asks (towards c.args.transactions.now.route) (towards c.loop-done.transactions.route) c.args.transactions.now.retries c.loop-done.transactions.retries
+            c.deliver_lines.result c.deliver_lines.new.walk c.deliver_lines.new.link (ap towards v.6) v.2 c.deliver_lines.ensures.told,
+      ),
     )
 
 pub loop-done-preserved : goal.loop-done-preserved
@@ -86,6 +128,9 @@ loop-done-preserved g c =
       omega (arith, v.3, c.deliver_lines.ensures.never_falls),
       more_lines v.0 step.0 c.deref.result.now _ _ _ same v.4 c.in_ok-print.ensures,
       subst P limit run,
+      c.deliver_lines.ensures.route ∙ v.6,
+      omega (arith, length-append v.0 step.0, v.7, step.3),
+      omega (arith, length-append v.0 step.0, v.8, step.4 limit),
     )
 
 pub returns : goal.returns
@@ -97,4 +142,14 @@ returns g c =
       ended_by v.0 why.StepLimit c.next_number-2.result c.end-2.result _ _ _ v.4 c.end-2.ensures,
       delivered was is _ _ _ c.args.walk c.loop-done.walk c.loop-done.done c.args.steps StepLimit v.0 c.end-2.result (omega arith) v.5
           (next_is why.StepLimit c.next_number-2.result c.loop-done.walk.next c.end-2.result _ _ c.next_number-2.ensures.next c.end-2.ensures),
+      (
+        c.loop-done.done,
+        StepLimit,
+        c.loop-done.walk,
+        ends_as v.0 c.args.steps c.loop-done.done StepLimit c.loop-done.walk why.StepLimit c.next_number-2.result c.end-2.result _ _ _ (omega arith) (omega arith, refl)
+            c.next_number-2.ensures.next v.4 c.end-2.ensures,
+        fetched was is c.args.transactions.now.retries (g.L.LogLink.failures c.args.link.now) (g.L.LogLink.failures c.loop-done.link) (g.L.LogLink.failures c.loop-done.link)
+            c.args.walk c.loop-done.walk c.loop-done.done StepLimit v.0 (omega arith) v.5 v.7 (λ limit. v.8),
+        tt,
+      ),
     )

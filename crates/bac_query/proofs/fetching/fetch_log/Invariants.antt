@@ -1,4 +1,4 @@
-use Rattle.std.proofs.Common.{◌≡◌, ◌≤◌, List}
+use Rattle.std.proofs.Common.{◌≡◌, ◌*◌, ◌≤◌, List, length}
 use Rattle.std.specs.Io.KnownBytes.{Appends}
 use Rattle.bac_link.specs.declared.item.Item.{Item}
 use Rattle.bac_report.specs.Items.{items_text}
@@ -14,3 +14,4 @@ invariant-loop-done g l =
     × Appends (g.W.Write.contents l.fn.out) (g.W.Write.contents l.out) (items_text items)
     × IsRun (λ r M H. g.L.LogLink.is_honest l.fn.link l.fn.walk.log r M H) (λ r M H. g.L.LogLink.is_honest l.link l.fn.walk.log r M H)
     l.fn.transactions.retries (g.L.LogLink.failures l.fn.link) (g.L.LogLink.failures l.link) l.fn.walk l.walk l.done StepLimit items
+    × (l.transactions.route ≡ l.fn.transactions.route) × (length items ≤ 101 * l.done) × (l.done ≤ length items)

@@ -1,4 +1,4 @@
-use Rattle.std.proofs.Common.{◌≡◌, ℕ, List, Some, false, sym, ap, subst, ◌∙◌, arith}
+use Rattle.std.proofs.Common.{◌≡◌, ℕ, List, Option, Some, Result, Ok, Err, false, refl, sym, ap, subst, ◌∙◌, arith}
 use Rattle.bac_wire.specs.Primitive.{Id}
 use Rattle.bac_apdu.specs.Apdu.{Complex, Error}
 use Rattle.bac_apdu.specs.declared.service.extent.Extent.{Extent}
@@ -7,7 +7,8 @@ use Rattle.bac_link.specs.Delivery.{now}
 use Rattle.bac_link.specs.Links.{IsQuestion, IsReply, IsUnknown, reply_parameters}
 use Rattle.bac_link.specs.Moments.{log_at}
 use Rattle.bac_link.specs.Path.{Path, back, towards}
-use Rattle.bac_direct.specs.Routing.{handed_on}
+use Rattle.bac_link.specs.declared.link.Lost.{Lost}
+use Rattle.bac_direct.specs.Routing.{handed_on, PassesOn}
 use Rattle.bac_direct.proofs.Routing.{fits_back, question_handed, reply_back}
 use Rattle.bac_direct.proofs.Fitting.{reply_small}
 use Rattle.bac_direct.proofs.routed_link.RoutedLink.pass.Goals as goal
@@ -69,3 +70,30 @@ returns-in-None-clause-lacking g c = λ id extent path invoke h asks.
     let q = question_handed far near path id extent invoke c.args.request.now c.in-Some.inner c.in-Some.ensures.source asks (sym c.in-Some.ensures.handed) in
     let is = subst (λ (o : List ℕ). IsQuestion id extent (back (towards (Some near))) invoke o) (sym c.octets.ensures.value) q.0 in
     (tt, (c.in-Ok.ensures.lacking id extent (back (towards (Some near))) invoke h is).1)
+
+lost : Lost
+lost = record {}
+
+pub returns-in-Err-clause-passes : goal.returns-in-Err-clause-passes
+returns-in-Err-clause-passes g c =
+    let far = c.args.self.now.far in
+    let near = c.args.self.now.near in
+    let P : Option (List ℕ) → Type 0 = λ o. PassesOn g.L.LogLink.asks far near o c.args.self.now.inner (Err lost) c.ask.new.self in
+    let Q : List ℕ → Type 0 = λ o. g.L.LogLink.asks c.args.self.now.inner o (Err c.in-Err.field-0) c.ask.new.self in
+    subst P c.in-Some.ensures.handed ((Err c.in-Err.field-0), subst Q c.octets.ensures.value c.in-Err.ensures.asked, refl)
+
+pub returns-in-Some-handed_on-clause-passes : goal.returns-in-Some-handed_on-clause-passes
+returns-in-Some-handed_on-clause-passes g c =
+    let far = c.args.self.now.far in
+    let near = c.args.self.now.near in
+    let P : Option (List ℕ) → Type 0 = λ o. PassesOn g.L.LogLink.asks far near o c.args.self.now.inner (Ok c.in-Some-handed_on.datagram) c.ask.new.self in
+    let Q : List ℕ → Type 0 = λ o. g.L.LogLink.asks c.args.self.now.inner o (Ok c.in-Ok.reply) c.ask.new.self in
+    subst P c.in-Some.ensures.handed ((Ok c.in-Ok.reply), subst Q c.octets.ensures.value c.in-Ok.ensures.asked, c.in-Some-handed_on.ensures.handed ∙ ap (λ (o : List ℕ). handed_on near far o) c.octets-2.ensures.value)
+
+pub returns-in-None-clause-passes : goal.returns-in-None-clause-passes
+returns-in-None-clause-passes g c =
+    let far = c.args.self.now.far in
+    let near = c.args.self.now.near in
+    let P : Option (List ℕ) → Type 0 = λ o. PassesOn g.L.LogLink.asks far near o c.args.self.now.inner (Err lost) c.ask.new.self in
+    let Q : List ℕ → Type 0 = λ o. g.L.LogLink.asks c.args.self.now.inner o (Ok c.in-Ok.reply) c.ask.new.self in
+    subst P c.in-Some.ensures.handed ((Ok c.in-Ok.reply), subst Q c.octets.ensures.value c.in-Ok.ensures.asked, c.in-None.ensures.handed ∙ ap (λ (o : List ℕ). handed_on near far o) c.octets-2.ensures.value)
