@@ -1,15 +1,16 @@
 -- Each object is kept, and what follows of the device.
 use Rattle.std.proofs.Common.{◌≡◌, ◌<◌, ◌≤◌, ◌++◌, refl, ap, sym, ◌∙◌, rules, arith, subst, ℕ, zero, suc, Bool, true, false, ◌||◌, not, cond, List, [], ◌∷◌, slice_get, nat_lt, Option, Some, None}
 use Rattle.std.specs.Option.{unwrap_or}
+use Rattle.std.specs.List.{AllByRecursion}
 use Rattle.std.specs.Map.{lookup, set_value}
 use Rattle.std.proofs.lemmas.Bool.Decides.{nat_tests}
 use Rattle.indexmap.specs.IndexMap.{set_value_at}
 use Rattle.bac_wire.specs.Primitive.{Id}
-use Rattle.bac_wire.specs.Stamp.{CivilTime}
+use Rattle.bac_wire.specs.Stamp.{CivilTime, ticks_of}
 use Rattle.bac_log.specs.TrendLog.{Log, IsLog}
 use Rattle.bac_objects.specs.Build.{body_of, built, device_fault, entry_of, first_of, id_of, is_name}
-use Rattle.bac_objects.specs.Kept.{AreObjects, IsBody, KeepsBody}
-use Rattle.bac_objects.specs.Sampling.{log_id, log_in, logger_in, records_in}
+use Rattle.bac_objects.specs.Kept.{AreObjects, AreQuiet, IsBody, IsQuiet, KeepsBody, interval_in}
+use Rattle.bac_objects.specs.Sampling.{is_due, log_id, log_in, logger_in, records_in}
 use Rattle.bac_objects.specs.Sound.{IsSound}
 use Rattle.bac_objects.specs.State.{State, is_id}
 use Rattle.bac_objects.specs.declared.build.BuildFault.TheVariants.{BadInstance, BadName, BadReplySize}
@@ -45,29 +46,38 @@ pub body_found : (es : List (Id × object.Object)) (id : Id) (o : object.Object)
 body_found [] id o are h = search rules
 body_found (e ∷ es) id o are h = found_at (is_id id e.0) id e (lookup (is_id id) es) o refl are.0 (body_found es id o are.1) h
 
-set_at : (b : Bool) (test : Id → Bool) (e : Id × object.Object) (es : List (Id × object.Object)) (o new : object.Object) → KeepsBody o.body new.body → IsBody e.0 e.1.body → AreObjects es
-    → (lookup test es ≡ Some o → AreObjects (set_value test es new)) → cond b (Some e.1) (lookup test es) ≡ Some o → AreObjects (cond b ((e.0, new) ∷ es) (e ∷ set_value test es new))
-set_at true test e es o new keeps is are rest h = (keeps e.0 (subst (λ (x : object.Object). IsBody e.0 x.body) (some_is e.1 o h) is), are)
-set_at false test e es o new keeps is are rest h = (is, rest h)
-
--- an object that is found, and kept
-pub set_kept : (test : Id → Bool) (es : List (Id × object.Object)) (o new : object.Object) → KeepsBody o.body new.body → AreObjects es → lookup test es ≡ Some o → AreObjects (set_value test es new)
-set_kept test [] o new keeps are h = tt
-set_kept test (e ∷ es) o new keeps are h = set_at (test e.0) test e es o new keeps are.0 are.1 (set_kept test es o new keeps are.1) h
-
 second : (e : Id × object.Object) (k : Id) (o : object.Object) → Some e ≡ Some (k, o) → e.1 ≡ o
 second e k o h = ap (λ (x : Option (Id × object.Object)). (unwrap_or x e).1) h
 
--- an object at a place, and kept
-pub place_kept : (es : List (Id × object.Object)) (i : ℕ) (k : Id) (o new : object.Object) → KeepsBody o.body new.body → AreObjects es → slice_get es i ≡ Some (k, o) → AreObjects (set_value_at es i new)
-place_kept [] i k o new keeps are at = tt
-place_kept (e ∷ es) zero k o new keeps are at = (keeps e.0 (subst (λ (x : object.Object). IsBody e.0 x.body) (second e k o at) are.0), are.1)
-place_kept (e ∷ es) (suc i) k o new keeps are at = (are.0, place_kept es i k o new keeps are.1 at)
+-- what is true of each object under its identifier
+module _ (P : Id → Body → Type 0) where
+  abbrev Each : List (Id × object.Object) → Type 0
+  Each es = AllByRecursion (λ e. P e.0 e.1.body) es
 
--- an object more
-pub push_kept : (es : List (Id × object.Object)) (e : Id × object.Object) → AreObjects es → IsBody e.0 e.1.body → AreObjects (es ++ e ∷ [])
-push_kept [] e are is = (is, tt)
-push_kept (x ∷ es) e are is = (are.0, push_kept es e are.1 is)
+  -- a change of one of them that leaves it so
+  abbrev Leaves : Body → Body → Type 0
+  Leaves old new = (id : Id) → P id old → P id new
+
+  set_at : (b : Bool) (test : Id → Bool) (e : Id × object.Object) (es : List (Id × object.Object)) (o new : object.Object) → Leaves o.body new.body → P e.0 e.1.body → Each es
+      → (lookup test es ≡ Some o → Each (set_value test es new)) → cond b (Some e.1) (lookup test es) ≡ Some o → Each (cond b ((e.0, new) ∷ es) (e ∷ set_value test es new))
+  set_at true test e es o new keeps is are rest h = (keeps e.0 (subst (λ (x : object.Object). P e.0 x.body) (some_is e.1 o h) is), are)
+  set_at false test e es o new keeps is are rest h = (is, rest h)
+
+  -- an object that is found
+  pub set_each : (test : Id → Bool) (es : List (Id × object.Object)) (o new : object.Object) → Leaves o.body new.body → Each es → lookup test es ≡ Some o → Each (set_value test es new)
+  set_each test [] o new keeps are h = tt
+  set_each test (e ∷ es) o new keeps are h = set_at (test e.0) test e es o new keeps are.0 are.1 (set_each test es o new keeps are.1) h
+
+  -- an object at a place
+  pub place_each : (es : List (Id × object.Object)) (i : ℕ) (k : Id) (o new : object.Object) → Leaves o.body new.body → Each es → slice_get es i ≡ Some (k, o) → Each (set_value_at es i new)
+  place_each [] i k o new keeps are at = tt
+  place_each (e ∷ es) zero k o new keeps are at = (keeps e.0 (subst (λ (x : object.Object). P e.0 x.body) (second e k o at) are.0), are.1)
+  place_each (e ∷ es) (suc i) k o new keeps are at = (are.0, place_each es i k o new keeps are.1 at)
+
+  -- an object more
+  pub push_each : (es : List (Id × object.Object)) (e : Id × object.Object) → Each es → P e.0 e.1.body → Each (es ++ e ∷ [])
+  push_each [] e are is = (is, tt)
+  push_each (x ∷ es) e are is = (are.0, push_each es e are.1 is)
 
 -- ---- the device
 
@@ -102,23 +112,34 @@ sound d within least greatest are = record {
 }
 
 -- after a change of its objects alone
-abbrev StaysSound : State → List (Id × object.Object) → Type 0
-StaysSound d es = (let new : State = record d { objects = es } in IsSound new) × AreObjects es
+abbrev StaysSound : State → ℕ → List (Id × object.Object) → Type 0
+StaysSound d due es = (let new : State = record d { objects = es } in IsSound new) × AreObjects es × AreQuiet (ticks_of d.origin) (ticks_of d.clock) due es
 
-with_objects : (d : State) (es : List (Id × object.Object)) → IsSound d → AreObjects es → StaysSound d es
-with_objects d es is are = (sound (record d { objects = es }) is.instance is.least_reply is.greatest_reply are, are)
+with_objects : (d : State) (due : ℕ) (es : List (Id × object.Object)) → IsSound d → AreObjects es → AreQuiet (ticks_of d.origin) (ticks_of d.clock) due es → StaysSound d due es
+with_objects d due es is are quiet = (sound (record d { objects = es }) is.instance is.least_reply is.greatest_reply are, are, quiet)
 
-pub found_sound : (d : State) (id : Id) (o new : object.Object) (es : List (Id × object.Object)) → IsSound d → AreObjects d.objects → KeepsBody o.body new.body
-    → lookup (is_id id) d.objects ≡ Some o → es ≡ set_value (is_id id) d.objects new → StaysSound d es
-found_sound d id o new es is are keeps at e = with_objects d es is (subst AreObjects (sym e) (set_kept (is_id id) d.objects o new keeps are at))
+still_quiet : (origin clock due : ℕ) (old new : Body) → interval_in new ≡ interval_in old → IsQuiet origin clock due old → IsQuiet origin clock due new
+still_quiet origin clock due old new same quiet n from to = ap (is_due origin clock n) same ∙ quiet n from to
 
-pub place_sound : (d : State) (i : ℕ) (k : Id) (o new : object.Object) → IsSound d → AreObjects d.objects → KeepsBody o.body new.body
-    → slice_get d.objects i ≡ Some (k, o) → StaysSound d (set_value_at d.objects i new)
-place_sound d i k o new is are keeps at = with_objects d (set_value_at d.objects i new) is (place_kept d.objects i k o new keeps are at)
+abbrev Sound : State → ℕ → Type 0
+Sound d due = IsSound d × AreObjects d.objects × AreQuiet (ticks_of d.origin) (ticks_of d.clock) due d.objects
+
+pub found_sound : (d : State) (due : ℕ) (id : Id) (o new : object.Object) (es : List (Id × object.Object)) → Sound d due → KeepsBody o.body new.body
+    → lookup (is_id id) d.objects ≡ Some o → es ≡ set_value (is_id id) d.objects new → StaysSound d due es
+found_sound d due id o new es is keeps at e =
+    let quiet = set_each (λ k b. IsQuiet (ticks_of d.origin) (ticks_of d.clock) due b) (is_id id) d.objects o new (λ k. still_quiet (ticks_of d.origin) (ticks_of d.clock) due o.body new.body keeps.1) is.2 at in
+    with_objects d due es is.0 (subst AreObjects (sym e) (set_each IsBody (is_id id) d.objects o new keeps.0 is.1 at))
+    (subst (AreQuiet (ticks_of d.origin) (ticks_of d.clock) due) (sym e) quiet)
+
+pub place_sound : (d : State) (due : ℕ) (i : ℕ) (k : Id) (o new : object.Object) → Sound d due → KeepsBody o.body new.body
+    → slice_get d.objects i ≡ Some (k, o) → StaysSound d due (set_value_at d.objects i new)
+place_sound d due i k o new is keeps at =
+    with_objects d due (set_value_at d.objects i new) is.0 (place_each IsBody d.objects i k o new keeps.0 is.1 at)
+    (place_each (λ k b. IsQuiet (ticks_of d.origin) (ticks_of d.clock) due b) d.objects i k o new (λ k. still_quiet (ticks_of d.origin) (ticks_of d.clock) due o.body new.body keeps.1) is.2 at)
 
 -- a clock that goes on
-pub clock_sound : (d : State) (stamp : CivilTime) → IsSound d → AreObjects d.objects → (let new : State = record d { clock = stamp } in IsSound new) × AreObjects d.objects
-clock_sound d stamp is are = (sound (record d { clock = stamp }) is.instance is.least_reply is.greatest_reply are, are)
+pub clock_sound : (d : State) (stamp : CivilTime) → IsSound d → AreObjects d.objects → (let new : State = record d { clock = stamp } in IsSound new)
+clock_sound d stamp is are = sound (record d { clock = stamp }) is.instance is.least_reply is.greatest_reply are
 
 -- ---- the lines of a device
 
@@ -131,12 +152,16 @@ three_none false false false h = (refl, refl)
 line_bounds : (n size : ℕ) → nat_lt 4194302 n ≡ false → (nat_lt size 50 || nat_lt 1476 size) ≡ false → (n ≤ 4194302) × (50 ≤ size) × (size ≤ 1476)
 line_bounds n size h k = (grind (arith, nat_tests), grind (arith, nat_tests), grind (arith, nat_tests))
 
+none_quiet : (origin clock : ℕ) (es : List (Id × object.Object)) → AreQuiet origin clock 0 es
+none_quiet origin clock [] = tt
+none_quiet origin clock (e ∷ es) = (λ n from to. absurd (omega (arith, to)), none_quiet origin clock es)
+
 pub line_sound : (line : DeviceLine) (name : List ℕ) (es : List (Id × object.Object)) → device_fault line ≡ None → AreObjects es
-    → (let new : State = record (built line []) { name = name; objects = es } in IsSound new) × AreObjects es
+    → (let new : State = record (built line []) { name = name; objects = es } in Sound new 0)
 line_sound line name es none are =
     let tests = three_none (nat_lt 4194302 line.instance) (not (is_name line.name)) (nat_lt line.reply_size 50 || nat_lt 1476 line.reply_size) none in
     let bounds = line_bounds line.instance line.reply_size tests.0 tests.1 in
-    (sound (record (built line []) { name = name; objects = es }) bounds.0 bounds.1 bounds.2 are, are)
+    (sound (record (built line []) { name = name; objects = es }) bounds.0 bounds.1 bounds.2 are, are, none_quiet (ticks_of line.clock) (ticks_of line.clock) es)
 
 pub added_kept : (es new : List (Id × object.Object)) (line : ObjectLine) (b : Body) → AreObjects es → IsBody (id_of line) b → b ≡ body_of line → new ≡ es ++ entry_of line ∷ [] → AreObjects new
-added_kept es new line b are is same e = subst AreObjects (sym e) (push_kept es (entry_of line) are (subst (IsBody (id_of line)) same is))
+added_kept es new line b are is same e = subst AreObjects (sym e) (push_each IsBody es (entry_of line) are (subst (IsBody (id_of line)) same is))

@@ -5,3 +5,4 @@ pub mod Writes
 pub mod Tables
 pub mod Samples
 pub mod Kept
+pub mod Quiet

@@ -34,11 +34,14 @@ pub struct Database {
     /// Where the clock began.
     pub(crate) origin: Stamp,
     pub(crate) clock: Stamp,
+    /// In hundredths of a second: no log is due before it, as long as the clock goes on.
+    pub(crate) due: u64,
     pub(crate) objects: IndexMap<ObjectId, Object>,
 }
 
 impl Model for Database {
-    ghost use Rattle.bac_objects.specs.Kept.{AreObjects};
+    ghost use Rattle.bac_wire.specs.Stamp.{ticks_of};
+    ghost use Rattle.bac_objects.specs.Kept.{AreObjects, AreQuiet};
     ghost use Rattle.bac_objects.specs.Sound.{IsSound};
     ghost use Rattle.bac_objects.specs.State.{State};
 
@@ -46,7 +49,7 @@ impl Model for Database {
 
     ghost view = { λ d. record { instance = d.instance; name = d.name; vendor = d.vendor; reply_size = d.reply_size; origin = d.origin; clock = d.clock; objects = d.objects.entries } };
 
-    ghost invariant = { λ d. IsSound (record { instance = d.instance; name = d.name; vendor = d.vendor; reply_size = d.reply_size; origin = d.origin; clock = d.clock; objects = d.objects.entries }) × AreObjects d.objects.entries };
+    ghost invariant = { λ d. IsSound (record { instance = d.instance; name = d.name; vendor = d.vendor; reply_size = d.reply_size; origin = d.origin; clock = d.clock; objects = d.objects.entries }) × AreObjects d.objects.entries × AreQuiet (ticks_of d.origin) (ticks_of d.clock) d.due d.objects.entries };
 }
 
 impl Database {
@@ -68,6 +71,7 @@ impl Database {
             reply_size: line.reply_size,
             origin: line.clock,
             clock: line.clock,
+            due: 0,
             objects,
         })
     }

@@ -145,6 +145,7 @@ impl Logger {
     fn write(&mut self, clock: Stamp, write: &WriteProperty) -> Result<(), Fault>
         ensures written { Leaves result self.old self.new (log_written clock (write_of_code write.now) self.old) }
         ensures is_log { IsLog self.old.log → IsLog self.new.log }
+        ensures interval { self.new.interval ≡ self.old.interval }
     {
         match write.property {
             ENABLE => enable(&mut self.log, clock, &write.value),

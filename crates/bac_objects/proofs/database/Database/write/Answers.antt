@@ -14,10 +14,10 @@ returns-in_default-clause-written c =
 
 pub invariant_of-self-2 : goal.invariant_of-self-2
 invariant_of-self-2 c =
-    found_sound _ c.args.write.now.object c.in-Some.object.now c.write.new.self _ c.self.invariant.0 c.self.invariant.1 c.write.ensures.keeps
+    found_sound _ c.self.inside.due c.args.write.now.object c.in-Some.object.now c.write.new.self _ c.self.invariant c.write.ensures.keeps
     (sym (c.in-Some.ensures {u = tt}).value) ((c.get_mut.follows.holds c.write.new.self).0)
 
 pub returns-clause-sound : goal.returns-clause-sound
 returns-clause-sound c =
-    (found_sound _ c.args.write.now.object c.in-Some.object.now c.write.new.self _ c.self.invariant.0 c.self.invariant.1 c.write.ensures.keeps
+    (found_sound _ c.self.inside.due c.args.write.now.object c.in-Some.object.now c.write.new.self _ c.self.invariant c.write.ensures.keeps
     (sym (c.in-Some.ensures {u = tt}).value) ((c.get_mut.follows.holds c.write.new.self).0)).0
