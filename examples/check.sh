@@ -218,5 +218,14 @@ counted ./talk.py
 counted ./loopback.sh
 counted ./edges.sh
 
+# The rows of vectors/, by a program of their own.
+./vectors.sh > "$room/vectors"
+status=$?
+read -r more fewer <<< "$(tail -n 1 "$room/vectors" | sed -nE 's/^([0-9]+) passed, ([0-9]+) failed$/\1 \2/p')"
+sed '$d' "$room/vectors"
+passed=$((passed + ${more:-0}))
+[ "$status" -eq 0 ] || [ "${fewer:-0}" -gt 0 ] || fewer=1
+failed=$((failed + ${fewer:-1}))
+
 echo "$passed passed, $failed failed"
 [ "$failed" -eq 0 ]

@@ -1,12 +1,8 @@
-//! Tests of the encodings by their public calls: octets written by hand of values, frames, headers
-//! and services, each call once on its happy path, and a caller of all their layers.
+//! A caller of the encodings that sees their public contracts alone. What their calls answer, octets
+//! by octets, is in examples/vectors.
 #![tactic(auto)]
 
 #[cfg(test)]
-mod apdu;
+mod datagrams;
 #[cfg(test)]
 mod passage;
-#[cfg(test)]
-mod results;
-#[cfg(test)]
-mod wire;

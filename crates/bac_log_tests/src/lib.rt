@@ -1,12 +1,7 @@
-//! Tests of a trend log by its public calls: what it holds, its records as octets written by hand,
-//! what it answers to ReadRange, and a caller that sees public contracts alone.
+//! A caller of trend logs that sees their public contracts alone. What a log holds and answers is in
+//! examples/vectors.
 #![tactic(auto)]
 
-#[cfg(test)]
-mod log;
-#[cfg(test)]
-mod log_answers;
-#[cfg(test)]
 mod log_callers;
-#[cfg(test)]
-mod log_records;
+
+pub use log_callers::written_and_read;
