@@ -8,6 +8,7 @@ use Rattle.bac_apdu.specs.Form.{Absent, Form, Inside, Parameter, Mark, Row, Valu
 
 -- ---- writing
 
+-- one parameter, as short as can be, and nothing if the row doesn't allow it
 abbrev pub canon_row : Row → Parameter → List ℕ
 canon_row (context tag type fits) (Value value) = context_octets tag value
 canon_row (application type fits) (Value value) = value_octets value
@@ -17,6 +18,7 @@ canon_row (enclosed tag) (Inside octets) = octets ++ close_octets tag
 canon_row any (Value value) = value_octets value
 canon_row p parameter = []
 
+-- whether the first parameter is an opening or closing tag of this number; a choice's first form begins with one
 abbrev pub starts : ℕ → List Parameter → Bool
 starts tag (Mark number ∷ parameters) = number == tag
 starts tag parameters = false
@@ -35,6 +37,7 @@ canon_form (choice tag there otherwise) parameters = if starts tag parameters th
 canon_form (nothing_or form) [] = []
 canon_form (nothing_or form) (parameter ∷ parameters) = canon_form form (parameter ∷ parameters)
 
+-- whether there are no octets
 abbrev pub is_empty : List ℕ → Bool
 is_empty [] = true
 is_empty (octet ∷ text) = false

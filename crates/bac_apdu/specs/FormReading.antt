@@ -12,6 +12,7 @@ use Rattle.bac_apdu.specs.Form.{Absent, Form, Inside, Parameter, Mark, Row, Spel
 
 -- ---- reading, and the reason of the first wrong parameter
 
+-- a value as a parameter, beside what follows it, if it is in range; else parameter-out-of-range (clause 18.9)
 abbrev pub ranged : {A : Type 0} → (Primitive → Bool) → Primitive → A → Result (Parameter × A) Reason
 ranged fits value rest = if fits value then Ok (Value value, rest) else Err OutOfRange
 
@@ -42,13 +43,16 @@ row_at any bytes = do
   value ← reasoned (value_at bytes)
   Ok (Value value.0, value.1)
 
+-- the end of the parameters: octets that are left are too many arguments (clause 18.9)
 abbrev pub end_at : List ℕ → Result (List Parameter) Reason
 end_at [] = Ok []
 end_at (b ∷ rest) = Err TooManyArguments
 
+-- an optional parameter, which is there if the next tag is that of a value with its number
 unfoldable pub optional_at : ℕ → ℕ → (Primitive → Bool) → List ℕ → Result (Parameter × List ℕ) Reason
 optional_at tag type fits bytes = if value_next tag bytes then row_at (context tag type fits) bytes else Ok (Absent, bytes)
 
+-- the parameters of a form in order, and nothing behind them
 unfoldable pub form_at : Form → List ℕ → Result (List Parameter) Reason
 form_at end bytes = end_at bytes
 form_at (row p form) bytes = do
@@ -63,12 +67,12 @@ form_at (choice tag there otherwise) bytes = if opening_next tag bytes then form
 form_at (nothing_or form) [] = Ok []
 form_at (nothing_or form) (octet ∷ bytes) = form_at form (octet ∷ bytes)
 
--- the types of a form are those of values
-
+-- a value behind a context tag has the tag number of a primitive type, 0 to 12 (clause 20.2.1.4)
 abbrev pub IsRow : Row → Type 0
 IsRow (context tag type fits) = type ≤ 12
 IsRow p = Unit {0}
 
+-- the same of each row of a form and of each optional parameter
 abbrev pub IsForm : Form → Type 0
 IsForm end = Unit {0}
 IsForm (row p form) = IsRow p × IsForm form

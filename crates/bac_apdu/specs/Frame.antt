@@ -13,6 +13,7 @@ pub data Frame : Type 0 where
   Forwarded : List ℕ → List ℕ → Frame
   Function : ℕ → List ℕ → Frame
 
+-- a frame of the code, apart from where it lies in memory
 abbrev pub frame_of : FrameCode → Frame
 frame_of (code.Unicast rest) = Unicast rest.now
 frame_of (code.Broadcast rest) = Broadcast rest.now
@@ -63,12 +64,14 @@ with_length start octets =
 abbrev pub framed : ℕ → List ℕ → List ℕ
 framed function body = (0x81 ∷ function ∷ to_be_bytes w16 (length body + 4)) ++ body
 
+-- the BVLC function, the number in the second octet (J.2)
 abbrev pub function_of : Frame → ℕ
 function_of (Unicast npdu) = 0x0A
 function_of (Broadcast npdu) = 0x0B
 function_of (Forwarded address npdu) = 0x04
 function_of (Function function body) = function
 
+-- what comes behind the length
 abbrev pub body_of : Frame → List ℕ
 body_of (Unicast npdu) = npdu
 body_of (Broadcast npdu) = npdu

@@ -23,13 +23,16 @@ pub record Header : Type 0 where
   pub source : Option Place
   pub hops : ℕ
 
+-- a place of the code, apart from where its address lies in memory
 abbrev pub place_of : Far → Place
 place_of far = record { net = far.net; address = far.address.now }
 
+-- the same where a header may have none
 abbrev pub maybe_place_of : Option Far → Option Place
 maybe_place_of None = None
 maybe_place_of (Some far) = Some (place_of far)
 
+-- a header of the code, apart from where its addresses lie in memory
 abbrev pub header_of : Npdu → Header
 header_of n = record { network = n.network; reply = n.reply; priority = n.priority; dest = maybe_place_of n.dest; source = maybe_place_of n.source; hops = n.hops }
 
@@ -43,11 +46,13 @@ place_at bytes = do
   address ← octets_at len.0 len.1
   Some (record { net = net.0; address = address.0 }, address.1)
 
+-- a place, if the control octet says that it is there
 unfoldable pub maybe_place_at : Bool → List ℕ → Option (Option Place × List ℕ)
 maybe_place_at there bytes = if there then (do
   place ← place_at bytes
   Some (Some place.0, place.1)) else Some (None, bytes)
 
+-- the hop count, if there is a destination; else 0, which no octet says (6.2.3)
 unfoldable pub hops_at : Bool → List ℕ → Option (ℕ × List ℕ)
 hops_at there bytes = if there then octet_at bytes else Some (0, bytes)
 
@@ -65,14 +70,17 @@ header_at bytes = do
 
 -- ---- written
 
+-- whether a header has this place
 abbrev pub is_there : Option Place → Bool
 is_there None = false
 is_there (Some place) = true
 
+-- a place as place_at reads it, and nothing if there is none
 unfoldable pub place_octets : Option Place → List ℕ
 place_octets None = []
 place_octets (Some place) = to_be_bytes w16 place.net ++ length place.address ∷ place.address
 
+-- the hop count, if there is a destination (6.2.3)
 abbrev pub hops_octets : Option Place → ℕ → List ℕ
 hops_octets None hops = []
 hops_octets (Some place) hops = hops ∷ []

@@ -11,6 +11,7 @@ abbrev pub next_tag : List ℕ → Option (ℕ × ℕ)
 next_tag [] = None
 next_tag (first ∷ rest) = if nat_lt first 240 then Some (first % 16, first / 16) else own_number (first % 16) rest
 
+-- whether there is a next tag and it passes this test
 abbrev pub if_tag : (ℕ × ℕ → Bool) → Option (ℕ × ℕ) → Bool
 if_tag test None = false
 if_tag test (Some tag) = test tag

@@ -13,6 +13,7 @@ use Rattle.bac_wire.specs.declared.stamp.Time4.{Time4}
 abbrev pub date_octets : Date4 → List ℕ
 date_octets d = d.year ∷ d.month ∷ d.day ∷ d.weekday ∷ []
 
+-- the same of a time: hour, minute, second and hundredths (clause 20.2.13)
 abbrev pub time_octets : Time4 → List ℕ
 time_octets t = t.hour ∷ t.minute ∷ t.second ∷ t.hundredth ∷ []
 
@@ -85,8 +86,10 @@ moment_of civil = moment (unsigned_abs civil.date.year) civil.date.month civil.d
 
 -- ---- a moment's octets
 
+-- its date: the year counted from 1900, and the true weekday (clause 20.2.12)
 abbrev pub date_of : CivilTime → Date4
 date_of m = record { year = m.year - 1900; month = m.month; day = m.day; weekday = weekday_of m }
 
+-- its time (clause 20.2.13)
 abbrev pub time_of : CivilTime → Time4
 time_of m = record { hour = m.hour; minute = m.minute; second = m.second; hundredth = m.hundredth }

@@ -20,6 +20,7 @@ abbrev pub date_fits : List ℕ → Bool
 date_fits (year ∷ month ∷ day ∷ weekday ∷ []) = nat_le year 254 && nat_le 1 month && nat_le month 12 && nat_le 1 day && nat_le day 31
 date_fits octets = false
 
+-- a Date with such octets
 abbrev pub is_date : Primitive → Bool
 is_date (Date octets) = date_fits octets
 is_date value = false
@@ -29,6 +30,7 @@ abbrev pub time_fits : List ℕ → Bool
 time_fits (hour ∷ minute ∷ second ∷ hundredths ∷ []) = nat_le hour 23 && nat_le minute 59 && nat_le second 59 && nat_le hundredths 99
 time_fits octets = false
 
+-- a Time with such octets
 abbrev pub is_time : Primitive → Bool
 is_time (Time octets) = time_fits octets
 is_time value = false
@@ -58,6 +60,7 @@ by_time =
 abbrev pub range : Form
 range = choice 3 (by_reference 3) (choice 6 (by_reference 6) (choice 7 by_time end))
 
+-- an extent as parameters: reference and count between its tags, or nothing for all records
 abbrev pub extent_parameters : Extent → List Parameter
 extent_parameters All = []
 extent_parameters (ByPosition reference count) = Mark 3 ∷ Value (Unsigned reference) ∷ Value (Signed count) ∷ Mark 3 ∷ []
@@ -80,6 +83,7 @@ extent_behind tag parameters =
     if tag == 6 then ByNumber (unsigned_in (parameter_at 0 parameters)) (signed_in (parameter_at 1 parameters)) else
     ByTime (date_in (parameter_at 0 parameters)) (time_in (parameter_at 1 parameters)) (signed_in (parameter_at 2 parameters))
 
+-- the extent that these parameters are; without any, all records
 abbrev pub extent_in : List Parameter → Extent
 extent_in [] = All
 extent_in (mark ∷ parameters) = extent_behind (mark_in mark) parameters

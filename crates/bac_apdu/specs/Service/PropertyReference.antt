@@ -13,6 +13,7 @@ property_then form =
     (optional 2 unsigned is_u32  -- property array index, optional
     form))
 
+-- object, property and index as these parameters, and then the others
 abbrev pub property_parameters_then : Id → ℕ → Option ℕ → List Parameter → List Parameter
 property_parameters_then object property index parameters = Value (Object object) ∷ Value (Enumerated property) ∷ number_parameter index ∷ parameters
 
@@ -22,9 +23,11 @@ property_octets object property index = canon_form (property_then end) (property
 
 -- ---- each number in its range
 
+-- a property array index, if there is one, has at most 32 bits
 abbrev pub IsIndex : Option ℕ → Type 0
 IsIndex None = Unit {0}
 IsIndex (Some n) = n < 2 ^ 32
 
+-- an object identifier that can be encoded, a property identifier of at most 32 bits, and such an index
 abbrev pub IsProperty : Id → ℕ → Option ℕ → Type 0
 IsProperty object property index = IsValid (Object object) × (property < 2 ^ 32) × IsIndex index

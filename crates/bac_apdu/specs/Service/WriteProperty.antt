@@ -16,6 +16,7 @@ abbrev pub is_priority : Primitive → Bool
 is_priority (Unsigned n) = nat_lt 0 n && nat_lt n 17
 is_priority value = false
 
+-- Property Value, which is one value between the tags 3, and Priority
 abbrev pub setting : Form
 setting =
     row (opening 3)  -- property value, opened
@@ -24,15 +25,19 @@ setting =
     (optional 4 unsigned is_priority  -- priority, optional
     end)))
 
+-- the parameters of a request (15.9)
 abbrev pub write_property : Form
 write_property = property_then setting
 
+-- value and priority of a request of the code, as parameters
 abbrev pub setting_parameters : WriteProperty → List Parameter
 setting_parameters w = Mark 3 ∷ Value (view w.value) ∷ Mark 3 ∷ number_parameter w.priority ∷ []
 
+-- a request of the code as the parameters of a request
 abbrev pub write_parameters : WriteProperty → List Parameter
 write_parameters w = property_parameters_then w.object w.property w.index (setting_parameters w)
 
+-- a priority, if there is one, is 1 to 16 (clause 19.2)
 abbrev pub IsPriority : Option ℕ → Type 0
 IsPriority None = Unit {0}
 IsPriority (Some n) = (0 < n) × (n < 17)
@@ -51,6 +56,7 @@ pub record PropertyWrite : Type 0 where
 abbrev pub IsPropertyWrite : PropertyWrite → Type 0
 IsPropertyWrite w = IsProperty w.object w.property w.index × IsValid w.value × IsPriority w.priority
 
+-- a request of the code, apart from where its value lies in memory
 abbrev pub write_of_code : WriteProperty → PropertyWrite
 write_of_code w = record { object = w.object; property = w.property; index = w.index; value = view w.value; priority = w.priority }
 
