@@ -16,5 +16,6 @@ IsBody id (body.Log l) = (id.kind ≡ 20) × (id.instance < 4194304) × IsLog l.
 abbrev pub KeepsBody : Body → Body → Type 0
 KeepsBody old new = (id : Id) → IsBody id old → IsBody id new
 
+-- each object is what its identifier says
 abbrev pub AreObjects : List (Id × object.Object) → Type 0
 AreObjects objects = AllByRecursion (λ e. IsBody e.0 e.1.body) objects
