@@ -25,6 +25,7 @@ abbrev pub i_am_in : Apdu → Option IAm
 i_am_in (Unconfirmed service parameters) = if service == i_am_service then i_am_at parameters else None
 i_am_in other = None
 
+-- a device with its address
 abbrev pub announcement : List ℕ → IAm → Announcement
 announcement address i_am = record { address = address; i_am = i_am }
 
@@ -48,6 +49,7 @@ announced_by_frame sender (Function function rest) = None
 abbrev pub announced_in : List ℕ → List ℕ → Option Announcement
 announced_in sender datagram = frame_at datagram >>= announced_by_frame sender
 
+-- the same of a datagram that may not be there
 abbrev pub announced_if : List ℕ → Option (List ℕ) → Option Announcement
 announced_if sender None = None
 announced_if sender (Some datagram) = announced_in sender datagram

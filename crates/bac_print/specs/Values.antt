@@ -16,13 +16,16 @@ is_special octet = nat_lt octet 32 || (octet == 127 || (octet == 34 || octet == 
 abbrev pub is_plain : ℕ → List ℕ → Bool
 is_plain set octets = (set == 0) && (is_utf8 octets && not (list_any is_special octets))
 
+-- a character string between quotes, or else its character set and its octets in hexadecimal digits
 abbrev pub chars_text : ℕ → List ℕ → List ℕ
 chars_text set octets =
     if is_plain set octets then 34 ∷ (octets ++ 34 ∷ []) else called (codes "chars") (decimal set ++ (44 ∷ encode_lower octets))
 
+-- true or false
 abbrev pub boolean_text : Bool → List ℕ
 boolean_text flag = if flag then codes "true" else codes "false"
 
+-- the text of a value
 unfoldable pub value_text : Primitive → List ℕ
 value_text Null = codes "null"
 value_text (Boolean flag) = boolean_text flag

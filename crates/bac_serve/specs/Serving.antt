@@ -15,6 +15,7 @@ use Rattle.bac_ports.specs.Port.{Receiving, Sending}
 
 -- ---- the clock
 
+-- the device with its clock set, or as it was if the clock would go back
 abbrev pub set_by : State → Option (ℕ × State) → State
 set_by device None = device
 set_by device (Some said) = said.1
@@ -70,6 +71,7 @@ IsReceived sends tells (Err fault) port device clock result new after told =
 IsReceived sends tells (Ok heard) port device clock result new after told =
     Answers sends tells heard port device clock result new after told
 
+-- one receive, and what comes is answered
 abbrev pub ServesOne : {P C : Type 0} → (P → List ℕ → List ℕ → Sending → P → Type 0) → (P → Receiving → P → Type 0)
     → (C → Option CivilTime → C → Type 0) → P → State → C → Result Bool SocketFault → P → State → C → Type 0
 ServesOne {P = P} sends receives tells port device clock result new after told =
@@ -77,6 +79,7 @@ ServesOne {P = P} sends receives tells port device clock result new after told =
 
 -- ---- the next datagram
 
+-- what serving answers
 abbrev pub Done : Type 0
 Done = Result (Unit {0}) SocketFault
 

@@ -14,9 +14,11 @@ abbrev pub limits_of : Option ℕ → Option ℕ → Option (ℕ × ℕ)
 limits_of None max = None
 limits_of (Some min) max = Some (min, unwrap_or max min)
 
+-- the Who-Is with these limits
 abbrev pub who_is : Option ℕ → Option ℕ → WhoIs
 who_is min max = record { limits = limits_of min max }
 
+-- done, or a fault of finding devices
 abbrev pub of_found : Found → Ending
 of_found (Ok done) = Ok 0
 of_found (Err fault) = Err (of_find fault)
