@@ -1,4 +1,5 @@
--- A parameter as a field of its service: its value if it has the type that the service wants, and a default otherwise. In a service that was read, each has its type.
+-- A parameter as a field of its service: its value if it has the type that the service
+-- wants, and a default otherwise. In a service that was read, each has its type.
 use Rattle.std.specs.Prelude.{ℕ, ℤ, pos, Bool, false, List, [], get_or, slice_index, Option, Some, None}
 use Rattle.bac_wire.specs.Primitive.{Id, Primitive, Null, Unsigned, Signed, Bits, Enumerated, Date, Time, Object}
 use Rattle.bac_wire.specs.declared.stamp.Date4.{Date4}
@@ -51,7 +52,12 @@ octets_in parameter = []
 
 -- the parts of a date from its four octets (clause 20.2.12)
 abbrev pub date_with : List ℕ → Date4
-date_with octets = record { year = slice_index octets 0; month = slice_index octets 1; day = slice_index octets 2; weekday = slice_index octets 3 }
+date_with octets = record {
+  year = slice_index octets 0;
+  month = slice_index octets 1;
+  day = slice_index octets 2;
+  weekday = slice_index octets 3;
+}
 
 -- a Date
 abbrev pub date_in : Parameter → Date4
@@ -60,7 +66,12 @@ date_in parameter = date_with []
 
 -- the parts of a time from its four octets (clause 20.2.13)
 abbrev pub time_with : List ℕ → Time4
-time_with octets = record { hour = slice_index octets 0; minute = slice_index octets 1; second = slice_index octets 2; hundredth = slice_index octets 3 }
+time_with octets = record {
+  hour = slice_index octets 0;
+  minute = slice_index octets 1;
+  second = slice_index octets 2;
+  hundredth = slice_index octets 3;
+}
 
 -- a Time
 abbrev pub time_in : Parameter → Time4

@@ -1,5 +1,6 @@
 -- Frames (Annex J.2): what a whole datagram is, and how a frame to one device is written.
-use Rattle.std.specs.Prelude.{◌≡◌, ◌≢◌, ◌<◌, ℕ, ◌+◌, ◌-◌, ◌/◌, ◌%◌, ◌&&◌, ◌==◌, List, [], ◌∷◌, ◌++◌, length, slice_set, Option, Some, None, if◌then◌else◌}
+use Rattle.std.specs.Prelude.{◌≡◌, ◌≢◌, ◌<◌, ℕ, ◌+◌, ◌-◌, ◌/◌, ◌%◌, ◌&&◌, ◌==◌, List, [], ◌∷◌, ◌++◌, length, slice_set}
+use Rattle.std.specs.Prelude.{Option, Some, None, if◌then◌else◌}
 use Rattle.std.specs.Int.{w16, to_be_bytes}
 use Rattle.bac_apdu.specs.declared.frame.Frame.{Frame as FrameCode}
 use Rattle.bac_apdu.specs.declared.frame.Frame.TheVariants as code
@@ -20,7 +21,8 @@ frame_of (code.Broadcast rest) = Broadcast rest.now
 frame_of (code.Forwarded address rest) = Forwarded address rest.now
 frame_of (code.Function function rest) = Function function rest.now
 
--- What each function has (J.2.5, J.2.11, J.2.12): Original-Unicast-NPDU is 0A, Original-Broadcast-NPDU 0B; Forwarded-NPDU, 04, has six octets of address first.
+-- What each function has (J.2.5, J.2.11, J.2.12): Original-Unicast-NPDU is 0A,
+-- Original-Broadcast-NPDU 0B; Forwarded-NPDU, 04, has six octets of address first.
 unfoldable pub body_at : ℕ → List ℕ → Option Frame
 body_at function bytes =
     if function == 0x0A then Some (Unicast bytes) else

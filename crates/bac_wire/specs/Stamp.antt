@@ -20,8 +20,13 @@ time_octets t = t.hour ∷ t.minute ∷ t.second ∷ t.hundredth ∷ []
 -- the first part in which they differ decides, and the weekday is no such part
 abbrev pub order_of : Date4 → Time4 → Date4 → Time4 → Ordering
 order_of date time date' time' =
-    ordering_then (nat_cmp date.year date'.year) (ordering_then (nat_cmp date.month date'.month) (ordering_then (nat_cmp date.day date'.day)
-    (ordering_then (nat_cmp time.hour time'.hour) (ordering_then (nat_cmp time.minute time'.minute) (ordering_then (nat_cmp time.second time'.second) (nat_cmp time.hundredth time'.hundredth))))))
+    ordering_then (nat_cmp date.year date'.year)
+    (ordering_then (nat_cmp date.month date'.month)
+    (ordering_then (nat_cmp date.day date'.day)
+    (ordering_then (nat_cmp time.hour time'.hour)
+    (ordering_then (nat_cmp time.minute time'.minute)
+    (ordering_then (nat_cmp time.second time'.second)
+    (nat_cmp time.hundredth time'.hundredth))))))
 
 -- ---- moments
 
@@ -38,7 +43,15 @@ pub record CivilTime : Type 0 where
 -- the moment of these parts, in their order
 abbrev pub moment : ℕ → ℕ → ℕ → ℕ → ℕ → ℕ → ℕ → CivilTime
 moment year month day hour minute second hundredth =
-    record { year = year; month = month; day = day; hour = hour; minute = minute; second = second; hundredth = hundredth }
+    record {
+      year = year;
+      month = month;
+      day = day;
+      hour = hour;
+      minute = minute;
+      second = second;
+      hundredth = hundredth;
+    }
 
 -- the calendar has this day, in the years that a date can state, and a clock shows this time
 pub record IsCivilTime (m : CivilTime) : Type 0 where
@@ -77,12 +90,19 @@ ticks_of m = (((day_number m * 24 + m.hour) * 60 + m.minute) * 60 + m.second) * 
 -- the first part in which they differ decides
 abbrev pub moment_order : CivilTime → CivilTime → Ordering
 moment_order m n =
-    ordering_then (nat_cmp m.year n.year) (ordering_then (nat_cmp m.month n.month) (ordering_then (nat_cmp m.day n.day)
-    (ordering_then (nat_cmp m.hour n.hour) (ordering_then (nat_cmp m.minute n.minute) (ordering_then (nat_cmp m.second n.second) (nat_cmp m.hundredth n.hundredth))))))
+    ordering_then (nat_cmp m.year n.year)
+    (ordering_then (nat_cmp m.month n.month)
+    (ordering_then (nat_cmp m.day n.day)
+    (ordering_then (nat_cmp m.hour n.hour)
+    (ordering_then (nat_cmp m.minute n.minute)
+    (ordering_then (nat_cmp m.second n.second)
+    (nat_cmp m.hundredth n.hundredth))))))
 
 -- the moment that a date and a time of the calendar show, cut to hundredths
 abbrev pub moment_of : DateTime → CivilTime
-moment_of civil = moment (unsigned_abs civil.date.year) civil.date.month civil.date.day civil.time.hour civil.time.minute civil.time.second (civil.time.subsec_nanosecond / 10_000_000)
+moment_of civil =
+    moment (unsigned_abs civil.date.year) civil.date.month civil.date.day civil.time.hour civil.time.minute
+    civil.time.second (civil.time.subsec_nanosecond / 10_000_000)
 
 -- ---- a moment's octets
 

@@ -37,7 +37,9 @@ i_am =
 
 -- an announcement as these parameters
 abbrev pub i_am_parameters : IAm → List Parameter
-i_am_parameters a = Value (Object a.device) ∷ Value (Unsigned a.max_apdu) ∷ Value (Enumerated a.segmentation) ∷ Value (Unsigned a.vendor) ∷ []
+i_am_parameters a =
+    Value (Object a.device) ∷ Value (Unsigned a.max_apdu) ∷ Value (Enumerated a.segmentation)
+    ∷ Value (Unsigned a.vendor) ∷ []
 
 -- each number in the range of its type
 abbrev pub IsAnnouncement : IAm → Type 0
@@ -48,7 +50,12 @@ IsAnnouncement a = IsValid (Object a.device) × (a.max_apdu < 2 ^ 64) × (a.segm
 -- the announcement that these parameters are
 abbrev pub i_am_in : List Parameter → IAm
 i_am_in parameters =
-    record { device = id_in (parameter_at 0 parameters); max_apdu = unsigned_in (parameter_at 1 parameters); segmentation = enumerated_in (parameter_at 2 parameters); vendor = unsigned_in (parameter_at 3 parameters) }
+    record {
+      device = id_in (parameter_at 0 parameters);
+      max_apdu = unsigned_in (parameter_at 1 parameters);
+      segmentation = enumerated_in (parameter_at 2 parameters);
+      vendor = unsigned_in (parameter_at 3 parameters);
+    }
 
 -- the announcement that parameters are the encoding of
 unfoldable pub i_am_at : List ℕ → Option IAm

@@ -21,7 +21,11 @@ property_parameters p = property_parameters_then p.object p.property p.index []
 
 -- the request that these parameters are
 abbrev pub property_in : List Parameter → ReadProperty
-property_in parameters = record { object = id_in (parameter_at 0 parameters); property = enumerated_in (parameter_at 1 parameters); index = number_in (parameter_at 2 parameters) }
+property_in parameters = record {
+  object = id_in (parameter_at 0 parameters);
+  property = enumerated_in (parameter_at 1 parameters);
+  index = number_in (parameter_at 2 parameters);
+}
 
 -- the request that parameters are the encoding of, or the reason of the first that is wrong
 unfoldable pub read_property_at : List ℕ → Result ReadProperty Reason

@@ -50,7 +50,12 @@ property_ack_of a = record { object = a.object; property = a.property; index = a
 -- the answer that the parameters of an ACK are; the fourth is the opening tag, the fifth the values
 abbrev pub property_ack_in : List Parameter → PropertyAck
 property_ack_in parameters =
-    record { object = id_in (parameter_at 0 parameters); property = enumerated_in (parameter_at 1 parameters); index = number_in (parameter_at 2 parameters); values = octets_in (parameter_at 4 parameters) }
+    record {
+      object = id_in (parameter_at 0 parameters);
+      property = enumerated_in (parameter_at 1 parameters);
+      index = number_in (parameter_at 2 parameters);
+      values = octets_in (parameter_at 4 parameters);
+    }
 
 -- the answer that parameters are the encoding of
 unfoldable pub read_property_ack_at : List ℕ → Option PropertyAck

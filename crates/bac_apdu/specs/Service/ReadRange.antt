@@ -26,7 +26,12 @@ IsRange r = IsProperty r.object r.property r.index × IsExtent r.extent
 -- the request that these parameters are
 abbrev pub range_in : List Parameter → ReadRange
 range_in parameters =
-    record { object = id_in (parameter_at 0 parameters); property = enumerated_in (parameter_at 1 parameters); index = number_in (parameter_at 2 parameters); extent = extent_in (drop 3 parameters) }
+    record {
+      object = id_in (parameter_at 0 parameters);
+      property = enumerated_in (parameter_at 1 parameters);
+      index = number_in (parameter_at 2 parameters);
+      extent = extent_in (drop 3 parameters);
+    }
 
 -- the request that parameters are the encoding of, or the reason of the first that is wrong
 unfoldable pub read_range_at : List ℕ → Result ReadRange Reason

@@ -43,7 +43,8 @@ both low high = None
 
 -- the request that these parameters are
 abbrev pub who_is_in : List Parameter → WhoIs
-who_is_in parameters = record { limits = both (number_in (parameter_at 0 parameters)) (number_in (parameter_at 1 parameters)) }
+who_is_in parameters =
+    record { limits = both (number_in (parameter_at 0 parameters)) (number_in (parameter_at 1 parameters)) }
 
 -- the request that parameters are the encoding of
 unfoldable pub who_is_at : List ℕ → Option WhoIs

@@ -5,7 +5,8 @@ use Rattle.bac_wire.specs.View.{view}
 use Rattle.bac_wire.specs.Canon.{IsValid}
 use Rattle.bac_apdu.specs.declared.service.write_property.WriteProperty.{WriteProperty}
 use Rattle.bac_apdu.specs.Service.PropertyReference.{property_then, property_parameters_then, IsProperty}
-use Rattle.bac_apdu.specs.Form.{Form, end, row, optional, opening, closing, any, unsigned, Parameter, Value, Mark, number_parameter}
+use Rattle.bac_apdu.specs.Form.{Form, end, row, optional, opening, closing, any, unsigned, Parameter, Value, Mark}
+use Rattle.bac_apdu.specs.Form.{number_parameter}
 use Rattle.bac_wire.specs.Chain.{result_map}
 use Rattle.bac_apdu.specs.declared.reason.Reason.{Reason}
 use Rattle.bac_apdu.specs.FormReading.{form_at}
@@ -58,12 +59,19 @@ IsPropertyWrite w = IsProperty w.object w.property w.index × IsValid w.value ×
 
 -- a request of the code, apart from where its value lies in memory
 abbrev pub write_of_code : WriteProperty → PropertyWrite
-write_of_code w = record { object = w.object; property = w.property; index = w.index; value = view w.value; priority = w.priority }
+write_of_code w =
+    record { object = w.object; property = w.property; index = w.index; value = view w.value; priority = w.priority }
 
 -- the value is between an opening and a closing tag
 abbrev pub write_in : List Parameter → PropertyWrite
 write_in parameters =
-    record { object = id_in (parameter_at 0 parameters); property = enumerated_in (parameter_at 1 parameters); index = number_in (parameter_at 2 parameters); value = value_in (parameter_at 4 parameters); priority = number_in (parameter_at 6 parameters) }
+    record {
+      object = id_in (parameter_at 0 parameters);
+      property = enumerated_in (parameter_at 1 parameters);
+      index = number_in (parameter_at 2 parameters);
+      value = value_in (parameter_at 4 parameters);
+      priority = number_in (parameter_at 6 parameters);
+    }
 
 -- the request that parameters are the encoding of, or the reason of the first that is wrong
 unfoldable pub write_property_at : List ℕ → Result PropertyWrite Reason
