@@ -21,7 +21,8 @@ day_text other = []
 
 -- YYYY-MM-DD,W
 unfoldable pub date_text : List ℕ → List ℕ
-date_text (year ∷ month ∷ day ∷ weekday ∷ []) = day_text (year ∷ month ∷ day ∷ weekday ∷ []) ++ (44 ∷ weekday_text weekday)
+date_text (year ∷ month ∷ day ∷ weekday ∷ []) =
+    day_text (year ∷ month ∷ day ∷ weekday ∷ []) ++ (44 ∷ weekday_text weekday)
 date_text other = []
 
 -- HH:MM:SS.hh
