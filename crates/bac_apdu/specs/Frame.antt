@@ -1,5 +1,6 @@
 -- Frames (Annex J.2): what a whole datagram is, and how a frame to one device is written.
-use Rattle.std.specs.Prelude.{◌≡◌, ◌≢◌, ◌<◌, ℕ, ◌+◌, ◌-◌, ◌/◌, ◌%◌, ◌&&◌, ◌==◌, List, [], ◌∷◌, ◌++◌, length, slice_set, Option, Some, None, if◌then◌else◌}
+use Rattle.std.specs.Prelude.{◌≡◌, ◌≢◌, ◌<◌, ℕ, ◌+◌, ◌-◌, ◌/◌, ◌%◌, ◌&&◌, ◌==◌, List, [], ◌∷◌, ◌++◌, length, slice_set}
+use Rattle.std.specs.Prelude.{Option, Some, None, if◌then◌else◌}
 use Rattle.std.specs.Int.{w16, to_be_bytes}
 use Rattle.bac_apdu.specs.declared.frame.Frame.{Frame as FrameCode}
 use Rattle.bac_apdu.specs.declared.frame.Frame.TheVariants as code
@@ -13,13 +14,15 @@ pub data Frame : Type 0 where
   Forwarded : List ℕ → List ℕ → Frame
   Function : ℕ → List ℕ → Frame
 
+-- a frame of the code, apart from where it lies in memory
 abbrev pub frame_of : FrameCode → Frame
 frame_of (code.Unicast rest) = Unicast rest.now
 frame_of (code.Broadcast rest) = Broadcast rest.now
 frame_of (code.Forwarded address rest) = Forwarded address rest.now
 frame_of (code.Function function rest) = Function function rest.now
 
--- What each function has (J.2.5, J.2.11, J.2.12): Original-Unicast-NPDU is 0A, Original-Broadcast-NPDU 0B; Forwarded-NPDU, 04, has six octets of address first.
+-- What each function has (J.2.5, J.2.11, J.2.12): Original-Unicast-NPDU is 0A,
+-- Original-Broadcast-NPDU 0B; Forwarded-NPDU, 04, has six octets of address first.
 unfoldable pub body_at : ℕ → List ℕ → Option Frame
 body_at function bytes =
     if function == 0x0A then Some (Unicast bytes) else
@@ -63,12 +66,14 @@ with_length start octets =
 abbrev pub framed : ℕ → List ℕ → List ℕ
 framed function body = (0x81 ∷ function ∷ to_be_bytes w16 (length body + 4)) ++ body
 
+-- the BVLC function, the number in the second octet (J.2)
 abbrev pub function_of : Frame → ℕ
 function_of (Unicast npdu) = 0x0A
 function_of (Broadcast npdu) = 0x0B
 function_of (Forwarded address npdu) = 0x04
 function_of (Function function body) = function
 
+-- what comes behind the length
 abbrev pub body_of : Frame → List ℕ
 body_of (Unicast npdu) = npdu
 body_of (Broadcast npdu) = npdu

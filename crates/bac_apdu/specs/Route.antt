@@ -1,4 +1,5 @@
--- Places behind a router (clause 6.2.2): where a request goes that names another network, and where its answer comes from.
+-- Places behind a router (clause 6.2.2): where a request goes that names
+-- another network, and where its answer comes from.
 use Rattle.std.specs.Prelude.{ℕ, ◌≤◌, Option, Some, None, List, length}
 use Rattle.bac_apdu.specs.Npdu.{Place}
 

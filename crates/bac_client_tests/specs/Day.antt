@@ -27,6 +27,7 @@ day =
     ∷ Sample 1 ∷ Sample 1 ∷ Lose ∷ Sample 1 ∷ Sample 1 ∷ Answer
     ∷ Sample 1 ∷ Handle purge ∷ []
 
+-- a moment at which the log holds the ordinals from oldest to newest
 abbrev pub holding : ℕ → ℕ → Moment
 holding oldest newest = record { newest = newest; oldest = oldest }
 

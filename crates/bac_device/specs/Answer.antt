@@ -36,15 +36,19 @@ use Rattle.bac_device.specs.declared.reply.Reply.{Reply}
 
 -- ---- numbers of services (clause 21, BACnetConfirmedServiceChoice and BACnetUnconfirmedServiceChoice)
 
+-- ReadProperty, confirmed (15.5)
 abbrev pub read_property_service : ℕ
 read_property_service = 12
 
+-- WriteProperty, confirmed (15.9)
 abbrev pub write_property_service : ℕ
 write_property_service = 15
 
+-- I-Am, unconfirmed (16.10)
 abbrev pub i_am_service : ℕ
 i_am_service = 0
 
+-- Who-Is, unconfirmed (16.10)
 abbrev pub who_is_service : ℕ
 who_is_service = 8
 
@@ -58,29 +62,35 @@ unrecognized_service = 9
 abbrev pub own_id : State → Id → Id
 own_id d id = if is_here d id then device_id d else id
 
+-- the parameters of the ACK, each as short as can be
 abbrev pub ack_octets : Id → ℕ → Option ℕ → List ℕ → List ℕ
 ack_octets object property index values =
     canon_form read_property_ack
     (Value (Object object) ∷ Value (Enumerated property) ∷ number_parameter index ∷ Mark 3 ∷ Inside values ∷ [])
 
+-- the ACK with the values that were read
 abbrev pub ack : ℕ → State → ReadProperty → List ℕ → Apdu
 ack invoke d r values =
     Complex false invoke read_property_service (ack_octets (own_id d r.object) r.property r.index values)
 
+-- the ACK, or an Abort if it is over the limit, or the Error of the read
 abbrev pub read_said : State → ℕ → ℕ → ReadProperty → Result (List ℕ) Fault → Apdu
 read_said d limit invoke r (Ok values) = limited limit invoke (ack invoke d r values)
 read_said d limit invoke r (Err fault) = error invoke read_property_service fault
 
+-- the answer to a ReadProperty; parameters that can't be read are rejected
 abbrev pub answer_read : State → ℕ → ℕ → Result ReadProperty Reason → Apdu
 answer_read d limit invoke (Ok r) = read_said d limit invoke r (read_of d r)
 answer_read d limit invoke (Err reason) = reject invoke reason
 
 -- ---- WriteProperty (15.9)
 
+-- a SimpleACK and the device after the write, or an Error and the device as it was
 abbrev pub write_said : State → ℕ → Result State Fault → Apdu × State
 write_said d invoke (Ok new) = (Simple invoke write_property_service, new)
 write_said d invoke (Err fault) = (error invoke write_property_service fault, d)
 
+-- the answer to a WriteProperty, and the device after it; parameters that can't be read are rejected
 abbrev pub answer_write : State → ℕ → Result PropertyWrite Reason → Apdu × State
 answer_write d invoke (Ok w) = write_said d invoke (write_of d w)
 answer_write d invoke (Err reason) = (reject invoke reason, d)
@@ -93,6 +103,7 @@ records_ack limit invoke object extent log =
     let records = packed extent limit (selected log extent) in
     Complex false invoke read_range_service (ack_parameters object (answer_of log extent limit).flags (first_shown extent records) (entries_in records))
 
+-- there are no records
 abbrev pub is_empty : List Logged → Bool
 is_empty [] = true
 is_empty (r ∷ rs) = false
@@ -101,13 +112,16 @@ is_empty (r ∷ rs) = false
 abbrev pub is_too_small : ℕ → Extent → Log → Bool
 is_too_small limit extent log = not (is_empty (selected log extent)) && is_empty (packed extent limit (selected log extent))
 
+-- that ACK, or an Abort if no record fits or the ACK is over the limit
 abbrev pub records_said : ℕ → ℕ → Id → Extent → Log → Apdu
 records_said limit invoke object extent log = if is_too_small limit extent log then abort invoke else limited limit invoke (records_ack limit invoke object extent log)
 
+-- the same of the log that was found, or the Error
 abbrev pub range_said : ℕ → ℕ → ReadRange → Result Log Fault → Apdu
 range_said limit invoke r (Ok log) = records_said limit invoke r.object r.extent log
 range_said limit invoke r (Err fault) = error invoke read_range_service fault
 
+-- the answer to a ReadRange; parameters that can't be read are rejected
 abbrev pub answer_range : State → ℕ → ℕ → Result ReadRange Reason → Apdu
 answer_range d limit invoke (Ok r) = range_said limit invoke r (records_of d r)
 answer_range d limit invoke (Err reason) = reject invoke reason
@@ -135,15 +149,18 @@ asks_for instance (Some limits) = nat_le limits.0 instance && nat_le instance li
 abbrev pub announcement : State → IAm
 announcement d = record { device = device_id d; max_apdu = d.reply_size; segmentation = 3; vendor = d.vendor }
 
+-- the announcement as an I-Am
 abbrev pub i_am_apdu : State → Apdu
 i_am_apdu d = Unconfirmed i_am_service (canon_form i_am (i_am_parameters (announcement d)))
 
+-- the I-Am, if the Who-Is can be read and asks for this device
 abbrev pub announced : State → Option WhoIs → Option Apdu
 announced d (Some w) = if asks_for d.instance w.limits then Some (i_am_apdu d) else None
 announced d None = None
 
 -- ---- APDUs
 
+-- an answer that is always given, and the device after it
 abbrev pub replied : Apdu × State → Option Apdu × State
 replied said = (Some said.0, said.1)
 
@@ -155,6 +172,7 @@ answer_apdu d to_all (Unconfirmed service parameters) =
     (if service == who_is_service then announced d (who_is_at parameters) else None, d)
 answer_apdu d to_all other = (None, d)
 
+-- the answer to what an NPDU has for the device, if it has anything
 abbrev pub answer_heard : State → Option Heard → Option Apdu × State
 answer_heard d None = (None, d)
 answer_heard d (Some heard) = answer_apdu d heard.to_all heard.apdu
@@ -165,10 +183,12 @@ answer_heard d (Some heard) = answer_apdu d heard.to_all heard.apdu
 abbrev pub sent : Return → Option Apdu × State → Option Reply × State
 sent back said = (option_map (reply back) said.0, said.1)
 
+-- who gets the answer to what was heard, and the place behind a router that it is for
 abbrev pub returning : Receiver → Option Heard → Return
 returning to None = record { to = to; place = None }
 returning to (Some heard) = record { to = to; place = heard.source }
 
+-- the reply to what an NPDU has for the device, and the device after it
 abbrev pub answer_npdu : State → Receiver → Option Heard → Option Reply × State
 answer_npdu d to heard = sent (returning to heard) (answer_heard d heard)
 

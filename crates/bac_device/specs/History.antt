@@ -30,6 +30,7 @@ use Rattle.bac_device.specs.declared.reply.Reply.{Reply}
 
 -- ---- what a datagram is
 
+-- what a frame has for a device
 abbrev pub heard_in : Option Frame → Option Heard
 heard_in (Some (Unicast npdu)) = heard_at false npdu
 heard_in (Some (Broadcast npdu)) = heard_at true npdu
@@ -37,11 +38,13 @@ heard_in (Some (Forwarded address npdu)) = heard_at true npdu
 heard_in (Some (Function function rest)) = None
 heard_in None = None
 
+-- the WriteProperty that an APDU is, if it is one without segments that can be read
 abbrev pub write_in_apdu : Apdu → Option PropertyWrite
 write_in_apdu (Confirmed segmented size invoke service parameters) =
     if not segmented && (service == write_property_service) then result_ok (write_property_at parameters) else None
 write_in_apdu other = None
 
+-- the same of what was heard, unless it went to all devices
 abbrev pub write_heard : Option Heard → Option PropertyWrite
 write_heard None = None
 write_heard (Some heard) = if heard.to_all then None else write_in_apdu heard.apdu
@@ -50,6 +53,7 @@ write_heard (Some heard) = if heard.to_all then None else write_in_apdu heard.ap
 abbrev pub write_asked : List ℕ → Option PropertyWrite
 write_asked datagram = write_heard (heard_in (frame_at datagram))
 
+-- a SimpleACK (20.1.4)
 abbrev pub is_simple : Apdu → Bool
 is_simple (Simple invoke service) = true
 is_simple other = false
@@ -60,10 +64,12 @@ apdu_told npdu = do
   header ← header_at npdu
   apdu_at header.1
 
+-- the same of a frame that may not be there or may be another
 abbrev pub told_in : Option Frame → Option Apdu
 told_in (Some (Unicast npdu)) = apdu_told npdu
 told_in other = None
 
+-- there is an APDU, and it is a SimpleACK
 abbrev pub told_simple : Option Apdu → Bool
 told_simple None = false
 told_simple (Some apdu) = is_simple apdu
@@ -75,6 +81,7 @@ is_done (Some reply) = told_simple (told_in (frame_at reply.datagram))
 
 -- ---- after datagrams
 
+-- the device after datagrams, one after the other
 abbrev pub after : State → List (List ℕ) → State
 after d [] = d
 after d (datagram ∷ datagrams) = after (answer d datagram).1 datagrams
@@ -83,6 +90,7 @@ after d (datagram ∷ datagrams) = after (answer d datagram).1 datagrams
 abbrev pub accepted : State → List ℕ → Option PropertyWrite
 accepted d datagram = if is_done (answer d datagram).0 then write_asked datagram else None
 
+-- writes, and before them this one, if there is one
 abbrev pub with_first : Option PropertyWrite → List PropertyWrite → List PropertyWrite
 with_first None ws = ws
 with_first (Some w) ws = w ∷ ws

@@ -59,10 +59,12 @@ question_octets source invoke n extent = frame_octets (header_octets (asking sou
 
 -- ---- answers to any ReadRange
 
+-- an Abort (20.1.9)
 abbrev pub is_abort : Apdu → Bool
 is_abort (Abort by_server invoke reason) = true
 is_abort other = false
 
+-- there is an APDU, and it is an Abort
 abbrev pub told_abort : Option Apdu → Bool
 told_abort None = false
 told_abort (Some apdu) = is_abort apdu
@@ -77,6 +79,7 @@ abbrev pub IsRangeAsked : List ℕ → Bool → Option Place → ℕ → ℕ →
 IsRangeAsked datagram to_all source size invoke parameters =
     heard_in (frame_at datagram) ≡ Some (record { to_all = to_all; source = source; apdu = Confirmed false size invoke read_range_service parameters })
 
+-- no such ReadRange is answered by an Abort
 abbrev pub RangesAreNotAborted : Type 0
 RangesAreNotAborted =
     (d : State) (datagram : List ℕ) (to_all : Bool) (source : Option Place) (size invoke : ℕ) (parameters : List ℕ)

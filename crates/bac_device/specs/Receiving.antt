@@ -18,6 +18,7 @@ nak_codes =
     ∷ (0x09, 0x60)  -- Distribute-Broadcast-To-Network
     ∷ []
 
+-- the code of the result that refuses a function, if it is one of these
 abbrev pub nak_code : ℕ → Option ℕ
 nak_code function = lookup (λ refused. function == refused) nak_codes
 

@@ -27,6 +27,7 @@ abbrev pub plain_to : Option Place → Header
 plain_to None = plain
 plain_to (Some place) = record plain { dest = Some place; hops = 255 }
 
+-- an APDU in a datagram to one receiver, by that way
 unfoldable pub datagram_to : Option Place → Apdu → List ℕ
 datagram_to place apdu = frame_octets (header_octets (plain_to place) ++ apdu_octets apdu)
 
@@ -35,6 +36,7 @@ pub record Return : Type 0 where
   pub to : Receiver
   pub place : Option Place
 
+-- an APDU as a reply
 abbrev pub reply : Return → Apdu → Reply
 reply back apdu = record { datagram = datagram_to back.place apdu; to = back.to }
 

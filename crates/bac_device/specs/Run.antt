@@ -18,6 +18,7 @@ pub data Event : Type 0 where
   Sample : ℕ → Event
   Advance : CivilTime → Event
 
+-- an event of the code, apart from where its octets lie in memory
 abbrev pub event_of : EventCode → Event
 event_of (code.Datagram octets) = Datagram octets.now
 event_of (code.Sample instance) = Sample instance
@@ -25,14 +26,17 @@ event_of (code.Advance stamp) = Advance stamp
 
 -- ---- one event: its outcome, and the device after it
 
+-- the outcome of a sample on demand; a fault leaves the device as it was
 abbrev pub after_sample : State → Result (ℕ × State) SampleFault → Outcome × State
 after_sample d (Ok said) = (outcome.Sample (Ok said.0), said.1)
 after_sample d (Err fault) = (outcome.Sample (Err fault), d)
 
+-- the outcome of an advance; a clock that would go back leaves the device as it was
 abbrev pub after_clock : State → Option (ℕ × State) → Outcome × State
 after_clock d (Some said) = (outcome.Advance (Ok said.0), said.1)
 after_clock d None = (outcome.Advance (Err (record {})), d)
 
+-- what one event brings, and the device after it
 abbrev pub step : State → Event → Outcome × State
 step d (Datagram octets) = (outcome.Datagram (answer d octets).0, (answer d octets).1)
 step d (Sample instance) = after_sample d (sampled d instance)

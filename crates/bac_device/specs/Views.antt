@@ -4,5 +4,6 @@ use Rattle.bac_apdu.specs.Npdu.{maybe_place_of}
 use Rattle.bac_device.specs.Receiving.{Heard}
 use Rattle.bac_device.specs.declared.receiving.Heard.{Heard as Code}
 
+-- an APDU that was heard, with the place that it is from
 abbrev pub heard_of : Code → Heard
 heard_of heard = record { to_all = heard.to_all; source = maybe_place_of heard.source; apdu = apdu_of heard.apdu }

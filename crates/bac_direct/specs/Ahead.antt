@@ -33,9 +33,11 @@ moments_ahead d n (event ∷ events) = moments_ahead (happens event d) n events
 abbrev pub turn : ℕ → ℕ
 turn rounds = rounds * 4294967295
 
+-- a moment, so many whole rounds of numbers further on
 abbrev pub placed : ℕ → Moment → Moment
 placed rounds m = record { newest = m.newest + turn rounds; oldest = m.oldest + turn rounds }
 
+-- each of the moments, so many rounds further on
 abbrev pub placed_all : ℕ → List Moment → List Moment
 placed_all rounds [] = []
 placed_all rounds (m ∷ M) = placed rounds m ∷ placed_all rounds M

@@ -48,6 +48,7 @@ npdu_in (Some (Forwarded address npdu)) = Some npdu
 npdu_in (Some (Function function rest)) = None
 npdu_in None = None
 
+-- whether there is a header and it names a destination
 abbrev pub has_dest : Option (Header × List ℕ) → Bool
 has_dest None = false
 has_dest (Some header) = is_there header.0.dest

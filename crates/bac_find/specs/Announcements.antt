@@ -35,7 +35,7 @@ abbrev pub i_am_in : Apdu → Option IAm
 i_am_in (Unconfirmed service parameters) = if service == i_am_service then i_am_at parameters else None
 i_am_in other = None
 
--- what an NPDU from this address announces
+-- what an NPDU announces of the device at this address
 unfoldable pub announced_at : List ℕ → List ℕ → Option Announcement
 announced_at address npdu = do
   header ← header_at npdu
@@ -55,6 +55,7 @@ announced_by_frame sender (Function function rest) = None
 abbrev pub announced_in : List ℕ → List ℕ → Option Announcement
 announced_in sender datagram = frame_at datagram >>= announced_by_frame sender
 
+-- the same of a datagram that may not be there
 abbrev pub announced_if : List ℕ → Option (List ℕ) → Option Announcement
 announced_if sender None = None
 announced_if sender (Some datagram) = announced_in sender datagram

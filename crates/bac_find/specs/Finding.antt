@@ -16,6 +16,7 @@ use Rattle.bac_print.specs.Output.{AppendsPart}
 
 -- ---- the datagrams that came
 
+-- the line of a device, and nothing without one
 abbrev pub line_of : Option Announcement → List ℕ
 line_of None = []
 line_of (Some said) = device_line said

@@ -13,6 +13,7 @@ use Rattle.bac_print.specs.Output.{AppendsPart}
 abbrev pub Found : Type 0
 Found = Result (Unit {0}) FindFault
 
+-- what a writer holds, if that is known
 abbrev pub Held : Type 0
 Held = Option (List ℕ)
 

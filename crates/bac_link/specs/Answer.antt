@@ -12,6 +12,7 @@ pub data Answer : Type 0 where
   Reject : ℕ → Answer
   Abort : ℕ → Answer
 
+-- an answer of the code, apart from where its parameters lie in memory
 abbrev pub answer_of : AnswerCode → Answer
 answer_of code.Simple = Simple
 answer_of (code.Complex parameters) = Complex parameters.now

@@ -36,6 +36,7 @@ message_in bytes = do
 abbrev pub path_in : List ℕ → Option Path
 path_in bytes = option_map (λ message. message.0) (message_in bytes)
 
+-- the APDU alone
 abbrev pub apdu_in : List ℕ → Option Apdu
 apdu_in bytes = option_map (λ message. message.1) (message_in bytes)
 
@@ -53,11 +54,13 @@ answer_in (Some (apdu.Reject invoke reason)) = Some (invoke, Reject reason)
 answer_in (Some (apdu.Abort by_server invoke reason)) = if by_server then Some (invoke, Abort reason) else None
 answer_in _ = None
 
+-- the request and the answer are there and have the same invoke ID (clause 5.4)
 abbrev pub same_id : Option ℕ → Option (ℕ × Answer) → Bool
 same_id None answer = false
 same_id (Some invoke) None = false
 same_id (Some invoke) (Some answer) = invoke == answer.0
 
+-- the paths of request and answer are there, and the answer comes from where the request went
 abbrev pub same_path : Option Path → Option Path → Bool
 same_path None told = false
 same_path (Some asked) None = false

@@ -24,6 +24,7 @@ use Rattle.bac_link.specs.Requests.{request_octets}
 abbrev pub question : Id → Extent → Request
 question log extent = request.ReadRange (record { object = log; property = log_buffer; index = None; extent = extent })
 
+-- the request is that question, and extent and identifier can be encoded
 abbrev pub AsksFor : Id → Extent → Request → Type 0
 AsksFor log extent r = (r ≡ question log extent) × IsExtent extent × IsValid (Object log)
 

@@ -5,10 +5,12 @@ use Rattle.std.specs.Str.{bytes_eq}
 use Rattle.bac_apdu.specs.Npdu.{Header, Place, is_there}
 use Rattle.bac_apdu.specs.Route.{IsWay}
 
+-- the two places: without dest a message is for a device of this network, and without source from one
 pub record Path : Type 0 where
   pub dest : Option Place
   pub source : Option Place
 
+-- the two places that a network header names
 abbrev pub path_of : Header → Path
 path_of h = record { dest = h.dest; source = h.source }
 
@@ -20,9 +22,11 @@ towards place = record { dest = place; source = None }
 abbrev pub back : Path → Path
 back path = record { dest = path.source; source = path.dest }
 
+-- on either side no other network, or a place that a request can go to
 abbrev pub AreWays : Path → Type 0
 AreWays path = IsWay path.dest × IsWay path.source
 
+-- both places are missing, or they have the same network and address
 abbrev pub same_place : Option Place → Option Place → Bool
 same_place None None = true
 same_place (Some a) (Some b) = a.net == b.net && bytes_eq a.address b.address

@@ -19,6 +19,7 @@ service_of (request.ReadProperty r) = read_property_service
 service_of (request.WriteProperty w) = write_property_service
 service_of (request.ReadRange r) = read_range_service
 
+-- the service parameters of a request (clauses 15.5, 15.8, 15.9), each as short as can be
 unfoldable pub parameters_of : Request → List ℕ
 parameters_of (request.ReadProperty r) = canon_form read_property (property_parameters r)
 parameters_of (request.WriteProperty w) = canon_form write_property (write_parameters w)

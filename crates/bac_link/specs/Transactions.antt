@@ -13,6 +13,7 @@ use Rattle.bac_link.specs.Datagrams.{answer_in, answers_to, apdu_in}
 use Rattle.bac_link.specs.Path.{towards}
 use Rattle.bac_link.specs.Requests.{request_octets, next_invoke}
 
+-- an invoke ID and an answer of the code, if there is one
 abbrev pub maybe_answer_of : Option (ℕ × AnswerCode) → Option (ℕ × Answer)
 maybe_answer_of None = None
 maybe_answer_of (Some x) = Some (x.0, answer_of x.1)

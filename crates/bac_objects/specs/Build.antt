@@ -35,18 +35,21 @@ kind_of (Multistate instance name states default) = 19
 kind_of (Integer instance name default) = 45
 kind_of (Log instance name source capacity interval logged) = 20
 
+-- the instance number of an object's identifier
 abbrev pub instance_of : ObjectLine → ℕ
 instance_of (Binary instance name default) = instance
 instance_of (Multistate instance name states default) = instance
 instance_of (Integer instance name default) = instance
 instance_of (Log instance name source capacity interval logged) = instance
 
+-- the Object_Name
 abbrev pub name_of : ObjectLine → List ℕ
 name_of (Binary instance name default) = name
 name_of (Multistate instance name states default) = name
 name_of (Integer instance name default) = name
 name_of (Log instance name source capacity interval logged) = name
 
+-- the Object_Identifier
 abbrev pub id_of : ObjectLine → Id
 id_of line = record { kind = kind_of line; instance = instance_of line }
 
@@ -57,9 +60,11 @@ abbrev pub first_of : List (Bool × BuildFault) → Option BuildFault
 first_of [] = None
 first_of (test ∷ more) = if test.0 then Some test.1 else first_of more
 
+-- whether one of the lines has this identifier
 abbrev pub has_id : Id → List ObjectLine → Bool
 has_id id lines = list_any (λ line. is_id id (id_of line)) lines
 
+-- whether one of the lines has this name
 abbrev pub has_name : List ℕ → List ObjectLine → Bool
 has_name name lines = list_any (λ line. bytes_eq name (name_of line)) lines
 
@@ -92,11 +97,13 @@ abbrev pub object_fault : DeviceLine → List ObjectLine → ObjectLine → Opti
 object_fault device before line =
     first_of (line_tests device line (has_id (id_of line) before) (has_name (name_of line) before))
 
+-- the first fault of object lines behind the device's line and these object lines
 abbrev pub objects_fault : DeviceLine → List ObjectLine → List ObjectLine → Option BuildFault
 objects_fault device before [] = None
 objects_fault device before (line ∷ lines) =
     option_or (object_fault device before line) (objects_fault device (before ++ line ∷ []) lines)
 
+-- the first fault of the device's line; the greatest APDU that it takes and sends has 50 to 1476 octets (20.1.2.5)
 abbrev pub device_fault : DeviceLine → Option BuildFault
 device_fault device = first_of (
     (nat_lt 4194302 device.instance, BadInstance)
@@ -109,12 +116,14 @@ build_fault device lines = option_or (device_fault device) (objects_fault device
 
 -- ---- the device
 
+-- what a line makes: an object that nobody has commanded yet, or an empty log
 abbrev pub body_of : ObjectLine → Body
 body_of (Binary instance name default) = body.Command (commanded range.Binary (setting.Enumerated default))
 body_of (Multistate instance name states default) = body.Command (commanded (range.Multistate states) (setting.Unsigned default))
 body_of (Integer instance name default) = body.Command (commanded range.Integer (setting.Signed default))
 body_of (Log instance name source capacity interval logged) = body.Log (record { source = source; interval = interval; log = empty_log capacity logged })
 
+-- the object of a line with its identifier
 abbrev pub entry_of : ObjectLine → Id × Object
 entry_of line = (id_of line, record { name = name_of line; body = body_of line })
 

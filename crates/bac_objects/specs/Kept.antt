@@ -22,6 +22,7 @@ interval_in (body.Log l) = l.interval
 abbrev pub KeepsBody : Body → Body → Type 0
 KeepsBody old new = ((id : Id) → IsBody id old → IsBody id new) × (interval_in new ≡ interval_in old)
 
+-- each object is what its identifier says
 abbrev pub AreObjects : List (Id × object.Object) → Type 0
 AreObjects objects = AllByRecursion (λ e. IsBody e.0 e.1.body) objects
 

@@ -40,6 +40,7 @@ text octets = One (Chars 0 octets)
 
 -- ---- what every object has
 
+-- identifier, name and type, and then the object's further properties
 abbrev pub common : Id → List ℕ → List Row → List Row
 common id name more =
     (75, One (Object id))  -- Object_Identifier
@@ -66,6 +67,7 @@ further range.Binary = []
 further (range.Multistate states) = (74, One (Unsigned states)) ∷ []  -- Number_Of_States
 further range.Integer = (117, One (Enumerated 95)) ∷ []  -- Units: no units
 
+-- what each commandable object has
 abbrev pub command_rows : Command → List Row
 command_rows c =
     (85, One (value_of (present c.slots c.default)))  -- Present_Value
@@ -78,6 +80,7 @@ command_rows c =
 
 -- ---- trend logs (12.25)
 
+-- what a Trend Log has
 abbrev pub log_rows : Logger → List Row
 log_rows l =
     (133, One (Boolean l.log.enabled))  -- Enable
@@ -93,15 +96,18 @@ log_rows l =
     ∷ (36, One (Enumerated 0))  -- Event_State: normal
     ∷ []
 
+-- what an object has, by its kind
 abbrev pub body_rows : Body → List Row
 body_rows (body.Command c) = command_rows c
 body_rows (body.Log l) = log_rows l
 
+-- all properties of an object
 abbrev pub object_table : Id → object.Object → List Row
 object_table id o = common id o.name (body_rows o.body)
 
 -- ---- the device (12.11)
 
+-- the identifier of the device: object type 8
 abbrev pub device_id : State → Id
 device_id d = record { kind = 8; instance = d.instance }
 
@@ -109,6 +115,7 @@ device_id d = record { kind = 8; instance = d.instance }
 abbrev pub object_list : State → List Primitive
 object_list d = Object (device_id d) ∷ map (λ id. Object id) (keys_of d.objects)
 
+-- all properties of the device
 abbrev pub device_table : State → List Row
 device_table d = common (device_id d) d.name (
     (112, One (Enumerated 0))  -- System_Status: operational

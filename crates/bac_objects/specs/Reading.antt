@@ -75,6 +75,7 @@ Appends old v (Err fault) new = (fault ≡ refused.TooLong) × (1501 < length ol
 
 -- ---- the code's properties
 
+-- a property of the code as one of a table
 abbrev pub shown_of : Property → Shown
 shown_of (code.One v) = One (view v)
 shown_of code.Nothing = Several []

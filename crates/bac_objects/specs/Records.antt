@@ -20,6 +20,7 @@ abbrev pub buffer_of : ℕ → Body → Result Log Fault
 buffer_of property (body.Command c) = Err NotList
 buffer_of property (body.Log l) = if property == log_buffer then Ok l.log else Err NotList
 
+-- the log of an object that is there, or the first fault
 abbrev pub object_records : ReadRange → object.Object → Result Log Fault
 object_records r o = do
   ok ← checked (row r.property (object_table r.object o)) r.index

@@ -4,6 +4,7 @@ use Rattle.bac_wire.specs.Primitive.{Id}
 use Rattle.bac_wire.specs.Stamp.{CivilTime}
 use Rattle.bac_objects.specs.declared.object.Object.{Object}
 
+-- a device: what its own object says of it, its clock, and its other objects
 pub record State : Type 0 where
   -- the number of its identifier, its name in octets, and the number of its vendor
   pub instance : ℕ

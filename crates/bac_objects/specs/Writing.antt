@@ -71,6 +71,7 @@ records_written clock w log =
     if w.property == 133 then enabled clock w.value log else
     if w.property == 141 then purged clock w.value log else Err WriteDenied
 
+-- a Trend Log after a write to its records: source and interval stay
 abbrev pub log_written : CivilTime → PropertyWrite → Logger → Result Logger Fault
 log_written clock w l = do
   log ← records_written clock w l.log
@@ -78,6 +79,7 @@ log_written clock w l = do
 
 -- ---- objects
 
+-- an object's own properties after a write, by its kind
 abbrev pub body_written : CivilTime → PropertyWrite → Body → Result Body Fault
 body_written clock w (body.Command c) = do
   new ← command_written w c
@@ -91,6 +93,7 @@ abbrev pub is_array : Shown → Bool
 is_array (Array vs) = true
 is_array shown = false
 
+-- no index, or one into an array
 abbrev pub unindexed : Shown → Option ℕ → Result (Unit {0}) Fault
 unindexed shown None = Ok tt
 unindexed shown (Some index) = if is_array shown then Ok tt else Err NotArray
@@ -100,6 +103,7 @@ abbrev pub checked : Option Shown → Option ℕ → Result (Unit {0}) Fault
 checked None index = Err UnknownProperty
 checked (Some shown) index = unindexed shown index
 
+-- an object after a write, or the first fault: of the property, of the index, of the value
 abbrev pub object_written : CivilTime → PropertyWrite → object.Object → Result object.Object Fault
 object_written clock w o = do
   ok ← checked (row w.property (object_table w.object o)) w.index
@@ -108,6 +112,7 @@ object_written clock w o = do
 
 -- ---- the device
 
+-- the device's own identifier
 abbrev pub is_device : State → Id → Bool
 is_device d id = (id.kind == 8) && (id.instance == d.instance)
 

@@ -7,10 +7,12 @@ use Rattle.bac_link.specs.declared.link.Lost.{Lost}
 use Rattle.bac_ports.specs.declared.port.Heard.{Heard}
 use Rattle.bac_ports.specs.Port.{Receiving, Sending}
 
+-- the request has no answer
 abbrev pub IsLost : Result (List ℕ) Lost → Type 0
 IsLost (Ok datagram) = ⊥
 IsLost (Err lost) = Unit {0}
 
+-- the same with sender and datagram apart, and none where no datagram came
 abbrev pub fitting_of : List ℕ → List ℕ → List ℕ → Option (List ℕ) → Option (List ℕ)
 fitting_of peer request from None = None
 fitting_of peer request from (Some datagram) = if bytes_eq from peer && answers_to request datagram then Some datagram else None

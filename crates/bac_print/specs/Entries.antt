@@ -5,7 +5,8 @@ use Rattle.std.specs.Fmt.{signed_decimal}
 use Rattle.bac_wire.specs.Number.{bits_of}
 use Rattle.bac_wire.specs.Stamp.{date_octets, time_octets}
 use Rattle.bac_log.specs.declared.entry.Datum.{Datum}
-use Rattle.bac_log.specs.declared.entry.Datum.TheVariants.{LogStatus, Boolean, Real4, Enumerated, Unsigned, Signed, Bits, LongBits, Null, Failure, TimeChange, Any}
+use Rattle.bac_log.specs.declared.entry.Datum.TheVariants.{LogStatus, Boolean, Real4, Enumerated, Unsigned, Signed}
+use Rattle.bac_log.specs.declared.entry.Datum.TheVariants.{Bits, LongBits, Null, Failure, TimeChange, Any}
 use Rattle.bac_log.specs.declared.entry.Entry.{Entry}
 use Rattle.bac_print.specs.Numbers.{bit_digits, called, called_hex, called_two, counted}
 use Rattle.bac_print.specs.Moments.{day_text, time_text}
@@ -38,7 +39,8 @@ flags_text (Some flags) = first_bits 4 (flags ∷ [])
 -- STAMP DATUM FLAGS
 unfoldable pub entry_text : Entry → List ℕ
 entry_text entry =
-    day_text (date_octets entry.date) ++ (84 ∷ (time_text (time_octets entry.time) ++ (32 ∷ (datum_text entry.datum ++ (32 ∷ flags_text entry.flags)))))
+    day_text (date_octets entry.date)
+    ++ (84 ∷ (time_text (time_octets entry.time) ++ (32 ∷ (datum_text entry.datum ++ (32 ∷ flags_text entry.flags)))))
 
 -- NUMBER and the record, a line
 unfoldable pub record_line : ℕ → Entry → List ℕ

@@ -6,9 +6,11 @@ use Rattle.bac_print.specs.Numbers.{two_digits}
 abbrev pub year_text : ℕ → List ℕ
 year_text year = if year == 255 then 42 ∷ [] else decimal (1900 + year)
 
+-- month, day, hour, minute, second or hundredths, in two digits
 abbrev pub part_text : ℕ → List ℕ
 part_text part = if part == 255 then 42 ∷ [] else two_digits part
 
+-- the weekday, 1 for Monday to 7 for Sunday
 abbrev pub weekday_text : ℕ → List ℕ
 weekday_text weekday = if weekday == 255 then 42 ∷ [] else decimal weekday
 
@@ -19,7 +21,8 @@ day_text other = []
 
 -- YYYY-MM-DD,W
 unfoldable pub date_text : List ℕ → List ℕ
-date_text (year ∷ month ∷ day ∷ weekday ∷ []) = day_text (year ∷ month ∷ day ∷ weekday ∷ []) ++ (44 ∷ weekday_text weekday)
+date_text (year ∷ month ∷ day ∷ weekday ∷ []) =
+    day_text (year ∷ month ∷ day ∷ weekday ∷ []) ++ (44 ∷ weekday_text weekday)
 date_text other = []
 
 -- HH:MM:SS.hh

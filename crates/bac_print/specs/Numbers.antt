@@ -10,6 +10,7 @@ two_digits n = if nat_lt n 10 then 48 ∷ decimal n else decimal n
 abbrev pub bit_digit : Bool → ℕ
 bit_digit bit = if bit then 49 else 48
 
+-- a digit for each bit, in order
 abbrev pub bit_digits : List Bool → List ℕ
 bit_digits bits = map bit_digit bits
 

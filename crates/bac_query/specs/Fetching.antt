@@ -19,6 +19,7 @@ use Rattle.bac_query.specs.declared.fault.QueryFault.{QueryFault}
 use Rattle.bac_query.specs.declared.fault.QueryFault.TheVariants.{Exchange, Write, Memory}
 use Rattle.bac_query.specs.declared.fetching.Fetched.{Fetched}
 
+-- what fetching answers
 abbrev pub Fetching : Type 0
 Fetching = Result Fetched QueryFault
 

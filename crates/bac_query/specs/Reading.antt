@@ -22,6 +22,7 @@ use Rattle.bac_query.specs.declared.fault.QueryFault.TheVariants.{Exchange, Writ
 abbrev pub Answer : Type 0
 Answer = Result (Unit {0}) QueryFault
 
+-- what a writer holds, if that is known
 abbrev pub Held : Type 0
 Held = Option (List ℕ)
 

@@ -21,6 +21,7 @@ with_line None (Device line) = Some (Some (line, []))
 with_line (Some plan) (Object line) = Some (Some (plan.0, plan.1 ++ line ∷ []))
 with_line plan other = None
 
+-- the same of a line that was read; none if it couldn't be
 abbrev pub with_read : Plan → Option ScriptLine → Option Plan
 with_read plan None = None
 with_read plan (Some line) = with_line plan line

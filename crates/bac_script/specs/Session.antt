@@ -56,6 +56,7 @@ abbrev pub answer_text : Option Receiver → List ℕ → List ℕ
 answer_text None octets = codes "none" ++ 10 ∷ []
 answer_text (Some to) octets = codes "tx " ++ (encode_lower octets ++ (receiver_text to ++ 10 ∷ []))
 
+-- what a datagram prints, and the device after it
 abbrev pub answered : Option Reply × device.State → List ℕ × device.State
 answered said = (answer_text (receiver_of said.0) (reply_octets said.0), said.1)
 
@@ -64,6 +65,7 @@ abbrev pub clock_text : Option ℕ → List ℕ
 clock_text None = codes "clock back" ++ 10 ∷ []
 clock_text (Some count) = codes "sampled " ++ (decimal count ++ 10 ∷ [])
 
+-- what an advance prints, and the device after it
 abbrev pub clocked : device.State → Option (ℕ × device.State) → List ℕ × device.State
 clocked device None = (clock_text None, device)
 clocked device (Some taken) = (clock_text (Some taken.0), taken.1)
@@ -75,6 +77,7 @@ sample_text (Err NoSuchLog) = codes "refused: no such log" ++ 10 ∷ []
 sample_text (Err Disabled) = codes "refused: disabled" ++ 10 ∷ []
 sample_text (Err CycleFull) = codes "refused: cycle full" ++ 10 ∷ []
 
+-- what a sample prints, and the device after it
 abbrev pub sample_taken : device.State → Result (ℕ × device.State) SampleFault → List ℕ × device.State
 sample_taken device (Ok taken) = (sample_text (Ok taken.0), taken.1)
 sample_taken device (Err fault) = (sample_text (Err fault), device)
@@ -86,6 +89,7 @@ happens device (Clocked stamp) = clocked device (advanced device stamp)
 happens device (Sampled instance) = sample_taken device (sampled device instance)
 happens device (Walked log from steps) = (walk_text device log from steps, device)
 
+-- what an event prints, and the running device
 abbrev pub running : List ℕ × device.State → Step
 running happened = Ok (happened.0, Running happened.1)
 
@@ -94,6 +98,7 @@ abbrev pub first_event : Option BuildFault → device.State → Event → Step
 first_event None device event = running (happens device event)
 first_event (Some fault) device event = Err (Unbuilt fault)
 
+-- an event stands behind the device's line
 abbrev pub on_event : State → Event → Step
 on_event Empty event = Err Bad
 on_event (Described device lines) event = first_event (build_fault device lines) (built device lines) event
@@ -101,6 +106,7 @@ on_event (Running device) event = running (happens device event)
 
 -- ---- any line
 
+-- a line, by what it says
 abbrev pub on_line : State → ScriptLine → Step
 on_line s (Device line) = on_device s line
 on_line s (Object line) = on_object s line
@@ -111,6 +117,7 @@ abbrev pub on_read : State → Option ScriptLine → Step
 on_read s None = Err Bad
 on_read s (Some line) = on_line s line
 
+-- what a text does as a line; an empty line and a comment do nothing
 unfoldable pub step : State → List ℕ → Step
 step s text = if is_silent text then Ok ([], s) else on_read s (line_in text)
 

@@ -19,24 +19,30 @@ use Rattle.bac_script.specs.declared.replay.session.Session.TheVariants as sessi
 abbrev pub device_of : ℕ → List ℕ → ℕ → ℕ → CivilTime → ScriptLine
 device_of instance name vendor reply clock = Device (record { instance = instance; name = name; vendor = vendor; reply_size = reply; clock = clock })
 
+-- a line of a Binary Value
 abbrev pub binary_of : ℕ → List ℕ → ℕ → ScriptLine
 binary_of instance name default = Object (Binary instance name default)
 
+-- a line of a Multi-state Value
 abbrev pub multistate_of : ℕ → List ℕ → ℕ → ℕ → ScriptLine
 multistate_of instance name states default = Object (Multistate instance name states default)
 
+-- a line of an Integer Value
 abbrev pub integer_of : ℕ → List ℕ → ℤ → ScriptLine
 integer_of instance name default = Object (Integer instance name default)
 
+-- a line of a Trend Log
 abbrev pub log_of : ℕ → List ℕ → Id → ℕ → ℕ → ℕ → ScriptLine
 log_of instance name source capacity interval logged = Object (Log instance name source capacity interval logged)
 
+-- an event of the code, apart from where its octets lie in memory
 abbrev pub event_of : event.Event → Event
 event_of (event.TheVariants.Received octets) = Received octets.now
 event_of (event.TheVariants.Clocked stamp) = Clocked stamp
 event_of (event.TheVariants.Sampled instance) = Sampled instance
 event_of (event.TheVariants.Walked words) = Walked words.log words.from words.steps
 
+-- a line of the code, as what a line says
 abbrev pub line_of : line.Line → ScriptLine
 line_of (line.TheVariants.Device line) = Device line
 line_of (line.TheVariants.Object line) = Object line
@@ -44,6 +50,7 @@ line_of (line.TheVariants.Happens happened) = Happens (event_of happened)
 
 -- ---- what the lines so far have made
 
+-- a session of the code, as what the lines so far have made
 abbrev pub state_of : Session → State
 state_of session.Empty = Empty
 state_of (session.Described device lines) = Described device lines.items

@@ -41,6 +41,7 @@ missed_text next steps = end_line (why_ended (end_missing steps)) next
 abbrev pub held_by : Log → History
 held_by log = record { logged = log.before + turn 1; entries = log.entries }
 
+-- what it holds, as a moment
 abbrev pub moment_by : Log → Moment
 moment_by log = placed 1 (moment_of log)
 
@@ -72,5 +73,6 @@ abbrev pub begun_text : device.State → Id → Option ℕ → ℕ → List ℕ
 begun_text d log None steps = walked_text d (log_of d log.instance) true 1 steps
 begun_text d log (Some number) steps = walked_text d (log_of d log.instance) false number steps
 
+-- what a walk prints; `no walk`, if it doesn't begin
 abbrev pub walk_text : device.State → Id → Option ℕ → ℕ → List ℕ
 walk_text d log from steps = if begins log from then begun_text d log from steps else codes "no walk" ++ 10 ∷ []

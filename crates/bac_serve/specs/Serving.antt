@@ -15,6 +15,7 @@ use Rattle.bac_ports.specs.Port.{Receiving, Sending}
 
 -- ---- the clock
 
+-- the device with its clock set, or as it was if the clock would go back
 abbrev pub set_by : State → Option (ℕ × State) → State
 set_by device None = device
 set_by device (Some said) = said.1
@@ -58,37 +59,45 @@ Handles sends from (Some datagram) port device result new after =
 abbrev pub Answers : {P C : Type 0} → (P → List ℕ → List ℕ → Sending → P → Type 0) → (C → Option CivilTime → C → Type 0)
     → Heard → P → State → C → Result Bool SocketFault → P → State → C → Type 0
 Answers sends tells heard port device clock result new after told =
-    (now : Option CivilTime) × tells clock now told × Handles sends heard.from heard.datagram port (ticked_at device now) result new after
+    (now : Option CivilTime) × tells clock now told
+    × Handles sends heard.from heard.datagram port (ticked_at device now) result new after
 
 -- ---- one receive
 
 -- a refused receive leaves the device and the clock
-abbrev pub IsReceived : {P C : Type 0} → (P → List ℕ → List ℕ → Sending → P → Type 0) → (C → Option CivilTime → C → Type 0)
+abbrev pub IsReceived : {P C : Type 0} → (P → List ℕ → List ℕ → Sending → P → Type 0)
+    → (C → Option CivilTime → C → Type 0)
     → Receiving → P → State → C → Result Bool SocketFault → P → State → C → Type 0
 IsReceived sends tells (Err fault) port device clock result new after told =
     (result ≡ Err fault) × (new ≡ port) × (after ≡ device) × (told ≡ clock)
 IsReceived sends tells (Ok heard) port device clock result new after told =
     Answers sends tells heard port device clock result new after told
 
+-- one receive, and what comes is answered
 abbrev pub ServesOne : {P C : Type 0} → (P → List ℕ → List ℕ → Sending → P → Type 0) → (P → Receiving → P → Type 0)
     → (C → Option CivilTime → C → Type 0) → P → State → C → Result Bool SocketFault → P → State → C → Type 0
 ServesOne {P = P} sends receives tells port device clock result new after told =
-    (heard : Receiving) × (mid : P) × receives port heard mid × IsReceived sends tells heard mid device clock result new after told
+    (heard : Receiving) × (mid : P) × receives port heard mid
+    × IsReceived sends tells heard mid device clock result new after told
 
 -- ---- the next datagram
 
+-- what serving answers
 abbrev pub Done : Type 0
 Done = Result (Unit {0}) SocketFault
 
--- a wait in vain lets the clock go on, and more is done; a failure is the end; what comes is answered, whatever becomes of its reply
-abbrev pub IsWaited : {P C : Type 0} → (P → List ℕ → List ℕ → Sending → P → Type 0) → (C → Option CivilTime → C → Type 0)
+-- a wait in vain lets the clock go on, and more is done; a failure is the end;
+-- what comes is answered, whatever becomes of its reply
+abbrev pub IsWaited : {P C : Type 0} → (P → List ℕ → List ℕ → Sending → P → Type 0)
+    → (C → Option CivilTime → C → Type 0)
     → Receiving → P → State → C → Done → P → State → C → (State → C → Type 0) → Type 0
 IsWaited {C = C} sends tells (Err Timeout) port device clock result new after told more =
     (now : Option CivilTime) × (seen : C) × tells clock now seen × more (ticked_at device now) seen
 IsWaited sends tells (Err Failed) port device clock result new after told more =
     (result ≡ Err Failed) × (new ≡ port) × (after ≡ device) × (told ≡ clock)
 IsWaited sends tells (Ok heard) port device clock result new after told more =
-    (result ≡ Ok tt) × ((sent : Result Bool SocketFault) × Answers sends tells heard port device clock sent new after told)
+    (result ≡ Ok tt)
+    × ((sent : Result Bool SocketFault) × Answers sends tells heard port device clock sent new after told)
 
 -- at most so many waits, up to the first datagram
 unfoldable pub ServesNext : {P C : Type 0} → (P → List ℕ → List ℕ → Sending → P → Type 0) → (P → Receiving → P → Type 0)

@@ -18,6 +18,7 @@ limits_of (Some min) max = Some (min, unwrap_or max min)
 abbrev pub search_of : Option ℕ → Option ℕ → Option ℕ → Search
 search_of min max dnet = record { network = dnet; who_is = record { limits = limits_of min max } }
 
+-- done, or a fault of finding devices
 abbrev pub of_found : Found → Ending
 of_found (Ok done) = Ok 0
 of_found (Err fault) = Err (of_find fault)

@@ -52,6 +52,7 @@ Plays input left old new result =
 
 -- ---- bac rp, wp and log
 
+-- done, or a fault of the query
 abbrev pub of_answer : Answer → Ending
 of_answer (Ok done) = Ok 0
 of_answer (Err fault) = Err (of_query fault)
@@ -104,6 +105,7 @@ question object_type instance property index =
 abbrev pub priority_of : ℕ → Option ℕ
 priority_of n = if n == 0 then None else Some n
 
+-- the same of a WriteProperty
 abbrev pub setting : ℕ → ℕ → ℕ → ℕ → Given → Option ℕ → PropertyWrite
 setting object_type instance property priority given index =
     record {
@@ -131,6 +133,7 @@ IsUnbuilt said fault = (said ≡ None × (fault ≡ Memory)) ⊎ ((f : BuildFaul
 abbrev pub IsServed : Option BuildFault → Ending → Type 0
 IsServed said result = (said ≡ None) × ((result ≡ Ok 0) ⊎ (result ≡ Err Socket))
 
+-- a configuration that isn't one, a device that can't be built, or a device that was served
 abbrev pub Serves : Held → Held → Ending → Type 0
 Serves input left result =
     ((fault : Fault) × IsConfigured input left (Err fault) × (result ≡ Err fault))
@@ -139,6 +142,7 @@ Serves input left result =
 
 -- ---- any job
 
+-- what each job does
 abbrev pub Works : Job → Held → Held → Held → Held → Ending → Type 0
 Works job.Replay input left old new result = Plays input left old new result
 Works (job.Rp asked object_type instance property index) input left old new result =
@@ -159,6 +163,7 @@ Works (job.Wi addresses min max dnet local timeout) input left old new result = 
 abbrev pub IsTold : Fault → ℕ → Type 0
 IsTold fault status = (status ≡ exit_status fault) ⊎ (status ≡ exit_status Memory)
 
+-- the status of what was done, or of a fault
 abbrev pub Ends : Ending → ℕ → Type 0
 Ends (Ok done) status = status ≡ done
 Ends (Err fault) status = IsTold fault status

@@ -120,6 +120,7 @@ step_items (Ok (StepOf b)) = items_in b
 step_items (Ok NoStep) = []
 step_items (Err e) = []
 
+-- how a run of one step ends; a step that brings a batch is the last that the run may take
 abbrev pub step_ended : Result Step WalkFault → Ended
 step_ended (Ok (StepOf b)) = StepLimit
 step_ended (Ok NoStep) = CaughtUp
@@ -154,23 +155,28 @@ IsFound Lost = ⊥
 IsFound (Refused refusal) = Unit {0}
 IsFound BadReply = Unit {0}
 
+-- the fault of a walk of a log that the device doesn't have: a loss, or class object, code unknown-object (clause 18)
 abbrev pub IsMissing : WalkFault → Type 0
 IsMissing Lost = Unit {0}
 IsMissing (Refused refusal) = refusal ≡ said.Error 1 31
 IsMissing BadReply = ⊥
 
+-- a turn that isn't lost
 abbrev pub FoundTurn : Result Progress WalkFault → Type 0
 FoundTurn (Ok p) = Unit {0}
 FoundTurn (Err e) = IsFound e
 
+-- a step that isn't lost
 abbrev pub FoundStep : Result Step WalkFault → Type 0
 FoundStep (Ok p) = Unit {0}
 FoundStep (Err e) = IsFound e
 
+-- a turn of a log that the device doesn't have
 abbrev pub MissingTurn : Result Progress WalkFault → Type 0
 MissingTurn (Ok p) = ⊥
 MissingTurn (Err e) = IsMissing e
 
+-- a step of such a log
 abbrev pub MissingStep : Result Step WalkFault → Type 0
 MissingStep (Ok p) = ⊥
 MissingStep (Err e) = IsMissing e
@@ -182,6 +188,7 @@ FoundEnd StepLimit = Unit {0}
 FoundEnd Stopped = Unit {0}
 FoundEnd (Fault e) = IsFound e
 
+-- the end of a run of at most so many steps over a log that the device doesn't have
 abbrev pub MissingEnd : ℕ → Ended → Type 0
 MissingEnd steps CaughtUp = ⊥
 MissingEnd steps StepLimit = steps ≡ 0

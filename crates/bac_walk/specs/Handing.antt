@@ -16,10 +16,12 @@ abbrev pub walk_after : Place → Option ℕ → Place
 walk_after w None = w
 walk_after w (Some n) = record { log = w.log; next = number_after n 1; fresh = false; asks_oldest = false }
 
+-- how that step ended: it was stopped, if a record was refused
 abbrev pub ended_after : Option ℕ → Ended
 ended_after None = StepLimit
 ended_after (Some n) = Stopped
 
+-- the batch of a step is put into the sink; a step without a batch and a fault leave sink and walk as they were
 abbrev pub HandedOn : {S : Type 0} → (S → Option GapOf → Numbered → Bool → S → Type 0) → S → Place → Result Step WalkFault → Ended → Place → S → Type 0
 HandedOn puts sink w (Err e) ended after left = (left ≡ sink) × (after ≡ w) × (ended ≡ Fault e)
 HandedOn puts sink w (Ok NoStep) ended after left = (left ≡ sink) × (after ≡ w) × (ended ≡ CaughtUp)

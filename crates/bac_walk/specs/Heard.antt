@@ -18,9 +18,11 @@ pub record Heard : Type 0 where
 abbrev pub records_in : List ℕ → Result (List Entry) WireFault
 records_in octets = entries_at (length octets) octets
 
+-- the same object type and the same instance
 abbrev pub same_id : Id → Id → Bool
 same_id a b = (a.kind == b.kind) && (a.instance == b.instance)
 
+-- there is no array index
 abbrev pub is_absent : Option ℕ → Bool
 is_absent None = true
 is_absent (Some index) = false
@@ -29,6 +31,7 @@ is_absent (Some index) = false
 abbrev pub is_of_log : Id → RangeAck → Bool
 is_of_log log a = same_id a.object log && ((a.property == log_buffer) && is_absent a.index)
 
+-- first number, count and records, if the items could be read as records
 abbrev pub heard_with : Option ℕ → ℕ → Option (List Entry) → Option Heard
 heard_with first count None = None
 heard_with first count (Some es) = Some (record { first = first; count = count; entries = es })
@@ -37,6 +40,7 @@ heard_with first count (Some es) = Some (record { first = first; count = count; 
 abbrev pub heard_of : Id → RangeAck → Option Heard
 heard_of log a = if is_of_log log a then heard_with a.first_number a.count (result_ok (records_in a.items)) else None
 
+-- the same, and nothing of an ACK that couldn't be read
 abbrev pub heard_if : Id → Option RangeAck → Option Heard
 heard_if log None = None
 heard_if log (Some a) = heard_of log a

@@ -30,6 +30,7 @@ pub record IsInWindow (low : ℕ) (m : Moment) : Type 0 where
   pub oldest : low ≤ m.oldest
   pub newest : m.newest + 1 < low + 2147483648
 
+-- this holds at each of the moments
 abbrev pub AreInWindow : ℕ → List Moment → Type 0
 AreInWindow low [] = Unit {0}
 AreInWindow low (m ∷ M) = IsInWindow low m × AreInWindow low M

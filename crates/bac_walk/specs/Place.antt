@@ -21,5 +21,6 @@ pub record IsWalk (log : Id) (next : ℕ) (fresh : Bool) : Type 0 where
 abbrev pub walk_at : Id → ℕ → Place
 walk_at log s = record { log = log; next = s; fresh = false; asks_oldest = false }
 
+-- the same for a walk from the oldest record
 abbrev pub walk_from_oldest : Id → Place
 walk_from_oldest log = record { log = log; next = 1; fresh = true; asks_oldest = false }

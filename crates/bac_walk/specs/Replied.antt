@@ -28,6 +28,7 @@ abbrev pub batch_from : Option GapOf → (first : ℕ) (octets : List ℕ) → I
 batch_from gap first octets whole =
     record { gap = gap; entries = record { items = records_from first octets }; some = whole.some; most = whole.most }
 
+-- the batch that a reply is, with its records decoded
 abbrev pub batch_of : Reply → Batch
 batch_of r = batch_from r.gap r.first (data_held r.datagram) r.whole
 
@@ -44,6 +45,7 @@ abbrev pub heard_from : Id → Option (List ℕ) → Option Heard
 heard_from log None = None
 heard_from log (Some parameters) = heard_at log parameters
 
+-- the same of a whole datagram: it says something only as an unsegmented ACK of ReadRange
 abbrev pub heard_in : Id → List ℕ → Option Heard
 heard_in log datagram = heard_from log (parameters_in (apdu_in datagram))
 
@@ -54,6 +56,7 @@ progress_of (Ok turned.AskOldest) = Ok AskOldest
 progress_of (Ok turned.CaughtUp) = Ok CaughtUp
 progress_of (Ok (turned.Reply r)) = Ok (BatchOf (batch_of r))
 
+-- the same of a step
 abbrev pub step_of : Result Replied WalkFault → Result Step WalkFault
 step_of (Err e) = Err e
 step_of (Ok replied.CaughtUp) = Ok NoStep

@@ -16,6 +16,7 @@ use Rattle.bac_link.specs.Moments.{entries_from}
 abbrev pub first_date : Date4
 first_date = record { year = 0; month = 1; day = 1; weekday = 1 }
 
+-- its time
 abbrev pub first_time : Time4
 first_time = record { hour = 0; minute = 0; second = 0; hundredth = 0 }
 
@@ -25,6 +26,7 @@ pub data Wanted : Type 0 where
   FromOrdinal : ℕ → Wanted
   FromOldest : Wanted
 
+-- as an extent of ReadRange (clause 15.8): by sequence number, or by time after the first moment, a hundred records
 abbrev pub extent_of : Wanted → Extent
 extent_of (FromOrdinal s) = ByNumber (number s) (pos 100)
 extent_of FromOldest = ByTime first_date first_time (pos 100)
@@ -34,10 +36,12 @@ abbrev pub first_asked : Wanted → Moment → ℕ
 first_asked (FromOrdinal s) m = max s m.oldest
 first_asked FromOldest m = m.oldest
 
+-- the last of them
 abbrev pub last_asked : Wanted → Moment → ℕ
 last_asked (FromOrdinal s) m = min (s + 99) m.newest
 last_asked FromOldest m = min (m.oldest + 99) m.newest
 
+-- how many they are
 abbrev pub asked_count : Wanted → Moment → ℕ
 asked_count wanted m = (last_asked wanted m + 1) - first_asked wanted m
 

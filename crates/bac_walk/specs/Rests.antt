@@ -44,6 +44,7 @@ rest_oldest r H m s (suc steps) =
     then record { items = []; next = s; ended = CaughtUp }
     else rest_from r H m m.oldest (suc steps)
 
+-- a walk from the oldest entry, or one from ordinal s on
 abbrev pub rest : ℕ → History → Moment → Bool → ℕ → ℕ → Rested
 rest r H m fresh s steps = if fresh then rest_oldest r H m s steps else rest_from r H m s steps
 
@@ -61,6 +62,7 @@ abbrev pub end_missing : ℕ → Ended
 end_missing zero = StepLimit
 end_missing (suc steps) = Fault (Refused (refusal.Error 1 31))
 
+-- such a walk delivered nothing, stayed at its number and ended so, or it had no memory
 abbrev pub Misses : ℕ → ℕ → List Item → ℕ → Why → Type 0
 Misses steps before items next why = (why ≡ Memory) ⊎ ((items ≡ []) × (next ≡ before) × IsRunOf why steps steps (end_missing steps))
 

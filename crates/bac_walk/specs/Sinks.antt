@@ -28,6 +28,7 @@ abbrev pub gaps_in : Option GapOf → ℕ
 gaps_in None = 0
 gaps_in (Some g) = 1
 
+-- how many gaps came before the records that were put
 abbrev pub gaps : List Call → ℕ
 gaps [] = 0
 gaps (c ∷ calls) = gaps_in c.gap + gaps calls
@@ -46,6 +47,7 @@ PutAll {S = S} puts old gap (x ∷ xs) refused new =
     (puts old gap x false new × (refused ≡ Some x.number))
     ⊎ ((mid : S) × puts old gap x true mid × PutAll puts mid None xs refused new)
 
+-- whether the sink stopped the run
 abbrev pub is_stopped : Ended → Bool
 is_stopped CaughtUp = false
 is_stopped StepLimit = false

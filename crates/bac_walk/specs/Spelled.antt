@@ -18,6 +18,7 @@ item_data (Some a) = a.items
 abbrev pub data_in : List ℕ → List ℕ
 data_in parameters = item_data (read_range_ack_at parameters)
 
+-- the same of parameters that may not be there
 abbrev pub data_if : Option (List ℕ) → List ℕ
 data_if None = []
 data_if (Some parameters) = data_in parameters
@@ -26,6 +27,7 @@ data_if (Some parameters) = data_in parameters
 abbrev pub data_held : List ℕ → List ℕ
 data_held datagram = data_if (parameters_in (apdu_in datagram))
 
+-- the records that were read, and none if they couldn't be read
 abbrev pub all_or_none : Option (List Entry) → List Entry
 all_or_none None = []
 all_or_none (Some es) = es

@@ -14,6 +14,7 @@ use Rattle.bac_walk.specs.Heard.{Heard}
 abbrev pub records_of : ℕ → Log → Extent → List Entry
 records_of r log extent = entries_in (packed extent r (selected log extent))
 
+-- the first number that the reply shows
 abbrev pub first_of : ℕ → Log → Extent → Option ℕ
 first_of r log extent = first_shown extent (packed extent r (selected log extent))
 

@@ -45,9 +45,11 @@ abbrev pub numbered : ℕ → List Entry → List Item
 numbered k [] = []
 numbered k (e ∷ es) = Logged (number k) e ∷ numbered (k + 1) es
 
+-- a record with its number, as an item
 abbrev pub item_of : Numbered → Item
 item_of n = Logged n.number n.entry
 
+-- the gap before a record, as an item, if there is one
 abbrev pub gap_items : Option GapOf → List Item
 gap_items None = []
 gap_items (Some g) = Gap g.first g.before ∷ []
@@ -91,6 +93,7 @@ verdict w (Some first) count (e ∷ es) =
     if is_past w first then End
     else (if (count == length (e ∷ es)) && fits w first (length (e ∷ es)) then Bring first else Refuse)
 
+-- what is answered by a verdict on these entries, and where the walk is then
 abbrev pub IsTaken : Place → List Entry → Verdict → Result Progress BadReply → Place → Type 0
 IsTaken old es Refuse (Err e) new = new ≡ old
 IsTaken old es Ask (Ok AskOldest) new = new ≡ record old { asks_oldest = true }

@@ -1,8 +1,8 @@
 -- Steps that can fail, one after the other, and what a function returned beside them.
 use Rattle.std.specs.Prelude.{◌≡◌, Result, Ok, Err}
 
--- the next step, if this one did not fail
 infixl 10 ◌>>=◌
+-- the next step, if this one did not fail
 abbrev pub ◌>>=◌ : {A B F : Type 0} → Result A F → (A → Result B F) → Result B F
 (Ok x) >>= f = f x
 (Err e) >>= f = Err e

@@ -1,4 +1,5 @@
--- The encodings of single parameters, kept opaque (`unfoldable`): a definition of a list of parameters is made of them, and a proof about the list need not open them.
+-- The encodings of single parameters, kept opaque (`unfoldable`): a definition of a
+-- list of parameters is made of them, and a proof about the list need not open them.
 use Rattle.std.specs.Prelude.{ℕ, List}
 use Rattle.bac_wire.specs.Primitive.{Primitive}
 use Rattle.bac_wire.specs.Canon.{tag_octets, canon, canon_context}

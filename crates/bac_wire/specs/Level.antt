@@ -1,5 +1,7 @@
--- Tags on one level: whole tags with their contents, and the tags that open and close a level inside it (clause 20.2.1.3.2).
-use Rattle.std.specs.Prelude.{◌≡◌, ℕ, zero, suc, ◌⊎◌, ◌+◌, ◌-◌, ◌%◌, ◌<◌, ◌≤◌, ◌&&◌, not, nat_lt, ◌==◌, if◌then◌else◌, List, [], ◌∷◌, ◌++◌, length, take, drop, Result, Ok, Err}
+-- Tags on one level: whole tags with their contents, and the tags that open and
+-- close a level inside it (clause 20.2.1.3.2).
+use Rattle.std.specs.Prelude.{◌≡◌, ℕ, zero, suc, ◌⊎◌, ◌+◌, ◌-◌, ◌%◌, ◌<◌, ◌≤◌, ◌&&◌, not, nat_lt, ◌==◌, if◌then◌else◌}
+use Rattle.std.specs.Prelude.{List, [], ◌∷◌, ◌++◌, length, take, drop, Result, Ok, Err}
 use Rattle.bac_wire.specs.declared.level.Token.{Token}
 use Rattle.bac_wire.specs.declared.level.Token.TheVariants.{Whole, Open, Close}
 use Rattle.bac_wire.specs.declared.fault.WireFault.{WireFault}
@@ -10,9 +12,13 @@ use Rattle.bac_wire.specs.Reading.{octet_at, octets_at, number_at, length_at, is
 
 -- ---- the grammar
 
--- A whole tag of any number with its contents. An application Boolean has no contents, and its three low bits say no length.
+-- A whole tag of any number with its contents. An application Boolean has no
+-- contents, and its three low bits say no length.
 abbrev pub IsWhole : List ℕ → Type 0
-IsWhole text = ((low : ℕ) × (low < 6) × IsTag 0 1 low text) ⊎ ((class : ℕ) × (tag : ℕ) × (contents : List ℕ) × ((class ≡ 8) ⊎ ((class ≡ 0) × (tag ≡ 1 → ⊥))) × IsTagged class tag contents text)
+IsWhole text =
+    ((low : ℕ) × (low < 6) × IsTag 0 1 low text)
+    ⊎ ((class : ℕ) × (tag : ℕ) × (contents : List ℕ) × ((class ≡ 8) ⊎ ((class ≡ 0) × (tag ≡ 1 → ⊥)))
+    × IsTagged class tag contents text)
 
 -- a whole tag, one that opens a level, or one that closes a level
 abbrev pub IsToken : Token → List ℕ → Type 0
@@ -23,7 +29,8 @@ IsToken (Close tag) text = IsTag 8 tag 7 text
 -- one after the other, and nothing else
 abbrev pub AreTokens : List Token → List ℕ → Type 0
 AreTokens [] text = text ≡ []
-AreTokens (token ∷ tokens) text = (front : List ℕ) × (rest : List ℕ) × (text ≡ front ++ rest) × IsToken token front × AreTokens tokens rest
+AreTokens (token ∷ tokens) text =
+    (front : List ℕ) × (rest : List ℕ) × (text ≡ front ++ rest) × IsToken token front × AreTokens tokens rest
 
 -- they close so many levels, and each that they open
 abbrev pub Closes : ℕ → List Token → Type 0
@@ -39,7 +46,9 @@ IsLevel text = (tokens : List Token) × AreTokens tokens text × Closes 0 tokens
 
 -- n octets are such a level, and the closing tag of this number follows
 abbrev pub EndsAt : ℕ → List ℕ → ℕ → Type 0
-EndsAt wanted bytes n = (n ≤ length bytes) × IsLevel (take n bytes) × ((close : List ℕ) × (after : List ℕ) × (drop n bytes ≡ close ++ after) × IsTag 8 wanted 7 close)
+EndsAt wanted bytes n =
+    (n ≤ length bytes) × IsLevel (take n bytes)
+    × ((close : List ℕ) × (after : List ℕ) × (drop n bytes ≡ close ++ after) × IsTag 8 wanted 7 close)
 
 -- ---- reading from left to right
 
@@ -56,7 +65,8 @@ token_at bytes = do
           contents ← octets_at len.0 len.1
           Ok (Whole, contents.1)
 
--- The octets from the closing tag on that ends this level. Each tag takes an octet at least, so as many steps as octets are enough.
+-- The octets from the closing tag on that ends this level. Each tag takes an
+-- octet at least, so as many steps as octets are enough.
 unfoldable pub close_at : ℕ → ℕ → ℕ → List ℕ → Result (List ℕ) WireFault
 close_at zero depth wanted bytes = Err Ended
 close_at (suc steps) depth wanted bytes = do
@@ -65,5 +75,6 @@ close_at (suc steps) depth wanted bytes = do
     | Whole ↦ close_at steps depth wanted token.1
     | Open ↦ close_at steps (depth + 1) wanted token.1
     | Close number ↦
-        if depth == 0 then (if number == wanted then Ok bytes else Err BadTag) else close_at steps (depth - 1) wanted token.1
+        if depth == 0 then (if number == wanted then Ok bytes else Err BadTag) else
+        close_at steps (depth - 1) wanted token.1
   ]

@@ -1,16 +1,20 @@
--- Which tag is next (clause 20.2.1). It is asked if a parameter may be left out. Only class, kind and number of the tag are looked at, and no length.
-use Rattle.std.specs.Prelude.{ℕ, ◌/◌, ◌%◌, Bool, false, not, ◌&&◌, nat_lt, nat_le, ◌==◌, List, [], ◌∷◌, Option, Some, None, if◌then◌else◌}
+-- Which tag is next (clause 20.2.1). It is asked if a parameter may be left
+-- out. Only class, kind and number of the tag are looked at, and no length.
+use Rattle.std.specs.Prelude.{ℕ, ◌/◌, ◌%◌, Bool, false, not, ◌&&◌, nat_lt, nat_le, ◌==◌, List, [], ◌∷◌, Option, Some}
+use Rattle.std.specs.Prelude.{None, if◌then◌else◌}
 
 -- the number in the octet behind the first, beside the low four bits of the first
 abbrev pub own_number : ℕ → List ℕ → Option (ℕ × ℕ)
 own_number low [] = None
 own_number low (own ∷ rest) = if own == 255 then None else Some (low, own)
 
--- The low four bits of the next tag's first octet, which state class and kind, and its number; none if the octets that state them are missing.
+-- The low four bits of the next tag's first octet, which state class and kind,
+-- and its number; none if the octets that state them are missing.
 abbrev pub next_tag : List ℕ → Option (ℕ × ℕ)
 next_tag [] = None
 next_tag (first ∷ rest) = if nat_lt first 240 then Some (first % 16, first / 16) else own_number (first % 16) rest
 
+-- whether there is a next tag and it passes this test
 abbrev pub if_tag : (ℕ × ℕ → Bool) → Option (ℕ × ℕ) → Bool
 if_tag test None = false
 if_tag test (Some tag) = test tag

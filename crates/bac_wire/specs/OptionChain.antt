@@ -1,8 +1,8 @@
 -- The same for steps that don't say why they failed.
 use Rattle.std.specs.Prelude.{◌≡◌, Option, Some, None}
 
--- the next step, if this one gave something
 infixl 10 ◌>>=◌
+-- the next step, if this one gave something
 abbrev pub ◌>>=◌ : {A B : Type 0} → Option A → (A → Option B) → Option B
 None >>= f = None
 (Some x) >>= f = f x

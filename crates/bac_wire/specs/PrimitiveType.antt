@@ -1,7 +1,10 @@
 -- The primitive types by the numbers of their application tags (clause 20.2.1.4).
 use Rattle.std.specs.Prelude.{ℕ}
 use Rattle.bac_wire.specs.declared.primitive_type.PrimitiveType.{PrimitiveType}
-use Rattle.bac_wire.specs.declared.primitive_type.PrimitiveType.TheVariants.{Null, Boolean, Unsigned, Signed, Real, Double, OctetString, CharacterString, BitString, Enumerated, Date, Time, ObjectIdentifier}
+use Rattle.bac_wire.specs.declared.primitive_type.PrimitiveType.TheVariants.{Null, Boolean, Unsigned, Signed, Real}
+use Rattle.bac_wire.specs.declared.primitive_type.PrimitiveType.TheVariants.{Double, OctetString, CharacterString}
+use Rattle.bac_wire.specs.declared.primitive_type.PrimitiveType.TheVariants.{BitString, Enumerated, Date, Time}
+use Rattle.bac_wire.specs.declared.primitive_type.PrimitiveType.TheVariants.{ObjectIdentifier}
 
 -- the number of a type's application tag
 abbrev pub type_number : PrimitiveType → ℕ

@@ -13,14 +13,20 @@ use Rattle.bac_wire.specs.declared.stamp.Time4.{Time4}
 abbrev pub date_octets : Date4 → List ℕ
 date_octets d = d.year ∷ d.month ∷ d.day ∷ d.weekday ∷ []
 
+-- the same of a time: hour, minute, second and hundredths (clause 20.2.13)
 abbrev pub time_octets : Time4 → List ℕ
 time_octets t = t.hour ∷ t.minute ∷ t.second ∷ t.hundredth ∷ []
 
 -- the first part in which they differ decides, and the weekday is no such part
 abbrev pub order_of : Date4 → Time4 → Date4 → Time4 → Ordering
 order_of date time date' time' =
-    ordering_then (nat_cmp date.year date'.year) (ordering_then (nat_cmp date.month date'.month) (ordering_then (nat_cmp date.day date'.day)
-    (ordering_then (nat_cmp time.hour time'.hour) (ordering_then (nat_cmp time.minute time'.minute) (ordering_then (nat_cmp time.second time'.second) (nat_cmp time.hundredth time'.hundredth))))))
+    ordering_then (nat_cmp date.year date'.year)
+    (ordering_then (nat_cmp date.month date'.month)
+    (ordering_then (nat_cmp date.day date'.day)
+    (ordering_then (nat_cmp time.hour time'.hour)
+    (ordering_then (nat_cmp time.minute time'.minute)
+    (ordering_then (nat_cmp time.second time'.second)
+    (nat_cmp time.hundredth time'.hundredth))))))
 
 -- ---- moments
 
@@ -37,7 +43,15 @@ pub record CivilTime : Type 0 where
 -- the moment of these parts, in their order
 abbrev pub moment : ℕ → ℕ → ℕ → ℕ → ℕ → ℕ → ℕ → CivilTime
 moment year month day hour minute second hundredth =
-    record { year = year; month = month; day = day; hour = hour; minute = minute; second = second; hundredth = hundredth }
+    record {
+      year = year;
+      month = month;
+      day = day;
+      hour = hour;
+      minute = minute;
+      second = second;
+      hundredth = hundredth;
+    }
 
 -- the calendar has this day, in the years that a date can state, and a clock shows this time
 pub record IsCivilTime (m : CivilTime) : Type 0 where
@@ -76,17 +90,26 @@ ticks_of m = (((day_number m * 24 + m.hour) * 60 + m.minute) * 60 + m.second) * 
 -- the first part in which they differ decides
 abbrev pub moment_order : CivilTime → CivilTime → Ordering
 moment_order m n =
-    ordering_then (nat_cmp m.year n.year) (ordering_then (nat_cmp m.month n.month) (ordering_then (nat_cmp m.day n.day)
-    (ordering_then (nat_cmp m.hour n.hour) (ordering_then (nat_cmp m.minute n.minute) (ordering_then (nat_cmp m.second n.second) (nat_cmp m.hundredth n.hundredth))))))
+    ordering_then (nat_cmp m.year n.year)
+    (ordering_then (nat_cmp m.month n.month)
+    (ordering_then (nat_cmp m.day n.day)
+    (ordering_then (nat_cmp m.hour n.hour)
+    (ordering_then (nat_cmp m.minute n.minute)
+    (ordering_then (nat_cmp m.second n.second)
+    (nat_cmp m.hundredth n.hundredth))))))
 
 -- the moment that a date and a time of the calendar show, cut to hundredths
 abbrev pub moment_of : DateTime → CivilTime
-moment_of civil = moment (unsigned_abs civil.date.year) civil.date.month civil.date.day civil.time.hour civil.time.minute civil.time.second (civil.time.subsec_nanosecond / 10_000_000)
+moment_of civil =
+    moment (unsigned_abs civil.date.year) civil.date.month civil.date.day civil.time.hour civil.time.minute
+    civil.time.second (civil.time.subsec_nanosecond / 10_000_000)
 
 -- ---- a moment's octets
 
+-- its date: the year counted from 1900, and the true weekday (clause 20.2.12)
 abbrev pub date_of : CivilTime → Date4
 date_of m = record { year = m.year - 1900; month = m.month; day = m.day; weekday = weekday_of m }
 
+-- its time (clause 20.2.13)
 abbrev pub time_of : CivilTime → Time4
 time_of m = record { hour = m.hour; minute = m.minute; second = m.second; hundredth = m.hundredth }

@@ -4,8 +4,8 @@ use Rattle.bac_words.specs.declared.word.Word.{Word}
 use Rattle.bac_words.specs.declared.fault.WordsFault.{WordsFault}
 use Rattle.bac_words.specs.declared.fault.WordsFault.TheVariants.{Usage, BadValue, Memory}
 
--- the next step, if this one found no wrong word
 infixl 10 ◌>>=◌
+-- the next step, if this one found no wrong word
 abbrev pub ◌>>=◌ : {A B : Type 0} → Result A Word → (A → Result B Word) → Result B Word
 Ok a >>= f = f a
 Err w >>= f = Err w

@@ -56,6 +56,7 @@ started d walk retries = record {
 
 -- ---- packets
 
+-- one packet more, the last of all
 abbrev pub sent : List Packet → ℕ → Side → List ℕ → List Packet
 sent packets transaction to octets = packets ++ record { transaction = transaction; to = to; datagram = octets } ∷ []
 
@@ -65,6 +66,7 @@ is_young w transaction = nat_lt w.begun (transaction + 256)
 
 -- ---- the client asks
 
+-- the question of a walk as a request
 abbrev pub question_of : Place → Request
 question_of walk = question walk.log (walks.question_of walk)
 
@@ -83,6 +85,7 @@ asks w (Some p) = w
 
 -- ---- no answer comes in time
 
+-- a walk that is back at the first question of its step
 abbrev pub restarted : Place → Place
 restarted walk = record walk { asks_oldest = false }
 
@@ -97,6 +100,7 @@ repeats w p = record w {
 abbrev pub closes : Network → Network
 closes w = record w { transactions = closed w.transactions }
 
+-- after the last repeat nothing is open, and the walk begins its step anew
 abbrev pub gives_up : Network → Network
 gives_up w = record w { transactions = closed w.transactions; walk = restarted w.walk }
 
@@ -112,6 +116,7 @@ abbrev pub reply_sent : List Packet → ℕ → Option Reply → List Packet
 reply_sent packets transaction None = packets
 reply_sent packets transaction (Some reply) = sent packets transaction Client reply.datagram
 
+-- the device after a packet, and the packet of its reply
 abbrev pub replies : Network → ℕ → Option Reply × State → Network
 replies w transaction said = record w { device = said.1; packets = reply_sent w.packets transaction said.0 }
 
@@ -137,6 +142,7 @@ abbrev pub heard_of : Id → Answer → Option Heard
 heard_of log (answer.Complex parameters) = heard_at log parameters
 heard_of log other = None
 
+-- the same of an answer beside its invoke ID, if there is one
 abbrev pub heard_in : Id → Option (ℕ × Answer) → Option Heard
 heard_in log None = None
 heard_in log (Some said) = heard_of log said.1
@@ -147,14 +153,17 @@ receives w octets = if is_awaited w.transactions.pending octets then hears (clos
 
 -- ---- events
 
+-- by the side that the packet comes to
 abbrev pub arrives : Network → ℕ → Side → List ℕ → Network
 arrives w transaction Device octets = replies w transaction (answer w.device octets)
 arrives w transaction Client octets = receives w octets
 
+-- a packet that was sent and still comes
 abbrev pub delivers : Network → Option Packet → Network
 delivers w None = w
 delivers w (Some p) = if is_young w p.transaction then arrives w p.transaction p.to p.datagram else w
 
+-- one event
 abbrev pub happens : Network → WorldEvent → Network
 happens w Ask = asks w w.transactions.pending
 happens w (Deliver k) = delivers w (slice_get w.packets k)
@@ -165,14 +174,17 @@ happens w (Handle octets) = record w { device = (step w.device (run.Datagram oct
 
 -- ---- whether anything happens
 
+-- whether the device replies to a packet, or the client takes it as the answer to its open request
 abbrev pub is_answered : Network → Side → List ℕ → Bool
 is_answered w Device octets = is_some (answer w.device octets).0
 is_answered w Client octets = is_awaited w.transactions.pending octets
 
+-- whether a packet was sent, still comes, and is answered so
 abbrev pub is_delivered : Network → Option Packet → Bool
 is_delivered w None = false
 is_delivered w (Some p) = is_young w p.transaction && is_answered w p.to p.datagram
 
+-- whether an event does anything; one that is refused does nothing
 abbrev pub moves : Network → WorldEvent → Bool
 moves w Ask = is_none w.transactions.pending
 moves w (Deliver k) = is_delivered w (slice_get w.packets k)
@@ -183,6 +195,7 @@ moves w (Handle octets) = is_some (answer w.device octets).0
 
 -- ---- runs
 
+-- events, one after the other
 abbrev pub happens_all : Network → List WorldEvent → Network
 happens_all w [] = w
 happens_all w (e ∷ es) = happens_all (happens w e) es

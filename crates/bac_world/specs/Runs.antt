@@ -35,18 +35,22 @@ pub record Run : Type 0 where
   pub devices : List State
   pub began : ℕ
 
+-- the devices so far and, if there is a reply, the device that gave it
 abbrev pub answering : List State → State → Option Reply → List State
 answering devices d None = devices
 answering devices d (Some reply) = devices ++ d ∷ []
 
+-- the same for a packet that comes to a side: the client gives no reply
 abbrev pub arriving : List State → Network → Side → List ℕ → List State
 arriving devices w Device octets = answering devices w.device (answer w.device octets).0
 arriving devices w Client octets = devices
 
+-- the same for a packet that was sent and still comes
 abbrev pub delivering : List State → Network → Option Packet → List State
 delivering devices w None = devices
 delivering devices w (Some p) = if is_young w p.transaction then arriving devices w p.to p.datagram else devices
 
+-- the same after an event: only a delivery brings the device a packet
 abbrev pub devices_after : Run → WorldEvent → List State
 devices_after run Ask = run.devices
 devices_after run (Deliver k) = delivering run.devices run.network (slice_get run.network.packets k)
@@ -55,10 +59,12 @@ devices_after run (Sample instance) = run.devices
 devices_after run (Advance moment) = run.devices
 devices_after run (Handle octets) = run.devices
 
+-- how often the device had answered when the request began that is open once the client asks
 abbrev pub asking : Run → Option Pending → ℕ
 asking run None = length run.devices
 asking run (Some p) = run.began
 
+-- the same after an event: only asking begins a request
 abbrev pub began_after : Run → WorldEvent → ℕ
 began_after run Ask = asking run run.network.transactions.pending
 began_after run (Deliver k) = run.began
@@ -67,9 +73,11 @@ began_after run (Sample instance) = run.began
 began_after run (Advance moment) = run.began
 began_after run (Handle octets) = run.began
 
+-- the run with one event more
 abbrev pub follow : Run → WorldEvent → Run
 follow run e = record { network = happens run.network e; devices = devices_after run e; began = began_after run e }
 
+-- the run with events more, one after the other
 abbrev pub follow_all : Run → List WorldEvent → Run
 follow_all run [] = run
 follow_all run (e ∷ es) = follow_all (follow run e) es
@@ -85,6 +93,7 @@ run_of w es = follow_all (record { network = w; devices = []; began = 0 }) es
 abbrev pub moments_in : ℕ → ℕ → List State → List Moment
 moments_in rounds n devices = map (λ d. placed rounds (moment_of (log_with d n))) devices
 
+-- the moments of a log in the run of these events
 abbrev pub moments_of : ℕ → ℕ → Network → List WorldEvent → List Moment
 moments_of rounds n w es = moments_in rounds n (run_of w es).devices
 

@@ -2,6 +2,7 @@
 use Rattle.bac_world.specs.declared.world.World.{World}
 use Rattle.bac_world.specs.Network.{Network}
 
+-- a world as a network
 abbrev pub network_of : World → Network
 network_of w = record {
   device = w.device;

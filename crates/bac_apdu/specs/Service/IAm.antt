@@ -11,18 +11,22 @@ use Rattle.bac_apdu.specs.Fields.{parameter_at, id_in, unsigned_in, enumerated_i
 
 -- any value of the type: a parameter's type is tested before its range
 
+-- a BACnetObjectIdentifier
 abbrev pub is_object : Primitive → Bool
 is_object (Object id) = true
 is_object value = false
 
+-- an Unsigned
 abbrev pub is_unsigned : Primitive → Bool
 is_unsigned (Unsigned n) = true
 is_unsigned value = false
 
+-- an Enumerated
 abbrev pub is_enumerated : Primitive → Bool
 is_enumerated (Enumerated n) = true
 is_enumerated value = false
 
+-- the parameters of I-Am in order (16.10)
 abbrev pub i_am : Form
 i_am =
     row (application object_identifier is_object)  -- I-Am device identifier
@@ -31,8 +35,11 @@ i_am =
     (row (application unsigned is_unsigned)  -- vendor identifier
     end)))
 
+-- an announcement as these parameters
 abbrev pub i_am_parameters : IAm → List Parameter
-i_am_parameters a = Value (Object a.device) ∷ Value (Unsigned a.max_apdu) ∷ Value (Enumerated a.segmentation) ∷ Value (Unsigned a.vendor) ∷ []
+i_am_parameters a =
+    Value (Object a.device) ∷ Value (Unsigned a.max_apdu) ∷ Value (Enumerated a.segmentation)
+    ∷ Value (Unsigned a.vendor) ∷ []
 
 -- each number in the range of its type
 abbrev pub IsAnnouncement : IAm → Type 0
@@ -40,9 +47,15 @@ IsAnnouncement a = IsValid (Object a.device) × (a.max_apdu < 2 ^ 64) × (a.segm
 
 -- ---- with named fields
 
+-- the announcement that these parameters are
 abbrev pub i_am_in : List Parameter → IAm
 i_am_in parameters =
-    record { device = id_in (parameter_at 0 parameters); max_apdu = unsigned_in (parameter_at 1 parameters); segmentation = enumerated_in (parameter_at 2 parameters); vendor = unsigned_in (parameter_at 3 parameters) }
+    record {
+      device = id_in (parameter_at 0 parameters);
+      max_apdu = unsigned_in (parameter_at 1 parameters);
+      segmentation = enumerated_in (parameter_at 2 parameters);
+      vendor = unsigned_in (parameter_at 3 parameters);
+    }
 
 -- the announcement that parameters are the encoding of
 unfoldable pub i_am_at : List ℕ → Option IAm

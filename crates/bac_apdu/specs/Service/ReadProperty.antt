@@ -9,16 +9,23 @@ use Rattle.bac_apdu.specs.declared.reason.Reason.{Reason}
 use Rattle.bac_apdu.specs.FormReading.{form_at}
 use Rattle.bac_apdu.specs.Fields.{parameter_at, id_in, enumerated_in, number_in}
 
+-- the parameters of a request (15.5)
 abbrev pub read_property : Form
 read_property = property_then end
 
+-- a request as these parameters
 abbrev pub property_parameters : ReadProperty → List Parameter
 property_parameters p = property_parameters_then p.object p.property p.index []
 
 -- ---- with named fields
 
+-- the request that these parameters are
 abbrev pub property_in : List Parameter → ReadProperty
-property_in parameters = record { object = id_in (parameter_at 0 parameters); property = enumerated_in (parameter_at 1 parameters); index = number_in (parameter_at 2 parameters) }
+property_in parameters = record {
+  object = id_in (parameter_at 0 parameters);
+  property = enumerated_in (parameter_at 1 parameters);
+  index = number_in (parameter_at 2 parameters);
+}
 
 -- the request that parameters are the encoding of, or the reason of the first that is wrong
 unfoldable pub read_property_at : List ℕ → Result ReadProperty Reason

@@ -20,10 +20,12 @@ who_is = nothing_or
     (row (context 1 unsigned is_instance)  -- and high limit
     end))
 
+-- low and high limit as parameters, or none
 abbrev pub limit_parameters : Option (ℕ × ℕ) → List Parameter
 limit_parameters None = []
 limit_parameters (Some limits) = Value (Unsigned limits.0) ∷ Value (Unsigned limits.1) ∷ []
 
+-- a request as parameters
 abbrev pub who_is_parameters : WhoIs → List Parameter
 who_is_parameters w = limit_parameters w.limits
 
@@ -34,12 +36,15 @@ AreLimits (Some limits) = (limits.0 ≤ 4194303) × (limits.1 ≤ 4194303)
 
 -- ---- with named fields
 
+-- the two limits, if both are there
 abbrev pub both : Option ℕ → Option ℕ → Option (ℕ × ℕ)
 both (Some low) (Some high) = Some (low, high)
 both low high = None
 
+-- the request that these parameters are
 abbrev pub who_is_in : List Parameter → WhoIs
-who_is_in parameters = record { limits = both (number_in (parameter_at 0 parameters)) (number_in (parameter_at 1 parameters)) }
+who_is_in parameters =
+    record { limits = both (number_in (parameter_at 0 parameters)) (number_in (parameter_at 1 parameters)) }
 
 -- the request that parameters are the encoding of
 unfoldable pub who_is_at : List ℕ → Option WhoIs

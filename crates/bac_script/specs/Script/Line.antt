@@ -20,6 +20,7 @@ pub data Event : Type 0 where
   Sampled : ℕ → Event
   Walked : Id → Option ℕ → ℕ → Event
 
+-- what a line says: the device, one of its objects, or an event
 pub data ScriptLine : Type 0 where
   Device : DeviceLine → ScriptLine
   Object : ObjectLine → ScriptLine
@@ -146,6 +147,7 @@ walk_line words = None
 abbrev pub Kind : Type 0
 Kind = List ℕ × (List (List ℕ) → Option ScriptLine)
 
+-- the kinds of lines
 abbrev pub kinds : List Kind
 kinds =
     (codes "device", device_line) ∷
@@ -163,6 +165,7 @@ abbrev pub said_by : List Kind → List ℕ → List (List ℕ) → Option Scrip
 said_by [] word words = None
 said_by (kind ∷ more) word words = if bytes_eq word kind.0 then kind.1 words else said_by more word words
 
+-- what the words of a line say, by the first of them
 abbrev pub said : List (List ℕ) → Option ScriptLine
 said [] = None
 said (word ∷ words) = said_by kinds word words

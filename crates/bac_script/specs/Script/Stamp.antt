@@ -5,6 +5,7 @@ use Rattle.jiff.specs.Words.{days_in_month}
 use Rattle.bac_wire.specs.OptionChain.{◌>>=◌}
 use Rattle.bac_wire.specs.Stamp.{CivilTime, moment}
 
+-- what a decimal digit says
 abbrev pub digit_in : ℕ → Option ℕ
 digit_in c = if is_ascii_digit c then Some (c - 48) else None
 
@@ -57,6 +58,7 @@ is_time hour minute second hundredth = nat_lt hour 24 && (nat_lt minute 60 && (n
 unfoldable pub is_moment : CivilTime → Bool
 is_moment m = nat_le 1990 m.year && (nat_le m.year 2154 && (is_day m.year m.month m.day && is_time m.hour m.minute m.second m.hundredth))
 
+-- the parts of a moment, if they are one
 abbrev pub checked : CivilTime → Option CivilTime
 checked m = if is_moment m then Some m else None
 
