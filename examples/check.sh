@@ -64,6 +64,25 @@ bac replay < "$room/longest"
 ended '1,048,576 octets' 0 '' "$room/answer"
 bac replay < "$room/longer"
 ended '1,048,577 octets' 1 $'script too long\n' "$room/answer"
+# The octet behind the limit is no line feed; a line that has no end; a bad line in front of it all.
+{ head -c 1048576 "$room/longest"; printf r; } > "$room/lines"
+bac replay < "$room/lines"
+ended 'a line behind 1,048,576 octets' 1 $'script too long\n' "$room/answer"
+{ printf '%s\n' "$device" "$who_is"; printf '%01048576d\n' 0; } > "$room/lines"
+bac replay < "$room/lines"
+ended 'a line of 1,048,576 octets' 1 $'script too long\n' "$room/answer"
+{ printf '%s\n' "$device" "$who_is" 'rx 8'; cat "$room/longer"; } > "$room/lines"
+bac replay < "$room/lines"
+ended 'a bad line in a script that is too long' 1 $'line 3: bad line\n' "$room/answer"
+
+# A datagram has at most 1501 octets.
+printf 'none\n' > "$room/none"
+printf '%s\nrx %03002d\n' "$device" 0 > "$room/lines"
+bac replay < "$room/lines"
+ended 'a datagram of 1501 octets' 0 '' "$room/none"
+printf '%s\nrx %03004d\n' "$device" 0 > "$room/lines"
+bac replay < "$room/lines"
+ended 'a datagram of 1502 octets' 1 $'line 2: bad line\n'
 
 # clap's text is its own: it is there, and nothing is printed.
 mistaken() {
@@ -86,22 +105,21 @@ mistaken 'an option of other tools'
 bac serve 127.0.0.1 --count=1 --count=1
 mistaken 'an option twice'
 
-# helped NAME WORD: help is asked for and printed, and it has this word.
-helped() {
-    local status=$? found=
-    grep -q -e "$2" "$room/out" && found=yes
-    printf '%s' "$found" > "$room/out"
-    printf 'yes' > "$room/yes"
-    (exit "$status")
-    ended "$1" 0 '' "$room/yes"
-}
-bac --help
-helped 'help' 'Status: 0 done'
 bac --version
-helped 'the version' '^bac '
+printf 'bac unreleased\n' > "$room/version"
+ended 'the version, whole' 0 '' "$room/version"
+# Help compared whole: of the program, and of each tool.
+bac --help
+ended 'help, whole' 0 '' bac.help
+bac help
+ended 'help by its word' 0 '' bac.help
+bac rp here -h
+ended 'help behind a wrong word' 0 '' rp.help
 for tool in wi rp wp log serve replay; do
     bac "$tool" --help
-    helped "help of $tool" "Example: bac $tool "
+    ended "help of $tool" 0 '' "$tool.help"
+    bac help "$tool"
+    ended "help of $tool by its word" 0 '' "$tool.help"
 done
 
 # Values that a word or an option can't have: the second line tells which.
@@ -143,12 +161,26 @@ ended 'an event behind two objects of one name' 1 $'line 4: bad line\n'
 head -n 3 "$room/named" > "$room/configuration"
 bac serve 127.0.0.1 < "$room/configuration"
 ended 'a configuration with two objects of one name' 1 $'cannot build: duplicate name\n'
+printf '%s\n' "$device" 'sample 1' > "$room/configuration"
+bac serve 127.0.0.1:47813 --count=0 < "$room/configuration"
+ended 'a sample in a configuration' 1 $'line 2: bad line\n'
+printf '%s\n' "${device/1476/49}" > "$room/configuration"
+bac serve 127.0.0.1:47813 --count=0 < "$room/configuration"
+ended 'a configuration with replies of 49 octets' 1 $'cannot build: bad reply size\n'
 bac serve 127.0.0.1 < "$room/longer"
 ended 'a configuration of 1,048,577 octets' 1 $'script too long\n'
 bac serve 127.0.0.1 < .
 ended 'a folder as configuration' 2 $'read fault\n'
 bac rp 127.0.0.1 8 123 77 --local=192.0.2.1
 ended 'an address of another machine' 2 $'socket fault\n'
+bac wi 127.0.0.1 --local=192.0.2.1
+ended 'an address of another machine for wi' 2 $'socket fault\n'
+bac wp 127.0.0.1 5 1 85 8 0 --local=192.0.2.1
+ended 'an address of another machine for wp' 2 $'socket fault\n'
+bac log 127.0.0.1 1 1 --local=192.0.2.1
+ended 'an address of another machine for log' 2 $'socket fault\n'
+bac serve 192.0.2.1 < plant.conf
+ended 'a server at an address of another machine' 2 $'socket fault\n'
 
 bac replay < .
 ended 'a folder as input' 2 $'read fault\n'
@@ -166,15 +198,25 @@ ended 'no output' 2 $'write fault\n'
 "$program" --help > /dev/full 2> "$room/err"
 ended 'help on a full disk' 2 $'write fault\n'
 
-# The tools over sockets of this machine.
-./loopback.sh "$program" > "$room/loopback"
-status=$?
-read -r more fewer <<< "$(tail -n 1 "$room/loopback" | sed -nE 's/^([0-9]+) passed, ([0-9]+) failed$/\1 \2/p')"
-sed '$d' "$room/loopback"
-passed=$((passed + ${more:-0}))
-# A script that ends badly without a count of its failures has failed.
-[ "$status" -eq 0 ] || [ "${fewer:-0}" -gt 0 ] || fewer=1
-failed=$((failed + ${fewer:-1}))
+# counted SCRIPT: runs a script with a count of its own.
+counted() {
+    local status more fewer
+    "$1" "$program" > "$room/counted"
+    status=$?
+    read -r more fewer <<< "$(tail -n 1 "$room/counted" | sed -nE 's/^([0-9]+) passed, ([0-9]+) failed$/\1 \2/p')"
+    sed '$d' "$room/counted"
+    passed=$((passed + ${more:-0}))
+    # A script that ends badly without a count of its failures has failed.
+    [ "$status" -eq 0 ] || [ "${fewer:-0}" -gt 0 ] || fewer=1
+    failed=$((failed + ${fewer:-1}))
+}
+
+# Scripts of a few lines, and words that no tool takes.
+counted ./rows.sh
+# The tools over sockets of this machine: with a socket that says what a file says, and with a server.
+counted ./talk.py
+counted ./loopback.sh
+counted ./edges.sh
 
 echo "$passed passed, $failed failed"
 [ "$failed" -eq 0 ]

@@ -9,59 +9,16 @@
 set -u
 cd "$(dirname "$0")"
 program=$(realpath -- "${1:-../crates/bac/out/bac}")
-room=$(mktemp -d)
-server=
-# The servers of this script are ended by their own numbers.
-trap '[ -z "$server" ] || kill "$server" 2> /dev/null; rm -rf "$room"' EXIT
-passed=0
-failed=0
-
-is() {
-    if [ "$2" = "$3" ]; then
-        passed=$((passed + 1))
-    else
-        failed=$((failed + 1))
-        printf '%s: %s\nis wanted, and it is: %s\n' "$1" "$3" "$2" | head -c 2000
-    fi
-}
-
-# Its output, its text on standard error and its status, in one text.
-bac() {
-    "$program" "$@" > "$room/out" 2> "$room/err"
-    status=$?
-    said="$(cat "$room/out")|$(cat "$room/err")|$status"
-}
-
-# served CONFIGURATION [OPTION..]: serves at a free port of 127.0.0.1, and waits until it answers.
-served() {
-    local configuration=$1 try wait
-    shift
-    for try in {1..50}; do
-        port=$((20000 + RANDOM))
-        at=127.0.0.1:$port
-        "$program" serve "$at" "$@" < "$configuration" > "$room/served" 2>&1 &
-        server=$!
-        for wait in {1..100}; do
-            bac wi "$at" --timeout=300
-            [ "$status" -ne 0 ] || return 0
-            kill -0 "$server" 2> /dev/null || break
-            sleep 0.1
-        done
-        # The port is in use: the next one is tried.
-        grep -q 'socket fault' "$room/served" || break
-    done
-    echo "no server: $(cat "$room/served")"
-    failed=$((failed + 1))
-    echo "$passed passed, $failed failed"
-    exit 1
-}
+. ./common.sh
 
 # ---- a server of one datagram
 
 served plant.conf --count=1
 is 'found' "$said" "I-Am 123 $at max-apdu 1476 segmentation 3 vendor 0||0"
 wait "$server"
-is 'the server after one datagram' "$? $(cat "$room/served")" '0 '
+status=$?
+server=
+is 'the server after one datagram' "$status $(cat "$room/served")" '0 '
 bac rp "$at" 8 123 77 --timeout=100 --retries=1
 is 'nobody is there' "$said" '|lost|2'
 bac wi "$at" --timeout=100
@@ -158,6 +115,7 @@ for walk in 1 2 3; do
     done
 done
 sed '$d' "$room/out" > "$room/whole"
+is 'the log has grown' "$([ "$(wc -l < "$room/whole")" -ge 4 ] && echo yes)" yes
 parts oldest
 is 'the walk of a growing log comes to the end' "$?" 0
 is 'no record is lost, and none comes twice' "$(cut -d ' ' -f 1 "$room/parts")" "$(seq "$(wc -l < "$room/parts")")"
@@ -168,6 +126,9 @@ is 'the log is purged' "$said" 'written||0'
 bac log "$at" 2 1
 is 'what went is one gap' "$(head -n 1 "$room/out")$(cut -d ' ' -f 1,3- "$room/out" | sed -n 2p) $(tail -n 1 "$room/out")" \
     'gap 1 2021 status(010) - caught up, next 22'
+bac log "$at" 2 oldest
+is 'from the oldest there is no gap' "$(cut -d ' ' -f 1,3- "$room/out" | head -n 1) $(tail -n 1 "$room/out") $(wc -l < "$room/out")" \
+    '21 status(010) - caught up, next 22 2'
 
 # ---- outputs that refuse
 
@@ -186,5 +147,4 @@ wait "$server" 2> /dev/null
 is 'the server until it is ended' "$? $(cat "$room/served")" '143 '
 server=
 
-echo "$passed passed, $failed failed"
-[ "$failed" -eq 0 ]
+counted

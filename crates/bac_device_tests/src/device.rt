@@ -1,9 +1,9 @@
-//! Devices by their public calls: built of lines, asked by datagrams, and their clock.
+//! Devices by their public calls: built of lines, asked by datagrams, and their clock. Which lines are
+//! refused is in examples/lines.rows.
 
 use bac_device::{BuildFault, ClockBack, Device, DeviceLine, Name, ObjectLine, Receiver};
 use bac_wire::{Datagram, Stamp};
 use std::alloc::Global;
-use std::process::Abort;
 use std::test::Fail;
 
 fn name(alloc: Global, text: &str) -> Result<Name, Fail> {
@@ -25,94 +25,20 @@ fn plant(alloc: Global, instance: u32, text: &str, reply_size: u16) -> Result<De
     })
 }
 
-fn binary(alloc: Global, instance: u32, text: &str, default: u32) -> Result<ObjectLine, Fail> {
-    Ok(ObjectLine::Binary {
-        instance,
-        name: name(alloc, text)?,
-        default,
-    })
-}
-
-fn multistate(alloc: Global, text: &str, states: u32, default: u32) -> Result<ObjectLine, Fail> {
-    Ok(ObjectLine::Multistate {
-        instance: 1,
-        name: name(alloc, text)?,
-        states,
-        default,
-    })
-}
-
-fn integer(alloc: Global, text: &str, default: i32) -> Result<ObjectLine, Fail> {
-    Ok(ObjectLine::Integer {
-        instance: 1,
-        name: name(alloc, text)?,
-        default,
-    })
-}
-
-/// Whether lines are refused for this fault, or built where there is none.
-fn is_refused(
-    rt: &impl Abort,
-    alloc: Global,
-    device: &DeviceLine,
-    lines: &[ObjectLine],
-    fault: Option<BuildFault>,
-) -> Result<(), Fail> {
-    assert_eq!(rt; Device::build(alloc, device, lines).err(), fault);
+#[test]
+fn a_name_has_an_octet(rt: HostRuntime) -> Result<(), Fail> {
+    let a = rt.alloc();
+    // The fault of the name comes before that of the reply size.
+    let built = Device::build(a, &plant(a, 4_194_302, "", 49)?, &[]);
+    assert_eq!(rt; built.err(), Some(BuildFault::BadName));
+    let lines = [ObjectLine::Binary {
+        instance: 4_194_303,
+        name: name(a, "")?,
+        default: 0,
+    }];
+    let built = Device::build(a, &plant(a, 123, "plant", 1476)?, &lines);
+    assert_eq!(rt; built.err(), Some(BuildFault::BadInstance));
     Ok(())
-}
-
-#[test]
-fn the_first_fault_of_the_device_line(rt: HostRuntime) -> Result<(), Fail> {
-    let a = rt.alloc();
-    let both = plant(a, 4_194_303, "", 49)?;
-    is_refused(&rt, a, &both, &[], Some(BuildFault::BadInstance))?;
-    let nameless = plant(a, 4_194_302, "", 49)?;
-    is_refused(&rt, a, &nameless, &[], Some(BuildFault::BadName))?;
-    let small = plant(a, 4_194_302, "plant", 49)?;
-    is_refused(&rt, a, &small, &[], Some(BuildFault::BadReplySize))?;
-    let good = plant(a, 4_194_302, "plant", 50)?;
-    is_refused(&rt, a, &good, &[], None)
-}
-
-#[test]
-fn the_first_fault_of_object_lines(rt: HostRuntime) -> Result<(), Fail> {
-    let a = rt.alloc();
-    let device = plant(a, 123, "plant", 1476)?;
-    let beyond = [multistate(a, "mode", 3, 4)?];
-    is_refused(&rt, a, &device, &beyond, Some(BuildFault::BadDefault))?;
-    let stateless = [multistate(a, "mode", 0, 4)?];
-    is_refused(&rt, a, &device, &stateless, Some(BuildFault::BadStates))
-}
-
-#[test]
-fn what_stands_twice_is_refused(rt: HostRuntime) -> Result<(), Fail> {
-    let a = rt.alloc();
-    let device = plant(a, 123, "plant", 1476)?;
-    // A line's least fault, and the first line that has one.
-    let twice = [binary(a, 1, "pump", 0)?, binary(a, 1, "pump", 2)?];
-    is_refused(&rt, a, &device, &twice, Some(BuildFault::DuplicateId))?;
-    let names = [
-        binary(a, 1, "pump", 0)?,
-        binary(a, 2, "pump", 2)?,
-        binary(a, 4_194_303, "", 0)?,
-    ];
-    is_refused(&rt, a, &device, &names, Some(BuildFault::DuplicateName))?;
-    let own = [integer(a, "plant", 0)?];
-    is_refused(&rt, a, &device, &own, Some(BuildFault::DuplicateName))
-}
-
-#[test]
-fn objects_of_three_types_are_built(rt: HostRuntime) -> Result<(), Fail> {
-    let a = rt.alloc();
-    let device = plant(a, 123, "plant", 1476)?;
-    // One instance, and the least integer.
-    let good = [
-        binary(a, 1, "pump", 1)?,
-        multistate(a, "mode", 3, 3)?,
-        integer(a, "level", -2_147_483_648)?,
-    ];
-    is_refused(&rt, a, &device, &good, None)
 }
 
 /// Who-Is without limits, as a broadcast.

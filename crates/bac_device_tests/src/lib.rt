@@ -1,5 +1,5 @@
-//! Tests of a device by its public calls: the lines it is built of, datagrams written by hand and
-//! their answers, its clock and its trend logs, and callers that see public contracts alone.
+//! Tests of a device by its public calls: replies and their receivers, its clock, its trend logs, and
+//! callers that see public contracts alone. Datagrams and their answers are scripts in examples/.
 #![tactic(auto)]
 
 #[cfg(test)]

@@ -2,10 +2,9 @@
 use Rattle.std.proofs.Common.{◌≡◌, ◌≤◌, inl, inr, ℕ, zero, suc, ◌||◌, Bool, true, false, is_some, List, [], ◌∷◌, length, Option, None, Some, Ok, Err, refl, sym, ap, ◌∙◌, arith}
 use Rattle.std.specs.Io.KnownBytes.{Appends}
 use Rattle.std.proofs.KnownBytes.{Appends-nil, Appends-trans, Appends-kept}
-use Rattle.bac_find.specs.Announcements.{announced}
+use Rattle.bac_find.specs.Announcements.{Announcement, announced}
 use Rattle.bac_find.specs.Finding.{Came, Ends, IsLast, IsOver, Prints, has_device, line_of, lines_of}
 use Rattle.bac_find.specs.Hearing.{Found, Hears, Held, Shows, ended}
-use Rattle.bac_find.specs.declared.announcement.Announcement.{Announcement}
 use Rattle.bac_find.specs.declared.fault.FindFault.{FindFault}
 use Rattle.bac_find.specs.declared.fault.FindFault.TheVariants.{Socket, NoAnswer, Write, Memory}
 use Rattle.bac_ports.specs.Port.{Receiving}

@@ -1,14 +1,14 @@
 -- Which datagrams announce a device: those with an I-Am (clause 16.10) in an Original-Unicast-NPDU, an
 -- Original-Broadcast-NPDU or a Forwarded-NPDU (Annex J.2).
-use Rattle.std.specs.Prelude.{ℕ, ◌==◌, ◌&&◌, not, Bool, true, is_none, if◌then◌else◌, List, Option, None, Some}
+use Rattle.std.specs.Prelude.{ℕ, ◌==◌, ◌&&◌, not, Bool, true, if◌then◌else◌, List, Option, None, Some}
 use Rattle.bac_wire.specs.OptionChain.{◌>>=◌}
 use Rattle.bac_apdu.specs.Apdu.{Apdu, Unconfirmed, apdu_at}
 use Rattle.bac_apdu.specs.Frame.{Frame, Unicast, Broadcast, Forwarded, Function, frame_at}
-use Rattle.bac_apdu.specs.Npdu.{Header, Place, header_at}
+use Rattle.bac_apdu.specs.Npdu.{Header, Place, header_at, maybe_place_of}
 use Rattle.bac_apdu.specs.Service.Choice.{i_am_service}
 use Rattle.bac_apdu.specs.Service.IAm.{i_am_at}
 use Rattle.bac_apdu.specs.declared.service.i_am.IAm.{IAm}
-use Rattle.bac_find.specs.declared.announcement.Announcement.{Announcement}
+use Rattle.bac_find.specs.declared.announcement.Announcement.{Announcement as Code}
 use Rattle.bac_ports.specs.declared.port.Heard.{Heard}
 
 -- without a destination, or for all networks: FFFF (6.2.2)
@@ -16,27 +16,33 @@ abbrev pub is_for_all : Option Place → Bool
 is_for_all None = true
 is_for_all (Some place) = place.net == 65535
 
--- no network message, none from another network, and none to another network
+-- no network message, and none to another network
 abbrev pub is_heard : Header → Bool
-is_heard header = not header.network && is_none header.source && is_for_all header.dest
+is_heard header = not header.network && is_for_all header.dest
+
+-- what a device says of itself, the address that it was heard from, and its place if that is behind a router
+pub record Announcement : Type 0 where
+  pub address : List ℕ
+  pub source : Option Place
+  pub i_am : IAm
+
+-- as the code holds it
+abbrev pub announcement_of : Code → Announcement
+announcement_of said = record { address = said.address; source = maybe_place_of said.source; i_am = said.i_am }
 
 -- the I-Am that an APDU is
 abbrev pub i_am_in : Apdu → Option IAm
 i_am_in (Unconfirmed service parameters) = if service == i_am_service then i_am_at parameters else None
 i_am_in other = None
 
--- a device with its address
-abbrev pub announcement : List ℕ → IAm → Announcement
-announcement address i_am = record { address = address; i_am = i_am }
-
--- what an NPDU announces of the device at this address
+-- what an NPDU from this address announces
 unfoldable pub announced_at : List ℕ → List ℕ → Option Announcement
 announced_at address npdu = do
   header ← header_at npdu
   if is_heard header.0 then (do
     apdu ← apdu_at header.1
     i_am ← i_am_in apdu
-    Some (announcement address i_am)) else None
+    Some (record { address = address; source = header.0.source; i_am = i_am })) else None
 
 -- the device is the sender, or has the address in a Forwarded-NPDU (J.2.5)
 abbrev pub announced_by_frame : List ℕ → Frame → Option Announcement

@@ -3,12 +3,11 @@
 use Rattle.std.specs.Prelude.{◌≡◌, ℕ, ◌≤◌, ◌<◌, ◌⊎◌, is_some, Bool, true, false, List, [], ◌∷◌, ◌++◌, length, Option, Some, None, Ok, Err}
 use Rattle.std.specs.List.{list_any}
 use Rattle.std.specs.Io.KnownBytes.{Appends}
-use Rattle.bac_apdu.specs.declared.service.who_is.WhoIs.{WhoIs}
-use Rattle.bac_find.specs.Announcements.{announced}
+use Rattle.bac_find.specs.Announcements.{Announcement, announced}
 use Rattle.bac_find.specs.Hearing.{Found, Held}
 use Rattle.bac_find.specs.Lines.{device_line}
 use Rattle.bac_find.specs.Requests.{who_is_octets}
-use Rattle.bac_find.specs.declared.announcement.Announcement.{Announcement}
+use Rattle.bac_find.specs.declared.search.Search.{Search}
 use Rattle.bac_find.specs.declared.fault.FindFault.TheVariants.{Socket, NoAnswer, Write, Memory}
 use Rattle.bac_ports.specs.Port.{Receiving, Sending}
 use Rattle.bac_ports.specs.declared.port.Heard.{Heard}
@@ -92,8 +91,8 @@ IsAsked (Err fault) port held result new after more = (result ≡ Err Socket) ×
 IsAsked (Ok done) port held result new after more = more
 
 -- the request goes to each address in order, and then so many datagrams are received at most
-abbrev pub Finds : {P : Type 0} → (P → List ℕ → List ℕ → Sending → P → Type 0) → (P → Receiving → P → Type 0) → ℕ → WhoIs
+abbrev pub Finds : {P : Type 0} → (P → List ℕ → List ℕ → Sending → P → Type 0) → (P → Receiving → P → Type 0) → ℕ → Search
     → List (List ℕ) → P → Held → Found → P → Held → Type 0
-Finds {P = P} sends receives limit request addresses port held result new after =
-    (sent : Sending) × (mid : P) × AsksEach sends (who_is_octets request) addresses port sent mid
+Finds {P = P} sends receives limit search addresses port held result new after =
+    (sent : Sending) × (mid : P) × AsksEach sends (who_is_octets search) addresses port sent mid
     × IsAsked sent mid held result new after (Prints receives limit mid held result new after)

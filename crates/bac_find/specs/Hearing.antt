@@ -1,9 +1,8 @@
 -- How datagrams are received and shown, one after the other. What that comes to is in Finding.
 use Rattle.std.specs.Prelude.{◌≡◌, ℕ, zero, suc, ◌||◌, Bool, true, false, if◌then◌else◌, Option, Some, None, Result, Ok, Err, List}
 use Rattle.std.specs.Io.KnownBytes.{Appends, Keeps}
-use Rattle.bac_find.specs.Announcements.{announced}
+use Rattle.bac_find.specs.Announcements.{Announcement, announced}
 use Rattle.bac_find.specs.Lines.{device_line}
-use Rattle.bac_find.specs.declared.announcement.Announcement.{Announcement}
 use Rattle.bac_find.specs.declared.fault.FindFault.{FindFault}
 use Rattle.bac_find.specs.declared.fault.FindFault.TheVariants.{Socket, NoAnswer, Write, Memory}
 use Rattle.bac_ports.specs.Port.{Receiving}

@@ -2,10 +2,11 @@
 
 ghost use Rattle.std.specs.Prelude.{◌≡◌};
 ghost use Rattle.bac_apdu.specs.Npdu.{header_of};
-ghost use Rattle.bac_find.specs.Announcements.{announced as announced_by, announced_at, announced_in, is_heard};
+ghost use Rattle.bac_wire.specs.OptionChain.{GivesSome};
+ghost use Rattle.bac_find.specs.Announcements.{announced as announced_by, announced_at, announced_in, announcement_of, is_heard};
 
 use bac_apdu::choice::I_AM;
-use bac_apdu::{Apdu, Frame, IAm, Npdu, read_apdu, read_frame, read_npdu};
+use bac_apdu::{Apdu, Far, Frame, IAm, Npdu, read_apdu, read_frame, read_npdu};
 use bac_ports::Heard;
 
 /// The network number that stands for all networks (clause 6.2.2).
@@ -13,14 +14,17 @@ const ALL_NETWORKS: u16 = 0xffff;
 
 /// What a device says of itself, and where it is.
 #[derive(Clone, Copy, Debug, PartialEq, Eq)]
-pub(crate) struct Announcement {
-    /// Four octets of IPv4 address and two of port, high octet first (Annex J.1.2).
+pub(crate) struct Announcement<'a> {
+    /// Four octets of IPv4 address and two of port, high octet first (Annex J.1.2): the device's,
+    /// or that of the router which it is behind.
     pub(crate) address: [u8; 6],
+    /// Its place behind a router (SNET and SADR).
+    pub(crate) source: Option<Far<'a>>,
     pub(crate) i_am: IAm,
 }
 
-/// Whether what stands behind a header is for us (clause 6): no network message, from our own
-/// network, and for no other one.
+/// Whether what stands behind a header is for us (clause 6): no network message, and for no other
+/// network.
 fn is_heard(header: &Npdu) -> bool
     ensures { result ≡ is_heard (header_of header.now) }
 {
@@ -28,13 +32,13 @@ fn is_heard(header: &Npdu) -> bool
         Some(far) => far.net == ALL_NETWORKS,
         None => true,
     };
-    !header.network && header.source.is_none() && for_all
+    !header.network && for_all
 }
 
 /// What an NPDU from this address announces.
 #[tactic(auto, unfolding(crate::specs::Announcements::announced_at))]
 fn announced_at(address: [u8; 6], npdu: &[u8]) -> Option<Announcement>
-    ensures { result ≡ announced_at address npdu.now }
+    ensures { GivesSome announcement_of result (announced_at address npdu.now) }
 {
     let (header, apdu) = read_npdu(npdu)?;
     if !is_heard(&header) {
@@ -46,7 +50,11 @@ fn announced_at(address: [u8; 6], npdu: &[u8]) -> Option<Announcement>
             parameters,
         } => {
             let i_am = IAm::read(parameters)?;
-            Some(Announcement { address, i_am })
+            Some(Announcement {
+                address,
+                source: header.source,
+                i_am,
+            })
         }
         _ => None,
     }
@@ -54,7 +62,7 @@ fn announced_at(address: [u8; 6], npdu: &[u8]) -> Option<Announcement>
 
 /// What a datagram from this sender announces. A Forwarded-NPDU has the address of the device.
 fn announced_in(sender: [u8; 6], datagram: &[u8]) -> Option<Announcement>
-    ensures { result ≡ announced_in sender datagram.now }
+    ensures { GivesSome announcement_of result (announced_in sender datagram.now) }
 {
     match read_frame(datagram)? {
         Frame::Unicast(npdu) => announced_at(sender, npdu),
@@ -65,10 +73,11 @@ fn announced_in(sender: [u8; 6], datagram: &[u8]) -> Option<Announcement>
 }
 
 /// What came announces.
-pub(crate) fn announced(heard: Heard) -> Option<Announcement>
-    ensures { result ≡ announced_by heard }
+pub(crate) fn announced(heard: &Heard) -> Option<Announcement>
+    ensures { GivesSome announcement_of result (announced_by heard.now) }
 {
-    let Heard { from, datagram } = heard;
-    let datagram = datagram?;
-    announced_in(from, datagram.octets())
+    match &heard.datagram {
+        Some(datagram) => announced_in(heard.from, datagram.octets()),
+        None => None,
+    }
 }

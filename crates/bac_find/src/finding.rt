@@ -11,7 +11,7 @@ use crate::announcement::announced;
 use crate::fault::FindFault;
 use crate::line::push_device;
 use crate::request::datagram_of;
-use bac_apdu::WhoIs;
+use crate::search::Search;
 use bac_ports::{Heard, Port, SocketFault};
 use bac_print::{WriteRefused, write_text};
 use std::alloc::Global;
@@ -24,7 +24,8 @@ pub const RECEIVES: u32 = 4096;
 /// to a wait in which nothing comes: `I-Am INSTANCE A.B.C.D:PORT max-apdu N segmentation S vendor
 /// V`, each with one write, as far as the output takes it at once, and flushed. An address is four
 /// octets of IPv4 address and two of port, high octet first (Annex J.1.2); that of an I-Am is its
-/// sender's, or the one in a Forwarded-NPDU.
+/// sender's, or the one in a Forwarded-NPDU. Behind it stands ` net N mac HEX` where the device is
+/// behind a router.
 ///
 /// Other datagrams are passed over. After 4096 datagrams, whatever they are, no more are received.
 /// A refused send, a failed receive, a refused write and want of memory for a line end it at once;
@@ -33,12 +34,12 @@ pub fn find_devices<P: Port, W: Write>(
     alloc: Global,
     port: &mut P,
     addresses: &[[u8; 6]],
-    request: &WhoIs,
+    search: &Search,
     out: &mut W,
 ) -> Result<(), FindFault>
-    ensures { Finds P.sends P.receives RECEIVES request.now addresses.now port.old (W.contents out.old) result port.new (W.contents out.new) }
+    ensures { Finds P.sends P.receives RECEIVES search.now addresses.now port.old (W.contents out.old) result port.new (W.contents out.new) }
 {
-    let datagram = datagram_of(request);
+    let datagram = datagram_of(search);
     match ask_each(port, datagram.octets(), addresses) {
         Ok(()) => hear(alloc, port, RECEIVES, out),
         Err(_) => Err(FindFault::Socket),
@@ -96,7 +97,7 @@ fn ended(taken: bool) -> Result<(), FindFault>
 fn show<W: Write>(line: &mut Vec<u8>, heard: Heard, out: &mut W) -> Result<bool, FindFault>
     ensures { Shows (announced_by heard) result (W.contents out.old) (W.contents out.new) }
 {
-    let Some(said) = announced(heard) else {
+    let Some(said) = announced(&heard) else {
         return Ok(false);
     };
     line.clear();

@@ -11,6 +11,8 @@ mod fault;
 mod finding;
 mod line;
 mod request;
+mod search;
 
 pub use fault::FindFault;
 pub use finding::{RECEIVES, find_devices};
+pub use search::Search;

@@ -3,21 +3,36 @@
 ghost use Rattle.std.specs.Prelude.{◌≡◌};
 ghost use Rattle.bac_apdu.specs.FormCanon.{canon_form};
 ghost use Rattle.bac_apdu.specs.Service.WhoIs.{who_is, who_is_parameters};
-ghost use Rattle.bac_find.specs.Requests.{who_is_apdu, who_is_octets};
+ghost use Rattle.bac_apdu.specs.Npdu.{maybe_place_of};
+ghost use Rattle.bac_find.specs.Requests.{devices_of, hops_to, who_is_apdu, who_is_octets};
 
+use crate::search::Search;
 use bac_apdu::choice::WHO_IS;
-use bac_apdu::{Apdu, Npdu, WhoIs, write_apdu, write_datagram};
+use bac_apdu::{Apdu, Far, Npdu, WhoIs, write_apdu, write_datagram};
 use bac_wire::Datagram;
 
-/// No destination, no source, no reply expected, normal priority.
-const PLAIN: Npdu = Npdu {
-    network: false,
-    reply: false,
-    priority: 0,
-    dest: None,
-    source: None,
-    hops: 0,
-};
+/// How many routers a request may pass (clause 6.2.3).
+const MOST_HOPS: u8 = 255;
+
+/// All devices of a network behind a router (clause 6.2.2).
+fn devices_of<'a>(network: Option<u16>) -> Option<Far<'a>>
+    ensures { maybe_place_of result ≡ devices_of network }
+{
+    match network {
+        Some(net) => Some(Far { net, address: &[] }),
+        None => None,
+    }
+}
+
+/// How many routers a request to a network may pass.
+fn hops_to(network: Option<u16>) -> u8
+    ensures { result ≡ hops_to network }
+{
+    match network {
+        Some(_) => MOST_HOPS,
+        None => 0,
+    }
+}
 
 fn parameters_of(request: &WhoIs) -> Datagram
     ensures { result ≡ canon_form who_is (who_is_parameters request.now) }
@@ -43,13 +58,22 @@ fn apdu_of(request: &WhoIs) -> Datagram
     apdu
 }
 
-/// The request in a frame to one device.
+/// The request in a frame to one device, which may be a router: no reply is expected, and it has
+/// normal priority.
 #[tactic(auto, unfolding(crate::specs::Requests::who_is_octets))]
-pub(crate) fn datagram_of(request: &WhoIs) -> Datagram
-    ensures { result ≡ who_is_octets request.now }
+pub(crate) fn datagram_of(search: &Search) -> Datagram
+    ensures { result ≡ who_is_octets search.now }
 {
-    let apdu = apdu_of(request);
+    let apdu = apdu_of(&search.who_is);
+    let npdu = Npdu {
+        network: false,
+        reply: false,
+        priority: 0,
+        dest: devices_of(search.network),
+        source: None,
+        hops: hops_to(search.network),
+    };
     let mut datagram = Datagram::new();
-    write_datagram(&mut datagram, &PLAIN, apdu.octets()).unwrap();
+    write_datagram(&mut datagram, &npdu, apdu.octets()).unwrap();
     datagram
 }

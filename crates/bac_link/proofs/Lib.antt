@@ -1,3 +1,4 @@
 pub mod Datagrams
 pub mod Delivers
 pub mod Verdicts
+pub mod Tries

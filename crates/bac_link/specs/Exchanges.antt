@@ -1,5 +1,5 @@
 -- An exchange: a request is sent until an answer comes, and what it then brings.
-use Rattle.std.specs.Prelude.{◌≡◌, ℕ, ◌+◌, true, not, ◌&&◌, ◌==◌, if◌then◌else◌, Option, Some, None, Result, Ok, Err, List}
+use Rattle.std.specs.Prelude.{◌≡◌, ℕ, zero, suc, ◌+◌, ◌≤◌, true, false, not, ◌&&◌, ◌==◌, if◌then◌else◌, Option, Some, None, Result, Ok, Err, List}
 use Rattle.bac_apdu.specs.Apdu.{Apdu}
 use Rattle.bac_apdu.specs.Apdu as apdu
 use Rattle.bac_apdu.specs.declared.service.extent.Extent.{Extent}
@@ -9,6 +9,7 @@ use Rattle.bac_link.specs.declared.exchanges.ExchangeFault.TheVariants as fault
 use Rattle.bac_link.specs.declared.exchanges.Refusal.TheVariants as refusal
 use Rattle.bac_link.specs.declared.exchanges.Verdict.{Verdict}
 use Rattle.bac_link.specs.declared.exchanges.Verdict.TheVariants.{Ack, Refused, BadReply}
+use Rattle.bac_link.specs.declared.link.Lost.{Lost as Loss}
 use Rattle.bac_link.specs.declared.request.Request.{Request}
 use Rattle.bac_link.specs.declared.transactions.Transactions.{Transactions}
 use Rattle.bac_link.specs.Datagrams.{answers_to, apdu_in}
@@ -41,6 +42,37 @@ Concludes path invoke r (Err (fault.Refused refusal)) = (datagram : List ℕ) ×
 Concludes path invoke r (Err fault.BadReply) = (datagram : List ℕ) × IsAnswer path invoke r BadReply datagram
 Concludes path invoke r (Err fault.Lost) = Unit {0}
 Concludes path invoke r (Err fault.TooLong) = Unit {0}
+
+-- ---- over any link
+
+-- a try that brought no answer: nothing came, or a datagram that doesn't answer the request
+abbrev pub IsNoAnswer : List ℕ → Result (List ℕ) Loss → Type 0
+IsNoAnswer octets (Ok datagram) = answers_to octets datagram ≡ false
+IsNoAnswer octets (Err lost) = Unit {0}
+
+-- so many tries, one after the other, each with the same octets, of which none brought an answer
+abbrev pub Unanswered : {S : Type 0} → (S → List ℕ → Result (List ℕ) Loss → S → Type 0) → List ℕ → ℕ → S → S → Type 0
+Unanswered {S = S} asks octets zero old new = new ≡ old
+Unanswered {S = S} asks octets (suc n) old new =
+    (mid : S) × (answer : Result (List ℕ) Loss) × Unanswered asks octets n old mid
+    × asks mid octets answer new × IsNoAnswer octets answer
+
+-- tries without an answer, at most as many as there are retries, and then one that brought an answer with this verdict
+abbrev pub Answers : {S : Type 0} → (S → List ℕ → Result (List ℕ) Loss → S → Type 0) → Path → ℕ → Request → ℕ → Verdict → S → List ℕ → S → Type 0
+Answers {S = S} asks path invoke r retries verdict old datagram new =
+    (tries : ℕ) × (mid : S) × (tries ≤ retries) × Unanswered asks (request_octets path invoke r) tries old mid
+    × asks mid (request_octets path invoke r) (Ok datagram) new × IsAnswer path invoke r verdict datagram
+
+-- An exchange over any link: the request is asked until an answer comes, and as often again as the retries say. Its
+-- result is the verdict on that answer; Lost where no try brought one. Nothing is asked where the request doesn't fit.
+abbrev pub Exchanges : {S : Type 0} → (S → List ℕ → Result (List ℕ) Loss → S → Type 0) → Path → ℕ → Request → ℕ → S → Result (List ℕ) ExchangeFault → S → Type 0
+Exchanges {S = S} asks path invoke r retries old (Ok datagram) new = Answers asks path invoke r retries Ack old datagram new
+Exchanges {S = S} asks path invoke r retries old (Err (fault.Refused refusal)) new =
+    (datagram : List ℕ) × Answers asks path invoke r retries (Refused refusal) old datagram new
+Exchanges {S = S} asks path invoke r retries old (Err fault.BadReply) new =
+    (datagram : List ℕ) × Answers asks path invoke r retries BadReply old datagram new
+Exchanges {S = S} asks path invoke r retries old (Err fault.Lost) new = Unanswered asks (request_octets path invoke r) (retries + 1) old new
+Exchanges {S = S} asks path invoke r retries old (Err fault.TooLong) new = new ≡ old
 
 -- one more transaction was begun, and nothing is open; where the request doesn't fit, nothing changes
 abbrev pub Leaves : Request → Transactions → Result (List ℕ) ExchangeFault → Transactions → Type 0
@@ -80,6 +112,11 @@ IsNotLost (Err fault.BadReply) = Unit {0}
 IsNotLost (Err fault.TooLong) = Unit {0}
 
 -- ---- one try
+
+-- over any link: the datagram that came answers the request, or none did
+abbrev pub IsTried : {S : Type 0} → (S → List ℕ → Result (List ℕ) Loss → S → Type 0) → List ℕ → S → Option (List ℕ) → S → Type 0
+IsTried {S = S} asks octets old (Some datagram) new = asks old octets (Ok datagram) new
+IsTried {S = S} asks octets old None new = (answer : Result (List ℕ) Loss) × asks old octets answer new × IsNoAnswer octets answer
 
 -- over an honest link: the reply of the next moment, or a failure
 abbrev pub IsHeard : (List Moment → Type 0) → ℕ → List Moment → History → Id → Extent → Path → ℕ → ℕ → ℕ → Option (List ℕ) → Type 0

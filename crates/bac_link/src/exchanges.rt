@@ -5,7 +5,18 @@ ghost use Rattle.bac_wire.specs.Primitive.{Id};
 ghost use Rattle.bac_apdu.specs.declared.service.extent.Extent.{Extent as AnyExtent};
 ghost use Rattle.bac_link.specs.Datagrams.{answers_to, apdu_in};
 ghost use Rattle.bac_link.specs.Delivery.{History, Moment};
-ghost use Rattle.bac_link.specs.Exchanges.{verdict_of, Concludes, Leaves, IsExchanged, IsExchangedOfNone, IsNotLost, IsHeard, IsHeardOfNone};
+ghost use Rattle.bac_link.specs.Exchanges.{
+  verdict_of,
+  Concludes,
+  Exchanges,
+  Leaves,
+  IsExchanged,
+  IsExchangedOfNone,
+  IsNotLost,
+  IsHeard,
+  IsHeardOfNone,
+  IsTried,
+};
 ghost use Rattle.bac_link.specs.Links.{AsksFor, IsQuestion};
 ghost use Rattle.bac_apdu.specs.Npdu.{Place};
 ghost use Rattle.bac_link.specs.Path.{Path, towards};
@@ -90,6 +101,7 @@ pub fn judge(request: &Request, datagram: &[u8]) -> Verdict
 fn heard<L: LogLink>(link: &mut L, request: &[u8]) -> Option<Datagram>
     ensures never_falls { L.failures link.old ≤ L.failures link.new }
     ensures answers { IfSome result (λ d. answers_to request.now d ≡ true) }
+    ensures tried { IsTried L.asks request.now link.old result link.new }
     ensures honest { (id : Id) (r : ℕ) (M : List Moment) (H : History) (extent : AnyExtent) (place : Option Place) (invoke : ℕ) →
         L.is_honest link.old id r M H → IsQuestion id extent (towards place) invoke request.now →
         IsHeard (λ N. L.is_honest link.new id r N H) r M H id extent (towards place) invoke (L.failures link.old) (L.failures link.new) result
@@ -123,7 +135,11 @@ pub fn exchange<L: LogLink>(
     request: &Request,
 ) -> Result<Datagram, ExchangeFault>
     requires { IsSendable request.now }
-    // What is returned is the verdict on a datagram that answers the request.
+    // Over any link, whatever the request: it is asked once, and then as often as the retries say,
+    // until an answer comes over the link; what is returned is the verdict on that answer.
+    ensures exchanges { Exchanges L.asks (towards transactions.old.route) (next_invoke transactions.old.invoke)
+        request.now transactions.old.retries link.old result link.new }
+    // So what is returned is the verdict on a datagram that answers the request.
     ensures answers { Concludes (towards transactions.old.route) (next_invoke transactions.old.invoke) request.now result }
     ensures too_long { (result ≡ Err ExchangeFault.TooLong) ↔ IsTooLong request.now }
     ensures leaves { Leaves request.now transactions.old result transactions.new }

@@ -1,12 +1,13 @@
 //! Links that carry datagrams.
 
-ghost use Rattle.std.specs.Prelude.{ℕ, ◌≤◌, List, IsOk, OnErr};
+ghost use Rattle.std.specs.Prelude.{ℕ, ◌≤◌, List, Result, IsOk, OnErr};
 ghost use Rattle.bac_wire.specs.Primitive.{Id};
 ghost use Rattle.bac_apdu.specs.declared.service.extent.Extent.{Extent as AnyExtent};
 ghost use Rattle.bac_link.specs.Delivery.{History, Moment};
 ghost use Rattle.bac_link.specs.Links.{IsAsked, IsAskedOfNone, IsQuestion, RisesBy};
 ghost use Rattle.bac_link.specs.Moments.{AreServed};
 ghost use Rattle.bac_link.specs.Path.{Path};
+ghost use Rattle.bac_link.specs.declared.link.Lost.{Lost as LostOf};
 
 use bac_wire::Datagram;
 
@@ -42,8 +43,13 @@ pub trait LogLink {
     /// What questions leave as it is, where none of them is lost: for a device in memory, the device.
     ghost keeps: { Self → Self → Type 0 };
 
+    /// What an ask is, whatever is asked: the link before it, the octets, the answer, the link after
+    /// it. Each link names it itself; so what is proved over any link says what came over it.
+    ghost asks: { Self → List ℕ → Result (List ℕ) LostOf → Self → Type 0 };
+
     /// Sends the datagram and waits for one that answers it.
     fn ask(&mut self, request: &[u8]) -> Result<Datagram, Lost>
+        ensures asked { asks self.old request.now result self.new }
         ensures never_falls { failures self.old ≤ failures self.new }
         ensures lost { OnErr result (RisesBy 1 (failures self.old) (failures self.new)) }
         ensures honest { (id : Id) (r : ℕ) (M : List Moment) (H : History) (extent : AnyExtent) (path : Path) (invoke : ℕ) →

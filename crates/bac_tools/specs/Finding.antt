@@ -1,9 +1,9 @@
 -- What finding devices leaves on the output. Nothing is said of what comes from a socket.
 use Rattle.std.specs.Prelude.{◌≡◌, ◌⊎◌, ℕ, List, Option, None, Some, Result, Ok, Err}
 use Rattle.std.specs.Option.{unwrap_or}
-use Rattle.bac_apdu.specs.declared.service.who_is.WhoIs.{WhoIs}
 use Rattle.bac_find.specs.Finding.{Finds}
 use Rattle.bac_find.specs.Hearing.{Found}
+use Rattle.bac_find.specs.declared.search.Search.{Search}
 use Rattle.bac_ports.specs.declared.udp_port.UdpPort.{UdpPort}
 use Rattle.bac_query.specs.Reading.{Held}
 use Rattle.bac_tools.specs.Ending.{Ending, IsClosed}
@@ -14,9 +14,9 @@ abbrev pub limits_of : Option ℕ → Option ℕ → Option (ℕ × ℕ)
 limits_of None max = None
 limits_of (Some min) max = Some (min, unwrap_or max min)
 
--- the Who-Is with these limits
-abbrev pub who_is : Option ℕ → Option ℕ → WhoIs
-who_is min max = record { limits = limits_of min max }
+-- the devices that are to answer
+abbrev pub search_of : Option ℕ → Option ℕ → Option ℕ → Search
+search_of min max dnet = record { network = dnet; who_is = record { limits = limits_of min max } }
 
 -- done, or a fault of finding devices
 abbrev pub of_found : Found → Ending
@@ -24,9 +24,9 @@ of_found (Ok done) = Ok 0
 of_found (Err fault) = Err (of_find fault)
 
 -- the request goes to each address, and lines are printed of at most 4096 datagrams that come
-abbrev pub Searches : WhoIs → List (List ℕ) → Held → Held → Ending → Type 0
-Searches request addresses old new result =
+abbrev pub Searches : Search → List (List ℕ) → Held → Held → Ending → Type 0
+Searches search addresses old new result =
     IsClosed old new result
     ⊎ ((found : Found) × ((port : UdpPort) × (after : UdpPort)
-    × Finds (λ before octets to answer behind. Unit {0}) (λ before answer behind. Unit {0}) 4096 request addresses port old found after new)
+    × Finds (λ before octets to answer behind. Unit {0}) (λ before answer behind. Unit {0}) 4096 search addresses port old found after new)
     × (result ≡ of_found found))

@@ -11,6 +11,7 @@ use Rattle.bac_apdu.specs.declared.service.write_property.WriteProperty.{WritePr
 use Rattle.bac_link.specs.Path.{towards}
 use Rattle.bac_link.specs.declared.item.Item.{Item}
 use Rattle.bac_link.specs.declared.request.Request.{Request}
+use Rattle.bac_link.specs.declared.transactions.Transactions.{Transactions}
 use Rattle.bac_link.specs.declared.request.Request.TheVariants as request
 use Rattle.bac_objects.specs.Build.{build_fault}
 use Rattle.bac_objects.specs.declared.build.BuildFault.{BuildFault}
@@ -19,7 +20,7 @@ use Rattle.bac_query.specs.Reading.{Answer, Held, ReadsProperty}
 use Rattle.bac_query.specs.Writing.{WritesProperty}
 use Rattle.bac_tools.specs.Ending.{Ending, IsClosed}
 use Rattle.bac_tools.specs.Faults.{of_query}
-use Rattle.bac_tools.specs.Finding.{Searches, who_is}
+use Rattle.bac_tools.specs.Finding.{Searches, search_of}
 use Rattle.bac_tools.specs.Given.{value_of}
 use Rattle.bac_tools.specs.Status.{exit_status, walk_status}
 use Rattle.bac_tools.specs.declared.fault.Fault.{Fault}
@@ -30,6 +31,7 @@ use Rattle.bac_script.specs.declared.configuration.Configuration.{Configuration}
 use Rattle.bac_script.specs.declared.replay.fault.ReplayFault.{ReplayFault}
 use Rattle.bac_script.specs.declared.replay.fault.ReplayFault.TheVariants.{Build}
 use Rattle.bac_words.specs.Outcome.{mistakes_of, job_in}
+use Rattle.bac_words.specs.declared.job.Asked.{Asked}
 use Rattle.bac_words.specs.declared.job.Given.{Given}
 use Rattle.bac_words.specs.declared.job.Job.{Job}
 use Rattle.bac_words.specs.declared.job.Job.TheVariants as job
@@ -60,15 +62,21 @@ abbrev pub of_fetching : Fetching → Ending
 of_fetching (Ok fetched) = Ok (walk_status fetched.why)
 of_fetching (Err fault) = Err (of_query fault)
 
--- ReadProperty, with invoke ID 1
-abbrev pub Reads : ReadProperty → Held → Held → Ending → Type 0
-Reads asked old new result =
-    IsClosed old new result ⊎ ((answer : Answer) × ReadsProperty (towards None) 1 asked answer old new × (result ≡ of_answer answer))
+-- none begun, each request to be repeated as often as the words say, and by the way that they say
+abbrev pub transactions_with : Asked → Transactions
+transactions_with asked = record { retries = asked.retries; route = asked.route; invoke = 0; begun = 0; pending = None }
 
--- WriteProperty, with invoke ID 1
-abbrev pub Writes : Request → Held → Held → Ending → Type 0
-Writes asked old new result =
-    IsClosed old new result ⊎ ((answer : Answer) × WritesProperty (towards None) 1 asked answer old new × (result ≡ of_answer answer))
+-- ReadProperty, by the way that the words say, with invoke ID 1
+abbrev pub Reads : Asked → ReadProperty → Held → Held → Ending → Type 0
+Reads asked question old new result =
+    IsClosed old new result
+    ⊎ ((answer : Answer) × ReadsProperty (towards asked.route) 1 question answer old new × (result ≡ of_answer answer))
+
+-- WriteProperty, by the way that the words say, with invoke ID 1
+abbrev pub Writes : Asked → Request → Held → Held → Ending → Type 0
+Writes asked question old new result =
+    IsClosed old new result
+    ⊎ ((answer : Answer) × WritesProperty (towards asked.route) 1 question answer old new × (result ≡ of_answer answer))
 
 -- lines of records and gaps, and the line of the end
 abbrev pub Fetches : Held → Held → Ending → Type 0
@@ -139,15 +147,15 @@ abbrev pub Works : Job → Held → Held → Held → Held → Ending → Type 0
 Works job.Replay input left old new result = Plays input left old new result
 Works (job.Rp asked object_type instance property index) input left old new result =
     (IsOutside object_type instance × IsUnasked Instance old new result)
-    ⊎ Reads (question object_type instance property index) old new result
+    ⊎ Reads asked (question object_type instance property index) old new result
 Works (job.Wp asked object_type instance property priority given index) input left old new result =
     (IsOutside object_type instance × IsUnasked Instance old new result)
     ⊎ ((w : WriteProperty) × (write_of_code w ≡ setting object_type instance property priority given index)
-    × Writes (request.WriteProperty w) old new result)
+    × Writes asked (request.WriteProperty w) old new result)
 Works (job.Log asked instance from steps) input left old new result =
     ((fault : Fault) × (IsNoWalk instance from fault × (result ≡ Err fault)) × Keeps old new) ⊎ Fetches old new result
 Works (job.Serve address count) input left old new result = Serves input left result × Keeps old new
-Works (job.Wi addresses min max local timeout) input left old new result = Searches (who_is min max) addresses old new result
+Works (job.Wi addresses min max dnet local timeout) input left old new result = Searches (search_of min max dnet) addresses old new result
 
 -- ---- the status
 

@@ -4,7 +4,7 @@ ghost use Rattle.std.specs.Prelude.{◌≡◌, IfErr};
 ghost use Rattle.bac_link.specs.Requests.{IsSendable};
 ghost use Rattle.bac_wire.specs.View.{view, IsWellFormed};
 ghost use Rattle.bac_tools.specs.Given.{value_of};
-ghost use Rattle.bac_tools.specs.Run.{Fetches, Reads, Writes};
+ghost use Rattle.bac_tools.specs.Run.{Fetches, Reads, Writes, transactions_with};
 
 use crate::fault::{Fault, walk_status};
 use bac_apdu::ReadProperty;
@@ -31,18 +31,29 @@ fn link_to<R: Net>(rt: &R, asked: &Asked) -> Result<UdpLink<UdpPort>, Fault>
     }
 }
 
+/// Transactions with the device that is asked, by the way to it.
+fn transactions_with(asked: Asked) -> Transactions
+    ensures { result ≡ transactions_with asked.entry }
+{
+    let Asked { retries, route, .. } = asked;
+    match route {
+        Some(route) => Transactions::through(retries, route),
+        None => Transactions::new(retries),
+    }
+}
+
 /// Reads a property, and prints its values.
 pub(crate) fn rp<R: Net, O: Write>(
     rt: &R,
     alloc: Global,
-    asked: &Asked,
+    asked: Asked,
     question: ReadProperty,
     output: &mut O,
 ) -> Result<u8, Fault>
-    ensures { Reads question (O.contents output.old) (O.contents output.new) result }
+    ensures { Reads asked.entry question (O.contents output.old) (O.contents output.new) result }
 {
-    let mut link = link_to(rt, asked)?;
-    let mut transactions = Transactions::new(asked.retries);
+    let mut link = link_to(rt, &asked)?;
+    let mut transactions = transactions_with(asked);
     match read_property(alloc, &mut link, &mut transactions, question, output) {
         Ok(()) => Ok(0),
         Err(fault) => Err(Fault::of_query(fault)),
@@ -52,15 +63,15 @@ pub(crate) fn rp<R: Net, O: Write>(
 /// Writes a property, and prints that it was done.
 pub(crate) fn wp<R: Net, O: Write>(
     rt: &R,
-    asked: &Asked,
+    asked: Asked,
     question: &Request,
     output: &mut O,
 ) -> Result<u8, Fault>
     requires { IsSendable question.now }
-    ensures { Writes question.now (O.contents output.old) (O.contents output.new) result }
+    ensures { Writes asked.entry question.now (O.contents output.old) (O.contents output.new) result }
 {
-    let mut link = link_to(rt, asked)?;
-    let mut transactions = Transactions::new(asked.retries);
+    let mut link = link_to(rt, &asked)?;
+    let mut transactions = transactions_with(asked);
     match write_property(&mut link, &mut transactions, question, output) {
         Ok(()) => Ok(0),
         Err(fault) => Err(Fault::of_query(fault)),
@@ -71,15 +82,15 @@ pub(crate) fn wp<R: Net, O: Write>(
 pub(crate) fn log<R: Net, O: Write>(
     rt: &R,
     alloc: Global,
-    asked: &Asked,
+    asked: Asked,
     walk: Walk,
     steps: u32,
     output: &mut O,
 ) -> Result<u8, Fault>
     ensures { Fetches (O.contents output.old) (O.contents output.new) result }
 {
-    let mut link = link_to(rt, asked)?;
-    let mut transactions = Transactions::new(asked.retries);
+    let mut link = link_to(rt, &asked)?;
+    let mut transactions = transactions_with(asked);
     match fetch_log(alloc, &mut link, &mut transactions, walk, steps, output) {
         Ok(fetched) => Ok(walk_status(fetched.why)),
         Err(fault) => Err(Fault::of_query(fault)),

@@ -6,8 +6,7 @@ ghost use Rattle.bac_tools.specs.Finding.{limits_of, Searches};
 
 use crate::asking::ANY;
 use crate::fault::Fault;
-use bac_apdu::WhoIs;
-use bac_find::{FindFault, find_devices};
+use bac_find::{FindFault, Search, find_devices};
 use bac_ports::UdpPort;
 use bac_words::Addresses;
 use std::alloc::Global;
@@ -39,17 +38,17 @@ pub(crate) fn wi<R: Net, O: Write>(
     rt: &R,
     alloc: Global,
     addresses: &Addresses,
-    request: &WhoIs,
+    search: &Search,
     local: Option<[u8; 6]>,
     timeout: u32,
     output: &mut O,
 ) -> Result<u8, Fault>
-    ensures { Searches request.now addresses.now (O.contents output.old) (O.contents output.new) result }
+    ensures { Searches search.now addresses.now (O.contents output.old) (O.contents output.new) result }
 {
     let Ok(mut port) = UdpPort::open(rt, local.unwrap_or(ANY), timeout) else {
         return Err(Fault::Socket);
     };
-    match find_devices(alloc, &mut port, addresses.as_slice(), request, output) {
+    match find_devices(alloc, &mut port, addresses.as_slice(), search, output) {
         Ok(()) => Ok(0),
         Err(fault) => Err(of_find(fault)),
     }

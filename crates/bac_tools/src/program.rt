@@ -17,6 +17,7 @@ use crate::serving::serve;
 use crate::telling::tell;
 use bac_apdu::object_type::TREND_LOG;
 use bac_apdu::{ReadProperty, WhoIs, WriteProperty};
+use bac_find::Search;
 use bac_link::Request;
 use bac_print::write_text;
 use bac_serve::Clock;
@@ -64,12 +65,12 @@ fn priority(number: u8) -> Option<u8>
 fn work<R: Net, I: Read, O: Write, C: Clock>(
     rt: &R,
     alloc: Global,
-    job: &Job,
+    job: Job,
     input: &mut I,
     output: &mut O,
     clock: &mut C,
 ) -> Result<u8, Fault>
-    ensures { Works job.now (I.remaining input.old) (I.remaining input.new) (O.contents output.old) (O.contents output.new) result }
+    ensures { Works job.entry (I.remaining input.old) (I.remaining input.new) (O.contents output.old) (O.contents output.new) result }
 {
     match job {
         Job::Replay => replay(alloc, input, output),
@@ -77,13 +78,17 @@ fn work<R: Net, I: Read, O: Write, C: Clock>(
             addresses,
             min,
             max,
+            dnet,
             local,
             timeout,
         } => {
-            let request = WhoIs {
-                limits: limits(*min, *max),
+            let search = Search {
+                network: dnet,
+                who_is: WhoIs {
+                    limits: limits(min, max),
+                },
             };
-            wi(rt, alloc, addresses, &request, *local, *timeout, output)
+            wi(rt, alloc, &addresses, &search, local, timeout, output)
         }
         Job::Rp {
             asked,
@@ -93,9 +98,9 @@ fn work<R: Net, I: Read, O: Write, C: Clock>(
             index,
         } => {
             let question = ReadProperty {
-                object: object(*object_type, *instance)?,
-                property: *property,
-                index: *index,
+                object: object(object_type, instance)?,
+                property,
+                index,
             };
             rp(rt, alloc, asked, question, output)
         }
@@ -109,11 +114,11 @@ fn work<R: Net, I: Read, O: Write, C: Clock>(
             index,
         } => {
             let question = Request::WriteProperty(WriteProperty {
-                object: object(*object_type, *instance)?,
-                property: *property,
-                index: *index,
-                value: value_of(given),
-                priority: priority(*number),
+                object: object(object_type, instance)?,
+                property,
+                index,
+                value: value_of(&given),
+                priority: priority(number),
             });
             wp(rt, asked, &question, output)
         }
@@ -122,8 +127,8 @@ fn work<R: Net, I: Read, O: Write, C: Clock>(
             instance,
             from,
             steps,
-        } => log(rt, alloc, asked, walk(*instance, *from)?, *steps, output),
-        Job::Serve { address, count } => serve(rt, alloc, *address, *count, input, clock),
+        } => log(rt, alloc, asked, walk(instance, from)?, steps, output),
+        Job::Serve { address, count } => serve(rt, alloc, address, count, input, clock),
     }
 }
 
@@ -176,7 +181,7 @@ pub fn run<R: Net, I: Read, O: Write, E: Write, C: Clock>(
         Err(WordsFault::BadValue(word)) => return tell(alloc, Fault::BadValue(word), errors),
         Err(WordsFault::Memory) => return tell(alloc, Fault::Memory, errors),
     };
-    match work(rt, alloc, &job, input, output, clock) {
+    match work(rt, alloc, job, input, output, clock) {
         Ok(status) => status,
         Err(fault) => tell(alloc, fault, errors),
     }

@@ -28,6 +28,8 @@ fn range_of<'a>(word: Word) -> &'a str {
         Word::Value => "a value of the tag: none for 0, else one; bac wp --help has the tags",
         Word::Timeout => "a number from 1 to 60000",
         Word::Retries => "a number from 0 to 10",
+        Word::Dnet => "a number from 1 to 65534, beside --dadr; for bac wi from 1 to 65535",
+        Word::Dadr => "2 to 30 hexadecimal digits, an even number, beside --dnet",
     }
 }
 

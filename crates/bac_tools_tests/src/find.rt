@@ -1,9 +1,9 @@
-//! Finding devices over a port in memory: who is asked, which datagrams announce a device, what is
-//! printed, and how it ends.
+//! Finding devices over a port in memory: who is asked, in which order, and how it ends when a send, a
+//! receive or a write is refused. Which datagrams announce a device is in examples/finding.talk.
 
 use crate::memory_port::{Coming, MemoryPort};
 use bac_apdu::WhoIs;
-use bac_find::{FindFault, find_devices};
+use bac_find::{FindFault, Search, find_devices};
 use bac_ports::{Heard, Port, SocketFault};
 use bac_wire::Datagram;
 use std::alloc::Global;
@@ -14,39 +14,15 @@ const FIRST: [u8; 6] = [10, 0, 0, 1, 0xba, 0xc0];
 
 const SECOND: [u8; 6] = [10, 0, 0, 2, 0xba, 0xc1];
 
-const ANY: WhoIs = WhoIs { limits: None };
+const ANY: Search = Search {
+    network: None,
+    who_is: WhoIs { limits: None },
+};
 
 /// I-Am to one device: device 123, 1476 octets, no segmentation, vendor 0.
 const I_AM: [u8; 20] = [
     0x81, 0x0a, 0, 20, 1, 0, 0x10, 0, 0xc4, 2, 0, 0, 0x7b, 0x22, 5, 0xc4, 0x91, 3, 0x21, 0,
 ];
-
-/// I-Am to all devices: device 4194303, 50 octets, segmentation in both directions, vendor 65535.
-const TO_ALL: [u8; 20] = [
-    0x81, 0x0b, 0, 20, 1, 0, 0x10, 0, 0xc4, 2, 0x3f, 0xff, 0xff, 0x21, 50, 0x91, 0, 0x22, 0xff,
-    0xff,
-];
-
-/// I-Am of device 123 to all networks.
-const GLOBAL: [u8; 24] = [
-    0x81, 0x0b, 0, 24, 1, 0x20, 0xff, 0xff, 0, 0xff, 0x10, 0, 0xc4, 2, 0, 0, 0x7b, 0x22, 5, 0xc4,
-    0x91, 3, 0x21, 0,
-];
-
-/// I-Am to all networks with an address behind them; what announces itself is Binary Value 5.
-const ODD: [u8; 25] = [
-    0x81, 0x0b, 0, 25, 1, 0x20, 0xff, 0xff, 1, 7, 0xff, 0x10, 0, 0xc4, 1, 0x40, 0, 5, 0x22, 5,
-    0xc4, 0x91, 3, 0x21, 0,
-];
-
-/// I-Am of device 123, forwarded from 192.168.10.255:65535.
-const FORWARDED: [u8; 26] = [
-    0x81, 4, 0, 26, 192, 168, 10, 255, 0xff, 0xff, 1, 0, 0x10, 0, 0xc4, 2, 0, 0, 0x7b, 0x22, 5,
-    0xc4, 0x91, 3, 0x21, 0,
-];
-
-/// One octet more than a datagram may have.
-const LONG: [u8; 1502] = [0; 1502];
 
 const I_AM_LINE: &str = "I-Am 123 10.0.0.1:47808 max-apdu 1476 segmentation 3 vendor 0\n";
 
@@ -155,21 +131,6 @@ fn each_address_is_asked_in_order(rt: HostRuntime) {
 }
 
 #[test]
-fn limits_are_sent(rt: HostRuntime) {
-    let mut port = new_station(0);
-    let mut text = Vec::new(rt.alloc());
-    let asked = WhoIs {
-        limits: Some((123, 4194303)),
-    };
-    let found = find_devices(rt.alloc(), &mut port, &[SECOND], &asked, &mut text);
-    assert_eq!(rt; found, Err(FindFault::NoAnswer));
-    let want = [
-        0x81, 0x0a, 0, 14, 1, 0, 0x10, 8, 0x09, 0x7b, 0x1b, 0x3f, 0xff, 0xff,
-    ];
-    assert_eq!(rt; port.octets.octets(), want.as_slice());
-}
-
-#[test]
 fn a_refused_send_is_the_end(rt: HostRuntime) {
     let mut port = new_station(2);
     let mut text = Vec::new(rt.alloc());
@@ -188,97 +149,6 @@ fn no_more_than_4096_datagrams_are_received(rt: HostRuntime) {
     assert_eq!(rt; found, Err(FindFault::NoAnswer));
     assert_eq!(rt; port.received, 4096);
     assert!(rt; text.is_empty());
-}
-
-#[test]
-fn a_line_is_printed_for_each_i_am(rt: HostRuntime) {
-    let coming = [
-        Coming::From(FIRST, &I_AM),
-        Coming::From(SECOND, &TO_ALL),
-        Coming::From(FIRST, &GLOBAL),
-        Coming::From(SECOND, &FORWARDED),
-        Coming::From(FIRST, &I_AM),
-        Coming::From(FIRST, &ODD),
-        Coming::Nothing,
-        Coming::From(FIRST, &I_AM),
-    ];
-    let mut port = MemoryPort::new(&coming);
-    let mut text = Vec::new(rt.alloc());
-    let found = find_devices(rt.alloc(), &mut port, &[FIRST], &ANY, &mut text);
-    assert_eq!(rt; found, Ok(()));
-    let want = "I-Am 123 10.0.0.1:47808 max-apdu 1476 segmentation 3 vendor 0\n\
-        I-Am 4194303 10.0.0.2:47809 max-apdu 50 segmentation 0 vendor 65535\n\
-        I-Am 123 10.0.0.1:47808 max-apdu 1476 segmentation 3 vendor 0\n\
-        I-Am 123 192.168.10.255:65535 max-apdu 1476 segmentation 3 vendor 0\n\
-        I-Am 123 10.0.0.1:47808 max-apdu 1476 segmentation 3 vendor 0\n\
-        I-Am 5 10.0.0.1:47808 max-apdu 1476 segmentation 3 vendor 0\n";
-    assert_eq!(rt; text.as_slice(), want.as_bytes());
-    // the wait in which nothing came was the last
-    assert_eq!(rt; port.received, 7);
-}
-
-/// Datagrams that announce no device.
-const STRANGE: [&[u8]; 11] = [
-    &[],
-    // a BVLC-Result, and a Who-Is
-    &[0x81, 0, 0, 6, 0, 0x30],
-    &[0x81, 0x0b, 0, 8, 1, 0, 0x10, 8],
-    // a Reject
-    &[0x81, 0x0a, 0, 9, 1, 0, 0x60, 1, 9],
-    // an I-Am for network 5, from network 5, and behind a message of the network layer
-    &[
-        0x81, 0x0a, 0, 24, 1, 0x20, 0, 5, 0, 0xff, 0x10, 0, 0xc4, 2, 0, 0, 0x7b, 0x22, 5, 0xc4,
-        0x91, 3, 0x21, 0,
-    ],
-    &[
-        0x81, 0x0a, 0, 24, 1, 8, 0, 5, 1, 7, 0x10, 0, 0xc4, 2, 0, 0, 0x7b, 0x22, 5, 0xc4, 0x91, 3,
-        0x21, 0,
-    ],
-    &[
-        0x81, 0x0a, 0, 20, 1, 0x80, 0x10, 0, 0xc4, 2, 0, 0, 0x7b, 0x22, 5, 0xc4, 0x91, 3, 0x21, 0,
-    ],
-    // in a Distribute-Broadcast-To-Network
-    &[
-        0x81, 9, 0, 20, 1, 0, 0x10, 0, 0xc4, 2, 0, 0, 0x7b, 0x22, 5, 0xc4, 0x91, 3, 0x21, 0,
-    ],
-    // without its vendor, with an octet behind it, and with a wrong length in the frame
-    &[
-        0x81, 0x0a, 0, 18, 1, 0, 0x10, 0, 0xc4, 2, 0, 0, 0x7b, 0x22, 5, 0xc4, 0x91, 3,
-    ],
-    &[
-        0x81, 0x0a, 0, 21, 1, 0, 0x10, 0, 0xc4, 2, 0, 0, 0x7b, 0x22, 5, 0xc4, 0x91, 3, 0x21, 0, 0,
-    ],
-    &[
-        0x81, 0x0a, 0, 21, 1, 0, 0x10, 0, 0xc4, 2, 0, 0, 0x7b, 0x22, 5, 0xc4, 0x91, 3, 0x21, 0,
-    ],
-];
-
-/// The strange datagrams and one that is too long, then nothing; and then an I-Am between two that
-/// are too long.
-fn strange_ones() -> [Coming<'static>; 17] {
-    let mut coming = [Coming::From(FIRST, &LONG); 17];
-    for (place, octets) in coming.iter_mut().zip(STRANGE.iter()) {
-        *place = Coming::From(FIRST, octets);
-    }
-    coming[12] = Coming::Nothing;
-    coming[14] = Coming::From(FIRST, &I_AM);
-    coming[16] = Coming::Nothing;
-    coming
-}
-
-#[test]
-fn other_datagrams_are_passed_over(rt: HostRuntime) {
-    let coming = strange_ones();
-    let mut port = MemoryPort::new(&coming);
-    let mut text = Vec::new(rt.alloc());
-    let found = find_devices(rt.alloc(), &mut port, &[FIRST], &ANY, &mut text);
-    assert_eq!(rt; found, Err(FindFault::NoAnswer));
-    assert!(rt; text.is_empty());
-    assert_eq!(rt; port.received, 13);
-    let found = find_devices(rt.alloc(), &mut port, &[FIRST], &ANY, &mut text);
-    assert_eq!(rt; found, Ok(()));
-    assert_eq!(rt; text.as_slice(), I_AM_LINE.as_bytes());
-    assert_eq!(rt; port.received, 17);
 }
 
 #[test]
@@ -306,6 +176,8 @@ fn a_line_is_written_octet_by_octet_and_passed_on(rt: HostRuntime) {
     assert!(rt; out.text.as_slice().starts_with(I_AM_LINE.as_bytes()));
     assert!(rt; out.text.as_slice().ends_with(I_AM_LINE.as_bytes()));
     assert_eq!(rt; out.flushes, 2);
+    // the wait in which nothing came was the last
+    assert_eq!(rt; port.received, 3);
 }
 
 #[test]

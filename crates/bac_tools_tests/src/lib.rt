@@ -1,12 +1,10 @@
-//! Tests of the program's crates: scripts, words, printed texts, the tools over a port in memory and
-//! over sockets of this machine, and the faults of readers, writers and memory that no contract can
-//! tell.
+//! Tests of the program's crates over streams and ports in memory: the jobs of words, and the faults
+//! of readers, writers and ports that no contract can tell. What a script, a word or a datagram can
+//! show lies in examples/ as data.
 #![tactic(auto)]
 
 #[cfg(test)]
 mod find;
-#[cfg(test)]
-mod help;
 #[cfg(test)]
 mod memory_port;
 #[cfg(test)]
@@ -14,15 +12,9 @@ mod ports;
 #[cfg(test)]
 mod print;
 #[cfg(test)]
-mod properties;
-#[cfg(test)]
 mod queries;
 #[cfg(test)]
-mod replay;
-#[cfg(test)]
-mod running;
-#[cfg(test)]
-mod script_logs;
+mod routes;
 #[cfg(test)]
 mod serving;
 #[cfg(test)]

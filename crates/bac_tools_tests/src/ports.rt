@@ -1,5 +1,5 @@
-//! Links over a port in memory and over sockets of this machine: who is asked, what is taken, and
-//! what is passed over.
+//! A link over a port in memory, and sockets of this machine. Which datagrams a link takes, and which
+//! it passes over, is in examples/asking.talk.
 
 use crate::memory_port::{Coming, MemoryPort};
 use bac_link::{LogLink, Lost};
@@ -9,8 +9,6 @@ use std::test::Fail;
 
 /// 127.0.0.1:47808 and 127.0.0.1:47809.
 const PEER: [u8; 6] = [127, 0, 0, 1, 0xba, 0xc0];
-
-const OTHER: [u8; 6] = [127, 0, 0, 1, 0xba, 0xc1];
 
 /// Any free port of 127.0.0.1.
 const LOOPBACK: [u8; 6] = [127, 0, 0, 1, 0, 0];
@@ -36,14 +34,6 @@ fn after_strange(strange: usize) -> [Coming<'static>; 17] {
 }
 
 #[test]
-fn fifteen_strange_datagrams_are_passed_over(rt: HostRuntime) {
-    let coming = after_strange(15);
-    let mut link = UdpLink::new(MemoryPort::new(&coming), PEER);
-    let answer = link.ask(&REQUEST).expect(&rt, "an answer");
-    assert_eq!(rt; answer.octets(), ANSWER.as_slice());
-}
-
-#[test]
 fn sixteen_receives_are_made_and_no_more(rt: HostRuntime) {
     let coming = after_strange(16);
     let mut link = UdpLink::new(MemoryPort::new(&coming), PEER);
@@ -51,34 +41,6 @@ fn sixteen_receives_are_made_and_no_more(rt: HostRuntime) {
     // the next ask receives the seventeenth datagram
     let answer = link.ask(&REQUEST).expect(&rt, "an answer");
     assert_eq!(rt; answer.octets(), ANSWER.as_slice());
-}
-
-#[test]
-fn a_datagram_of_another_sender_is_passed_over(rt: HostRuntime) {
-    let coming = [Coming::From(OTHER, &ANSWER), Coming::From(PEER, &ANSWER)];
-    let mut link = UdpLink::new(MemoryPort::new(&coming), PEER);
-    assert!(rt; link.ask(&REQUEST).is_ok());
-    // the port fails
-    assert_eq!(rt; link.ask(&REQUEST), Err(Lost));
-}
-
-#[test]
-fn a_datagram_that_is_too_long_is_passed_over(rt: HostRuntime) {
-    let mut long = [0; 1502];
-    for (place, octet) in long.iter_mut().zip(ANSWER.iter()) {
-        *place = *octet;
-    }
-    let coming = [Coming::From(PEER, &long), Coming::From(PEER, &ANSWER)];
-    let mut link = UdpLink::new(MemoryPort::new(&coming), PEER);
-    assert!(rt; link.ask(&REQUEST).is_ok());
-}
-
-#[test]
-fn a_wait_in_vain_is_lost(rt: HostRuntime) {
-    let coming = [Coming::Nothing, Coming::From(PEER, &ANSWER)];
-    let mut link = UdpLink::new(MemoryPort::new(&coming), PEER);
-    assert_eq!(rt; link.ask(&REQUEST), Err(Lost));
-    assert!(rt; link.ask(&REQUEST).is_ok());
 }
 
 #[test]
@@ -94,41 +56,6 @@ fn socket(rt: &(impl std::net::Net + Abort), timeout_ms: u32) -> (UdpPort, [u8; 
     let port = UdpPort::open(rt, LOOPBACK, timeout_ms).expect(rt, "a socket");
     let at = port.local().expect(rt, "an address");
     (port, at)
-}
-
-#[test]
-fn a_link_over_sockets_takes_its_answer(rt: HostRuntime) {
-    let (mut peer, at_peer) = socket(&rt, 1000);
-    let (mut stranger, _) = socket(&rt, 1000);
-    let (client, at_client) = socket(&rt, 1000);
-    for _ in 0..15 {
-        assert!(rt; peer.send(&STRANGE, at_client).is_ok());
-    }
-    assert!(rt; stranger.send(&ANSWER, at_client).is_ok());
-    for _ in 0..15 {
-        assert!(rt; peer.send(&STRANGE, at_client).is_ok());
-    }
-    assert!(rt; peer.send(&ANSWER, at_client).is_ok());
-    let mut link = UdpLink::new(client, at_peer);
-    assert_eq!(rt; link.ask(&REQUEST), Err(Lost));
-    let answer = link.ask(&REQUEST).expect(&rt, "an answer");
-    assert_eq!(rt; answer.octets(), ANSWER.as_slice());
-    // the request came to the peer
-    let Heard { from, datagram } = peer.receive().expect(&rt, "a datagram");
-    assert_eq!(rt; from, at_client);
-    assert_eq!(rt; datagram.expect(&rt, "short").octets(), REQUEST.as_slice());
-}
-
-#[test]
-fn a_socket_waits_no_longer_than_it_may(rt: HostRuntime) {
-    let (mut port, _) = socket(&rt, 20);
-    assert!(rt; matches!(port.receive(), Err(SocketFault::Timeout)));
-}
-
-#[test]
-fn an_address_in_use_is_refused(rt: HostRuntime) {
-    let (_port, at) = socket(&rt, 20);
-    assert!(rt; matches!(UdpPort::open(&rt, at, 20), Err(SocketFault::Failed)));
 }
 
 #[test]

@@ -1,9 +1,10 @@
-//! A device that is served, over a port in memory and over sockets of this machine.
+//! A device that is served over a port in memory. Over sockets, and with the machine's clock, it is
+//! served by examples/edges.sh.
 
 use crate::memory_port::{Coming, MemoryPort, MovingClock, NoClock};
 use bac_device::{Device, DeviceLine, Name, ObjectLine};
-use bac_ports::{Heard, Port, SocketFault, UdpPort};
-use bac_serve::{Clock, SystemClock, idle_wait, serve, serve_one};
+use bac_ports::SocketFault;
+use bac_serve::{idle_wait, serve, serve_one};
 use bac_wire::{ObjectId, Stamp};
 use std::alloc::Global;
 use std::test::Fail;
@@ -250,39 +251,5 @@ fn a_log_with_an_interval_is_waited_for(rt: HostRuntime) -> Result<(), Fail> {
     assert_eq!(rt; idle_wait(&lines(rt.alloc(), 100)?), 200);
     assert_eq!(rt; idle_wait(&lines(rt.alloc(), 0)?), 0);
     assert_eq!(rt; idle_wait(&[]), 0);
-    Ok(())
-}
-
-#[test]
-fn the_machine_has_a_clock(rt: HostRuntime) -> Result<(), Fail> {
-    let mut clock = SystemClock::new(rt.clone()?);
-    let first = clock.now().ok_or("no time")?;
-    let second = clock.now().ok_or("no time")?;
-    assert!(rt; first.ticks() <= second.ticks());
-    Ok(())
-}
-
-#[test]
-fn a_device_is_served_over_sockets(rt: HostRuntime) -> Result<(), Fail> {
-    let mut device = device(rt.alloc(), 100)?;
-    let mut server = UdpPort::open(&rt, [127, 0, 0, 1, 0, 0], 1000).expect(&rt, "a socket");
-    let at_server = server.local().ok_or("no address")?;
-    let mut client = UdpPort::open(&rt, [127, 0, 0, 1, 0, 0], 1000).expect(&rt, "a socket");
-    assert!(rt; client.send(&[0x81; 1502], at_server).is_ok());
-    // a forged address: no host, port 0
-    let mut forged = FORWARDED;
-    forged[8] = 0;
-    forged[9] = 0;
-    assert!(rt; client.send(&forged, at_server).is_ok());
-    assert!(rt; client.send(&WHO_IS, at_server).is_ok());
-    let mut clock = MovingClock {
-        hundredths: 0,
-        step: 100,
-    };
-    assert_eq!(rt; serve(&mut server, &mut device, &mut clock, 3), Ok(()));
-    let Heard { from, datagram } = client.receive().expect(&rt, "a reply");
-    assert_eq!(rt; from, at_server);
-    assert_eq!(rt; datagram.ok_or("too long")?.octets(), I_AM.as_slice());
-    assert_eq!(rt; records(&device), Some(3));
     Ok(())
 }

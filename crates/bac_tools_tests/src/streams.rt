@@ -1,10 +1,18 @@
 //! Scripts whose reader or writer fails, is interrupted, or gives and takes single octets.
 
-use crate::replay::{DEVICE, I_AM, NONE, WHO_IS};
 use bac_script::{ReplayFault, run_replay, run_replay_buffered};
 use std::io::{self, BufWriter, Read, Write};
 use std::process::Abort;
 use std::test::Fail;
+
+const DEVICE: &[u8] = b"device 123 plant 0 1476 2024-05-06T07:08:09.10\n";
+
+/// Who-Is, and the I-Am that answers it.
+const WHO_IS: &[u8] = b"rx 810b000c0120ffff00ff1008\n";
+
+const I_AM: &[u8] = b"tx 810a001401001000c40200007b2205c491032100\n";
+
+const NONE: &[u8] = b"none\n";
 
 /// A reader over memory that refuses the read after so many.
 #[derive(Drop)]

@@ -304,6 +304,7 @@ of_batch puts sink left was is retries old new before mid b None most some run p
       omega (arith, length-calls b.gap b.entries.items),
       gaps-one b.gap b.entries.items,
       subst P (sym (items-calls b.gap b.entries.items some)) run,
+      λ e. omega (arith, some, length-calls b.gap b.entries.items),
     )
 of_batch puts sink left was is retries old new before mid b (Some n) most some run put =
     let c = put_up_to puts sink b.gap b.entries.items n left put in
@@ -325,6 +326,7 @@ of_batch puts sink left was is retries old new before mid b (Some n) most some r
       omega (arith, length-calls b.gap (c.before ++ c.last ∷ []), ap length c.is, length-append c.before (c.last ∷ c.after), length-append c.before (c.last ∷ [])),
       gaps-one b.gap (c.before ++ c.last ∷ []),
       subst R (sym cut) (subst Q c.shown (run_of_cut was is retries old new c.last.number c.last.entry before mid pre post (subst P whole run))),
+      λ e. absurd (cc),
     )
 
 -- a step and what was made of it
@@ -336,12 +338,12 @@ handed puts sink left was is retries old new before mid after (Err e) ended step
     let run = run_of_step was is retries old new before mid (Err e) step in
     let P : Place → Type 0 = λ w. IsRun was is retries old new before w 1 (Fault e) [] in
     let Q : Ended → Type 0 = λ x. Delivery puts sink left was is retries old new before after 1 x in
-    subst Q (sym put.2) ([], (put.0, refl), omega arith, omega arith, subst P (sym put.1) run)
+    subst Q (sym put.2) ([], (put.0, refl), omega arith, omega arith, subst P (sym put.1) run, λ e. absurd (cc))
 handed puts sink left was is retries old new before mid after (Ok NoStep) ended step put =
     let run = run_of_step was is retries old new before mid (Ok NoStep) step in
     let P : Place → Type 0 = λ w. IsRun was is retries old new before w 1 CaughtUp [] in
     let Q : Ended → Type 0 = λ x. Delivery puts sink left was is retries old new before after 1 x in
-    subst Q (sym put.2) ([], (put.0, refl), omega arith, omega arith, subst P (sym put.1) run)
+    subst Q (sym put.2) ([], (put.0, refl), omega arith, omega arith, subst P (sym put.1) run, λ e. absurd (cc))
 handed puts sink left was is retries old new before mid after (Ok (StepOf b)) ended step put =
     let run = run_of_step was is retries old new before mid (Ok (StepOf b)) step in
     let done = of_batch puts sink left was is retries old new before mid b put.0 b.most b.some run put.1 in

@@ -27,3 +27,12 @@ kept_all room items old (c ∷ calls) stopped new takes fits =
                 ∙ ap (λ l. items old ++ l) (append_assoc (gap_items c.gap) (item_of c.record_put ∷ []) (put_items calls)),
           )
     ]
+
+gap_count : (gap : Option GapOf) → length (gap_items gap) ≡ gaps_in gap
+gap_count None = omega arith
+gap_count (Some g) = omega arith
+
+-- an item for each record, and one for each gap
+pub put_length : (calls : List Call) → length (put_items calls) ≡ length calls + gaps calls
+put_length [] = omega arith
+put_length (c ∷ calls) = omega (arith, length-append (gap_items c.gap) (item_of c.record_put ∷ put_items calls), gap_count c.gap, put_length calls)

@@ -25,3 +25,4 @@ pub mod Headline
 pub mod Handed
 pub mod Runs
 pub mod Keeps
+pub mod Told

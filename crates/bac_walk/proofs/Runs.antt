@@ -15,7 +15,7 @@ use Rattle.bac_link.specs.Laws.{after_answers}
 use Rattle.bac_walk.specs.Near.{StaysNear}
 use Rattle.bac_walk.specs.Walks.{gap_items, item_of}
 use Rattle.bac_walk.specs.Delivers.{end_of}
-use Rattle.bac_walk.specs.Collects.{start_of}
+use Rattle.bac_walk.specs.Collects.{start_of, Collected}
 use Rattle.bac_walk.specs.Sinks.{Call, put_items, gaps, Takes, is_stopped, IsRun, Delivery}
 use Rattle.bac_walk.proofs.Joins.{join, fresh_join, no_steps, ended_early, after_answers-add}
 use Rattle.bac_walk.proofs.Goes.{join_goes, stays_goes}
@@ -80,7 +80,7 @@ gaps-append (x ∷ xs) ys = omega (arith, gaps-append xs ys)
 
 pub no_delivery : {S : Type 0} (puts : S → Option GapOf → Numbered → Bool → S → Type 0) (sink : S) (was : ℕ → List Moment → History → Type 0)
     (retries old : ℕ) (w : Place) → Delivery puts sink sink was was retries old old w w 0 StepLimit
-no_delivery puts sink was retries old w = ([], (refl, refl), omega arith, omega arith, no_run was retries old w)
+no_delivery puts sink was retries old w = ([], (refl, refl), omega arith, omega arith, no_run was retries old w, λ e. omega arith)
 
 pub join_delivers : {S : Type 0} (puts : S → Option GapOf → Numbered → Bool → S → Type 0) (sink held left : S) (was mid is : ℕ → List Moment → History → Type 0)
     (retries old half new : ℕ) (before middle after : Place) (i : ℕ) (ended : Ended) →
@@ -93,13 +93,20 @@ join_delivers puts sink held left was mid is retries old half new before middle 
       omega (arith, length-append first.0 rest.0, first.2, rest.2),
       omega (arith, gaps-append first.0 rest.0, first.3, rest.3),
       subst P (sym (put_items-append first.0 rest.0)) (join_run was mid is retries old half new before middle after i ended (put_items first.0) (put_items rest.0) first.4 rest.4 up),
+      λ e. omega (arith, length-append first.0 rest.0, first.5 refl, rest.5 e),
     )
 
 pub delivers_early : {S : Type 0} (puts : S → Option GapOf → Numbered → Bool → S → Type 0) (sink left : S) (was is : ℕ → List Moment → History → Type 0)
     (retries old new : ℕ) (before after : Place) (i n : ℕ) (ended : Ended) → ended ≢ StepLimit → i ≤ n →
     Delivery puts sink left was is retries old new before after i ended → Delivery puts sink left was is retries old new before after n ended
-delivers_early puts sink left was is retries old new before after i n ended not_limit le run =
-    (run.0, run.1, omega (arith, run.2), omega (arith, run.3), run_early was is retries old new before after i n ended (put_items run.0) not_limit le run.4)
+delivers_early puts sink left was is retries old new before after i n ended not_limit le run = (
+  run.0,
+  run.1,
+  omega (arith, run.2),
+  omega (arith, run.3),
+  run_early was is retries old new before after i n ended (put_items run.0) not_limit le run.4,
+  λ e. absurd (not_limit e),
+)
 
 -- a step that ends a run, and one that doesn't
 pub ends_run : (ended : Ended) (why : Why) (steps : ℕ) → is_stopped ended ≡ false → why_of ended ≡ Some why → IsRunOf why steps steps ended
@@ -120,6 +127,12 @@ not_limit StepLimit why is = absurd (cc)
 not_limit Stopped why is = λ e. cc
 not_limit (Fault f) why is = λ e. cc
 
+pub why_limit : (ended : Ended) → why_of ended ≡ Some WasLimit → ⊥
+why_limit CaughtUp is = absurd (cc)
+why_limit StepLimit is = absurd (cc)
+why_limit Stopped is = absurd (cc)
+why_limit (Fault e) is = absurd (cc)
+
 pub goes_on : (ended : Ended) → why_of ended ≡ None → ended ≡ StepLimit
 goes_on CaughtUp is = absurd (cc)
 goes_on StepLimit is = refl
@@ -133,9 +146,17 @@ not_stopped Stopped on = absurd (cc)
 not_stopped (Fault f) on = λ e. cc
 
 -- what a run over an honest link delivers
-start_old : (fresh : Bool) (s : ℕ) (M : List Moment) (answers : List (List Item)) → fresh ≡ false → start_of fresh s M answers ≡ s
+pub start_old : (fresh : Bool) (s : ℕ) (M : List Moment) (answers : List (List Item)) → fresh ≡ false → start_of fresh s M answers ≡ s
 start_old true s M answers old = absurd (cc)
 start_old false s M answers old = refl
+
+pub collected_delivers : (r : ℕ) (H : History) (M : List Moment) (fresh : Bool) (s steps retries old new : ℕ) (items : List Item) (t : ℕ) (ended : Ended) (answers : List (List Item)) →
+    Collected r H M fresh s steps retries old new items t ended answers → DeliversTo H (start_of fresh s M answers) items t M (length answers)
+collected_delivers r H M fresh s steps retries old new items t ended answers run =
+    let b = start_of fresh s M answers in
+    let end : end_of b (items_of answers) ≡ t = ap (λ l. end_of b l) run.all ∙ Covers-end b t items run.covers in
+    let P : ℕ → Type 0 = λ u. Leads H M b answers u in
+    (answers, refl, run.all, subst P end (leads H M b answers run.each))
 
 pub headline_of : (was is : ℕ → List Moment → History → Type 0) (retries old new : ℕ) (before after : Place) (n : ℕ) (ended : Ended) (items : List Item) →
     IsRun was is retries old new before after n ended items → (r : ℕ) (M : List Moment) (H : History) (s : ℕ) → was r M H → before.next ≡ number s →
@@ -143,6 +164,4 @@ pub headline_of : (was is : ℕ → List Moment → History → Type 0) (retries
 headline_of was is retries old new before after n ended items run r M H s honest next near =
     let c = run.1 r M H s honest next near in
     let b = start_of before.fresh s M c.0 in
-    let end : end_of b (items_of c.0) ≡ c.1 = ap (λ l. end_of b l) c.3.all ∙ Covers-end b c.1 items c.3.covers in
-    let P : ℕ → Type 0 = λ u. Leads H M b c.0 u in
-    (b, length c.0, c.1, start_old before.fresh s M c.0, c.2, (c.0, refl, c.3.all, subst P end (leads H M b c.0 c.3.each)), c.4)
+    (b, length c.0, c.1, start_old before.fresh s M c.0, c.2, collected_delivers r H M before.fresh s n retries old new items c.1 ended c.0 c.3, c.4)

@@ -17,3 +17,4 @@ pub mod Rests
 pub mod Sinks
 pub mod Handing
 pub mod Kept
+pub mod Told

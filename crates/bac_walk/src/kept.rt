@@ -11,6 +11,7 @@ ghost use Rattle.bac_walk.specs.Sinks.{IsRun};
 ghost use Rattle.bac_walk.specs.Kept.{IsKept};
 ghost use Rattle.bac_walk.specs.Outcomes.{IsRunOf};
 ghost use Rattle.bac_walk.specs.Rests.{rest, Rests, Misses};
+ghost use Rattle.bac_walk.specs.Told.{Told, ended_of};
 
 use crate::batch::{Gap, Numbered};
 use crate::outcome::{Ended, Outcome, Why};
@@ -67,7 +68,16 @@ pub fn collect<L: LogLink>(
     ensures oldest { walk.new.fresh ≡ true → result.next ≡ 1 }
     ensures log { walk.new.log ≡ walk.old.log }
     ensures begun { transactions.new.begun ≤ transactions.old.begun + 2 * steps }
+    ensures retries { transactions.new.retries ≡ transactions.old.retries }
     ensures route { transactions.new.route ≡ transactions.old.route }
+    ensures never_falls { L.failures link.old ≤ L.failures link.new }
+    // Without steps nothing happens.
+    ensures none { steps ≡ 0 → (result.why ≡ Why.StepLimit) × (result.items.items ≡ []) × (walk.new ≡ walk.old)
+        × (link.new ≡ link.old) × (transactions.new ≡ transactions.old) }
+    // Over any link, so many steps brought a record each at least, or the last exchange told the
+    // fault, or that there is no more.
+    ensures limit { result.why ≡ Why.StepLimit → steps ≤ length result.items.items }
+    ensures told { Told L.asks (towards transactions.old.route) transactions.old.retries (ended_of result.why) walk.new link.new }
     // Over an honest link it delivers the records from its number on that the log holds when each is
     // reached, each once, in rising order, with one exact gap for what is gone. The number is that of
     // ordinal s, and wherever the walk comes it is less than half of the count away from the oldest
@@ -77,11 +87,12 @@ pub fn collect<L: LogLink>(
         StaysNear r H M walk.old.fresh s steps →
         (b : ℕ) × (a : ℕ) × (t : ℕ) × (walk.old.fresh ≡ false → b ≡ s) × (walk.new.next ≡ number t)
         × DeliversTo H b result.items.items t M a × L.is_honest link.new walk.old.log r (after_answers a M) H }
-    // It is a run of so many steps, or of fewer that had no memory for the next: over any link, and
-    // over an honest one with all that its answers brought and how it ended.
+    // It is a run of so many steps, or of fewer that had no memory for the next, of which nothing was
+    // asked: over any link, and over an honest one with all that its answers brought and how it ended.
     ensures delivers { (n : ℕ) × (ended : EndedOf) × IsRunOf result.why steps n ended
         × IsRun (λ r M H. L.is_honest link.old walk.old.log r M H) (λ r M H. L.is_honest link.new walk.old.log r M H)
-        transactions.old.retries (L.failures link.old) (L.failures link.new) walk.old walk.new n ended result.items.items }
+        transactions.old.retries (L.failures link.old) (L.failures link.new) walk.old walk.new n ended result.items.items
+        × (length result.items.items ≤ 101 * n) × (transactions.new.begun ≤ transactions.old.begun + 2 * n) }
     // Over a link that loses nothing, of a log that doesn't change, or that the link lacks.
     ensures resting { (r : ℕ) (m : Moment) (H : History) (s : ℕ) →
         L.is_sure link.old (towards transactions.old.route) → L.is_honest link.old walk.old.log r (m ∷ []) H → walk.old.next ≡ number s →
@@ -89,6 +100,8 @@ pub fn collect<L: LogLink>(
         Rests (rest r H m walk.old.fresh s steps) steps result.items.items result.next result.why }
     ensures missing { L.lacks link.old walk.old.log → L.is_sure link.old (towards transactions.old.route) →
         Misses steps walk.old.next result.items.items result.next result.why }
+    ensures lacking { L.lacks link.old walk.old.log → L.lacks link.new walk.old.log }
+    ensures sure { L.is_sure link.old (towards transactions.old.route) → L.is_sure link.new (towards transactions.new.route) }
     // Asking over such a link changes nothing.
     ensures kept { L.is_sure link.old (towards transactions.old.route) → L.keeps link.old link.new }
 {

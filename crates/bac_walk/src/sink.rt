@@ -7,11 +7,12 @@ ghost use Rattle.bac_link.specs.Path.{towards};
 ghost use Rattle.bac_walk.specs.declared.batch.Gap.{Gap as GapOf};
 ghost use Rattle.bac_walk.specs.declared.batch.Numbered.{Numbered as NumberedOf};
 ghost use Rattle.bac_walk.specs.Near.{StaysNear};
-ghost use Rattle.bac_walk.specs.Sinks.{PutAll, Delivery};
+ghost use Rattle.bac_walk.specs.Sinks.{Call, PutAll, Delivery, IsDelivered, Takes, is_stopped, put_items};
 ghost use Rattle.bac_walk.specs.Handing.{HandedOn};
 ghost use Rattle.bac_walk.specs.Replied.{step_of};
 ghost use Rattle.bac_walk.specs.Spelled.{IsWhole, records_from};
 ghost use Rattle.bac_walk.specs.Collects.{FoundEnd, MissingEnd};
+ghost use Rattle.bac_walk.specs.Told.{Told};
 
 use crate::batch::{Gap, Numbered};
 use crate::outcome::{Ended, WalkFault};
@@ -47,6 +48,17 @@ pub fn deliver<L: LogLink, S: Sink>(
     ensures route { transactions.new.route ≡ transactions.old.route }
     ensures begun { transactions.new.begun ≤ transactions.old.begun + 2 * steps }
     ensures log { walk.new.log ≡ walk.old.log }
+    // Without steps nothing happens.
+    ensures none { steps ≡ 0 → (result ≡ Ended.StepLimit) × (sink.new ≡ sink.old) × (walk.new ≡ walk.old)
+        × (link.new ≡ link.old) × (transactions.new ≡ transactions.old) }
+    // Over any link, the last exchange told the fault, or that there is no more.
+    ensures told { Told L.asks (towards transactions.old.route) transactions.old.retries result walk.new link.new }
+    // Over an honest link it delivers the records from its number on that the log holds when each is
+    // reached, each once, in rising order, with one exact gap for what is gone.
+    ensures headline { (calls : List Call) × Takes S.puts sink.old calls (is_stopped result) sink.new
+        × IsDelivered (λ r M H. L.is_honest link.old walk.old.log r M H) (λ r M H. L.is_honest link.new walk.old.log r M H)
+        walk.old walk.new steps (put_items calls) }
+    // It is a run of so many steps, with all that its answers brought and how it ended.
     ensures delivers { Delivery S.puts sink.old sink.new
         (λ r M H. L.is_honest link.old walk.old.log r M H) (λ r M H. L.is_honest link.new walk.old.log r M H)
         transactions.old.retries (L.failures link.old) (L.failures link.new) walk.old walk.new steps result }
@@ -82,6 +94,7 @@ fn deliver_step<L: LogLink, S: Sink>(
     ensures route { transactions.new.route ≡ transactions.old.route }
     ensures begun { transactions.new.begun ≤ transactions.old.begun + 2 }
     ensures log { walk.new.log ≡ walk.old.log }
+    ensures told { Told L.asks (towards transactions.old.route) transactions.old.retries result walk.new link.new }
     ensures delivers { Delivery S.puts sink.old sink.new
         (λ r M H. L.is_honest link.old walk.old.log r M H) (λ r M H. L.is_honest link.new walk.old.log r M H)
         transactions.old.retries (L.failures link.old) (L.failures link.new) walk.old walk.new 1 result }

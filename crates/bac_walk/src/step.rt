@@ -2,7 +2,7 @@
 ghost use Rattle.std.specs.Prelude.{[], ◌∷◌, ℕ, ◌≡◌, ◌+◌, ◌≤◌, List, length, true, false, OnErr};
 ghost use Rattle.bac_link.specs.declared.item.Item.{Item};
 ghost use Rattle.bac_walk.specs.Collects.{FoundTurn, FoundStep, MissingTurn, MissingStep, Goes, turn_items, asks_next, finished, Collected, step_items, step_ended, is_fresh_after};
-ghost use Rattle.bac_link.specs.Delivery.{History, Moment, now};
+ghost use Rattle.bac_link.specs.Delivery.{History, Moment, DeliversTo, now};
 ghost use Rattle.bac_link.specs.Path.{towards};
 ghost use Rattle.bac_link.specs.Laws.{after_answers};
 ghost use Rattle.bac_walk.specs.Near.{IsNear, IsNearStep};
@@ -11,6 +11,7 @@ ghost use Rattle.bac_walk.specs.Rests.{rest, IsRest};
 ghost use Rattle.bac_log.specs.TrendLog.{number};
 ghost use Rattle.bac_walk.specs.Replied.{IsSame, heard_in, progress_of, step_of};
 ghost use Rattle.bac_walk.specs.Spelled.{data_held, records_from};
+ghost use Rattle.bac_walk.specs.Told.{Told, ToldTurn};
 ghost use Rattle.bac_walk.specs.Walks.{IsTakenFrom};
 
 use crate::batch::Batch;
@@ -60,6 +61,7 @@ impl Walk {
             L.is_sure link.old (towards transactions.old.route) → L.is_honest link.old self.old.log r M H → FoundTurn (progress_of result) }
         ensures lacking { L.lacks link.old self.old.log →
             MissingTurn (progress_of result) × L.lacks link.new self.old.log × (L.is_sure link.old (towards transactions.old.route) → FoundTurn (progress_of result)) }
+        ensures told { ToldTurn L.asks (towards transactions.old.route) transactions.old.retries self.old (progress_of result) self.new link.new }
         ensures goes { (s : ℕ) → Goes self.old.fresh self.old.next s (turn_items (progress_of result)) self.new.fresh self.new.next }
         ensures honest { (r : ℕ) (M : List Moment) (H : History) (s : ℕ) →
             L.is_honest link.old self.old.log r M H → self.old.next ≡ number s → (self.old.fresh ≡ false → IsNear s (now M)) →
@@ -106,8 +108,15 @@ impl Walk {
         // A device without the log says so.
         ensures lacking { L.lacks link.old self.old.log → MissingStep result × L.lacks link.new self.old.log }
         ensures refused { L.lacks link.old self.old.log → L.is_sure link.old (towards transactions.old.route) → FoundStep result }
-        // Over any link, the items cover all from the walk's number up to the new one.
+        // Over any link, the last exchange told why no batch came, and the items cover all from the
+        // walk's number up to the new one.
+        ensures told { Told L.asks (towards transactions.old.route) transactions.old.retries (step_ended result) self.new link.new }
         ensures goes { (s : ℕ) → Goes self.old.fresh self.old.next s (step_items result) self.new.fresh self.new.next }
+        // Over an honest link it delivers the next records that the log holds, with the gap before them.
+        ensures headline { (r : ℕ) (M : List Moment) (H : History) (s : ℕ) →
+            L.is_honest link.old self.old.log r M H → self.old.next ≡ number s → (self.old.fresh ≡ false → IsNearStep s M) →
+            (b : ℕ) × (a : ℕ) × (t : ℕ) × (self.old.fresh ≡ false → b ≡ s) × (self.new.next ≡ number t)
+            × DeliversTo H b (step_items result) t M a × L.is_honest link.new self.old.log r (after_answers a M) H }
         // The walk is at ordinal s before the step, near its log, and at t after it.
         ensures honest { (r : ℕ) (M : List Moment) (H : History) (s : ℕ) →
             L.is_honest link.old self.old.log r M H → self.old.next ≡ number s → (self.old.fresh ≡ false → IsNearStep s M) →
@@ -140,6 +149,7 @@ impl Walk {
             (self.old.fresh ≡ false → IsNearStep s M) → FoundStep (step_of result) }
         ensures lacking { L.lacks link.old self.old.log → MissingStep (step_of result) × L.lacks link.new self.old.log }
         ensures refused { L.lacks link.old self.old.log → L.is_sure link.old (towards transactions.old.route) → FoundStep (step_of result) }
+        ensures told { Told L.asks (towards transactions.old.route) transactions.old.retries (step_ended (step_of result)) self.new link.new }
         ensures goes { (s : ℕ) → Goes self.old.fresh self.old.next s (step_items (step_of result)) self.new.fresh self.new.next }
         ensures honest { (r : ℕ) (M : List Moment) (H : History) (s : ℕ) →
             L.is_honest link.old self.old.log r M H → self.old.next ≡ number s → (self.old.fresh ≡ false → IsNearStep s M) →

@@ -6,7 +6,7 @@ use Rattle.clap.specs.Words.{App, Rule, Text, app_of, new_app, new_rule, with_ru
 use Rattle.clap.specs.declared.builder.command.Command.{Command}
 use Rattle.clap.specs.declared.builder.command.Command.TheViews.{out-Command}
 use Rattle.bac_words.specs.declared.word.Word.{Word}
-use Rattle.bac_words.specs.declared.word.Word.TheVariants.{Address, ObjectType, Instance, Property, Priority, Tag, From, Index, Value, Min, Max, Steps, Count, Local, Timeout, Retries}
+use Rattle.bac_words.specs.declared.word.Word.TheVariants.{Address, ObjectType, Instance, Property, Priority, Tag, From, Index, Value, Min, Max, Steps, Count, Local, Timeout, Retries, Dnet, Dadr}
 use Rattle.bac_words.specs.Names.{name_of}
 
 -- NAME, a word that has to be there
@@ -29,9 +29,13 @@ option_or w default = record (option w) { defaults = default ∷ [] }
 abbrev pub timeout_rules : List Rule
 timeout_rules = option_or Timeout (codes "3000") ∷ option Local ∷ []
 
--- the same and [--retries=N]
+-- [--dnet=N] [--dadr=HEX]: a device behind a router
+abbrev pub route_rules : List Rule
+route_rules = option Dnet ∷ option Dadr ∷ []
+
+-- those of a wait, [--retries=N] and those of a route
 abbrev pub asking_rules : List Rule
-asking_rules = timeout_rules ++ option_or Retries (codes "3") ∷ []
+asking_rules = timeout_rules ++ option_or Retries (codes "3") ∷ route_rules
 
 -- ADDRESS TYPE INSTANCE PROPERTY
 abbrev pub property_rules : List Rule
@@ -46,9 +50,9 @@ with_rules a (r ∷ rs) = with_rules (with_rule a r) rs
 abbrev pub replay_app : App
 replay_app = new_app (codes "replay")
 
--- bac wi ADDRESS.. [--min=N] [--max=N]
+-- bac wi ADDRESS.. [--min=N] [--max=N] [--dnet=N]
 abbrev pub wi_app : App
-wi_app = with_rules (new_app (codes "wi")) (needed_list Address ∷ option Min ∷ option Max ∷ timeout_rules)
+wi_app = with_rules (new_app (codes "wi")) (needed_list Address ∷ option Min ∷ option Max ∷ option Dnet ∷ timeout_rules)
 
 -- bac rp ADDRESS TYPE INSTANCE PROPERTY [--index=N]
 abbrev pub rp_app : App

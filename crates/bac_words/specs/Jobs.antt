@@ -4,13 +4,13 @@ use Rattle.std.specs.Option.{ok_or}
 use Rattle.std.specs.Str.{bytes_eq}
 use Rattle.clap.specs.Words.{Row, Text}
 use Rattle.bac_words.specs.declared.word.Word.{Word}
-use Rattle.bac_words.specs.declared.word.Word.TheVariants.{Tool, ObjectType, Instance, Property, Priority, Tag, From, Index, Value, Min, Max, Steps, Count, Timeout, Retries}
+use Rattle.bac_words.specs.declared.word.Word.TheVariants.{Tool, ObjectType, Instance, Property, Priority, Tag, From, Index, Value, Min, Max, Steps, Count, Timeout, Retries, Dnet}
 use Rattle.bac_words.specs.declared.job.Job.{Job}
 use Rattle.bac_words.specs.declared.job.Job.TheVariants.{Replay, Wi, Rp, Wp, Log, Serve}
 use Rattle.bac_words.specs.declared.job.Asked.{Asked}
 use Rattle.bac_words.specs.declared.job.Given.{Given}
 use Rattle.bac_words.specs.Numbers.{number_in}
-use Rattle.bac_words.specs.Rows.{text_at, number_at, maybe_number_at, address_at, local_at, addresses_at}
+use Rattle.bac_words.specs.Rows.{text_at, number_at, maybe_number_at, address_at, local_at, addresses_at, route_at}
 use Rattle.bac_words.specs.Given.{is_tag, given_in}
 use Rattle.bac_words.specs.Steps.{◌>>=◌}
 
@@ -21,7 +21,8 @@ asked_at rows = do
   local ← local_at rows
   timeout ← number_at Timeout 1 60000 rows
   retries ← number_at Retries 0 10 rows
-  Ok (record { address = address; local = local; timeout = timeout; retries = retries })
+  route ← route_at rows
+  Ok (record { address = address; local = local; timeout = timeout; retries = retries; route = route })
 
 -- --max goes with --min only
 abbrev pub max_beside : Option ℕ → Option ℕ → Result (Option ℕ) Word
@@ -35,9 +36,10 @@ wi_at rows = do
   min ← maybe_number_at Min 0 4194303 rows
   highest ← maybe_number_at Max 0 4194303 rows
   max ← max_beside min highest
+  dnet ← maybe_number_at Dnet 1 65535 rows
   local ← local_at rows
   timeout ← number_at Timeout 1 60000 rows
-  Ok (Wi addresses min max local timeout)
+  Ok (Wi addresses min max dnet local timeout)
 
 -- bac rp
 unfoldable pub rp_at : List Row → Result Job Word

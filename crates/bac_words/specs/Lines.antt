@@ -1,5 +1,5 @@
 -- Lines that are worked out: what they come to, by the definitions alone.
-use Rattle.std.specs.Prelude.{◌≡◌, ◌==◌, ℕ, if◌then◌else◌, List, [], ◌∷◌, None, Result}
+use Rattle.std.specs.Prelude.{◌≡◌, ◌==◌, ℕ, if◌then◌else◌, List, [], ◌∷◌, None, Some, Result}
 use Rattle.clap.specs.Words.{Text, Kinds}
 use Rattle.bac_words.specs.declared.word.Word.{Word}
 use Rattle.bac_words.specs.declared.job.Job.{Job}
@@ -28,6 +28,10 @@ Mistakes line kinds = mistakes_of (words_of line) ≡ kinds
 abbrev pub station : List ℕ
 station = 10 ∷ 0 ∷ 0 ∷ 1 ∷ 186 ∷ 192 ∷ []
 
--- any address of our own, 3 seconds, 3 retries
+-- any address of our own, 3 seconds, 3 retries, no router
 abbrev pub by_default : Asked
-by_default = record { address = station; local = None; timeout = 3000; retries = 3 }
+by_default = record { address = station; local = None; timeout = 3000; retries = 3; route = None }
+
+-- the same with a place behind that station
+abbrev pub by_way : ℕ → List ℕ → Asked
+by_way net mac = record by_default { route = Some (record { net = net; address = mac }) }

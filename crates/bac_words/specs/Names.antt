@@ -2,7 +2,7 @@
 use Rattle.std.specs.Prelude.{codes}
 use Rattle.clap.specs.Words.{Text}
 use Rattle.bac_words.specs.declared.word.Word.{Word}
-use Rattle.bac_words.specs.declared.word.Word.TheVariants.{Tool, Address, ObjectType, Instance, Property, Priority, Tag, From, Index, Value, Min, Max, Steps, Count, Local, Timeout, Retries}
+use Rattle.bac_words.specs.declared.word.Word.TheVariants.{Tool, Address, ObjectType, Instance, Property, Priority, Tag, From, Index, Value, Min, Max, Steps, Count, Local, Timeout, Retries, Dnet, Dadr}
 
 -- a word's name in the help; an option's, without its --
 abbrev pub name_of : Word → Text
@@ -23,3 +23,5 @@ name_of Count = codes "count"
 name_of Local = codes "local"
 name_of Timeout = codes "timeout"
 name_of Retries = codes "retries"
+name_of Dnet = codes "dnet"
+name_of Dadr = codes "dadr"

@@ -1,9 +1,12 @@
 -- What the rows of a tool's matches say of a word or an option.
-use Rattle.std.specs.Prelude.{ℕ, List, [], ◌∷◌, Option, None, Some, Result, Ok, option_and_then, unwrap_or}
+use Rattle.std.specs.Prelude.{ℕ, List, [], ◌∷◌, length, nat_le, ◌&&◌, if◌then◌else◌, Option, None, Some, Result, Ok, Err, option_and_then, unwrap_or}
 use Rattle.std.specs.Option.{ok_or}
+use Rattle.std.specs.Result.{result_ok}
+use Rattle.hex.specs.Hex.{decode_of}
+use Rattle.bac_apdu.specs.Npdu.{Place}
 use Rattle.clap.specs.Words.{Row, Text, first_of, all_of}
 use Rattle.bac_words.specs.declared.word.Word.{Word}
-use Rattle.bac_words.specs.declared.word.Word.TheVariants.{Address, Local}
+use Rattle.bac_words.specs.declared.word.Word.TheVariants.{Address, Local, Dnet, Dadr}
 use Rattle.bac_words.specs.Names.{name_of}
 use Rattle.bac_words.specs.Numbers.{number_in}
 use Rattle.bac_words.specs.Addresses.{address_in}
@@ -45,3 +48,21 @@ addresses_in (text ∷ texts) = do
 -- the addresses of a list of them
 abbrev pub addresses_at : List Row → Result (List (List ℕ)) Word
 addresses_at rows = addresses_in (unwrap_or (all_of (name_of Address) rows) [])
+
+-- an address on a network behind a router: 1 to 15 octets, in two hexadecimal digits each
+unfoldable pub mac_in : List ℕ → Option (List ℕ)
+mac_in word = if nat_le 2 (length word) && nat_le (length word) 30 then result_ok (decode_of word) else None
+
+-- A place behind a router has both, its network from 1 to 65534; one alone lacks the other.
+unfoldable pub route_in : Option Text → Option Text → Result (Option Place) Word
+route_in None None = Ok None
+route_in (Some net) None = Err Dadr
+route_in None (Some address) = Err Dnet
+route_in (Some net) (Some address) = do
+  n ← ok_or (number_in 1 65534 net) Dnet
+  mac ← ok_or (mac_in address) Dadr
+  Ok (Some (record { net = n; address = mac }))
+
+-- the place behind a router that is asked, where there is one
+abbrev pub route_at : List Row → Result (Option Place) Word
+route_at rows = route_in (text_at Dnet rows) (text_at Dadr rows)

@@ -3,7 +3,7 @@
 ghost use Rattle.std.specs.Prelude.{◌≡◌, ◌++◌, ◌∷◌, [], IfOk, false, codes};
 ghost use Rattle.clap.specs.declared.builder.command.Command.TheViews.{out-Command};
 ghost use Rattle.clap.specs.Words.{rule_of, new_app};
-ghost use Rattle.bac_words.specs.Commands.{needed, needed_list, option, option_or, timeout_rules, asking_rules, property_rules, wi_app, rp_app, wp_app, log_app, serve_app, bac_app, top_app, IsCommand, Extends, AddsTool};
+ghost use Rattle.bac_words.specs.Commands.{needed, needed_list, option, option_or, timeout_rules, route_rules, asking_rules, property_rules, wi_app, rp_app, wp_app, log_app, serve_app, bac_app, top_app, IsCommand, Extends, AddsTool};
 
 use crate::word::Word;
 use clap::{Arg, Command};
@@ -77,12 +77,23 @@ fn with_timeout<'a>(alloc: Global, command: Command<'a>) -> Result<Command<'a>, 
     with(command, option(alloc, Word::Local, "ADDRESS", help))
 }
 
+fn with_route<'a>(alloc: Global, command: Command<'a>) -> Result<Command<'a>, AllocError>
+    ensures { IfOk result (Extends command.entry route_rules) }
+{
+    let help = "The network of a device behind a router: 1 to 65534, with --dadr";
+    let command = with(command, option(alloc, Word::Dnet, "N", help))?;
+    let help =
+        "The device's address there: 2 to 30 hexadecimal digits, an even number, with --dnet";
+    with(command, option(alloc, Word::Dadr, "HEX", help))
+}
+
 fn with_asking<'a>(alloc: Global, command: Command<'a>) -> Result<Command<'a>, AllocError>
     ensures { IfOk result (Extends command.entry asking_rules) }
 {
     let command = with_timeout(alloc, command)?;
     let help = "How many times to ask again: 0 to 10";
-    with(command, option_or(alloc, Word::Retries, "N", "3", help))
+    let command = with(command, option_or(alloc, Word::Retries, "N", "3", help))?;
+    with_route(alloc, command)
 }
 
 fn with_property<'a>(alloc: Global, command: Command<'a>) -> Result<Command<'a>, AllocError>
@@ -119,6 +130,8 @@ asks both stations, and only devices 100 to 199 answer. --min alone means both l
     let command = with(command, option(alloc, Word::Min, "N", help))?;
     let help = "The highest instance that is to answer: 0 to 4194303";
     let command = with(command, option(alloc, Word::Max, "N", help))?;
+    let help = "The network behind a router that is to answer: 1 to 65535, which is all networks";
+    let command = with(command, option(alloc, Word::Dnet, "N", help))?;
     with_timeout(alloc, command)
 }
 

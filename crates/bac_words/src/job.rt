@@ -2,9 +2,10 @@
 
 use crate::addresses::Addresses;
 use crate::name::Name;
+use bac_apdu::Route;
 
 /// What the tools that ask one device have in common.
-#[derive(Clone, Copy, Debug, PartialEq, Eq)]
+#[derive(Debug, Drop)]
 pub struct Asked {
     /// The device: four octets of the host, two of the port.
     pub address: [u8; 6],
@@ -14,6 +15,9 @@ pub struct Asked {
     pub timeout: u32,
     /// How many times to ask again: 0 to 10.
     pub retries: u8,
+    /// Where the device is behind a router, which then has the address above; on this network
+    /// where it is absent.
+    pub route: Option<Route>,
 }
 
 /// A value to write, by its application tag (clause 20.2.1.4).
@@ -35,11 +39,13 @@ pub enum Given {
 pub enum Job {
     /// `bac replay`
     Replay,
-    /// `bac wi`: Who-Is (clause 16.10).
+    /// `bac wi`: Who-Is (clause 16.10), to the devices of a network behind a router where one is
+    /// named; 65535 is all networks.
     Wi {
         addresses: Addresses,
         min: Option<u32>,
         max: Option<u32>,
+        dnet: Option<u16>,
         local: Option<[u8; 6]>,
         timeout: u32,
     },

@@ -3,16 +3,16 @@
 
 ghost use Rattle.std.specs.Prelude.{[], ◌∷◌, codes, None, Some, Ok, Err, negsuc};
 ghost use Rattle.clap.specs.declared.error.kind.ErrorKind.TheVariants.{MissingRequiredArgument, MissingSubcommand, UnknownArgument, ArgumentConflict, DisplayHelp};
-ghost use Rattle.bac_words.specs.declared.word.Word.TheVariants.{Address, From, Max, Retries};
+ghost use Rattle.bac_words.specs.declared.word.Word.TheVariants.{Address, From, Max, Retries, Dnet, Dadr};
 ghost use Rattle.bac_words.specs.declared.job.Job.TheVariants.{Replay, Wi, Rp, Wp, Log, Serve};
 ghost use Rattle.bac_words.specs.declared.job.Given.TheVariants.{Null, Signed};
-ghost use Rattle.bac_words.specs.Lines.{Says, Mistakes, station, by_default};
+ghost use Rattle.bac_words.specs.Lines.{Says, Mistakes, station, by_default, by_way};
 
 /// A line of each tool, and the job that it asks for.
 pub fn lines_say_jobs()
     ensures replay { Says (codes "bac replay") (Ok Replay) }
     ensures wi { Says (codes "bac wi 10.0.0.1 10.0.0.2:258 --min=5 --timeout=60000")
-        (Ok (Wi (station ∷ (10 ∷ 0 ∷ 0 ∷ 2 ∷ 1 ∷ 2 ∷ []) ∷ []) (Some 5) None None 60000)) }
+        (Ok (Wi (station ∷ (10 ∷ 0 ∷ 0 ∷ 2 ∷ 1 ∷ 2 ∷ []) ∷ []) (Some 5) None None None 60000)) }
     ensures rp { Says (codes "bac rp 10.0.0.1 8 123 77") (Ok (Rp by_default 8 123 77 None)) }
     ensures wp { Says (codes "bac wp 10.0.0.1 45 1 85 16 3 --value=-5")
         (Ok (Wp by_default 45 1 85 16 (Signed (negsuc 4)) None)) }
@@ -21,6 +21,10 @@ pub fn lines_say_jobs()
     ensures log { Says (codes "bac log 10.0.0.1 7 oldest") (Ok (Log by_default 7 None 1000)) }
     ensures number { Says (codes "bac log 10.0.0.1 7 43") (Ok (Log by_default 7 (Some 43) 1000)) }
     ensures serve { Says (codes "bac serve 10.0.0.1") (Ok (Serve station 4294967295)) }
+    ensures network { Says (codes "bac wi 10.0.0.1 --dnet=65535")
+        (Ok (Wi (station ∷ []) None None (Some 65535) None 3000)) }
+    ensures router { Says (codes "bac rp 10.0.0.1 8 123 77 --dnet=7 --dadr=0A01")
+        (Ok (Rp (by_way 7 (10 ∷ 1 ∷ [])) 8 123 77 None)) }
 {}
 
 /// Lines with a bad value, and the word that has it.
@@ -30,6 +34,10 @@ pub fn lines_say_bad_values()
     ensures retries { Says (codes "bac rp 10.0.0.1 8 123 77 --retries=11") (Err Retries) }
     ensures from { Says (codes "bac log 10.0.0.1 7 0") (Err From) }
     ensures max { Says (codes "bac wi 10.0.0.1 --max=5") (Err Max) }
+    ensures dnet { Says (codes "bac log 10.0.0.1 7 43 --dnet=65535 --dadr=0a") (Err Dnet) }
+    ensures dnet_alone { Says (codes "bac rp 10.0.0.1 8 123 77 --dnet=7") (Err Dadr) }
+    ensures dadr_alone { Says (codes "bac rp 10.0.0.1 8 123 77 --dadr=0a") (Err Dnet) }
+    ensures odd { Says (codes "bac wp 10.0.0.1 5 1 85 8 0 --dnet=7 --dadr=0a1") (Err Dadr) }
 {}
 
 /// Lines with a mistake, or that ask for help.

@@ -12,6 +12,7 @@ mod laws;
 mod name;
 mod numbers;
 mod read;
+mod route;
 mod rows;
 mod tools;
 mod word;

@@ -64,6 +64,23 @@ pub(crate) fn maybe_number_at(
     }
 }
 
+/// The same from a least one, where 16 bits do.
+pub(crate) fn maybe_short_at(
+    matches: &ArgMatches,
+    word: Word,
+    low: u16,
+) -> Result<Option<u16>, Word>
+    ensures { result ≡ maybe_number_at word low 65535 (rows_of (found_of matches.now)) }
+{
+    let Some(text) = text(matches, word) else {
+        return Ok(None);
+    };
+    match short(text.as_bytes(), low, u16::MAX) {
+        Some(number) => Ok(Some(number)),
+        None => Err(word),
+    }
+}
+
 pub(crate) fn address_at(matches: &ArgMatches) -> Result<[u8; 6], Word>
     ensures { result ≡ address_at (rows_of (found_of matches.now)) }
 {

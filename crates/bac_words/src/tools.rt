@@ -9,8 +9,10 @@ use crate::fault::WordsFault;
 use crate::given::{given, is_tag};
 use crate::job::{Asked, Given, Job};
 use crate::numbers::number;
+use crate::route::route_at;
 use crate::rows::{
-    address_at, addresses_at, local_at, maybe_number_at, number_at, octet_at, short_at, text,
+    address_at, addresses_at, local_at, maybe_number_at, maybe_short_at, number_at, octet_at,
+    short_at, text,
 };
 use crate::word::Word;
 use clap::ArgMatches;
@@ -29,11 +31,13 @@ fn asked_at(matches: &ArgMatches) -> Result<Asked, Word>
     let local = local_at(matches)?;
     let timeout = number_at(matches, Word::Timeout, 1, 60000)?;
     let retries = octet_at(matches, Word::Retries, 10)?;
+    let route = route_at(matches)?;
     Ok(Asked {
         address,
         local,
         timeout,
         retries,
+        route,
     })
 }
 
@@ -55,12 +59,14 @@ pub(crate) fn wi(alloc: Global, matches: &ArgMatches) -> Result<Job, WordsFault>
     let min = maybe_number_at(matches, Word::Min, MAX_INSTANCE)?;
     let highest = maybe_number_at(matches, Word::Max, MAX_INSTANCE)?;
     let max = max_beside(min, highest)?;
+    let dnet = maybe_short_at(matches, Word::Dnet, 1)?;
     let local = local_at(matches)?;
     let timeout = number_at(matches, Word::Timeout, 1, 60000)?;
     Ok(Job::Wi {
         addresses,
         min,
         max,
+        dnet,
         local,
         timeout,
     })

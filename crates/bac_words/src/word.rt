@@ -42,6 +42,10 @@ pub enum Word {
     Timeout,
     /// How many times to ask again.
     Retries,
+    /// The network of a device behind a router, or of those that are to answer.
+    Dnet,
+    /// The address of a device on a network behind a router.
+    Dadr,
 }
 
 impl Word {
@@ -67,6 +71,8 @@ impl Word {
             Word::Local => "local",
             Word::Timeout => "timeout",
             Word::Retries => "retries",
+            Word::Dnet => "dnet",
+            Word::Dadr => "dadr",
         }
     }
 
@@ -83,6 +89,8 @@ impl Word {
                 | Word::Local
                 | Word::Timeout
                 | Word::Retries
+                | Word::Dnet
+                | Word::Dadr
         )
     }
 }

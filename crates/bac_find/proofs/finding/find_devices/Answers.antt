@@ -6,7 +6,7 @@ use Rattle.bac_find.proofs.finding.find_devices.Goals as goal
 
 pub returns-in-Ok : goal.returns-in-Ok
 returns-in-Ok g c =
-    let is : c.octets.result.now ≡ who_is_octets c.args.request.now = c.octets.ensures.value ∙ c.datagram_of-datagram.ensures in
+    let is : c.octets.result.now ≡ who_is_octets c.args.search.now = c.octets.ensures.value ∙ c.datagram_of-datagram.ensures in
     let Q : List ℕ → Type 0 = λ octets. AsksEach g.P.Port.sends octets c.args.addresses.now c.args.port.now c.ask_each.result c.ask_each.new.port in (
       c.ask_each.result,
       c.ask_each.new.port,

@@ -1,11 +1,14 @@
-use Rattle.std.proofs.Common.{refl, subst, ap, ◌∙◌, arith}
+use Rattle.std.proofs.Common.{◌≡◌, ◌≤◌, ◌+◌, ℕ, refl, subst, ap, ◌∙◌, arith}
 use Rattle.std.proofs.lemmas.Bool.{false≢true}
 use Rattle.bac_link.specs.declared.transactions.Transactions.{Transactions}
+use Rattle.bac_link.specs.declared.exchanges.Verdict.TheVariants.{Ack, BadReply, Refused}
 use Rattle.bac_link.specs.Requests.{request_octets, next_invoke, IsTooLong}
 use Rattle.bac_link.specs.Links.{IsQuestion}
 use Rattle.bac_link.specs.Delivery.{now}
 use Rattle.bac_link.specs.Moments.{log_at}
 use Rattle.bac_link.specs.Path.{towards}
+use Rattle.bac_link.specs.Exchanges.{Unanswered}
+use Rattle.bac_link.proofs.Tries.{answered_by, one_more}
 use Rattle.bac_link.proofs.Verdicts.{question_fits, honest_verdict, rises_more}
 use Rattle.bac_link.proofs.exchanges.exchange.Goals as goal
 
@@ -52,8 +55,11 @@ loop-tried-preserved g c =
     let before = g.L.LogLink.failures c.args.link.now in
     let mid = g.L.LogLink.failures c.loop-tried.link in
     let after = g.L.LogLink.failures c.heard.new.link in
+    let sent : c.octets.result.now ≡ request_octets (towards route) n c.args.request.now = c.octets.ensures.value ∙ (c.in-Ok.ensures {u = tt}).datagram in
     record {
       begun = c.loop-tried.invariant.begun;
+      unanswered = one_more g.L.LogLink.asks (request_octets (towards route) n c.args.request.now) c.octets.result.now c.loop-tried.tried
+          c.args.link.now c.loop-tried.link c.heard.new.link heard.tried.0 sent c.loop-tried.invariant.unanswered heard.tried.1 heard.tried.2;
       never_falls = omega (arith, c.loop-tried.invariant.never_falls, heard.never_falls);
       sure = λ path s. heard.stays_sure path (c.loop-tried.invariant.sure path s);
       kept = λ id extent s asks.
@@ -88,3 +94,51 @@ returns-clause-lacking g c = λ id extent h asks.
       i.1,
       λ s. omega (arith, i.2 s, c.loop-tried.auto.tried-end, c.loop-tried-test.false),
     )
+
+pub returns-in-Ack-clause-exchanges : goal.returns-in-Ack-clause-exchanges
+returns-in-Ack-clause-exchanges g c =
+    let n = next_invoke c.args.transactions.now.invoke in
+    let path = towards c.args.transactions.now.route in
+    let kept = ap (λ (t : Transactions). t.retries) (c.in-Ok.ensures {u = tt}).opened in
+    let sent : c.octets.result.now ≡ request_octets path n c.args.request.now = c.octets.ensures.value ∙ (c.in-Ok.ensures {u = tt}).datagram in
+    let few : c.loop-tried.tried ≤ c.args.transactions.now.retries = omega (arith, c.loop-tried-test.true, c.from-tries.ensures, c.retries.ensures, kept) in
+    let heard = c.in-Some.ensures {u = tt} in
+    answered_by g.L.LogLink.asks path n c.args.request.now c.args.transactions.now.retries Ack c.octets.result.now c.in-Some.reply c.octets-in-Some.result.now
+    c.loop-tried.tried c.args.link.now c.loop-tried.link c.heard.new.link sent c.octets-in-Some.ensures.value few
+    c.loop-tried.invariant.unanswered heard.tried heard.answers (c.in-Ack.ensures {u = tt})
+
+pub returns-in-Refused-clause-exchanges : goal.returns-in-Refused-clause-exchanges
+returns-in-Refused-clause-exchanges g c =
+    let n = next_invoke c.args.transactions.now.invoke in
+    let path = towards c.args.transactions.now.route in
+    let kept = ap (λ (t : Transactions). t.retries) (c.in-Ok.ensures {u = tt}).opened in
+    let sent : c.octets.result.now ≡ request_octets path n c.args.request.now = c.octets.ensures.value ∙ (c.in-Ok.ensures {u = tt}).datagram in
+    let few : c.loop-tried.tried ≤ c.args.transactions.now.retries = omega (arith, c.loop-tried-test.true, c.from-tries.ensures, c.retries.ensures, kept) in
+    let heard = c.in-Some.ensures {u = tt} in (
+      c.in-Some.reply,
+      answered_by g.L.LogLink.asks path n c.args.request.now c.args.transactions.now.retries (Refused c.in-Refused.refusal) c.octets.result.now c.in-Some.reply c.octets-in-Some.result.now
+          c.loop-tried.tried c.args.link.now c.loop-tried.link c.heard.new.link sent c.octets-in-Some.ensures.value few
+          c.loop-tried.invariant.unanswered heard.tried heard.answers (c.in-Refused.ensures {u = tt}),
+    )
+
+pub returns-in-BadReply-clause-exchanges : goal.returns-in-BadReply-clause-exchanges
+returns-in-BadReply-clause-exchanges g c =
+    let n = next_invoke c.args.transactions.now.invoke in
+    let path = towards c.args.transactions.now.route in
+    let kept = ap (λ (t : Transactions). t.retries) (c.in-Ok.ensures {u = tt}).opened in
+    let sent : c.octets.result.now ≡ request_octets path n c.args.request.now = c.octets.ensures.value ∙ (c.in-Ok.ensures {u = tt}).datagram in
+    let few : c.loop-tried.tried ≤ c.args.transactions.now.retries = omega (arith, c.loop-tried-test.true, c.from-tries.ensures, c.retries.ensures, kept) in
+    let heard = c.in-Some.ensures {u = tt} in (
+      c.in-Some.reply,
+      answered_by g.L.LogLink.asks path n c.args.request.now c.args.transactions.now.retries BadReply c.octets.result.now c.in-Some.reply c.octets-in-Some.result.now
+          c.loop-tried.tried c.args.link.now c.loop-tried.link c.heard.new.link sent c.octets-in-Some.ensures.value few
+          c.loop-tried.invariant.unanswered heard.tried heard.answers (c.in-BadReply.ensures {u = tt}),
+    )
+
+pub returns-clause-exchanges : goal.returns-clause-exchanges
+returns-clause-exchanges g c =
+    let kept = ap (λ (t : Transactions). t.retries) (c.in-Ok.ensures {u = tt}).opened in
+    let all : c.loop-tried.tried ≡ c.args.transactions.now.retries + 1 =
+    omega (arith, c.loop-tried.auto.tried-end, c.loop-tried-test.false, c.from-tries.ensures, c.retries.ensures, kept) in
+    let P : ℕ → Type 0 = λ k. Unanswered g.L.LogLink.asks (request_octets (towards c.args.transactions.now.route) (next_invoke c.args.transactions.now.invoke) c.args.request.now) k c.args.link.now c.loop-tried.link in
+    subst P all c.loop-tried.invariant.unanswered

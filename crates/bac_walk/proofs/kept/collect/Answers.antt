@@ -1,19 +1,22 @@
-use Rattle.std.proofs.Common.{◌≡◌, ◌+◌, ◌++◌, ℕ, List, [], ◌∷◌, length, vec_capacity, inr, refl, sym, ap, subst, ◌∙◌, arith, rules}
+use Rattle.std.proofs.Common.{◌≡◌, ◌≤◌, ◌+◌, ◌++◌, ℕ, List, [], ◌∷◌, length, vec_capacity, Some, inr, refl, sym, ap, subst, ◌∙◌, arith, rules, length-append}
 use Rattle.bac_wire.specs.Primitive.{Id}
 use Rattle.bac_link.specs.declared.item.Item.{Item}
 use Rattle.bac_walk.specs.declared.kept.Kept.{Kept}
 use Rattle.bac_walk.specs.declared.outcome.Ended.{Ended}
 use Rattle.bac_walk.specs.declared.outcome.Ended.TheVariants.{StepLimit}
+use Rattle.bac_walk.specs.declared.outcome.Why.{Why}
 use Rattle.bac_walk.specs.declared.outcome.Why.TheVariants.{StepLimit as WasLimit}
 use Rattle.bac_link.specs.Delivery.{History, Moment}
 use Rattle.bac_link.specs.Laws.{after_answers}
-use Rattle.bac_walk.specs.Sinks.{put_items, is_stopped, IsRun}
+use Rattle.bac_walk.specs.Sinks.{gaps, put_items, is_stopped, IsRun}
 use Rattle.bac_walk.specs.Outcomes.{IsRunOf}
 use Rattle.bac_walk.specs.Rests.{rest, Rests}
 use Rattle.bac_walk.specs.Collects.{MissingEnd}
-use Rattle.bac_walk.proofs.Runs.{headline_of, join_run, no_run, run_early, ends_run, not_limit, not_stopped, goes_on}
+use Rattle.bac_walk.proofs.Runs.{headline_of, join_run, no_run, run_early, ends_run, not_limit, not_stopped, goes_on, why_limit}
 use Rattle.bac_walk.proofs.Near.{fewer_steps, next_step, rest_near}
-use Rattle.bac_walk.proofs.Keeps.{kept_all}
+use Rattle.bac_walk.proofs.Keeps.{kept_all, put_length}
+use Rattle.bac_walk.proofs.Told.{told_same, told_why}
+use Rattle.bac_link.specs.Path.{towards}
 use Rattle.bac_walk.proofs.Rests.{rested}
 use Rattle.bac_walk.proofs.kept.collect.Goals as goal
 
@@ -37,7 +40,9 @@ loop-done-init g c =
       sure = λ h. h;
       unchanged = λ h. g.met.L.LogLink.keeps_itself c.args.link.now;
       missing = λ h. (h, refl);
-      none = λ h. (search rules, refl);
+      none = λ h. (search rules, refl, refl, refl, refl);
+      many = omega arith;
+      few = search rules;
       run = subst P (search rules) (no_run was c.args.transactions.now.retries (g.L.LogLink.failures c.args.link.now) c.args.walk.now);
     }
 
@@ -45,8 +50,14 @@ pub returns-then-not-make_room-clause-delivers : goal.returns-then-not-make_room
 returns-then-not-make_room-clause-delivers g c =
     let P : List Item → Type 0 = λ l. IsRun (λ r M H. g.L.LogLink.is_honest c.args.link.now c.args.walk.now.log r M H)
     (λ r M H. g.L.LogLink.is_honest c.loop-done.link c.args.walk.now.log r M H) c.args.transactions.now.retries
-    (g.L.LogLink.failures c.args.link.now) (g.L.LogLink.failures c.loop-done.link) c.args.walk.now c.loop-done.walk c.loop-done.done StepLimit l in
-    (c.loop-done.done, StepLimit, (omega arith, refl), subst P (sym c.make_room.ensures.items) c.loop-done.invariant.run)
+    (g.L.LogLink.failures c.args.link.now) (g.L.LogLink.failures c.loop-done.link) c.args.walk.now c.loop-done.walk c.loop-done.done StepLimit l in (
+      c.loop-done.done,
+      StepLimit,
+      (omega arith, refl),
+      subst P (sym c.make_room.ensures.items) c.loop-done.invariant.run,
+      omega (arith, ap length c.make_room.ensures.items, c.loop-done.invariant.few),
+      c.loop-done.invariant.begun,
+    )
 
 pub returns-in-Some-clause-delivers : goal.returns-in-Some-clause-delivers
 returns-in-Some-clause-delivers g c =
@@ -56,6 +67,8 @@ returns-in-Some-clause-delivers g c =
     let put = c.deliver-ended.ensures.delivers in
     let all = kept_all room items_in_sink c.make_room.new.kept put.0 (is_stopped c.deliver-ended.result) c.deliver-ended.new.sink put.1
     (omega (arith, put.2, put.3, c.make_room.ensures.room (cc))) in
+    let more : length c.deliver-ended.new.sink.items.items ≡ length c.loop-done.kept.items.items + (length put.0 + gaps put.0) =
+    omega (arith, ap length all.1, length-append c.make_room.new.kept.items.items (put_items put.0), put_length put.0, ap length c.make_room.ensures.items) in
     let P : Id → Type 0 = λ n. IsRun (λ r M H. g.L.LogLink.is_honest c.loop-done.link n r M H) (λ r M H. g.L.LogLink.is_honest c.deliver-ended.new.link n r M H)
     c.loop-done.transactions.retries (g.L.LogLink.failures c.loop-done.link) (g.L.LogLink.failures c.deliver-ended.new.link)
     c.loop-done.walk c.deliver-ended.new.walk 1 c.deliver-ended.result (put_items put.0) in
@@ -77,6 +90,8 @@ returns-in-Some-clause-delivers g c =
       run_early was is c.args.transactions.now.retries (g.L.LogLink.failures c.args.link.now) (g.L.LogLink.failures c.deliver-ended.new.link)
           c.args.walk.now c.deliver-ended.new.walk (c.loop-done.done + 1) c.args.steps c.deliver-ended.result c.deliver-ended.new.sink.items.items
           (not_limit c.deliver-ended.result c.in-Some.why some) (omega arith) run,
+      omega (arith, more, put.2, put.3, c.loop-done.invariant.few),
+      omega (arith, c.loop-done.invariant.begun, c.deliver-ended.ensures.begun),
     )
 
 pub returns-in-Some-clause-resting : goal.returns-in-Some-clause-resting
@@ -128,6 +143,8 @@ loop-done-preserved g c =
     let put = c.deliver-ended.ensures.delivers in
     let all = kept_all room items_in_sink c.make_room.new.kept put.0 (is_stopped c.deliver-ended.result) c.deliver-ended.new.sink put.1
     (omega (arith, put.2, put.3, c.make_room.ensures.room (cc))) in
+    let more : length c.deliver-ended.new.sink.items.items ≡ length c.loop-done.kept.items.items + (length put.0 + gaps put.0) =
+    omega (arith, ap length all.1, length-append c.make_room.new.kept.items.items (put_items put.0), put_length put.0, ap length c.make_room.ensures.items) in
     let P : Id → Type 0 = λ n. IsRun (λ r M H. g.L.LogLink.is_honest c.loop-done.link n r M H) (λ r M H. g.L.LogLink.is_honest c.deliver-ended.new.link n r M H)
     c.loop-done.transactions.retries (g.L.LogLink.failures c.loop-done.link) (g.L.LogLink.failures c.deliver-ended.new.link)
     c.loop-done.walk c.deliver-ended.new.walk 1 c.deliver-ended.result (put_items put.0) in
@@ -160,13 +177,15 @@ loop-done-preserved g c =
           let gone = c.deliver-ended.ensures.lacking (subst K (sym c.loop-done.invariant.log) (c.loop-done.invariant.missing lacks).0) in
           absurd (omega (arith, subst E limit gone.0));
       none = λ h. absurd (omega (arith, h));
+      many = omega (arith, more, put.5 limit, c.loop-done.invariant.many);
+      few = omega (arith, more, put.2, put.3, c.loop-done.invariant.few);
       run = subst S limit run;
     }
 
 pub returns-clause-delivers : goal.returns-clause-delivers
 returns-clause-delivers g c =
     let all : c.loop-done.done ≡ c.args.steps = omega arith in
-    (c.loop-done.done, StepLimit, (all, refl), c.loop-done.invariant.run)
+    (c.loop-done.done, StepLimit, (all, refl), c.loop-done.invariant.run, c.loop-done.invariant.few, c.loop-done.invariant.begun)
 
 pub returns-clause-resting : goal.returns-clause-resting
 returns-clause-resting g c r m H s sure honest next near =
@@ -202,3 +221,41 @@ returns-clause-headline g c r M H s honest next near =
     headline_of (λ r M H. g.L.LogLink.is_honest c.args.link.now c.args.walk.now.log r M H) (λ r M H. g.L.LogLink.is_honest c.loop-done.link c.args.walk.now.log r M H)
     c.args.transactions.now.retries (g.L.LogLink.failures c.args.link.now) (g.L.LogLink.failures c.loop-done.link) c.args.walk.now c.loop-done.walk d.0 d.1 c.loop-done.kept.items.items d.3 r M H s honest next
     (fewer_steps r H M c.args.walk.now.fresh s c.loop-done.done c.args.steps (omega arith) near)
+
+pub returns-in-Some-clause-told : goal.returns-in-Some-clause-told
+returns-in-Some-clause-told g c =
+    told_why g.L.LogLink.asks (towards c.args.transactions.now.route) c.args.transactions.now.retries c.deliver-ended.result c.in-Some.why c.deliver-ended.new.walk c.deliver-ended.new.link
+    (sym c.why.ensures ∙ c.in-Some.is)
+    (told_same g.L.LogLink.asks (towards c.args.transactions.now.route) (towards c.loop-done.transactions.route) c.args.transactions.now.retries c.loop-done.transactions.retries
+    c.deliver-ended.result c.deliver-ended.new.walk c.deliver-ended.new.link (ap towards c.loop-done.invariant.route) c.loop-done.invariant.retries c.deliver-ended.ensures.told)
+
+pub returns-then-not-make_room-clause-none : goal.returns-then-not-make_room-clause-none
+returns-then-not-make_room-clause-none g c h = absurd (omega (arith, h))
+
+pub returns-in-Some-clause-none : goal.returns-in-Some-clause-none
+returns-in-Some-clause-none g c h = absurd (omega (arith, h))
+
+pub returns-clause-none : goal.returns-clause-none
+returns-clause-none g c h =
+    let same = c.loop-done.invariant.none (omega (arith, h)) in (refl, same.0, same.2, same.3, same.4)
+
+pub returns-then-not-make_room-clause-lacking : goal.returns-then-not-make_room-clause-lacking
+returns-then-not-make_room-clause-lacking g c lacks = (c.loop-done.invariant.missing lacks).0
+
+pub returns-in-Some-clause-lacking : goal.returns-in-Some-clause-lacking
+returns-in-Some-clause-lacking g c lacks =
+    let K : Id → Type 0 = λ n. g.L.LogLink.lacks c.loop-done.link n in
+    let L : Id → Type 0 = λ n. g.L.LogLink.lacks c.deliver-ended.new.link n in
+    subst L c.loop-done.invariant.log (c.deliver-ended.ensures.lacking (subst K (sym c.loop-done.invariant.log) (c.loop-done.invariant.missing lacks).0)).3
+
+pub returns-clause-lacking : goal.returns-clause-lacking
+returns-clause-lacking g c lacks = (c.loop-done.invariant.missing lacks).0
+
+pub returns-then-not-make_room-clause-limit : goal.returns-then-not-make_room-clause-limit
+returns-then-not-make_room-clause-limit g c is = absurd (cc)
+
+pub returns-in-Some-clause-limit : goal.returns-in-Some-clause-limit
+returns-in-Some-clause-limit g c is = absurd (why_limit c.deliver-ended.result (sym c.why.ensures ∙ c.in-Some.is ∙ ap (λ (w : Why). Some w) is))
+
+pub returns-clause-limit : goal.returns-clause-limit
+returns-clause-limit g c is = omega (arith, c.loop-done.invariant.many)

@@ -1,4 +1,4 @@
-use Rattle.std.proofs.Common.{[], ◌≡◌, ◌+◌, ◌*◌, ◌≤◌}
+use Rattle.std.proofs.Common.{[], ◌≡◌, ◌+◌, ◌*◌, ◌≤◌, length}
 use Rattle.bac_walk.specs.declared.outcome.Ended.TheVariants.{StepLimit}
 use Rattle.bac_walk.specs.Sinks.{IsRun}
 use Rattle.bac_link.specs.Path.{towards}
@@ -15,7 +15,9 @@ invariant-loop-done g l = record {
   sure : g.L.LogLink.is_sure l.fn.link (towards l.fn.transactions.route) → g.L.LogLink.is_sure l.link (towards l.transactions.route);
   unchanged : g.L.LogLink.is_sure l.fn.link (towards l.fn.transactions.route) → g.L.LogLink.keeps l.fn.link l.link;
   missing : g.L.LogLink.lacks l.fn.link l.fn.walk.log → g.L.LogLink.lacks l.link l.fn.walk.log × (l.done ≡ 0);
-  none : l.done ≡ 0 → (l.kept.items.items ≡ []) × (l.walk.next ≡ l.fn.walk.next);
+  none : l.done ≡ 0 → (l.kept.items.items ≡ []) × (l.walk.next ≡ l.fn.walk.next) × (l.walk ≡ l.fn.walk) × (l.link ≡ l.fn.link) × (l.transactions ≡ l.fn.transactions);
+  many : l.done ≤ length l.kept.items.items;
+  few : length l.kept.items.items ≤ 101 * l.done;
   run : IsRun (λ r M H. g.L.LogLink.is_honest l.fn.link l.fn.walk.log r M H) (λ r M H. g.L.LogLink.is_honest l.link l.fn.walk.log r M H)
       l.fn.transactions.retries (g.L.LogLink.failures l.fn.link) (g.L.LogLink.failures l.link) l.fn.walk l.walk l.done StepLimit l.kept.items.items;
 }

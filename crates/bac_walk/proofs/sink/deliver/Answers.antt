@@ -1,4 +1,4 @@
-use Rattle.std.proofs.Common.{◌≡◌, ◌≢◌, ◌+◌, ◌<◌, ℕ, List, length, refl, sym, subst, ◌∙◌, arith}
+use Rattle.std.proofs.Common.{◌≡◌, ◌≢◌, ◌+◌, ◌<◌, ℕ, List, length, refl, sym, ap, subst, ◌∙◌, arith}
 use Rattle.bac_wire.specs.Primitive.{Id}
 use Rattle.bac_walk.specs.declared.outcome.Ended.{Ended}
 use Rattle.bac_walk.specs.declared.outcome.Ended.TheVariants.{CaughtUp, StepLimit, Stopped, Fault}
@@ -7,7 +7,9 @@ use Rattle.bac_link.specs.Laws.{after_answers}
 use Rattle.bac_walk.specs.Sinks.{Delivery, put_items}
 use Rattle.bac_walk.specs.Collects.{MissingEnd}
 use Rattle.bac_walk.proofs.Near.{fewer_steps, next_step}
-use Rattle.bac_walk.proofs.Runs.{no_delivery, join_delivers, delivers_early}
+use Rattle.bac_walk.proofs.Runs.{no_delivery, join_delivers, delivers_early, headline_of}
+use Rattle.bac_walk.proofs.Told.{told_same}
+use Rattle.bac_link.specs.Path.{towards}
 use Rattle.bac_walk.proofs.sink.deliver.Goals as goal
 
 missing_more : (n : ℕ) (ended : Ended) → ended ≢ StepLimit → 0 < n → MissingEnd 1 ended → MissingEnd n ended
@@ -26,7 +28,7 @@ loop-done-init g c = record {
   sure = λ h. h;
   unchanged = λ h. g.met.L.LogLink.keeps_itself c.args.link.now;
   missing = λ h. (h, refl);
-  none = λ h. (refl, refl);
+  none = λ h. (refl, refl, refl, refl, refl);
   delivers = no_delivery g.S.Sink.puts c.args.sink.now (λ r M H. g.L.LogLink.is_honest c.args.link.now c.args.walk.now.log r M H)
       c.args.transactions.now.retries (g.L.LogLink.failures c.args.link.now) c.args.walk.now;
 }
@@ -47,19 +49,29 @@ returns-in_default g c =
     let not_limit : c.deliver_step.result ≢ StepLimit = c.in_default.not-StepLimit in
     let K : Id → Type 0 = λ n. g.L.LogLink.lacks c.loop-done.link n in
     let L : Id → Type 0 = λ n. g.L.LogLink.lacks c.deliver_step.new.link n in
+    let delivers = delivers_early g.S.Sink.puts c.args.sink.now c.deliver_step.new.sink was is c.args.transactions.now.retries
+    (g.L.LogLink.failures c.args.link.now) (g.L.LogLink.failures c.deliver_step.new.link) c.args.walk.now c.deliver_step.new.walk
+    (c.loop-done.done + 1) c.args.steps c.deliver_step.result not_limit (omega arith)
+    (join_delivers g.S.Sink.puts c.args.sink.now c.loop-done.sink c.deliver_step.new.sink was mid is c.args.transactions.now.retries
+    (g.L.LogLink.failures c.args.link.now) (g.L.LogLink.failures c.loop-done.link) (g.L.LogLink.failures c.deliver_step.new.link)
+    c.args.walk.now c.loop-done.walk c.deliver_step.new.walk c.loop-done.done c.deliver_step.result
+    c.loop-done.invariant.delivers step c.loop-done.invariant.never_falls) in
     record {
+      none = λ h. absurd (omega (arith, h));
+      told = told_same g.L.LogLink.asks (towards c.args.transactions.now.route) (towards c.loop-done.transactions.route) c.args.transactions.now.retries c.loop-done.transactions.retries
+          c.deliver_step.result c.deliver_step.new.walk c.deliver_step.new.link (ap towards c.loop-done.invariant.route) c.loop-done.invariant.retries c.deliver_step.ensures.told;
+      headline = (
+        delivers.0,
+        delivers.1,
+        headline_of was is c.args.transactions.now.retries (g.L.LogLink.failures c.args.link.now) (g.L.LogLink.failures c.deliver_step.new.link)
+            c.args.walk.now c.deliver_step.new.walk c.args.steps c.deliver_step.result (put_items delivers.0) delivers.4,
+      );
       never_falls = omega (arith, c.loop-done.invariant.never_falls, c.deliver_step.ensures.never_falls);
       retries = c.deliver_step.ensures.retries ∙ c.loop-done.invariant.retries;
       route = c.deliver_step.ensures.route ∙ c.loop-done.invariant.route;
       begun = omega (arith, c.loop-done.invariant.begun, c.deliver_step.ensures.begun);
       log = c.deliver_step.ensures.log ∙ c.loop-done.invariant.log;
-      delivers = delivers_early g.S.Sink.puts c.args.sink.now c.deliver_step.new.sink was is c.args.transactions.now.retries
-          (g.L.LogLink.failures c.args.link.now) (g.L.LogLink.failures c.deliver_step.new.link) c.args.walk.now c.deliver_step.new.walk
-          (c.loop-done.done + 1) c.args.steps c.deliver_step.result not_limit (omega arith)
-          (join_delivers g.S.Sink.puts c.args.sink.now c.loop-done.sink c.deliver_step.new.sink was mid is c.args.transactions.now.retries
-          (g.L.LogLink.failures c.args.link.now) (g.L.LogLink.failures c.loop-done.link) (g.L.LogLink.failures c.deliver_step.new.link)
-          c.args.walk.now c.loop-done.walk c.deliver_step.new.walk c.loop-done.done c.deliver_step.result
-          c.loop-done.invariant.delivers step c.loop-done.invariant.never_falls);
+      delivers = delivers;
       sure = λ h. c.deliver_step.ensures.sure (c.loop-done.invariant.sure h);
       kept = λ h. g.met.L.LogLink.keeps_on c.args.link.now c.loop-done.link c.deliver_step.new.link
           (c.loop-done.invariant.unchanged h) (c.deliver_step.ensures.kept (c.loop-done.invariant.sure h));
@@ -125,3 +137,13 @@ returns-clause-delivers g c =
     c.args.transactions.now.retries (g.L.LogLink.failures c.args.link.now) (g.L.LogLink.failures c.loop-done.link)
     c.args.walk.now c.loop-done.walk n StepLimit in
     subst P all c.loop-done.invariant.delivers
+
+pub returns-clause-headline : goal.returns-clause-headline
+unfolding returns-clause-delivers
+returns-clause-headline g c =
+    let d = returns-clause-delivers g c in (
+      d.0,
+      d.1,
+      headline_of (λ r M H. g.L.LogLink.is_honest c.args.link.now c.args.walk.now.log r M H) (λ r M H. g.L.LogLink.is_honest c.loop-done.link c.args.walk.now.log r M H)
+          c.args.transactions.now.retries (g.L.LogLink.failures c.args.link.now) (g.L.LogLink.failures c.loop-done.link) c.args.walk.now c.loop-done.walk c.args.steps StepLimit (put_items d.0) d.4,
+    )

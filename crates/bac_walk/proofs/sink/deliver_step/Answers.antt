@@ -2,7 +2,9 @@ use Rattle.std.proofs.Common.{ℕ, List, arith}
 use Rattle.bac_link.specs.Delivery.{History, Moment}
 use Rattle.bac_walk.specs.Replied.{step_of}
 use Rattle.bac_walk.proofs.Handed.{found_end, handed}
+use Rattle.bac_link.specs.Path.{towards}
 use Rattle.bac_walk.proofs.Near.{at_once}
+use Rattle.bac_walk.proofs.Told.{told_handed}
 use Rattle.bac_walk.proofs.sink.deliver_step.Goals as goal
 
 pub returns-clause-delivers : goal.returns-clause-delivers
@@ -19,3 +21,8 @@ pub returns-clause-answered : goal.returns-clause-answered
 returns-clause-answered g c r M H s sure honest next near =
     found_end g.S.Sink.puts c.args.sink.now c.reply-replied.new.self (step_of c.reply-replied.result) c.hand_on.result c.hand_on.new.walk c.hand_on.new.sink c.hand_on.ensures
     (c.reply-replied.ensures.answered r M H s sure honest next (at_once r H M c.args.walk.now.fresh s 1 0 0 (omega arith) near))
+
+pub returns-clause-told : goal.returns-clause-told
+returns-clause-told g c =
+    told_handed g.L.LogLink.asks (towards c.args.transactions.now.route) c.args.transactions.now.retries c.reply-replied.new.link g.S.Sink.puts c.args.sink.now c.reply-replied.new.self
+    (step_of c.reply-replied.result) c.hand_on.result c.hand_on.new.walk c.hand_on.new.sink c.hand_on.ensures c.reply-replied.ensures.told

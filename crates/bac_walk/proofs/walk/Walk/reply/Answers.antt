@@ -15,6 +15,8 @@ use Rattle.bac_walk.proofs.Goes.{step_goes, nothing_goes, moved_goes}
 use Rattle.bac_walk.specs.declared.outcome.Progress.{Progress}
 use Rattle.bac_walk.specs.declared.outcome.Progress.TheVariants.{Batch as BatchOf, AskOldest, CaughtUp as IsUp}
 use Rattle.std.specs.Prelude.{OnErr}
+use Rattle.bac_walk.proofs.Told.{told_first, told_second, turn_same}
+use Rattle.bac_link.specs.Path.{towards}
 use Rattle.bac_walk.proofs.walk.Walk.reply.Goals as goal
 
 kept : (p : Result Progress WalkFault) (before after : Place) (next : ℕ) → before.next ≡ next → OnErr p (after ≡ before) →
@@ -156,3 +158,16 @@ returns-clause-refused g c lacks sure =
     let P : Id → Type 0 = λ n. g.L.LogLink.lacks c.args.link.now n in
     let log : c.restart.new.self.log ≡ c.args.self.now.log = ap (λ (v : Place). v.log) c.restart.ensures in
     absurd (no_more (progress_of c.turn-first.result) (cc) (c.turn-first.ensures.lacking (subst P (sym log) lacks)).0)
+
+pub returns-then-not-asks_next-clause-told : goal.returns-then-not-asks_next-clause-told
+returns-then-not-asks_next-clause-told g c =
+    told_first g.L.LogLink.asks (towards c.args.transactions.now.route) c.args.transactions.now.retries c.restart.new.self (progress_of c.turn-first.result)
+    (step_of c.finished.result) c.turn-first.new.self c.turn-first.new.link c.finished.ensures (cc) c.turn-first.ensures.told
+
+pub returns-clause-told : goal.returns-clause-told
+returns-clause-told g c =
+    told_second g.L.LogLink.asks (towards c.args.transactions.now.route) c.args.transactions.now.retries c.restart.new.self (progress_of c.turn-first.result)
+    c.turn-first.new.self c.turn-first.new.link (progress_of c.turn.result) (step_of c.finished-2.result) c.turn.new.self c.turn.new.link
+    c.finished-2.ensures (cc) c.turn-first.ensures.told
+    (turn_same g.L.LogLink.asks (towards c.args.transactions.now.route) (towards c.turn-first.new.transactions.route) c.args.transactions.now.retries c.turn-first.new.transactions.retries
+    c.turn-first.new.self (progress_of c.turn.result) c.turn.new.self c.turn.new.link (ap towards c.turn-first.ensures.route) c.turn-first.ensures.retries c.turn.ensures.told)

@@ -1,11 +1,14 @@
-use Rattle.std.proofs.Common.{◌≡◌, false, [], ◌∷◌, List, subst, ◌∙◌}
+use Rattle.std.proofs.Common.{◌≡◌, false, [], ◌∷◌, List, length, subst, ◌∙◌}
 use Rattle.bac_link.specs.declared.item.Item.{Item}
 use Rattle.bac_walk.specs.declared.outcome.Ended.{Ended}
-use Rattle.bac_walk.specs.Collects.{Collected, Goes, step_items, step_ended}
+use Rattle.bac_walk.specs.Collects.{Collected, Goes, start_of, step_items, step_ended}
 use Rattle.bac_walk.specs.Near.{IsNearStep}
 use Rattle.bac_walk.specs.Replied.{step_of}
 use Rattle.bac_walk.proofs.Rests.{rested_step}
+use Rattle.bac_walk.proofs.Runs.{collected_delivers, start_old}
 use Rattle.bac_walk.proofs.Sames.{same_step}
+use Rattle.bac_link.specs.Path.{towards}
+use Rattle.bac_walk.specs.Told.{Told}
 use Rattle.bac_walk.proofs.walk.Walk.step.Goals as goal
 
 pub returns-clause-fault : goal.returns-clause-fault
@@ -45,3 +48,21 @@ returns-clause-resting g c r m H s sure honest next near =
     let run = returns-clause-honest g c r (m ∷ []) H s honest next close in
     rested_step r H m c.args.self.now.fresh s c.args.transactions.now.retries (g.L.LogLink.failures c.args.link.now) (g.L.LogLink.failures c.reply.new.link)
     run.1 c.reply.new.self.next c.decoded.result run.0 (returns-clause-answered g c r (m ∷ []) H s sure honest next close) run.3 run.2
+
+pub returns-clause-told : goal.returns-clause-told
+returns-clause-told g c =
+    let P : Ended → Type 0 = λ e. Told g.L.LogLink.asks (towards c.args.transactions.now.route) c.args.transactions.now.retries e c.reply.new.self c.reply.new.link in
+    subst P (same_step (step_of c.reply.result) c.decoded.result c.decoded.ensures).ended c.reply.ensures.told
+
+pub returns-clause-headline : goal.returns-clause-headline
+returns-clause-headline g c r M H s honest next near =
+    let run = returns-clause-honest g c r M H s honest next near in (
+      start_of c.args.self.now.fresh s M run.0,
+      length run.0,
+      run.1,
+      start_old c.args.self.now.fresh s M run.0,
+      run.2,
+      collected_delivers r H M c.args.self.now.fresh s 1 c.args.transactions.now.retries (g.L.LogLink.failures c.args.link.now) (g.L.LogLink.failures c.reply.new.link)
+          (step_items c.decoded.result) run.1 (step_ended c.decoded.result) run.0 run.3,
+      run.4,
+    )

@@ -1,14 +1,17 @@
-use Rattle.std.proofs.Common.{Ok, Err, subst}
+use Rattle.std.proofs.Common.{Ok, Err, ap, inl, subst}
 use Rattle.bac_apdu.specs.declared.service.extent.Extent.{Extent}
 use Rattle.bac_link.specs.Delivery.{now}
 use Rattle.bac_link.specs.Links.{IsReply}
 use Rattle.bac_link.specs.Path.{towards}
+use Rattle.bac_link.specs.Requests.{next_invoke}
+use Rattle.bac_link.specs.declared.exchanges.ExchangeFault.{ExchangeFault}
 use Rattle.bac_walk.specs.Replied.{heard_in, progress_of}
 use Rattle.bac_walk.specs.Walks.{question_of, wanted_at}
 use Rattle.bac_walk.proofs.Asking.{asks_at, near_to, lost_is, refused_is, bad_reply_is}
 use Rattle.bac_walk.proofs.Turns.{turn_of}
 use Rattle.bac_walk.proofs.HonestReply.{says_in}
 use Rattle.bac_walk.proofs.Hearing.{turned_of, turned_goes}
+use Rattle.bac_walk.proofs.Told.{has_asked, told_bad, told_turned}
 use Rattle.bac_walk.proofs.walk.Walk.turn.Goals as goal
 
 pub returns-in-Ok-hear-clause-honest : goal.returns-in-Ok-hear-clause-honest
@@ -56,3 +59,41 @@ pub returns-in-Err-BadReply-clause-lacking : goal.returns-in-Err-BadReply-clause
 returns-in-Err-BadReply-clause-lacking g c = λ lacks.
     let e = (c.in-Err-BadReply.ensures {u = tt}).lacking c.args.self.now.log (question_of c.args.self.now) lacks c.question-question.ensures.asks in
     absurd (bad_reply_is c.args.transactions.now.retries (g.L.LogLink.failures c.args.link.now) (g.L.LogLink.failures c.exchange.new.link) c.in-Err-BadReply.field-0 c.in-Err-BadReply.field-0-is e.0)
+
+pub returns-in-Err-Lost-clause-told : goal.returns-in-Err-Lost-clause-told
+returns-in-Err-Lost-clause-told g c = (
+  Err c.in-Err-Lost.field-0,
+  has_asked g.L.LogLink.asks (towards c.args.transactions.now.route) c.args.transactions.now.retries c.args.self.now (next_invoke c.args.transactions.now.invoke)
+      c.question-question.result c.args.link.now (Err c.in-Err-Lost.field-0) c.exchange.new.link c.question-question.ensures.asks.0 (c.in-Err-Lost.ensures {u = tt}).exchanges,
+  ap (λ (f : ExchangeFault). Err f) c.in-Err-Lost.field-0-is,
+)
+
+pub returns-in-Err-Refused-clause-told : goal.returns-in-Err-Refused-clause-told
+returns-in-Err-Refused-clause-told g c = (
+  Err c.in-Err-Refused.field-0,
+  has_asked g.L.LogLink.asks (towards c.args.transactions.now.route) c.args.transactions.now.retries c.args.self.now (next_invoke c.args.transactions.now.invoke)
+      c.question-question.result c.args.link.now (Err c.in-Err-Refused.field-0) c.exchange.new.link c.question-question.ensures.asks.0 (c.in-Err-Refused.ensures {u = tt}).exchanges,
+  ap (λ (f : ExchangeFault). Err f) c.in-Err-Refused.field-0-is,
+)
+
+pub returns-in-Err-BadReply-clause-told : goal.returns-in-Err-BadReply-clause-told
+returns-in-Err-BadReply-clause-told g c = (
+  Err c.in-Err-BadReply.field-0,
+  has_asked g.L.LogLink.asks (towards c.args.transactions.now.route) c.args.transactions.now.retries c.args.self.now (next_invoke c.args.transactions.now.invoke)
+      c.question-question.result c.args.link.now (Err c.in-Err-BadReply.field-0) c.exchange.new.link c.question-question.ensures.asks.0 (c.in-Err-BadReply.ensures {u = tt}).exchanges,
+  inl (ap (λ (f : ExchangeFault). Err f) c.in-Err-BadReply.field-0-is),
+)
+
+pub returns-in-Ok-hear-clause-told : goal.returns-in-Ok-hear-clause-told
+returns-in-Ok-hear-clause-told g c =
+    let asked = has_asked g.L.LogLink.asks (towards c.args.transactions.now.route) c.args.transactions.now.retries c.args.self.now (next_invoke c.args.transactions.now.invoke)
+    c.question-question.result c.args.link.now (Ok c.in-Ok.datagram) c.exchange.new.link c.question-question.ensures.asks.0 c.in-Ok.ensures.exchanges in
+    told_turned g.L.LogLink.asks (towards c.args.transactions.now.route) c.args.transactions.now.retries c.args.self.now c.in-Ok.datagram c.in-Ok-hear.turned
+    c.hear.new.self c.exchange.new.link asked (c.in-Ok-hear.ensures {u = tt})
+
+pub returns-in-Err-clause-told : goal.returns-in-Err-clause-told
+returns-in-Err-clause-told g c =
+    let asked = has_asked g.L.LogLink.asks (towards c.args.transactions.now.route) c.args.transactions.now.retries c.args.self.now (next_invoke c.args.transactions.now.invoke)
+    c.question-question.result c.args.link.now (Ok c.in-Ok.datagram) c.exchange.new.link c.question-question.ensures.asks.0 c.in-Ok.ensures.exchanges in
+    told_bad g.L.LogLink.asks (towards c.args.transactions.now.route) c.args.transactions.now.retries c.args.self.now c.in-Ok.datagram c.in-Err.field-0
+    c.hear.new.self c.exchange.new.link asked (c.in-Err.ensures {u = tt})

@@ -1,0 +1,104 @@
+#!/usr/bin/env bash
+# Plays the rows of lines.rows (scripts of a few lines) and words.rows (words that no tool takes), and
+# compares the status, the output and what is told.
+#
+#     examples/rows.sh [PROGRAM]
+#
+# PROGRAM is crates/bac/out/bac where none is given. The last line is `N passed, M failed`.
+set -u
+cd "$(dirname "$0")"
+program=$(realpath -- "${1:-../crates/bac/out/bac}")
+room=$(mktemp -d)
+trap 'rm -rf "$room"' EXIT
+passed=0
+failed=0
+
+# is NAME GOT WANTED
+is() {
+    if [ "$2" = "$3" ]; then
+        passed=$((passed + 1))
+    else
+        failed=$((failed + 1))
+        printf '%s\n    is: %s\nwanted: %s\n' "$1" "$2" "$3"
+    fi
+}
+
+device='device 123 plant 0 1476 2024-05-06T07:08:09.10\n'
+who_is='rx 810b000c0120ffff00ff1008\n'
+i_am='tx 810a001401001000c40200007b2205c491032100\n'
+
+# played FAULT OUTPUT SCRIPT: plays a script, and compares how it ends and what it prints. What stands
+# on standard error behind the first line says more of the same fault.
+played() {
+    local status
+    printf '%b' "$3" | "$program" replay > "$room/out" 2> "$room/err"
+    status=$?
+    printf '%b' "$2" > "$room/want"
+    is "$3" "$status $(head -n 1 "$room/err")" "$([ -n "$1" ] && echo 1 || echo 0) $1"
+    cmp -s "$room/out" "$room/want" || is "the output of $3" "$(cat -v "$room/out")" "$(cat -v "$room/want")"
+}
+
+# A row in which the optional lines stand, or don't.
+with_lines() {
+    local row=${1//'{device}'/$device}
+    row=${row//'{who-is?}'/$2}
+    row=${row//'{i-am?}'/$3}
+    row=${row//'{i-am?4194302}'/${3/0200007b/023ffffe}}
+    # A device with replies of 50 octets says so: 21 32 in place of 22 05c4.
+    row=${row//'{i-am?50}'/${3/810a0014*/810a001301001000c40200007b213291032100\\n}}
+    row=${row//'{who-is}'/$who_is}
+    row=${row//'{i-am}'/$i_am}
+    IFS='|' read -r fault output script <<< "$row"
+    played "$fault" "$output" "$script"
+}
+
+while IFS= read -r row; do
+    case $row in
+        '' | '# '* | '#') continue ;;
+    esac
+    with_lines "$row" "$who_is" "$i_am"
+    case $row in
+        *'{who-is?}'*) with_lines "$row" '' '' ;;
+    esac
+done < lines.rows
+
+# told WANTED WORDS..: the words are wrong, and the text on standard error says so.
+told() {
+    local wanted=$1 status
+    shift
+    "$program" "$@" < /dev/null > "$room/out" 2> "$room/err"
+    status=$?
+    is "$*" "$status $(cat "$room/out" "$room/err")" "1 $wanted"
+}
+
+# told_usage PART WORDS..: clap's text has this part.
+told_usage() {
+    local part=$1 status found=no
+    shift
+    "$program" "$@" < /dev/null > "$room/out" 2> "$room/err"
+    status=$?
+    grep -q -F -e "$part" "$room/err" && found=yes
+    is "$* ($part)" "$status $(cat "$room/out") $found" '1  yes'
+}
+
+declare -A ranges
+while IFS= read -r row; do
+    case $row in
+        '' | '#'*) continue ;;
+        *' = '*) ranges[${row%% = *}]=${row#* = }; continue ;;
+    esac
+    word=${row%% |*}
+    words=${row#*|}
+    value=()
+    case $words in
+        *'|'*) value=("--value=$(sed 's/^ //' <<< "${words#*|}")"); words=${words%%|*} ;;
+    esac
+    read -ra words <<< "$words"
+    case $word in
+        'usage '*) told_usage "${word#usage }" "${words[@]}" ;;
+        *) told $'bad value\n'"$word: ${ranges[$word]}" "${words[@]}" "${value[@]}" ;;
+    esac
+done < words.rows
+
+echo "$passed passed, $failed failed"
+[ "$failed" -eq 0 ]
