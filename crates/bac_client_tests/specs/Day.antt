@@ -19,8 +19,8 @@ purge =
     0x81 ∷ 0x0a ∷ 0x00 ∷ 0x15 ∷ 0x01 ∷ 0x04 ∷ 0x00 ∷ 0x05 ∷ 0x09 ∷ 0x0f ∷ 0x0c ∷ 0x05 ∷ 0x00 ∷ 0x00 ∷ 0x01
     ∷ 0x19 ∷ 0x8d ∷ 0x3e ∷ 0x21 ∷ 0x00 ∷ 0x3f ∷ []
 
--- Records 1 and 2, an answer; records 3 and 4, a loss, 5 and 6, the last three in place of the oldest, an answer; record 7,
--- and a purge, whose own record is 8.
+-- Records 1 and 2, an answer; records 3 and 4, a loss, 5 and 6, the last three in
+-- place of the oldest, an answer; record 7, and a purge, whose own record is 8.
 abbrev pub day : List LinkEvent
 day =
     Sample 1 ∷ Sample 1 ∷ Answer

@@ -35,7 +35,7 @@ abbrev pub i_am_in : Apdu → Option IAm
 i_am_in (Unconfirmed service parameters) = if service == i_am_service then i_am_at parameters else None
 i_am_in other = None
 
--- what an NPDU announces of the device at this address
+-- what an NPDU from this address announces
 unfoldable pub announced_at : List ℕ → List ℕ → Option Announcement
 announced_at address npdu = do
   header ← header_at npdu

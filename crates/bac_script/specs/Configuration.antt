@@ -1,5 +1,6 @@
 -- What the lines of a configuration describe: a device and its objects, and no events. Read from the end.
-use Rattle.std.specs.Prelude.{◌≡◌, ℕ, ◌+◌, ◌<◌, ◌≤◌, if◌then◌else◌, List, [], ◌∷◌, ◌++◌, length, Option, None, Some, Result, Ok, Err}
+use Rattle.std.specs.Prelude.{◌≡◌, ℕ, ◌+◌, ◌<◌, ◌≤◌, if◌then◌else◌, List, [], ◌∷◌, ◌++◌, length, Option, None, Some}
+use Rattle.std.specs.Prelude.{Result, Ok, Err}
 use Rattle.std.specs.Io.KnownBytes.{Consumes}
 use Rattle.std.specs.Str.Lines.{lines}
 use Rattle.bac_objects.specs.declared.lines.DeviceLine.{DeviceLine}
@@ -72,8 +73,8 @@ Describes said (Err Read) = ⊥
 Describes said (Err TooLong) = ⊥
 Describes said (Err Write) = ⊥
 
--- What is read is looked at where it is read to its end and has at most so many octets. `script` is what the reader had, `left` what it
--- has left.
+-- What is read is looked at where it is read to its end and has at most so many
+-- octets. `script` is what the reader had, `left` what it has left.
 abbrev pub IsConfigured : ℕ → List ℕ → Option (List ℕ) → Result (Option Configuration) ReplayFault → Type 0
 IsConfigured limit script left (Err TooLong) = limit < length script
 IsConfigured limit script left (Err Read) = (read : List ℕ) × Consumes (Some script) left read × (length read ≤ limit)

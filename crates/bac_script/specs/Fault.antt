@@ -17,7 +17,8 @@ abbrev pub replay_fault : BuildFault → ReplayFault
 replay_fault build.Memory = Memory
 replay_fault fault = Build fault
 
--- why a line can't be played: it is none of a script, or stands in the wrong place; or it is the first event, and the device can't be built
+-- why a line can't be played: it is none of a script, or stands in the wrong
+-- place; or it is the first event, and the device can't be built
 pub data Refusal : Type 0 where
   Bad : Refusal
   Unbuilt : BuildFault → Refusal

@@ -1,5 +1,5 @@
--- How a replay ends, one outcome after the other. What the reader had is `script`; `old` and `new` are what the writer held before and
--- holds now, where that is known. A script has at most `limit` octets, else it is too long.
+-- How a replay ends, one outcome after the other. What the reader had is `script`; `old` and `new` are what the
+-- writer held before and holds now, where that is known. A script has at most `limit` octets, else it is too long.
 use Rattle.std.specs.Prelude.{◌≡◌, ℕ, ◌<◌, ◌≤◌, List, length, Option, None, Some}
 use Rattle.std.specs.Io.KnownBytes.{Appends, Consumes}
 use Rattle.bac_print.specs.Output.{AppendsPart}
@@ -25,7 +25,8 @@ IsTooLong limit old new script = (limit < length script) × IsPlayed limit old n
 -- a read was refused: the lines that had ended before it were played, and none of them has a fault
 abbrev pub IsUnread : ℕ → Option (List ℕ) → Option (List ℕ) → Option (List ℕ) → List ℕ → Type 0
 IsUnread limit left old new script =
-    (read : List ℕ) × (t : State) × Consumes (Some script) left read × (length read ≤ limit) × PlaysAll old new Empty (ended_lines read) t
+    (read : List ℕ) × (t : State) × Consumes (Some script) left read × (length read ≤ limit)
+    × PlaysAll old new Empty (ended_lines read) t
 
 -- a write was refused: a front part of the text was written
 abbrev pub IsUnwritten : ℕ → Option (List ℕ) → Option (List ℕ) → List ℕ → Type 0

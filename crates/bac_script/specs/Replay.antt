@@ -1,5 +1,6 @@
 -- What a whole script prints, and how it ends.
-use Rattle.std.specs.Prelude.{◌≡◌, ℕ, ◌+◌, ◌<◌, ◌≤◌, if◌then◌else◌, nat_le, List, [], ◌∷◌, ◌++◌, length, take, Option, None, Some, Result, Ok, Err}
+use Rattle.std.specs.Prelude.{◌≡◌, ℕ, ◌+◌, ◌<◌, ◌≤◌, if◌then◌else◌, nat_le, List, [], ◌∷◌, ◌++◌, length, take, Option}
+use Rattle.std.specs.Prelude.{None, Some, Result, Ok, Err}
 use Rattle.std.specs.Option.{option_map}
 use Rattle.std.specs.Io.KnownBytes.{Appends, Consumes}
 use Rattle.std.specs.Str.Lines.{lines}
@@ -37,7 +38,8 @@ past_limit (Err f) = Some f
 -- In what follows a script has at most `limit` octets, else it is too long.
 
 -- The lines of a script that are played: of one that is too long, those that a line feed ended within the limit.
--- `lines` is std's: a line feed ends a line, less one carriage return, and what stands behind the last one is a line where there is anything.
+-- `lines` is std's: a line feed ends a line, less one carriage return, and what
+-- stands behind the last one is a line where there is anything.
 abbrev pub played_lines : ℕ → List ℕ → List (List ℕ)
 played_lines limit script = if nat_le (length script) limit then lines script else ended_lines (take limit script)
 
@@ -58,19 +60,29 @@ pub record PlaysAll (old new : Option (List ℕ)) (s : State) (all : List (List 
 
 -- Some first lines were played, and the writer holds their text.
 abbrev pub PlaysSome : Option (List ℕ) → Option (List ℕ) → List (List ℕ) → Type 0
-PlaysSome old new all = (before : List (List ℕ)) × (after : List (List ℕ)) × (t : State) × (all ≡ before ++ after) × PlaysAll old new Empty before t
+PlaysSome old new all =
+    (before : List (List ℕ)) × (after : List (List ℕ)) × (t : State) × (all ≡ before ++ after)
+    × PlaysAll old new Empty before t
 
--- How a replay ends: what its reader had is `script`, and what it has left is `left`; `old` and `new` are what the writer held before and holds now.
-unfoldable pub Ends : ℕ → List ℕ → Option (List ℕ) → Option (List ℕ) → Option (List ℕ) → Result (Unit {0}) ReplayFault → Type 0
+-- How a replay ends: what its reader had is `script`, and what it has left is
+-- `left`; `old` and `new` are what the writer held before and holds now.
+unfoldable pub Ends : ℕ → List ℕ → Option (List ℕ) → Option (List ℕ) → Option (List ℕ) → Result (Unit {0}) ReplayFault
+    → Type 0
 Ends limit script left old new (Ok _) = (fault_of_script limit script ≡ None) × Appends old new (text_of limit script)
-Ends limit script left old new (Err (BadLine n)) = (fault_of_script limit script ≡ Some (BadLine n)) × Appends old new (text_of limit script)
-Ends limit script left old new (Err (Build f)) = (fault_of_script limit script ≡ Some (Build f)) × Appends old new (text_of limit script)
-Ends limit script left old new (Err TooLong) = (limit < length script) × (fault_of_script limit script ≡ Some TooLong) × Appends old new (text_of limit script)
-Ends limit script left old new (Err Read) = (read : List ℕ) × (t : State) × Consumes (Some script) left read × (length read ≤ limit) × PlaysAll old new Empty (ended_lines read) t
+Ends limit script left old new (Err (BadLine n)) =
+    (fault_of_script limit script ≡ Some (BadLine n)) × Appends old new (text_of limit script)
+Ends limit script left old new (Err (Build f)) =
+    (fault_of_script limit script ≡ Some (Build f)) × Appends old new (text_of limit script)
+Ends limit script left old new (Err TooLong) =
+    (limit < length script) × (fault_of_script limit script ≡ Some TooLong) × Appends old new (text_of limit script)
+Ends limit script left old new (Err Read) =
+    (read : List ℕ) × (t : State) × Consumes (Some script) left read × (length read ≤ limit)
+    × PlaysAll old new Empty (ended_lines read) t
 Ends limit script left old new (Err Write) = AppendsPart old new (text_of limit script)
 Ends limit script left old new (Err Memory) = PlaysSome old new (played_lines limit script)
 
 -- the same, where it is known what the reader had
-unfoldable pub Replays : ℕ → Option (List ℕ) → Option (List ℕ) → Option (List ℕ) → Option (List ℕ) → Result (Unit {0}) ReplayFault → Type 0
+unfoldable pub Replays : ℕ → Option (List ℕ) → Option (List ℕ) → Option (List ℕ) → Option (List ℕ)
+    → Result (Unit {0}) ReplayFault → Type 0
 Replays limit None left old new r = Unit {0}
 Replays limit (Some script) left old new r = Ends limit script left old new r

@@ -1,5 +1,6 @@
 -- What one line of a script does.
-use Rattle.std.specs.Prelude.{ℕ, ◌+◌, ◌*◌, decimal, if◌then◌else◌, List, [], ◌∷◌, ◌++◌, codes, Option, None, Some, Result, Ok, Err}
+use Rattle.std.specs.Prelude.{ℕ, ◌+◌, ◌*◌, decimal, if◌then◌else◌, List, [], ◌∷◌, ◌++◌, codes, Option, None, Some}
+use Rattle.std.specs.Prelude.{Result, Ok, Err}
 use Rattle.hex.specs.Hex.{encode_lower}
 use Rattle.bac_print.specs.Addresses.{address_text}
 use Rattle.bac_device.specs.Answer.{answer}
@@ -18,9 +19,11 @@ use Rattle.bac_device.specs.declared.reply.Receiver.TheVariants.{Sender, Address
 use Rattle.bac_device.specs.declared.reply.Reply.{Reply}
 use Rattle.bac_script.specs.Fault.{Refusal, Bad, Unbuilt}
 use Rattle.bac_script.specs.Walk.{walk_text}
-use Rattle.bac_script.specs.Script.Line.{Event, Received, Clocked, Sampled, Walked, ScriptLine, Device, Object, Happens, is_silent, line_in}
+use Rattle.bac_script.specs.Script.Line.{Event, Received, Clocked, Sampled, Walked, ScriptLine, Device, Object, Happens}
+use Rattle.bac_script.specs.Script.Line.{is_silent, line_in}
 
--- what the lines so far have made: nothing, a device that is described with its objects in the order of their lines, or one that runs
+-- what the lines so far have made: nothing, a device that is described with its
+-- objects in the order of their lines, or one that runs
 pub data State : Type 0 where
   Empty : State
   Described : DeviceLine → List ObjectLine → State

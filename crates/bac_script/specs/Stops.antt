@@ -21,7 +21,8 @@ LineStops old new n s line (BadLine k) = IsFaultOf old new n s line (BadLine k)
 LineStops old new n s line (Build f) = IsFaultOf old new n s line (Build f)
 LineStops old new n s line Read = ⊥
 LineStops old new n s line TooLong = ⊥
-LineStops old new n s line Write = (text : List ℕ) × (t : State) × (step s line ≡ Ok (text, t)) × AppendsPart old new text
+LineStops old new n s line Write =
+    (text : List ℕ) × (t : State) × (step s line ≡ Ok (text, t)) × AppendsPart old new text
 LineStops old new n s line Memory = Keeps old new
 
 -- a line has this fault, and the writer holds the text of the lines before it
@@ -35,9 +36,12 @@ Stops old new s all (Build f) = FaultStops old new s all (Build f)
 Stops old new s all Read = ⊥
 Stops old new s all TooLong = ⊥
 Stops old new s all Write = AppendsPart old new (play 1 s all).0
-Stops old new s all Memory = (before : List (List ℕ)) × (after : List (List ℕ)) × (t : State) × (all ≡ before ++ after) × PlaysAll old new s before t
+Stops old new s all Memory =
+    (before : List (List ℕ)) × (after : List (List ℕ)) × (t : State) × (all ≡ before ++ after)
+    × PlaysAll old new s before t
 
 -- why the playing of a whole script stopped: one of its lines, or the device at its end
 abbrev pub ScriptStops : Option (List ℕ) → Option (List ℕ) → List ℕ → ReplayFault → Type 0
 ScriptStops old new script f = Stops old new Empty (lines script) f
-    ⊎ ((t : State) × (e : BuildFault) × (f ≡ replay_fault e) × PlaysAll old new Empty (lines script) t × Refuses e (end_fault t))
+    ⊎ ((t : State) × (e : BuildFault) × (f ≡ replay_fault e) × PlaysAll old new Empty (lines script) t
+    × Refuses e (end_fault t))

@@ -17,7 +17,8 @@ use Rattle.bac_script.specs.declared.replay.session.Session.TheVariants as sessi
 
 -- what the words of a line say, by its kind
 abbrev pub device_of : ℕ → List ℕ → ℕ → ℕ → CivilTime → ScriptLine
-device_of instance name vendor reply clock = Device (record { instance = instance; name = name; vendor = vendor; reply_size = reply; clock = clock })
+device_of instance name vendor reply clock =
+    Device (record { instance = instance; name = name; vendor = vendor; reply_size = reply; clock = clock })
 
 -- a line of a Binary Value
 abbrev pub binary_of : ℕ → List ℕ → ℕ → ScriptLine

@@ -1,5 +1,6 @@
 -- What a walk of a trend log of the device prints, while nothing happens to the device.
-use Rattle.std.specs.Prelude.{ℕ, ◌+◌, ◌-◌, ◌==◌, ◌&&◌, nat_lt, Bool, true, false, if◌then◌else◌, List, [], ◌∷◌, ◌++◌, codes, Option, None, Some}
+use Rattle.std.specs.Prelude.{ℕ, ◌+◌, ◌-◌, ◌==◌, ◌&&◌, nat_lt, Bool, true, false, if◌then◌else◌, List, [], ◌∷◌, ◌++◌}
+use Rattle.std.specs.Prelude.{codes, Option, None, Some}
 use Rattle.bac_wire.specs.Primitive.{Id}
 use Rattle.bac_direct.specs.Ahead.{moment_of, placed, turn}
 use Rattle.bac_log.specs.TrendLog.{Log, number}
@@ -36,8 +37,8 @@ outcome_text outcome = items_text outcome.items.items ++ end_line outcome.why ou
 abbrev pub missed_text : ℕ → ℕ → List ℕ
 missed_text next steps = end_line (why_ended (end_missing steps)) next
 
--- what a log holds, as a history and as a moment; its ordinals are a whole round of numbers further on, so that there are
--- ordinals before the first
+-- what a log holds, as a history and as a moment; its ordinals are a whole
+-- round of numbers further on, so that there are ordinals before the first
 abbrev pub held_by : Log → History
 held_by log = record { logged = log.before + turn 1; entries = log.entries }
 
@@ -52,7 +53,8 @@ nearest oldest n =
     then oldest + distance (number oldest) n
     else (oldest + distance (number oldest) n) - 4294967295
 
--- a walk of a device's log, or of one that the device doesn't have, from a number or, where it is fresh, from the oldest record
+-- a walk of a device's log, or of one that the device doesn't have, from a
+-- number or, where it is fresh, from the oldest record
 abbrev pub walked_text : device.State → Option Log → Bool → ℕ → ℕ → List ℕ
 walked_text d None fresh n steps = missed_text n steps
 walked_text d (Some log) fresh n steps =

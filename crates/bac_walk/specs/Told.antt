@@ -34,6 +34,7 @@ IsFault w result BadReply =
     (result ≡ Err fault.BadReply)
     ⊎ ((datagram : List ℕ) × (bad : NotTaken) × (result ≡ Ok datagram) × IsTakenFrom w (heard_in w.log datagram) (Err bad) w)
 
+-- the question of a walk that is here was asked last, and its result is this fault
 abbrev pub ToldFault : {S : Type 0} → (S → List ℕ → Result (List ℕ) Loss → S → Type 0) → Path → ℕ → WalkFault → Place → S → Type 0
 ToldFault {S = S} asks path retries fault w new =
     (result : Result (List ℕ) ExchangeFault) × HasAsked asks path retries w result new × IsFault w result fault

@@ -1,5 +1,6 @@
 -- What a line of a script says. It says it apart from what the lines before it have made.
-use Rattle.std.specs.Prelude.{ℕ, ◌^◌, ◌==◌, ◌||◌, nat_lt, Bool, if◌then◌else◌, List, [], ◌∷◌, length, slice_index, codes, Option, None, Some}
+use Rattle.std.specs.Prelude.{ℕ, ◌^◌, ◌==◌, ◌||◌, nat_lt, Bool, if◌then◌else◌, List, [], ◌∷◌, length, slice_index}
+use Rattle.std.specs.Prelude.{codes, Option, None, Some}
 use Rattle.std.specs.Str.{bytes_eq}
 use Rattle.bac_wire.specs.OptionChain.{◌>>=◌}
 use Rattle.bac_wire.specs.Primitive.{Id}
@@ -12,8 +13,9 @@ use Rattle.bac_script.specs.Script.Number.{number_in, below, integer_in}
 use Rattle.bac_script.specs.Script.Stamp.{stamp_in}
 use Rattle.bac_script.specs.Script.Words.{words_of, text_in}
 
--- what happens to a device: it receives these octets, its clock comes to this moment, its Trend Log with this instance takes a sample, or a
--- client walks a trend log, from a sequence number or, without one, from its oldest record, in at most so many steps
+-- what happens to a device: it receives these octets, its clock comes to this moment,
+-- its Trend Log with this instance takes a sample, or a client walks a trend log, from
+-- a sequence number or, without one, from its oldest record, in at most so many steps
 pub data Event : Type 0 where
   Received : List ℕ → Event
   Clocked : CivilTime → Event

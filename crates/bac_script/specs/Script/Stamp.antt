@@ -1,5 +1,6 @@
 -- A moment in a script: YYYY-MM-DDTHH:MM:SS.hh
-use Rattle.std.specs.Prelude.{ℕ, pos, ◌+◌, ◌-◌, ◌*◌, ◌==◌, ◌&&◌, nat_le, nat_lt, Bool, if◌then◌else◌, List, [], ◌∷◌, Option, None, Some}
+use Rattle.std.specs.Prelude.{ℕ, pos, ◌+◌, ◌-◌, ◌*◌, ◌==◌, ◌&&◌, nat_le, nat_lt, Bool, if◌then◌else◌, List, [], ◌∷◌}
+use Rattle.std.specs.Prelude.{Option, None, Some}
 use Rattle.std.specs.Char.{is_ascii_digit}
 use Rattle.jiff.specs.Words.{days_in_month}
 use Rattle.bac_wire.specs.OptionChain.{◌>>=◌}
@@ -48,15 +49,19 @@ end_at (b ∷ rest) = None
 
 -- the calendar has this day
 abbrev pub is_day : ℕ → ℕ → ℕ → Bool
-is_day year month day = nat_le 1 month && (nat_le month 12 && (nat_le 1 day && nat_le day (days_in_month (pos year) month)))
+is_day year month day =
+    nat_le 1 month && (nat_le month 12 && (nat_le 1 day && nat_le day (days_in_month (pos year) month)))
 
 -- a clock shows this time
 abbrev pub is_time : ℕ → ℕ → ℕ → ℕ → Bool
-is_time hour minute second hundredth = nat_lt hour 24 && (nat_lt minute 60 && (nat_lt second 60 && nat_lt hundredth 100))
+is_time hour minute second hundredth =
+    nat_lt hour 24 && (nat_lt minute 60 && (nat_lt second 60 && nat_lt hundredth 100))
 
 -- a day of the years 1990 to 2154, and a time
 unfoldable pub is_moment : CivilTime → Bool
-is_moment m = nat_le 1990 m.year && (nat_le m.year 2154 && (is_day m.year m.month m.day && is_time m.hour m.minute m.second m.hundredth))
+is_moment m =
+    nat_le 1990 m.year
+    && (nat_le m.year 2154 && (is_day m.year m.month m.day && is_time m.hour m.minute m.second m.hundredth))
 
 -- the parts of a moment, if they are one
 abbrev pub checked : CivilTime → Option CivilTime
