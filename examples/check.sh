@@ -217,6 +217,9 @@ counted ./rows.sh
 counted ./talk.py
 counted ./loopback.sh
 counted ./edges.sh
+counted ./keeping.sh
+# A device among strangers.
+counted ./hostile.sh
 
 echo "$passed passed, $failed failed"
 [ "$failed" -eq 0 ]
