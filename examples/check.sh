@@ -217,6 +217,9 @@ counted ./rows.sh
 counted ./talk.py
 counted ./loopback.sh
 counted ./edges.sh
+counted ./keeping.sh
+# A device among strangers.
+counted ./hostile.sh
 
 # The rows of vectors/, by a program of their own.
 ./vectors.sh > "$room/vectors"
