@@ -186,7 +186,7 @@ fn retries_are_counted_for_each_request(rt: HostRuntime) -> Result<(), Fail> {
 
 #[test]
 fn what_an_exchange_makes_of_an_answer(rt: HostRuntime) -> Result<(), Fail> {
-    let rows: [(&[u8], ExchangeFault); 6] = [
+    let rows: [(&[u8], ExchangeFault); 7] = [
         (
             &[0x81, 0x0a, 0, 13, 1, 0, 0x50, 1, 0x1a, 0x91, 1, 0x91, 31],
             ExchangeFault::Refused(Refusal::Error(1, 31)),
@@ -199,6 +199,10 @@ fn what_an_exchange_makes_of_an_answer(rt: HostRuntime) -> Result<(), Fail> {
         (
             &[0x81, 0x0a, 0, 9, 1, 0, 0x60, 1, 9],
             ExchangeFault::Refused(Refusal::Reject(9)),
+        ),
+        (
+            &[0x81, 0x0a, 0, 9, 1, 0, 0x71, 1, 4],
+            ExchangeFault::Refused(Refusal::Abort(4)),
         ),
         // the ACK of ReadProperty, a SimpleACK, and a segment
         (
@@ -234,6 +238,27 @@ fn write_of<'a>(zeros: &'a [u8]) -> Option<Request<'a>>
         value: Value::Octets(zeros),
         priority: None,
     }))
+}
+
+#[test]
+fn a_write_is_sent_again_until_it_is_acknowledged(rt: HostRuntime) -> Result<(), Fail> {
+    let Some(write) = write_of(&[1]) else {
+        return Err(Fail::from("no such request"));
+    };
+    // the SimpleACK of WriteProperty
+    let reply = [0x81, 0x0a, 0, 9, 1, 0, 0x20, 1, 0x0f];
+    for (losses, is_done) in [(0, true), (3, true), (4, false)] {
+        let mut link = Scripted {
+            losses,
+            failures: 0,
+            reply: &reply,
+        };
+        let mut transactions = Transactions::new(3);
+        let result = exchange(&mut link, &mut transactions, &write);
+        assert_eq!(rt; result.is_ok(), is_done);
+        assert_eq!(rt; link.failures, u64::from(losses));
+    }
+    Ok(())
 }
 
 #[test]

@@ -103,7 +103,9 @@ fn a_question_through_a_router(rt: HostRuntime) -> Result<(), Fail> {
     let log = ObjectId::new(20, 1).ok_or("no such identifier")?;
     let walk = Walk::from_number(log, 1).ok_or("no walk")?;
     let mut transactions = Transactions::through(3, route(7, &[0x0a])?);
-    let begun = transactions.begin(&walk.question()).ok().ok_or("too long")?;
+    // In a list of one, since the prover doesn't take a request that is lent from a variable.
+    let questions = [walk.question()];
+    let begun = transactions.begin(&questions[0]).ok().ok_or("too long")?;
     let octets = datagram(
         a,
         "810a001c01240007010aff0005011a0c0500000119836e210131646f",

@@ -338,6 +338,39 @@ fn a_refused_walk_stays_where_it_was(rt: HostRuntime) -> Result<(), Fail> {
 }
 
 #[test]
+fn a_walk_tells_the_fault_that_came(rt: HostRuntime) -> Result<(), Fail> {
+    let rows: [(&[u8], WalkFault); 3] = [
+        // a SimpleACK, a Reject, and the Abort of a server
+        (
+            &[0x81, 0x0a, 0, 9, 1, 0, 0x20, 1, 0x1a],
+            WalkFault::BadReply,
+        ),
+        (
+            &[0x81, 0x0a, 0, 9, 1, 0, 0x60, 1, 9],
+            WalkFault::Refused(Refusal::Reject(9)),
+        ),
+        (
+            &[0x81, 0x0a, 0, 9, 1, 0, 0x71, 1, 4],
+            WalkFault::Refused(Refusal::Abort(4)),
+        ),
+    ];
+    for (reply, want) in rows {
+        let replies: [&[u8]; 2] = [&NONE, reply];
+        let mut link = Scripted {
+            replies: &replies,
+            failures: 0,
+        };
+        let mut walk = walk_from(7)?;
+        let mut transactions = Transactions::new(3);
+        let outcome = collect(rt.alloc(), &mut link, &mut transactions, &mut walk, 10);
+        assert_eq!(rt; outcome.why, Why::Fault(want));
+        assert_eq!(rt; outcome.next, 7);
+        assert_eq!(rt; link.failures, 1);
+    }
+    Ok(())
+}
+
+#[test]
 fn a_stopped_walk_goes_on_behind_the_record(rt: HostRuntime) -> Result<(), Fail> {
     let first = two(1, 3);
     let second = two(2, 4);

@@ -6,10 +6,15 @@ ghost use Rattle.bac_log.specs.TrendLog.{number};
 ghost use Rattle.bac_link.specs.Delivery.{History, Moment, DeliversTo};
 ghost use Rattle.bac_link.specs.Laws.{after_answers};
 ghost use Rattle.bac_link.specs.Moments.{log_at};
+ghost use Rattle.bac_link.specs.Exchanges.{Unanswered};
+ghost use Rattle.bac_link.specs.Links.{question};
 ghost use Rattle.bac_link.specs.Path.{towards};
+ghost use Rattle.bac_link.specs.Requests.{request_octets};
 ghost use Rattle.bac_walk.specs.declared.outcome.Why.TheVariants as why;
 ghost use Rattle.bac_walk.specs.Near.{AreInWindow, IsNear};
-ghost use Rattle.bac_walk.specs.Rests.{rest_all};
+ghost use Rattle.bac_walk.specs.Rests.{Misses, rest_all};
+ghost use Rattle.bac_walk.specs.Walks.{question_of};
+ghost use Rattle.bac_walk.specs.declared.outcome.WalkFault.TheVariants as fault;
 
 use bac_link::{LogLink, Transactions};
 use bac_walk::{Outcome, Walk, collect, rests_all, windows_are_near};
@@ -59,4 +64,51 @@ pub fn all_records_from<L: LogLink>(
     };
     let mut transactions = Transactions::new(0);
     Some(collect(alloc, link, &mut transactions, &mut walk, steps))
+}
+
+/// Without steps nothing is asked, over any link.
+pub fn no_steps<L: LogLink>(
+    alloc: Global,
+    link: &mut L,
+    transactions: &mut Transactions,
+    walk: &mut Walk,
+) -> Outcome
+    ensures { (result.why ≡ why.StepLimit) × (result.items.items ≡ []) × (link.new ≡ link.old) × (transactions.new ≡ transactions.old) }
+{
+    collect(alloc, link, transactions, walk, 0)
+}
+
+/// Over any link, a walk that ends as lost asked its last question once, and as often again as the
+/// retries say, and no answer came.
+pub fn lost_after_all_tries<L: LogLink>(
+    alloc: Global,
+    link: &mut L,
+    transactions: &mut Transactions,
+    walk: &mut Walk,
+    steps: u32,
+) -> Outcome
+    ensures { result.why ≡ why.Fault fault.Lost → (before : L) × (invoke : ℕ)
+        × Unanswered L.asks (request_octets (towards transactions.old.route) invoke (question walk.new.log (question_of walk.new)))
+        (transactions.old.retries + 1) before link.new }
+{
+    collect(alloc, link, transactions, walk, steps)
+}
+
+/// Over a link that loses nothing and lacks the log, a second walk ends as the first does.
+pub fn missing_twice<L: LogLink>(
+    alloc: Global,
+    link: &mut L,
+    log: ObjectId,
+    s: u32,
+    steps: u32,
+) -> Option<(Outcome, Outcome)>
+    ensures { IfSome result (λ both. L.lacks link.old log → L.is_sure link.old (towards None) →
+        Misses steps s both.0.items.items both.0.next both.0.why × Misses steps s both.1.items.items both.1.next both.1.why) }
+{
+    let mut walk = Walk::from_number(log, s)?;
+    let mut again = Walk::from_number(log, s)?;
+    let mut transactions = Transactions::new(0);
+    let first = collect(alloc, link, &mut transactions, &mut walk, steps);
+    let second = collect(alloc, link, &mut transactions, &mut again, steps);
+    Some((first, second))
 }
