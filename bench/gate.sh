@@ -1,0 +1,100 @@
+#!/usr/bin/env bash
+# What the gate costs: for each crate the processor seconds of its check from nothing, of its tests
+# and of its must-fail edits, and the peak of memory of one process; then the longest chain of
+# crates, for which the gate waits however many processors there are.
+#
+#     bench/gate.sh [CRATE..]
+#
+# With names, those crates and the libraries below them. The last commit is measured, in a clone
+# that is removed, one crate after the other with one job each: some hours for all. `rt` is on the
+# PATH.
+set -eu
+cd "$(dirname "$0")/.."
+room=$(mktemp -d)
+trap 'rm -rf "$room"' EXIT
+git clone -q . "$room/clone"
+
+python3 - "$room" "$@" <<'PYTHON'
+import glob, os, re, subprocess, sys
+
+room, names = sys.argv[1], sys.argv[2:]
+top = f"{room}/clone"
+
+
+def crates():
+    """Each crate and the crates of the repository that it stands on, as crates.txt has them."""
+    lines = [line.split("#")[0].strip() for line in open(f"{top}/crates.txt")]
+    given = [line.partition(":") for line in lines if line]
+    uses = {name.split()[0]: below.split() for name, _, below in given}
+    return {name: [b for b in below if b in uses] for name, below in uses.items()}
+
+
+def in_order(uses, wanted):
+    """The wanted crates and all below them, lowest first."""
+    order = []
+
+    def visit(name):
+        if name not in order:
+            for below in uses[name]:
+                visit(below)
+            order.append(name)
+
+    for name in wanted:
+        visit(name)
+    return order
+
+
+def run(words, folder):
+    """Processor seconds and the peak of memory in GB; the text stays where a step failed."""
+    log = f"{room}/log"
+    with open(log, "w") as text:
+        process = subprocess.Popen(words, cwd=folder, stdout=text, stderr=subprocess.STDOUT)
+        _, status, used = os.wait4(process.pid, 0)
+    if status:
+        print(f"{' '.join(words)} in {os.path.basename(folder)} failed:", file=sys.stderr)
+        print("".join(open(log).readlines()[-20:]), file=sys.stderr)
+        sys.exit(1)
+    return used.ru_utime + used.ru_stime, used.ru_maxrss / 1e6
+
+
+def has_tests(folder):
+    files = glob.glob(f"{folder}/src/**/*.rt", recursive=True)
+    return any("#[test]" in open(file).read() for file in files)
+
+
+def measured(name):
+    """Check, tests and edits of a crate, the number of its edits, and its peak."""
+    folder = f"{top}/crates/{name}"
+    program = os.path.exists(f"{folder}/src/main.rt")
+    edits = len(glob.glob(f"{folder}/must-fail/*.edit"))
+    steps = [(["rt", "check" if program else "lib", "--jobs", "1"], folder)]
+    steps.append((["rt", "check", "--test", "--jobs", "1"], folder) if has_tests(folder) else None)
+    steps.append((["rt", "must-fail", name], top) if edits else None)
+    taken = [run(*step) if step else (0, 0) for step in steps]
+    return [seconds for seconds, _ in taken], edits, max(peak for _, peak in taken)
+
+
+uses = crates()
+unknown = [name for name in names if name not in uses]
+if unknown:
+    sys.exit(f"no such crate: {' '.join(unknown)}")
+order = in_order(uses, names or list(uses))
+print("| Crate | Check, s | Tests, s | Edits, s | Edits | Peak, GB |", flush=True)
+print("|---|---|---|---|---|---|", flush=True)
+sums, chain, peak, count = [0, 0, 0], {}, 0, 0
+for name in order:
+    seconds, edits, most = measured(name)
+    check, tests, tried = seconds
+    row = f"| `{name}` | {check:.0f} | {tests:.0f} | {tried:.0f} | {edits} | {most:.1f} |"
+    print(row, flush=True)
+    sums = [a + b for a, b in zip(sums, seconds)]
+    peak, count = max(peak, most), count + edits
+    # A crate waits for the checks below it, and nothing waits for its tests and edits.
+    longest = max((chain[below] for below in uses[name]), default=(0, []))
+    chain[name] = (longest[0] + seconds[0], longest[1] + [name])
+check, tests, tried = sums
+print(f"| all | {check:.0f} | {tests:.0f} | {tried:.0f} | {count} | {peak:.1f} |")
+print(f"\n{sum(sums) / 60:.0f} processor minutes in all, on {os.cpu_count()} processors.")
+seconds, crates_of = max(chain.values())
+print(f"The longest chain: {' '.join(crates_of)}, {seconds / 60:.0f} processor minutes of checks.")
+PYTHON
