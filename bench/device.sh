@@ -1,8 +1,9 @@
 #!/usr/bin/env bash
 # What a device costs: octets per second of a script of 1,048,576 octets whose lines but the first
 # few are ReadProperty and WriteProperty requests in turn; the time to build a device of 5,000,
-# 10,000, 20,000 and 40,000 objects; and a Trend Log that holds 65,535 records: samples a second,
-# ReadRange replies of 85 records by number and by time, and the memory of it all.
+# 10,000, 20,000 and 40,000 objects; a datagram to a device of 10 objects and to one of 40,000; and
+# a Trend Log that holds 65,535 records: samples a second, ReadRange replies of 85 records by number
+# and by time, and the memory of it all.
 set -eu
 cd "$(dirname "$0")/.."
 program=${1:-crates/bac/out/bac}
@@ -67,6 +68,29 @@ best() {
     done
     echo "$least"
 }
+# Datagrams as a server takes them, each behind a look at the clock: a thousand in a hundredth of a
+# second.
+clocked() {
+    awk -v device="$device" -v objects="$1" -v datagrams="$2" 'BEGIN {
+        print device
+        for (i = 1; i <= objects; i++) print "binary " i " " i " 0"
+        print "log 1 trend binary 1 100 100 0"
+        for (i = 0; i < datagrams; i++) {
+            moment = int(i / 1000)
+            printf "clock 2024-05-06T08:00:%02d.%02d\n", int(moment / 100), moment % 100
+            print "rx 810a001101040005020c0c014000011955"
+        }
+    }' > "$script"
+}
+for objects in 10 40000; do
+    clocked "$objects" 0
+    built=$(best)
+    clocked "$objects" 100000
+    awk -v objects="$objects" -v took=$(($(best) - built)) 'BEGIN {
+        printf "a datagram to a device of %d objects: %.2f us\n", objects, took / 100000 / 1e3
+    }'
+done
+
 full_log 0 0 ''
 empty=$(best)
 full_log 65535 0 ''
@@ -77,7 +101,7 @@ more=$(($(best) - samples))
 awk -v took="$more" 'BEGIN { printf "44465 samples more, of a full log: %.0f a second\n", 44465 * 1e9 / took }'
 by_number='rx 810a001701040005011a0c0500000119836e210131646f'
 by_time='rx 810a001f01040005011a0c0500000119837ea478010103b40000000031647f'
-# No record is newer than this one, so all of them are looked at.
+# No record is newer than this one.
 by_last_time='rx 810a001f01040005011a0c0500000119837ea47c050601b40708090a31647f'
 for kind in number time last_time; do
     request=by_$kind

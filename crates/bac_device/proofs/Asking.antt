@@ -1,12 +1,14 @@
--- What a ReadProperty is answered.
+-- What a ReadProperty and an accepted WriteProperty are answered.
 use Rattle.std.proofs.Common.{◌≡◌, refl, ℕ, min, false, List, Option, Some, None, Ok}
-use Rattle.bac_apdu.specs.Apdu.{Confirmed}
+use Rattle.bac_apdu.specs.Apdu.{Confirmed, Simple}
 use Rattle.bac_apdu.specs.Frame.{Frame, Unicast, Broadcast, Forwarded, Function, frame_at}
 use Rattle.bac_apdu.specs.Npdu.{Place}
 use Rattle.bac_apdu.specs.declared.service.read_property.ReadProperty.{ReadProperty}
 use Rattle.bac_objects.specs.State.{State}
 use Rattle.bac_apdu.specs.Service.ReadProperty.{read_property_at}
+use Rattle.bac_apdu.specs.Service.WriteProperty.{PropertyWrite, write_property_at}
 use Rattle.bac_objects.specs.Reading.{read_of}
+use Rattle.bac_objects.specs.Writing.{write_of}
 use Rattle.bac_device.specs.Receiving.{Heard}
 use Rattle.bac_device.specs.Answer.{ack, answer_frame, answer}
 use Rattle.bac_device.specs.Reply.{limited, reply}
@@ -31,3 +33,18 @@ pub read_answered : (d : State) (datagram : List ℕ) (source : Option Place) (s
     → (to : Receiver) × ((answer d datagram).0 ≡ Some (reply (record { to = to; place = source }) (limited (min size d.reply_size) invoke (ack invoke d r values))))
 unfolding answer
 read_answered d datagram source size invoke parameters r values h e v = answered d (frame_at datagram) source size invoke parameters r values h e v
+
+written : (d new : State) (f : Option Frame) (source : Option Place) (size invoke : ℕ) (parameters : List ℕ) (w : PropertyWrite)
+    → heard_in f ≡ Some (record { to_all = false; source = source; apdu = Confirmed false size invoke 15 parameters }) → write_property_at parameters ≡ Ok w → write_of d w ≡ Ok new
+    → (to : Receiver) × (answer_frame d f ≡ (Some (reply (record { to = to; place = source }) (Simple invoke 15)), new))
+written d new None source size invoke parameters w h e v = absurd (none_some _ h)
+written d new (Some (Unicast npdu)) source size invoke parameters w h e v = (Sender, rw (h, e, v) refl)
+written d new (Some (Broadcast npdu)) source size invoke parameters w h e v = (Sender, rw (h, e, v) refl)
+written d new (Some (Forwarded address npdu)) source size invoke parameters w h e v = (Address address, rw (h, e, v) refl)
+written d new (Some (Function function rest)) source size invoke parameters w h e v = absurd (none_some _ h)
+
+pub write_answered : (d new : State) (datagram : List ℕ) (source : Option Place) (size invoke : ℕ) (parameters : List ℕ) (w : PropertyWrite)
+    → heard_in (frame_at datagram) ≡ Some (record { to_all = false; source = source; apdu = Confirmed false size invoke 15 parameters }) → write_property_at parameters ≡ Ok w → write_of d w ≡ Ok new
+    → (to : Receiver) × (answer d datagram ≡ (Some (reply (record { to = to; place = source }) (Simple invoke 15)), new))
+unfolding answer
+write_answered d new datagram source size invoke parameters w h e v = written d new (frame_at datagram) source size invoke parameters w h e v

@@ -2,7 +2,7 @@
 use Rattle.std.specs.Prelude.{◌≡◌, ◌==◌, ℕ, false, List, [], ◌∷◌, length, min, slice_get, Option, Some, None, Ok}
 use Rattle.std.specs.Map.{lookup}
 use Rattle.bac_wire.specs.Primitive.{Primitive, Id, Object, Enumerated}
-use Rattle.bac_apdu.specs.Apdu.{Confirmed}
+use Rattle.bac_apdu.specs.Apdu.{Confirmed, Simple}
 use Rattle.bac_apdu.specs.Form.{Value, Mark, Inside, number_parameter}
 use Rattle.bac_apdu.specs.FormReading.{form_at}
 use Rattle.bac_apdu.specs.Frame.{frame_at}
@@ -13,6 +13,8 @@ use Rattle.bac_apdu.specs.Npdu.{Place}
 use Rattle.bac_objects.specs.Build.{build_fault, built, id_of}
 use Rattle.bac_objects.specs.Reading.{AreValid, read_of, values_octets}
 use Rattle.bac_apdu.specs.Service.ReadProperty.{read_property_at}
+use Rattle.bac_apdu.specs.Service.WriteProperty.{PropertyWrite, write_property_at}
+use Rattle.bac_objects.specs.Writing.{write_of}
 use Rattle.bac_objects.specs.State.{State, is_id}
 use Rattle.bac_objects.specs.declared.command.Command.{Command}
 use Rattle.bac_objects.specs.declared.command.Setting.{Setting}
@@ -20,7 +22,7 @@ use Rattle.bac_objects.specs.declared.lines.DeviceLine.{DeviceLine}
 use Rattle.bac_objects.specs.declared.lines.ObjectLine.{ObjectLine}
 use Rattle.bac_objects.specs.declared.object.Body.TheVariants as body
 use Rattle.bac_objects.specs.declared.object.Object as object
-use Rattle.bac_device.specs.Answer.{ack, ack_octets, answer, read_property_service}
+use Rattle.bac_device.specs.Answer.{ack, ack_octets, answer, read_property_service, write_property_service}
 use Rattle.bac_device.specs.History.{IsCommanded, Stands, after, default_of, heard_in, ids_in_order, is_done, write_asked, writes}
 use Rattle.bac_device.specs.Reply.{limited, reply}
 use Rattle.bac_device.specs.declared.reply.Receiver.{Receiver}
@@ -50,6 +52,15 @@ BuiltObjectsAreCommanded =
     (device : DeviceLine) (lines : List ObjectLine) (datagrams : List (List ℕ)) (i : ℕ) (line : ObjectLine) (default : Setting)
     → build_fault device lines ≡ None → slice_get lines i ≡ Some line → default_of line ≡ Some default
     → IsCommanded (after (built device lines) datagrams) (id_of line) (writes (built device lines) datagrams) default
+
+-- an accepted WriteProperty to this device alone is answered by SimpleACK, and leaves the device with what was written
+abbrev pub WritesAreAnswered : Type 0
+WritesAreAnswered =
+    (d new : State) (datagram : List ℕ) (source : Option Place) (size invoke : ℕ) (parameters : List ℕ) (w : PropertyWrite)
+    → heard_in (frame_at datagram)
+    ≡ Some (record { to_all = false; source = source; apdu = Confirmed false size invoke write_property_service parameters })
+    → write_property_at parameters ≡ Ok w → write_of d w ≡ Ok new
+    → (to : Receiver) × (answer d datagram ≡ (Some (reply (record { to = to; place = source }) (Simple invoke write_property_service)), new))
 
 -- ---- reads
 

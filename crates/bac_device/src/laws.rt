@@ -2,7 +2,7 @@
 
 ghost use Rattle.bac_device.specs.Laws.{AcceptedWritesStand, AcksAreReadBack, BuiltObjectsAreCommanded};
 ghost use Rattle.bac_device.specs.Laws.{ObjectListKeepsTheOrderOfLines, OthersChangeNothing};
-ghost use Rattle.bac_device.specs.Laws.{ReadsAreAnswered, RefusalsChangeNothing};
+ghost use Rattle.bac_device.specs.Laws.{ReadsAreAnswered, RefusalsChangeNothing, WritesAreAnswered};
 ghost use Rattle.bac_device.specs.Run.{RunsAreJoined, RunsOfDatagrams};
 
 /// A datagram that isn't answered by a SimpleACK changes nothing, nor does one that is no
@@ -10,6 +10,12 @@ ghost use Rattle.bac_device.specs.Run.{RunsAreJoined, RunsOfDatagrams};
 pub fn refusals_change_nothing()
     ensures refused { RefusalsChangeNothing }
     ensures other { OthersChangeNothing }
+{}
+
+/// A WriteProperty to this device alone that is accepted is answered by SimpleACK, and the device
+/// is then the one with what was written.
+pub fn writes_are_answered()
+    ensures { WritesAreAnswered }
 {}
 
 /// After any datagrams, each slot of an object has what the last accepted write to it set, and its

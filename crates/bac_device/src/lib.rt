@@ -28,7 +28,7 @@ pub use device::{ClockBack, Device};
 pub use laws::{
     accepted_writes_stand, acks_are_read_back, built_objects_are_commanded,
     object_list_keeps_the_order_of_lines, reads_are_answered, refusals_change_nothing,
-    runs_are_joined,
+    runs_are_joined, writes_are_answered,
 };
 pub use logs::{
     built_devices_have_logs, logs_move_by_steps, questions_are_answered,
