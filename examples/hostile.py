@@ -144,15 +144,16 @@ def changed_at_random(chance, base):
     octets = bytearray(chance.choice(base))
     for _ in range(chance.randint(1, 8)):
         place = chance.randrange(len(octets) + 1)
-        match chance.randrange(5):
-            case 0:
-                octets[place:place] = bytes([chance.randrange(256)])
-            case 1:
-                del octets[place : place + chance.randint(1, 4)]
-            case 2:
-                octets[place:place] = chance.choice(base)[4:][-chance.randint(1, 20) :]
-            case _:
-                octets[place : place + 1] = bytes([chance.choice((0, 1, 0x7F, 0xFF, chance.randrange(256)))])
+        change = chance.randrange(5)
+        if change == 0:
+            octets[place:place] = bytes([chance.randrange(256)])
+        elif change == 1:
+            del octets[place : place + chance.randint(1, 4)]
+        elif change == 2:
+            octets[place:place] = chance.choice(base)[4:][-chance.randint(1, 20) :]
+        else:
+            octet = chance.choice((0, 1, 0x7F, 0xFF, chance.randrange(256)))
+            octets[place : place + 1] = bytes([octet])
     if len(octets) >= 4 and chance.random() < 0.8:
         octets[2:4] = len(octets).to_bytes(2, "big")
     return bytes(octets)

@@ -38,9 +38,10 @@ cat > "$room/flood.py" <<'P'
 import random, socket, sys, time
 sys.path.insert(0, ".")
 import hostile
-base = [it for it in hostile.datagrams_of("refusals.script", "properties.script", "who-is.script", "by-time.script")]
+base = hostile.datagrams_of("refusals.script", "properties.script", "who-is.script", "by-time.script")
 chance = random.Random(1)
-sent = [it for it in base + [hostile.changed_at_random(chance, base) for _ in range(3000)] if it[9:10] != b"\x0f" and it[6:7] != b"\x0f"]
+sent = base + [hostile.changed_at_random(chance, base) for _ in range(3000)]
+# A WriteProperty has an octet 0f.
 sent = [it for it in sent if b"\x0f" not in it]
 me = socket.socket(socket.AF_INET, socket.SOCK_DGRAM)
 end, count = time.monotonic() + float(sys.argv[2]), 0

@@ -66,7 +66,7 @@ def heard(peer, wanted):
     """Receives one datagram, which must be the wanted one; answers where it came from."""
     try:
         octets, sender = peer.recvfrom(4096)
-    except TimeoutError:
+    except socket.timeout:
         raise Mismatch(f"no datagram came; wanted: {wanted.hex()}") from None
     if octets != wanted:
         raise Mismatch(f"sent: {octets.hex()}\nwanted: {wanted.hex()}")
