@@ -4,7 +4,7 @@ use Rattle.bac_find.specs.declared.fault.FindFault.TheVariants as find
 use Rattle.bac_query.specs.declared.fault.QueryFault.{QueryFault}
 use Rattle.bac_query.specs.declared.fault.QueryFault.TheVariants as query
 use Rattle.bac_tools.specs.declared.fault.Fault.{Fault}
-use Rattle.bac_tools.specs.declared.fault.Fault.TheVariants.{Socket, NoAnswer, Exchange, Write, Memory}
+use Rattle.bac_tools.specs.declared.fault.Fault.TheVariants.{Socket, Refused, NoAnswer, Exchange, Write, Memory}
 
 abbrev pub of_query : QueryFault → Fault
 of_query (query.Exchange fault) = Exchange fault
@@ -13,6 +13,7 @@ of_query query.Memory = Memory
 
 abbrev pub of_find : FindFault → Fault
 of_find find.Socket = Socket
+of_find (find.Refused address) = Refused address
 of_find find.NoAnswer = NoAnswer
 of_find find.Write = Write
 of_find find.Memory = Memory
