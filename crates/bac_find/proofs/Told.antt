@@ -6,7 +6,7 @@ use Rattle.bac_find.specs.Announcements.{Announcement, announced}
 use Rattle.bac_find.specs.Finding.{Came, Ends, IsLast, IsOver, Prints, has_device, line_of, lines_of}
 use Rattle.bac_find.specs.Hearing.{Found, Hears, Held, Shows, ended}
 use Rattle.bac_find.specs.declared.fault.FindFault.{FindFault}
-use Rattle.bac_find.specs.declared.fault.FindFault.TheVariants.{Socket, NoAnswer, Write, Memory}
+use Rattle.bac_find.specs.declared.fault.FindFault.TheVariants.{Socket, Refused, NoAnswer, Write, Memory}
 use Rattle.bac_ports.specs.Port.{Receiving}
 use Rattle.bac_ports.specs.declared.port.Heard.{Heard}
 use Rattle.bac_ports.specs.declared.port.SocketFault.TheVariants.{Timeout, Failed}
@@ -20,6 +20,7 @@ EndsOn receives limit taken came port held (Err NoAnswer) new after =
 EndsOn receives limit taken came port held (Err Socket) new after = Ends receives limit came port held (Err Socket) new after
 EndsOn receives limit taken came port held (Err Write) new after = Ends receives limit came port held (Err Write) new after
 EndsOn receives limit taken came port held (Err Memory) new after = Ends receives limit came port held (Err Memory) new after
+EndsOn receives limit taken came port held (Err (Refused address)) new after = ⊥
 
 abbrev pub PrintsOn : {P : Type 0} → (P → Receiving → P → Type 0) → ℕ → Bool → P → Held → Found → P → Held → Type 0
 PrintsOn {P = P} receives limit taken port held result new after =
@@ -33,6 +34,7 @@ none_before receives limit came port held (Err NoAnswer) new after ends = ends
 none_before receives limit came port held (Err Socket) new after ends = ends
 none_before receives limit came port held (Err Write) new after ends = ends
 none_before receives limit came port held (Err Memory) new after ends = ends
+none_before receives limit came port held (Err (Refused address)) new after ends = absurd ends
 
 -- nothing more came
 nothing_more : {P : Type 0} (receives : P → Receiving → P → Type 0) (limit : ℕ) (taken : Bool) (port : P) (held : Held) (new : P) →
@@ -56,6 +58,7 @@ shown_badly receives limit taken heard port held between (Some said) Memory is k
     (refl, (said, ([], heard, refl, is, Appends-kept held held between [] (Appends-nil held) kept)))
 shown_badly receives limit taken heard port held between (Some said) Socket is none = absurd none
 shown_badly receives limit taken heard port held between (Some said) NoAnswer is none = absurd none
+shown_badly receives limit taken heard port held between (Some said) (Refused address) is none = absurd none
 
 over_more : {P : Type 0} (receives : P → Receiving → P → Type 0) (limit : ℕ) (heard : Heard) (came : List Heard) (port new : P) →
     IsOver receives limit came port new → IsOver receives (suc limit) (heard ∷ came) port new
@@ -91,6 +94,7 @@ ends_more receives limit taken heard came port held between (Err Write) new afte
     (same, (said, mid, last_more said heard came held between mid first last, part))
 ends_more receives limit taken heard came port held between (Err Memory) new after first (same, (said, last)) =
     (same, (said, last_more said heard came held between after first last))
+ends_more receives limit taken heard came port held between (Err (Refused address)) new after first ends = absurd ends
 
 -- ---- all
 

@@ -8,7 +8,7 @@ use Rattle.bac_find.specs.Hearing.{Found, Held}
 use Rattle.bac_find.specs.Lines.{device_line}
 use Rattle.bac_find.specs.Requests.{who_is_octets}
 use Rattle.bac_find.specs.declared.search.Search.{Search}
-use Rattle.bac_find.specs.declared.fault.FindFault.TheVariants.{Socket, NoAnswer, Write, Memory}
+use Rattle.bac_find.specs.declared.fault.FindFault.TheVariants.{Socket, Refused, NoAnswer, Write, Memory}
 use Rattle.bac_ports.specs.Port.{Receiving, Sending}
 use Rattle.bac_ports.specs.declared.port.Heard.{Heard}
 use Rattle.bac_ports.specs.declared.port.SocketFault.TheVariants.{Timeout, Failed}
@@ -61,6 +61,7 @@ Ends receives limit came port held (Err Write) new after =
     × ((said : Announcement) × (between : Held) × IsLast said came held between × AppendsPart between after (device_line said))
 Ends receives limit came port held (Err Memory) new after =
     (new ≡ port) × ((said : Announcement) × IsLast said came held after)
+Ends receives limit came port held (Err (Refused address)) new after = ⊥
 
 -- Datagrams came, so many at most, and were shown. Each receive brings one, but for a last one in vain.
 abbrev pub Prints : {P : Type 0} → (P → Receiving → P → Type 0) → ℕ → P → Held → Found → P → Held → Type 0
@@ -70,29 +71,36 @@ Prints {P = P} receives limit port held result new after =
 
 -- ---- the requests
 
--- a refused send is the end
-abbrev pub IsSent : {P : Type 0} → Sending → P → Sending → P → Type 0 → Type 0
-IsSent (Err fault) port result new more = (result ≡ Err fault) × (new ≡ port)
-IsSent (Ok done) port result new more = more
+-- the first address to which a send was refused, when one more was made
+abbrev pub refused_by : Option (List ℕ) → Sending → List ℕ → Option (List ℕ)
+refused_by (Some before) sent address = Some before
+refused_by None (Ok done) address = None
+refused_by None (Err fault) address = Some address
 
--- the octets go to each address in order
+-- the octets go to each address in order; a refused send leaves the others
 unfoldable pub AsksEach : {P : Type 0} → (P → List ℕ → List ℕ → Sending → P → Type 0) → List ℕ → List (List ℕ)
-    → P → Sending → P → Type 0
-AsksEach sends octets [] port result new = (result ≡ Ok tt) × (new ≡ port)
-AsksEach {P = P} sends octets (address ∷ addresses) port result new =
+    → Option (List ℕ) → P → Option (List ℕ) → P → Type 0
+AsksEach sends octets [] before port refused new = (refused ≡ before) × (new ≡ port)
+AsksEach {P = P} sends octets (address ∷ addresses) before port refused new =
     (sent : Sending) × (mid : P) × sends port octets address sent mid
-    × IsSent sent mid result new (AsksEach sends octets addresses mid result new)
+    × AsksEach sends octets addresses (refused_by before sent address) mid refused new
 
 -- ---- the whole
 
--- nothing is received after a refused send
-abbrev pub IsAsked : {P : Type 0} → Sending → P → Held → Found → P → Held → Type 0 → Type 0
-IsAsked (Err fault) port held result new after more = (result ≡ Err Socket) × (new ≡ port) × (after ≡ held)
-IsAsked (Ok done) port held result new after more = more
+-- what is told in the end: an address to which a send was refused, where nothing else failed
+abbrev pub told_of : Option (List ℕ) → Found → Found
+told_of None heard = heard
+told_of (Some address) (Ok done) = Err (Refused address)
+told_of (Some address) (Err NoAnswer) = Err (Refused address)
+told_of (Some address) (Err Socket) = Err Socket
+told_of (Some address) (Err (Refused other)) = Err (Refused other)
+told_of (Some address) (Err Write) = Err Write
+told_of (Some address) (Err Memory) = Err Memory
 
 -- the request goes to each address in order, and then so many datagrams are received at most
 abbrev pub Finds : {P : Type 0} → (P → List ℕ → List ℕ → Sending → P → Type 0) → (P → Receiving → P → Type 0) → ℕ → Search
     → List (List ℕ) → P → Held → Found → P → Held → Type 0
 Finds {P = P} sends receives limit search addresses port held result new after =
-    (sent : Sending) × (mid : P) × AsksEach sends (who_is_octets search) addresses port sent mid
-    × IsAsked sent mid held result new after (Prints receives limit mid held result new after)
+    (refused : Option (List ℕ)) × (mid : P) × (heard : Found)
+    × AsksEach sends (who_is_octets search) addresses None port refused mid
+    × Prints receives limit mid held heard new after × (result ≡ told_of refused heard)

@@ -4,7 +4,7 @@ use Rattle.std.specs.Io.KnownBytes.{Appends, Keeps}
 use Rattle.bac_find.specs.Announcements.{Announcement, announced}
 use Rattle.bac_find.specs.Lines.{device_line}
 use Rattle.bac_find.specs.declared.fault.FindFault.{FindFault}
-use Rattle.bac_find.specs.declared.fault.FindFault.TheVariants.{Socket, NoAnswer, Write, Memory}
+use Rattle.bac_find.specs.declared.fault.FindFault.TheVariants.{Socket, Refused, NoAnswer, Write, Memory}
 use Rattle.bac_ports.specs.Port.{Receiving}
 use Rattle.bac_ports.specs.declared.port.SocketFault.TheVariants.{Timeout, Failed}
 use Rattle.bac_print.specs.Output.{AppendsPart}
@@ -27,6 +27,7 @@ Shows (Some said) (Ok shown) held after = (shown ≡ true) × Appends held after
 Shows (Some said) (Err Write) held after = AppendsPart held after (device_line said)
 Shows (Some said) (Err Memory) held after = Keeps held after
 Shows (Some said) (Err Socket) held after = ⊥
+Shows (Some said) (Err (Refused address)) held after = ⊥
 Shows (Some said) (Err NoAnswer) held after = ⊥
 
 -- a fault is the end; else there is more to be done, and it is known whether an I-Am was taken so far

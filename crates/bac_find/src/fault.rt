@@ -3,8 +3,10 @@
 /// Why devices weren't found.
 #[derive(Clone, Copy, Debug, PartialEq, Eq)]
 pub enum FindFault {
-    /// A send was refused, or a receive failed.
+    /// A receive failed.
     Socket,
+    /// A send to this address was refused; all else was done.
+    Refused([u8; 6]),
     /// No I-Am came.
     NoAnswer,
     /// The output refused a write.

@@ -1,9 +1,9 @@
 //! Finding devices: the requests, and the lines of the answers.
 
-ghost use Rattle.std.specs.Prelude.{◌≡◌, OnErr, OnOk, false};
+ghost use Rattle.std.specs.Prelude.{◌≡◌, None, OnErr, OnOk, false};
 ghost use Rattle.std.specs.Io.KnownBytes.{Appends};
 ghost use Rattle.bac_find.specs.Announcements.{announced as announced_by};
-ghost use Rattle.bac_find.specs.Finding.{AsksEach, Finds};
+ghost use Rattle.bac_find.specs.Finding.{AsksEach, Finds, refused_by, told_of};
 ghost use Rattle.bac_find.specs.Hearing.{Hears, Shows, ended};
 ghost use Rattle.bac_print.specs.Output.{AppendsPart};
 
@@ -28,8 +28,9 @@ pub const RECEIVES: u32 = 4096;
 /// behind a router.
 ///
 /// Other datagrams are passed over. After 4096 datagrams, whatever they are, no more are received.
-/// A refused send, a failed receive, a refused write and want of memory for a line end it at once;
-/// the lines before are written. Where no I-Am came it is `NoAnswer`.
+/// A failed receive, a refused write and want of memory for a line end it at once; the lines before
+/// are written. A refused send ends nothing: the others are asked, their lines are printed, and the
+/// first address that refused is told. Else it is `NoAnswer` where no I-Am came.
 pub fn find_devices<P: Port, W: Write>(
     alloc: Global,
     port: &mut P,
@@ -40,21 +41,47 @@ pub fn find_devices<P: Port, W: Write>(
     ensures { Finds P.sends P.receives RECEIVES search.now addresses.now port.old (W.contents out.old) result port.new (W.contents out.new) }
 {
     let datagram = datagram_of(search);
-    match ask_each(port, datagram.octets(), addresses) {
-        Ok(()) => hear(alloc, port, RECEIVES, out),
-        Err(_) => Err(FindFault::Socket),
+    let refused = ask_each(port, datagram.octets(), addresses);
+    let heard = hear(alloc, port, RECEIVES, out);
+    told_of(refused, heard)
+}
+
+/// What is told in the end: an address to which a send was refused, where nothing else failed.
+fn told_of(refused: Option<[u8; 6]>, heard: Result<(), FindFault>) -> Result<(), FindFault>
+    ensures { result ≡ told_of refused heard }
+{
+    match (refused, heard) {
+        (Some(address), Ok(()) | Err(FindFault::NoAnswer)) => Err(FindFault::Refused(address)),
+        (_, heard) => heard,
     }
 }
 
-/// Sends the octets to each address in order, up to the first refused send.
+/// Sends the octets to each address in order; answers the first to which a send was refused.
 #[tactic(auto, unfolding(crate::specs::Finding::AsksEach))]
-fn ask_each<P: Port>(port: &mut P, octets: &[u8], addresses: &[[u8; 6]]) -> Result<(), SocketFault>
-    ensures { AsksEach P.sends octets.now addresses.now port.old result port.new }
+fn ask_each<P: Port>(port: &mut P, octets: &[u8], addresses: &[[u8; 6]]) -> Option<[u8; 6]>
+    ensures { AsksEach P.sends octets.now addresses.now None port.old result port.new }
 {
+    let mut refused = None;
     for address in addresses {
-        port.send(octets, *address)?;
+        let sent = port.send(octets, *address);
+        refused = refused_by(refused, sent, *address);
     }
-    Ok(())
+    refused
+}
+
+/// The first refused address, when this send was made.
+fn refused_by(
+    before: Option<[u8; 6]>,
+    sent: Result<(), SocketFault>,
+    address: [u8; 6],
+) -> Option<[u8; 6]>
+    ensures { result ≡ refused_by before sent address }
+{
+    match (before, sent) {
+        (Some(before), _) => Some(before),
+        (None, Ok(())) => None,
+        (None, Err(_)) => Some(address),
+    }
 }
 
 /// Receives so many datagrams at most, and prints the lines of the I-Ams among them.

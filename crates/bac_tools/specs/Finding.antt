@@ -1,5 +1,5 @@
 -- What finding devices leaves on the output. Nothing is said of what comes from a socket.
-use Rattle.std.specs.Prelude.{◌≡◌, ◌⊎◌, ℕ, List, Option, None, Some, Result, Ok, Err}
+use Rattle.std.specs.Prelude.{◌≡◌, ◌⊎◌, ℕ, List, Option, None, Some, Ok, Err}
 use Rattle.std.specs.Option.{unwrap_or}
 use Rattle.bac_find.specs.Finding.{Finds}
 use Rattle.bac_find.specs.Hearing.{Found}
@@ -8,6 +8,7 @@ use Rattle.bac_ports.specs.declared.udp_port.UdpPort.{UdpPort}
 use Rattle.bac_query.specs.Reading.{Held}
 use Rattle.bac_tools.specs.Ending.{Ending, IsClosed}
 use Rattle.bac_tools.specs.Faults.{of_find}
+use Rattle.bac_tools.specs.Sockets.{IsOpen, any_receive, any_send, own_address}
 
 -- the limits of the instances that are to answer; the lowest alone is both
 abbrev pub limits_of : Option ℕ → Option ℕ → Option (ℕ × ℕ)
@@ -23,10 +24,9 @@ abbrev pub of_found : Found → Ending
 of_found (Ok done) = Ok 0
 of_found (Err fault) = Err (of_find fault)
 
--- the request goes to each address, and lines are printed of at most 4096 datagrams that come
-abbrev pub Searches : Search → List (List ℕ) → Held → Held → Ending → Type 0
-Searches search addresses old new result =
+-- the request goes to each address from a socket as the words say, and lines are printed of at most 4096 datagrams that come
+abbrev pub Searches : Search → List (List ℕ) → Option (List ℕ) → ℕ → Held → Held → Ending → Type 0
+Searches search addresses local timeout old new result =
     IsClosed old new result
-    ⊎ ((found : Found) × ((port : UdpPort) × (after : UdpPort)
-    × Finds (λ before octets to answer behind. Unit {0}) (λ before answer behind. Unit {0}) 4096 search addresses port old found after new)
-    × (result ≡ of_found found))
+    ⊎ ((port : UdpPort) × (found : Found) × (after : UdpPort) × IsOpen (own_address local) timeout port
+    × Finds any_send any_receive 4096 search addresses port old found after new × (result ≡ of_found found))

@@ -1,6 +1,7 @@
 -- What the program does with its words. Read from the end. `input` is what the reader had and `left` what it has left; `old` and `new` are
 -- what the output held before and holds now, each where that is known.
 use Rattle.std.specs.Prelude.{◌≡◌, ◌≢◌, ◌≤◌, ◌⊎◌, ℕ, ◌==◌, if◌then◌else◌, List, [], Option, Some, None, Result, Ok, Err}
+use Rattle.std.specs.List.{list_any}
 use Rattle.std.specs.Io.KnownBytes.{Keeps}
 use Rattle.clap.specs.Words.{Text, IsAmong}
 use Rattle.clap.specs.declared.error.kind.ErrorKind.{ErrorKind}
@@ -11,10 +12,14 @@ use Rattle.bac_apdu.specs.declared.service.write_property.WriteProperty.{WritePr
 use Rattle.bac_link.specs.Path.{towards}
 use Rattle.bac_link.specs.declared.item.Item.{Item}
 use Rattle.bac_link.specs.declared.request.Request.{Request}
-use Rattle.bac_link.specs.declared.transactions.Transactions.{Transactions}
+use Rattle.bac_link.specs.Requests.{next_invoke}
 use Rattle.bac_link.specs.declared.request.Request.TheVariants as request
-use Rattle.bac_objects.specs.Build.{build_fault}
+use Rattle.bac_objects.specs.Build.{build_fault, built}
+use Rattle.bac_objects.specs.State.{State}
+use Rattle.bac_objects.specs.declared.lines.ObjectLine.{ObjectLine}
 use Rattle.bac_objects.specs.declared.build.BuildFault.{BuildFault}
+use Rattle.bac_ports.specs.declared.udp_port.UdpPort.{UdpPort}
+use Rattle.bac_print.specs.Output.{AppendsPart}
 use Rattle.bac_query.specs.Fetching.{Fetching, PrintsItems}
 use Rattle.bac_query.specs.Reading.{Answer, Held, ReadsProperty}
 use Rattle.bac_query.specs.Writing.{WritesProperty}
@@ -22,14 +27,22 @@ use Rattle.bac_tools.specs.Ending.{Ending, IsClosed}
 use Rattle.bac_tools.specs.Faults.{of_query}
 use Rattle.bac_tools.specs.Finding.{Searches, search_of}
 use Rattle.bac_tools.specs.Given.{value_of}
+use Rattle.bac_tools.specs.Sockets.{IsAsking, IsOpen, any_receive, any_send}
 use Rattle.bac_tools.specs.Status.{exit_status, walk_status}
+use Rattle.bac_tools.specs.Texts.{told_text}
+use Rattle.bac_tools.specs.declared.asking.Asking.{Asking}
 use Rattle.bac_tools.specs.declared.fault.Fault.{Fault}
-use Rattle.bac_tools.specs.declared.fault.Fault.TheVariants.{NotText, BadValue, NoDevice, Script, Socket, NoAnswer, Exchange, Write, Memory}
+use Rattle.bac_tools.specs.declared.fault.Fault.TheVariants.{BadValue, NoDevice, Script, Socket, Memory}
 use Rattle.bac_script.specs.Configuration.{Configures}
 use Rattle.bac_script.specs.Replay.{Replays}
 use Rattle.bac_script.specs.declared.configuration.Configuration.{Configuration}
 use Rattle.bac_script.specs.declared.replay.fault.ReplayFault.{ReplayFault}
 use Rattle.bac_script.specs.declared.replay.fault.ReplayFault.TheVariants.{Build}
+use Rattle.bac_serve.specs.Serving.{Done, Serves as ServesDevice}
+use Rattle.bac_serve.specs.Waiting.{has_interval}
+use Rattle.bac_walk.specs.Place.{Place, walk_at, walk_from_oldest}
+use Rattle.bac_wire.specs.Primitive.{Id}
+use Rattle.bac_wire.specs.Stamp.{CivilTime}
 use Rattle.bac_words.specs.Outcome.{mistakes_of, job_in}
 use Rattle.bac_words.specs.declared.job.Asked.{Asked}
 use Rattle.bac_words.specs.declared.job.Given.{Given}
@@ -62,27 +75,28 @@ abbrev pub of_fetching : Fetching → Ending
 of_fetching (Ok fetched) = Ok (walk_status fetched.why)
 of_fetching (Err fault) = Err (of_query fault)
 
--- none begun, each request to be repeated as often as the words say, and by the way that they say
-abbrev pub transactions_with : Asked → Transactions
-transactions_with asked = record { retries = asked.retries; route = asked.route; invoke = 0; begun = 0; pending = None }
-
--- ReadProperty, by the way that the words say, with invoke ID 1
+-- ReadProperty, over the link and with the transactions that the words say
 abbrev pub Reads : Asked → ReadProperty → Held → Held → Ending → Type 0
 Reads asked question old new result =
     IsClosed old new result
-    ⊎ ((answer : Answer) × ReadsProperty (towards asked.route) 1 question answer old new × (result ≡ of_answer answer))
+    ⊎ ((with : Asking) × (answer : Answer) × IsAsking asked with
+    × ReadsProperty (towards with.transactions.route) (next_invoke with.transactions.invoke) question answer old new
+    × (result ≡ of_answer answer))
 
--- WriteProperty, by the way that the words say, with invoke ID 1
+-- WriteProperty, likewise
 abbrev pub Writes : Asked → Request → Held → Held → Ending → Type 0
 Writes asked question old new result =
     IsClosed old new result
-    ⊎ ((answer : Answer) × WritesProperty (towards asked.route) 1 question answer old new × (result ≡ of_answer answer))
+    ⊎ ((with : Asking) × (answer : Answer) × IsAsking asked with
+    × WritesProperty (towards with.transactions.route) (next_invoke with.transactions.invoke) question answer old new
+    × (result ≡ of_answer answer))
 
 -- lines of records and gaps, and the line of the end
-abbrev pub Fetches : Held → Held → Ending → Type 0
-Fetches old new result =
+abbrev pub Fetches : Asked → Held → Held → Ending → Type 0
+Fetches asked old new result =
     IsClosed old new result
-    ⊎ ((items : List Item) × ((fetching : Fetching) × PrintsItems items fetching old new × (result ≡ of_fetching fetching)))
+    ⊎ ((with : Asking) × (items : List Item) × (fetching : Fetching) × IsAsking asked with
+    × PrintsItems items fetching old new × (result ≡ of_fetching fetching))
 
 -- an object type or an instance that no identifier has (clause 20.2.14)
 abbrev pub IsOutside : ℕ → ℕ → Type 0
@@ -95,6 +109,15 @@ IsUnasked word old new result = (result ≡ Err (BadValue word)) × Keeps old ne
 -- no trend log has this instance, or no record this number
 abbrev pub IsNoWalk : ℕ → Option ℕ → Fault → Type 0
 IsNoWalk instance from fault = (IsOutside 20 instance × (fault ≡ BadValue Instance)) ⊎ ((from ≡ Some 0) × (fault ≡ BadValue From))
+
+-- the trend log with this instance
+abbrev pub trend_log : ℕ → Id
+trend_log instance = record { kind = 20; instance = instance }
+
+-- the walk from record FROM of a log on, or from its oldest record
+abbrev pub walk_from : ℕ → Option ℕ → Place
+walk_from instance None = walk_from_oldest (trend_log instance)
+walk_from instance (Some number) = walk_at (trend_log instance) number
 
 -- the parameters of a request, by the words
 abbrev pub question : ℕ → ℕ → ℕ → Option ℕ → ReadProperty
@@ -129,50 +152,67 @@ IsConfigured input left (Err other) = ⊥
 abbrev pub IsUnbuilt : Option BuildFault → Fault → Type 0
 IsUnbuilt said fault = (said ≡ None × (fault ≡ Memory)) ⊎ ((f : BuildFault) × (said ≡ Some f) × (fault ≡ Script (Build f)))
 
--- the device that is described was served to the end, or there was no socket for it
-abbrev pub IsServed : Option BuildFault → Ending → Type 0
-IsServed said result = (said ≡ None) × ((result ≡ Ok 0) ⊎ (result ≡ Err Socket))
+abbrev pub of_served : Done → Ending
+of_served (Ok done) = Ok 0
+of_served (Err fault) = Err Socket
 
--- a configuration that isn't one, a device that can't be built, or a device that was served
-abbrev pub Serves : Held → Held → Ending → Type 0
-Serves input left result =
-    ((fault : Fault) × IsConfigured input left (Err fault) × (result ≡ Err fault))
-    ⊎ ((c : Configuration) × IsConfigured input left (Ok c) × (((fault : Fault) × IsUnbuilt (build_fault c.device c.objects.items) fault × (result ≡ Err fault))
-    ⊎ IsServed (build_fault c.device c.objects.items) result))
+-- the device was served for so many datagrams at a socket with this address and wait, or there was no socket for it
+abbrev pub IsServed : {C : Type 0} → (C → Option CivilTime → C → Type 0) → List ℕ → ℕ → ℕ → State → C → Ending → C → Type 0
+IsServed tells address wait count device clock result told =
+    ((result ≡ Err Socket) × (told ≡ clock))
+    ⊎ ((port : UdpPort) × (served : Done) × (new : UdpPort) × (after : State) × IsOpen address wait port
+    × ServesDevice any_send any_receive tells count port device clock served new after told × (result ≡ of_served served))
+
+-- a fifth of a second while a log has an interval, so that it takes its samples while nobody asks; else without limit
+abbrev pub wait_of : List ObjectLine → ℕ
+wait_of lines = if list_any has_interval lines then 200 else 0
+
+-- the faults of the configuration, of the build and of the socket, in this order
+abbrev pub Serves : {C : Type 0} → (C → Option CivilTime → C → Type 0) → List ℕ → ℕ → Held → Held → C → Ending → C → Type 0
+Serves tells address count input left clock result told =
+    ((fault : Fault) × IsConfigured input left (Err fault) × (result ≡ Err fault) × (told ≡ clock))
+    ⊎ ((c : Configuration) × IsConfigured input left (Ok c)
+    × (((fault : Fault) × IsUnbuilt (build_fault c.device c.objects.items) fault × (result ≡ Err fault) × (told ≡ clock))
+    ⊎ ((build_fault c.device c.objects.items ≡ None) × IsServed tells address (wait_of c.objects.items) count (built c.device c.objects.items) clock result told)))
 
 -- ---- any job
 
--- what each job does
-abbrev pub Works : Job → Held → Held → Held → Held → Ending → Type 0
-Works job.Replay input left old new result = Plays input left old new result
-Works (job.Rp asked object_type instance property index) input left old new result =
-    (IsOutside object_type instance × IsUnasked Instance old new result)
-    ⊎ Reads asked (question object_type instance property index) old new result
-Works (job.Wp asked object_type instance property priority given index) input left old new result =
-    (IsOutside object_type instance × IsUnasked Instance old new result)
+-- The clock moves on only while a device is served.
+abbrev pub Works : {C : Type 0} → (C → Option CivilTime → C → Type 0) → Job → Held → Held → Held → Held → C → Ending → C → Type 0
+Works tells job.Replay input left old new clock result told = Plays input left old new result × (told ≡ clock)
+Works tells (job.Rp asked object_type instance property index) input left old new clock result told =
+    ((IsOutside object_type instance × IsUnasked Instance old new result)
+    ⊎ Reads asked (question object_type instance property index) old new result) × (told ≡ clock)
+Works tells (job.Wp asked object_type instance property priority given index) input left old new clock result told =
+    ((IsOutside object_type instance × IsUnasked Instance old new result)
     ⊎ ((w : WriteProperty) × (write_of_code w ≡ setting object_type instance property priority given index)
-    × Writes asked (request.WriteProperty w) old new result)
-Works (job.Log asked instance from steps) input left old new result =
-    ((fault : Fault) × (IsNoWalk instance from fault × (result ≡ Err fault)) × Keeps old new) ⊎ Fetches old new result
-Works (job.Serve address count) input left old new result = Serves input left result × Keeps old new
-Works (job.Wi addresses min max dnet local timeout) input left old new result = Searches (search_of min max dnet) addresses old new result
+    × Writes asked (request.WriteProperty w) old new result)) × (told ≡ clock)
+Works tells (job.Log asked instance from steps) input left old new clock result told =
+    (((fault : Fault) × (IsNoWalk instance from fault × (result ≡ Err fault)) × Keeps old new) ⊎ Fetches asked old new result)
+    × (told ≡ clock)
+Works tells (job.Serve address count) input left old new clock result told =
+    Serves tells address count input left clock result told × Keeps old new
+Works tells (job.Wi addresses min max dnet local timeout) input left old new clock result told =
+    Searches (search_of min max dnet) addresses local timeout old new result × (told ≡ clock)
 
 -- ---- the status
 
--- that of the fault that is told, or of want of memory for its text
-abbrev pub IsTold : Fault → ℕ → Type 0
-IsTold fault status = (status ≡ exit_status fault) ⊎ (status ≡ exit_status Memory)
+-- the fault's text is written on the errors, or a front part of it; or that memory was wanting for the text
+abbrev pub IsTold : Fault → Held → Held → ℕ → Type 0
+IsTold fault old new status =
+    ((status ≡ exit_status fault) × AppendsPart old new (told_text fault))
+    ⊎ ((status ≡ exit_status Memory) × AppendsPart old new (told_text Memory))
 
--- the status of what was done, or of a fault
-abbrev pub Ends : Ending → ℕ → Type 0
-Ends (Ok done) status = status ≡ done
-Ends (Err fault) status = IsTold fault status
+-- nothing is written on the errors where there is no fault
+abbrev pub Ends : Ending → Held → Held → ℕ → Type 0
+Ends (Ok done) old new status = (status ≡ done) × Keeps old new
+Ends (Err fault) old new status = IsTold fault old new status
 
 -- what the words ask for is done, or nothing is, for want of memory for the words
-abbrev pub Runs : Job → Held → Held → Held → Held → ℕ → Type 0
-Runs asked input left old new status =
-    ((status ≡ exit_status Memory) × Keeps old new)
-    ⊎ ((result : Ending) × Works asked input left old new result × Ends result status)
+abbrev pub Runs : {C : Type 0} → (C → Option CivilTime → C → Type 0) → Job → Held → Held → Held → Held → Held → Held → C → ℕ → C → Type 0
+Runs tells asked input left old new errors told clock status after =
+    (IsTold Memory errors told status × Keeps old new × (after ≡ clock))
+    ⊎ ((result : Ending) × Works tells asked input left old new clock result after × Ends result errors told status)
 
 -- words that ask for a job
 abbrev pub AskFor : List Text → Job → Type 0

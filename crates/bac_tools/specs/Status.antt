@@ -4,7 +4,7 @@ use Rattle.std.specs.Prelude.{ℕ}
 use Rattle.bac_link.specs.declared.exchanges.ExchangeFault.{ExchangeFault}
 use Rattle.bac_link.specs.declared.exchanges.ExchangeFault.TheVariants as exchange
 use Rattle.bac_tools.specs.declared.fault.Fault.{Fault}
-use Rattle.bac_tools.specs.declared.fault.Fault.TheVariants.{NotText, BadValue, NoDevice, Script, Socket, NoAnswer, Exchange, Write, Memory}
+use Rattle.bac_tools.specs.declared.fault.Fault.TheVariants.{NotText, BadValue, NoDevice, Script, Socket, Refused, NoAnswer, Exchange, Write, Memory}
 use Rattle.bac_script.specs.declared.replay.fault.ReplayFault.{ReplayFault}
 use Rattle.bac_script.specs.declared.replay.fault.ReplayFault.TheVariants as replay
 use Rattle.bac_walk.specs.declared.outcome.WalkFault.TheVariants as walk
@@ -34,6 +34,7 @@ exit_status (BadValue word) = 1
 exit_status NoDevice = 1
 exit_status (Script fault) = script_status fault
 exit_status Socket = 2
+exit_status (Refused address) = 2
 exit_status NoAnswer = 2
 exit_status (Exchange fault) = exchange_status fault
 exit_status Write = 2

@@ -1,13 +1,14 @@
 //! The tools that ask one device.
 
-ghost use Rattle.std.specs.Prelude.{◌≡◌, IfErr};
+ghost use Rattle.std.specs.Prelude.{◌≡◌, None, IfOk, IfErr};
 ghost use Rattle.bac_link.specs.Requests.{IsSendable};
 ghost use Rattle.bac_wire.specs.View.{view, IsWellFormed};
 ghost use Rattle.bac_tools.specs.Given.{value_of};
-ghost use Rattle.bac_tools.specs.Run.{Fetches, Reads, Writes, transactions_with};
+ghost use Rattle.bac_tools.specs.Run.{Fetches, Reads, Writes};
+ghost use Rattle.bac_tools.specs.Sockets.{IsAsking};
 
 use crate::fault::{Fault, walk_status};
-use bac_apdu::ReadProperty;
+use bac_apdu::{ReadProperty, Route};
 use bac_link::{Request, Transactions};
 use bac_ports::{UdpLink, UdpPort};
 use bac_query::{fetch_log, read_property, write_property};
@@ -21,24 +22,41 @@ use std::net::Net;
 /// Any address of this machine, and any free port.
 pub(crate) const ANY: [u8; 6] = [0; 6];
 
-/// A link to the device that is asked.
-fn link_to<R: Net>(rt: &R, asked: &Asked) -> Result<UdpLink<UdpPort>, Fault>
-    ensures { IfErr result (λ fault. fault ≡ Fault.Socket) }
-{
-    match UdpPort::open(rt, asked.local.unwrap_or(ANY), asked.timeout) {
-        Ok(port) => Ok(UdpLink::new(port, asked.address)),
-        Err(_) => Err(Fault::Socket),
-    }
+/// A link to the device that is asked, and transactions with it.
+#[derive(Debug, Drop)]
+pub(crate) struct Asking {
+    link: UdpLink<UdpPort>,
+    transactions: Transactions,
 }
 
-/// Transactions with the device that is asked, by the way to it.
-fn transactions_with(asked: Asked) -> Transactions
-    ensures { result ≡ transactions_with asked.entry }
+/// Transactions by a route, or with a device of this network.
+fn transactions_by(retries: u8, route: Option<Route>) -> Transactions
+    ensures { result ≡ record { retries = retries; route = route; invoke = 0; begun = 0; pending = None } }
 {
-    let Asked { retries, route, .. } = asked;
     match route {
         Some(route) => Transactions::through(retries, route),
         None => Transactions::new(retries),
+    }
+}
+
+/// Opens a socket to ask the device that the words name, as they say.
+fn connect<R: Net>(rt: &R, asked: Asked) -> Result<Asking, Fault>
+    ensures ok { IfOk result (λ asking. IsAsking asked asking) }
+    ensures err { IfErr result (λ fault. fault ≡ Fault.Socket) }
+{
+    let Asked {
+        address,
+        local,
+        timeout,
+        retries,
+        route,
+    } = asked;
+    match UdpPort::open(rt, local.unwrap_or(ANY), timeout) {
+        Ok(port) => Ok(Asking {
+            link: UdpLink::new(port, address),
+            transactions: transactions_by(retries, route),
+        }),
+        Err(_) => Err(Fault::Socket),
     }
 }
 
@@ -50,10 +68,12 @@ pub(crate) fn rp<R: Net, O: Write>(
     question: ReadProperty,
     output: &mut O,
 ) -> Result<u8, Fault>
-    ensures { Reads asked.entry question (O.contents output.old) (O.contents output.new) result }
+    ensures { Reads asked question (O.contents output.old) (O.contents output.new) result }
 {
-    let mut link = link_to(rt, &asked)?;
-    let mut transactions = transactions_with(asked);
+    let Asking {
+        mut link,
+        mut transactions,
+    } = connect(rt, asked)?;
     match read_property(alloc, &mut link, &mut transactions, question, output) {
         Ok(()) => Ok(0),
         Err(fault) => Err(Fault::of_query(fault)),
@@ -68,10 +88,12 @@ pub(crate) fn wp<R: Net, O: Write>(
     output: &mut O,
 ) -> Result<u8, Fault>
     requires { IsSendable question.now }
-    ensures { Writes asked.entry question.now (O.contents output.old) (O.contents output.new) result }
+    ensures { Writes asked question.now (O.contents output.old) (O.contents output.new) result }
 {
-    let mut link = link_to(rt, &asked)?;
-    let mut transactions = transactions_with(asked);
+    let Asking {
+        mut link,
+        mut transactions,
+    } = connect(rt, asked)?;
     match write_property(&mut link, &mut transactions, question, output) {
         Ok(()) => Ok(0),
         Err(fault) => Err(Fault::of_query(fault)),
@@ -87,10 +109,12 @@ pub(crate) fn log<R: Net, O: Write>(
     steps: u32,
     output: &mut O,
 ) -> Result<u8, Fault>
-    ensures { Fetches (O.contents output.old) (O.contents output.new) result }
+    ensures { Fetches asked (O.contents output.old) (O.contents output.new) result }
 {
-    let mut link = link_to(rt, &asked)?;
-    let mut transactions = transactions_with(asked);
+    let Asking {
+        mut link,
+        mut transactions,
+    } = connect(rt, asked)?;
     match fetch_log(alloc, &mut link, &mut transactions, walk, steps, output) {
         Ok(fetched) => Ok(walk_status(fetched.why)),
         Err(fault) => Err(Fault::of_query(fault)),

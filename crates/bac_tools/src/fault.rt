@@ -23,6 +23,8 @@ pub enum Fault {
     Script(ReplayFault),
     /// A socket couldn't be opened, or it failed.
     Socket,
+    /// No request could be sent to this address.
+    Refused([u8; 6]),
     /// No device announced itself.
     NoAnswer,
     /// The device's answer didn't come, or isn't the ACK that belongs to the request.
@@ -62,7 +64,7 @@ impl Fault {
         match self {
             Fault::NotText | Fault::BadValue(_) | Fault::NoDevice => 1,
             Fault::Script(fault) => script_status(fault),
-            Fault::Socket | Fault::NoAnswer | Fault::Write => 2,
+            Fault::Socket | Fault::Refused(_) | Fault::NoAnswer | Fault::Write => 2,
             Fault::Exchange(fault) => exchange_status(fault),
             Fault::Memory => 5,
         }

@@ -27,6 +27,7 @@ fn of_find(fault: FindFault) -> Fault
 {
     match fault {
         FindFault::Socket => Fault::Socket,
+        FindFault::Refused(address) => Fault::Refused(address),
         FindFault::NoAnswer => Fault::NoAnswer,
         FindFault::Write => Fault::Write,
         FindFault::Memory => Fault::Memory,
@@ -43,7 +44,7 @@ pub(crate) fn wi<R: Net, O: Write>(
     timeout: u32,
     output: &mut O,
 ) -> Result<u8, Fault>
-    ensures { Searches search.now addresses.now (O.contents output.old) (O.contents output.new) result }
+    ensures { Searches search.now addresses.now local timeout (O.contents output.old) (O.contents output.new) result }
 {
     let Ok(mut port) = UdpPort::open(rt, local.unwrap_or(ANY), timeout) else {
         return Err(Fault::Socket);

@@ -16,6 +16,7 @@ mod playing;
 mod program;
 mod serving;
 mod telling;
+mod until_refused;
 
 pub use bac_script::{Configuration, LIMIT, ReplayFault, read_configuration, run_replay};
 pub use bac_serve::{Clock, SystemClock, serve, serve_one};
@@ -23,3 +24,4 @@ pub use bac_words::{Addresses, Asked, Given, Job, Word, WordsFault, read_words};
 pub use fault::Fault;
 pub use program::run;
 pub use telling::tell;
+pub use until_refused::UntilRefused;

@@ -4,8 +4,7 @@ ghost use Rattle.std.specs.Prelude.{◌≡◌, ◌⊎◌, ◌≤◌, map, IfOk, 
 ghost use Rattle.std.specs.Io.KnownBytes.{Keeps};
 ghost use Rattle.std.specs.String.{string_bytes};
 ghost use Rattle.clap.specs.Values.{kind_of};
-ghost use Rattle.bac_tools.specs.Run.{AreMistaken, AreWrong, AskFor, Ends, IsMistake, IsNoWalk, IsOutside, IsTold, Runs, Works, priority_of};
-ghost use Rattle.bac_tools.specs.Status.{exit_status};
+ghost use Rattle.bac_tools.specs.Run.{AreMistaken, AreWrong, AskFor, Ends, IsMistake, IsNoWalk, IsOutside, IsTold, Runs, Works, priority_of, walk_from};
 ghost use Rattle.bac_words.specs.declared.job.Job.{Job as AnyJob};
 ghost use Rattle.bac_words.specs.declared.word.Word.{Word as AnyWord};
 
@@ -41,7 +40,8 @@ fn object(object_type: u16, instance: u32) -> Result<ObjectId, Fault>
 
 /// The walk of a log from a number, or from the oldest record.
 fn walk(instance: u32, from: Option<u32>) -> Result<Walk, Fault>
-    ensures { IfErr result (IsNoWalk instance from) }
+    ensures ok { IfOk result (λ walk. walk ≡ walk_from instance from) }
+    ensures err { IfErr result (IsNoWalk instance from) }
 {
     let log = object(TREND_LOG, instance)?;
     let walk = match from {
@@ -70,7 +70,7 @@ fn work<R: Net, I: Read, O: Write, C: Clock>(
     output: &mut O,
     clock: &mut C,
 ) -> Result<u8, Fault>
-    ensures { Works job.entry (I.remaining input.old) (I.remaining input.new) (O.contents output.old) (O.contents output.new) result }
+    ensures { Works C.tells job (I.remaining input.old) (I.remaining input.new) (O.contents output.old) (O.contents output.new) clock.old result clock.new }
 {
     match job {
         Job::Replay => replay(alloc, input, output),
@@ -140,7 +140,8 @@ fn explain<O: Write, E: Write>(
     errors: &mut E,
 ) -> u8
     ensures { IsMistake (kind_of error.now) →
-        Keeps (O.contents output.old) (O.contents output.new) × ((result ≡ 1) ⊎ (result ≡ exit_status Fault.Memory)) }
+        Keeps (O.contents output.old) (O.contents output.new)
+        × ((result ≡ 1) ⊎ IsTold Fault.Memory (E.contents errors.old) (E.contents errors.new) result) }
 {
     let Ok(text) = format!(in alloc; "{error}") else {
         return tell(alloc, Fault::Memory, errors);
@@ -168,12 +169,15 @@ pub fn run<R: Net, I: Read, O: Write, E: Write, C: Clock>(
 ) -> u8
     // The tool that the words name does what they say.
     ensures done { (job : AnyJob) → AskFor (map string_bytes words.now) job →
-        Runs job (I.remaining input.old) (I.remaining input.new) (O.contents output.old) (O.contents output.new) result }
+        Runs C.tells job (I.remaining input.old) (I.remaining input.new) (O.contents output.old) (O.contents output.new)
+        (E.contents errors.old) (E.contents errors.new) clock.old result clock.new }
     // Words that are wrong leave the output as it is.
     ensures bad_value { (word : AnyWord) → AreWrong (map string_bytes words.now) word →
-        Keeps (O.contents output.old) (O.contents output.new) × IsTold (Fault.BadValue word) result }
+        Keeps (O.contents output.old) (O.contents output.new)
+        × IsTold (Fault.BadValue word) (E.contents errors.old) (E.contents errors.new) result }
     ensures mistake { AreMistaken (map string_bytes words.now) →
-        Keeps (O.contents output.old) (O.contents output.new) × ((result ≡ 1) ⊎ (result ≡ exit_status Fault.Memory)) }
+        Keeps (O.contents output.old) (O.contents output.new)
+        × ((result ≡ 1) ⊎ IsTold Fault.Memory (E.contents errors.old) (E.contents errors.new) result) }
 {
     let job = match read_words(alloc, words) {
         Ok(job) => job,

@@ -1,19 +1,24 @@
 //! What is told of a fault on standard error.
 
-ghost use Rattle.std.specs.Prelude.{◌≡◌};
+ghost use Rattle.std.specs.Prelude.{◌≡◌, ◌++◌, OnOk, IfOk};
+ghost use Rattle.bac_print.specs.Output.{AppendsPart};
 ghost use Rattle.bac_tools.specs.Run.{IsTold};
-ghost use Rattle.bac_tools.specs.Status.{exit_status};
+ghost use Rattle.bac_tools.specs.Texts.{build_text, exchange_text, fault_text, range_text, refused_text, script_text, told_text, unbuilt_text, word_text, wrong_text};
 
 use crate::fault::Fault;
+use bac_device::BuildFault;
 use bac_link::ExchangeFault;
-use bac_print::write_text;
+use bac_print::{push_address, push_number, write_text};
 use bac_report::push_refusal;
+use bac_script::ReplayFault;
 use bac_words::Word;
 use std::alloc::{AllocError, Global};
 use std::io::Write;
 
 /// The values that a word or an option can have.
-fn range_of<'a>(word: Word) -> &'a str {
+fn range_of<'a>(word: Word) -> &'a str
+    ensures { result.now ≡ range_text word }
+{
     match word {
         Word::Tool => "replay, wi, rp, wp, log or serve",
         Word::Address | Word::Local =>
@@ -33,15 +38,79 @@ fn range_of<'a>(word: Word) -> &'a str {
     }
 }
 
+/// Appends a word as it is written: TYPE, or `--timeout`.
+#[tactic(auto, unfolding(crate::specs::Texts::word_text))]
+fn push_written(text: &mut Vec<u8>, word: Word) -> Result<(), AllocError>
+    ensures { OnOk result (text.new.items ≡ text.old.items ++ word_text word) }
+{
+    if word.is_option() {
+        text.extend_from_slice(b"--")?;
+    }
+    text.extend_from_slice(word.name().as_bytes())
+}
+
 /// Appends which word is wrong, and what it can be.
-fn push_word(text: &mut Vec<u8>, alloc: Global, word: Word) -> Result<(), AllocError> {
-    let range = range_of(word);
-    let line = format!(in alloc; "bad value\n{word}: {range}")?;
-    text.extend_from_slice(line.as_bytes())
+#[tactic(auto, unfolding(crate::specs::Texts::wrong_text))]
+fn push_wrong(text: &mut Vec<u8>, word: Word) -> Result<(), AllocError>
+    ensures { OnOk result (text.new.items ≡ text.old.items ++ wrong_text word) }
+{
+    text.extend_from_slice(b"bad value\n")?;
+    push_written(text, word)?;
+    text.extend_from_slice(b": ")?;
+    text.extend_from_slice(range_of(word).as_bytes())
+}
+
+/// Why a device can't be built.
+fn built_badly<'a>(fault: BuildFault) -> &'a str
+    ensures { result.now ≡ build_text fault }
+{
+    match fault {
+        BuildFault::BadInstance => "bad instance",
+        BuildFault::DuplicateId => "duplicate object",
+        BuildFault::BadName => "bad name",
+        BuildFault::DuplicateName => "duplicate name",
+        BuildFault::BadStates => "bad states",
+        BuildFault::BadDefault => "bad default",
+        BuildFault::BadCapacity => "bad capacity",
+        BuildFault::BadInterval => "bad interval",
+        BuildFault::BadReplySize => "bad reply size",
+        BuildFault::Memory => "out of memory",
+    }
+}
+
+/// Appends that a device can't be built, and why.
+#[tactic(auto, unfolding(crate::specs::Texts::unbuilt_text))]
+fn push_unbuilt(text: &mut Vec<u8>, fault: BuildFault) -> Result<(), AllocError>
+    ensures { OnOk result (text.new.items ≡ text.old.items ++ unbuilt_text fault) }
+{
+    text.extend_from_slice(b"cannot build: ")?;
+    text.extend_from_slice(built_badly(fault).as_bytes())
+}
+
+/// Appends why a script isn't played.
+#[tactic(auto, unfolding(crate::specs::Texts::script_text))]
+fn push_script(text: &mut Vec<u8>, fault: ReplayFault) -> Result<(), AllocError>
+    ensures { OnOk result (text.new.items ≡ text.old.items ++ script_text fault) }
+{
+    match fault {
+        ReplayFault::BadLine(number) => {
+            text.extend_from_slice(b"line ")?;
+            push_number(text, number as u64)?;
+            text.extend_from_slice(b": bad line")
+        }
+        ReplayFault::Build(fault) => push_unbuilt(text, fault),
+        ReplayFault::Read => text.extend_from_slice(b"read fault"),
+        ReplayFault::TooLong => text.extend_from_slice(b"script too long"),
+        ReplayFault::Write => text.extend_from_slice(b"write fault"),
+        ReplayFault::Memory => text.extend_from_slice(b"out of memory"),
+    }
 }
 
 /// Appends why an exchange brought no ACK.
-fn push_exchange(text: &mut Vec<u8>, fault: ExchangeFault) -> Result<(), AllocError> {
+#[tactic(auto, unfolding(crate::specs::Texts::exchange_text))]
+fn push_exchange(text: &mut Vec<u8>, fault: ExchangeFault) -> Result<(), AllocError>
+    ensures { OnOk result (text.new.items ≡ text.old.items ++ exchange_text fault) }
+{
     match fault {
         ExchangeFault::Lost => text.extend_from_slice(b"lost"),
         ExchangeFault::Refused(refusal) => push_refusal(text, refusal),
@@ -50,17 +119,28 @@ fn push_exchange(text: &mut Vec<u8>, fault: ExchangeFault) -> Result<(), AllocEr
     }
 }
 
+/// Appends which address can't be asked.
+#[tactic(auto, unfolding(crate::specs::Texts::refused_text))]
+fn push_unsent(text: &mut Vec<u8>, address: [u8; 6]) -> Result<(), AllocError>
+    ensures { OnOk result (text.new.items ≡ text.old.items ++ refused_text address) }
+{
+    text.extend_from_slice(b"socket fault\n")?;
+    text.extend_from_slice(b"nothing was sent to ")?;
+    push_address(text, address)
+}
+
 /// Appends what is told of a fault.
-fn push_fault(text: &mut Vec<u8>, alloc: Global, fault: Fault) -> Result<(), AllocError> {
+#[tactic(auto, unfolding(crate::specs::Texts::fault_text))]
+fn push_fault(text: &mut Vec<u8>, fault: Fault) -> Result<(), AllocError>
+    ensures { OnOk result (text.new.items ≡ text.old.items ++ fault_text fault) }
+{
     match fault {
         Fault::NotText => text.extend_from_slice(b"bad value\na word isn't UTF-8"),
-        Fault::BadValue(word) => push_word(text, alloc, word),
+        Fault::BadValue(word) => push_wrong(text, word),
         Fault::NoDevice => text.extend_from_slice(b"bad value\nno device line"),
-        Fault::Script(fault) => {
-            let line = format!(in alloc; "{fault}")?;
-            text.extend_from_slice(line.as_bytes())
-        }
+        Fault::Script(fault) => push_script(text, fault),
         Fault::Socket => text.extend_from_slice(b"socket fault"),
+        Fault::Refused(address) => push_unsent(text, address),
         Fault::NoAnswer => text.extend_from_slice(b"no answer"),
         Fault::Exchange(fault) => push_exchange(text, fault),
         Fault::Write => text.extend_from_slice(b"write fault"),
@@ -69,25 +149,34 @@ fn push_fault(text: &mut Vec<u8>, alloc: Global, fault: Fault) -> Result<(), All
 }
 
 /// The lines that tell a fault.
-fn text_of(alloc: Global, fault: Fault) -> Result<Vec<u8>, AllocError> {
+fn text_of(alloc: Global, fault: Fault) -> Result<Vec<u8>, AllocError>
+    ensures { IfOk result (λ text. text.items ≡ told_text fault) }
+{
     let mut text = Vec::new(alloc);
-    push_fault(&mut text, alloc, fault)?;
-    text.push(b'\n')?;
+    push_fault(&mut text, fault)?;
+    text.extend_from_slice(b"\n")?;
     Ok(text)
+}
+
+/// Writes a text with one write; where that is refused there is nowhere to tell it.
+fn say<E: Write>(text: &[u8], errors: &mut E)
+    ensures { AppendsPart (E.contents errors.old) (E.contents errors.new) text.now }
+{
+    let _ = write_text(errors, text);
 }
 
 /// Tells a fault with one write, and answers its exit status; a refused write changes nothing.
 /// Without memory for its text, it is out of memory in its place.
 pub fn tell<E: Write>(alloc: Global, fault: Fault, errors: &mut E) -> u8
-    ensures { IsTold fault result }
+    ensures { IsTold fault (E.contents errors.old) (E.contents errors.new) result }
 {
     match text_of(alloc, fault) {
         Ok(text) => {
-            let _ = write_text(errors, &text);
+            say(&text, errors);
             fault.status()
         }
         Err(_) => {
-            let _ = write_text(errors, b"out of memory\n");
+            say(b"out of memory\n", errors);
             Fault::Memory.status()
         }
     }

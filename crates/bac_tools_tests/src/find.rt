@@ -131,14 +131,32 @@ fn each_address_is_asked_in_order(rt: HostRuntime) {
 }
 
 #[test]
-fn a_refused_send_is_the_end(rt: HostRuntime) {
+fn a_refused_send_leaves_the_others(rt: HostRuntime) {
     let mut port = new_station(2);
     let mut text = Vec::new(rt.alloc());
     let addresses = [FIRST, SECOND, FIRST];
     let found = find_devices(rt.alloc(), &mut port, &addresses, &ANY, &mut text);
-    assert_eq!(rt; found, Err(FindFault::Socket));
+    assert_eq!(rt; found, Err(FindFault::Refused(SECOND)));
+    assert_eq!(rt; port.to, addresses);
+    // what comes is awaited as ever
+    assert_eq!(rt; port.received, 4096);
+}
+
+#[test]
+fn the_first_refused_address_is_told_behind_the_lines(rt: HostRuntime) {
+    let coming = [Coming::From(FIRST, &I_AM), Coming::Nothing];
+    let mut port = MemoryPort::new(&coming);
+    port.refuses = true;
+    let mut text = Vec::new(rt.alloc());
+    let found = find_devices(rt.alloc(), &mut port, &[SECOND, FIRST], &ANY, &mut text);
+    assert_eq!(rt; found, Err(FindFault::Refused(SECOND)));
+    assert_eq!(rt; text.as_slice(), I_AM_LINE.as_bytes());
     assert_eq!(rt; port.sends, 2);
-    assert_eq!(rt; port.received, 0);
+    // a failed receive is told before it
+    let mut port = MemoryPort::new(&[]);
+    port.refuses = true;
+    let found = find_devices(rt.alloc(), &mut port, &[SECOND], &ANY, &mut text);
+    assert_eq!(rt; found, Err(FindFault::Socket));
 }
 
 #[test]

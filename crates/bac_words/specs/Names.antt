@@ -1,5 +1,5 @@
 -- The names of the words and options.
-use Rattle.std.specs.Prelude.{codes}
+use Rattle.std.specs.Prelude.{Bool, true, false, codes}
 use Rattle.clap.specs.Words.{Text}
 use Rattle.bac_words.specs.declared.word.Word.{Word}
 use Rattle.bac_words.specs.declared.word.Word.TheVariants.{Tool, Address, ObjectType, Instance, Property, Priority, Tag, From, Index, Value, Min, Max, Steps, Count, Local, Timeout, Retries, Dnet, Dadr}
@@ -25,3 +25,18 @@ name_of Timeout = codes "timeout"
 name_of Retries = codes "retries"
 name_of Dnet = codes "dnet"
 name_of Dadr = codes "dadr"
+
+-- whether it is an option, --NAME=VALUE
+abbrev pub is_option : Word → Bool
+is_option Index = true
+is_option Value = true
+is_option Min = true
+is_option Max = true
+is_option Steps = true
+is_option Count = true
+is_option Local = true
+is_option Timeout = true
+is_option Retries = true
+is_option Dnet = true
+is_option Dadr = true
+is_option other = false

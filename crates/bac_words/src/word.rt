@@ -1,7 +1,7 @@
 //! The words and options of the tools, by their names.
 
 ghost use Rattle.std.specs.Prelude.{◌≡◌};
-ghost use Rattle.bac_words.specs.Names.{name_of};
+ghost use Rattle.bac_words.specs.Names.{is_option as is_option_of, name_of};
 
 use std::fmt;
 
@@ -77,7 +77,9 @@ impl Word {
     }
 
     /// It is written `--NAME=VALUE`.
-    fn is_option(self) -> bool {
+    pub fn is_option(self) -> bool
+        ensures { result ≡ is_option_of self }
+    {
         matches!(
             self,
             Word::Index

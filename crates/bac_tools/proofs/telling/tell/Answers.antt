@@ -1,0 +1,7 @@
+use Rattle.std.proofs.Common.{inr}
+use Rattle.bac_tools.specs.Texts.{fault_text}
+use Rattle.bac_tools.proofs.telling.tell.Goals as goal
+
+pub returns-in-Err : goal.returns-in-Err
+unfolding fault_text
+returns-in-Err g c = inr (c.status-in-Err.ensures, c.say-in-Err.ensures)

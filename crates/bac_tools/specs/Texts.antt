@@ -1,0 +1,102 @@
+-- What is told of a fault on standard error: its line, and where there is more to say, a second one.
+use Rattle.std.specs.Prelude.{ℕ, List, [], ◌∷◌, ◌++◌, if◌then◌else◌, codes, decimal}
+use Rattle.bac_link.specs.declared.exchanges.ExchangeFault.{ExchangeFault}
+use Rattle.bac_link.specs.declared.exchanges.ExchangeFault.TheVariants as exchange
+use Rattle.bac_objects.specs.declared.build.BuildFault.{BuildFault}
+use Rattle.bac_objects.specs.declared.build.BuildFault.TheVariants as build
+use Rattle.bac_print.specs.Addresses.{address_text}
+use Rattle.bac_report.specs.Ends.{refusal_text}
+use Rattle.bac_script.specs.declared.replay.fault.ReplayFault.{ReplayFault}
+use Rattle.bac_script.specs.declared.replay.fault.ReplayFault.TheVariants as script
+use Rattle.bac_tools.specs.declared.fault.Fault.{Fault}
+use Rattle.bac_tools.specs.declared.fault.Fault.TheVariants.{NotText, BadValue, NoDevice, Script, Socket, Refused, NoAnswer, Exchange, Write, Memory}
+use Rattle.bac_words.specs.Names.{name_of, is_option}
+use Rattle.bac_words.specs.declared.word.Word.{Word}
+use Rattle.bac_words.specs.declared.word.Word.TheVariants as word
+
+-- ---- words
+
+-- as a word or an option is written: TYPE, or --timeout
+unfoldable pub word_text : Word → List ℕ
+word_text w = if is_option w then codes "--" ++ name_of w else name_of w
+
+-- the values that it can have
+abbrev pub range_text : Word → List ℕ
+range_text word.Tool = codes "replay, wi, rp, wp, log or serve"
+range_text word.Address = codes "A.B.C.D or A.B.C.D:PORT, each of A to D from 0 to 255, PORT from 1 to 65535"
+range_text word.Local = codes "A.B.C.D or A.B.C.D:PORT, each of A to D from 0 to 255, PORT from 1 to 65535"
+range_text word.ObjectType = codes "a number from 0 to 1023"
+range_text word.Instance = codes "a number from 0 to 4194303"
+range_text word.Min = codes "a number from 0 to 4194303"
+range_text word.Max = codes "a number from 0 to 4194303, beside --min"
+range_text word.Property = codes "a number from 0 to 4294967295"
+range_text word.Index = codes "a number from 0 to 4294967295"
+range_text word.Steps = codes "a number from 0 to 4294967295"
+range_text word.Count = codes "a number from 0 to 4294967295"
+range_text word.Priority = codes "a number from 0 to 16"
+range_text word.Tag = codes "0, 1, 2, 3, 4, 7 or 9"
+range_text word.From = codes "a number from 1 to 4294967295, or oldest"
+range_text word.Value = codes "a value of the tag: none for 0, else one; bac wp --help has the tags"
+range_text word.Timeout = codes "a number from 1 to 60000"
+range_text word.Retries = codes "a number from 0 to 10"
+range_text word.Dnet = codes "a number from 1 to 65534, beside --dadr; for bac wi from 1 to 65535"
+range_text word.Dadr = codes "2 to 30 hexadecimal digits, an even number, beside --dnet"
+
+-- ---- faults
+
+abbrev pub build_text : BuildFault → List ℕ
+build_text build.BadInstance = codes "bad instance"
+build_text build.DuplicateId = codes "duplicate object"
+build_text build.BadName = codes "bad name"
+build_text build.DuplicateName = codes "duplicate name"
+build_text build.BadStates = codes "bad states"
+build_text build.BadDefault = codes "bad default"
+build_text build.BadCapacity = codes "bad capacity"
+build_text build.BadInterval = codes "bad interval"
+build_text build.BadReplySize = codes "bad reply size"
+build_text build.Memory = codes "out of memory"
+
+unfoldable pub unbuilt_text : BuildFault → List ℕ
+unbuilt_text fault = codes "cannot build: " ++ build_text fault
+
+unfoldable pub script_text : ReplayFault → List ℕ
+script_text (script.BadLine number) = codes "line " ++ (decimal number ++ codes ": bad line")
+script_text (script.Build fault) = unbuilt_text fault
+script_text script.Read = codes "read fault"
+script_text script.TooLong = codes "script too long"
+script_text script.Write = codes "write fault"
+script_text script.Memory = codes "out of memory"
+
+-- the line of a bad value; the second line says of what (10 is the line's end)
+abbrev pub bad_value : List ℕ
+bad_value = codes "bad value" ++ 10 ∷ []
+
+unfoldable pub exchange_text : ExchangeFault → List ℕ
+exchange_text exchange.Lost = codes "lost"
+exchange_text (exchange.Refused refusal) = refusal_text refusal
+exchange_text exchange.BadReply = codes "bad reply"
+exchange_text exchange.TooLong = bad_value ++ codes "the request is too long"
+
+-- nothing could be sent to an address
+unfoldable pub refused_text : List ℕ → List ℕ
+refused_text address = (codes "socket fault" ++ 10 ∷ []) ++ (codes "nothing was sent to " ++ address_text address)
+
+-- a word's value is none that it can have
+unfoldable pub wrong_text : Word → List ℕ
+wrong_text w = bad_value ++ (word_text w ++ (codes ": " ++ range_text w))
+
+unfoldable pub fault_text : Fault → List ℕ
+fault_text NotText = bad_value ++ codes "a word isn't UTF-8"
+fault_text (BadValue w) = wrong_text w
+fault_text NoDevice = bad_value ++ codes "no device line"
+fault_text (Script fault) = script_text fault
+fault_text Socket = codes "socket fault"
+fault_text (Refused address) = refused_text address
+fault_text NoAnswer = codes "no answer"
+fault_text (Exchange fault) = exchange_text fault
+fault_text Write = codes "write fault"
+fault_text Memory = codes "out of memory"
+
+-- with the last line's end
+abbrev pub told_text : Fault → List ℕ
+told_text fault = fault_text fault ++ 10 ∷ []
