@@ -30,5 +30,6 @@ AreObjects objects = AllByRecursion (λ e. IsBody e.0 e.1.body) objects
 abbrev pub IsQuiet : ℕ → ℕ → ℕ → Body → Type 0
 IsQuiet origin clock until b = (new : ℕ) → clock ≤ new → new < until → is_due origin clock new (interval_in b) ≡ false
 
+-- the same of each object
 abbrev pub AreQuiet : ℕ → ℕ → ℕ → List (Id × object.Object) → Type 0
 AreQuiet origin clock until objects = AllByRecursion (λ e. IsQuiet origin clock until e.1.body) objects

@@ -152,6 +152,7 @@ IsConfigured input left (Err other) = ⊥
 abbrev pub IsUnbuilt : Option BuildFault → Fault → Type 0
 IsUnbuilt said fault = (said ≡ None × (fault ≡ Memory)) ⊎ ((f : BuildFault) × (said ≡ Some f) × (fault ≡ Script (Build f)))
 
+-- how serving ends: done, or the socket failed
 abbrev pub of_served : Done → Ending
 of_served (Ok done) = Ok 0
 of_served (Err fault) = Err Socket

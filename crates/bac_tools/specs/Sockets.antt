@@ -21,6 +21,7 @@ own_address local = unwrap_or local (0 ∷ 0 ∷ 0 ∷ 0 ∷ 0 ∷ 0 ∷ [])
 abbrev pub any_send : UdpPort → List ℕ → List ℕ → Sending → UdpPort → Type 0
 any_send before octets to answer behind = Unit {0}
 
+-- the same of a receive
 abbrev pub any_receive : UdpPort → Receiving → UdpPort → Type 0
 any_receive before answer behind = Unit {0}
 

@@ -44,6 +44,7 @@ range_text word.Dadr = codes "2 to 30 hexadecimal digits, an even number, beside
 
 -- ---- faults
 
+-- why a device can't be built
 abbrev pub build_text : BuildFault → List ℕ
 build_text build.BadInstance = codes "bad instance"
 build_text build.DuplicateId = codes "duplicate object"
@@ -56,9 +57,11 @@ build_text build.BadInterval = codes "bad interval"
 build_text build.BadReplySize = codes "bad reply size"
 build_text build.Memory = codes "out of memory"
 
+-- the line that says so
 unfoldable pub unbuilt_text : BuildFault → List ℕ
 unbuilt_text fault = codes "cannot build: " ++ build_text fault
 
+-- a fault of a script or a configuration
 unfoldable pub script_text : ReplayFault → List ℕ
 script_text (script.BadLine number) = codes "line " ++ (decimal number ++ codes ": bad line")
 script_text (script.Build fault) = unbuilt_text fault
@@ -71,6 +74,7 @@ script_text script.Memory = codes "out of memory"
 abbrev pub bad_value : List ℕ
 bad_value = codes "bad value" ++ 10 ∷ []
 
+-- a fault of one question
 unfoldable pub exchange_text : ExchangeFault → List ℕ
 exchange_text exchange.Lost = codes "lost"
 exchange_text (exchange.Refused refusal) = refusal_text refusal
@@ -85,6 +89,7 @@ refused_text address = (codes "socket fault" ++ 10 ∷ []) ++ (codes "nothing wa
 unfoldable pub wrong_text : Word → List ℕ
 wrong_text w = bad_value ++ (word_text w ++ (codes ": " ++ range_text w))
 
+-- each fault of the program, without the last line's end
 unfoldable pub fault_text : Fault → List ℕ
 fault_text NotText = bad_value ++ codes "a word isn't UTF-8"
 fault_text (BadValue w) = wrong_text w
