@@ -130,6 +130,10 @@ bac wp 127.0.0.1 5 1 85 8 9
 wrong 'no value' '--value: a value of the tag: none for 0, else one; bac wp --help has the tags'
 bac wi 127.0.0.1 --max=5
 wrong '--max alone' '--max: a number from 0 to 4194303, beside --min'
+bac rp 127.0.0.1 8 123 77 --dnet=7
+wrong '--dnet alone' '--dadr: 2 to 30 hexadecimal digits, an even number, beside --dnet'
+bac log 127.0.0.1 1 1 --dnet=65535 --dadr=0a
+wrong 'all networks' '--dnet: a number from 1 to 65534, beside --dadr; for bac wi from 1 to 65535'
 bac rp 127.0.0.1 8 123 $'\xff'
 wrong 'a word that is no text' "a word isn't UTF-8"
 
@@ -150,6 +154,9 @@ ended 'a folder as configuration' 2 $'read fault\n'
 bac rp 127.0.0.1 8 123 77 --local=192.0.2.1
 ended 'an address of another machine' 2 $'socket fault\n'
 
+bac wi 255.255.255.255:47808 --timeout=100
+ended 'an address that the system refuses' 2 $'socket fault\nnothing was sent to 255.255.255.255:47808\n'
+
 bac replay < .
 ended 'a folder as input' 2 $'read fault\n'
 bac replay <&-
@@ -166,15 +173,23 @@ ended 'no output' 2 $'write fault\n'
 "$program" --help > /dev/full 2> "$room/err"
 ended 'help on a full disk' 2 $'write fault\n'
 
+# counted SCRIPT: runs a script with a count of its own.
+counted() {
+    local status more fewer
+    "$1" "$program" > "$room/counted"
+    status=$?
+    read -r more fewer <<< "$(tail -n 1 "$room/counted" | sed -nE 's/^([0-9]+) passed, ([0-9]+) failed$/\1 \2/p')"
+    sed '$d' "$room/counted"
+    passed=$((passed + ${more:-0}))
+    # A script that ends badly without a count of its failures has failed.
+    [ "$status" -eq 0 ] || [ "${fewer:-0}" -gt 0 ] || fewer=1
+    failed=$((failed + ${fewer:-1}))
+}
+
 # The tools over sockets of this machine.
-./loopback.sh "$program" > "$room/loopback"
-status=$?
-read -r more fewer <<< "$(tail -n 1 "$room/loopback" | sed -nE 's/^([0-9]+) passed, ([0-9]+) failed$/\1 \2/p')"
-sed '$d' "$room/loopback"
-passed=$((passed + ${more:-0}))
-# A script that ends badly without a count of its failures has failed.
-[ "$status" -eq 0 ] || [ "${fewer:-0}" -gt 0 ] || fewer=1
-failed=$((failed + ${fewer:-1}))
+counted ./loopback.sh
+# A device behind a router.
+counted ./router.sh
 
 echo "$passed passed, $failed failed"
 [ "$failed" -eq 0 ]

@@ -18,6 +18,8 @@ mod properties;
 #[cfg(test)]
 mod queries;
 #[cfg(test)]
+mod refusing;
+#[cfg(test)]
 mod replay;
 #[cfg(test)]
 mod routes;
