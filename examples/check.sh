@@ -148,6 +148,10 @@ bac wp 127.0.0.1 5 1 85 8 9
 wrong 'no value' '--value: a value of the tag: none for 0, else one; bac wp --help has the tags'
 bac wi 127.0.0.1 --max=5
 wrong '--max alone' '--max: a number from 0 to 4194303, beside --min'
+bac rp 127.0.0.1 8 123 77 --dnet=7
+wrong '--dnet alone' '--dadr: 2 to 30 hexadecimal digits, an even number, beside --dnet'
+bac log 127.0.0.1 1 1 --dnet=65535 --dadr=0a
+wrong 'all networks' '--dnet: a number from 1 to 65534, beside --dadr; for bac wi from 1 to 65535'
 bac rp 127.0.0.1 8 123 $'\xff'
 wrong 'a word that is no text' "a word isn't UTF-8"
 
@@ -181,6 +185,9 @@ bac log 127.0.0.1 1 1 --local=192.0.2.1
 ended 'an address of another machine for log' 2 $'socket fault\n'
 bac serve 192.0.2.1 < plant.conf
 ended 'a server at an address of another machine' 2 $'socket fault\n'
+
+bac wi 255.255.255.255:47808 --timeout=100
+ended 'an address that the system refuses' 2 $'socket fault\nnothing was sent to 255.255.255.255:47808\n'
 
 bac replay < .
 ended 'a folder as input' 2 $'read fault\n'
@@ -216,6 +223,8 @@ counted ./rows.sh
 # The tools over sockets of this machine: with a socket that says what a file says, and with a server.
 counted ./talk.py
 counted ./loopback.sh
+# A device behind a router.
+counted ./router.sh
 counted ./edges.sh
 counted ./keeping.sh
 # A device among strangers.

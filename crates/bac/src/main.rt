@@ -2,7 +2,7 @@
 //! is in the crate bac_tools.
 #![tactic(auto)]
 
-use bac_tools::{Fault, SystemClock, run, tell};
+use bac_tools::{Fault, SystemClock, UntilRefused, run, tell};
 use std::env::Args;
 use std::io::{BufWriter, ErrorKind};
 use std::process::ExitCode;
@@ -28,7 +28,9 @@ fn words_of(rt: &HostRuntime) -> Result<Vec<String>, Fault> {
 /// Runs the program, and answers its exit status.
 fn started(rt: &HostRuntime) -> Result<u8, Fault> {
     let words = words_of(rt)?;
-    let Ok(mut output) = BufWriter::new(rt.alloc(), io::writer(rt)) else {
+    // What the buffer holds behind a refused write isn't written when it is dropped.
+    let writer = UntilRefused::new(io::writer(rt));
+    let Ok(mut output) = BufWriter::new(rt.alloc(), writer) else {
         return Err(Fault::Memory);
     };
     Ok(run(
