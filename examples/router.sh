@@ -27,8 +27,10 @@ is() {
 
 # Its output, its text on standard error and its status, in one text.
 bac() {
+    local status
     "$program" "$@" > "$room/out" 2> "$room/err"
-    said="$(cat "$room/out")|$(cat "$room/err")|$?"
+    status=$?
+    said="$(cat "$room/out")|$(cat "$room/err")|$status"
 }
 
 ended() {
