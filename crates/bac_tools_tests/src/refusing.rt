@@ -27,7 +27,7 @@ impl Write for Balky {
     }
 }
 
-fn balky(rt: &impl AllocGlobal, refusal: ErrorKind) -> Balky {
+fn new_balky(rt: &impl AllocGlobal, refusal: ErrorKind) -> Balky {
     Balky {
         text: Vec::new(rt.alloc()),
         writes: 0,
@@ -37,7 +37,7 @@ fn balky(rt: &impl AllocGlobal, refusal: ErrorKind) -> Balky {
 
 #[test]
 fn a_dropped_buffer_writes_nothing_behind_a_refused_write(rt: HostRuntime) -> Result<(), Fail> {
-    let mut paper = balky(&rt, ErrorKind::Other);
+    let mut paper = new_balky(&rt, ErrorKind::Other);
     {
         let mut output = BufWriter::new(rt.alloc(), UntilRefused::new(&mut paper))?;
         output.write_all(b"lost")?;
@@ -51,7 +51,7 @@ fn a_dropped_buffer_writes_nothing_behind_a_refused_write(rt: HostRuntime) -> Re
 
 #[test]
 fn a_signal_refuses_nothing(rt: HostRuntime) -> Result<(), Fail> {
-    let mut paper = balky(&rt, ErrorKind::Interrupted);
+    let mut paper = new_balky(&rt, ErrorKind::Interrupted);
     let mut output = UntilRefused::new(&mut paper);
     assert!(rt; output.write(b"kept").is_err());
     assert_eq!(rt; output.write(b"kept")?, 4);
