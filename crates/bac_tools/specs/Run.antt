@@ -9,6 +9,7 @@ use Rattle.clap.specs.declared.error.kind.ErrorKind.TheVariants.{DisplayHelp, Di
 use Rattle.bac_apdu.specs.Service.WriteProperty.{PropertyWrite, write_of_code}
 use Rattle.bac_apdu.specs.declared.service.read_property.ReadProperty.{ReadProperty}
 use Rattle.bac_apdu.specs.declared.service.write_property.WriteProperty.{WriteProperty}
+use Rattle.bac_link.specs.Delivery.{History, Moment}
 use Rattle.bac_link.specs.Path.{towards}
 use Rattle.bac_link.specs.declared.item.Item.{Item}
 use Rattle.bac_link.specs.declared.request.Request.{Request}
@@ -18,16 +19,17 @@ use Rattle.bac_objects.specs.Build.{build_fault, built}
 use Rattle.bac_objects.specs.State.{State}
 use Rattle.bac_objects.specs.declared.lines.ObjectLine.{ObjectLine}
 use Rattle.bac_objects.specs.declared.build.BuildFault.{BuildFault}
+use Rattle.bac_ports.specs.declared.udp_link.UdpLink.{UdpLink}
 use Rattle.bac_ports.specs.declared.udp_port.UdpPort.{UdpPort}
 use Rattle.bac_print.specs.Output.{AppendsPart}
-use Rattle.bac_query.specs.Fetching.{Fetching, PrintsItems}
-use Rattle.bac_query.specs.Reading.{Answer, Held, ReadsProperty}
-use Rattle.bac_query.specs.Writing.{WritesProperty}
+use Rattle.bac_query.specs.Fetching.{EndsAs, Fetching, IsFetched, PrintsItems}
+use Rattle.bac_query.specs.Reading.{Answer, Held, ReadsOver}
+use Rattle.bac_query.specs.Writing.{WritesOver}
 use Rattle.bac_tools.specs.Ending.{Ending, IsClosed}
 use Rattle.bac_tools.specs.Faults.{of_query}
 use Rattle.bac_tools.specs.Finding.{Searches, search_of}
 use Rattle.bac_tools.specs.Given.{value_of}
-use Rattle.bac_tools.specs.Sockets.{IsAsking, IsOpen, any_receive, any_send}
+use Rattle.bac_tools.specs.Sockets.{IsAsking, IsOpen, any_receive, any_send, socket_asks}
 use Rattle.bac_tools.specs.Status.{exit_status, walk_status}
 use Rattle.bac_tools.specs.Texts.{told_text}
 use Rattle.bac_tools.specs.declared.asking.Asking.{Asking}
@@ -41,6 +43,8 @@ use Rattle.bac_script.specs.declared.replay.fault.ReplayFault.TheVariants.{Build
 use Rattle.bac_serve.specs.Serving.{Done, Serves as ServesDevice}
 use Rattle.bac_serve.specs.Waiting.{has_interval}
 use Rattle.bac_walk.specs.Place.{Place, walk_at, walk_from_oldest}
+use Rattle.bac_walk.specs.Told.{Told}
+use Rattle.bac_walk.specs.declared.outcome.Ended.{Ended}
 use Rattle.bac_wire.specs.Primitive.{Id}
 use Rattle.bac_wire.specs.Stamp.{CivilTime}
 use Rattle.bac_words.specs.Outcome.{mistakes_of, job_in}
@@ -75,28 +79,39 @@ abbrev pub of_fetching : Fetching → Ending
 of_fetching (Ok fetched) = Ok (walk_status fetched.why)
 of_fetching (Err fault) = Err (of_query fault)
 
--- ReadProperty, over the link and with the transactions that the words say
+-- ReadProperty: an exchange over the link and with the transactions that the words say, and the values of its ACK
 abbrev pub Reads : Asked → ReadProperty → Held → Held → Ending → Type 0
 Reads asked question old new result =
     IsClosed old new result
-    ⊎ ((with : Asking) × (answer : Answer) × IsAsking asked with
-    × ReadsProperty (towards with.transactions.route) (next_invoke with.transactions.invoke) question answer old new
+    ⊎ ((with : Asking) × (answer : Answer) × (left : UdpLink UdpPort) × IsAsking asked with
+    × ReadsOver socket_asks (towards with.transactions.route) (next_invoke with.transactions.invoke) question
+    with.transactions.retries with.link answer left old new
     × (result ≡ of_answer answer))
 
 -- WriteProperty, likewise
 abbrev pub Writes : Asked → Request → Held → Held → Ending → Type 0
 Writes asked question old new result =
     IsClosed old new result
-    ⊎ ((with : Asking) × (answer : Answer) × IsAsking asked with
-    × WritesProperty (towards with.transactions.route) (next_invoke with.transactions.invoke) question answer old new
+    ⊎ ((with : Asking) × (answer : Answer) × (left : UdpLink UdpPort) × IsAsking asked with
+    × WritesOver socket_asks (towards with.transactions.route) (next_invoke with.transactions.invoke) question
+    with.transactions.retries with.link answer left old new
     × (result ≡ of_answer answer))
 
--- lines of records and gaps, and the line of the end
-abbrev pub Fetches : Asked → Held → Held → Ending → Type 0
-Fetches asked old new result =
+-- no socket is honest
+abbrev pub no_honest : ℕ → List Moment → History → Type 0
+no_honest r M H = ⊥
+
+-- The lines of the items of a run of this walk, at most so many steps, and the line of its end: why it ended, which the
+-- last exchange over the link told, and the number that comes next.
+abbrev pub Fetches : Asked → Place → ℕ → Held → Held → Ending → Type 0
+Fetches asked walk steps old new result =
     IsClosed old new result
-    ⊎ ((with : Asking) × (items : List Item) × (fetching : Fetching) × IsAsking asked with
-    × PrintsItems items fetching old new × (result ≡ of_fetching fetching))
+    ⊎ ((with : Asking) × (items : List Item) × (fetching : Fetching) × (left : UdpLink UdpPort) × IsAsking asked with
+    × PrintsItems items fetching old new
+    × ((n : ℕ) × (ended : Ended) × (after : Place) × EndsAs items steps n ended after fetching old new
+    × IsFetched no_honest with.transactions.retries with.link.failures left.failures walk after n ended items
+    × Told socket_asks (towards with.transactions.route) with.transactions.retries ended after left)
+    × (result ≡ of_fetching fetching))
 
 -- an object type or an instance that no identifier has (clause 20.2.14)
 abbrev pub IsOutside : ℕ → ℕ → Type 0
@@ -189,7 +204,7 @@ Works tells (job.Wp asked object_type instance property priority given index) in
     ⊎ ((w : WriteProperty) × (write_of_code w ≡ setting object_type instance property priority given index)
     × Writes asked (request.WriteProperty w) old new result)) × (told ≡ clock)
 Works tells (job.Log asked instance from steps) input left old new clock result told =
-    (((fault : Fault) × (IsNoWalk instance from fault × (result ≡ Err fault)) × Keeps old new) ⊎ Fetches asked old new result)
+    (((fault : Fault) × (IsNoWalk instance from fault × (result ≡ Err fault)) × Keeps old new) ⊎ Fetches asked (walk_from instance from) steps old new result)
     × (told ≡ clock)
 Works tells (job.Serve address count) input left old new clock result told =
     Serves tells address count input left clock result told × Keeps old new

@@ -1,8 +1,11 @@
 -- What the tools open, as far as it can be seen: nothing is said of what a socket carries.
-use Rattle.std.specs.Prelude.{◌≡◌, ℕ, List, [], ◌∷◌, Option, None}
+use Rattle.std.specs.Prelude.{◌≡◌, ℕ, List, [], ◌∷◌, Option, None, Result}
 use Rattle.std.specs.Option.{unwrap_or}
+use Rattle.bac_link.specs.declared.link.Lost.{Lost}
 use Rattle.bac_link.specs.declared.transactions.Transactions.{Transactions}
+use Rattle.bac_ports.specs.Asking.{Asks}
 use Rattle.bac_ports.specs.Port.{Receiving, Sending}
+use Rattle.bac_ports.specs.declared.udp_link.UdpLink.{UdpLink}
 use Rattle.bac_ports.specs.declared.udp_port.UdpPort.{UdpPort}
 use Rattle.bac_tools.specs.declared.asking.Asking.{Asking}
 use Rattle.bac_words.specs.declared.job.Asked.{Asked}
@@ -24,6 +27,11 @@ any_send before octets to answer behind = Unit {0}
 -- the same of a receive
 abbrev pub any_receive : UdpPort → Receiving → UdpPort → Type 0
 any_receive before answer behind = Unit {0}
+
+-- an ask over a socket: the request is sent once to the peer, and at most 16 datagrams are taken, up to the first one
+-- that comes from the peer and answers it
+abbrev pub socket_asks : UdpLink UdpPort → List ℕ → Result (List ℕ) Lost → UdpLink UdpPort → Type 0
+socket_asks old octets answer new = Asks any_send any_receive old.peer octets 16 old.port answer new.port × (new.peer ≡ old.peer)
 
 -- ---- asking one device
 

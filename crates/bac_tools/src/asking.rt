@@ -109,7 +109,7 @@ pub(crate) fn log<R: Net, O: Write>(
     steps: u32,
     output: &mut O,
 ) -> Result<u8, Fault>
-    ensures { Fetches asked (O.contents output.old) (O.contents output.new) result }
+    ensures { Fetches asked walk steps (O.contents output.old) (O.contents output.new) result }
 {
     let Asking {
         mut link,
