@@ -2,7 +2,7 @@
 use Rattle.std.proofs.Common.{◌≡◌, ℕ, ◌+◌, ◌-◌, ◌<◌, ◌≤◌, max, nat_lt, Bool, true, false, if◌then◌else◌, List, [], ◌∷◌, ◌++◌, length, take, drop, refl, ap, ◌∙◌, arith}
 use Rattle.std.proofs.lemmas.Bool.Decides.{nat_tests}
 use Rattle.std.proofs.lemmas.List.{length-drop, take_all}
-use Rattle.bac_log.specs.TrendLog.{Log, newest, number, oldest}
+use Rattle.bac_log.specs.TrendLog.{Log, newest, sequence_number, oldest}
 use Rattle.bac_log.specs.declared.entry.Entry.{Entry}
 use Rattle.bac_link.specs.Delivery.{History}
 use Rattle.bac_link.specs.Moments.{entries_from, log_at}
@@ -31,7 +31,7 @@ entries_are log k low high =
     ∙ take_all ((newest log + 1) - k) (drop (k - oldest log) log.entries) (omega (arith, length-drop (k - oldest log) log.entries, low, high))
 
 abbrev gap_to : Log → ℕ → List Item
-gap_to log s = if nat_lt s (oldest log) then Gap (number s) (number (oldest log)) ∷ [] else []
+gap_to log s = if nat_lt s (oldest log) then Gap (sequence_number s) (sequence_number (oldest log)) ∷ [] else []
 
 held_if : (log : Log) (s : ℕ) (b : Bool) → nat_lt (newest log) (max s (oldest log)) ≡ b →
     (if b

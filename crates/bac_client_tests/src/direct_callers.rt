@@ -3,7 +3,7 @@
 ghost use Rattle.std.specs.Prelude.{ℕ, ◌≡◌, ◌+◌, ◌<◌, ◌≤◌, ◌↔◌, List, Option, Some, None, length, IfSome, IsSome, ◌⊎◌};
 ghost use Rattle.bac_apdu.specs.Service.Extent.{IsExtent};
 ghost use Rattle.bac_apdu.specs.declared.service.extent.Extent.{Extent as AnyExtent};
-ghost use Rattle.bac_log.specs.TrendLog.{Log, number};
+ghost use Rattle.bac_log.specs.TrendLog.{Log, sequence_number};
 ghost use Rattle.bac_objects.specs.Sampling.{log_id, log_of};
 ghost use Rattle.bac_objects.specs.Sound.{IsSound};
 ghost use Rattle.bac_objects.specs.State.{State};
@@ -57,9 +57,9 @@ pub fn records_from(
     steps: u32,
 ) -> Option<Outcome>
     ensures is_some { IsSome result ↔ (0 < s) × (log.kind ≡ 20) }
-    ensures delivers { IfSome result (λ outcome. (rounds k low : ℕ) → IsThere device.old log.instance → s ≡ number k →
+    ensures delivers { IfSome result (λ outcome. (rounds k low : ℕ) → IsThere device.old log.instance → s ≡ sequence_number k →
         AreInWindow low (placed_all rounds (moments_ahead device.old log.instance events.now)) → low ≤ k → k < low + 2147483648 →
-        (count : ℕ) × (t : ℕ) × (outcome.next ≡ number t)
+        (count : ℕ) × (t : ℕ) × (outcome.next ≡ sequence_number t)
         × DeliversTo (history_ahead rounds device.old log.instance events.now) k outcome.items.items t
         (placed_all rounds (moments_ahead device.old log.instance events.now)) count) }
 {
@@ -83,7 +83,7 @@ pub fn all_records_from(
     steps: u32,
 ) -> Option<Outcome>
     ensures is_some { IsSome result ↔ (0 < s) × (log.kind ≡ 20) }
-    ensures records { IfSome result (λ outcome. (k : ℕ) → IsThere device.old log.instance → s ≡ number k →
+    ensures records { IfSome result (λ outcome. (k : ℕ) → IsThere device.old log.instance → s ≡ sequence_number k →
         IsNear k (moment_of (log_with device.old log.instance)) → length (log_with device.old log.instance).entries < steps →
         (outcome.why ≡ why.Memory) ⊎ (outcome.items.items ≡ held_from (log_with device.old log.instance) k)) }
     // Without the log, the device says so.
@@ -110,7 +110,7 @@ pub fn records_of_a_day(
     source: ObjectId,
     steps: u32,
 ) -> Option<Outcome>
-    ensures { IfSome result (λ outcome. (count : ℕ) × (t : ℕ) × (outcome.next ≡ number t)
+    ensures { IfSome result (λ outcome. (count : ℕ) × (t : ℕ) × (outcome.next ≡ sequence_number t)
         × DeliversTo (history_ahead 0 (plant_of device.now name source) 1 day) 1 outcome.items.items t day_moments count) }
 {
     let log = ObjectId::new(20, 1)?;

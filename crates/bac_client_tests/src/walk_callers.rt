@@ -2,7 +2,7 @@
 
 ghost use Rattle.std.specs.Prelude.{ℕ, ◌≡◌, ◌+◌, ◌-◌, ◌<◌, ◌≤◌, ◌⊎◌, false, max, List, [], ◌∷◌, None, IfSome, All};
 ghost use Rattle.bac_log.specs.Entry.{IsLoggable};
-ghost use Rattle.bac_log.specs.TrendLog.{number};
+ghost use Rattle.bac_log.specs.TrendLog.{sequence_number};
 ghost use Rattle.bac_link.specs.Delivery.{History, Moment, DeliversTo};
 ghost use Rattle.bac_link.specs.Laws.{after_answers};
 ghost use Rattle.bac_link.specs.Moments.{log_at};
@@ -31,9 +31,9 @@ pub fn records_from<L: LogLink>(
     s: u32,
     steps: u32,
 ) -> Option<Outcome>
-    ensures { IfSome result (λ outcome. (r : ℕ) (M : List Moment) (H : History) (k low : ℕ) → L.is_honest link.old log r M H → s ≡ number k →
+    ensures { IfSome result (λ outcome. (r : ℕ) (M : List Moment) (H : History) (k low : ℕ) → L.is_honest link.old log r M H → s ≡ sequence_number k →
         AreInWindow low M → low ≤ k → k < low + 2147483648 →
-        (count : ℕ) × (t : ℕ) × (outcome.next ≡ number t) × DeliversTo H k outcome.items.items t M count
+        (count : ℕ) × (t : ℕ) × (outcome.next ≡ sequence_number t) × DeliversTo H k outcome.items.items t M count
         × L.is_honest link.new log r (after_answers count M) H) }
 {
     windows_are_near();
@@ -54,7 +54,7 @@ pub fn all_records_from<L: LogLink>(
     steps: u32,
 ) -> Option<Outcome>
     ensures { IfSome result (λ outcome. (r : ℕ) (m : Moment) (H : History) (k : ℕ) →
-        L.is_sure link.old (towards None) → L.is_honest link.old log r (m ∷ []) H → s ≡ number k → IsNear k m → All IsLoggable (log_at m H).entries →
+        L.is_sure link.old (towards None) → L.is_honest link.old log r (m ∷ []) H → s ≡ sequence_number k → IsNear k m → All IsLoggable (log_at m H).entries →
         (m.newest + 1) - max k m.oldest < steps →
         (outcome.why ≡ why.Memory) ⊎ (outcome.items.items ≡ (rest_all H m k).items)) }
 {

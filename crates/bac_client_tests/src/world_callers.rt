@@ -1,7 +1,7 @@
 //! What a user of a walk over a network needs, proved from public contracts alone.
 
 ghost use Rattle.std.specs.Prelude.{ℕ, ◌≡◌, ◌+◌, ◌<◌, ◌≤◌, ◌↔◌, length, IfOk, IfSome, IsSome};
-ghost use Rattle.bac_log.specs.TrendLog.{number};
+ghost use Rattle.bac_log.specs.TrendLog.{sequence_number};
 ghost use Rattle.bac_link.specs.Delivery.{DeliversTo};
 ghost use Rattle.bac_walk.specs.Near.{AreInWindow};
 ghost use Rattle.bac_walk.specs.Place.{walk_at};
@@ -29,9 +29,9 @@ pub fn records_over_a_network(
     events: &[WorldEvent],
 ) -> Option<Result<World, Memory>>
     ensures is_some { IsSome result ↔ (0 < s) × (log.kind ≡ 20) }
-    ensures delivers { IfSome result (λ played. IfOk played (λ world. (rounds k low : ℕ) → IsThere device log.instance → s ≡ number k →
+    ensures delivers { IfSome result (λ played. IfOk played (λ world. (rounds k low : ℕ) → IsThere device log.instance → s ≡ sequence_number k →
         AreInWindow low (moments_of rounds log.instance (started device (walk_at log s) retries) events.now) → low ≤ k → k < low + 2147483648 →
-        (t : ℕ) × ((network_of world).walk.next ≡ number t)
+        (t : ℕ) × ((network_of world).walk.next ≡ sequence_number t)
         × DeliversTo (history_of rounds log.instance (started device (walk_at log s) retries) events.now) k (network_of world).items t
         (moments_of rounds log.instance (started device (walk_at log s) retries) events.now)
         (length (moments_of rounds log.instance (started device (walk_at log s) retries) events.now)))) }

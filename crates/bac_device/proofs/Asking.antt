@@ -9,14 +9,14 @@ use Rattle.bac_apdu.specs.Service.ReadProperty.{read_property_at}
 use Rattle.bac_apdu.specs.Service.WriteProperty.{PropertyWrite, write_property_at}
 use Rattle.bac_objects.specs.Reading.{read_of}
 use Rattle.bac_objects.specs.Writing.{write_of}
-use Rattle.bac_device.specs.Receiving.{Heard}
+use Rattle.bac_device.specs.Receiving.{ReceivedApdu}
 use Rattle.bac_device.specs.Answer.{ack, answer_frame, answer}
 use Rattle.bac_device.specs.Reply.{limited, reply}
 use Rattle.bac_device.specs.History.{heard_in}
 use Rattle.bac_device.specs.declared.reply.Receiver.{Receiver}
 use Rattle.bac_device.specs.declared.reply.Receiver.TheVariants.{Sender, Address}
 
-none_some : (h : Heard) → None ≡ Some h → ⊥
+none_some : (h : ReceivedApdu) → None ≡ Some h → ⊥
 none_some h e = cc
 
 answered : (d : State) (f : Option Frame) (source : Option Place) (size invoke : ℕ) (parameters : List ℕ) (r : ReadProperty) (values : List ℕ)

@@ -9,8 +9,8 @@ use Rattle.bac_apdu.specs.declared.service.extent.Extent.{Extent}
 use Rattle.bac_log.specs.Ack.{ack_apdu, ack_length, ack_parameters}
 use Rattle.bac_log.specs.Entry.{IsLoggable}
 use Rattle.bac_log.specs.Record.{entry_octets}
-use Rattle.bac_log.specs.Select.{Logged, answer_of, entries_in, first_shown, greatest, is_asked, numbered, packed, reply_length, selected, shows_number}
-use Rattle.bac_log.specs.TrendLog.{IsLog, Log, number, oldest}
+use Rattle.bac_log.specs.Select.{HeldEntry, answer_of, entries_in, first_shown, greatest, is_asked, numbered, packed, reply_length, selected, shows_number}
+use Rattle.bac_log.specs.TrendLog.{IsLog, Log, sequence_number, oldest}
 use Rattle.bac_log.specs.declared.entry.Entry.{Entry}
 use Rattle.bac_log.proofs.Acks.{length-ack_length, same_octets}
 use Rattle.bac_log.proofs.Records.{All-head, All-tail}
@@ -46,36 +46,36 @@ greatest_within passes (suc n) = at (passes (suc n)) (greatest_within passes n)
 
 -- ---- the records selected
 
-first_kept : (b : Bool) (test : Logged → Bool) (first : ℕ) (e : Entry) (es : List Entry) (r : Logged) (rs : List Logged) → IsLoggable e
+first_kept : (b : Bool) (test : HeldEntry → Bool) (first : ℕ) (e : Entry) (es : List Entry) (r : HeldEntry) (rs : List HeldEntry) → IsLoggable e
     → (filter test (numbered (first + 1) es) ≡ r ∷ rs → IsLoggable r.entry)
-    → cond b ((let x : Logged = record { ordinal = first; entry = e } in x) ∷ filter test (numbered (first + 1) es)) (filter test (numbered (first + 1) es)) ≡ r ∷ rs → IsLoggable r.entry
+    → cond b ((let x : HeldEntry = record { ordinal = first; entry = e } in x) ∷ filter test (numbered (first + 1) es)) (filter test (numbered (first + 1) es)) ≡ r ∷ rs → IsLoggable r.entry
 first_kept true test first e es r rs is more h =
-    let same : (let x : Logged = record { ordinal = first; entry = e } in x) ≡ r = cc in
-    subst (λ (x : Logged). IsLoggable x.entry) same is
+    let same : (let x : HeldEntry = record { ordinal = first; entry = e } in x) ≡ r = cc in
+    subst (λ (x : HeldEntry). IsLoggable x.entry) same is
 first_kept false test first e es r rs is more h = more h
 
-no_record : (r : Logged) (rs : List Logged) → (let none : List Logged = [] in none) ≡ r ∷ rs → ⊥
+no_record : (r : HeldEntry) (rs : List HeldEntry) → (let none : List HeldEntry = [] in none) ≡ r ∷ rs → ⊥
 no_record r rs e = cc
 
-first_held : (test : Logged → Bool) (first : ℕ) (es : List Entry) (r : Logged) (rs : List Logged) → All IsLoggable es → filter test (numbered first es) ≡ r ∷ rs → IsLoggable r.entry
+first_held : (test : HeldEntry → Bool) (first : ℕ) (es : List Entry) (r : HeldEntry) (rs : List HeldEntry) → All IsLoggable es → filter test (numbered first es) ≡ r ∷ rs → IsLoggable r.entry
 first_held test first [] r rs are h = absurd (no_record r rs h)
 first_held test first (e ∷ es) r rs are h =
     first_kept (test (record { ordinal = first; entry = e })) test first e es r rs (All-head IsLoggable e es are) (first_held test (first + 1) es r rs (All-tail IsLoggable e es are)) h
 
-few_kept : (test : Logged → Bool) (first : ℕ) (es : List Entry) → length (filter test (numbered first es)) ≤ length es
+few_kept : (test : HeldEntry → Bool) (first : ℕ) (es : List Entry) → length (filter test (numbered first es)) ≤ length es
 few_kept test first [] = omega arith
 few_kept test first (e ∷ es) = at (test (record { ordinal = first; entry = e })) (few_kept test (first + 1) es)
   where
     at : (b : Bool) → length (filter test (numbered (first + 1) es)) ≤ length es
-        → length (cond b ((let x : Logged = record { ordinal = first; entry = e } in x) ∷ filter test (numbered (first + 1) es)) (filter test (numbered (first + 1) es))) ≤ suc (length es)
+        → length (cond b ((let x : HeldEntry = record { ordinal = first; entry = e } in x) ∷ filter test (numbered (first + 1) es)) (filter test (numbered (first + 1) es))) ≤ suc (length es)
     at true le = omega (arith, le)
     at false le = omega (arith, le)
 
-length_in : (rs : List Logged) → length (entries_in rs) ≡ length rs
+length_in : (rs : List HeldEntry) → length (entries_in rs) ≡ length rs
 length_in [] = refl
 length_in (r ∷ rs) = ap suc (length_in rs)
 
-few_taken : (n : ℕ) (rs : List Logged) → length (take n rs) ≤ length rs
+few_taken : (n : ℕ) (rs : List HeldEntry) → length (take n rs) ≤ length rs
 few_taken zero rs = omega arith
 few_taken (suc n) [] = omega arith
 few_taken (suc n) (r ∷ rs) = omega (arith, few_taken n rs)
@@ -93,10 +93,10 @@ optional_most : (o : Option ℕ) → optional_size o ≤ 5
 optional_most None = omega arith
 optional_most (Some n) = omega (arith, number_most n)
 
-one_length : (extent : Extent) (r : Logged) → IsLoggable r.entry → reply_length extent (r ∷ []) ≤ 44
+one_length : (extent : Extent) (r : HeldEntry) → IsLoggable r.entry → reply_length extent (r ∷ []) ≤ 44
 one_length extent r is =
-    let shown : Option ℕ = if shows_number extent then Some (number r.ordinal) else None in
-    let size = length-ack_length shown (r.entry ∷ []) (small_shown (shows_number extent) (number r.ordinal) (omega arith)) (omega arith) in
+    let shown : Option ℕ = if shows_number extent then Some (sequence_number r.ordinal) else None in
+    let size = length-ack_length shown (r.entry ∷ []) (small_shown (shows_number extent) (sequence_number r.ordinal) (omega arith)) (omega arith) in
     let most : length (entry_octets r.entry) ≤ 22 = (entry_sized r.entry is).most_of in
     omega (arith, size, most, optional_most shown)
 
@@ -112,14 +112,14 @@ not_over a b le = grind (arith, nat_tests)
 none_length : (extent : Extent) → reply_length extent [] ≤ 44
 none_length extent = omega (arith, length-ack_length None [] tt (omega arith))
 
-taken_some : (extent : Extent) (g : ℕ) (r : Logged) (more : List Logged) → 0 < g → (is_empty (take g (r ∷ more)) ≡ false) × IsSmall (first_shown extent (take g (r ∷ more)))
+taken_some : (extent : Extent) (g : ℕ) (r : HeldEntry) (more : List HeldEntry) → 0 < g → (is_empty (take g (r ∷ more)) ≡ false) × IsSmall (first_shown extent (take g (r ∷ more)))
 taken_some extent zero r more p = absurd (omega (arith, p))
-taken_some extent (suc k) r more p = (refl, small_shown (shows_number extent) (number r.ordinal) (omega arith))
+taken_some extent (suc k) r more p = (refl, small_shown (shows_number extent) (sequence_number r.ordinal) (omega arith))
 
-abbrev Fits : Extent → ℕ → List Logged → Type 0
+abbrev Fits : Extent → ℕ → List HeldEntry → Type 0
 Fits extent limit all = ((not (is_empty all) && is_empty (packed extent limit all)) ≡ false) × (reply_length extent (packed extent limit all) ≤ limit) × IsSmall (first_shown extent (packed extent limit all))
 
-some_fits : (extent : Extent) (limit : ℕ) (all : List Logged) → 44 ≤ limit → ((r : Logged) (rs : List Logged) → all ≡ r ∷ rs → IsLoggable r.entry) → Fits extent limit all
+some_fits : (extent : Extent) (limit : ℕ) (all : List HeldEntry) → 44 ≤ limit → ((r : HeldEntry) (rs : List HeldEntry) → all ≡ r ∷ rs → IsLoggable r.entry) → Fits extent limit all
 some_fits extent limit [] ge first = (refl, omega (arith, ge, none_length extent), tt)
 some_fits extent limit (r ∷ more) ge first =
     let held_ = first r more refl in
@@ -138,9 +138,9 @@ ack_fits limit invoke object flags first entries small few le =
 
 pub records_fit : (limit invoke : ℕ) (object : Id) (extent : Extent) (log : Log) → IsLog log → 44 ≤ limit → records_said limit invoke object extent log ≡ records_ack limit invoke object extent log
 records_fit limit invoke object extent log is ge =
-    let test : Logged → Bool = λ r. is_asked log extent r.ordinal in
-    let all : List Logged = selected log extent in
-    let rs : List Logged = packed extent limit all in
+    let test : HeldEntry → Bool = λ r. is_asked log extent r.ordinal in
+    let all : List HeldEntry = selected log extent in
+    let rs : List HeldEntry = packed extent limit all in
     let fits = some_fits extent limit all ge (λ r more h. first_held test (oldest log) log.entries r more is.loggable h) in
     let few : length (entries_in rs) < 2 ^ 32 = omega (arith, length_in rs, few_taken (greatest (λ n. nat_le (reply_length extent (take n all)) limit) (length all)) all, few_kept test (oldest log) log.entries, is.within, is.capacity.1) in
     rw fits.0 (ack_fits limit invoke object (answer_of log extent limit).flags (first_shown extent rs) (entries_in rs) fits.2 few fits.1)

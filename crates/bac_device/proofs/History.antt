@@ -11,7 +11,7 @@ use Rattle.bac_apdu.specs.Frame.{frame_at}
 use Rattle.bac_apdu.specs.Apdu.{Apdu, Confirmed, Unconfirmed, Simple, Complex, SegmentAck, Error, Reject, Abort}
 use Rattle.bac_apdu.specs.declared.reason.Reason.{Reason}
 use Rattle.bac_device.proofs.Priorities.{write_prioritized}
-use Rattle.bac_device.specs.Receiving.{Heard}
+use Rattle.bac_device.specs.Receiving.{ReceivedApdu}
 use Rattle.bac_objects.specs.Chain.{or_fault}
 use Rattle.bac_objects.specs.Command.{present}
 use Rattle.bac_objects.specs.State.{State, is_id}
@@ -320,11 +320,11 @@ from_heard_at : (b : Bool) (m : Apdu) (w : PropertyWrite) → cond b None (write
 from_heard_at true m w h = absurd (none_some w h)
 from_heard_at false m w h = from_apdu m w h
 
-from_heard : (x : Option Heard) (w : PropertyWrite) → write_heard x ≡ Some w → 1 ≤ priority_of w
+from_heard : (x : Option ReceivedApdu) (w : PropertyWrite) → write_heard x ≡ Some w → 1 ≤ priority_of w
 from_heard None w h = absurd (none_some w h)
 from_heard (Some x) w h = from_heard_at x.to_all x.apdu w h
 
-from_accepted : (b : Bool) (x : Option Heard) (w : PropertyWrite) → cond b (write_heard x) None ≡ Some w → 1 ≤ priority_of w
+from_accepted : (b : Bool) (x : Option ReceivedApdu) (w : PropertyWrite) → cond b (write_heard x) None ≡ Some w → 1 ≤ priority_of w
 from_accepted true x w h = from_heard x w h
 from_accepted false x w h = absurd (none_some w h)
 

@@ -8,7 +8,7 @@ use Rattle.bac_wire.specs.Chain.{◌>>=◌}
 use Rattle.bac_wire.specs.Primitive.{Id, Primitive, Null, Boolean, Unsigned, Signed, Real, Double, Octets, Chars, Bits, Enumerated, Date, Time, Object}
 use Rattle.bac_wire.specs.Stamp.{CivilTime}
 use Rattle.bac_log.specs.History.{is_change}
-use Rattle.bac_log.specs.TrendLog.{Log, newest, number, last_ordinal, logs, purges, enables}
+use Rattle.bac_log.specs.TrendLog.{Log, newest, sequence_number, last_ordinal, logs, purges, enables}
 use Rattle.bac_log.specs.declared.entry.Entry.{Entry}
 use Rattle.bac_objects.specs.Chain.{or_fault}
 use Rattle.bac_apdu.specs.Service.WriteProperty.{PropertyWrite}
@@ -267,7 +267,7 @@ takes_steps false true entry log new e h = absurd (err_taken _ new h)
 takes_steps false false entry log new e h = inr (inl (not_equal (newest log) last_ordinal e, (entry, sym (ok_taken (logs entry log) new h))))
 
 abbrev with_log : State → ℕ → object.Object → Logger → Log → Sample
-with_log d instance o l log = Ok (number (newest log), (let s : State = record d { objects = set_value (is_id (log_id instance)) d.objects (record o { body = body.Log (record l { log = log }) }) } in s))
+with_log d instance o l log = Ok (sequence_number (newest log), (let s : State = record d { objects = set_value (is_id (log_id instance)) d.objects (record o { body = body.Log (record l { log = log }) }) } in s))
 
 sample_log : (d : State) (instance : ℕ) (o : object.Object) (l : Logger) (y : Result Log SampleFault) (x : ℕ × State) → takes (sample_of d d.clock l.source) l.log ≡ y → o.body ≡ body.Log l → lookup (is_id (log_id instance)) d.objects ≡ Some o
     → (y >>= with_log d instance o l) ≡ Ok x → Keeps d x.1

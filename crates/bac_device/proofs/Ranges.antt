@@ -6,7 +6,7 @@ use Rattle.bac_wire.specs.Primitive.{Id}
 use Rattle.bac_apdu.specs.Apdu.{Apdu, apdu_octets}
 use Rattle.bac_apdu.specs.declared.service.extent.Extent.{Extent}
 use Rattle.bac_log.specs.Ack.{ack_apdu}
-use Rattle.bac_log.specs.Select.{IsTooSmall, Logged, answer_octets, packed, selected}
+use Rattle.bac_log.specs.Select.{IsTooSmall, HeldEntry, answer_octets, packed, selected}
 use Rattle.bac_log.specs.TrendLog.{Log}
 use Rattle.bac_log.specs.declared.answer.Selected.{Selected}
 use Rattle.bac_log.specs.declared.ack.AnswerFault.{AnswerFault}
@@ -19,12 +19,12 @@ over limit n lt = grind (arith, nat_tests)
 
 -- ---- the answer of a log
 
-fits_test : (all rs : List Logged) → ((all ≢ []) × (rs ≡ []) → ⊥) → (not (is_empty all) && is_empty rs) ≡ false
+fits_test : (all rs : List HeldEntry) → ((all ≢ []) × (rs ≡ []) → ⊥) → (not (is_empty all) && is_empty rs) ≡ false
 fits_test [] rs h = refl
 fits_test (a ∷ all) [] h = absurd (h (λ e. (cc), refl))
 fits_test (a ∷ all) (r ∷ rs) h = refl
 
-small_test : (all rs : List Logged) → (all ≢ []) → rs ≡ [] → (not (is_empty all) && is_empty rs) ≡ true
+small_test : (all rs : List HeldEntry) → (all ≢ []) → rs ≡ [] → (not (is_empty all) && is_empty rs) ≡ true
 small_test [] rs some none = absurd (some refl)
 small_test (a ∷ all) rs some none = rw none refl
 

@@ -25,7 +25,7 @@ use Rattle.bac_objects.specs.declared.fault.Fault.{Fault}
 use Rattle.bac_device.specs.Answer.{ack, announced, announcement, answer_apdu, answer_npdu, answer_range, answer_read, answer_request, answer_write, asks_for, i_am_apdu, is_too_small, range_said, read_said, records_ack, records_said, write_said}
 use Rattle.std.specs.Prelude.{is_some}
 use Rattle.std.specs.Option.{option_map}
-use Rattle.bac_device.specs.Receiving.{Heard, heard_at}
+use Rattle.bac_device.specs.Receiving.{ReceivedApdu, heard_at}
 use Rattle.bac_device.specs.declared.reply.Receiver.{Receiver}
 use Rattle.bac_device.specs.Reply.{abort, datagram_octets, datagram_to, error, limited, plain_to, reply, reply_octets, said_octets}
 use Rattle.bac_device.proofs.Told.{length-plain_to}
@@ -172,7 +172,7 @@ heads_there said out some is =
     let e : out ≡ datagram_octets m.0 = is ∙ ap (λ (o : Option Apdu). said_octets o) m.1 in
     omega (arith, heads_long m.0, ap (λ (l : List ℕ). length l) e)
 
-pub sent_back : (d : State) (to : Receiver) (to_all : Bool) (npdu : List ℕ) (heard : Heard) (out new : List ℕ) → heard_at to_all npdu ≡ Some heard → d.reply_size ≤ 1476
+pub sent_back : (d : State) (to : Receiver) (to_all : Bool) (npdu : List ℕ) (heard : ReceivedApdu) (out new : List ℕ) → heard_at to_all npdu ≡ Some heard → d.reply_size ≤ 1476
     → is_some (answer_apdu d heard.to_all heard.apdu).0 ≡ true → out ≡ said_octets (answer_apdu d heard.to_all heard.apdu).0
     → ((m : Apdu) → length (apdu_octets m) ≤ 1476 → out ≡ datagram_octets m → new ≡ datagram_to heard.source m) → new ≡ reply_octets (answer_npdu d to (heard_at to_all npdu)).0
 sent_back d to to_all npdu heard out new e le some is back =
@@ -180,11 +180,11 @@ sent_back d to to_all npdu heard out new e le some is back =
     let m = some_of said some in
     let short : IsShort m.0 = subst (λ (o : Option Apdu). AreShort o) m.1 (said_short d heard.to_all heard.apdu le) in
     back m.0 short (is ∙ ap (λ (o : Option Apdu). said_octets o) m.1)
-    ∙ sym (ap (λ (h : Option Heard). reply_octets (answer_npdu d to h).0) e ∙ ap (λ (o : Option Apdu). reply_octets (option_map (reply (record { to = to; place = heard.source })) o)) m.1)
+    ∙ sym (ap (λ (h : Option ReceivedApdu). reply_octets (answer_npdu d to h).0) e ∙ ap (λ (o : Option Apdu). reply_octets (option_map (reply (record { to = to; place = heard.source })) o)) m.1)
 
-pub none_back : (d : State) (to : Receiver) (to_all : Bool) (npdu : List ℕ) (heard : Heard) (out : List ℕ) → heard_at to_all npdu ≡ Some heard
+pub none_back : (d : State) (to : Receiver) (to_all : Bool) (npdu : List ℕ) (heard : ReceivedApdu) (out : List ℕ) → heard_at to_all npdu ≡ Some heard
     → is_some (answer_apdu d heard.to_all heard.apdu).0 ≡ false → out ≡ said_octets (answer_apdu d heard.to_all heard.apdu).0 → out ≡ reply_octets (answer_npdu d to (heard_at to_all npdu)).0
 none_back d to to_all npdu heard out e none is =
     let n = none_of (answer_apdu d heard.to_all heard.apdu).0 none in
     is ∙ ap (λ (o : Option Apdu). said_octets o) n
-    ∙ sym (ap (λ (h : Option Heard). reply_octets (answer_npdu d to h).0) e ∙ ap (λ (o : Option Apdu). reply_octets (option_map (reply (record { to = to; place = heard.source })) o)) n)
+    ∙ sym (ap (λ (h : Option ReceivedApdu). reply_octets (answer_npdu d to h).0) e ∙ ap (λ (o : Option Apdu). reply_octets (option_map (reply (record { to = to; place = heard.source })) o)) n)

@@ -15,7 +15,7 @@ use Rattle.bac_apdu.specs.declared.reason.Reason.{Reason}
 use Rattle.bac_objects.specs.State.{State}
 use Rattle.bac_apdu.specs.Service.WriteProperty.{PropertyWrite, write_property_at}
 use Rattle.bac_objects.specs.Writing.{write_of}
-use Rattle.bac_device.specs.Receiving.{Heard, heard_at, is_answerable, is_heard}
+use Rattle.bac_device.specs.Receiving.{ReceivedApdu, heard_at, is_answerable, is_heard}
 use Rattle.bac_device.specs.Answer.{write_said, answer_write, answer_request, replied, answer_apdu, answer_heard, returning, sent, answer_npdu, answer_frame, answer}
 use Rattle.bac_objects.specs.Fault.{class_of, code_of}
 use Rattle.bac_device.specs.Reply.{Return, datagram_to, error, plain, plain_to, reply}
@@ -137,7 +137,7 @@ told_apdu d to way false (Reject invoke reason) = inl (refl, refl)
 told_apdu d to way true (Abort by_server invoke reason) = inl (refl, refl)
 told_apdu d to way false (Abort by_server invoke reason) = inl (refl, refl)
 
-told_heard : (d : State) (to : Return) (way : IsWay to.place) (h : Option Heard) → Told d (sent to (answer_heard d h)) (write_heard h)
+told_heard : (d : State) (to : Return) (way : IsWay to.place) (h : Option ReceivedApdu) → Told d (sent to (answer_heard d h)) (write_heard h)
 told_heard d to way None = inl (refl, refl)
 told_heard d to way (Some h) = told_apdu d to way h.to_all h.apdu
 
@@ -155,27 +155,27 @@ answerable_way (Some place) e =
     let three = both (nat_le 1 (length place.address)) _ two.1 in
     (leb-true _ _ one.0, leb-true _ _ two.0, leb-true _ _ three.0, leb-true _ _ three.1)
 
-pub heard_way : (to_all : Bool) (npdu : List ℕ) (h : Heard) → heard_at to_all npdu ≡ Some h → IsWay h.source
+pub heard_way : (to_all : Bool) (npdu : List ℕ) (h : ReceivedApdu) → heard_at to_all npdu ≡ Some h → IsWay h.source
 unfolding heard_at
 heard_way to_all npdu h e =
     let x = bind_some (header_at npdu) _ h e in
     elim (chosen_some (is_heard x.0.0) _ None h x.2) [
       | inl t ↦
           let a = bind_some (apdu_at x.0.1) _ h t.1 in
-          let from : h.source ≡ x.0.0.source = ap (λ (y : Heard). y.source) (sym (same_Some _ h a.2)) in
+          let from : h.source ≡ x.0.0.source = ap (λ (y : ReceivedApdu). y.source) (sym (same_Some _ h a.2)) in
           let tests = both (not x.0.0.network) _ t.0 in
           let first = both (is_answerable x.0.0.source) _ tests.1 in
           subst IsWay (sym from) (answerable_way x.0.0.source first.0)
       | inr f ↦ absurd (none-some h f.1)
     ]
 
-pub return_way : (to : Receiver) (to_all : Bool) (npdu : List ℕ) (h : Option Heard) → heard_at to_all npdu ≡ h → IsWay (returning to h).place
+pub return_way : (to : Receiver) (to_all : Bool) (npdu : List ℕ) (h : Option ReceivedApdu) → heard_at to_all npdu ≡ h → IsWay (returning to h).place
 return_way to to_all npdu None e = tt
 return_way to to_all npdu (Some h) e = heard_way to_all npdu h e
 
 told_npdu : (d : State) (to : Receiver) (to_all : Bool) (npdu : List ℕ) → Told d (answer_npdu d to (heard_at to_all npdu)) (write_heard (heard_at to_all npdu))
 told_npdu d to to_all npdu =
-    let h : Option Heard = heard_at to_all npdu in
+    let h : Option ReceivedApdu = heard_at to_all npdu in
     told_heard d (returning to h) (return_way to to_all npdu h refl) h
 
 told_frame : (d : State) (f : Option Frame) → Told d (answer_frame d f) (write_heard (heard_in f))

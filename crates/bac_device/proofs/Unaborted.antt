@@ -33,7 +33,7 @@ use Rattle.bac_objects.specs.Fault.{class_of, code_of}
 use Rattle.bac_device.specs.Answer.{answer, answer_frame, answer_range, is_too_small, range_said, records_ack}
 use Rattle.bac_device.specs.History.{heard_in}
 use Rattle.bac_device.specs.Logs.{is_aborted, log_answer, log_said}
-use Rattle.bac_device.specs.Receiving.{Heard, heard_at, is_heard}
+use Rattle.bac_device.specs.Receiving.{ReceivedApdu, heard_at, is_heard}
 use Rattle.bac_apdu.specs.Npdu.{Place}
 use Rattle.bac_apdu.specs.Route.{IsWay}
 use Rattle.bac_device.specs.Reply.{Return, abort, error, reject, reply}
@@ -117,7 +117,7 @@ apdu_room : (bytes : List ℕ) → AnyOf HasRoom (apdu_at bytes)
 unfolding apdu_at
 apdu_room bytes = any_step HasRoom (octet_at bytes) _ (λ first. behind_room first.0 first.1)
 
-abbrev HeardRoom : Heard → Type 0
+abbrev HeardRoom : ReceivedApdu → Type 0
 HeardRoom heard = HasRoom heard.apdu
 
 heard_room : (to_all : Bool) (npdu : List ℕ) → AnyOf HeardRoom (heard_at to_all npdu)
@@ -133,7 +133,7 @@ frame_room (Some (Forwarded address npdu)) = heard_room true npdu
 frame_room (Some (Function function rest)) = tt
 
 asked_room : (f : Option Frame) (to_all : Bool) (source : Option Place) (size invoke : ℕ) (parameters : List ℕ) → heard_in f ≡ Some (record { to_all = to_all; source = source; apdu = Confirmed false size invoke 26 parameters }) → 50 ≤ size
-asked_room f to_all source size invoke parameters h = subst (λ (o : Option Heard). AnyOf HeardRoom o) h (frame_room f)
+asked_room f to_all source size invoke parameters h = subst (λ (o : Option ReceivedApdu). AnyOf HeardRoom o) h (frame_room f)
 
 -- ---- the records that a sound device answers are a log
 
@@ -180,7 +180,7 @@ range_is : (d : State) (limit invoke : ℕ) (x : Result ReadRange Reason) → Is
 range_is d limit invoke (Ok r) is ge = said_is limit invoke r (records_of d r) ge (records_log d r is)
 range_is d limit invoke (Err reason) is ge = refl
 
-no_heard : (h : Heard) → None ≡ Some h → ⊥
+no_heard : (h : ReceivedApdu) → None ≡ Some h → ⊥
 no_heard h e = cc
 
 abbrev said_to : State → ℕ → ℕ → List ℕ → Return → Option Reply × State
@@ -207,7 +207,7 @@ ranges_answered d datagram source size invoke parameters is h = frame_answered d
 -- ---- and it is read back
 
 -- a request is heard from where an answer can go
-frame_way : (f : Option Frame) (x : Heard) → heard_in f ≡ Some x → IsWay x.source
+frame_way : (f : Option Frame) (x : ReceivedApdu) → heard_in f ≡ Some x → IsWay x.source
 frame_way None x h = absurd (no_heard _ h)
 frame_way (Some (Unicast npdu)) x h = heard_way false npdu x h
 frame_way (Some (Broadcast npdu)) x h = heard_way true npdu x h

@@ -21,14 +21,14 @@ use Rattle.bac_apdu.specs.declared.service.who_is.WhoIs.{WhoIs}
 use Rattle.bac_apdu.specs.declared.service.extent.Extent.{Extent}
 use Rattle.bac_apdu.specs.declared.service.read_range.ReadRange.{ReadRange}
 use Rattle.bac_log.specs.Ack.{ack_parameters, read_range_service}
-use Rattle.bac_log.specs.Select.{Logged, answer_of, entries_in, first_shown, packed, selected}
+use Rattle.bac_log.specs.Select.{HeldEntry, answer_of, entries_in, first_shown, packed, selected}
 use Rattle.bac_log.specs.TrendLog.{Log}
 use Rattle.bac_objects.specs.Reading.{read_of}
 use Rattle.bac_objects.specs.Records.{records_of}
 use Rattle.bac_objects.specs.State.{State}
 use Rattle.bac_objects.specs.Writing.{write_of}
 use Rattle.bac_objects.specs.declared.fault.Fault.{Fault}
-use Rattle.bac_device.specs.Receiving.{Heard, heard_at, nak_code, nak_octets}
+use Rattle.bac_device.specs.Receiving.{ReceivedApdu, heard_at, nak_code, nak_octets}
 use Rattle.bac_device.specs.Reply.{Return, abort, error, limited, reject, reply}
 use Rattle.bac_device.specs.declared.reply.Receiver.{Receiver}
 use Rattle.bac_device.specs.declared.reply.Receiver.TheVariants.{Sender, Address}
@@ -104,7 +104,7 @@ records_ack limit invoke object extent log =
     Complex false invoke read_range_service (ack_parameters object (answer_of log extent limit).flags (first_shown extent records) (entries_in records))
 
 -- there are no records
-abbrev pub is_empty : List Logged → Bool
+abbrev pub is_empty : List HeldEntry → Bool
 is_empty [] = true
 is_empty (r ∷ rs) = false
 
@@ -173,7 +173,7 @@ answer_apdu d to_all (Unconfirmed service parameters) =
 answer_apdu d to_all other = (None, d)
 
 -- the answer to what an NPDU has for the device, if it has anything
-abbrev pub answer_heard : State → Option Heard → Option Apdu × State
+abbrev pub answer_heard : State → Option ReceivedApdu → Option Apdu × State
 answer_heard d None = (None, d)
 answer_heard d (Some heard) = answer_apdu d heard.to_all heard.apdu
 
@@ -184,12 +184,12 @@ abbrev pub sent : Return → Option Apdu × State → Option Reply × State
 sent back said = (option_map (reply back) said.0, said.1)
 
 -- who gets the answer to what was heard, and the place behind a router that it is for
-abbrev pub returning : Receiver → Option Heard → Return
+abbrev pub returning : Receiver → Option ReceivedApdu → Return
 returning to None = record { to = to; place = None }
 returning to (Some heard) = record { to = to; place = heard.source }
 
 -- the reply to what an NPDU has for the device, and the device after it
-abbrev pub answer_npdu : State → Receiver → Option Heard → Option Reply × State
+abbrev pub answer_npdu : State → Receiver → Option ReceivedApdu → Option Reply × State
 answer_npdu d to heard = sent (returning to heard) (answer_heard d heard)
 
 -- what refuses a function of broadcast management

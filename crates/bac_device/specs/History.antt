@@ -25,13 +25,13 @@ use Rattle.bac_objects.specs.declared.lines.ObjectLine.TheVariants.{Binary, Mult
 use Rattle.bac_objects.specs.declared.object.Body.TheVariants as body
 use Rattle.bac_objects.specs.declared.object.Object as object
 use Rattle.bac_device.specs.Answer.{answer, write_property_service}
-use Rattle.bac_device.specs.Receiving.{Heard, heard_at}
+use Rattle.bac_device.specs.Receiving.{ReceivedApdu, heard_at}
 use Rattle.bac_device.specs.declared.reply.Reply.{Reply}
 
 -- ---- what a datagram is
 
 -- what a frame has for a device
-abbrev pub heard_in : Option Frame → Option Heard
+abbrev pub heard_in : Option Frame → Option ReceivedApdu
 heard_in (Some (Unicast npdu)) = heard_at false npdu
 heard_in (Some (Broadcast npdu)) = heard_at true npdu
 heard_in (Some (Forwarded address npdu)) = heard_at true npdu
@@ -45,7 +45,7 @@ write_in_apdu (Confirmed segmented size invoke service parameters) =
 write_in_apdu other = None
 
 -- the same of what was heard, unless it went to all devices
-abbrev pub write_heard : Option Heard → Option PropertyWrite
+abbrev pub write_heard : Option ReceivedApdu → Option PropertyWrite
 write_heard None = None
 write_heard (Some heard) = if heard.to_all then None else write_in_apdu heard.apdu
 

@@ -51,13 +51,13 @@ is_heard header = not header.network && (is_answerable header.source && is_for_a
 -- ---- APDUs
 
 -- an APDU, whether it went to all devices, and the place behind a router that it came from
-pub record Heard : Type 0 where
+pub record ReceivedApdu : Type 0 where
   pub to_all : Bool
   pub source : Option Place
   pub apdu : Apdu
 
 -- what an NPDU has for a device: its frame or its header says whether it went to all
-unfoldable pub heard_at : Bool → List ℕ → Option Heard
+unfoldable pub heard_at : Bool → List ℕ → Option ReceivedApdu
 heard_at to_all npdu = do
   header ← header_at npdu
   if is_heard header.0 then (do

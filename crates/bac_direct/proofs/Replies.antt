@@ -12,7 +12,7 @@ use Rattle.bac_apdu.specs.declared.service.extent.Extent.TheVariants as extent
 use Rattle.bac_apdu.proofs.Shorts.{error_short}
 use Rattle.bac_log.specs.Ack.{ack_parameters, read_range_service}
 use Rattle.bac_log.specs.Entry.{IsLoggable}
-use Rattle.bac_log.specs.Select.{Logged, entries_in, first_shown, has_ordinal, packed, reply_of, result_flags, selected}
+use Rattle.bac_log.specs.Select.{HeldEntry, entries_in, first_shown, has_ordinal, packed, reply_of, result_flags, selected}
 use Rattle.bac_log.specs.TrendLog.{IsLog, Log, newest, oldest}
 use Rattle.bac_log.specs.declared.entry.Entry.{Entry}
 use Rattle.bac_objects.specs.Sampling.{log_id, log_of}
@@ -101,17 +101,17 @@ same_selected a b (extent.ByNumber reference count) p q = rw (p, q) refl
 same_selected a b (extent.ByTime date time (pos n)) p q = rw (p, q) refl
 same_selected a b (extent.ByTime date time (negsuc n)) p q = rw (p, q) refl
 
-abbrev flags_with : ℕ → List Entry → List Logged → List Logged → ℕ
+abbrev flags_with : ℕ → List Entry → List HeldEntry → List HeldEntry → ℕ
 flags_with before entries all rs = result_flags (has_ordinal (before + 1) rs) (has_ordinal (before + length entries) rs) (nat_lt (length rs) (length all))
 
-same_flags : (a b : Log) (e : Extent) (all rs : List Logged) → a.before ≡ b.before → a.entries ≡ b.entries → (reply_of a e all rs).flags ≡ (reply_of b e all rs).flags
+same_flags : (a b : Log) (e : Extent) (all rs : List HeldEntry) → a.before ≡ b.before → a.entries ≡ b.entries → (reply_of a e all rs).flags ≡ (reply_of b e all rs).flags
 same_flags a b e all [] p q = refl
 same_flags a b e all (r ∷ rs) p q = ap (λ n. flags_with n a.entries all (r ∷ rs)) p ∙ ap (λ (es : List Entry). flags_with b.before es all (r ∷ rs)) q
 
 same_reply : (id : Id) (a b : Log) (e : Extent) (r : ℕ) → a.before ≡ b.before → a.entries ≡ b.entries → reply_parameters id a e r ≡ reply_parameters id b e r
 unfolding reply_parameters
 same_reply id a b e r p q =
-    ap (λ (x : List Logged). ack_parameters id (reply_of a e x (packed e r x)).flags (first_shown e (packed e r x)) (entries_in (packed e r x))) (same_selected a b e p q)
+    ap (λ (x : List HeldEntry). ack_parameters id (reply_of a e x (packed e r x)).flags (first_shown e (packed e r x)) (entries_in (packed e r x))) (same_selected a b e p q)
     ∙ ap (λ n. ack_parameters id n (first_shown e (packed e r (selected b e))) (entries_in (packed e r (selected b e)))) (same_flags a b e (selected b e) (packed e r (selected b e)) p q)
 
 -- ---- the log that a moment cuts out of the history is the device's

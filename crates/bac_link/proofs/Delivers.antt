@@ -1,7 +1,7 @@
 -- Laws of what a walk delivers.
 use Rattle.std.proofs.Common.{◌≡◌, ℕ, suc, ◌+◌, ◌<◌, ◌⊎◌, inl, inr, List, [], ◌∷◌, ◌++◌, length, refl, sym, ap, subst, ◌∙◌, append_assoc, append-nil, arith, length-append}
 use Rattle.std.proofs.lemmas.Grind.{flat_map-append}
-use Rattle.bac_log.specs.TrendLog.{number}
+use Rattle.bac_log.specs.TrendLog.{sequence_number}
 use Rattle.bac_log.specs.declared.entry.Entry.{Entry}
 use Rattle.bac_link.specs.declared.item.Item.{Item}
 use Rattle.bac_link.specs.declared.item.Item.TheVariants.{Gap, Logged}
@@ -66,13 +66,13 @@ split_of (x ∷ xs) ys (y ∷ before) z after h =
 
 record BringsUpTo (H : History) (m : Moment) (s shown : ℕ) (e : Entry) (items : List Item) : Type 0 where
   k : ℕ
-  shows : shown ≡ number k
+  shows : shown ≡ sequence_number k
   holds : Holds m k
   entry : IsEntry H k e
   are : Brings H m s items (k + 1)
 
 held_cut : (H : History) (m : Moment) (s u shown : ℕ) (e : Entry) (before after : List Item) → AreHeld H m s (before ++ Logged shown e ∷ after) u →
-    (k : ℕ) × (shown ≡ number k) × Holds m k × IsEntry H k e × AreHeld H m s (before ++ Logged shown e ∷ []) (k + 1)
+    (k : ℕ) × (shown ≡ sequence_number k) × Holds m k × IsEntry H k e × AreHeld H m s (before ++ Logged shown e ∷ []) (k + 1)
 held_cut H m s u shown e [] after are = (s, are.0, are.1, are.2, (are.0, are.1, are.2, refl))
 held_cut H m s u shown e (Gap f b ∷ before) after are = absurd are
 held_cut H m s u shown e (Logged l d ∷ before) after are =
@@ -91,7 +91,7 @@ brings_cut H m s u shown e (Logged l d ∷ before) after are =
 record LeadsUpTo (H : History) (M : List Moment) (s shown : ℕ) (e : Entry) (most : ℕ) (items : List Item) : Type 0 where
   k : ℕ
   place : ℕ
-  shows : shown ≡ number k
+  shows : shown ≡ sequence_number k
   below : place < most
   holds : Holds (moment_at M place) k
   entry : IsEntry H k e

@@ -1,6 +1,6 @@
 -- What is true of everything that is delivered.
 use Rattle.std.specs.Prelude.{◌≡◌, ℕ, zero, suc, ◌+◌, ◌<◌, List, [], ◌∷◌, ◌++◌}
-use Rattle.bac_log.specs.TrendLog.{number}
+use Rattle.bac_log.specs.TrendLog.{sequence_number}
 use Rattle.bac_log.specs.declared.entry.Entry.{Entry}
 use Rattle.bac_link.specs.declared.item.Item.{Item}
 use Rattle.bac_link.specs.declared.item.Item.TheVariants.{Gap, Logged}
@@ -19,8 +19,8 @@ moment_at M i = now (after_answers i M)
 -- least, an entry its own.
 abbrev pub CoversEach : ℕ → List Item → ℕ → Type 0
 CoversEach s [] t = t ≡ s
-CoversEach s (Gap first before ∷ items) t = (u : ℕ) × (s < u) × (first ≡ number s) × (before ≡ number u) × CoversEach u items t
-CoversEach s (Logged shown entry ∷ items) t = (shown ≡ number s) × CoversEach (s + 1) items t
+CoversEach s (Gap first before ∷ items) t = (u : ℕ) × (s < u) × (first ≡ sequence_number s) × (before ≡ sequence_number u) × CoversEach u items t
+CoversEach s (Logged shown entry ∷ items) t = (shown ≡ sequence_number s) × CoversEach (s + 1) items t
 
 -- each number is delivered once, in rising order
 abbrev pub DeliversEachOnce : Type 0
@@ -32,7 +32,7 @@ DeliversEachOnce = (H : History) (s t count : ℕ) (M : List Moment) (items : Li
 abbrev pub CanBeResumed : Type 0
 CanBeResumed = (H : History) (s t count shown : ℕ) (entry : Entry) (M : List Moment) (before after : List Item) →
     DeliversTo H s (before ++ Logged shown entry ∷ after) t M count →
-    (k : ℕ) × (i : ℕ) × (shown ≡ number k) × (i < count) × Holds (moment_at M i) k × IsEntry H k entry
+    (k : ℕ) × (i : ℕ) × (shown ≡ sequence_number k) × (i < count) × Holds (moment_at M i) k × IsEntry H k entry
     × DeliversTo H s (before ++ Logged shown entry ∷ []) (k + 1) M (i + 1)
     × ((rest : List Item) (u more : ℕ) → DeliversTo H (k + 1) rest u (after_answers (i + 1) M) more →
     DeliversTo H s ((before ++ Logged shown entry ∷ []) ++ rest) u M ((i + 1) + more))

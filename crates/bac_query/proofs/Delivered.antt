@@ -3,13 +3,13 @@ use Rattle.std.proofs.Common.{◌≡◌, ◌≢◌, ◌≤◌, ◌*◌, ◌+◌,
 use Rattle.std.specs.Io.KnownBytes.{Appends, Keeps}
 use Rattle.std.proofs.KnownBytes.{Appends-trans}
 use Rattle.bac_wire.specs.Primitive.{Id}
-use Rattle.bac_log.specs.TrendLog.{number}
+use Rattle.bac_log.specs.TrendLog.{sequence_number}
 use Rattle.bac_link.specs.Delivery.{History, Moment}
 use Rattle.bac_link.specs.declared.item.Item.{Item}
 use Rattle.bac_report.specs.Items.{item_line, items_text}
 use Rattle.bac_walk.specs.declared.batch.Gap.{Gap as GapOf}
 use Rattle.bac_walk.specs.declared.batch.Numbered.{Numbered}
-use Rattle.bac_walk.specs.Place.{Place}
+use Rattle.bac_walk.specs.Place.{WalkPlace}
 use Rattle.bac_walk.specs.Sinks.{Call, put_items, IsRun, Takes, is_stopped}
 use Rattle.bac_walk.specs.Collects.{IsEnded}
 use Rattle.bac_walk.specs.Outcomes.{IsRunOf, why_of}
@@ -105,20 +105,20 @@ more_lines items more text old mid new same first rest =
 
 -- ---- what was delivered
 
-pub delivered : (was is : ℕ → List Moment → History → Type 0) (retries old new : ℕ) (before after : Place) (n steps : ℕ) (ended : Ended) (items : List Item)
-    (result : Fetching) → n ≤ steps → IsRun was is retries old new before after n ended items → ((t : ℕ) → after.next ≡ number t → NextIs result t) →
+pub delivered : (was is : ℕ → List Moment → History → Type 0) (retries old new : ℕ) (before after : WalkPlace) (n steps : ℕ) (ended : Ended) (items : List Item)
+    (result : Fetching) → n ≤ steps → IsRun was is retries old new before after n ended items → ((t : ℕ) → after.next ≡ sequence_number t → NextIs result t) →
     Delivers was before steps items result
 delivered was is retries old new before after n steps ended items result le run next = λ r M H s honest at near.
     let h = headline_of was is retries old new before after n ended items run r M H s honest at (fewer_steps r H M before.fresh s n steps le near) in (h.0, h.1, h.2, h.3, next h.2 h.4, h.5)
 
 -- the number that was printed is the walk's
 pub next_is : (why : Why) (next : ℕ) (after : ℕ) (result : Fetching) (old new : Held) → next ≡ after → PrintsEnd why next result old new →
-    (t : ℕ) → after ≡ number t → NextIs result t
+    (t : ℕ) → after ≡ sequence_number t → NextIs result t
 next_is why next after (Ok fetched) old new same (is, at, last) t e = at ∙ same ∙ e
 next_is why next after (Err fault) old new same printed t e = tt
 
 -- a run and the step after it, of one log and with as many retries
-pub run_on : (was mid is : Id → ℕ → List Moment → History → Type 0) (log here : Id) (retries now old half new : ℕ) (before middle after : Place)
+pub run_on : (was mid is : Id → ℕ → List Moment → History → Type 0) (log here : Id) (retries now old half new : ℕ) (before middle after : WalkPlace)
     (i : ℕ) (ended : Ended) (xs ys : List Item) → here ≡ log → now ≡ retries → old ≤ half →
     IsRun (was log) (mid log) retries old half before middle i StepLimit xs → IsRun (mid here) (is here) now half new middle after 1 ended ys →
     IsRun (was log) (is log) retries old new before after (i + 1) ended (xs ++ ys)
@@ -139,7 +139,7 @@ ended_later (Fault Lost) fresh t M answers steps retries old new more le is = om
 ended_later (Fault (Refused refusal)) fresh t M answers steps retries old new more le is = is
 ended_later (Fault BadReply) fresh t M answers steps retries old new more le is = is
 
-run_later : (was is : ℕ → List Moment → History → Type 0) (retries old new more : ℕ) (before after : Place) (n : ℕ) (ended : Ended) (items : List Item) → new ≤ more →
+run_later : (was is : ℕ → List Moment → History → Type 0) (retries old new more : ℕ) (before after : WalkPlace) (n : ℕ) (ended : Ended) (items : List Item) → new ≤ more →
     IsRun was is retries old new before after n ended items → IsRun was (λ r M H. Unit {0}) retries old more before after n ended items
 run_later was is retries old new more before after n ended items le run = (
   run.0,
@@ -163,14 +163,14 @@ run_later was is retries old new more before after n ended items le run = (
       ),
 )
 
-pub fetched : (was is : ℕ → List Moment → History → Type 0) (retries old new more : ℕ) (before after : Place) (n : ℕ) (ended : Ended) (items : List Item) → new ≤ more →
+pub fetched : (was is : ℕ → List Moment → History → Type 0) (retries old new more : ℕ) (before after : WalkPlace) (n : ℕ) (ended : Ended) (items : List Item) → new ≤ more →
     IsRun was is retries old new before after n ended items → length items ≤ 101 * n → (ended ≡ StepLimit → n ≤ length items) →
     IsFetched was retries old more before after n ended items
 fetched was is retries old new more before after n ended items le run few many =
     (run_later was is retries old new more before after n ended items le run, few, many)
 
 -- the end line was that of the run, or a front part of it, or there was no memory for it
-pub ends_as : (items : List Item) (steps n : ℕ) (ended : Ended) (after : Place) (why : Why) (next : ℕ) (result : Fetching) (old mid new : Held) →
+pub ends_as : (items : List Item) (steps n : ℕ) (ended : Ended) (after : WalkPlace) (why : Why) (next : ℕ) (result : Fetching) (old mid new : Held) →
     n ≤ steps → IsRunOf why steps n ended → next ≡ after.next → Appends old mid (items_text items) → PrintsEnd why next result mid new →
     EndsAs items steps n ended after result old new
 ends_as items steps n ended after why next (Ok done) old mid new le run at first (same, is, last) =
@@ -181,7 +181,7 @@ ends_as items steps n ended after why next (Err Memory) old mid new le run at fi
 ends_as items steps n ended after why next (Err (Exchange fault)) old mid new le run at first never = absurd never
 
 -- the write of the lines of more items was refused
-pub ends_refused : (items more : List Item) (text : List ℕ) (steps n : ℕ) (ended : Ended) (after : Place) (fault : QueryFault) (old mid new : Held) → n ≤ steps →
+pub ends_refused : (items more : List Item) (text : List ℕ) (steps n : ℕ) (ended : Ended) (after : WalkPlace) (fault : QueryFault) (old mid new : Held) → n ≤ steps →
     text ≡ items_text more → Appends old mid (items_text items) → Prints text (Err fault) mid new → EndsAs (items ++ more) steps n ended after (Err fault) old new
 ends_refused items more text steps n ended after Write old mid new le same first part =
     let P : List ℕ → Type 0 = λ t. AppendsPart mid new t in
@@ -191,7 +191,7 @@ ends_refused items more text steps n ended after Memory old mid new le same firs
 ends_refused items more text steps n ended after (Exchange fault) old mid new le same first never = absurd never
 
 -- a run of fewer steps that wasn't ended by their number
-pub run_whole : (was is : ℕ → List Moment → History → Type 0) (retries old new : ℕ) (before after : Place) (i n : ℕ) (ended : Ended) (why : Why) (items : List Item) →
+pub run_whole : (was is : ℕ → List Moment → History → Type 0) (retries old new : ℕ) (before after : WalkPlace) (i n : ℕ) (ended : Ended) (why : Why) (items : List Item) →
     why_of ended ≡ Some why → i ≤ n → IsRun was is retries old new before after i ended items → IsRun was is retries old new before after n ended items
 run_whole was is retries old new before after i n ended why items some le run =
     run_early was is retries old new before after i n ended items (not_limit ended why some) le run

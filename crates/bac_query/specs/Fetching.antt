@@ -1,13 +1,13 @@
 -- What fetching the records of a trend log prints, over any link and any writer.
 use Rattle.std.specs.Prelude.{◌≡◌, ℕ, false, ◌*◌, ◌≤◌, ◌⊎◌, List, ◌++◌, length, Result, Ok, Err}
 use Rattle.std.specs.Io.KnownBytes.{Appends, Keeps}
-use Rattle.bac_log.specs.TrendLog.{number}
+use Rattle.bac_log.specs.TrendLog.{sequence_number}
 use Rattle.bac_link.specs.Delivery.{History, Moment, DeliversTo}
 use Rattle.bac_link.specs.declared.item.Item.{Item}
 use Rattle.bac_report.specs.Ends.{end_line}
 use Rattle.bac_report.specs.Items.{items_text}
 use Rattle.bac_walk.specs.Near.{StaysNear}
-use Rattle.bac_walk.specs.Place.{Place}
+use Rattle.bac_walk.specs.Place.{WalkPlace}
 use Rattle.bac_walk.specs.Outcomes.{IsRunOf}
 use Rattle.bac_walk.specs.Sinks.{IsRun}
 use Rattle.bac_walk.specs.declared.outcome.Ended.{Ended}
@@ -40,23 +40,23 @@ PrintsItems items (Err (Exchange fault)) old new = ⊥
 
 -- the number that comes next is that of an ordinal
 abbrev pub NextIs : Fetching → ℕ → Type 0
-NextIs (Ok fetched) t = fetched.next ≡ number t
+NextIs (Ok fetched) t = fetched.next ≡ sequence_number t
 NextIs (Err fault) t = Unit {0}
 
 -- over an honest link the items of so many steps are the records that the log holds when each is reached, from the
 -- walk's place up to the number that comes next
-abbrev pub Delivers : (ℕ → List Moment → History → Type 0) → Place → ℕ → List Item → Fetching → Type 0
+abbrev pub Delivers : (ℕ → List Moment → History → Type 0) → WalkPlace → ℕ → List Item → Fetching → Type 0
 Delivers was walk steps items result =
-    (r : ℕ) (M : List Moment) (H : History) (s : ℕ) → was r M H → walk.next ≡ number s → StaysNear r H M walk.fresh s steps →
+    (r : ℕ) (M : List Moment) (H : History) (s : ℕ) → was r M H → walk.next ≡ sequence_number s → StaysNear r H M walk.fresh s steps →
     (b : ℕ) × (a : ℕ) × (t : ℕ) × (walk.fresh ≡ false → b ≡ s) × NextIs result t × DeliversTo H b items t M a
 
 -- why the walk ended, and the number that comes next: those of a run of n steps that ended so and left the walk here
-abbrev pub IsEnd : ℕ → ℕ → Ended → Place → Why → ℕ → Type 0
+abbrev pub IsEnd : ℕ → ℕ → Ended → WalkPlace → Why → ℕ → Type 0
 IsEnd steps n ended after why next = IsRunOf why steps n ended × (next ≡ after.next)
 
 -- What was told or written at the end is the end of that run. Where a write was refused, it was that of lines of items,
 -- or of the end line.
-abbrev pub EndsAs : List Item → ℕ → ℕ → Ended → Place → Fetching → Held → Held → Type 0
+abbrev pub EndsAs : List Item → ℕ → ℕ → Ended → WalkPlace → Fetching → Held → Held → Type 0
 EndsAs items steps n ended after (Ok fetched) old new = IsEnd steps n ended after fetched.why fetched.next
 EndsAs items steps n ended after (Err Write) old new =
     (n ≤ steps)
@@ -67,7 +67,7 @@ EndsAs items steps n ended after (Err (Exchange fault)) old new = ⊥
 
 -- The items are those of a run of n steps of the walk, over any link: each step brought at most 100 records and one gap,
 -- and a record at least where all were whole. Over an honest link they are what its answers brought.
-abbrev pub IsFetched : (ℕ → List Moment → History → Type 0) → ℕ → ℕ → ℕ → Place → Place → ℕ → Ended → List Item → Type 0
+abbrev pub IsFetched : (ℕ → List Moment → History → Type 0) → ℕ → ℕ → ℕ → WalkPlace → WalkPlace → ℕ → Ended → List Item → Type 0
 IsFetched was retries old new before after n ended items =
     IsRun was (λ r M H. Unit {0}) retries old new before after n ended items
     × (length items ≤ 101 * n) × (ended ≡ StepLimit → n ≤ length items)

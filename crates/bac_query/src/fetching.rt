@@ -6,7 +6,7 @@ ghost use Rattle.bac_link.specs.declared.item.Item.{Item};
 ghost use Rattle.bac_report.specs.Ends.{end_line};
 ghost use Rattle.bac_report.specs.Items.{items_text};
 ghost use Rattle.bac_link.specs.Path.{towards};
-ghost use Rattle.bac_walk.specs.Place.{Place};
+ghost use Rattle.bac_walk.specs.Place.{WalkPlace};
 ghost use Rattle.bac_walk.specs.Sinks.{IsRun};
 ghost use Rattle.bac_walk.specs.Told.{Told};
 ghost use Rattle.bac_walk.specs.declared.outcome.Ended.{Ended as EndedOf};
@@ -46,7 +46,7 @@ pub fn fetch_log<L: LogLink, W: Write>(
     // steps, or what the last exchange told. Over an honest link the items are what the log holds.
     ensures { (items : List Item) × PrintsItems items result (W.contents out.old) (W.contents out.new)
         × Delivers (λ r M H. L.is_honest link.old walk.log r M H) walk steps items result
-        × ((n : ℕ) × (ended : EndedOf) × (after : Place) × EndsAs items steps n ended after result (W.contents out.old) (W.contents out.new)
+        × ((n : ℕ) × (ended : EndedOf) × (after : WalkPlace) × EndsAs items steps n ended after result (W.contents out.old) (W.contents out.new)
         × IsFetched (λ r M H. L.is_honest link.old walk.log r M H) transactions.old.retries (L.failures link.old) (L.failures link.new) walk after n ended items
         × Told L.asks (towards transactions.old.route) transactions.old.retries ended after link.new) }
 {

@@ -10,7 +10,7 @@ use Rattle.bac_script.specs.Script.Lines.{last_if_any, ended_lines, open_line}
 use Rattle.std.specs.Str.Lines.{lines}
 use Rattle.bac_script.specs.Replay.{Played, play, then_play, at_end, past_limit, played_lines, text_of, fault_of_script, PlaysAll, Ends, Replays}
 use Rattle.bac_script.specs.Fault.{replay_fault, Refusal}
-use Rattle.bac_script.specs.Session.{step, end_fault, State, Empty}
+use Rattle.bac_script.specs.Session.{step, end_fault, SessionState, Empty}
 use Rattle.bac_script.specs.Stops.{FaultStops, Stops, ScriptStops}
 use Rattle.bac_print.specs.Output.{AppendsPart}
 use Rattle.bac_objects.specs.Build.{Refuses}
@@ -25,13 +25,13 @@ use Rattle.bac_script.proofs.PlayLemmas.{Progress, Progress-more, Progress-end}
 abbrev SamePlay : Played → Played → Type 0
 SamePlay p q = (p.0 ≡ q.0) × (p.1 ≡ q.1)
 
-SamePlay-step : (r : Result (List ℕ × State) Refusal) (n : ℕ) (f g : State → Played) (e : ReplayFault)
-    → (then_play n r f).1 ≡ Err e → ((u : State) → (f u).1 ≡ Err e → SamePlay (g u) (f u)) → SamePlay (then_play n r g) (then_play n r f)
+SamePlay-step : (r : Result (List ℕ × SessionState) Refusal) (n : ℕ) (f g : SessionState → Played) (e : ReplayFault)
+    → (then_play n r f).1 ≡ Err e → ((u : SessionState) → (f u).1 ≡ Err e → SamePlay (g u) (f u)) → SamePlay (then_play n r g) (then_play n r f)
 SamePlay-step (Ok x) n f g e stopped more = let next = more x.1 stopped in (ap (λ l. x.0 ++ l) next.0, next.1)
 SamePlay-step (Err d) n f g e stopped more = (refl, refl)
 
 -- nothing is played behind a fault
-pub play-stopped : (before after : List (List ℕ)) (n : ℕ) (s : State) (e : ReplayFault) → (play n s before).1 ≡ Err e → SamePlay (play n s (before ++ after)) (play n s before)
+pub play-stopped : (before after : List (List ℕ)) (n : ℕ) (s : SessionState) (e : ReplayFault) → (play n s before).1 ≡ Err e → SamePlay (play n s (before ++ after)) (play n s before)
 play-stopped [] after n s e stopped = cc
 play-stopped (x ∷ more) after n s e stopped =
     SamePlay-step (step s x) n (λ u. play (n + 1) u more) (λ u. play (n + 1) u (more ++ after)) e stopped (λ u err. play-stopped more after (n + 1) u e err)
@@ -39,12 +39,12 @@ play-stopped (x ∷ more) after n s e stopped =
 abbrev Longer : List ℕ → List ℕ → Type 0
 Longer long short = (more : List ℕ) × (long ≡ short ++ more)
 
-Longer-step : (r : Result (List ℕ × State) Refusal) (n : ℕ) (f g : State → Played) → ((u : State) → Longer (g u).0 (f u).0) → Longer (then_play n r g).0 (then_play n r f).0
+Longer-step : (r : Result (List ℕ × SessionState) Refusal) (n : ℕ) (f g : SessionState → Played) → ((u : SessionState) → Longer (g u).0 (f u).0) → Longer (then_play n r g).0 (then_play n r f).0
 Longer-step (Ok x) n f g more = let next = more x.1 in (next.0, ap (λ l. x.0 ++ l) next.1 ∙ sym (append_assoc x.0 (f x.1).0 next.0))
 Longer-step (Err d) n f g more = ([], refl)
 
 -- the text of the first lines comes first
-pub play-longer : (before after : List (List ℕ)) (n : ℕ) (s : State) → Longer (play n s (before ++ after)).0 (play n s before).0
+pub play-longer : (before after : List (List ℕ)) (n : ℕ) (s : SessionState) → Longer (play n s (before ++ after)).0 (play n s before).0
 play-longer [] after n s = ((play n s after).0, refl)
 play-longer (x ∷ more) after n s = Longer-step (step s x) n (λ u. play (n + 1) u more) (λ u. play (n + 1) u (more ++ after)) (λ u. play-longer more after (n + 1) u)
 
@@ -52,7 +52,7 @@ AppendsPart-longer : (old new : Option (List ℕ)) (short long : List ℕ) → L
 AppendsPart-longer old new short long (more, is) (written, left, cut, appended) =
     (written, left ++ more, is ∙ ap (λ l. l ++ more) cut ∙ append_assoc written left more, appended)
 
-module _ (old new : Option (List ℕ)) (s : State) (all first more : List (List ℕ)) (is : all ≡ first ++ more) where
+module _ (old new : Option (List ℕ)) (s : SessionState) (all first more : List (List ℕ)) (is : all ≡ first ++ more) where
   fault_more : (f : ReplayFault) → FaultStops old new s first f → FaultStops old new s all f
   fault_more f (stopped, text) =
       let same = play-stopped first more 1 s f stopped in
@@ -76,7 +76,7 @@ last_is_none : (rest : List ℕ) → length rest ≡ 0 → last_if_any (rest ∷
 last_is_none [] h = refl
 last_is_none (b ∷ bs) h = absurd (omega arith)
 
-module _ (old mid : Option (List ℕ)) (s : State) (script rest : List ℕ) (number : ℕ) (t : State) (open-is : open_line script ≡ last_if_any (rest ∷ [])) (played : PlaysAll old mid s (ended_lines script) t) where
+module _ (old mid : Option (List ℕ)) (s : SessionState) (script rest : List ℕ) (number : ℕ) (t : SessionState) (open-is : open_line script ≡ last_if_any (rest ∷ [])) (played : PlaysAll old mid s (ended_lines script) t) where
   pub no_last_line : length rest ≡ 0 → PlaysAll old mid s (lines script) t
   no_last_line h =
       let same : lines script ≡ ended_lines script = lines-parts script ∙ ap (λ l. ended_lines script ++ l) (open-is ∙ last_is_none rest h) ∙ append-nil (ended_lines script) in
@@ -86,11 +86,11 @@ module _ (old mid : Option (List ℕ)) (s : State) (script rest : List ℕ) (num
   last_line h counted =
       record { before = ended_lines script; split = lines-parts script ∙ ap (λ l. ended_lines script ++ l) (open-is ∙ last_is rest h); counted = counted; played = played }
 
-pub Stops-ended : (old new : Option (List ℕ)) (s : State) (script : List ℕ) (f : ReplayFault) → Stops old new s (ended_lines script) f → Stops old new s (lines script) f
+pub Stops-ended : (old new : Option (List ℕ)) (s : SessionState) (script : List ℕ) (f : ReplayFault) → Stops old new s (ended_lines script) f → Stops old new s (lines script) f
 Stops-ended old new s script f h = Stops-more old new s (lines script) (ended_lines script) (open_line script) (lines-parts script) f h
 
 -- the last line was played
-pub last_played : (old mid new : Option (List ℕ)) (s : State) (all : List (List ℕ)) (line : List ℕ) (number : ℕ) (t u : State) → Progress old mid s all (line ∷ []) number t
+pub last_played : (old mid new : Option (List ℕ)) (s : SessionState) (all : List (List ℕ)) (line : List ℕ) (number : ℕ) (t u : SessionState) → Progress old mid s all (line ∷ []) number t
     → (text : List ℕ) × (step t line ≡ Ok (text, u)) × Appends mid new text → PlaysAll old new s all u
 last_played old mid new s all line number t u p (text, stepped, written) = (Progress-end (Progress-more old mid new s all line [] number t p text u stepped written)).0
 
@@ -130,7 +130,7 @@ module _ (limit : ℕ) (script : List ℕ) (short : length script ≤ limit) whe
   text-whole = ap (λ l. (play 1 Empty l).0) played-whole
 
   -- the device could not be built at the end
-  Ends-unbuilt : (left old new : Option (List ℕ)) (t : State) (e : BuildFault) → PlaysAll old new Empty (lines script) t → Refuses e (end_fault t) → Ends limit script left old new (Err (replay_fault e))
+  Ends-unbuilt : (left old new : Option (List ℕ)) (t : SessionState) (e : BuildFault) → PlaysAll old new Empty (lines script) t → Refuses e (end_fault t) → Ends limit script left old new (Err (replay_fault e))
   unfolding Ends
   Ends-unbuilt left old new t build.Memory played is =
       (lines script, [], t, played-whole ∙ sym (append-nil (lines script)), played)
@@ -138,7 +138,7 @@ module _ (limit : ℕ) (script : List ℕ) (short : length script ≤ limit) whe
       (fault-whole ∙ ap at_end played.state ∙ ap (option_map Build) is, subst (Appends old new) (sym text-whole) played.text)
 
   pub Ends-done : (left old new : Option (List ℕ)) (r : Result (Unit {0}) ReplayFault)
-      → OnOk r ((t : State) × PlaysAll old new Empty (lines script) t × (end_fault t ≡ None)) → IfErr r (ScriptStops old new script) → Ends limit script left old new r
+      → OnOk r ((t : SessionState) × PlaysAll old new Empty (lines script) t × (end_fault t ≡ None)) → IfErr r (ScriptStops old new script) → Ends limit script left old new r
   unfolding Ends
   Ends-done left old new (Ok x) (t, played, no_fault) err =
       (fault-whole ∙ ap at_end played.state ∙ ap (option_map Build) no_fault, subst (Appends old new) (sym text-whole) played.text)
@@ -158,7 +158,7 @@ module _ (limit : ℕ) (script : List ℕ) (long : limit < length script) where
   fault-cut : fault_of_script limit script ≡ past_limit (play 1 Empty (ended_lines (take limit script))).1
   fault-cut = ap (λ b. cond b (at_end (play 1 Empty (lines script)).1) (past_limit (play 1 Empty (ended_lines (take limit script))).1)) beyond
 
-  pub Ends-too_long : (left old new : Option (List ℕ)) (t : State) → PlaysAll old new Empty (ended_lines (take limit script)) t → Ends limit script left old new (Err TooLong)
+  pub Ends-too_long : (left old new : Option (List ℕ)) (t : SessionState) → PlaysAll old new Empty (ended_lines (take limit script)) t → Ends limit script left old new (Err TooLong)
   unfolding Ends
   Ends-too_long left old new t played =
       (long, fault-cut ∙ ap past_limit played.state, subst (Appends old new) (sym (ap (λ l. (play 1 Empty l).0) played-cut)) played.text)
@@ -188,7 +188,7 @@ played-longer limit read rest short = played-longer_by (nat_le (length (read ++ 
 
 -- the reader came to its end
 pub Ends-read : (limit : ℕ) (have left old new : Option (List ℕ)) (read : List ℕ) → Consumes have left read → IsAtEnd left → length read ≤ limit → (r : Result (Unit {0}) ReplayFault)
-    → OnOk r ((t : State) × PlaysAll old new Empty (lines read) t × (end_fault t ≡ None)) → IfErr r (ScriptStops old new read) → Replays limit have left old new r
+    → OnOk r ((t : SessionState) × PlaysAll old new Empty (lines read) t × (end_fault t ≡ None)) → IfErr r (ScriptStops old new read) → Replays limit have left old new r
 unfolding Replays
 Ends-read limit None left old new read consumed end short r ok err = tt
 Ends-read limit (Some script) None old new read consumed end short r ok err = absurd consumed
@@ -196,7 +196,7 @@ Ends-read limit (Some script) (Some rest) old new read consumed end short r ok e
     let same : script ≡ read = consumed ∙ ap (λ l. read ++ l) end ∙ append-nil read in
     subst (λ s. Ends limit s (Some rest) old new r) (sym same) (Ends-done limit read short (Some rest) old new r ok err)
 
-pub Ends-cut : (limit : ℕ) (have left old new : Option (List ℕ)) (read : List ℕ) (t : State) → Consumes have left read → length read ≤ limit
+pub Ends-cut : (limit : ℕ) (have left old new : Option (List ℕ)) (read : List ℕ) (t : SessionState) → Consumes have left read → length read ≤ limit
     → PlaysAll old new Empty (ended_lines read) t → Replays limit have left old new (Err Read)
 unfolding Ends Replays
 Ends-cut limit None left old new read t consumed short played = tt
@@ -220,7 +220,7 @@ module _ (limit : ℕ) (old new : Option (List ℕ)) (read : List ℕ) (full : l
   over : (script rest : List ℕ) → script ≡ read ++ rest → limit < length script
   over script rest is = omega (arith, ap length is, length-append read rest)
 
-  pub Ends-full : (have left : Option (List ℕ)) (t : State) → Consumes have left read → PlaysAll old new Empty (ended_lines (take limit read)) t
+  pub Ends-full : (have left : Option (List ℕ)) (t : SessionState) → Consumes have left read → PlaysAll old new Empty (ended_lines (take limit read)) t
       → Replays limit have left old new (Err TooLong)
   unfolding Replays
   Ends-full None left t consumed played = tt
@@ -248,7 +248,7 @@ Ends-refused limit (Some script) left old = Ends-no_memory limit script left old
 AppendsPart-kept : (old mid new : Option (List ℕ)) (text : List ℕ) → AppendsPart old mid text → Keeps mid new → AppendsPart old new text
 AppendsPart-kept old mid new text (written, left, cut, appended) kept = (written, left, cut, Appends-kept old mid new written appended kept)
 
-PlaysAll-kept : (old mid new : Option (List ℕ)) (all : List (List ℕ)) (t : State) → PlaysAll old mid Empty all t → Keeps mid new → PlaysAll old new Empty all t
+PlaysAll-kept : (old mid new : Option (List ℕ)) (all : List (List ℕ)) (t : SessionState) → PlaysAll old mid Empty all t → Keeps mid new → PlaysAll old new Empty all t
 PlaysAll-kept old mid new all t played kept = record { state = played.state; text = Appends-kept old mid new _ played.text kept }
 
 Ends-kept : (limit : ℕ) (script : List ℕ) (left old mid new : Option (List ℕ)) (r : Result (Unit {0}) ReplayFault) → Ends limit script left old mid r → Keeps mid new → Ends limit script left old new r
@@ -271,7 +271,7 @@ whole_part : (old new : Option (List ℕ)) (text : List ℕ) → Appends old new
 whole_part old new text written = (text, [], sym (append-nil text), written)
 
 -- the text of some first lines is a front part of that of all
-first_part : (old new : Option (List ℕ)) (all before after : List (List ℕ)) (t : State) → all ≡ before ++ after → PlaysAll old new Empty before t → AppendsPart old new (play 1 Empty all).0
+first_part : (old new : Option (List ℕ)) (all before after : List (List ℕ)) (t : SessionState) → all ≡ before ++ after → PlaysAll old new Empty before t → AppendsPart old new (play 1 Empty all).0
 first_part old new all before after t split played =
     subst (λ l. AppendsPart old new (play 1 Empty l).0) (sym split)
     (AppendsPart-longer old new (play 1 Empty before).0 (play 1 Empty (before ++ after)).0 (play-longer before after 1 Empty) (whole_part old new _ played.text))

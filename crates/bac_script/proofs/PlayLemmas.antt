@@ -4,7 +4,7 @@ use Rattle.std.specs.Io.KnownBytes.{Appends, Keeps}
 use Rattle.std.proofs.KnownBytes.{Appends-nil, Appends-trans, Appends-kept}
 use Rattle.bac_script.specs.Replay.{Played, play, then_play, PlaysAll}
 use Rattle.bac_script.specs.Fault.{at_line, Refusal}
-use Rattle.bac_script.specs.Session.{step, State}
+use Rattle.bac_script.specs.Session.{step, SessionState}
 use Rattle.bac_script.specs.Stops.{LineStops, FaultStops, Stops}
 use Rattle.bac_script.specs.declared.replay.fault.ReplayFault.{ReplayFault}
 use Rattle.bac_script.specs.declared.replay.fault.ReplayFault.TheVariants.{BadLine, Build, Read, TooLong, Write, Memory}
@@ -13,14 +13,14 @@ use Rattle.bac_script.specs.declared.replay.fault.ReplayFault.TheVariants.{BadLi
 abbrev Follows : Played → Played → Played → Type 0
 Follows whole first rest = (whole.0 ≡ first.0 ++ rest.0) × (whole.1 ≡ rest.1)
 
-Follows-step : (r : Result (List ℕ × State) Refusal) (n : ℕ) (f g : State → Played) (t : State) (rest : Played)
-    → (then_play n r f).1 ≡ Ok t → ((u : State) → (f u).1 ≡ Ok t → Follows (g u) (f u) rest) → Follows (then_play n r g) (then_play n r f) rest
+Follows-step : (r : Result (List ℕ × SessionState) Refusal) (n : ℕ) (f g : SessionState → Played) (t : SessionState) (rest : Played)
+    → (then_play n r f).1 ≡ Ok t → ((u : SessionState) → (f u).1 ≡ Ok t → Follows (g u) (f u) rest) → Follows (then_play n r g) (then_play n r f) rest
 Follows-step (Ok x) n f g t rest played more =
     let next = more x.1 played in
     (ap (λ l. x.0 ++ l) next.0 ∙ sym (append_assoc x.0 (f x.1).0 rest.0), next.1)
 Follows-step (Err e) n f g t rest played more = cc
 
-pub play-append : (before after : List (List ℕ)) (n : ℕ) (s t : State) → (play n s before).1 ≡ Ok t
+pub play-append : (before after : List (List ℕ)) (n : ℕ) (s t : SessionState) → (play n s before).1 ≡ Ok t
     → Follows (play n s (before ++ after)) (play n s before) (play (n + length before) t after)
 play-append [] after n s t played =
     let same : s ≡ t = cc in
@@ -32,22 +32,22 @@ play-append (x ∷ more) after n s t played =
     (Follows-step (step s x) n (λ u. play (n + 1) u more) (λ u. play (n + 1) u (more ++ after)) t (play ((n + 1) + length more) t after) played (λ u ok. play-append more after (n + 1) u t ok))
 
 -- how far the playing of all the lines has come: these are left, and the next one has this number
-pub record Progress (old new : Option (List ℕ)) (s : State) (all rest : List (List ℕ)) (number : ℕ) (t : State) : Type 0 where
+pub record Progress (old new : Option (List ℕ)) (s : SessionState) (all rest : List (List ℕ)) (number : ℕ) (t : SessionState) : Type 0 where
   pub before : List (List ℕ)
   pub split : all ≡ before ++ rest
   pub counted : number ≡ 1 + length before
   pub played : PlaysAll old new s before t
 
-pub Progress-start : (old : Option (List ℕ)) (s : State) (all : List (List ℕ)) → Progress old old s all all 1 s
+pub Progress-start : (old : Option (List ℕ)) (s : SessionState) (all : List (List ℕ)) → Progress old old s all all 1 s
 Progress-start old s all =
     record { before = []; split = refl; counted = omega arith; played = record { state = refl; text = Appends-nil old } }
 
-pub Progress-end : {old new : Option (List ℕ)} {s : State} {all : List (List ℕ)} {number : ℕ} {t : State} → Progress old new s all [] number t → PlaysAll old new s all t × (number ≡ 1 + length all)
+pub Progress-end : {old new : Option (List ℕ)} {s : SessionState} {all : List (List ℕ)} {number : ℕ} {t : SessionState} → Progress old new s all [] number t → PlaysAll old new s all t × (number ≡ 1 + length all)
 Progress-end {old} {new} {s} {all} {number} {t} p =
     let same : p.before ≡ all = sym (p.split ∙ append-nil p.before) in
     (subst (λ l. PlaysAll old new s l t) same p.played, p.counted ∙ ap (λ l. 1 + length l) same)
 
-module _ (old mid new : Option (List ℕ)) (s : State) (all : List (List ℕ)) (line : List ℕ) (rest : List (List ℕ)) (number : ℕ) (t : State) (p : Progress old mid s all (line ∷ rest) number t) where
+module _ (old mid new : Option (List ℕ)) (s : SessionState) (all : List (List ℕ)) (line : List ℕ) (rest : List (List ℕ)) (number : ℕ) (t : SessionState) (p : Progress old mid s all (line ∷ rest) number t) where
   -- all the lines, by those that were played
   whole : Follows (play 1 s all) (play 1 s p.before) (then_play number (step t line) (λ u. play (number + 1) u rest))
   whole =
@@ -55,7 +55,7 @@ module _ (old mid new : Option (List ℕ)) (s : State) (all : List (List ℕ)) (
       let numbered = subst (λ k. Follows (play 1 s (p.before ++ (line ∷ rest))) (play 1 s p.before) (play k t (line ∷ rest))) (sym p.counted) joined in
       subst (λ l. Follows (play 1 s l) (play 1 s p.before) (play number t (line ∷ rest))) (sym p.split) numbered
 
-  pub Progress-more : (text : List ℕ) (u : State) → step t line ≡ Ok (text, u) → Appends mid new text → Progress old new s all rest (number + 1) u
+  pub Progress-more : (text : List ℕ) (u : SessionState) → step t line ≡ Ok (text, u) → Appends mid new text → Progress old new s all rest (number + 1) u
   Progress-more text u stepped written =
       let joined = play-append p.before (line ∷ []) 1 s t p.played.state in
       let k = 1 + length p.before in

@@ -5,7 +5,7 @@ use Rattle.std.specs.Io.KnownBytes.{Appends, Consumes}
 use Rattle.bac_print.specs.Output.{AppendsPart}
 use Rattle.bac_script.specs.Replay.{PlaysAll, PlaysSome, fault_of_script, played_lines, text_of}
 use Rattle.bac_script.specs.Script.Lines.{ended_lines}
-use Rattle.bac_script.specs.Session.{State, Empty}
+use Rattle.bac_script.specs.Session.{SessionState, Empty}
 use Rattle.bac_script.specs.declared.replay.fault.ReplayFault.{ReplayFault}
 use Rattle.bac_script.specs.declared.replay.fault.ReplayFault.TheVariants.{TooLong}
 
@@ -25,7 +25,7 @@ IsTooLong limit old new script = (limit < length script) × IsPlayed limit old n
 -- a read was refused: the lines that had ended before it were played, and none of them has a fault
 abbrev pub IsUnread : ℕ → Option (List ℕ) → Option (List ℕ) → Option (List ℕ) → List ℕ → Type 0
 IsUnread limit left old new script =
-    (read : List ℕ) × (t : State) × Consumes (Some script) left read × (length read ≤ limit)
+    (read : List ℕ) × (t : SessionState) × Consumes (Some script) left read × (length read ≤ limit)
     × PlaysAll old new Empty (ended_lines read) t
 
 -- a write was refused: a front part of the text was written

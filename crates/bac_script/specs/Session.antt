@@ -19,31 +19,31 @@ use Rattle.bac_device.specs.declared.reply.Receiver.TheVariants.{Sender, Address
 use Rattle.bac_device.specs.declared.reply.Reply.{Reply}
 use Rattle.bac_script.specs.Fault.{Refusal, Bad, Unbuilt}
 use Rattle.bac_script.specs.Walk.{walk_text}
-use Rattle.bac_script.specs.Script.Line.{Event, Received, Clocked, Sampled, Walked, ScriptLine, Device, Object, Happens}
+use Rattle.bac_script.specs.Script.Line.{ScriptEvent, Received, Clocked, Sampled, Walked, ScriptLine, Device, Object, Happens}
 use Rattle.bac_script.specs.Script.Line.{is_silent, line_in}
 
 -- what the lines so far have made: nothing, a device that is described with its
 -- objects in the order of their lines, or one that runs
-pub data State : Type 0 where
-  Empty : State
-  Described : DeviceLine → List ObjectLine → State
-  Running : device.State → State
+pub data SessionState : Type 0 where
+  Empty : SessionState
+  Described : DeviceLine → List ObjectLine → SessionState
+  Running : device.State → SessionState
 
 -- what a line prints and the state after it, or why it is refused
 abbrev pub Step : Type 0
-Step = Result (List ℕ × State) Refusal
+Step = Result (List ℕ × SessionState) Refusal
 
 -- ---- the device's line
 
 -- it stands once, and before the first event
-abbrev pub on_device : State → DeviceLine → Step
+abbrev pub on_device : SessionState → DeviceLine → Step
 on_device Empty line = Ok ([], Described line [])
 on_device s line = Err Bad
 
 -- ---- an object's line
 
 -- it stands behind the device's, and before the first event
-abbrev pub on_object : State → ObjectLine → Step
+abbrev pub on_object : SessionState → ObjectLine → Step
 on_object (Described device lines) line = Ok ([], Described device (lines ++ line ∷ []))
 on_object s line = Err Bad
 
@@ -86,7 +86,7 @@ sample_taken device (Ok taken) = (sample_text (Ok taken.0), taken.1)
 sample_taken device (Err fault) = (sample_text (Err fault), device)
 
 -- what it prints, and the device after it
-abbrev pub happens : device.State → Event → List ℕ × device.State
+abbrev pub happens : device.State → ScriptEvent → List ℕ × device.State
 happens device (Received octets) = answered (answer device octets)
 happens device (Clocked stamp) = clocked device (advanced device stamp)
 happens device (Sampled instance) = sample_taken device (sampled device instance)
@@ -97,12 +97,12 @@ abbrev pub running : List ℕ × device.State → Step
 running happened = Ok (happened.0, Running happened.1)
 
 -- the first event builds the device
-abbrev pub first_event : Option BuildFault → device.State → Event → Step
+abbrev pub first_event : Option BuildFault → device.State → ScriptEvent → Step
 first_event None device event = running (happens device event)
 first_event (Some fault) device event = Err (Unbuilt fault)
 
 -- an event stands behind the device's line
-abbrev pub on_event : State → Event → Step
+abbrev pub on_event : SessionState → ScriptEvent → Step
 on_event Empty event = Err Bad
 on_event (Described device lines) event = first_event (build_fault device lines) (built device lines) event
 on_event (Running device) event = running (happens device event)
@@ -110,22 +110,22 @@ on_event (Running device) event = running (happens device event)
 -- ---- any line
 
 -- a line, by what it says
-abbrev pub on_line : State → ScriptLine → Step
+abbrev pub on_line : SessionState → ScriptLine → Step
 on_line s (Device line) = on_device s line
 on_line s (Object line) = on_object s line
 on_line s (Happens event) = on_event s event
 
 -- the line that a text says, where it says one
-abbrev pub on_read : State → Option ScriptLine → Step
+abbrev pub on_read : SessionState → Option ScriptLine → Step
 on_read s None = Err Bad
 on_read s (Some line) = on_line s line
 
 -- what a text does as a line; an empty line and a comment do nothing
-unfoldable pub step : State → List ℕ → Step
+unfoldable pub step : SessionState → List ℕ → Step
 step s text = if is_silent text then Ok ([], s) else on_read s (line_in text)
 
 -- what the end of a script finds: a device that no event had built
-abbrev pub end_fault : State → Option BuildFault
+abbrev pub end_fault : SessionState → Option BuildFault
 end_fault Empty = None
 end_fault (Described device lines) = build_fault device lines
 end_fault (Running device) = None

@@ -4,8 +4,8 @@ use Rattle.bac_wire.specs.Primitive.{Id}
 use Rattle.bac_wire.specs.Stamp.{CivilTime}
 use Rattle.bac_objects.specs.declared.lines.ObjectLine.TheVariants.{Binary, Multistate, Integer, Log}
 use Rattle.bac_script.specs.Fault.{Refusal, Bad, Unbuilt}
-use Rattle.bac_script.specs.Script.Line.{Event, Received, Clocked, Sampled, Walked, ScriptLine, Device, Object, Happens}
-use Rattle.bac_script.specs.Session.{State, Empty, Described, Running}
+use Rattle.bac_script.specs.Script.Line.{ScriptEvent, Received, Clocked, Sampled, Walked, ScriptLine, Device, Object, Happens}
+use Rattle.bac_script.specs.Session.{SessionState, Empty, Described, Running}
 use Rattle.bac_script.specs.declared.replay.fault.LineFault.{LineFault}
 use Rattle.bac_script.specs.declared.replay.fault.LineFault.TheVariants as fault
 use Rattle.bac_script.specs.declared.script.line.Event as event
@@ -37,7 +37,7 @@ abbrev pub log_of : ℕ → List ℕ → Id → ℕ → ℕ → ℕ → ScriptLi
 log_of instance name source capacity interval logged = Object (Log instance name source capacity interval logged)
 
 -- an event of the code, apart from where its octets lie in memory
-abbrev pub event_of : event.Event → Event
+abbrev pub event_of : event.Event → ScriptEvent
 event_of (event.TheVariants.Received octets) = Received octets.now
 event_of (event.TheVariants.Clocked stamp) = Clocked stamp
 event_of (event.TheVariants.Sampled instance) = Sampled instance
@@ -52,7 +52,7 @@ line_of (line.TheVariants.Happens happened) = Happens (event_of happened)
 -- ---- what the lines so far have made
 
 -- a session of the code, as what the lines so far have made
-abbrev pub state_of : Session → State
+abbrev pub state_of : Session → SessionState
 state_of session.Empty = Empty
 state_of (session.Described device lines) = Described device lines.items
 state_of (session.Running device transactions) = Running device

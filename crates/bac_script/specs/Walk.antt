@@ -3,14 +3,14 @@ use Rattle.std.specs.Prelude.{ℕ, ◌+◌, ◌-◌, ◌==◌, ◌&&◌, nat_lt,
 use Rattle.std.specs.Prelude.{codes, Option, None, Some}
 use Rattle.bac_wire.specs.Primitive.{Id}
 use Rattle.bac_direct.specs.Ahead.{moment_of, placed, turn}
-use Rattle.bac_log.specs.TrendLog.{Log, number}
+use Rattle.bac_log.specs.TrendLog.{Log, sequence_number}
 use Rattle.bac_link.specs.Delivery.{History, Moment}
 use Rattle.bac_objects.specs.Sampling.{log_of}
 use Rattle.bac_objects.specs.State as device
 use Rattle.bac_report.specs.Ends.{end_line}
 use Rattle.bac_report.specs.Items.{items_text}
 use Rattle.bac_walk.specs.Ordinals.{distance}
-use Rattle.bac_walk.specs.Place.{Place, walk_at, walk_from_oldest}
+use Rattle.bac_walk.specs.Place.{WalkPlace, walk_at, walk_from_oldest}
 use Rattle.bac_walk.specs.Rests.{Rested, rest, end_missing}
 use Rattle.bac_walk.specs.declared.outcome.Ended.{Ended}
 use Rattle.bac_walk.specs.declared.outcome.Ended.TheVariants as ended
@@ -27,7 +27,7 @@ why_ended (ended.Fault fault) = why.Fault fault
 
 -- the lines of what a walk delivered, and of its end
 abbrev pub rested_text : Rested → List ℕ
-rested_text rested = items_text rested.items ++ end_line (why_ended rested.ended) (number rested.next)
+rested_text rested = items_text rested.items ++ end_line (why_ended rested.ended) (sequence_number rested.next)
 
 -- the lines of an outcome, as `collect` gives it
 abbrev pub outcome_text : Outcome → List ℕ
@@ -49,9 +49,9 @@ moment_by log = placed 1 (moment_of log)
 -- of all ordinals of a number, the one that is less than half of the count away from the oldest entry held
 abbrev pub nearest : ℕ → ℕ → ℕ
 nearest oldest n =
-    if nat_lt (distance (number oldest) n) 2147483648
-    then oldest + distance (number oldest) n
-    else (oldest + distance (number oldest) n) - 4294967295
+    if nat_lt (distance (sequence_number oldest) n) 2147483648
+    then oldest + distance (sequence_number oldest) n
+    else (oldest + distance (sequence_number oldest) n) - 4294967295
 
 -- a walk of a device's log, or of one that the device doesn't have, from a
 -- number or, where it is fresh, from the oldest record
@@ -63,17 +63,17 @@ walked_text d (Some log) fresh n steps =
 -- a walk is one of a Trend Log, from a sequence number above 0 or from the oldest record
 abbrev pub begins : Id → Option ℕ → Bool
 begins log None = log.kind == 20
-begins log (Some number) = (log.kind == 20) && nat_lt 0 number
+begins log (Some sequence_number) = (log.kind == 20) && nat_lt 0 sequence_number
 
 -- the walk, where it begins
-abbrev pub start_of : Id → Option ℕ → Option Place
+abbrev pub start_of : Id → Option ℕ → Option WalkPlace
 start_of log None = if begins log None then Some (walk_from_oldest log) else None
-start_of log (Some number) = if begins log (Some number) then Some (walk_at log number) else None
+start_of log (Some sequence_number) = if begins log (Some sequence_number) then Some (walk_at log sequence_number) else None
 
 -- what it prints
 abbrev pub begun_text : device.State → Id → Option ℕ → ℕ → List ℕ
 begun_text d log None steps = walked_text d (log_of d log.instance) true 1 steps
-begun_text d log (Some number) steps = walked_text d (log_of d log.instance) false number steps
+begun_text d log (Some sequence_number) steps = walked_text d (log_of d log.instance) false sequence_number steps
 
 -- what a walk prints; `no walk`, if it doesn't begin
 abbrev pub walk_text : device.State → Id → Option ℕ → ℕ → List ℕ

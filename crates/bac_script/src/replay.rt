@@ -8,7 +8,7 @@ ghost use Rattle.bac_script.specs.Script.Lines.{ended_lines, open_line, last_if_
 ghost use Rattle.bac_objects.specs.declared.build.BuildFault.{BuildFault};
 ghost use Rattle.bac_script.specs.Outcomes.{IsCutShort, IsPlayed, IsTooLong, IsUnread, IsUnwritten, OfScript};
 ghost use Rattle.bac_script.specs.Replay.{PlaysAll, Replays};
-ghost use Rattle.bac_script.specs.Session.{State, Empty, step, end_fault};
+ghost use Rattle.bac_script.specs.Session.{SessionState, Empty, step, end_fault};
 ghost use Rattle.bac_script.specs.Views.{state_of};
 ghost use Rattle.bac_script.specs.Stops.{LineStops, Stops, ScriptStops};
 
@@ -85,7 +85,7 @@ fn play_ended<'a, W: Write>(
 /// Plays the lines that a line feed ends, from the start.
 fn play_cut<W: Write>(alloc: Global, script: &[u8], writer: &mut W) -> Result<(), ReplayFault>
     requires { length script.now ≤ LIMIT }
-    ensures ok { OnOk result ((t : State) × PlaysAll (W.contents writer.old) (W.contents writer.new) Empty (ended_lines script.now) t) }
+    ensures ok { OnOk result ((t : SessionState) × PlaysAll (W.contents writer.old) (W.contents writer.new) Empty (ended_lines script.now) t) }
     ensures err { IfErr result (Stops (W.contents writer.old) (W.contents writer.new) Empty (ended_lines script.now)) }
 {
     let mut session = Session::Empty;
@@ -116,7 +116,7 @@ fn play_all<W: Write>(
 /// Plays all the lines, and builds the device at the end where no line did.
 fn play_whole<W: Write>(alloc: Global, script: &[u8], writer: &mut W) -> Result<(), ReplayFault>
     requires { length script.now ≤ LIMIT }
-    ensures ok { OnOk result ((t : State) × PlaysAll (W.contents writer.old) (W.contents writer.new) Empty (lines script.now) t × (end_fault t ≡ None)) }
+    ensures ok { OnOk result ((t : SessionState) × PlaysAll (W.contents writer.old) (W.contents writer.new) Empty (lines script.now) t × (end_fault t ≡ None)) }
     ensures err { IfErr result (ScriptStops (W.contents writer.old) (W.contents writer.new) script.now) }
 {
     let mut session = Session::Empty;

@@ -42,7 +42,7 @@ use Rattle.bac_script.specs.declared.replay.fault.ReplayFault.{ReplayFault}
 use Rattle.bac_script.specs.declared.replay.fault.ReplayFault.TheVariants.{Build}
 use Rattle.bac_serve.specs.Serving.{Done, Serves as ServesDevice}
 use Rattle.bac_serve.specs.Waiting.{has_interval}
-use Rattle.bac_walk.specs.Place.{Place, walk_at, walk_from_oldest}
+use Rattle.bac_walk.specs.Place.{WalkPlace, walk_at, walk_from_oldest}
 use Rattle.bac_walk.specs.Told.{Told}
 use Rattle.bac_walk.specs.declared.outcome.Ended.{Ended}
 use Rattle.bac_wire.specs.Primitive.{Id}
@@ -103,12 +103,12 @@ no_honest r M H = ⊥
 
 -- The lines of the items of a run of this walk, at most so many steps, and the line of its end: why it ended, which the
 -- last exchange over the link told, and the number that comes next.
-abbrev pub Fetches : Asked → Place → ℕ → Held → Held → Ending → Type 0
+abbrev pub Fetches : Asked → WalkPlace → ℕ → Held → Held → Ending → Type 0
 Fetches asked walk steps old new result =
     IsClosed old new result
     ⊎ ((with : Asking) × (items : List Item) × (fetching : Fetching) × (left : UdpLink UdpPort) × IsAsking asked with
     × PrintsItems items fetching old new
-    × ((n : ℕ) × (ended : Ended) × (after : Place) × EndsAs items steps n ended after fetching old new
+    × ((n : ℕ) × (ended : Ended) × (after : WalkPlace) × EndsAs items steps n ended after fetching old new
     × IsFetched no_honest with.transactions.retries with.link.failures left.failures walk after n ended items
     × Told socket_asks (towards with.transactions.route) with.transactions.retries ended after left)
     × (result ≡ of_fetching fetching))
@@ -130,7 +130,7 @@ abbrev pub trend_log : ℕ → Id
 trend_log instance = record { kind = 20; instance = instance }
 
 -- the walk from record FROM of a log on, or from its oldest record
-abbrev pub walk_from : ℕ → Option ℕ → Place
+abbrev pub walk_from : ℕ → Option ℕ → WalkPlace
 walk_from instance None = walk_from_oldest (trend_log instance)
 walk_from instance (Some number) = walk_at (trend_log instance) number
 

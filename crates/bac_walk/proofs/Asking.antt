@@ -1,8 +1,8 @@
 -- A walk's question is in range.
 use Rattle.std.proofs.Common.{◌≡◌, ℕ, ◌^◌, ◌<◌, ◌||◌, Bool, true, false, None, Err, pos, refl, sym, ap, ◌∙◌}
 use Rattle.bac_apdu.specs.Service.Extent.{IsExtent}
-use Rattle.bac_walk.specs.Place.{Place}
-use Rattle.bac_log.specs.TrendLog.{number}
+use Rattle.bac_walk.specs.Place.{WalkPlace}
+use Rattle.bac_log.specs.TrendLog.{sequence_number}
 use Rattle.bac_link.specs.Delivery.{Moment}
 use Rattle.bac_walk.specs.Near.{IsNear}
 use Rattle.bac_walk.specs.Replies.{FromOrdinal, FromOldest, extent_of, first_date, first_time}
@@ -21,28 +21,28 @@ use Rattle.bac_link.specs.declared.exchanges.Refusal.{Refusal}
 use Rattle.bac_link.specs.declared.exchanges.Refusal.TheVariants as refusal
 use Rattle.bac_link.specs.declared.request.Request.TheVariants as request
 
-pub ranged_of : (w : Place) → w.next < 2 ^ 32 → IsExtent (question_of w)
+pub ranged_of : (w : WalkPlace) → w.next < 2 ^ 32 → IsExtent (question_of w)
 ranged_of w lt = at (asks_oldest_now w)
   where
     at : (b : Bool) → IsExtent (if b then ByTime first_date first_time (pos 100) else ByNumber w.next (pos 100))
     at true = (refl, refl, refl)
     at false = (lt, refl)
 
-pub question_is : (w : Place) (object : Id) (extent : Extent) → object ≡ w.log → extent ≡ question_of w →
+pub question_is : (w : WalkPlace) (object : Id) (extent : Extent) → object ≡ w.log → extent ≡ question_of w →
     request.ReadRange (record { object = object; property = log_buffer; index = None; extent = extent }) ≡ question w.log (question_of w)
 question_is w object extent log asks =
     ap (λ (o : Id). request.ReadRange (record { object = o; property = log_buffer; index = None; extent = extent })) log
     ∙ ap (λ (x : Extent). request.ReadRange (record { object = w.log; property = log_buffer; index = None; extent = x })) asks
 
 -- what is asked for where the walk is at ordinal s
-pub asks_at : (w : Place) (s : ℕ) → w.next ≡ number s → question_of w ≡ extent_of (wanted_at w s)
+pub asks_at : (w : WalkPlace) (s : ℕ) → w.next ≡ sequence_number s → question_of w ≡ extent_of (wanted_at w s)
 asks_at w s next = at (asks_oldest_now w)
   where
     at : (b : Bool) → (if b then ByTime first_date first_time (pos 100) else ByNumber w.next (pos 100)) ≡ extent_of (if b then FromOldest else FromOrdinal s)
     at true = refl
     at false = ap (λ (n : ℕ). ByNumber n (pos 100)) next
 
-pub near_to : (w : Place) (s : ℕ) (m : Moment) → (w.fresh ≡ false → IsNear s m) → IsNearTo (wanted_at w s) m
+pub near_to : (w : WalkPlace) (s : ℕ) (m : Moment) → (w.fresh ≡ false → IsNear s m) → IsNearTo (wanted_at w s) m
 near_to w s m near = at (asks_oldest_now w) refl
   where
     left : (a b : Bool) → (a || b) ≡ false → a ≡ false

@@ -6,20 +6,20 @@ use Rattle.std.proofs.lemmas.Bool.Decides.{nat_tests}
 use Rattle.bac_apdu.specs.declared.service.extent.Extent.TheVariants.{ByNumber}
 use Rattle.bac_log.specs.declared.entry.Entry.{Entry}
 use Rattle.bac_log.specs.Select.{numbered, selected, is_asked, greatest}
-use Rattle.bac_log.specs.TrendLog.{Log, oldest, number}
+use Rattle.bac_log.specs.TrendLog.{Log, oldest, sequence_number}
 use Rattle.bac_log.proofs.Runs.{filter_run}
 use Rattle.bac_walk.specs.Ordinals.{distance}
 use Rattle.bac_walk.proofs.Shown.{distance-number, distance-behind}
 
 -- among the ordinals held, those of the hundred numbers from that of an ordinal which is near
 asked_near : (low high s k : ℕ) → low ≤ k → k ≤ high → high < low + 65535 → low < s + 2147483648 → s < low + 2147483648
-    → nat_lt (distance (number s) (number k)) 100 ≡ (nat_le (max s low) k && nat_lt k (s + 100))
+    → nat_lt (distance (sequence_number s) (sequence_number k)) 100 ≡ (nat_le (max s low) k && nat_lt k (s + 100))
 asked_near low high s k p q few above below = elim (cases_lt k s) [
   | inl lt ↦
-      let far : 2147483648 ≤ distance (number s) (number k) = distance-behind s k lt (omega arith) in
-      rw (le-ltb (distance (number s) (number k)) 100 (omega (arith, far)), lt-leb (max s low) k (omega arith)) refl
+      let far : 2147483648 ≤ distance (sequence_number s) (sequence_number k) = distance-behind s k lt (omega arith) in
+      rw (le-ltb (distance (sequence_number s) (sequence_number k)) 100 (omega (arith, far)), lt-leb (max s low) k (omega arith)) refl
   | inr ge ↦
-      let place : distance (number s) (number k) ≡ k - s = distance-number s k ge (omega arith) in
+      let place : distance (sequence_number s) (sequence_number k) ≡ k - s = distance-number s k ge (omega arith) in
       ap (λ n. nat_lt n 100) place ∙ within low s k p ge
 ]
   where
@@ -31,9 +31,9 @@ abbrev pub held_from : Log → ℕ → List Entry
 held_from log s = take ((s + 100) - max s (oldest log)) (drop (max s (oldest log) - oldest log) log.entries)
 
 pub selected-by_number : (log : Log) (s : ℕ) → length log.entries ≤ 65535 → oldest log < s + 2147483648 → s < oldest log + 2147483648
-    → selected log (ByNumber (number s) (pos 100)) ≡ numbered (max s (oldest log)) (held_from log s)
+    → selected log (ByNumber (sequence_number s) (pos 100)) ≡ numbered (max s (oldest log)) (held_from log s)
 selected-by_number log s few above below =
-    filter_run (is_asked log (ByNumber (number s) (pos 100))) (max s (oldest log)) (s + 100) (oldest log) log.entries (omega arith)
+    filter_run (is_asked log (ByNumber (sequence_number s) (pos 100))) (max s (oldest log)) (s + 100) (oldest log) log.entries (omega arith)
     (λ k p q. asked_near (oldest log) k s k p (omega arith) (omega (arith, few, q)) above below)
 
 -- the greatest is some where 1 passes

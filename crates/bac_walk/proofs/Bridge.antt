@@ -12,8 +12,8 @@ use Rattle.bac_log.specs.declared.entry.Entry.{Entry}
 use Rattle.bac_log.specs.Entry.{IsLoggable}
 use Rattle.bac_log.specs.Record.{entry_octets}
 use Rattle.bac_log.specs.Run.{record_size}
-use Rattle.bac_log.specs.Select.{Logged, numbered, selected, packed, greatest, reply_length, first_shown, entries_in, shows_number}
-use Rattle.bac_log.specs.TrendLog.{Log, oldest, number}
+use Rattle.bac_log.specs.Select.{HeldEntry, numbered, selected, packed, greatest, reply_length, first_shown, entries_in, shows_number}
+use Rattle.bac_log.specs.TrendLog.{Log, oldest, sequence_number}
 use Rattle.bac_log.proofs.Packs.{length-numbered, take-numbered}
 use Rattle.bac_log.proofs.Acks.{length-ack_length}
 use Rattle.bac_log.proofs.Sizes.{entry_sized}
@@ -76,27 +76,27 @@ shows : (wanted : Wanted) → shows_number (extent_of wanted) ≡ true
 shows (FromOrdinal n) = refl
 shows FromOldest = refl
 
-first-numbered : (wanted : Wanted) (first : ℕ) (es : List Entry) → 0 < length es → first_shown (extent_of wanted) (numbered first es) ≡ Some (number first)
+first-numbered : (wanted : Wanted) (first : ℕ) (es : List Entry) → 0 < length es → first_shown (extent_of wanted) (numbered first es) ≡ Some (sequence_number first)
 first-numbered wanted first [] some = absurd (omega arith)
-first-numbered wanted first (e ∷ es) some = cond-true (shows_number (extent_of wanted)) (Some (number first)) None (shows wanted)
+first-numbered wanted first (e ∷ es) some = cond-true (shows_number (extent_of wanted)) (Some (sequence_number first)) None (shows wanted)
 
-octets_same : (wanted : Wanted) (first k : ℕ) (es : List Entry) → 0 < k → k ≤ length es → reply_length (extent_of wanted) (take k (numbered first es)) ≡ ack_length (Some (number first)) (take k es)
+octets_same : (wanted : Wanted) (first k : ℕ) (es : List Entry) → 0 < k → k ≤ length es → reply_length (extent_of wanted) (take k (numbered first es)) ≡ ack_length (Some (sequence_number first)) (take k es)
 octets_same wanted first k es some within =
-    ap (λ (rs : List Logged). reply_length (extent_of wanted) rs) (take-numbered k first es)
+    ap (λ (rs : List HeldEntry). reply_length (extent_of wanted) rs) (take-numbered k first es)
     ∙ ap (λ (o : Option ℕ). ack_length o (entries_in (numbered first (take k es)))) (first-numbered wanted first (take k es) (omega (arith, length-take-le k es within)))
-    ∙ ap (λ (l : List Entry). ack_length (Some (number first)) l) (entries_in-numbered first (take k es))
+    ∙ ap (λ (l : List Entry). ack_length (Some (sequence_number first)) l) (entries_in-numbered first (take k es))
 
 pub packed-numbered : (r : ℕ) (wanted : Wanted) (first : ℕ) (es : List Entry) → packed (extent_of wanted) r (numbered first es) ≡ numbered first (take (fitting r first es) es)
 packed-numbered r wanted first es =
     let p : ℕ → Bool = λ n. nat_le (reply_length (extent_of wanted) (take n (numbered first es))) r in
-    let q : ℕ → Bool = λ n. nat_le (ack_length (Some (number first)) (take n es)) r in
+    let q : ℕ → Bool = λ n. nat_le (ack_length (Some (sequence_number first)) (take n es)) r in
     let size : length (numbered first es) ≡ length es = length-numbered first es in
     let count : greatest p (length (numbered first es)) ≡ fitting r first es =
     ap (λ n. greatest p n) size ∙ greatest_same p q (length es) (λ k a b. ap (λ n. nat_le n r) (octets_same wanted first k es a b)) in
     ap (λ n. take n (numbered first es)) count ∙ take-numbered (fitting r first es) first es
 
 pub fitting_most : (r first : ℕ) (es : List Entry) → fitting r first es ≤ length es
-fitting_most r first es = greatest_within (λ n. nat_le (ack_length (Some (number first)) (take n es)) r) (length es)
+fitting_most r first es = greatest_within (λ n. nat_le (ack_length (Some (sequence_number first)) (take n es)) r) (length es)
 
 one_small : (es : List Entry) → 0 < length es → All IsLoggable es → sum_by record_size (take 1 es) ≤ 22
 one_small [] some l = absurd (omega arith)
@@ -106,10 +106,10 @@ one_small (e ∷ es) some l = omega (arith, sum_by-cons (λ (x : Entry). length 
 pub fitting_some : (r first : ℕ) (es : List Entry) → 44 ≤ r → All IsLoggable es → 0 < length es → 0 < fitting r first es
 fitting_some r first es room l some =
     let one : length (take 1 es) ≡ 1 = length-take-le 1 es (omega arith) in
-    let low : number first < 2 ^ 32 = omega arith in
-    let size = length-ack_length (Some (number first)) (take 1 es) low (omega (arith, one)) in
-    greatest_some (λ n. nat_le (ack_length (Some (number first)) (take n es)) r) (length es) some
-    (le-leb _ _ (omega (arith, size, ap number_size one, one_small es some l, (first_size (number first)).1, room)))
+    let low : sequence_number first < 2 ^ 32 = omega arith in
+    let size = length-ack_length (Some (sequence_number first)) (take 1 es) low (omega (arith, one)) in
+    greatest_some (λ n. nat_le (ack_length (Some (sequence_number first)) (take n es)) r) (length es) some
+    (le-leb _ _ (omega (arith, size, ap number_size one, one_small es some l, (first_size (sequence_number first)).1, room)))
 
 -- ---- the answer
 
@@ -177,7 +177,7 @@ module _ (m : Moment) (H : History) (sound : IsMoment H.logged m) (within : m.ne
       let c : ℕ = asked_count wanted m in
       let n : ℕ = how_many r H wanted m in
       let least : min n c ≡ n = omega (arith, many_most r wanted) in
-      ap (λ (rs : List Logged). packed (extent_of wanted) r rs) (selected-is wanted near)
+      ap (λ (rs : List HeldEntry). packed (extent_of wanted) r rs) (selected-is wanted near)
       ∙ packed-numbered r wanted f (entries_from H f c)
       ∙ ap (λ (l : List Entry). numbered f l) (take_min n c (drop (f - (H.logged + 1)) H.entries) ∙ ap (λ k. entries_from H f k) least)
 
@@ -190,8 +190,8 @@ module _ (m : Moment) (H : History) (sound : IsMoment H.logged m) (within : m.ne
       ap (λ (l : List Entry). length l) (sym (take_min n (asked_count wanted m) (drop (f - (H.logged + 1)) H.entries) ∙ ap (λ k. entries_from H f k) (let e : min n (asked_count wanted m) ≡ n = omega (arith, many_most r wanted) in e)))
       ∙ length-take-le n (entries_from H f (asked_count wanted m)) (omega (arith, many_most r wanted, length_asked wanted)) in
       record {
-        entries = ap (λ (rs : List Logged). entries_in rs) (packed-is r wanted near) ∙ entries_in-numbered f (entries_from H f n);
-        first_is = λ some. ap (λ (rs : List Logged). first_shown (extent_of wanted) rs) (packed-is r wanted near) ∙ first-numbered wanted f (entries_from H f n) (omega (arith, size, some));
+        entries = ap (λ (rs : List HeldEntry). entries_in rs) (packed-is r wanted near) ∙ entries_in-numbered f (entries_from H f n);
+        first_is = λ some. ap (λ (rs : List HeldEntry). first_shown (extent_of wanted) rs) (packed-is r wanted near) ∙ first-numbered wanted f (entries_from H f n) (omega (arith, size, some));
         some = λ asked. fitting_some r f (entries_from H f (asked_count wanted m)) room (part_loggable wanted) (omega (arith, length_asked wanted, asked));
         most = many_most r wanted;
       }

@@ -4,42 +4,42 @@ use Rattle.bac_log.specs.declared.entry.Entry.{Entry}
 use Rattle.std.proofs.lemmas.Bool.{ltb-true, ltb-false, and_parts}
 use Rattle.bac_link.specs.declared.item.Item.{Item}
 use Rattle.bac_link.specs.declared.item.Item.TheVariants.{Gap, Logged}
-use Rattle.bac_walk.specs.Place.{Place}
-use Rattle.bac_walk.specs.Heard.{Heard}
+use Rattle.bac_walk.specs.Place.{WalkPlace}
+use Rattle.bac_walk.specs.Heard.{AckParameters}
 use Rattle.bac_wire.specs.Primitive.{Id}
 use Rattle.bac_walk.specs.declared.outcome.WalkFault.{WalkFault}
 use Rattle.bac_walk.specs.declared.outcome.Progress.{Progress}
 use Rattle.bac_walk.specs.declared.outcome.Progress.TheVariants.{Batch as BatchOf, AskOldest, CaughtUp}
 use Rattle.bac_walk.specs.declared.outcome.Step.{Step}
-use Rattle.bac_log.specs.TrendLog.{number}
+use Rattle.bac_log.specs.TrendLog.{sequence_number}
 use Rattle.bac_walk.specs.Ordinals.{is_number, distance, number_after}
 use Rattle.bac_walk.specs.Turns.{Covers}
-use Rattle.bac_walk.specs.Walks.{shown_from, brought, asks_oldest_now, is_past, fits, items_in, Verdict, Refuse, Ask, End, Bring, verdict, IsTaken, IsTakenFrom}
+use Rattle.bac_walk.specs.Walks.{shown_from, brought, asks_oldest_now, is_past, fits, items_in, NextAct, Refuse, Ask, End, Bring, verdict, IsTaken, IsTakenFrom}
 use Rattle.bac_walk.specs.Collects.{Goes, turn_items, asks_next, finished, step_items}
 use Rattle.bac_walk.proofs.Shown.{Covers-numbered, after-number, shown_numbered, number-distance}
 use Rattle.bac_walk.proofs.Cuts.{Covers-append}
 
 -- entries with the numbers from that of ordinal s on
-covers_shown : (s shown : ℕ) (es : List Entry) → shown ≡ number s →
-    (number_after shown (length es) ≡ number (s + length es)) × Covers s (shown_from shown es) (s + length es)
+covers_shown : (s shown : ℕ) (es : List Entry) → shown ≡ sequence_number s →
+    (number_after shown (length es) ≡ sequence_number (s + length es)) × Covers s (shown_from shown es) (s + length es)
 covers_shown s shown es is =
     let P : List Item → Type 0 = λ xs. Covers s xs (s + length es) in
-    let Q : ℕ → Type 0 = λ n. (number_after n (length es) ≡ number (s + length es)) × Covers s (shown_from n es) (s + length es) in
+    let Q : ℕ → Type 0 = λ n. (number_after n (length es) ≡ sequence_number (s + length es)) × Covers s (shown_from n es) (s + length es) in
     subst Q (sym is) (after-number s (length es), subst P (sym (shown_numbered s es)) (Covers-numbered s es))
 
 -- a batch of a walk that isn't one from the oldest entry any more
 goes_on : (next first s : ℕ) (e : Entry) (es : List Entry) (lt : Bool) → nat_lt 0 (distance next first) ≡ lt → is_number first ≡ true →
-    next ≡ number s →
-    (t : ℕ) × (number_after first (length (e ∷ es)) ≡ number t)
+    next ≡ sequence_number s →
+    (t : ℕ) × (number_after first (length (e ∷ es)) ≡ sequence_number t)
     × Covers s ((if lt then Gap next first ∷ [] else []) ++ shown_from first (e ∷ es)) t
 goes_on next first s e es true is shows here =
-    let far : first ≡ number (s + distance next first) = number-distance next first s shows here in
+    let far : first ≡ sequence_number (s + distance next first) = number-distance next first s shows here in
     let rest = covers_shown (s + distance next first) first (e ∷ es) far in
     (_, rest.0, (here, ltb-true 0 (distance next first) is, rest.1))
 goes_on next first s e es false is shows here =
     let none : distance next first ≤ 0 = ltb-false 0 (distance next first) is in
     let same : s + distance next first ≡ s = omega (arith, none) in
-    let far : first ≡ number s = number-distance next first s shows here ∙ ap number same in
+    let far : first ≡ sequence_number s = number-distance next first s shows here ∙ ap sequence_number same in
     let rest = covers_shown s first (e ∷ es) far in
     (_, rest.0, rest.1)
 
@@ -71,7 +71,7 @@ idle : (fresh : Bool) (before s : ℕ) (after_fresh : Bool) (next : ℕ) → nex
 idle true before s after_fresh next a b = (a, b)
 idle false before s after_fresh next a b = (a, b)
 
-brings : (w : Place) (s : ℕ) (first : Option ℕ) (count : ℕ) (es : List Entry) (f : ℕ) (items : List Item) → verdict w first count es ≡ Bring f →
+brings : (w : WalkPlace) (s : ℕ) (first : Option ℕ) (count : ℕ) (es : List Entry) (f : ℕ) (items : List Item) → verdict w first count es ≡ Bring f →
     items ≡ brought w f es → Goes w.fresh w.next s items false (number_after f (length es))
 brings w s first count [] f items is eq = none_empty (asks_oldest_now w) is
   where
@@ -91,28 +91,28 @@ brings w s (Some g) count (e ∷ es) f items is eq = of_some (is_past w g) (coun
         let Q : ℕ → Type 0 = λ n. fits w n (length (e ∷ es)) ≡ true in
         goes_batch w.log w.next s f w.fresh w.asks_oldest e es items (subst Q same fit) eq
 
-by_verdict : (w : Place) (s : ℕ) (first : Option ℕ) (count : ℕ) (es : List Entry) (p : Progress) (after : Place) (v : Verdict) → verdict w first count es ≡ v →
+by_verdict : (w : WalkPlace) (s : ℕ) (first : Option ℕ) (count : ℕ) (es : List Entry) (p : Progress) (after : WalkPlace) (v : NextAct) → verdict w first count es ≡ v →
     IsTaken w es v (Ok p) after → Goes w.fresh w.next s (turn_items (Ok p)) after.fresh after.next
 by_verdict w s first count es p after Refuse is taken = absurd taken
 by_verdict w s first count es AskOldest after Ask is taken =
-    idle w.fresh w.next s after.fresh after.next (ap (λ (u : Place). u.next) taken) (ap (λ (u : Place). u.fresh) taken)
+    idle w.fresh w.next s after.fresh after.next (ap (λ (u : WalkPlace). u.next) taken) (ap (λ (u : WalkPlace). u.fresh) taken)
 by_verdict w s first count es (BatchOf b) after Ask is taken = absurd taken
 by_verdict w s first count es CaughtUp after Ask is taken = absurd taken
 by_verdict w s first count es CaughtUp after End is taken =
-    idle w.fresh w.next s after.fresh after.next (ap (λ (u : Place). u.next) taken) (ap (λ (u : Place). u.fresh) taken)
+    idle w.fresh w.next s after.fresh after.next (ap (λ (u : WalkPlace). u.next) taken) (ap (λ (u : WalkPlace). u.fresh) taken)
 by_verdict w s first count es AskOldest after End is taken = absurd taken
 by_verdict w s first count es (BatchOf b) after End is taken = absurd taken
 by_verdict w s first count es AskOldest after (Bring f) is taken = absurd taken
 by_verdict w s first count es CaughtUp after (Bring f) is taken = absurd taken
 by_verdict w s first count es (BatchOf b) after (Bring f) is taken =
-    let nf : after.next ≡ number_after f (length es) = ap (λ (u : Place). u.next) taken.1 in
-    let ff : after.fresh ≡ false = ap (λ (u : Place). u.fresh) taken.1 in
+    let nf : after.next ≡ number_after f (length es) = ap (λ (u : WalkPlace). u.next) taken.1 in
+    let ff : after.fresh ≡ false = ap (λ (u : WalkPlace). u.fresh) taken.1 in
     let P : ℕ → Type 0 = λ n. Goes w.fresh w.next s (items_in b) false n in
     let Q : Bool → Type 0 = λ x. Goes w.fresh w.next s (items_in b) x after.next in
     subst Q (sym ff) (subst P (sym nf) (brings w s first count es f (items_in b) is taken.0))
 
 -- an answer that is taken
-pub turn_goes : (w : Place) (s : ℕ) (heard : Option Heard) (p : Progress) (after : Place) →
+pub turn_goes : (w : WalkPlace) (s : ℕ) (heard : Option AckParameters) (p : Progress) (after : WalkPlace) →
     IsTakenFrom w heard (Ok p) after → Goes w.fresh w.next s (turn_items (Ok p)) after.fresh after.next
 turn_goes w s None p after taken = absurd taken
 turn_goes w s (Some h) p after taken = by_verdict w s h.first h.count h.entries p after (verdict w h.first h.count h.entries) refl taken

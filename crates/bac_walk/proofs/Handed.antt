@@ -6,13 +6,13 @@ use Rattle.bac_link.specs.declared.item.Item.TheVariants.{Gap, Logged}
 use Rattle.bac_walk.specs.declared.batch.Gap.{Gap as GapOf}
 use Rattle.bac_walk.specs.declared.batch.Numbered.{Numbered}
 use Rattle.bac_walk.specs.declared.batch.Batch.{Batch}
-use Rattle.bac_walk.specs.Place.{Place}
+use Rattle.bac_walk.specs.Place.{WalkPlace}
 use Rattle.bac_walk.specs.declared.outcome.Step.{Step}
 use Rattle.bac_walk.specs.declared.outcome.Step.TheVariants.{Batch as StepOf, CaughtUp as NoStep}
 use Rattle.bac_walk.specs.declared.outcome.WalkFault.{WalkFault}
 use Rattle.bac_walk.specs.declared.outcome.Ended.{Ended}
 use Rattle.bac_walk.specs.declared.outcome.Ended.TheVariants.{CaughtUp, StepLimit, Stopped, Fault}
-use Rattle.bac_log.specs.TrendLog.{number}
+use Rattle.bac_log.specs.TrendLog.{sequence_number}
 use Rattle.bac_walk.specs.Ordinals.{distance, number_after}
 use Rattle.bac_link.specs.Delivery.{History, Moment, now, later}
 use Rattle.bac_link.specs.Laws.{after_answers}
@@ -85,7 +85,7 @@ put_up_to puts old gap (x ∷ xs) n new put =
     ]
 
 -- an entry shows the number of the ordinal where it stands
-pub shows : (s t k : ℕ) (e : Entry) (before after : List Item) → Covers s (before ++ Logged k e ∷ after) t → k ≡ number (end_of s before)
+pub shows : (s t k : ℕ) (e : Entry) (before after : List Item) → Covers s (before ++ Logged k e ∷ after) t → k ≡ sequence_number (end_of s before)
 shows s t k e [] after h = h.0
 shows s t k e (Gap f b ∷ before) after h = shows (s + distance f b) t k e before after h.2
 shows s t k e (Logged l d ∷ before) after h = shows (s + 1) t k e before after h.1
@@ -129,7 +129,7 @@ first_of (p ∷ pre) z = (p, pre ++ z ∷ [], refl)
 -- the answers of a run of one step, cut after an entry
 record CutRun (r : ℕ) (H : History) (M : List Moment) (fresh : Bool) (next retries old new k : ℕ) (items : List Item) (answers : List (List Item)) : Type 0 where
   t : ℕ
-  shown : number_after k 1 ≡ number t
+  shown : number_after k 1 ≡ sequence_number t
   cut : List (List Item)
   count : length cut ≡ length answers
   some : 0 < batches cut
@@ -138,7 +138,7 @@ record CutRun (r : ℕ) (H : History) (M : List Moment) (fresh : Bool) (next ret
 -- one batch, from an ordinal
 cut_batch : (H : History) (m : Moment) (s0 t k : ℕ) (e : Entry) (pre post : List Item) (x : Item) (b : List Item) (y : Item) (ys : List Item) →
     (x ∷ b) ≡ pre ++ Logged k e ∷ post → pre ++ Logged k e ∷ [] ≡ y ∷ ys → Covers s0 (pre ++ Logged k e ∷ post) t → IsBatch H m s0 (x ∷ b) →
-    Covers s0 (y ∷ ys) (end_of s0 pre + 1) × IsBatch H m s0 (y ∷ ys) × ((y ∷ ys) ++ post ≡ x ∷ b) × (number_after k 1 ≡ number (end_of s0 pre + 1))
+    Covers s0 (y ∷ ys) (end_of s0 pre + 1) × IsBatch H m s0 (y ∷ ys) × ((y ∷ ys) ++ post ≡ x ∷ b) × (number_after k 1 ≡ sequence_number (end_of s0 pre + 1))
 cut_batch H m s0 t k e pre post x b y ys is cut covers batch =
     let P : List Item → Type 0 = λ l. IsBatch H m s0 l in
     let Q : List Item → Type 0 = λ l. Covers s0 l (end_of s0 pre + 1) in (
@@ -243,16 +243,16 @@ cut_run r H M false next retries old new t k e pre post ([] ∷ (x ∷ b) ∷ []
     })
 
 -- what a step ensures
-abbrev pub IsStep : (ℕ → List Moment → History → Type 0) → (ℕ → List Moment → History → Type 0) → ℕ → ℕ → ℕ → Place → Place → Result Step WalkFault → Type 0
+abbrev pub IsStep : (ℕ → List Moment → History → Type 0) → (ℕ → List Moment → History → Type 0) → ℕ → ℕ → ℕ → WalkPlace → WalkPlace → Result Step WalkFault → Type 0
 IsStep was is retries old new before after z =
     ((s : ℕ) → Goes before.fresh before.next s (step_items z) after.fresh after.next)
-    × ((r : ℕ) (M : List Moment) (H : History) (s : ℕ) → was r M H → before.next ≡ number s → (before.fresh ≡ false → IsNearStep s M) →
-    (answers : List (List Item)) × (t : ℕ) × (after.next ≡ number t)
+    × ((r : ℕ) (M : List Moment) (H : History) (s : ℕ) → was r M H → before.next ≡ sequence_number s → (before.fresh ≡ false → IsNearStep s M) →
+    (answers : List (List Item)) × (t : ℕ) × (after.next ≡ sequence_number t)
     × Collected r H M before.fresh s 1 retries old new (step_items z) t (step_ended z) answers
     × is r (after_answers (length answers) M) H × (after.fresh ≡ is_fresh_after before.fresh z))
 
 -- a step is a run of one step
-run_of_step : (was is : ℕ → List Moment → History → Type 0) (retries old new : ℕ) (before after : Place) (z : Result Step WalkFault) →
+run_of_step : (was is : ℕ → List Moment → History → Type 0) (retries old new : ℕ) (before after : WalkPlace) (z : Result Step WalkFault) →
     IsStep was is retries old new before after z → IsRun was is retries old new before after 1 (step_ended z) (step_items z)
 run_of_step was is retries old new before after z step = (
   step.0,
@@ -271,7 +271,7 @@ old_after false before s k e [] post after next goes = goes.1
 old_after false before s k e (x ∷ pre) post after next goes = goes.1
 
 -- a step whose batch was cut
-run_of_cut : (was is : ℕ → List Moment → History → Type 0) (retries old new k : ℕ) (e : Entry) (before after : Place) (pre post : List Item) →
+run_of_cut : (was is : ℕ → List Moment → History → Type 0) (retries old new k : ℕ) (e : Entry) (before after : WalkPlace) (pre post : List Item) →
     IsRun was is retries old new before after 1 StepLimit (pre ++ Logged k e ∷ post) →
     IsRun was is retries old new before (record { log = after.log; next = number_after k 1; fresh = false; asks_oldest = false }) 1 Stopped (pre ++ Logged k e ∷ [])
 run_of_cut was is retries old new k e before after pre post run = (
@@ -294,7 +294,7 @@ map-append (x ∷ xs) ys = ap (λ l. item_of x ∷ l) (map-append xs ys)
 
 -- a batch that was put, as far as it was
 of_batch : {S : Type 0} (puts : S → Option GapOf → Numbered → Bool → S → Type 0) (sink left : S) (was is : ℕ → List Moment → History → Type 0)
-    (retries old new : ℕ) (before mid : Place) (b : Batch) (refused : Option ℕ) → length b.entries.items ≤ 100 → 0 < length b.entries.items →
+    (retries old new : ℕ) (before mid : WalkPlace) (b : Batch) (refused : Option ℕ) → length b.entries.items ≤ 100 → 0 < length b.entries.items →
     IsRun was is retries old new before mid 1 StepLimit (items_in b) → PutAll puts sink b.gap b.entries.items refused left →
     Delivery puts sink left was is retries old new before (walk_after mid refused) 1 (ended_after refused)
 of_batch puts sink left was is retries old new before mid b None most some run put =
@@ -331,28 +331,28 @@ of_batch puts sink left was is retries old new before mid b (Some n) most some r
 
 -- a step and what was made of it
 pub handed : {S : Type 0} (puts : S → Option GapOf → Numbered → Bool → S → Type 0) (sink left : S) (was is : ℕ → List Moment → History → Type 0)
-    (retries old new : ℕ) (before mid after : Place) (z : Result Step WalkFault) (ended : Ended) →
+    (retries old new : ℕ) (before mid after : WalkPlace) (z : Result Step WalkFault) (ended : Ended) →
     IsStep was is retries old new before mid z → HandedOn puts sink mid z ended after left →
     Delivery puts sink left was is retries old new before after 1 ended
 handed puts sink left was is retries old new before mid after (Err e) ended step put =
     let run = run_of_step was is retries old new before mid (Err e) step in
-    let P : Place → Type 0 = λ w. IsRun was is retries old new before w 1 (Fault e) [] in
+    let P : WalkPlace → Type 0 = λ w. IsRun was is retries old new before w 1 (Fault e) [] in
     let Q : Ended → Type 0 = λ x. Delivery puts sink left was is retries old new before after 1 x in
     subst Q (sym put.2) ([], (put.0, refl), omega arith, omega arith, subst P (sym put.1) run, λ e. absurd (cc))
 handed puts sink left was is retries old new before mid after (Ok NoStep) ended step put =
     let run = run_of_step was is retries old new before mid (Ok NoStep) step in
-    let P : Place → Type 0 = λ w. IsRun was is retries old new before w 1 CaughtUp [] in
+    let P : WalkPlace → Type 0 = λ w. IsRun was is retries old new before w 1 CaughtUp [] in
     let Q : Ended → Type 0 = λ x. Delivery puts sink left was is retries old new before after 1 x in
     subst Q (sym put.2) ([], (put.0, refl), omega arith, omega arith, subst P (sym put.1) run, λ e. absurd (cc))
 handed puts sink left was is retries old new before mid after (Ok (StepOf b)) ended step put =
     let run = run_of_step was is retries old new before mid (Ok (StepOf b)) step in
     let done = of_batch puts sink left was is retries old new before mid b put.0 b.most b.some run put.1 in
-    let P : Place → Type 0 = λ w. Delivery puts sink left was is retries old new before w 1 (ended_after put.0) in
+    let P : WalkPlace → Type 0 = λ w. Delivery puts sink left was is retries old new before w 1 (ended_after put.0) in
     let Q : Ended → Type 0 = λ x. Delivery puts sink left was is retries old new before after 1 x in
     subst Q (sym put.3) (subst P (sym put.2) done)
 
 -- a step that isn't lost doesn't end as lost
-pub found_end : {S : Type 0} (puts : S → Option GapOf → Numbered → Bool → S → Type 0) (sink : S) (mid : Place) (z : Result Step WalkFault) (ended : Ended) (after : Place) (left : S) →
+pub found_end : {S : Type 0} (puts : S → Option GapOf → Numbered → Bool → S → Type 0) (sink : S) (mid : WalkPlace) (z : Result Step WalkFault) (ended : Ended) (after : WalkPlace) (left : S) →
     HandedOn puts sink mid z ended after left → FoundStep z → FoundEnd ended
 found_end puts sink mid (Err e) ended after left put found = let P : Ended → Type 0 = λ x. FoundEnd x in subst P (sym put.2) found
 found_end puts sink mid (Ok NoStep) ended after left put found = let P : Ended → Type 0 = λ x. FoundEnd x in subst P (sym put.2) tt

@@ -19,7 +19,7 @@ use Rattle.bac_log.proofs.Records.{entries_back}
 use Rattle.bac_log.proofs.Sizes.{entry_sized}
 use Rattle.bac_walk.specs.Replies.{Wanted, extent_of, IsShown}
 use Rattle.bac_link.specs.Datagrams.{apdu_in}
-use Rattle.bac_walk.specs.Heard.{Heard, heard_at, heard_if, heard_of, records_in, same_id}
+use Rattle.bac_walk.specs.Heard.{AckParameters, heard_at, heard_if, heard_of, records_in, same_id}
 use Rattle.bac_link.specs.Links.{IsReply, reply_parameters}
 use Rattle.bac_link.specs.Delivery.{History, Moment, now}
 use Rattle.bac_link.specs.Path.{Path}
@@ -62,7 +62,7 @@ says_reply result datagram r M H id wanted path invoke gives served near valid r
     let is : IsShown (log_at (now M) H) = shown (now M) H sound within reply.0 in
     let whole : result ≡ Some (reply_parameters id (log_at (now M) H) (extent_of wanted) r) = gives ∙ ap (λ m. parameters_in (option_map (λ message. message.1) m)) reply.1 in
     let P : Option (List ℕ) → Type 0 = λ o. IsSomeAnd o (λ p. Says r (now M) H wanted (heard_at id p)) in
-    let Q : Option Heard → Type 0 = λ o. Says r (now M) H wanted o in
+    let Q : Option AckParameters → Type 0 = λ o. Says r (now M) H wanted o in
     subst P (sym whole) (subst Q (sym (heard_reply id (log_at (now M) H) (extent_of wanted) r is served.greatest valid))
     (answer_is (now M) H sound within reply.0 r wanted near (omega (arith, served.least)), refl))
 

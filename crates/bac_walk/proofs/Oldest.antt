@@ -10,7 +10,7 @@ use Rattle.bac_apdu.specs.declared.service.extent.Extent.{Extent}
 use Rattle.bac_apdu.specs.declared.service.extent.Extent.TheVariants.{ByTime}
 use Rattle.bac_log.specs.declared.entry.Entry.{Entry}
 use Rattle.bac_log.specs.Entry.{IsLoggable}
-use Rattle.bac_log.specs.Select.{Logged, numbered, selected, is_asked, is_newer, first_newer, in_interval_at}
+use Rattle.bac_log.specs.Select.{HeldEntry, numbered, selected, is_asked, is_newer, first_newer, in_interval_at}
 use Rattle.bac_log.specs.TrendLog.{Log, oldest}
 use Rattle.bac_walk.specs.Replies.{first_date, first_time, IsShown}
 use Rattle.bac_log.proofs.Runs.{filter_run}
@@ -26,10 +26,10 @@ is_later e l =
     let year : e.date.year ≡ l.stamped.moment.year - 1900 = ap (λ (d : Date4). d.year) l.stamped.same_date in
     year_decides e.date.year _ (omega (arith, year, l.stamped.exists.from))
 
-first_found : (first : ℕ) (es : List Entry) → 0 < length es → All IsLoggable es → option_map (λ (r : Logged). r.ordinal) (find (is_newer first_date first_time) (numbered first es)) ≡ Some first
+first_found : (first : ℕ) (es : List Entry) → 0 < length es → All IsLoggable es → option_map (λ (r : HeldEntry). r.ordinal) (find (is_newer first_date first_time) (numbered first es)) ≡ Some first
 first_found first [] some l = absurd (omega arith)
 first_found first (e ∷ es) some l =
-    ap (λ (o : Option Logged). option_map (λ (r : Logged). r.ordinal) o) (cond-true (is_newer first_date first_time (record { ordinal = first; entry = e })) (Some (record { ordinal = first; entry = e })) (find (is_newer first_date first_time) (numbered (first + 1) es)) (is_later e (l 0 e (omega arith))))
+    ap (λ (o : Option HeldEntry). option_map (λ (r : HeldEntry). r.ordinal) o) (cond-true (is_newer first_date first_time (record { ordinal = first; entry = e })) (Some (record { ordinal = first; entry = e })) (find (is_newer first_date first_time) (numbered (first + 1) es)) (is_later e (l 0 e (omega arith))))
 
 none_selected : (log : Log) → log.entries ≡ [] → selected log from_oldest ≡ numbered (oldest log) (take 100 log.entries)
 none_selected log none = rw none refl

@@ -15,8 +15,8 @@ use Rattle.bac_log.specs.Ack.{shown_parameters, ack_apdu, ack_parameters}
 use Rattle.bac_log.specs.Entry.{IsLoggable}
 use Rattle.bac_log.specs.Record.{entry_octets, entries_octets}
 use Rattle.bac_log.specs.RecordReading.{entries_at}
-use Rattle.bac_log.specs.Select.{Logged, numbered, held, selected, packed, reply_of, reply_length, first_shown, entries_in, shows_number, is_asked, greatest}
-use Rattle.bac_log.specs.TrendLog.{Log, oldest, number}
+use Rattle.bac_log.specs.Select.{HeldEntry, numbered, held, selected, packed, reply_of, reply_length, first_shown, entries_in, shows_number, is_asked, greatest}
+use Rattle.bac_log.specs.TrendLog.{Log, oldest, sequence_number}
 use Rattle.bac_log.proofs.Acks.{ack_reads, length-ack_length, same_octets}
 use Rattle.bac_log.proofs.Records.{entries_back}
 use Rattle.bac_log.proofs.Sizes.{entry_sized}
@@ -25,7 +25,7 @@ use Rattle.bac_link.specs.Links.{reply_parameters}
 use Rattle.bac_walk.specs.Replies.{IsShown}
 
 -- each record that a log holds is loggable
-abbrev Each : List Logged → Type 0
+abbrev Each : List HeldEntry → Type 0
 Each [] = Unit {0}
 Each (r ∷ rs) = IsLoggable r.entry × Each rs
 
@@ -33,7 +33,7 @@ each_numbered : (first : ℕ) (es : List Entry) → All IsLoggable es → Each (
 each_numbered first [] l = tt
 each_numbered first (e ∷ es) l = (l 0 e (omega arith), each_numbered (first + 1) es (λ k d lt. l (suc k) d (omega arith)))
 
-each_filter : (test : Logged → Bool) (rs : List Logged) → Each rs → Each (filter test rs)
+each_filter : (test : HeldEntry → Bool) (rs : List HeldEntry) → Each rs → Each (filter test rs)
 each_filter test [] e = tt
 each_filter test (r ∷ rs) e =
     let rest : Each (filter test rs) = each_filter test rs e.1 in
@@ -42,7 +42,7 @@ each_filter test (r ∷ rs) e =
       | inr p ↦ subst Each (sym (cond-false (test r) (r ∷ filter test rs) (filter test rs) p)) rest
     ]
 
-each_take : (n : ℕ) (rs : List Logged) → Each rs → Each (take n rs)
+each_take : (n : ℕ) (rs : List HeldEntry) → Each rs → Each (take n rs)
 each_take zero rs e = tt
 each_take (suc n) [] e = tt
 each_take (suc n) (r ∷ rs) e = (e.0, each_take n rs e.1)
@@ -51,19 +51,19 @@ all_cons : (e : Entry) (es : List Entry) → IsLoggable e → All IsLoggable es 
 all_cons e es one rest zero d lt = one
 all_cons e es one rest (suc k) d lt = rest k d (omega arith)
 
-each_loggable : (rs : List Logged) → Each rs → All IsLoggable (entries_in rs)
+each_loggable : (rs : List HeldEntry) → Each rs → All IsLoggable (entries_in rs)
 each_loggable [] e = λ k d lt. absurd (omega arith)
 each_loggable (r ∷ rs) e = all_cons r.entry (entries_in rs) e.0 (each_loggable rs e.1)
 
-first_valid : (extent : Extent) (rs : List Logged) → IsFirst (first_shown extent rs)
+first_valid : (extent : Extent) (rs : List HeldEntry) → IsFirst (first_shown extent rs)
 first_valid extent [] = tt
 first_valid extent (r ∷ rs) = shown (shows_number extent)
   where
-    shown : (b : Bool) → IsFirst (if b then Some (number r.ordinal) else None)
+    shown : (b : Bool) → IsFirst (if b then Some (sequence_number r.ordinal) else None)
     shown true = (omega arith, omega arith)
     shown false = tt
 
-length-entries_in : (rs : List Logged) → length (entries_in rs) ≡ length rs
+length-entries_in : (rs : List HeldEntry) → length (entries_in rs) ≡ length rs
 length-entries_in [] = refl
 length-entries_in (r ∷ rs) = ap suc (length-entries_in rs)
 
@@ -92,17 +92,17 @@ first_small : (first : Option ℕ) → IsFirst first → IsSmall first
 first_small None f = tt
 first_small (Some n) f = f.1
 
-length_filter : (test : Logged → Bool) (rs : List Logged) → length (filter test rs) ≤ length rs
+length_filter : (test : HeldEntry → Bool) (rs : List HeldEntry) → length (filter test rs) ≤ length rs
 length_filter test [] = omega arith
 length_filter test (r ∷ rs) =
     let rest = length_filter test rs in
     elim (cases_Bool (test r)) [
-      | inl p ↦ omega (arith, rest, ap (λ (l : List Logged). length l) (cond-true (test r) (r ∷ filter test rs) (filter test rs) p))
-      | inr p ↦ omega (arith, rest, ap (λ (l : List Logged). length l) (cond-false (test r) (r ∷ filter test rs) (filter test rs) p))
+      | inl p ↦ omega (arith, rest, ap (λ (l : List HeldEntry). length l) (cond-true (test r) (r ∷ filter test rs) (filter test rs) p))
+      | inr p ↦ omega (arith, rest, ap (λ (l : List HeldEntry). length l) (cond-false (test r) (r ∷ filter test rs) (filter test rs) p))
     ]
 
 module _ (log : Log) (extent : Extent) (limit : ℕ) (is : IsShown log) (most : limit ≤ 1476) where
-  abbrev records : List Logged
+  abbrev records : List HeldEntry
   records = packed extent limit (selected log extent)
 
   each_packed : Each records
@@ -154,7 +154,7 @@ module _ (log : Log) (extent : Extent) (limit : ℕ) (is : IsShown log) (most : 
       elim (greatest_passes passes (length (selected log extent))) [
         | inl none ↦
             let rs : records ≡ [] = ap (λ n. take n (selected log extent)) none in
-            omega (arith, ap (λ (l : List Logged). reply_length extent l) rs, length-ack_length None [] tt (omega arith), room)
+            omega (arith, ap (λ (l : List HeldEntry). reply_length extent l) rs, length-ack_length None [] tt (omega arith), room)
         | inr fits ↦ omega (arith, leb-true _ _ fits)
       ]
 

@@ -6,7 +6,7 @@ use Rattle.std.proofs.lemmas.Bool.{ltb-true, ltb-false, le-ltb}
 use Rattle.bac_link.specs.declared.item.Item.{Item}
 use Rattle.bac_link.specs.declared.item.Item.TheVariants.{Gap, Logged}
 use Rattle.bac_walk.specs.declared.outcome.Ended.TheVariants.{CaughtUp}
-use Rattle.bac_log.specs.TrendLog.{number}
+use Rattle.bac_log.specs.TrendLog.{sequence_number}
 use Rattle.bac_link.specs.Delivery.{History, Moment}
 use Rattle.bac_link.specs.Moments.{IsMoment, AreServed, log_at, entries_from}
 use Rattle.bac_walk.specs.Delivers.{end_of}
@@ -50,7 +50,7 @@ numbered-append k [] fs = rw add-zero refl
 numbered-append k (e ∷ es) fs =
     let at : (k + 1) + length es ≡ k + suc (length es) = omega arith in
     let P : ℕ → Type 0 = λ n. numbered (k + 1) (es ++ fs) ≡ numbered (k + 1) es ++ numbered n fs in
-    ap (λ l. Logged (number k) e ∷ l) (subst P at (numbered-append (k + 1) es fs))
+    ap (λ l. Logged (sequence_number k) e ∷ l) (subst P at (numbered-append (k + 1) es fs))
 
 -- all that is left after so many entries from b on
 after_some : (H : History) (m : Moment) (b c : ℕ) (past : Bool) → nat_lt m.newest (max (b + c) m.oldest) ≡ past →
@@ -111,7 +111,7 @@ rests_all r H m s (suc n) served loggable near enough = by_end (λ u ge lt. rest
         let left = after_some H m b c (nat_lt m.newest (max (b + c) m.oldest)) refl (omega (arith, sound.above)) (omega arith) count.1 count.0 in
         let next : rest_from r H m (end_of s (whole_reply r H m far s)) n ≡ rest_all H m (b + c) =
         ap (λ k. rest_from r H m k n) end ∙ again (b + c) (omega arith) (omega (arith, count.0)) in
-        let G : List Item = (if nat_lt s m.oldest then Gap (number s) (number m.oldest) ∷ [] else []) in
+        let G : List Item = (if nat_lt s m.oldest then Gap (sequence_number s) (sequence_number m.oldest) ∷ [] else []) in
         let sum : c + ((m.newest + 1) - (b + c)) ≡ (m.newest + 1) - b = omega (arith, count.1) in
         let joined : whole_reply r H m far s ++ (rest_all H m (b + c)).items ≡ G ++ numbered b (entries_from H b ((m.newest + 1) - b)) =
         append_assoc G (numbered b es) (rest_all H m (b + c)).items
@@ -130,12 +130,12 @@ rests_all r H m s (suc n) served loggable near enough = by_end (λ u ge lt. rest
 
 -- what follows an entry
 cut_numbered : (b : ℕ) (es : List Entry) (shown : ℕ) (e : Entry) (before after : List Item) → numbered b es ≡ before ++ Logged shown e ∷ after →
-    (j : ℕ) × (j < length es) × (shown ≡ number (b + j)) × (after ≡ numbered (b + (j + 1)) (drop (j + 1) es))
+    (j : ℕ) × (j < length es) × (shown ≡ sequence_number (b + j)) × (after ≡ numbered (b + (j + 1)) (drop (j + 1) es))
 cut_numbered b [] shown e [] after is = absurd (cc)
 cut_numbered b [] shown e (x ∷ before) after is = absurd (cc)
 cut_numbered b (f ∷ es) shown e [] after is =
-    let head : Logged (number b) f ≡ Logged shown e = cc in
-    let n : number b ≡ shown = cc in
+    let head : Logged (sequence_number b) f ≡ Logged shown e = cc in
+    let n : sequence_number b ≡ shown = cc in
     let tail : numbered (b + 1) es ≡ after = cc in
     (0, omega arith, rw add-zero (sym n), sym tail)
 cut_numbered b (f ∷ es) shown e (x ∷ before) after is =
@@ -146,11 +146,11 @@ cut_numbered b (f ∷ es) shown e (x ∷ before) after is =
     let P : ℕ → Type 0 = λ k. after ≡ numbered k (drop (rest.0 + 1) es) in
     let same : drop ((rest.0 + 1) + 1) (f ∷ es) ≡ drop (rest.0 + 1) es = (let s1 : (rest.0 + 1) + 1 ≡ suc (rest.0 + 1) = omega arith in rw s1 refl) in
     let Q : List Entry → Type 0 = λ l. after ≡ numbered (b + ((rest.0 + 1) + 1)) l in
-    (rest.0 + 1, omega (arith, rest.1), rest.2 ∙ ap number at, subst Q (sym same) (subst P at_next rest.3))
+    (rest.0 + 1, omega (arith, rest.1), rest.2 ∙ ap sequence_number at, subst Q (sym same) (subst P at_next rest.3))
 
 from_held : (H : History) (m : Moment) (b shown : ℕ) (e : Entry) (before after : List Item) → IsMoment H.logged m → m.newest ≤ H.logged + length H.entries →
     m.oldest ≤ b → b ≤ m.newest → numbered b (entries_from H b ((m.newest + 1) - b)) ≡ before ++ Logged shown e ∷ after →
-    (k : ℕ) × (shown ≡ number k) × (after ≡ (rest_all H m (k + 1)).items)
+    (k : ℕ) × (shown ≡ sequence_number k) × (after ≡ (rest_all H m (k + 1)).items)
 from_held H m b shown e before after sound within low high is =
     let count = (m.newest + 1) - b in
     let long : length (entries_from H b count) ≡ count = entries_count H m b count sound within low (λ h. omega arith) in
@@ -169,13 +169,13 @@ from_held H m b shown e before after sound within low high is =
 
 pub rest_resumes : (H : History) (m : Moment) (s shown : ℕ) (entry : Entry) (before after : List Item) → IsMoment H.logged m → m.newest ≤ H.logged + length H.entries →
     (rest_all H m s).items ≡ before ++ Logged shown entry ∷ after →
-    (k : ℕ) × (shown ≡ number k) × (after ≡ (rest_all H m (k + 1)).items)
+    (k : ℕ) × (shown ≡ sequence_number k) × (after ≡ (rest_all H m (k + 1)).items)
 rest_resumes H m s shown entry before after sound within is =
     by_end (nat_lt m.newest (max s m.oldest)) (nat_lt s m.oldest) refl refl (picked (nat_lt m.newest (max s m.oldest)) refl ∙ is)
   where
     pick : Bool → Bool → List Item
     pick true lt = []
-    pick false lt = (if lt then Gap (number s) (number m.oldest) ∷ [] else [])
+    pick false lt = (if lt then Gap (sequence_number s) (sequence_number m.oldest) ∷ [] else [])
         ++ numbered (max s m.oldest) (entries_from H (max s m.oldest) ((m.newest + 1) - max s m.oldest))
 
     picked : (past : Bool) → nat_lt m.newest (max s m.oldest) ≡ past → pick (nat_lt m.newest (max s m.oldest)) (nat_lt s m.oldest) ≡ (rest_all H m s).items
@@ -183,18 +183,18 @@ rest_resumes H m s shown entry before after sound within is =
     picked false e = rw e refl
 
     by_end : (past lt : Bool) → nat_lt m.newest (max s m.oldest) ≡ past → nat_lt s m.oldest ≡ lt →
-        pick past lt ≡ before ++ Logged shown entry ∷ after → (k : ℕ) × (shown ≡ number k) × (after ≡ (rest_all H m (k + 1)).items)
+        pick past lt ≡ before ++ Logged shown entry ∷ after → (k : ℕ) × (shown ≡ sequence_number k) × (after ≡ (rest_all H m (k + 1)).items)
     by_end true lt a b eq = nothing before eq
       where
-        nothing : (l : List Item) → [] ≡ l ++ Logged shown entry ∷ after → (k : ℕ) × (shown ≡ number k) × (after ≡ (rest_all H m (k + 1)).items)
+        nothing : (l : List Item) → [] ≡ l ++ Logged shown entry ∷ after → (k : ℕ) × (shown ≡ sequence_number k) × (after ≡ (rest_all H m (k + 1)).items)
         nothing [] e = absurd (cc)
         nothing (x ∷ l) e = absurd (cc)
     by_end false false a b eq = from_held H m (max s m.oldest) shown entry before after sound within (omega arith) (ltb-false _ _ a) eq
     by_end false true a b eq = gone before eq
       where
-        gone : (l : List Item) → Gap (number s) (number m.oldest) ∷ numbered (max s m.oldest) (entries_from H (max s m.oldest) ((m.newest + 1) - max s m.oldest)) ≡ l ++ Logged shown entry ∷ after →
-            (k : ℕ) × (shown ≡ number k) × (after ≡ (rest_all H m (k + 1)).items)
-        gone [] e = absurd (let h : Gap (number s) (number m.oldest) ≡ Logged shown entry = cc in cc)
+        gone : (l : List Item) → Gap (sequence_number s) (sequence_number m.oldest) ∷ numbered (max s m.oldest) (entries_from H (max s m.oldest) ((m.newest + 1) - max s m.oldest)) ≡ l ++ Logged shown entry ∷ after →
+            (k : ℕ) × (shown ≡ sequence_number k) × (after ≡ (rest_all H m (k + 1)).items)
+        gone [] e = absurd (let h : Gap (sequence_number s) (sequence_number m.oldest) ≡ Logged shown entry = cc in cc)
         gone (x ∷ l) e =
             let tail : numbered (max s m.oldest) (entries_from H (max s m.oldest) ((m.newest + 1) - max s m.oldest)) ≡ l ++ Logged shown entry ∷ after = cc in
             from_held H m (max s m.oldest) shown entry l after sound within (omega arith) (ltb-false _ _ a) tail

@@ -7,7 +7,7 @@ use Rattle.bac_walk.specs.declared.outcome.Ended.{Ended}
 use Rattle.bac_walk.specs.declared.outcome.Ended.TheVariants.{CaughtUp, StepLimit, Stopped, Fault}
 use Rattle.bac_walk.specs.declared.outcome.WalkFault.{WalkFault}
 use Rattle.bac_walk.specs.declared.outcome.WalkFault.TheVariants.{Lost, Refused, BadReply}
-use Rattle.bac_log.specs.TrendLog.{number}
+use Rattle.bac_log.specs.TrendLog.{sequence_number}
 use Rattle.bac_link.specs.Delivery.{History, Moment, Holds, now, later, items_of}
 use Rattle.bac_link.specs.Laws.{after_answers}
 use Rattle.bac_link.specs.Moments.{entries_from}
@@ -39,11 +39,11 @@ counted : (H : History) (m : Moment) (r s : ℕ) (by_oldest : Bool) (c : ℕ) (l
     IsBatch H m s (whole_reply r H m by_oldest s) → 0 < reply_count r H m by_oldest s
 counted H m r s by_oldest (suc c) lt is1 is2 batch = omega (arith, is1)
 counted H m r s by_oldest zero true is1 is2 batch =
-    let P : ℕ → Bool → Type 0 = λ n b. IsBatch H m s ((if b then Gap (number s) (number m.oldest) ∷ [] else []) ++ numbered (max s m.oldest) (entries_from H (max s m.oldest) n)) in
+    let P : ℕ → Bool → Type 0 = λ n b. IsBatch H m s ((if b then Gap (sequence_number s) (sequence_number m.oldest) ∷ [] else []) ++ numbered (max s m.oldest) (entries_from H (max s m.oldest) n)) in
     let none = subst (λ n. P n true) is1 (subst (λ b. P (reply_count r H m by_oldest s) b) is2 batch) in
     absurd (omega (arith, none.4))
 counted H m r s by_oldest zero false is1 is2 batch =
-    let P : ℕ → Bool → Type 0 = λ n b. IsBatch H m s ((if b then Gap (number s) (number m.oldest) ∷ [] else []) ++ numbered (max s m.oldest) (entries_from H (max s m.oldest) n)) in
+    let P : ℕ → Bool → Type 0 = λ n b. IsBatch H m s ((if b then Gap (sequence_number s) (sequence_number m.oldest) ∷ [] else []) ++ numbered (max s m.oldest) (entries_from H (max s m.oldest) n)) in
     absurd (subst (λ n. P n false) is1 (subst (λ b. P (reply_count r H m by_oldest s) b) is2 batch))
 
 count_most : (r : ℕ) (H : History) (m : Moment) (by_oldest : Bool) (s : ℕ) →
@@ -193,13 +193,13 @@ ends_of (Fault BadReply) m fresh t answers steps retries old new found on end = 
 -- from an ordinal
 rest_at : (r : ℕ) (H : History) (m : Moment) (s steps : ℕ) (items : List Item) (t shown : ℕ) (why : Ended) (answers : List (List Item)) →
     Covers s items t → items_of answers ≡ items → AreAnswers H (m ∷ []) s answers → IsPaced why (m ∷ []) s answers →
-    AreWhole why r H (m ∷ []) false s answers → Ends why m t answers steps → shown ≡ number t →
+    AreWhole why r H (m ∷ []) false s answers → Ends why m t answers steps → shown ≡ sequence_number t →
     IsRest (rest_from r H m s steps) items shown why
 rest_at r H m s steps items t shown why answers covers all each paced whole ends is =
     let end : end_of s (items_of answers) ≡ t = ap (λ l. end_of s l) all ∙ Covers-end s t items covers in
     let E : ℕ → Type 0 = λ n. Ends why m n answers steps in
     let eq = rests r H m why s steps answers each paced whole (subst E (sym end) ends) in
-    (sym all ∙ ap (λ (x : Rested). x.items) eq, is ∙ ap number (sym end ∙ ap (λ (x : Rested). x.next) eq), ap (λ (x : Rested). x.ended) eq)
+    (sym all ∙ ap (λ (x : Rested). x.items) eq, is ∙ ap sequence_number (sym end ∙ ap (λ (x : Rested). x.next) eq), ap (λ (x : Rested). x.ended) eq)
 
 -- where a walk from the oldest entry begins
 start_none : (next : ℕ) (M : List Moment) (answers : List (List Item)) → batches answers ≡ 0 → start_of true next M answers ≡ next
@@ -227,15 +227,15 @@ rest_some r H m s zero some held = absurd (omega arith)
 rest_some r H m s (suc n) some held = let no : nat_lt m.newest m.oldest ≡ false = le-ltb m.newest m.oldest held in rw no refl
 
 idle_oldest : (r : ℕ) (H : History) (m : Moment) (s steps t shown retries old new : ℕ) (why : Ended) (answers : List (List Item)) → FoundEnd why → why ≢ Stopped →
-    batches answers ≡ 0 → t ≡ s → shown ≡ number t → IsEnded why true t (m ∷ []) answers steps retries old new →
+    batches answers ≡ 0 → t ≡ s → shown ≡ sequence_number t → IsEnded why true t (m ∷ []) answers steps retries old new →
     IsRest (rest_oldest r H m s steps) [] shown why
 idle_oldest r H m s zero t shown retries old new CaughtUp answers found on none same is end = absurd (omega (arith, end.0))
 idle_oldest r H m s (suc n) t shown retries old new CaughtUp answers found on none same is end =
     let P : List Moment → Type 0 = λ N. (now N).newest < (now N).oldest in
     let empty : nat_lt m.newest m.oldest ≡ true = lt-ltb m.newest m.oldest (subst P (after_one end.1.0 m) (end.1.4 refl none)) in
     let Q : Bool → Type 0 = λ b. IsRest (if b then record { items = []; next = s; ended = CaughtUp } else rest_from r H m m.oldest (suc n)) [] shown CaughtUp in
-    subst Q (sym empty) (refl, is ∙ ap number same, refl)
-idle_oldest r H m s zero t shown retries old new StepLimit answers found on none same is end = (refl, is ∙ ap number same, refl)
+    subst Q (sym empty) (refl, is ∙ ap sequence_number same, refl)
+idle_oldest r H m s zero t shown retries old new StepLimit answers found on none same is end = (refl, is ∙ ap sequence_number same, refl)
 idle_oldest r H m s (suc n) t shown retries old new StepLimit answers found on none same is end = absurd (omega (arith, end.0, none))
 idle_oldest r H m s steps t shown retries old new Stopped answers found on none same is end = absurd (on refl)
 idle_oldest r H m s steps t shown retries old new (Fault Lost) answers found on none same is end = absurd found
@@ -243,7 +243,7 @@ idle_oldest r H m s steps t shown retries old new (Fault (Refused refusal)) answ
 idle_oldest r H m s steps t shown retries old new (Fault BadReply) answers found on none same is end = absurd end
 
 oldest_at : (r : ℕ) (H : History) (m : Moment) (s steps retries old new : ℕ) (items : List Item) (t shown : ℕ) (why : Ended) (answers : List (List Item)) (n : ℕ) →
-    batches answers ≡ n → FoundEnd why → why ≢ Stopped → Collected r H (m ∷ []) true s steps retries old new items t why answers → shown ≡ number t →
+    batches answers ≡ n → FoundEnd why → why ≢ Stopped → Collected r H (m ∷ []) true s steps retries old new items t why answers → shown ≡ sequence_number t →
     IsRest (rest_oldest r H m s steps) items shown why
 oldest_at r H m s steps retries old new items t shown why answers zero none found on run is =
     let nothing : items ≡ [] = sym run.all ∙ no_items_of answers none in
@@ -270,7 +270,7 @@ oldest_at r H m s steps retries old new items t shown why answers (suc n) count 
     some_steps (suc k) is some ends = omega (arith, is)
 
 pub rested : (r : ℕ) (H : History) (m : Moment) (fresh : Bool) (s steps retries old new : ℕ) (items : List Item) (t shown : ℕ) (why : Ended) (answers : List (List Item)) →
-    FoundEnd why → why ≢ Stopped → Collected r H (m ∷ []) fresh s steps retries old new items t why answers → shown ≡ number t →
+    FoundEnd why → why ≢ Stopped → Collected r H (m ∷ []) fresh s steps retries old new items t why answers → shown ≡ sequence_number t →
     IsRest (rest r H m fresh s steps) items shown why
 rested r H m false s steps retries old new items t shown why answers found on run is =
     rest_at r H m s steps items t shown why answers run.covers run.all run.each run.paced run.whole (ends_of why m false t answers steps retries old new found on run.end) is
@@ -279,7 +279,7 @@ rested r H m true s steps retries old new items t shown why answers found on run
 
 -- a step
 pub rested_step : (r : ℕ) (H : History) (m : Moment) (fresh : Bool) (s retries old new : ℕ) (t shown : ℕ) (z : Result Step WalkFault) (answers : List (List Item)) →
-    FoundStep z → Collected r H (m ∷ []) fresh s 1 retries old new (step_items z) t (step_ended z) answers → shown ≡ number t →
+    FoundStep z → Collected r H (m ∷ []) fresh s 1 retries old new (step_items z) t (step_ended z) answers → shown ≡ sequence_number t →
     IsRest (rest r H m fresh s 1) (step_items z) shown (step_ended z)
 rested_step r H m fresh s retries old new t shown (Ok (StepOf b)) answers found run is =
     rested r H m fresh s 1 retries old new (items_in b) t shown StepLimit answers tt (λ e. cc) run is

@@ -3,13 +3,13 @@ use Rattle.std.proofs.Common.{◌≡◌, ◌≢◌, ℕ, Bool, true, false, ◌+
 use Rattle.bac_link.specs.declared.item.Item.{Item}
 use Rattle.bac_walk.specs.declared.batch.Gap.{Gap as GapOf}
 use Rattle.bac_walk.specs.declared.batch.Numbered.{Numbered}
-use Rattle.bac_walk.specs.Place.{Place}
+use Rattle.bac_walk.specs.Place.{WalkPlace}
 use Rattle.bac_walk.specs.declared.outcome.Ended.{Ended}
 use Rattle.bac_walk.specs.declared.outcome.Ended.TheVariants.{CaughtUp, StepLimit, Stopped, Fault}
 use Rattle.bac_walk.specs.declared.outcome.Why.{Why}
 use Rattle.bac_walk.specs.declared.outcome.Why.TheVariants.{CaughtUp as WasUp, StepLimit as WasLimit, Fault as WasFault, Memory}
 use Rattle.bac_walk.specs.Outcomes.{IsRunOf, why_of}
-use Rattle.bac_log.specs.TrendLog.{number}
+use Rattle.bac_log.specs.TrendLog.{sequence_number}
 use Rattle.bac_link.specs.Delivery.{History, Moment, items_of, Leads, DeliversTo}
 use Rattle.bac_link.specs.Laws.{after_answers}
 use Rattle.bac_walk.specs.Near.{StaysNear}
@@ -23,13 +23,13 @@ use Rattle.bac_walk.proofs.Cuts.{Covers-end}
 use Rattle.bac_walk.proofs.Headline.{leads}
 use Rattle.bac_walk.proofs.Near.{fewer_steps, next_step}
 
-pub no_run : (was : ℕ → List Moment → History → Type 0) (retries old : ℕ) (w : Place) → IsRun was was retries old old w w 0 StepLimit []
+pub no_run : (was : ℕ → List Moment → History → Type 0) (retries old : ℕ) (w : WalkPlace) → IsRun was was retries old old w w 0 StepLimit []
 no_run was retries old w = (
   (λ s. stays_goes w.fresh w.next s),
   (λ r M H s honest next near. ([], s, next, no_steps r H M w.fresh s retries old, honest, record { none = λ h. refl; some = λ h. absurd (omega arith) })),
 )
 
-pub join_run : (was mid is : ℕ → List Moment → History → Type 0) (retries old half new : ℕ) (before middle after : Place) (i : ℕ) (ended : Ended) (xs ys : List Item) →
+pub join_run : (was mid is : ℕ → List Moment → History → Type 0) (retries old half new : ℕ) (before middle after : WalkPlace) (i : ℕ) (ended : Ended) (xs ys : List Item) →
     IsRun was mid retries old half before middle i StepLimit xs → IsRun mid is retries half new middle after 1 ended ys → old ≤ half →
     IsRun was is retries old new before after (i + 1) ended (xs ++ ys)
 join_run was mid is retries old half new before middle after i ended xs ys first rest up = (
@@ -50,7 +50,7 @@ join_run was mid is retries old half new before middle after i ended xs ys first
       )),
 )
 
-pub run_early : (was is : ℕ → List Moment → History → Type 0) (retries old new : ℕ) (before after : Place) (i n : ℕ) (ended : Ended) (xs : List Item) →
+pub run_early : (was is : ℕ → List Moment → History → Type 0) (retries old new : ℕ) (before after : WalkPlace) (i n : ℕ) (ended : Ended) (xs : List Item) →
     ended ≢ StepLimit → i ≤ n → IsRun was is retries old new before after i ended xs → IsRun was is retries old new before after n ended xs
 run_early was is retries old new before after i n ended xs not_limit le run = (
   run.0,
@@ -79,11 +79,11 @@ gaps-append [] ys = omega arith
 gaps-append (x ∷ xs) ys = omega (arith, gaps-append xs ys)
 
 pub no_delivery : {S : Type 0} (puts : S → Option GapOf → Numbered → Bool → S → Type 0) (sink : S) (was : ℕ → List Moment → History → Type 0)
-    (retries old : ℕ) (w : Place) → Delivery puts sink sink was was retries old old w w 0 StepLimit
+    (retries old : ℕ) (w : WalkPlace) → Delivery puts sink sink was was retries old old w w 0 StepLimit
 no_delivery puts sink was retries old w = ([], (refl, refl), omega arith, omega arith, no_run was retries old w, λ e. omega arith)
 
 pub join_delivers : {S : Type 0} (puts : S → Option GapOf → Numbered → Bool → S → Type 0) (sink held left : S) (was mid is : ℕ → List Moment → History → Type 0)
-    (retries old half new : ℕ) (before middle after : Place) (i : ℕ) (ended : Ended) →
+    (retries old half new : ℕ) (before middle after : WalkPlace) (i : ℕ) (ended : Ended) →
     Delivery puts sink held was mid retries old half before middle i StepLimit → Delivery puts held left mid is retries half new middle after 1 ended → old ≤ half →
     Delivery puts sink left was is retries old new before after (i + 1) ended
 join_delivers puts sink held left was mid is retries old half new before middle after i ended first rest up =
@@ -97,7 +97,7 @@ join_delivers puts sink held left was mid is retries old half new before middle 
     )
 
 pub delivers_early : {S : Type 0} (puts : S → Option GapOf → Numbered → Bool → S → Type 0) (sink left : S) (was is : ℕ → List Moment → History → Type 0)
-    (retries old new : ℕ) (before after : Place) (i n : ℕ) (ended : Ended) → ended ≢ StepLimit → i ≤ n →
+    (retries old new : ℕ) (before after : WalkPlace) (i n : ℕ) (ended : Ended) → ended ≢ StepLimit → i ≤ n →
     Delivery puts sink left was is retries old new before after i ended → Delivery puts sink left was is retries old new before after n ended
 delivers_early puts sink left was is retries old new before after i n ended not_limit le run = (
   run.0,
@@ -158,9 +158,9 @@ collected_delivers r H M fresh s steps retries old new items t ended answers run
     let P : ℕ → Type 0 = λ u. Leads H M b answers u in
     (answers, refl, run.all, subst P end (leads H M b answers run.each))
 
-pub headline_of : (was is : ℕ → List Moment → History → Type 0) (retries old new : ℕ) (before after : Place) (n : ℕ) (ended : Ended) (items : List Item) →
-    IsRun was is retries old new before after n ended items → (r : ℕ) (M : List Moment) (H : History) (s : ℕ) → was r M H → before.next ≡ number s →
-    StaysNear r H M before.fresh s n → (b : ℕ) × (a : ℕ) × (t : ℕ) × (before.fresh ≡ false → b ≡ s) × (after.next ≡ number t) × DeliversTo H b items t M a × is r (after_answers a M) H
+pub headline_of : (was is : ℕ → List Moment → History → Type 0) (retries old new : ℕ) (before after : WalkPlace) (n : ℕ) (ended : Ended) (items : List Item) →
+    IsRun was is retries old new before after n ended items → (r : ℕ) (M : List Moment) (H : History) (s : ℕ) → was r M H → before.next ≡ sequence_number s →
+    StaysNear r H M before.fresh s n → (b : ℕ) × (a : ℕ) × (t : ℕ) × (before.fresh ≡ false → b ≡ s) × (after.next ≡ sequence_number t) × DeliversTo H b items t M a × is r (after_answers a M) H
 headline_of was is retries old new before after n ended items run r M H s honest next near =
     let c = run.1 r M H s honest next near in
     let b = start_of before.fresh s M c.0 in

@@ -3,7 +3,7 @@ use Rattle.std.proofs.Common.{◌≡◌, ℕ, zero, suc, Bool, true, false, ◌+
 use Rattle.std.proofs.lemmas.Bool.{leb-true, leb-false, lt-ltb, le-ltb, le-leb, and_parts}
 use Rattle.std.proofs.lemmas.List.{take-append-drop}
 use Rattle.bac_log.specs.declared.entry.Entry.{Entry}
-use Rattle.bac_log.specs.TrendLog.{number}
+use Rattle.bac_log.specs.TrendLog.{sequence_number}
 use Rattle.bac_link.specs.Delivery.{History, Moment}
 use Rattle.bac_link.specs.Moments.{entries_from}
 use Rattle.bac_walk.specs.Ordinals.{is_number, distance, number_after, is_ahead}
@@ -13,37 +13,37 @@ use Rattle.bac_link.specs.declared.item.Item.TheVariants.{Logged}
 
 -- ---- numbers round the count
 
-pub number-is : (k : ℕ) → is_number (number k) ≡ true
-number-is k = rw (le-leb 1 (number k) (omega arith), le-leb (number k) 4294967295 (omega arith)) refl
+pub number-is : (k : ℕ) → is_number (sequence_number k) ≡ true
+number-is k = rw (le-leb 1 (sequence_number k) (omega arith), le-leb (sequence_number k) 4294967295 (omega arith)) refl
 
-pub distance-number : (s b : ℕ) → s ≤ b → b < s + 4294967295 → distance (number s) (number b) ≡ b - s
+pub distance-number : (s b : ℕ) → s ≤ b → b < s + 4294967295 → distance (sequence_number s) (sequence_number b) ≡ b - s
 distance-number s b le near = omega arith
 
-pub distance-behind : (s b : ℕ) → b < s → s < b + 2147483648 → 2147483648 ≤ distance (number s) (number b)
+pub distance-behind : (s b : ℕ) → b < s → s < b + 2147483648 → 2147483648 ≤ distance (sequence_number s) (sequence_number b)
 distance-behind s b lt near = omega arith
 
 -- whatever the numbers are
-pub number-distance : (next first s : ℕ) → is_number first ≡ true → next ≡ number s → first ≡ number (s + distance next first)
+pub number-distance : (next first s : ℕ) → is_number first ≡ true → next ≡ sequence_number s → first ≡ sequence_number (s + distance next first)
 number-distance next first s is here =
     let both = and_parts (nat_le 1 first) (nat_le first 4294967295) is in
     let low : 1 ≤ first = leb-true 1 first both.0 in
     let high : first ≤ 4294967295 = leb-true first 4294967295 both.1 in
     omega (arith, here, low, high)
 
-pub after-number : (k c : ℕ) → number_after (number k) c ≡ number (k + c)
+pub after-number : (k c : ℕ) → number_after (sequence_number k) c ≡ sequence_number (k + c)
 after-number k c = omega arith
 
-ahead-by : (s f : ℕ) (b : Bool) → nat_le s f ≡ b → s < f + 2147483648 → f < s + 2147483648 → is_ahead (number s) (number f) ≡ b
+ahead-by : (s f : ℕ) (b : Bool) → nat_le s f ≡ b → s < f + 2147483648 → f < s + 2147483648 → is_ahead (sequence_number s) (sequence_number f) ≡ b
 ahead-by s f true is above below = let le : s ≤ f = leb-true s f is in lt-ltb _ _ (omega (arith, distance-number s f le (omega arith)))
 ahead-by s f false is above below = le-ltb _ _ (distance-behind s f (leb-false s f is) above)
 
-pub ahead-number : (s f : ℕ) → s < f + 2147483648 → f < s + 2147483648 → is_ahead (number s) (number f) ≡ nat_le s f
+pub ahead-number : (s f : ℕ) → s < f + 2147483648 → f < s + 2147483648 → is_ahead (sequence_number s) (sequence_number f) ≡ nat_le s f
 ahead-number s f above below = ahead-by s f (nat_le s f) refl above below
 
-pub shown_numbered : (k : ℕ) (es : List Entry) → shown_from (number k) es ≡ numbered k es
+pub shown_numbered : (k : ℕ) (es : List Entry) → shown_from (sequence_number k) es ≡ numbered k es
 shown_numbered k [] = refl
 shown_numbered k (e ∷ es) =
-    ap (λ r. Logged (number k) e ∷ r) (ap (λ n. shown_from n es) (after-number k 1) ∙ shown_numbered (k + 1) es)
+    ap (λ r. Logged (sequence_number k) e ∷ r) (ap (λ n. shown_from n es) (after-number k 1) ∙ shown_numbered (k + 1) es)
 
 -- ---- entries
 

@@ -1,14 +1,14 @@
 -- The answers of one step.
 use Rattle.std.proofs.Common.{◌≡◌, ℕ, Bool, true, false, ◌+◌, ◌<◌, ◌≤◌, ◌⊎◌, inl, inr, if◌then◌else◌, ◌||◌, Result, Ok, Err, List, [], ◌∷◌, length, refl, ap, subst, ◌∙◌, arith, append-nil}
 use Rattle.bac_link.specs.declared.item.Item.{Item}
-use Rattle.bac_walk.specs.Place.{Place}
+use Rattle.bac_walk.specs.Place.{WalkPlace}
 use Rattle.bac_wire.specs.Primitive.{Id}
 use Rattle.bac_walk.specs.declared.outcome.Progress.{Progress}
 use Rattle.bac_walk.specs.declared.outcome.Progress.TheVariants.{Batch as BatchOf, AskOldest, CaughtUp as IsUp}
 use Rattle.bac_walk.specs.declared.outcome.WalkFault.{WalkFault}
 use Rattle.bac_walk.specs.declared.outcome.WalkFault.TheVariants.{Lost, Refused, BadReply}
 use Rattle.bac_walk.specs.declared.outcome.Ended.TheVariants.{CaughtUp, StepLimit, Fault}
-use Rattle.bac_log.specs.TrendLog.{number}
+use Rattle.bac_log.specs.TrendLog.{sequence_number}
 use Rattle.bac_link.specs.Delivery.{History, Moment, now, later}
 use Rattle.bac_link.specs.Laws.{after_answers}
 use Rattle.bac_link.specs.Moments.{AreServed}
@@ -147,75 +147,75 @@ lost_second r H M next retries old mid new none first rises = record {
 }
 
 -- what a step over an honest link ensures
-abbrev pub Stepped : (List Moment → Type 0) → ℕ → History → List Moment → Bool → ℕ → ℕ → ℕ → ℕ → Result Progress WalkFault → Place → Type 0
+abbrev pub Stepped : (List Moment → Type 0) → ℕ → History → List Moment → Bool → ℕ → ℕ → ℕ → ℕ → Result Progress WalkFault → WalkPlace → Type 0
 Stepped stays r H M fresh s retries old new p after =
-    (answers : List (List Item)) × (t : ℕ) × (after.next ≡ number t)
+    (answers : List (List Item)) × (t : ℕ) × (after.next ≡ sequence_number t)
     × Collected r H M fresh s 1 retries old new (step_items (finished p)) t (step_ended (finished p)) answers
     × stays (after_answers (length answers) M)
     × (after.fresh ≡ is_fresh_after fresh (finished p))
 
 -- a step that its first answer ends
-first_core : (stays : List Moment → Type 0) (r : ℕ) (H : History) (M : List Moment) (log : Id) (next s : ℕ) (fresh : Bool) (retries old new : ℕ) (p : Result Progress WalkFault) (after : Place) →
-    next ≡ number s →
+first_core : (stays : List Moment → Type 0) (r : ℕ) (H : History) (M : List Moment) (log : Id) (next s : ℕ) (fresh : Bool) (retries old new : ℕ) (p : Result Progress WalkFault) (after : WalkPlace) →
+    next ≡ sequence_number s →
     IsTurned stays r M H s (record { log = log; next = next; fresh = fresh; asks_oldest = false }) retries old new p after →
     asks_next p ≡ false → Stepped stays r H M fresh s retries old new p after
 first_core stays r H M log next s fresh retries old new (Ok (BatchOf b)) after is turned done = (
   _,
   turned.0.0,
-  ap (λ (v : Place). v.next) turned.0.3,
+  ap (λ (v : WalkPlace). v.next) turned.0.3,
   one_batch r H M fresh s retries old new _ turned.0.0 turned.0.1 turned.0.2 turned.0.4,
   turned.1,
-  ap (λ (v : Place). v.fresh) turned.0.3,
+  ap (λ (v : WalkPlace). v.fresh) turned.0.3,
 )
 first_core stays r H M log next s fresh retries old new (Ok AskOldest) after is turned done = absurd (cc)
 first_core stays r H M log next s true retries old new (Ok IsUp) after is turned done =
     elim turned.0.1 [
-      | inl empty ↦ (_, s, ap (λ (v : Place). v.next) turned.0.2 ∙ is, none_held r H M s retries old new empty, turned.1, ap (λ (v : Place). v.fresh) turned.0.2)
+      | inl empty ↦ (_, s, ap (λ (v : WalkPlace). v.next) turned.0.2 ∙ is, none_held r H M s retries old new empty, turned.1, ap (λ (v : WalkPlace). v.fresh) turned.0.2)
       | inr past ↦ absurd (let e = past.0 in cc)
     ]
 first_core stays r H M log next s false retries old new (Ok IsUp) after is turned done = absurd (let e = turned.0.0 in cc)
 first_core stays r H M log next s fresh retries old new (Err Lost) after is turned done =
-    ([], s, ap (λ (v : Place). v.next) turned.2 ∙ is, lost_first r H M fresh s retries old new turned.0, turned.1, ap (λ (v : Place). v.fresh) turned.2)
+    ([], s, ap (λ (v : WalkPlace). v.next) turned.2 ∙ is, lost_first r H M fresh s retries old new turned.0, turned.1, ap (λ (v : WalkPlace). v.fresh) turned.2)
 first_core stays r H M log next s fresh retries old new (Err (Refused refusal)) after is turned done = absurd turned
 first_core stays r H M log next s fresh retries old new (Err BadReply) after is turned done = absurd turned
 
-pub first_at : (stays : List Moment → Type 0) (r : ℕ) (H : History) (M : List Moment) (s : ℕ) (w v : Place) (retries old new : ℕ) (p : Result Progress WalkFault) (after : Place) →
-    w.next ≡ number s → v ≡ record w { asks_oldest = false } → IsTurned stays r M H s v retries old new p after → asks_next p ≡ false →
+pub first_at : (stays : List Moment → Type 0) (r : ℕ) (H : History) (M : List Moment) (s : ℕ) (w v : WalkPlace) (retries old new : ℕ) (p : Result Progress WalkFault) (after : WalkPlace) →
+    w.next ≡ sequence_number s → v ≡ record w { asks_oldest = false } → IsTurned stays r M H s v retries old new p after → asks_next p ≡ false →
     Stepped stays r H M w.fresh s retries old new p after
 first_at stays r H M s w v retries old new p after next is turned done =
-    let P : Place → Type 0 = λ u. IsTurned stays r M H s u retries old new p after in
+    let P : WalkPlace → Type 0 = λ u. IsTurned stays r M H s u retries old new p after in
     first_core stays r H M w.log w.next s w.fresh retries old new p after next (subst P is turned) done
 
 -- a step of two answers, the first of which brought nothing
-second_core : (stays : List Moment → Type 0) (r : ℕ) (H : History) (M : List Moment) (log : Id) (next s : ℕ) (fresh : Bool) (retries old mid new : ℕ) (p : Result Progress WalkFault) (after : Place) →
-    next ≡ number s → Rises (now M) (now (later M)) → (fresh || false) ≡ false → NoneOfHundred s (now M) → old ≤ mid →
+second_core : (stays : List Moment → Type 0) (r : ℕ) (H : History) (M : List Moment) (log : Id) (next s : ℕ) (fresh : Bool) (retries old mid new : ℕ) (p : Result Progress WalkFault) (after : WalkPlace) →
+    next ≡ sequence_number s → Rises (now M) (now (later M)) → (fresh || false) ≡ false → NoneOfHundred s (now M) → old ≤ mid →
     IsTurned stays r (later M) H s (record { log = log; next = next; fresh = fresh; asks_oldest = true }) retries mid new p after →
     Stepped stays r H M fresh s retries old new p after
 second_core stays r H M log next s true retries old mid new p after is rises old_walk none up turned = absurd (cc)
 second_core stays r H M log next s false retries old mid new (Ok (BatchOf b)) after is rises old_walk none up turned = (
   _,
   turned.0.0,
-  ap (λ (v : Place). v.next) turned.0.3,
+  ap (λ (v : WalkPlace). v.next) turned.0.3,
   idle_batch r H M s retries old new _ turned.0.0 none turned.0.1 turned.0.2 turned.0.4,
   turned.1,
-  ap (λ (v : Place). v.fresh) turned.0.3,
+  ap (λ (v : WalkPlace). v.fresh) turned.0.3,
 )
 second_core stays r H M log next s false retries old mid new (Ok AskOldest) after is rises old_walk none up turned = absurd (let e = turned.0.0 in cc)
 second_core stays r H M log next s false retries old mid new (Ok IsUp) after is rises old_walk none up turned = (
   _,
   s,
-  ap (λ (v : Place). v.next) turned.0.2 ∙ is,
+  ap (λ (v : WalkPlace). v.next) turned.0.2 ∙ is,
   none_left r H M s retries old new none rises (elim turned.0.1 [ inl empty ↦ inl empty | inr past ↦ inr past.1 ]),
   turned.1,
-  ap (λ (v : Place). v.fresh) turned.0.2,
+  ap (λ (v : WalkPlace). v.fresh) turned.0.2,
 )
 second_core stays r H M log next s false retries old mid new (Err Lost) after is rises old_walk none up turned =
-    (_, s, ap (λ (v : Place). v.next) turned.2 ∙ is, lost_second r H M s retries old mid new none up turned.0, turned.1, ap (λ (v : Place). v.fresh) turned.2)
+    (_, s, ap (λ (v : WalkPlace). v.next) turned.2 ∙ is, lost_second r H M s retries old mid new none up turned.0, turned.1, ap (λ (v : WalkPlace). v.fresh) turned.2)
 second_core stays r H M log next s false retries old mid new (Err (Refused refusal)) after is rises old_walk none up turned = absurd turned
 second_core stays r H M log next s false retries old mid new (Err BadReply) after is rises old_walk none up turned = absurd turned
 
 -- asked on, the first answer having brought nothing
-asked_on : (stays : List Moment → Type 0) (r : ℕ) (H : History) (M : List Moment) (s : ℕ) (w : Place) (retries old new : ℕ) (p : Result Progress WalkFault) (after : Place) →
+asked_on : (stays : List Moment → Type 0) (r : ℕ) (H : History) (M : List Moment) (s : ℕ) (w : WalkPlace) (retries old new : ℕ) (p : Result Progress WalkFault) (after : WalkPlace) →
     IsTurned stays r M H s w retries old new p after → asks_next p ≡ true →
     (asks_oldest_now w ≡ false) × NoneOfHundred s (now M) × (after ≡ record w { asks_oldest = true }) × stays (later M)
 asked_on stays r H M s w retries old new (Ok AskOldest) after turned asks = (turned.0.0, turned.0.1, turned.0.2, turned.1)
@@ -224,17 +224,17 @@ asked_on stays r H M s w retries old new (Ok (BatchOf b)) after turned asks = ab
 asked_on stays r H M s w retries old new (Err e) after turned asks = absurd (cc)
 
 -- the first answer of a step of two
-pub asked : (stays : List Moment → Type 0) (r : ℕ) (H : History) (M : List Moment) (s : ℕ) (w v : Place) (retries old new : ℕ) (p : Result Progress WalkFault) (after : Place) →
+pub asked : (stays : List Moment → Type 0) (r : ℕ) (H : History) (M : List Moment) (s : ℕ) (w v : WalkPlace) (retries old new : ℕ) (p : Result Progress WalkFault) (after : WalkPlace) →
     v ≡ record w { asks_oldest = false } → IsTurned stays r M H s v retries old new p after → asks_next p ≡ true →
     ((w.fresh || false) ≡ false) × NoneOfHundred s (now M) × (after ≡ record w { asks_oldest = true }) × stays (later M)
 asked stays r H M s w v retries old new p after is turned asks =
-    let P : Place → Type 0 = λ u. IsTurned stays r M H s u retries old new p after in
+    let P : WalkPlace → Type 0 = λ u. IsTurned stays r M H s u retries old new p after in
     asked_on stays r H M s (record w { asks_oldest = false }) retries old new p after (subst P is turned) asks
 
-pub second_at : (stays : List Moment → Type 0) (r : ℕ) (H : History) (M : List Moment) (s : ℕ) (w v : Place) (retries old mid new : ℕ) (p : Result Progress WalkFault) (after : Place) →
-    w.next ≡ number s → AreServed r M H → (w.fresh || false) ≡ false → NoneOfHundred s (now M) → old ≤ mid →
+pub second_at : (stays : List Moment → Type 0) (r : ℕ) (H : History) (M : List Moment) (s : ℕ) (w v : WalkPlace) (retries old mid new : ℕ) (p : Result Progress WalkFault) (after : WalkPlace) →
+    w.next ≡ sequence_number s → AreServed r M H → (w.fresh || false) ≡ false → NoneOfHundred s (now M) → old ≤ mid →
     v ≡ record w { asks_oldest = true } → IsTurned stays r (later M) H s v retries mid new p after →
     Stepped stays r H M w.fresh s retries old new p after
 second_at stays r H M s w v retries old mid new p after next served old_walk none up is turned =
-    let P : Place → Type 0 = λ u. IsTurned stays r (later M) H s u retries mid new p after in
+    let P : WalkPlace → Type 0 = λ u. IsTurned stays r (later M) H s u retries mid new p after in
     second_core stays r H M w.log w.next s w.fresh retries old mid new p after next (Rises-later r M H served) old_walk none up (subst P is turned)

@@ -24,45 +24,45 @@ use Rattle.bac_walk.specs.declared.reply.Turned.{Turned}
 use Rattle.bac_walk.specs.declared.reply.Turned.TheVariants as turned
 use Rattle.bac_walk.specs.Collects.{asks_next, finished, step_ended}
 use Rattle.bac_walk.specs.Handing.{HandedOn, ended_after}
-use Rattle.bac_walk.specs.Heard.{Heard}
+use Rattle.bac_walk.specs.Heard.{AckParameters}
 use Rattle.bac_walk.specs.Outcomes.{why_of}
-use Rattle.bac_walk.specs.Place.{Place}
+use Rattle.bac_walk.specs.Place.{WalkPlace}
 use Rattle.bac_walk.specs.Replied.{heard_in, progress_of}
 use Rattle.bac_walk.specs.Told.{HasAsked, IsFault, ToldFault, ToldUp, ToldTurn, Told, ended_of}
-use Rattle.bac_walk.specs.Walks.{asks_oldest_now, is_past, fits, question_of, verdict, Verdict, Refuse, Ask, End, Bring, IsTaken, IsTakenFrom}
+use Rattle.bac_walk.specs.Walks.{asks_oldest_now, is_past, fits, question_of, verdict, NextAct, Refuse, Ask, End, Bring, IsTaken, IsTakenFrom}
 
 abbrev pub Asking : Type 0 → Type 1
 Asking S = S → List ℕ → Result (List ℕ) Loss → S → Type 0
 
 -- ---- where a walk is after an answer
 
-stays_by : (w : Place) (es : List Entry) (v : Verdict) (after : Place) → IsTaken w es v (Ok IsUp) after → after ≡ w
+stays_by : (w : WalkPlace) (es : List Entry) (v : NextAct) (after : WalkPlace) → IsTaken w es v (Ok IsUp) after → after ≡ w
 stays_by w es Refuse after taken = absurd taken
 stays_by w es Ask after taken = absurd taken
 stays_by w es End after taken = taken
 stays_by w es (Bring f) after taken = absurd taken
 
-up_here : (w : Place) (heard : Option Heard) (after : Place) → IsTakenFrom w heard (Ok IsUp) after → after ≡ w
+up_here : (w : WalkPlace) (heard : Option AckParameters) (after : WalkPlace) → IsTakenFrom w heard (Ok IsUp) after → after ≡ w
 up_here w None after taken = absurd taken
 up_here w (Some h) after taken = stays_by w h.entries (verdict w h.first h.count h.entries) after taken
 
-refused_by : (w : Place) (es : List Entry) (v : Verdict) (bad : NotTaken) (after : Place) → IsTaken w es v (Err bad) after → after ≡ w
+refused_by : (w : WalkPlace) (es : List Entry) (v : NextAct) (bad : NotTaken) (after : WalkPlace) → IsTaken w es v (Err bad) after → after ≡ w
 refused_by w es Refuse bad after taken = taken
 refused_by w es Ask bad after taken = absurd taken
 refused_by w es End bad after taken = absurd taken
 refused_by w es (Bring f) bad after taken = absurd taken
 
-refused_here : (w : Place) (heard : Option Heard) (bad : NotTaken) (after : Place) → IsTakenFrom w heard (Err bad) after → after ≡ w
+refused_here : (w : WalkPlace) (heard : Option AckParameters) (bad : NotTaken) (after : WalkPlace) → IsTakenFrom w heard (Err bad) after → after ≡ w
 refused_here w None bad after taken = taken
 refused_here w (Some h) bad after taken = refused_by w h.entries (verdict w h.first h.count h.entries) bad after taken
 
-asks_by : (w : Place) (first : Option ℕ) (count : ℕ) (es : List Entry) (after : Place) → IsTaken w es (verdict w first count es) (Ok AskOldest) after →
+asks_by : (w : WalkPlace) (first : Option ℕ) (count : ℕ) (es : List Entry) (after : WalkPlace) → IsTaken w es (verdict w first count es) (Ok AskOldest) after →
     (asks_oldest_now w ≡ false) × (after.asks_oldest ≡ true)
 asks_by w first count [] after taken = none (asks_oldest_now w) refl taken
   where
     none : (b : Bool) → asks_oldest_now w ≡ b → IsTaken w [] (if b then End else Ask) (Ok AskOldest) after → (asks_oldest_now w ≡ false) × (after.asks_oldest ≡ true)
     none true is h = absurd h
-    none false is h = (is, ap (λ (p : Place). p.asks_oldest) h)
+    none false is h = (is, ap (λ (p : WalkPlace). p.asks_oldest) h)
 asks_by w None count (e ∷ es) after taken = absurd taken
 asks_by w (Some f) count (e ∷ es) after taken = some (is_past w f) ((count == length (e ∷ es)) && fits w f (length (e ∷ es))) taken
   where
@@ -71,54 +71,54 @@ asks_by w (Some f) count (e ∷ es) after taken = some (is_past w f) ((count == 
     some false true h = absurd h
     some false false h = absurd h
 
-asks_here : (w : Place) (heard : Option Heard) (after : Place) → IsTakenFrom w heard (Ok AskOldest) after → (asks_oldest_now w ≡ false) × (after.asks_oldest ≡ true)
+asks_here : (w : WalkPlace) (heard : Option AckParameters) (after : WalkPlace) → IsTakenFrom w heard (Ok AskOldest) after → (asks_oldest_now w ≡ false) × (after.asks_oldest ≡ true)
 asks_here w None after taken = absurd taken
 asks_here w (Some h) after taken = asks_by w h.first h.count h.entries after taken
 
 -- ---- a turn
 
-pub has_asked : {S : Type 0} (asks : Asking S) (path : Path) (retries : ℕ) (w : Place) (invoke : ℕ) (r : Request) (link : S) (result : Result (List ℕ) ExchangeFault) (new : S) →
+pub has_asked : {S : Type 0} (asks : Asking S) (path : Path) (retries : ℕ) (w : WalkPlace) (invoke : ℕ) (r : Request) (link : S) (result : Result (List ℕ) ExchangeFault) (new : S) →
     r ≡ question w.log (question_of w) → Exchanges asks path invoke r retries link result new → HasAsked asks path retries w result new
 has_asked asks path retries w invoke r link result new is exchanged =
     let P : Request → Type 0 = λ x. Exchanges asks path invoke x retries link result new in (link, invoke, subst P is exchanged)
 
-pub told_turned : {S : Type 0} (asks : Asking S) (path : Path) (retries : ℕ) (w : Place) (datagram : List ℕ) (t : Turned) (after : Place) (new : S) →
+pub told_turned : {S : Type 0} (asks : Asking S) (path : Path) (retries : ℕ) (w : WalkPlace) (datagram : List ℕ) (t : Turned) (after : WalkPlace) (new : S) →
     HasAsked asks path retries w (Ok datagram) new → IsTakenFrom w (heard_in w.log datagram) (progress_of (Ok t)) after →
     ToldTurn asks path retries w (progress_of (Ok t)) after new
 told_turned asks path retries w datagram (turned.Reply b) after new asked taken = tt
 told_turned asks path retries w datagram turned.AskOldest after new asked taken = asks_here w (heard_in w.log datagram) after taken
 told_turned asks path retries w datagram turned.CaughtUp after new asked taken =
     let same = up_here w (heard_in w.log datagram) after taken in
-    let P : Place → Type 0 = λ p. IsTakenFrom w (heard_in w.log datagram) (Ok IsUp) p in
-    let Q : Place → Type 0 = λ p. ToldUp asks path retries p new in
+    let P : WalkPlace → Type 0 = λ p. IsTakenFrom w (heard_in w.log datagram) (Ok IsUp) p in
+    let Q : WalkPlace → Type 0 = λ p. ToldUp asks path retries p new in
     subst Q (sym same) (datagram, asked, subst P same taken)
 
-pub told_bad : {S : Type 0} (asks : Asking S) (path : Path) (retries : ℕ) (w : Place) (datagram : List ℕ) (bad : NotTaken) (after : Place) (new : S) →
+pub told_bad : {S : Type 0} (asks : Asking S) (path : Path) (retries : ℕ) (w : WalkPlace) (datagram : List ℕ) (bad : NotTaken) (after : WalkPlace) (new : S) →
     HasAsked asks path retries w (Ok datagram) new → IsTakenFrom w (heard_in w.log datagram) (Err bad) after →
     ToldFault asks path retries BadReply after new
 told_bad asks path retries w datagram bad after new asked taken =
     let same = refused_here w (heard_in w.log datagram) bad after taken in
-    let P : Place → Type 0 = λ p. IsTakenFrom w (heard_in w.log datagram) (Err bad) p in
-    let Q : Place → Type 0 = λ p. ToldFault asks path retries BadReply p new in
+    let P : WalkPlace → Type 0 = λ p. IsTakenFrom w (heard_in w.log datagram) (Err bad) p in
+    let Q : WalkPlace → Type 0 = λ p. ToldFault asks path retries BadReply p new in
     subst Q (sym same) (Ok datagram, asked, inr (datagram, bad, refl, subst P same taken))
 
 -- ---- a step
 
-last_turn : {S : Type 0} (asks : Asking S) (path : Path) (retries : ℕ) (before : Place) (p : Result Progress WalkFault) (after : Place) (new : S) →
+last_turn : {S : Type 0} (asks : Asking S) (path : Path) (retries : ℕ) (before : WalkPlace) (p : Result Progress WalkFault) (after : WalkPlace) (new : S) →
     (p ≡ Ok AskOldest → ⊥) → ToldTurn asks path retries before p after new → Told asks path retries (step_ended (finished p)) after new
 last_turn asks path retries before (Ok (BatchOf b)) after new other told = tt
 last_turn asks path retries before (Ok AskOldest) after new other told = absurd (other refl)
 last_turn asks path retries before (Ok IsUp) after new other told = told
 last_turn asks path retries before (Err e) after new other told = told
 
-told_step : {S : Type 0} (asks : Asking S) (path : Path) (retries : ℕ) (before : Place) (p : Result Progress WalkFault) (z : Result Step WalkFault) (after : Place) (new : S) →
+told_step : {S : Type 0} (asks : Asking S) (path : Path) (retries : ℕ) (before : WalkPlace) (p : Result Progress WalkFault) (z : Result Step WalkFault) (after : WalkPlace) (new : S) →
     z ≡ finished p → (p ≡ Ok AskOldest → ⊥) → ToldTurn asks path retries before p after new → Told asks path retries (step_ended z) after new
 told_step asks path retries before p z after new is other told =
     let P : Result Step WalkFault → Type 0 = λ x. Told asks path retries (step_ended x) after new in
     subst P (sym is) (last_turn asks path retries before p after new other told)
 
 -- the only turn of a step, which asks nothing more
-pub told_first : {S : Type 0} (asks : Asking S) (path : Path) (retries : ℕ) (before : Place) (p : Result Progress WalkFault) (z : Result Step WalkFault) (after : Place) (new : S) →
+pub told_first : {S : Type 0} (asks : Asking S) (path : Path) (retries : ℕ) (before : WalkPlace) (p : Result Progress WalkFault) (z : Result Step WalkFault) (after : WalkPlace) (new : S) →
     z ≡ finished p → asks_next p ≡ false → ToldTurn asks path retries before p after new → Told asks path retries (step_ended z) after new
 told_first asks path retries before p z after new is over told =
     told_step asks path retries before p z after new is (λ asked. absurd (never p asked over)) told
@@ -130,7 +130,7 @@ told_first asks path retries before p z after new is over told =
     never (Err e) asked over = absurd (cc)
 
 -- the second, which asks for the oldest records, after the first
-pub told_second : {S : Type 0} (asks : Asking S) (path : Path) (retries : ℕ) (before : Place) (q : Result Progress WalkFault) (mid : Place) (half : S) (p : Result Progress WalkFault) (z : Result Step WalkFault) (after : Place) (new : S) →
+pub told_second : {S : Type 0} (asks : Asking S) (path : Path) (retries : ℕ) (before : WalkPlace) (q : Result Progress WalkFault) (mid : WalkPlace) (half : S) (p : Result Progress WalkFault) (z : Result Step WalkFault) (after : WalkPlace) (new : S) →
     z ≡ finished p → asks_next q ≡ true → ToldTurn asks path retries before q mid half → ToldTurn asks path retries mid p after new →
     Told asks path retries (step_ended z) after new
 told_second asks path retries before q mid half p z after new is more first told =
@@ -150,16 +150,16 @@ told_second asks path retries before q mid half p z after new is more first told
     oldest (Ok AskOldest) more first (Err e) asked told = absurd (cc)
     oldest (Ok AskOldest) more first (Ok AskOldest) asked told = either mid.fresh mid.asks_oldest told.0 first.1
 
-pub told_handed : {S T : Type 0} (asks : Asking S) (path : Path) (retries : ℕ) (new : S) (puts : T → Option GapOf → Numbered → Bool → T → Type 0) (sink : T) (mid : Place)
-    (z : Result Step WalkFault) (ended : Ended) (after : Place) (left : T) → HandedOn puts sink mid z ended after left →
+pub told_handed : {S T : Type 0} (asks : Asking S) (path : Path) (retries : ℕ) (new : S) (puts : T → Option GapOf → Numbered → Bool → T → Type 0) (sink : T) (mid : WalkPlace)
+    (z : Result Step WalkFault) (ended : Ended) (after : WalkPlace) (left : T) → HandedOn puts sink mid z ended after left →
     Told asks path retries (step_ended z) mid new → Told asks path retries ended after new
 told_handed asks path retries new puts sink mid (Err e) ended after left put told =
     let P : Ended → Type 0 = λ x. Told asks path retries x after new in
-    let Q : Place → Type 0 = λ p. ToldFault asks path retries e p new in
+    let Q : WalkPlace → Type 0 = λ p. ToldFault asks path retries e p new in
     subst P (sym put.2) (subst Q (sym put.1) told)
 told_handed asks path retries new puts sink mid (Ok NoStep) ended after left put told =
     let P : Ended → Type 0 = λ x. Told asks path retries x after new in
-    let Q : Place → Type 0 = λ p. ToldUp asks path retries p new in
+    let Q : WalkPlace → Type 0 = λ p. ToldUp asks path retries p new in
     subst P (sym put.2) (subst Q (sym put.1) told)
 told_handed asks path retries new puts sink mid (Ok (StepOf b)) ended after left put told =
     let P : Ended → Type 0 = λ x. Told asks path retries x after new in subst P (sym put.3) (nothing put.0)
@@ -170,7 +170,7 @@ told_handed asks path retries new puts sink mid (Ok (StepOf b)) ended after left
 
 -- ---- a run
 
-pub told_why : {S : Type 0} (asks : Asking S) (path : Path) (retries : ℕ) (ended : Ended) (why : Why) (w : Place) (new : S) → why_of ended ≡ Some why →
+pub told_why : {S : Type 0} (asks : Asking S) (path : Path) (retries : ℕ) (ended : Ended) (why : Why) (w : WalkPlace) (new : S) → why_of ended ≡ Some why →
     Told asks path retries ended w new → Told asks path retries (ended_of why) w new
 told_why asks path retries CaughtUp WasUp w new is told = told
 told_why asks path retries CaughtUp WasLimit w new is told = tt
@@ -191,14 +191,14 @@ told_why asks path retries (Fault d) (WasFault e) w new is told =
 told_why asks path retries (Fault d) Memory w new is told = tt
 
 -- the same with as many retries and by the same networks
-pub told_same : {S : Type 0} (asks : Asking S) (path way : Path) (retries tries : ℕ) (ended : Ended) (w : Place) (new : S) → way ≡ path → tries ≡ retries →
+pub told_same : {S : Type 0} (asks : Asking S) (path way : Path) (retries tries : ℕ) (ended : Ended) (w : WalkPlace) (new : S) → way ≡ path → tries ≡ retries →
     Told asks way tries ended w new → Told asks path retries ended w new
 told_same asks path way retries tries ended w new same_path same_retries told =
     let P : Path → Type 0 = λ p. Told asks p tries ended w new in
     let Q : ℕ → Type 0 = λ n. Told asks path n ended w new in
     subst Q same_retries (subst P same_path told)
 
-pub turn_same : {S : Type 0} (asks : Asking S) (path way : Path) (retries tries : ℕ) (before : Place) (p : Result Progress WalkFault) (w : Place) (new : S) → way ≡ path → tries ≡ retries →
+pub turn_same : {S : Type 0} (asks : Asking S) (path way : Path) (retries tries : ℕ) (before : WalkPlace) (p : Result Progress WalkFault) (w : WalkPlace) (new : S) → way ≡ path → tries ≡ retries →
     ToldTurn asks way tries before p w new → ToldTurn asks path retries before p w new
 turn_same asks path way retries tries before p w new same_path same_retries told =
     let P : Path → Type 0 = λ q. ToldTurn asks q tries before p w new in

@@ -3,18 +3,18 @@ use Rattle.std.proofs.Common.{◌≡◌, ℕ, zero, suc, max, Bool, true, false,
 use Rattle.std.proofs.lemmas.Bool.{ltb-true, ltb-false, leb-true, leb-false, lt-ltb, le-ltb, le-leb}
 use Rattle.bac_link.specs.declared.item.Item.{Item}
 use Rattle.bac_link.specs.declared.item.Item.TheVariants.{Gap}
-use Rattle.bac_walk.specs.Place.{Place}
+use Rattle.bac_walk.specs.Place.{WalkPlace}
 use Rattle.bac_walk.specs.declared.outcome.BadReply.{BadReply}
 use Rattle.bac_walk.specs.declared.outcome.Progress.{Progress}
 use Rattle.bac_walk.specs.declared.outcome.Progress.TheVariants.{Batch as BatchOf, AskOldest, CaughtUp}
 use Rattle.bac_log.specs.declared.entry.Entry.{Entry}
-use Rattle.bac_log.specs.TrendLog.{number}
+use Rattle.bac_log.specs.TrendLog.{sequence_number}
 use Rattle.bac_link.specs.Delivery.{History, Moment, now}
 use Rattle.bac_link.specs.Moments.{AreServed, entries_from}
 use Rattle.bac_walk.specs.Replies.{Wanted, FromOrdinal, FromOldest, how_many, asked_count, fitting}
 use Rattle.bac_walk.specs.Replies.{IsAnswer}
-use Rattle.bac_walk.specs.Heard.{Heard}
-use Rattle.bac_walk.specs.Walks.{shown_from, gap_of, asks_oldest_now, wanted_at, is_past, fits, items_in, Verdict, Bring, End, Ask, verdict, IsTaken, IsTakenFrom, numbered}
+use Rattle.bac_walk.specs.Heard.{AckParameters}
+use Rattle.bac_walk.specs.Walks.{shown_from, gap_of, asks_oldest_now, wanted_at, is_past, fits, items_in, NextAct, Bring, End, Ask, verdict, IsTaken, IsTakenFrom, numbered}
 use Rattle.bac_walk.specs.Near.{IsNear}
 use Rattle.bac_walk.specs.Takes.{Says}
 use Rattle.bac_walk.specs.Turns.{Covers, AreRecords, IsBatch, NoneOfHundred, base, reply_count, whole_reply, IsTurn}
@@ -31,14 +31,14 @@ records_batch H m f (e ∷ es) some are = are
 
 pub gapped : (H : History) (m : Moment) (s : ℕ) (es : List Entry) (lt : Bool) → nat_lt s m.oldest ≡ lt → m.oldest < s + 4294967295 →
     0 < length es → AreRecords H m (max s m.oldest) (numbered (max s m.oldest) es) →
-    IsBatch H m s ((if lt then Gap (number s) (number m.oldest) ∷ [] else []) ++ numbered (max s m.oldest) es)
-    × Covers s ((if lt then Gap (number s) (number m.oldest) ∷ [] else []) ++ numbered (max s m.oldest) es) (max s m.oldest + length es)
+    IsBatch H m s ((if lt then Gap (sequence_number s) (sequence_number m.oldest) ∷ [] else []) ++ numbered (max s m.oldest) es)
+    × Covers s ((if lt then Gap (sequence_number s) (sequence_number m.oldest) ∷ [] else []) ++ numbered (max s m.oldest) es) (max s m.oldest + length es)
 gapped H m s es true is near some are =
     let lt : s < m.oldest = ltb-true s m.oldest is in
     let top : max s m.oldest ≡ m.oldest = omega arith in
-    let long : distance (number s) (number m.oldest) ≡ m.oldest - s = distance-number s m.oldest (omega arith) near in
-    let end : s + distance (number s) (number m.oldest) ≡ m.oldest = omega (arith, long) in
-    let some_gone : 0 < distance (number s) (number m.oldest) = omega (arith, long) in
+    let long : distance (sequence_number s) (sequence_number m.oldest) ≡ m.oldest - s = distance-number s m.oldest (omega arith) near in
+    let end : s + distance (sequence_number s) (sequence_number m.oldest) ≡ m.oldest = omega (arith, long) in
+    let some_gone : 0 < distance (sequence_number s) (sequence_number m.oldest) = omega (arith, long) in
     let P : ℕ → Type 0 = λ n. AreRecords H m n (numbered (max s m.oldest) es) in
     let Q : ℕ → Type 0 = λ n. Covers n (numbered (max s m.oldest) es) (max s m.oldest + length es) in (
       (refl, refl, some_gone, end, omega (arith, length-numbered (max s m.oldest) es), subst P top are),
@@ -51,44 +51,44 @@ gapped H m s es false is near some are =
     subst P same (records_batch H m (max s m.oldest) es some are, Covers-numbered (max s m.oldest) es)
 
 -- the gap that a walk reports
-gap_same : (w : Place) (s : ℕ) (m : Moment) (lt : Bool) → nat_lt s m.oldest ≡ lt → m.oldest < s + 4294967295 → w.next ≡ number s → w.fresh ≡ false →
-    gap_of w (number (max s m.oldest)) ≡ (if lt then Gap (number s) (number m.oldest) ∷ [] else [])
+gap_same : (w : WalkPlace) (s : ℕ) (m : Moment) (lt : Bool) → nat_lt s m.oldest ≡ lt → m.oldest < s + 4294967295 → w.next ≡ sequence_number s → w.fresh ≡ false →
+    gap_of w (sequence_number (max s m.oldest)) ≡ (if lt then Gap (sequence_number s) (sequence_number m.oldest) ∷ [] else [])
 gap_same w s m true is near next old =
     let lt : s < m.oldest = ltb-true s m.oldest is in
     let top : max s m.oldest ≡ m.oldest = omega arith in
-    let some : nat_lt 0 (distance (number s) (number m.oldest)) ≡ true = lt-ltb _ _ (omega (arith, distance-number s m.oldest (omega arith) near)) in
+    let some : nat_lt 0 (distance (sequence_number s) (sequence_number m.oldest)) ≡ true = lt-ltb _ _ (omega (arith, distance-number s m.oldest (omega arith) near)) in
     rw (old, next, top, some) refl
 gap_same w s m false is near next old =
     let ge : m.oldest ≤ s = ltb-false s m.oldest is in
     let same : max s m.oldest ≡ s = omega arith in
-    let none : distance (number s) (number s) ≡ 0 = omega (arith, distance-number s s (omega arith) (omega arith)) in
+    let none : distance (sequence_number s) (sequence_number s) ≡ 0 = omega (arith, distance-number s s (omega arith) (omega arith)) in
     rw (old, next, same, none) refl
 
 -- a turn that has an answer
-abbrev pub TurnOf : ℕ → History → Moment → ℕ → Place → Result Progress BadReply → Place → Type 0
+abbrev pub TurnOf : ℕ → History → Moment → ℕ → WalkPlace → Result Progress BadReply → WalkPlace → Type 0
 TurnOf r H m s w (Ok p) after = IsTurn r H m s w p after
 TurnOf r H m s w (Err e) after = ⊥
 
 -- a batch that is taken
-bring : (r : ℕ) (H : History) (m : Moment) (s u : ℕ) (w : Place) (es : List Entry) (p : Result Progress BadReply) (after : Place) →
-    base w s m ≡ u → m.oldest < u + 4294967295 → IsTaken w es (Bring (number (max u m.oldest))) p after →
+bring : (r : ℕ) (H : History) (m : Moment) (s u : ℕ) (w : WalkPlace) (es : List Entry) (p : Result Progress BadReply) (after : WalkPlace) →
+    base w s m ≡ u → m.oldest < u + 4294967295 → IsTaken w es (Bring (sequence_number (max u m.oldest))) p after →
     0 < length es → AreRecords H m (max u m.oldest) (numbered (max u m.oldest) es) →
-    gap_of w (number (max u m.oldest)) ≡ (if nat_lt u m.oldest then Gap (number u) (number m.oldest) ∷ [] else []) →
+    gap_of w (sequence_number (max u m.oldest)) ≡ (if nat_lt u m.oldest then Gap (sequence_number u) (sequence_number m.oldest) ∷ [] else []) →
     es ≡ entries_from H (max u m.oldest) (reply_count r H m w.asks_oldest u) → TurnOf r H m s w p after
 bring r H m s u w es (Err e) after from near taken some are gap is = absurd taken
 bring r H m s u w es (Ok AskOldest) after from near taken some are gap is = absurd taken
 bring r H m s u w es (Ok CaughtUp) after from near taken some are gap is = absurd taken
 bring r H m s u w es (Ok (BatchOf b)) after from near taken some are gap is =
     let f = max u m.oldest in
-    let G : List Item = (if nat_lt u m.oldest then Gap (number u) (number m.oldest) ∷ [] else []) in
+    let G : List Item = (if nat_lt u m.oldest then Gap (sequence_number u) (sequence_number m.oldest) ∷ [] else []) in
     let items : items_in b ≡ G ++ numbered f es =
-    taken.0 ∙ ap (λ g. g ++ shown_from (number f) es) gap ∙ ap (λ x. G ++ x) (shown_numbered f es) in
+    taken.0 ∙ ap (λ g. g ++ shown_from (sequence_number f) es) gap ∙ ap (λ x. G ++ x) (shown_numbered f es) in
     let both = gapped H m u es (nat_lt u m.oldest) refl near some are in
     let P : List Item → Type 0 = λ xs. IsBatch H m u xs in
     let Q : List Item → Type 0 = λ xs. Covers u xs (f + length es) in
-    let next : number_after (number f) (length es) ≡ number (f + length es) = after-number f (length es) in
+    let next : number_after (sequence_number f) (length es) ≡ sequence_number (f + length es) = after-number f (length es) in
     let B : ℕ → Type 0 = λ n. (t : ℕ) × IsBatch H m n (items_in b) × Covers n (items_in b) t
-    × (after ≡ record { log = w.log; next = number t; fresh = false; asks_oldest = false })
+    × (after ≡ record { log = w.log; next = sequence_number t; fresh = false; asks_oldest = false })
     × (items_in b ≡ whole_reply r H m w.asks_oldest n) in
     subst B (sym from) (
       f + length es,
@@ -98,14 +98,14 @@ bring r H m s u w es (Ok (BatchOf b)) after from near taken some are gap is =
       items ∙ ap (λ x. G ++ numbered f x) is,
     )
 
-ask : (r : ℕ) (H : History) (m : Moment) (s : ℕ) (w : Place) (es : List Entry) (p : Result Progress BadReply) (after : Place) →
+ask : (r : ℕ) (H : History) (m : Moment) (s : ℕ) (w : WalkPlace) (es : List Entry) (p : Result Progress BadReply) (after : WalkPlace) →
     IsTaken w es Ask p after → asks_oldest_now w ≡ false → NoneOfHundred s m → TurnOf r H m s w p after
 ask r H m s w es (Err e) after taken by none = absurd taken
 ask r H m s w es (Ok (BatchOf b)) after taken by none = absurd taken
 ask r H m s w es (Ok CaughtUp) after taken by none = absurd taken
 ask r H m s w es (Ok AskOldest) after taken by none = (by, none, taken)
 
-end : (r : ℕ) (H : History) (m : Moment) (s : ℕ) (w : Place) (es : List Entry) (p : Result Progress BadReply) (after : Place) →
+end : (r : ℕ) (H : History) (m : Moment) (s : ℕ) (w : WalkPlace) (es : List Entry) (p : Result Progress BadReply) (after : WalkPlace) →
     IsTaken w es End p after → asks_oldest_now w ≡ true →
     (m.newest < m.oldest) ⊎ ((w.fresh ≡ false) × (m.oldest < s)) → TurnOf r H m s w p after
 end r H m s w es (Err e) after taken by none = absurd taken
@@ -165,10 +165,10 @@ or_left true b h = h
 or_left false b h = refl
 
 -- the batch of an answer to a question by number
-by_number : (H : History) (m : Moment) (r s : ℕ) (w : Place) (first : Option ℕ) (count : ℕ) (es : List Entry) (p : Result Progress BadReply) (after : Place) →
-    Sound H m → m.newest ≤ H.logged + length H.entries → (0 < asked_count (FromOrdinal s) m → 0 < reply_count r H m false s) → reply_count r H m false s ≤ asked_count (FromOrdinal s) m → asks_oldest_now w ≡ false → w.next ≡ number s → IsNear s m → count ≡ length es →
+by_number : (H : History) (m : Moment) (r s : ℕ) (w : WalkPlace) (first : Option ℕ) (count : ℕ) (es : List Entry) (p : Result Progress BadReply) (after : WalkPlace) →
+    Sound H m → m.newest ≤ H.logged + length H.entries → (0 < asked_count (FromOrdinal s) m → 0 < reply_count r H m false s) → reply_count r H m false s ≤ asked_count (FromOrdinal s) m → asks_oldest_now w ≡ false → w.next ≡ sequence_number s → IsNear s m → count ≡ length es →
     es ≡ entries_from H (max s m.oldest) (reply_count r H m false s) →
-    (0 < reply_count r H m false s → first ≡ Some (number (max s m.oldest))) →
+    (0 < reply_count r H m false s → first ≡ Some (sequence_number (max s m.oldest))) →
     IsTaken w es (verdict w first count es) p after → TurnOf r H m s w p after
 by_number H m r s w first count [] p after sound within room few by next near counted is some taken =
     let n : 0 ≡ reply_count r H m false s =
@@ -181,15 +181,15 @@ by_number H m r s w first count (e ∷ es) p after sound within room few by next
     let same : length (entries_from H f (reply_count r H m false s)) ≡ reply_count r H m false s =
     entries_count H m f (reply_count r H m false s) sound within (omega arith) (λ h. omega (arith, few)) in
     let n : length (e ∷ es) ≡ reply_count r H m false s = ap length is ∙ same in
-    let here : first ≡ Some (number f) = some (omega (arith, n)) in
-    let past : is_past w (number f) ≡ false = rw by refl in
-    let high : nat_le (distance (number s) (number f) + length (e ∷ es)) 100 ≡ true =
+    let here : first ≡ Some (sequence_number f) = some (omega (arith, n)) in
+    let past : is_past w (sequence_number f) ≡ false = rw by refl in
+    let high : nat_le (distance (sequence_number s) (sequence_number f) + length (e ∷ es)) 100 ≡ true =
     le-leb _ _ (omega (arith, n, distance-number s f (omega arith) (omega (arith, near.above)), few)) in
     let hundred : nat_le (length (e ∷ es)) 100 ≡ true = le-leb _ _ (omega (arith, n, few)) in
-    let fitting_in : fits w (number f) (length (e ∷ es)) ≡ true = rw (hundred, number-is f, by, next, high) refl in
-    let v : verdict w first count (e ∷ es) ≡ Bring (number f) =
-    ap (λ o. verdict w o count (e ∷ es)) here ∙ verdict-bring w (number f) count (e ∷ es) (omega arith) past counted fitting_in in
-    let P : Verdict → Type 0 = λ u. IsTaken w (e ∷ es) u p after in
+    let fitting_in : fits w (sequence_number f) (length (e ∷ es)) ≡ true = rw (hundred, number-is f, by, next, high) refl in
+    let v : verdict w first count (e ∷ es) ≡ Bring (sequence_number f) =
+    ap (λ o. verdict w o count (e ∷ es)) here ∙ verdict-bring w (sequence_number f) count (e ∷ es) (omega arith) past counted fitting_in in
+    let P : NextAct → Type 0 = λ u. IsTaken w (e ∷ es) u p after in
     let Q : List Entry → Type 0 = λ xs. AreRecords H m f (numbered f xs) in
     let old : w.fresh ≡ false = or_left w.fresh w.asks_oldest by in
     let asks : w.asks_oldest ≡ false = or_right w.fresh w.asks_oldest by in
@@ -199,58 +199,58 @@ by_number H m r s w first count (e ∷ es) p after sound within room few by next
     (gap_same w s m (nat_lt s m.oldest) refl (omega (arith, near.above)) next old) (subst E (sym asks) is)
 
 -- entries from the oldest, which lie behind the walk or are its next batch
-oldest_batch : (r : ℕ) (H : History) (m : Moment) (s u : ℕ) (w : Place) (e : Entry) (es : List Entry) (p : Result Progress BadReply) (after : Place) →
+oldest_batch : (r : ℕ) (H : History) (m : Moment) (s u : ℕ) (w : WalkPlace) (e : Entry) (es : List Entry) (p : Result Progress BadReply) (after : WalkPlace) →
     base w s m ≡ u → m.oldest < u + 4294967295 → u ≤ m.oldest → (w.asks_oldest ≡ false → u ≡ m.oldest) →
-    gap_of w (number (max u m.oldest)) ≡ (if nat_lt u m.oldest then Gap (number u) (number m.oldest) ∷ [] else []) →
+    gap_of w (sequence_number (max u m.oldest)) ≡ (if nat_lt u m.oldest then Gap (sequence_number u) (sequence_number m.oldest) ∷ [] else []) →
     AreRecords H m m.oldest (numbered m.oldest (e ∷ es)) → (e ∷ es) ≡ entries_from H m.oldest (how_many r H FromOldest m) →
-    IsTaken w (e ∷ es) (Bring (number m.oldest)) p after → TurnOf r H m s w p after
+    IsTaken w (e ∷ es) (Bring (sequence_number m.oldest)) p after → TurnOf r H m s w p after
 oldest_batch r H m s u w e es p after from near le asks gap are is taken =
     let top : m.oldest ≡ max u m.oldest = omega arith in
-    let P : ℕ → Type 0 = λ f. IsTaken w (e ∷ es) (Bring (number f)) p after in
+    let P : ℕ → Type 0 = λ f. IsTaken w (e ∷ es) (Bring (sequence_number f)) p after in
     let Q : ℕ → Type 0 = λ f. AreRecords H m f (numbered f (e ∷ es)) in
     let R : ℕ → Type 0 = λ f. (e ∷ es) ≡ entries_from H f (how_many r H FromOldest m) in
     let S : ℕ → Type 0 = λ c. (e ∷ es) ≡ entries_from H (max u m.oldest) c in
     bring r H m s u w (e ∷ es) p after from near (subst P top taken) (omega arith) (subst Q top are) gap
     (subst S (sym (count_same r H m w.asks_oldest u le asks)) (subst R top is))
 
-oldest_some : (r : ℕ) (H : History) (m : Moment) (s : ℕ) (w : Place) (count : ℕ) (e : Entry) (es : List Entry) (p : Result Progress BadReply) (after : Place) →
-    w.next ≡ number s → asks_oldest_now w ≡ true → (past fresh : Bool) → is_past w (number m.oldest) ≡ past → w.fresh ≡ fresh →
+oldest_some : (r : ℕ) (H : History) (m : Moment) (s : ℕ) (w : WalkPlace) (count : ℕ) (e : Entry) (es : List Entry) (p : Result Progress BadReply) (after : WalkPlace) →
+    w.next ≡ sequence_number s → asks_oldest_now w ≡ true → (past fresh : Bool) → is_past w (sequence_number m.oldest) ≡ past → w.fresh ≡ fresh →
     (w.fresh ≡ false → IsNear s m) → length (e ∷ es) ≤ 100 → count ≡ length (e ∷ es) →
     AreRecords H m m.oldest (numbered m.oldest (e ∷ es)) → (e ∷ es) ≡ entries_from H m.oldest (how_many r H FromOldest m) →
-    IsTaken w (e ∷ es) (verdict w (Some (number m.oldest)) count (e ∷ es)) p after → TurnOf r H m s w p after
+    IsTaken w (e ∷ es) (verdict w (Some (sequence_number m.oldest)) count (e ∷ es)) p after → TurnOf r H m s w p after
 oldest_some r H m s w count e es p after next by true fresh past is_fresh near few counted are is taken =
-    let v : verdict w (Some (number m.oldest)) count (e ∷ es) ≡ End = rw past refl in
-    let P : Verdict → Type 0 = λ u. IsTaken w (e ∷ es) u p after in
-    let both = both_true (asks_oldest_now w) (not w.fresh) (not (is_ahead w.next (number m.oldest))) past in
+    let v : verdict w (Some (sequence_number m.oldest)) count (e ∷ es) ≡ End = rw past refl in
+    let P : NextAct → Type 0 = λ u. IsTaken w (e ∷ es) u p after in
+    let both = both_true (asks_oldest_now w) (not w.fresh) (not (is_ahead w.next (sequence_number m.oldest))) past in
     let close = near (not_true w.fresh both.0) in
     let behind : nat_le s m.oldest ≡ false =
-    sym (ahead-number s m.oldest close.below close.above) ∙ ap (λ n. is_ahead n (number m.oldest)) (sym next) ∙ not_true _ both.1 in
+    sym (ahead-number s m.oldest close.below close.above) ∙ ap (λ n. is_ahead n (sequence_number m.oldest)) (sym next) ∙ not_true _ both.1 in
     end r H m s w (e ∷ es) p after (subst P v taken) by (inr (not_true w.fresh both.0, leb-false s m.oldest behind))
 oldest_some r H m s w count e es p after next by false true past is_fresh near few counted are is taken =
     let hundred : nat_le (length (e ∷ es)) 100 ≡ true = le-leb _ _ few in
-    let fitting_in : fits w (number m.oldest) (length (e ∷ es)) ≡ true = rw (hundred, number-is m.oldest, by) refl in
-    let v : verdict w (Some (number m.oldest)) count (e ∷ es) ≡ Bring (number m.oldest) = verdict-bring w (number m.oldest) count (e ∷ es) (omega arith) past counted fitting_in in
-    let P : Verdict → Type 0 = λ u. IsTaken w (e ∷ es) u p after in
+    let fitting_in : fits w (sequence_number m.oldest) (length (e ∷ es)) ≡ true = rw (hundred, number-is m.oldest, by) refl in
+    let v : verdict w (Some (sequence_number m.oldest)) count (e ∷ es) ≡ Bring (sequence_number m.oldest) = verdict-bring w (sequence_number m.oldest) count (e ∷ es) (omega arith) past counted fitting_in in
+    let P : NextAct → Type 0 = λ u. IsTaken w (e ∷ es) u p after in
     let none : nat_lt m.oldest m.oldest ≡ false = le-ltb m.oldest m.oldest (omega arith) in
     oldest_batch r H m s m.oldest w e es p after (rw is_fresh refl) (omega arith) (omega arith) (λ h. refl) (rw (is_fresh, none) refl) are is (subst P v taken)
 oldest_some r H m s w count e es p after next by false false past is_fresh near few counted are is taken =
     let close = near is_fresh in
     let hundred : nat_le (length (e ∷ es)) 100 ≡ true = le-leb _ _ few in
-    let fitting_in : fits w (number m.oldest) (length (e ∷ es)) ≡ true = rw (hundred, number-is m.oldest, by) refl in
-    let v : verdict w (Some (number m.oldest)) count (e ∷ es) ≡ Bring (number m.oldest) = verdict-bring w (number m.oldest) count (e ∷ es) (omega arith) past counted fitting_in in
-    let P : Verdict → Type 0 = λ u. IsTaken w (e ∷ es) u p after in
+    let fitting_in : fits w (sequence_number m.oldest) (length (e ∷ es)) ≡ true = rw (hundred, number-is m.oldest, by) refl in
+    let v : verdict w (Some (sequence_number m.oldest)) count (e ∷ es) ≡ Bring (sequence_number m.oldest) = verdict-bring w (sequence_number m.oldest) count (e ∷ es) (omega arith) past counted fitting_in in
+    let P : NextAct → Type 0 = λ u. IsTaken w (e ∷ es) u p after in
     let ahead : nat_le s m.oldest ≡ true =
-    sym (ahead-number s m.oldest close.below close.above) ∙ ap (λ n. is_ahead n (number m.oldest)) (sym next)
-    ∙ not_false _ (last_false (asks_oldest_now w) (not w.fresh) (not (is_ahead w.next (number m.oldest))) past by (ap not is_fresh)) in
+    sym (ahead-number s m.oldest close.below close.above) ∙ ap (λ n. is_ahead n (sequence_number m.oldest)) (sym next)
+    ∙ not_false _ (last_false (asks_oldest_now w) (not w.fresh) (not (is_ahead w.next (sequence_number m.oldest))) past by (ap not is_fresh)) in
     let asks : w.asks_oldest ≡ true = sym (or_second w.fresh w.asks_oldest is_fresh) ∙ by in
     oldest_batch r H m s s w e es p after (rw is_fresh refl) (omega (arith, close.above)) (leb-true s m.oldest ahead) (λ h. absurd (cc))
     (gap_same w s m (nat_lt s m.oldest) refl (omega (arith, close.above)) next is_fresh) are is (subst P v taken)
 
 -- the same for a question from the oldest
-by_oldest : (H : History) (m : Moment) (r s : ℕ) (w : Place) (first : Option ℕ) (count : ℕ) (es : List Entry) (p : Result Progress BadReply) (after : Place) →
-    Sound H m → m.newest ≤ H.logged + length H.entries → (0 < asked_count FromOldest m → 0 < how_many r H FromOldest m) → how_many r H FromOldest m ≤ asked_count FromOldest m → asks_oldest_now w ≡ true → w.next ≡ number s → (w.fresh ≡ false → IsNear s m) → count ≡ length es →
+by_oldest : (H : History) (m : Moment) (r s : ℕ) (w : WalkPlace) (first : Option ℕ) (count : ℕ) (es : List Entry) (p : Result Progress BadReply) (after : WalkPlace) →
+    Sound H m → m.newest ≤ H.logged + length H.entries → (0 < asked_count FromOldest m → 0 < how_many r H FromOldest m) → how_many r H FromOldest m ≤ asked_count FromOldest m → asks_oldest_now w ≡ true → w.next ≡ sequence_number s → (w.fresh ≡ false → IsNear s m) → count ≡ length es →
     es ≡ entries_from H m.oldest (how_many r H FromOldest m) →
-    (0 < how_many r H FromOldest m → first ≡ Some (number m.oldest)) →
+    (0 < how_many r H FromOldest m → first ≡ Some (sequence_number m.oldest)) →
     IsTaken w es (verdict w first count es) p after → TurnOf r H m s w p after
 by_oldest H m r s w first count [] p after sound within room few by next near counted is some taken =
     let n : 0 ≡ how_many r H FromOldest m =
@@ -265,15 +265,15 @@ by_oldest H m r s w first count (e ∷ es) p after sound within room few by next
     let same : length (entries_from H m.oldest (how_many r H FromOldest m)) ≡ how_many r H FromOldest m =
     entries_count H m m.oldest (how_many r H FromOldest m) sound within (omega arith) (λ h. omega (arith, few)) in
     let n : length (e ∷ es) ≡ how_many r H FromOldest m = ap length is ∙ same in
-    let here : first ≡ Some (number m.oldest) = some (omega (arith, n)) in
+    let here : first ≡ Some (sequence_number m.oldest) = some (omega (arith, n)) in
     let P : Option ℕ → Type 0 = λ o. IsTaken w (e ∷ es) (verdict w o count (e ∷ es)) p after in
     let Q : List Entry → Type 0 = λ xs. AreRecords H m m.oldest (numbered m.oldest xs) in
-    oldest_some r H m s w count e es p after next by (is_past w (number m.oldest)) w.fresh refl refl near (omega (arith, n, few)) counted
+    oldest_some r H m s w count e es p after next by (is_past w (sequence_number m.oldest)) w.fresh refl refl near (omega (arith, n, few)) counted
     (subst Q (sym is) (records H m m.oldest (how_many r H FromOldest m) sound.above (omega arith) (omega (arith, n, same, few))))
     is (subst P here taken)
 
-turn_by : (H : History) (M : List Moment) (r s : ℕ) (w : Place) (h : Heard) (p : Result Progress BadReply) (after : Place) →
-    (oldest : Bool) → asks_oldest_now w ≡ oldest → w.next ≡ number s → (w.fresh ≡ false → IsNear s (now M)) →
+turn_by : (H : History) (M : List Moment) (r s : ℕ) (w : WalkPlace) (h : AckParameters) (p : Result Progress BadReply) (after : WalkPlace) →
+    (oldest : Bool) → asks_oldest_now w ≡ oldest → w.next ≡ sequence_number s → (w.fresh ≡ false → IsNear s (now M)) →
     AreServed r M H → IsAnswer r (now M) H (wanted_at w s) h.first h.entries → h.count ≡ length h.entries →
     IsTaken w h.entries (verdict w h.first h.count h.entries) p after → TurnOf r H (now M) s w p after
 turn_by H M r s w h p after true by next near served answer counted taken =
@@ -288,7 +288,7 @@ turn_by H M r s w h p after false by next near served answer counted taken =
     by_number H (now M) r s w h.first h.count h.entries p after (Sound-now r M H served) (In-now r M H served) a.some a.most by next (near (or_left w.fresh w.asks_oldest by)) counted a.entries a.first_is taken
 
 -- what an honest answer means
-pub turn_of : (H : History) (M : List Moment) (r s : ℕ) (w : Place) (heard : Option Heard) (p : Result Progress BadReply) (after : Place) →
-    w.next ≡ number s → (w.fresh ≡ false → IsNear s (now M)) → AreServed r M H → Says r (now M) H (wanted_at w s) heard → IsTakenFrom w heard p after → TurnOf r H (now M) s w p after
+pub turn_of : (H : History) (M : List Moment) (r s : ℕ) (w : WalkPlace) (heard : Option AckParameters) (p : Result Progress BadReply) (after : WalkPlace) →
+    w.next ≡ sequence_number s → (w.fresh ≡ false → IsNear s (now M)) → AreServed r M H → Says r (now M) H (wanted_at w s) heard → IsTakenFrom w heard p after → TurnOf r H (now M) s w p after
 turn_of H M r s w None p after next near served says taken = absurd says
 turn_of H M r s w (Some h) p after next near served says taken = turn_by H M r s w h p after (asks_oldest_now w) refl next near served says.0 says.1 taken

@@ -4,37 +4,37 @@ use Rattle.std.specs.Prelude.{nat_le}
 use Rattle.std.proofs.lemmas.Bool.{leb-true, and_parts, eq-eqb}
 use Rattle.std.proofs.lemmas.List.{take_all}
 use Rattle.bac_log.specs.declared.entry.Entry.{Entry}
-use Rattle.bac_walk.specs.Heard.{Heard}
+use Rattle.bac_walk.specs.Heard.{AckParameters}
 use Rattle.bac_walk.specs.Ordinals.{number_after}
-use Rattle.bac_walk.specs.Place.{Place}
+use Rattle.bac_walk.specs.Place.{WalkPlace}
 use Rattle.bac_walk.specs.declared.batch.Batch.{Batch}
 use Rattle.bac_walk.specs.declared.outcome.Progress.{Progress}
 use Rattle.bac_walk.specs.Collects.{asks_next}
 use Rattle.bac_walk.specs.declared.outcome.Progress.TheVariants.{Batch as BatchOf, AskOldest, CaughtUp}
-use Rattle.bac_walk.specs.Walks.{with_numbers, item_of, gap_items, gap_of, is_past, fits, Verdict, Refuse, Ask, End, Bring, verdict, IsTaken, IsTakenFrom}
+use Rattle.bac_walk.specs.Walks.{with_numbers, item_of, gap_items, gap_of, is_past, fits, NextAct, Refuse, Ask, End, Bring, verdict, IsTaken, IsTakenFrom}
 use Rattle.bac_walk.proofs.Numbers.{map-with_numbers}
 use Rattle.bac_walk.specs.Replies.{fitting}
 
-pub fits_few : (w : Place) (f n : ℕ) → fits w f n ≡ true → n ≤ 100
+pub fits_few : (w : WalkPlace) (f n : ℕ) → fits w f n ≡ true → n ≤ 100
 fits_few w f n e = leb-true n 100 (and_parts (nat_le n 100) _ e).0
 
 pub kept_whole : (kept es : List Entry) → kept ≡ take 100 es → length es ≤ 100 → kept ≡ es
 kept_whole kept es is few = is ∙ take_all 100 es few
 
-pub verdict-bring : (w : Place) (f count : ℕ) (es : List Entry) → 0 < length es → is_past w f ≡ false → count ≡ length es →
+pub verdict-bring : (w : WalkPlace) (f count : ℕ) (es : List Entry) → 0 < length es → is_past w f ≡ false → count ≡ length es →
     fits w f (length es) ≡ true → verdict w (Some f) count es ≡ Bring f
 verdict-bring w f count [] some current same fitting = absurd (omega arith)
 verdict-bring w f count (e ∷ es) some current same fitting = rw (current, fitting, eq-eqb count (length (e ∷ es)) same) refl
 
-pub taken : (w : Place) (h : Heard) (heard : Option Heard) (f : ℕ) (b : Batch) (new : Place) → heard ≡ Some h → h.first ≡ Some f →
+pub taken : (w : WalkPlace) (h : AckParameters) (heard : Option AckParameters) (f : ℕ) (b : Batch) (new : WalkPlace) → heard ≡ Some h → h.first ≡ Some f →
     0 < length h.entries → is_past w f ≡ false → h.count ≡ length h.entries → fits w f (length h.entries) ≡ true →
     gap_items b.gap ≡ gap_of w f → b.entries.items ≡ with_numbers f h.entries →
     new ≡ record { log = w.log; next = number_after f (length h.entries); fresh = false; asks_oldest = false } →
     IsTakenFrom w heard (Ok (BatchOf b)) new
 taken w h heard f b new said is some current count fitting gap entries after =
     let v : verdict w h.first h.count h.entries ≡ Bring f = ap (λ o. verdict w o h.count h.entries) is ∙ verdict-bring w f h.count h.entries some current count fitting in
-    let P : Verdict → Type 0 = λ u. IsTaken w h.entries u (Ok (BatchOf b)) new in
-    let Q : Option Heard → Type 0 = λ o. IsTakenFrom w o (Ok (BatchOf b)) new in
+    let P : NextAct → Type 0 = λ u. IsTaken w h.entries u (Ok (BatchOf b)) new in
+    let Q : Option AckParameters → Type 0 = λ o. IsTakenFrom w o (Ok (BatchOf b)) new in
     subst Q (sym said) (subst P (sym v) (
       ap (λ g. g ++ map item_of b.entries.items) gap ∙ ap (λ n. gap_of w f ++ map item_of n) entries
           ∙ ap (λ n. gap_of w f ++ n) (map-with_numbers f h.entries),
@@ -42,33 +42,33 @@ taken w h heard f b new said is some current count fitting gap entries after =
     ))
 
 -- a walk that asks on is where it was
-asked_verdict : (w : Place) (es : List Entry) (v : Verdict) (p : Progress) (after : Place) → IsTaken w es v (Ok p) after →
+asked_verdict : (w : WalkPlace) (es : List Entry) (v : NextAct) (p : Progress) (after : WalkPlace) → IsTaken w es v (Ok p) after →
     asks_next (Ok p) ≡ true → after.next ≡ w.next
-asked_verdict w es Ask AskOldest after taken asks = ap (λ (u : Place). u.next) taken
+asked_verdict w es Ask AskOldest after taken asks = ap (λ (u : WalkPlace). u.next) taken
 asked_verdict w es Refuse AskOldest after taken asks = absurd taken
 asked_verdict w es End AskOldest after taken asks = absurd taken
 asked_verdict w es (Bring f) AskOldest after taken asks = absurd taken
 asked_verdict w es v (BatchOf b) after taken asks = absurd (cc)
 asked_verdict w es v CaughtUp after taken asks = absurd (cc)
 
-pub asked_next : (w : Place) (heard : Option Heard) (p : Progress) (after : Place) → IsTakenFrom w heard (Ok p) after →
+pub asked_next : (w : WalkPlace) (heard : Option AckParameters) (p : Progress) (after : WalkPlace) → IsTakenFrom w heard (Ok p) after →
     asks_next (Ok p) ≡ true → after.next ≡ w.next
 asked_next w None p after taken asks = absurd taken
 asked_next w (Some h) p after taken asks = asked_verdict w h.entries (verdict w h.first h.count h.entries) p after taken asks
 
 -- the log stays
-log_of : (w : Place) (es : List Entry) (v : Verdict) (p : Progress) (after : Place) → IsTaken w es v (Ok p) after → after.log ≡ w.log
+log_of : (w : WalkPlace) (es : List Entry) (v : NextAct) (p : Progress) (after : WalkPlace) → IsTaken w es v (Ok p) after → after.log ≡ w.log
 log_of w es Refuse p after taken = absurd taken
-log_of w es Ask AskOldest after taken = ap (λ (u : Place). u.log) taken
+log_of w es Ask AskOldest after taken = ap (λ (u : WalkPlace). u.log) taken
 log_of w es Ask CaughtUp after taken = absurd taken
 log_of w es Ask (BatchOf b) after taken = absurd taken
 log_of w es End AskOldest after taken = absurd taken
-log_of w es End CaughtUp after taken = ap (λ (u : Place). u.log) taken
+log_of w es End CaughtUp after taken = ap (λ (u : WalkPlace). u.log) taken
 log_of w es End (BatchOf b) after taken = absurd taken
 log_of w es (Bring f) AskOldest after taken = absurd taken
 log_of w es (Bring f) CaughtUp after taken = absurd taken
-log_of w es (Bring f) (BatchOf b) after taken = ap (λ (u : Place). u.log) taken.1
+log_of w es (Bring f) (BatchOf b) after taken = ap (λ (u : WalkPlace). u.log) taken.1
 
-pub log_kept : (w : Place) (heard : Option Heard) (p : Progress) (after : Place) → IsTakenFrom w heard (Ok p) after → after.log ≡ w.log
+pub log_kept : (w : WalkPlace) (heard : Option AckParameters) (p : Progress) (after : WalkPlace) → IsTakenFrom w heard (Ok p) after → after.log ≡ w.log
 log_kept w None p after taken = absurd taken
 log_kept w (Some h) p after taken = log_of w h.entries (verdict w h.first h.count h.entries) p after taken

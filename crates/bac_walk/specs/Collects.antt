@@ -16,7 +16,7 @@ use Rattle.bac_walk.specs.Turns.{Covers, NoneOfHundred, whole_reply}
 use Rattle.bac_walk.specs.Delivers.{end_of, AreAnswers, NoneFrom}
 use Rattle.bac_link.specs.Links.{RisesBy}
 use Rattle.bac_link.specs.declared.item.Item.TheVariants.{Gap, Logged}
-use Rattle.bac_log.specs.TrendLog.{number}
+use Rattle.bac_log.specs.TrendLog.{sequence_number}
 use Rattle.bac_walk.specs.Walks.{items_in}
 
 -- how many answers brought a batch
@@ -144,10 +144,10 @@ turn_items (Err e) = []
 abbrev pub Goes : Bool → ℕ → ℕ → List Item → Bool → ℕ → Type 0
 Goes fresh before s [] after next = (next ≡ before) × (after ≡ fresh)
 Goes false before s (x ∷ xs) after next =
-    (before ≡ number s → (t : ℕ) × (next ≡ number t) × Covers s (x ∷ xs) t) × (after ≡ false)
+    (before ≡ sequence_number s → (t : ℕ) × (next ≡ sequence_number t) × Covers s (x ∷ xs) t) × (after ≡ false)
 Goes true before s (Gap first until ∷ xs) after next = ⊥
 Goes true before s (Logged shown entry ∷ xs) after next =
-    (shown ≡ number s → (t : ℕ) × (next ≡ number t) × Covers s (Logged shown entry ∷ xs) t) × (after ≡ false)
+    (shown ≡ sequence_number s → (t : ℕ) × (next ≡ sequence_number t) × Covers s (Logged shown entry ∷ xs) t) × (after ≡ false)
 
 -- a turn and a step that aren't lost, and those of a log that the device doesn't have
 abbrev pub IsFound : WalkFault → Type 0

@@ -2,7 +2,7 @@
 use Rattle.std.specs.Prelude.{◌≡◌, ℕ, Bool, false, Option, Some, None, Result, Ok, Err}
 use Rattle.bac_walk.specs.declared.batch.Gap.{Gap as GapOf}
 use Rattle.bac_walk.specs.declared.batch.Numbered.{Numbered}
-use Rattle.bac_walk.specs.Place.{Place}
+use Rattle.bac_walk.specs.Place.{WalkPlace}
 use Rattle.bac_walk.specs.declared.outcome.WalkFault.{WalkFault}
 use Rattle.bac_walk.specs.declared.outcome.Step.{Step}
 use Rattle.bac_walk.specs.declared.outcome.Step.TheVariants.{Batch as StepOf, CaughtUp as NoStep}
@@ -12,7 +12,7 @@ use Rattle.bac_walk.specs.Ordinals.{number_after}
 use Rattle.bac_walk.specs.Sinks.{PutAll}
 
 -- where the walk is after a batch whose record of this number was refused, and how the step ended
-abbrev pub walk_after : Place → Option ℕ → Place
+abbrev pub walk_after : WalkPlace → Option ℕ → WalkPlace
 walk_after w None = w
 walk_after w (Some n) = record { log = w.log; next = number_after n 1; fresh = false; asks_oldest = false }
 
@@ -22,7 +22,7 @@ ended_after None = StepLimit
 ended_after (Some n) = Stopped
 
 -- the batch of a step is put into the sink; a step without a batch and a fault leave sink and walk as they were
-abbrev pub HandedOn : {S : Type 0} → (S → Option GapOf → Numbered → Bool → S → Type 0) → S → Place → Result Step WalkFault → Ended → Place → S → Type 0
+abbrev pub HandedOn : {S : Type 0} → (S → Option GapOf → Numbered → Bool → S → Type 0) → S → WalkPlace → Result Step WalkFault → Ended → WalkPlace → S → Type 0
 HandedOn puts sink w (Err e) ended after left = (left ≡ sink) × (after ≡ w) × (ended ≡ Fault e)
 HandedOn puts sink w (Ok NoStep) ended after left = (left ≡ sink) × (after ≡ w) × (ended ≡ CaughtUp)
 HandedOn puts sink w (Ok (StepOf b)) ended after left =

@@ -9,7 +9,7 @@ use Rattle.bac_log.specs.Ack.{log_buffer}
 use Rattle.bac_log.specs.RecordReading.{entries_at}
 
 -- the first number, the count and the records
-pub record Heard : Type 0 where
+pub record AckParameters : Type 0 where
   pub first : Option ℕ
   pub count : ℕ
   pub entries : List Entry
@@ -32,19 +32,19 @@ abbrev pub is_of_log : Id → RangeAck → Bool
 is_of_log log a = same_id a.object log && ((a.property == log_buffer) && is_absent a.index)
 
 -- first number, count and records, if the items could be read as records
-abbrev pub heard_with : Option ℕ → ℕ → Option (List Entry) → Option Heard
+abbrev pub heard_with : Option ℕ → ℕ → Option (List Entry) → Option AckParameters
 heard_with first count None = None
 heard_with first count (Some es) = Some (record { first = first; count = count; entries = es })
 
 -- nothing, where it is that of another object or property, has an index, or an item is no record; its flags don't count
-abbrev pub heard_of : Id → RangeAck → Option Heard
+abbrev pub heard_of : Id → RangeAck → Option AckParameters
 heard_of log a = if is_of_log log a then heard_with a.first_number a.count (result_ok (records_in a.items)) else None
 
 -- the same, and nothing of an ACK that couldn't be read
-abbrev pub heard_if : Id → Option RangeAck → Option Heard
+abbrev pub heard_if : Id → Option RangeAck → Option AckParameters
 heard_if log None = None
 heard_if log (Some a) = heard_of log a
 
 -- and nothing, where they are no parameters of an ACK of ReadRange
-unfoldable pub heard_at : Id → List ℕ → Option Heard
+unfoldable pub heard_at : Id → List ℕ → Option AckParameters
 heard_at log bytes = heard_if log (read_range_ack_at bytes)

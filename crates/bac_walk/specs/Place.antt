@@ -4,7 +4,7 @@ use Rattle.bac_wire.specs.Primitive.{Id}
 
 -- the log, the next number, whether the walk begins at the oldest record and had no batch yet, and whether the oldest
 -- records are asked for in place of the next
-pub record Place : Type 0 where
+pub record WalkPlace : Type 0 where
   pub log : Id
   pub next : ℕ
   pub fresh : Bool
@@ -18,9 +18,9 @@ pub record IsWalk (log : Id) (next : ℕ) (fresh : Bool) : Type 0 where
   pub first : fresh ≡ true → next ≡ 1
 
 -- where a walk from a number, and one from the oldest record, begin
-abbrev pub walk_at : Id → ℕ → Place
+abbrev pub walk_at : Id → ℕ → WalkPlace
 walk_at log s = record { log = log; next = s; fresh = false; asks_oldest = false }
 
 -- the same for a walk from the oldest record
-abbrev pub walk_from_oldest : Id → Place
+abbrev pub walk_from_oldest : Id → WalkPlace
 walk_from_oldest log = record { log = log; next = 1; fresh = true; asks_oldest = false }

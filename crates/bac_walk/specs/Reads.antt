@@ -4,7 +4,7 @@ use Rattle.bac_wire.specs.Primitive.{Id}
 use Rattle.bac_wire.specs.declared.fault.WireFault.{WireFault}
 use Rattle.bac_log.specs.declared.entry.Entry.{Entry}
 use Rattle.bac_walk.specs.declared.read.Said.{Said}
-use Rattle.bac_walk.specs.Heard.{Heard, heard_at, records_in}
+use Rattle.bac_walk.specs.Heard.{AckParameters, heard_at, records_in}
 use Rattle.bac_walk.specs.Spelled.{data_in}
 
 -- how many records there are, where all octets are records
@@ -16,5 +16,5 @@ IsCounted (Some count) read = (es : List Entry) × (read ≡ Ok es) × (count �
 abbrev pub IsSaid : Id → List ℕ → Option Said → Type 0
 IsSaid log ack None = heard_at log ack ≡ None
 IsSaid log ack (Some said) =
-    (h : Heard) × (heard_at log ack ≡ Some h) × (said.first ≡ h.first) × (said.count ≡ h.count) × (said.total ≡ length h.entries)
+    (h : AckParameters) × (heard_at log ack ≡ Some h) × (said.first ≡ h.first) × (said.count ≡ h.count) × (said.total ≡ length h.entries)
     × (records_in (data_in ack) ≡ Ok h.entries)

@@ -17,8 +17,8 @@ use Rattle.bac_walk.specs.declared.reply.Turned.{Turned}
 use Rattle.bac_walk.specs.declared.reply.Turned.TheVariants as turned
 use Rattle.bac_walk.specs.declared.reply.Replied.{Replied}
 use Rattle.bac_walk.specs.declared.reply.Replied.TheVariants as replied
-use Rattle.bac_walk.specs.Place.{Place}
-use Rattle.bac_walk.specs.Heard.{Heard, heard_at}
+use Rattle.bac_walk.specs.Place.{WalkPlace}
+use Rattle.bac_walk.specs.Heard.{AckParameters, heard_at}
 use Rattle.bac_walk.specs.Takes.{parameters_in}
 use Rattle.bac_walk.specs.Walks.{IsTakenFrom}
 use Rattle.bac_walk.specs.Spelled.{IsWhole, data_in, data_held, records_from}
@@ -33,7 +33,7 @@ abbrev pub batch_of : Reply → Batch
 batch_of r = batch_from r.gap r.first (data_held r.datagram) r.whole
 
 -- the verdict on the parameters of an ACK, and where the walk is then
-abbrev pub IsJudged : Place → List ℕ → Result Verdict BadReply → Place → Type 0
+abbrev pub IsJudged : WalkPlace → List ℕ → Result Verdict BadReply → WalkPlace → Type 0
 IsJudged old ack (Err e) new = IsTakenFrom old (heard_at old.log ack) (Err e) new
 IsJudged old ack (Ok verdict.AskOldest) new = IsTakenFrom old (heard_at old.log ack) (Ok AskOldest) new
 IsJudged old ack (Ok verdict.CaughtUp) new = IsTakenFrom old (heard_at old.log ack) (Ok CaughtUp) new
@@ -41,12 +41,12 @@ IsJudged old ack (Ok (verdict.Records gap first)) new =
     (whole : IsWhole first (data_in ack)) × IsTakenFrom old (heard_at old.log ack) (Ok (BatchOf (batch_from gap first (data_in ack) whole))) new
 
 -- what a walk hears in a datagram
-abbrev pub heard_from : Id → Option (List ℕ) → Option Heard
+abbrev pub heard_from : Id → Option (List ℕ) → Option AckParameters
 heard_from log None = None
 heard_from log (Some parameters) = heard_at log parameters
 
 -- the same of a whole datagram: it says something only as an unsegmented ACK of ReadRange
-abbrev pub heard_in : Id → List ℕ → Option Heard
+abbrev pub heard_in : Id → List ℕ → Option AckParameters
 heard_in log datagram = heard_from log (parameters_in (apdu_in datagram))
 
 -- the same with the records of a reply decoded

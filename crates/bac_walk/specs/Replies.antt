@@ -1,7 +1,7 @@
 -- What a log answers to the questions of a walk, at a moment.
 use Rattle.std.specs.Prelude.{◌≡◌, ℕ, ◌+◌, ◌-◌, ◌<◌, ◌≤◌, min, max, nat_le, Option, Some, List, length, take, pos, All}
 use Rattle.bac_log.specs.Entry.{IsLoggable}
-use Rattle.bac_log.specs.TrendLog.{Log, number}
+use Rattle.bac_log.specs.TrendLog.{Log, sequence_number}
 use Rattle.bac_wire.specs.declared.stamp.Date4.{Date4}
 use Rattle.bac_wire.specs.declared.stamp.Time4.{Time4}
 use Rattle.bac_apdu.specs.declared.service.extent.Extent.{Extent}
@@ -28,7 +28,7 @@ pub data Wanted : Type 0 where
 
 -- as an extent of ReadRange (clause 15.8): by sequence number, or by time after the first moment, a hundred records
 abbrev pub extent_of : Wanted → Extent
-extent_of (FromOrdinal s) = ByNumber (number s) (pos 100)
+extent_of (FromOrdinal s) = ByNumber (sequence_number s) (pos 100)
 extent_of FromOldest = ByTime first_date first_time (pos 100)
 
 -- the first and the last ordinal that are held and asked for; where the first is above the last, there is none
@@ -47,7 +47,7 @@ asked_count wanted m = (last_asked wanted m + 1) - first_asked wanted m
 
 -- how many of these entries, the first of which has this ordinal, are in the longest prefix whose ACK is within r octets
 abbrev pub fitting : ℕ → ℕ → List Entry → ℕ
-fitting r first es = greatest (λ n. nat_le (ack_length (Some (number first)) (take n es)) r) (length es)
+fitting r first es = greatest (λ n. nat_le (ack_length (Some (sequence_number first)) (take n es)) r) (length es)
 
 -- how many a reply of r octets holds of those that are asked for
 abbrev pub how_many : ℕ → History → Wanted → Moment → ℕ
@@ -56,7 +56,7 @@ how_many r H wanted m = fitting r (first_asked wanted m) (entries_from H (first_
 -- the records and the first number of the answer to a question at a moment
 pub record IsAnswer (r : ℕ) (m : Moment) (H : History) (wanted : Wanted) (first : Option ℕ) (es : List Entry) : Type 0 where
   pub entries : es ≡ entries_from H (first_asked wanted m) (how_many r H wanted m)
-  pub first_is : 0 < how_many r H wanted m → first ≡ Some (number (first_asked wanted m))
+  pub first_is : 0 < how_many r H wanted m → first ≡ Some (sequence_number (first_asked wanted m))
   pub some : 0 < asked_count wanted m → 0 < how_many r H wanted m
   pub most : how_many r H wanted m ≤ asked_count wanted m
 

@@ -10,7 +10,7 @@ use Rattle.bac_walk.specs.Outcomes.{IsRunOf}
 use Rattle.bac_walk.specs.declared.outcome.WalkFault.TheVariants.{Refused}
 use Rattle.bac_link.specs.declared.exchanges.Refusal.TheVariants as refusal
 use Rattle.bac_log.specs.Entry.{IsLoggable}
-use Rattle.bac_log.specs.TrendLog.{number}
+use Rattle.bac_log.specs.TrendLog.{sequence_number}
 use Rattle.bac_link.specs.Delivery.{History, Moment}
 use Rattle.bac_link.specs.Moments.{IsMoment, AreServed, log_at, entries_from}
 use Rattle.bac_link.specs.declared.item.Item.TheVariants.{Gap, Logged}
@@ -50,12 +50,12 @@ rest r H m fresh s steps = if fresh then rest_oldest r H m s steps else rest_fro
 
 -- a run that ended so
 abbrev pub IsRest : Rested → List Item → ℕ → Ended → Type 0
-IsRest rested items shown ended = (items ≡ rested.items) × (shown ≡ number rested.next) × (ended ≡ rested.ended)
+IsRest rested items shown ended = (items ≡ rested.items) × (shown ≡ sequence_number rested.next) × (ended ≡ rested.ended)
 
 -- a walk ended so, or it had no memory
 abbrev pub Rests : Rested → ℕ → List Item → ℕ → Why → Type 0
 Rests rested steps items next why =
-    (why ≡ Memory) ⊎ ((items ≡ rested.items) × (next ≡ number rested.next) × IsRunOf why steps steps rested.ended)
+    (why ≡ Memory) ⊎ ((items ≡ rested.items) × (next ≡ sequence_number rested.next) × IsRunOf why steps steps rested.ended)
 
 -- a walk of a log that isn't there
 abbrev pub end_missing : ℕ → Ended
@@ -72,7 +72,7 @@ rest_all H m s =
     if nat_lt m.newest (max s m.oldest)
     then record { items = []; next = s; ended = CaughtUp }
     else record {
-      items = (if nat_lt s m.oldest then Gap (number s) (number m.oldest) ∷ [] else [])
+      items = (if nat_lt s m.oldest then Gap (sequence_number s) (sequence_number m.oldest) ∷ [] else [])
           ++ numbered (max s m.oldest) (entries_from H (max s m.oldest) ((m.newest + 1) - max s m.oldest));
       next = m.newest + 1;
       ended = CaughtUp;
@@ -87,4 +87,4 @@ RestsAll = (r : ℕ) (H : History) (m : Moment) (s steps : ℕ) → AreServed r 
 abbrev pub RestResumes : Type 0
 RestResumes = (H : History) (m : Moment) (s shown : ℕ) (entry : Entry) (before after : List Item) → IsMoment H.logged m → m.newest ≤ H.logged + length H.entries →
     (rest_all H m s).items ≡ before ++ Logged shown entry ∷ after →
-    (k : ℕ) × (shown ≡ number k) × (after ≡ (rest_all H m (k + 1)).items)
+    (k : ℕ) × (shown ≡ sequence_number k) × (after ≡ (rest_all H m (k + 1)).items)

@@ -3,10 +3,10 @@ use Rattle.std.specs.Prelude.{◌≡◌, ℕ, ◌+◌, ◌*◌, ◌≤◌, Bool,
 use Rattle.bac_link.specs.declared.item.Item.{Item}
 use Rattle.bac_walk.specs.declared.batch.Gap.{Gap as GapOf}
 use Rattle.bac_walk.specs.declared.batch.Numbered.{Numbered}
-use Rattle.bac_walk.specs.Place.{Place}
+use Rattle.bac_walk.specs.Place.{WalkPlace}
 use Rattle.bac_walk.specs.declared.outcome.Ended.{Ended}
 use Rattle.bac_walk.specs.declared.outcome.Ended.TheVariants.{CaughtUp, StepLimit, Stopped, Fault}
-use Rattle.bac_log.specs.TrendLog.{number}
+use Rattle.bac_log.specs.TrendLog.{sequence_number}
 use Rattle.bac_link.specs.Delivery.{History, Moment, DeliversTo}
 use Rattle.bac_link.specs.Laws.{after_answers}
 use Rattle.bac_walk.specs.Near.{StaysNear}
@@ -56,17 +56,17 @@ is_stopped (Fault e) = false
 
 -- a run of at most so many steps: over any link its items cover all from the walk's number up to the new one; over one
 -- that was honest, wherever the walk stays near, they are what its answers brought, and it is honest still
-abbrev pub IsRun : (ℕ → List Moment → History → Type 0) → (ℕ → List Moment → History → Type 0) → ℕ → ℕ → ℕ → Place → Place → ℕ → Ended → List Item → Type 0
+abbrev pub IsRun : (ℕ → List Moment → History → Type 0) → (ℕ → List Moment → History → Type 0) → ℕ → ℕ → ℕ → WalkPlace → WalkPlace → ℕ → Ended → List Item → Type 0
 IsRun was is retries old new before after steps ended items =
     ((s : ℕ) → Goes before.fresh before.next s items after.fresh after.next)
-    × ((r : ℕ) (M : List Moment) (H : History) (s : ℕ) → was r M H → before.next ≡ number s →
-    StaysNear r H M before.fresh s steps → (answers : List (List Item)) × (t : ℕ) × (after.next ≡ number t)
+    × ((r : ℕ) (M : List Moment) (H : History) (s : ℕ) → was r M H → before.next ≡ sequence_number s →
+    StaysNear r H M before.fresh s steps → (answers : List (List Item)) × (t : ℕ) × (after.next ≡ sequence_number t)
     × Collected r H M before.fresh s steps retries old new items t ended answers
     × is r (after_answers (length answers) M) H × IsFreshAfter before.fresh answers after.fresh)
 
 -- such a run into a sink: over any link each step puts at most 100 records and at most one gap; each brought a record at
 -- least where it ended since there were so many
-abbrev pub Delivery : {S : Type 0} → (S → Option GapOf → Numbered → Bool → S → Type 0) → S → S → (ℕ → List Moment → History → Type 0) → (ℕ → List Moment → History → Type 0) → ℕ → ℕ → ℕ → Place → Place → ℕ → Ended → Type 0
+abbrev pub Delivery : {S : Type 0} → (S → Option GapOf → Numbered → Bool → S → Type 0) → S → S → (ℕ → List Moment → History → Type 0) → (ℕ → List Moment → History → Type 0) → ℕ → ℕ → ℕ → WalkPlace → WalkPlace → ℕ → Ended → Type 0
 Delivery {S = S} puts sink left was is retries old new before after steps ended =
     (calls : List Call) × Takes puts sink calls (is_stopped ended) left
     × (length calls ≤ 100 * steps) × (gaps calls ≤ steps)
@@ -75,8 +75,8 @@ Delivery {S = S} puts sink left was is retries old new before after steps ended 
 
 -- Over a link that was honest, wherever the walk stays near: from the ordinal of its number on, or from that of the oldest
 -- record where it begins there, so many answers deliver the items, and the link is honest still.
-abbrev pub IsDelivered : (ℕ → List Moment → History → Type 0) → (ℕ → List Moment → History → Type 0) → Place → Place → ℕ → List Item → Type 0
+abbrev pub IsDelivered : (ℕ → List Moment → History → Type 0) → (ℕ → List Moment → History → Type 0) → WalkPlace → WalkPlace → ℕ → List Item → Type 0
 IsDelivered was is before after steps items =
-    (r : ℕ) (M : List Moment) (H : History) (s : ℕ) → was r M H → before.next ≡ number s → StaysNear r H M before.fresh s steps →
-    (b : ℕ) × (a : ℕ) × (t : ℕ) × (before.fresh ≡ false → b ≡ s) × (after.next ≡ number t)
+    (r : ℕ) (M : List Moment) (H : History) (s : ℕ) → was r M H → before.next ≡ sequence_number s → StaysNear r H M before.fresh s steps →
+    (b : ℕ) × (a : ℕ) × (t : ℕ) × (before.fresh ≡ false → b ≡ s) × (after.next ≡ sequence_number t)
     × DeliversTo H b items t M a × is r (after_answers a M) H

@@ -8,7 +8,7 @@ use Rattle.bac_log.specs.TrendLog.{Log}
 use Rattle.bac_link.specs.Delivery.{History, Moment}
 use Rattle.bac_walk.specs.Replies.{Wanted}
 use Rattle.bac_walk.specs.Replies.{IsAnswer}
-use Rattle.bac_walk.specs.Heard.{Heard}
+use Rattle.bac_walk.specs.Heard.{AckParameters}
 
 -- the records and the first number that a log's reply holds
 abbrev pub records_of : ℕ → Log → Extent → List Entry
@@ -24,6 +24,6 @@ parameters_in (Some (Complex segmented invoke service parameters)) = if segmente
 parameters_in message = None
 
 -- what a walk hears is the whole reply of a moment, with the right count
-abbrev pub Says : ℕ → Moment → History → Wanted → Option Heard → Type 0
+abbrev pub Says : ℕ → Moment → History → Wanted → Option AckParameters → Type 0
 Says r m H wanted None = ⊥
 Says r m H wanted (Some h) = IsAnswer r m H wanted h.first h.entries × (h.count ≡ length h.entries)

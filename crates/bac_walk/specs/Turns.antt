@@ -1,9 +1,9 @@
 -- What one honest answer means to a walk.
 use Rattle.std.specs.Prelude.{◌++◌, min, max, ◌-◌, nat_lt, ◌≡◌, ℕ, Bool, true, false, ◌+◌, ◌<◌, ◌≤◌, ◌⊎◌, if◌then◌else◌, List, [], ◌∷◌, length}
-use Rattle.bac_log.specs.TrendLog.{number}
+use Rattle.bac_log.specs.TrendLog.{sequence_number}
 use Rattle.bac_link.specs.declared.item.Item.{Item}
 use Rattle.bac_link.specs.declared.item.Item.TheVariants.{Gap, Logged}
-use Rattle.bac_walk.specs.Place.{Place}
+use Rattle.bac_walk.specs.Place.{WalkPlace}
 use Rattle.bac_walk.specs.declared.outcome.Progress.{Progress}
 use Rattle.bac_walk.specs.declared.outcome.Progress.TheVariants.{Batch as BatchOf, AskOldest, CaughtUp as IsUp}
 use Rattle.bac_walk.specs.Replies.{fitting}
@@ -16,22 +16,22 @@ use Rattle.bac_walk.specs.Walks.{items_in, asks_oldest_now, numbered}
 abbrev pub Covers : ℕ → List Item → ℕ → Type 0
 Covers s [] t = t ≡ s
 Covers s (Gap first before ∷ items) t =
-    (first ≡ number s) × (0 < distance first before) × Covers (s + distance first before) items t
-Covers s (Logged shown entry ∷ items) t = (shown ≡ number s) × Covers (s + 1) items t
+    (first ≡ sequence_number s) × (0 < distance first before) × Covers (s + distance first before) items t
+Covers s (Logged shown entry ∷ items) t = (shown ≡ sequence_number s) × Covers (s + 1) items t
 
 -- the entries of the ordinals from s on, each held at the moment
 abbrev pub AreRecords : History → Moment → ℕ → List Item → Type 0
 AreRecords H m s [] = Unit {0}
 AreRecords H m s (Gap first before ∷ items) = ⊥
 AreRecords H m s (Logged shown entry ∷ items) =
-    (shown ≡ number s) × Holds m s × IsEntry H s entry × AreRecords H m (s + 1) items
+    (shown ≡ sequence_number s) × Holds m s × IsEntry H s entry × AreRecords H m (s + 1) items
 
 -- one batch: entries held at the moment, at least one. Where they don't begin at s, a gap comes first: it shows
 -- the oldest held as its end, and is just so long
 abbrev pub IsBatch : History → Moment → ℕ → List Item → Type 0
 IsBatch H m s [] = ⊥
 IsBatch H m s (Gap first before ∷ items) =
-    (first ≡ number s) × (before ≡ number m.oldest) × (0 < distance first before)
+    (first ≡ sequence_number s) × (before ≡ sequence_number m.oldest) × (0 < distance first before)
     × (s + distance first before ≡ m.oldest) × (0 < length items) × AreRecords H m m.oldest items
 IsBatch H m s (Logged shown entry ∷ items) = AreRecords H m s (Logged shown entry ∷ items)
 
@@ -48,18 +48,18 @@ reply_count r H m by_oldest s =
 -- asked for, with the gap before them
 abbrev pub whole_reply : ℕ → History → Moment → Bool → ℕ → List Item
 whole_reply r H m by_oldest s =
-    (if nat_lt s m.oldest then Gap (number s) (number m.oldest) ∷ [] else [])
+    (if nat_lt s m.oldest then Gap (sequence_number s) (sequence_number m.oldest) ∷ [] else [])
     ++ numbered (max s m.oldest) (entries_from H (max s m.oldest) (reply_count r H m by_oldest s))
 
 -- the ordinal where the next batch begins, of a walk that is at ordinal s
-abbrev pub base : Place → ℕ → Moment → ℕ
+abbrev pub base : WalkPlace → ℕ → Moment → ℕ
 base w s m = if w.fresh then m.oldest else s
 
 -- one answer and what the walk makes of it
-abbrev pub IsTurn : ℕ → History → Moment → ℕ → Place → Progress → Place → Type 0
+abbrev pub IsTurn : ℕ → History → Moment → ℕ → WalkPlace → Progress → WalkPlace → Type 0
 IsTurn r H m s w (BatchOf b) after =
     (t : ℕ) × IsBatch H m (base w s m) (items_in b) × Covers (base w s m) (items_in b) t
-    × (after ≡ record { log = w.log; next = number t; fresh = false; asks_oldest = false })
+    × (after ≡ record { log = w.log; next = sequence_number t; fresh = false; asks_oldest = false })
     × (items_in b ≡ whole_reply r H m w.asks_oldest (base w s m))
 IsTurn r H m s w AskOldest after =
     (asks_oldest_now w ≡ false) × NoneOfHundred s m × (after ≡ record w { asks_oldest = true })

@@ -3,13 +3,13 @@ use Rattle.std.specs.Prelude.{◌≡◌, ℕ, Bool, true, false, ◌+◌, nat_lt
 use Rattle.bac_apdu.specs.declared.service.extent.Extent.{Extent}
 use Rattle.bac_apdu.specs.declared.service.extent.Extent.TheVariants.{ByNumber, ByTime}
 use Rattle.bac_log.specs.declared.entry.Entry.{Entry}
-use Rattle.bac_log.specs.TrendLog.{number}
+use Rattle.bac_log.specs.TrendLog.{sequence_number}
 use Rattle.bac_walk.specs.Replies.{Wanted, FromOrdinal, FromOldest, first_date, first_time}
-use Rattle.bac_walk.specs.Heard.{Heard}
+use Rattle.bac_walk.specs.Heard.{AckParameters}
 use Rattle.bac_walk.specs.Ordinals.{is_number, distance, number_after, is_ahead}
 use Rattle.bac_link.specs.declared.item.Item.{Item}
 use Rattle.bac_link.specs.declared.item.Item.TheVariants.{Gap, Logged}
-use Rattle.bac_walk.specs.Place.{Place}
+use Rattle.bac_walk.specs.Place.{WalkPlace}
 use Rattle.bac_walk.specs.declared.batch.Gap.{Gap as GapOf}
 use Rattle.bac_walk.specs.declared.batch.Numbered.{Numbered}
 use Rattle.bac_walk.specs.declared.batch.Batch.{Batch}
@@ -18,22 +18,22 @@ use Rattle.bac_walk.specs.declared.outcome.Progress.{Progress}
 use Rattle.bac_walk.specs.declared.outcome.Progress.TheVariants.{Batch as BatchOf, AskOldest, CaughtUp}
 
 -- whether the oldest entries are asked for
-abbrev pub asks_oldest_now : Place → Bool
+abbrev pub asks_oldest_now : WalkPlace → Bool
 asks_oldest_now w = w.fresh || w.asks_oldest
 
 -- the extent that is asked for: a hundred from the next number on, or a hundred from the oldest on, as those newer than
 -- 1900-01-01T00:00:00.00
-abbrev pub question_of : Place → Extent
+abbrev pub question_of : WalkPlace → Extent
 question_of w = if asks_oldest_now w then ByTime first_date first_time (pos 100) else ByNumber w.next (pos 100)
 
 -- what that is where the walk is at ordinal s
-abbrev pub wanted_at : Place → ℕ → Wanted
+abbrev pub wanted_at : WalkPlace → ℕ → Wanted
 wanted_at w s = if asks_oldest_now w then FromOldest else FromOrdinal s
 
 -- entries with their numbers, the first of which is this
 abbrev pub with_numbers : ℕ → List Entry → List Numbered
 with_numbers n [] = []
-with_numbers n (e ∷ es) = record { number = n; entry = e } ∷ with_numbers (number_after n 1) es
+with_numbers n (e ∷ es) = record { sequence_number = n; entry = e } ∷ with_numbers (number_after n 1) es
 
 -- items that show these numbers
 abbrev pub shown_from : ℕ → List Entry → List Item
@@ -43,7 +43,7 @@ shown_from n (e ∷ es) = Logged n e ∷ shown_from (number_after n 1) es
 -- the entries of the ordinals from k on
 abbrev pub numbered : ℕ → List Entry → List Item
 numbered k [] = []
-numbered k (e ∷ es) = Logged (number k) e ∷ numbered (k + 1) es
+numbered k (e ∷ es) = Logged (sequence_number k) e ∷ numbered (k + 1) es
 
 -- a record with its number, as an item
 abbrev pub item_of : Numbered → Item
@@ -59,26 +59,26 @@ abbrev pub items_in : Batch → List Item
 items_in b = gap_items b.gap ++ map item_of b.entries.items
 
 -- the gap before number `first`
-abbrev pub gap_of : Place → ℕ → List Item
+abbrev pub gap_of : WalkPlace → ℕ → List Item
 gap_of w first = if not w.fresh && nat_lt 0 (distance w.next first) then Gap w.next first ∷ [] else []
 
 -- what entries from number `first` on bring to a walk
-abbrev pub brought : Place → ℕ → List Entry → List Item
+abbrev pub brought : WalkPlace → ℕ → List Entry → List Item
 brought w first es = gap_of w first ++ shown_from first es
 
 -- whether the oldest entries were asked for and begin before the next number
-abbrev pub is_past : Place → ℕ → Bool
+abbrev pub is_past : WalkPlace → ℕ → Bool
 is_past w first = asks_oldest_now w && not w.fresh && not (is_ahead w.next first)
 
 -- what is to be done with an answer
-pub data Verdict : Type 0 where
-  Refuse : Verdict
-  Ask : Verdict
-  End : Verdict
-  Bring : (first : ℕ) → Verdict
+pub data NextAct : Type 0 where
+  Refuse : NextAct
+  Ask : NextAct
+  End : NextAct
+  Bring : (first : ℕ) → NextAct
 
 -- whether so many entries from number `first` on, which is one, were asked for
-abbrev pub fits : Place → ℕ → ℕ → Bool
+abbrev pub fits : WalkPlace → ℕ → ℕ → Bool
 fits w first count =
     nat_le count 100
     && (is_number first
@@ -86,7 +86,7 @@ fits w first count =
 
 -- without records: no more, or ask for the oldest; with records and no first number: refused; where those are past: no
 -- more; else they are taken where the count is right and they were asked for
-abbrev pub verdict : Place → Option ℕ → ℕ → List Entry → Verdict
+abbrev pub verdict : WalkPlace → Option ℕ → ℕ → List Entry → NextAct
 verdict w first count [] = if asks_oldest_now w then End else Ask
 verdict w None count (e ∷ es) = Refuse
 verdict w (Some first) count (e ∷ es) =
@@ -94,7 +94,7 @@ verdict w (Some first) count (e ∷ es) =
     else (if (count == length (e ∷ es)) && fits w first (length (e ∷ es)) then Bring first else Refuse)
 
 -- what is answered by a verdict on these entries, and where the walk is then
-abbrev pub IsTaken : Place → List Entry → Verdict → Result Progress BadReply → Place → Type 0
+abbrev pub IsTaken : WalkPlace → List Entry → NextAct → Result Progress BadReply → WalkPlace → Type 0
 IsTaken old es Refuse (Err e) new = new ≡ old
 IsTaken old es Ask (Ok AskOldest) new = new ≡ record old { asks_oldest = true }
 IsTaken old es End (Ok CaughtUp) new = new ≡ old
@@ -104,6 +104,6 @@ IsTaken old es (Bring first) (Ok (BatchOf b)) new =
 IsTaken old es _ _ new = ⊥
 
 -- the same of parameters that say nothing to the walk, which are refused, or what they say
-abbrev pub IsTakenFrom : Place → Option Heard → Result Progress BadReply → Place → Type 0
+abbrev pub IsTakenFrom : WalkPlace → Option AckParameters → Result Progress BadReply → WalkPlace → Type 0
 IsTakenFrom old None result new = IsTaken old [] Refuse result new
 IsTakenFrom old (Some h) result new = IsTaken old h.entries (verdict old h.first h.count h.entries) result new

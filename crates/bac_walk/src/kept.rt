@@ -1,7 +1,7 @@
 //! Walks whose items are kept.
 
 ghost use Rattle.std.specs.Prelude.{true, false, [], ◌∷◌, ◌≡◌, ℕ, ◌+◌, ◌*◌, ◌≤◌, List, length, vec_capacity};
-ghost use Rattle.bac_log.specs.TrendLog.{number};
+ghost use Rattle.bac_log.specs.TrendLog.{sequence_number};
 ghost use Rattle.bac_link.specs.Delivery.{History, Moment, DeliversTo};
 ghost use Rattle.bac_link.specs.Path.{towards};
 ghost use Rattle.bac_link.specs.Laws.{after_answers};
@@ -83,9 +83,9 @@ pub fn collect<L: LogLink>(
     // ordinal s, and wherever the walk comes it is less than half of the count away from the oldest
     // record held.
     ensures headline { (r : ℕ) (M : List Moment) (H : History) (s : ℕ) →
-        L.is_honest link.old walk.old.log r M H → walk.old.next ≡ number s →
+        L.is_honest link.old walk.old.log r M H → walk.old.next ≡ sequence_number s →
         StaysNear r H M walk.old.fresh s steps →
-        (b : ℕ) × (a : ℕ) × (t : ℕ) × (walk.old.fresh ≡ false → b ≡ s) × (walk.new.next ≡ number t)
+        (b : ℕ) × (a : ℕ) × (t : ℕ) × (walk.old.fresh ≡ false → b ≡ s) × (walk.new.next ≡ sequence_number t)
         × DeliversTo H b result.items.items t M a × L.is_honest link.new walk.old.log r (after_answers a M) H }
     // It is a run of so many steps, or of fewer that had no memory for the next, of which nothing was
     // asked: over any link, and over an honest one with all that its answers brought and how it ended.
@@ -95,7 +95,7 @@ pub fn collect<L: LogLink>(
         × (length result.items.items ≤ 101 * n) × (transactions.new.begun ≤ transactions.old.begun + 2 * n) }
     // Over a link that loses nothing, of a log that doesn't change, or that the link lacks.
     ensures resting { (r : ℕ) (m : Moment) (H : History) (s : ℕ) →
-        L.is_sure link.old (towards transactions.old.route) → L.is_honest link.old walk.old.log r (m ∷ []) H → walk.old.next ≡ number s →
+        L.is_sure link.old (towards transactions.old.route) → L.is_honest link.old walk.old.log r (m ∷ []) H → walk.old.next ≡ sequence_number s →
         (walk.old.fresh ≡ false → IsNear s m) →
         Rests (rest r H m walk.old.fresh s steps) steps result.items.items result.next result.why }
     ensures missing { L.lacks link.old walk.old.log → L.is_sure link.old (towards transactions.old.route) →

@@ -1,7 +1,7 @@
 //! Walks that are stopped and gone on with.
 
 ghost use Rattle.std.specs.Prelude.{false, ◌≡◌, ◌+◌, ◌<◌, ◌≤◌, ◌++◌, ℕ, List};
-ghost use Rattle.bac_log.specs.TrendLog.{number};
+ghost use Rattle.bac_log.specs.TrendLog.{sequence_number};
 ghost use Rattle.bac_link.specs.Delivery.{History, Moment, DeliversTo};
 ghost use Rattle.bac_walk.specs.Near.{AreInWindow};
 ghost use Rattle.bac_walk.specs.Sinks.{Call, Takes, put_items, is_stopped};
@@ -23,9 +23,9 @@ pub fn stop_and_resume<L: LogLink, S: Sink, R: Sink>(
     rest: &mut R,
 ) -> (Ended, Ended)
     ensures resumed { (r : ℕ) (M : List Moment) (H : History) (s low : ℕ) →
-        walk.old.fresh ≡ false → L.is_honest link.old walk.old.log r M H → walk.old.next ≡ number s →
+        walk.old.fresh ≡ false → L.is_honest link.old walk.old.log r M H → walk.old.next ≡ sequence_number s →
         AreInWindow low M → low ≤ s → s < low + 2147483648 →
-        (first : List Call) × (second : List Call) × (a : ℕ) × (t : ℕ) × (walk.new.next ≡ number t)
+        (first : List Call) × (second : List Call) × (a : ℕ) × (t : ℕ) × (walk.new.next ≡ sequence_number t)
         × Takes S.puts sink.old first (is_stopped result.0) sink.new × Takes R.puts rest.old second (is_stopped result.1) rest.new
         × DeliversTo H s (put_items first ++ put_items second) t M a }
 {

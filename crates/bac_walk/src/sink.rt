@@ -1,7 +1,7 @@
 //! Walks that hand on one record at a time.
 
 ghost use Rattle.std.specs.Prelude.{◌≡◌, ◌≤◌, ◌+◌, ◌*◌, ℕ, Bool, Option, List};
-ghost use Rattle.bac_log.specs.TrendLog.{number};
+ghost use Rattle.bac_log.specs.TrendLog.{sequence_number};
 ghost use Rattle.bac_link.specs.Delivery.{History, Moment};
 ghost use Rattle.bac_link.specs.Path.{towards};
 ghost use Rattle.bac_walk.specs.declared.batch.Gap.{Gap as GapOf};
@@ -66,7 +66,7 @@ pub fn deliver<L: LogLink, S: Sink>(
     ensures sure { L.is_sure link.old (towards transactions.old.route) → L.is_sure link.new (towards transactions.new.route) }
     ensures kept { L.is_sure link.old (towards transactions.old.route) → L.keeps link.old link.new }
     ensures answered { (r : ℕ) (M : List Moment) (H : History) (s : ℕ) →
-        L.is_sure link.old (towards transactions.old.route) → L.is_honest link.old walk.old.log r M H → walk.old.next ≡ number s →
+        L.is_sure link.old (towards transactions.old.route) → L.is_honest link.old walk.old.log r M H → walk.old.next ≡ sequence_number s →
         StaysNear r H M walk.old.fresh s steps → FoundEnd result }
     // A device without the log says so.
     ensures lacking { L.lacks link.old walk.old.log →
@@ -101,7 +101,7 @@ fn deliver_step<L: LogLink, S: Sink>(
     ensures sure { L.is_sure link.old (towards transactions.old.route) → L.is_sure link.new (towards transactions.new.route) }
     ensures kept { L.is_sure link.old (towards transactions.old.route) → L.keeps link.old link.new }
     ensures answered { (r : ℕ) (M : List Moment) (H : History) (s : ℕ) →
-        L.is_sure link.old (towards transactions.old.route) → L.is_honest link.old walk.old.log r M H → walk.old.next ≡ number s →
+        L.is_sure link.old (towards transactions.old.route) → L.is_honest link.old walk.old.log r M H → walk.old.next ≡ sequence_number s →
         StaysNear r H M walk.old.fresh s 1 → FoundEnd result }
     ensures lacking { L.lacks link.old walk.old.log →
         MissingEnd 1 result × (sink.new ≡ sink.old) × (walk.new.next ≡ walk.old.next) × L.lacks link.new walk.old.log }

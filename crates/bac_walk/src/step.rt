@@ -8,7 +8,7 @@ ghost use Rattle.bac_link.specs.Laws.{after_answers};
 ghost use Rattle.bac_walk.specs.Near.{IsNear, IsNearStep};
 ghost use Rattle.bac_walk.specs.Turned.{IsTurned};
 ghost use Rattle.bac_walk.specs.Rests.{rest, IsRest};
-ghost use Rattle.bac_log.specs.TrendLog.{number};
+ghost use Rattle.bac_log.specs.TrendLog.{sequence_number};
 ghost use Rattle.bac_walk.specs.Replied.{IsSame, heard_in, progress_of, step_of};
 ghost use Rattle.bac_walk.specs.Spelled.{data_held, records_from};
 ghost use Rattle.bac_walk.specs.Told.{Told, ToldTurn};
@@ -64,7 +64,7 @@ impl Walk {
         ensures told { ToldTurn L.asks (towards transactions.old.route) transactions.old.retries self.old (progress_of result) self.new link.new }
         ensures goes { (s : ℕ) → Goes self.old.fresh self.old.next s (turn_items (progress_of result)) self.new.fresh self.new.next }
         ensures honest { (r : ℕ) (M : List Moment) (H : History) (s : ℕ) →
-            L.is_honest link.old self.old.log r M H → self.old.next ≡ number s → (self.old.fresh ≡ false → IsNear s (now M)) →
+            L.is_honest link.old self.old.log r M H → self.old.next ≡ sequence_number s → (self.old.fresh ≡ false → IsNear s (now M)) →
             IsTurned (λ N. L.is_honest link.new self.old.log r N H) r M H s self.old
             transactions.old.retries (L.failures link.old) (L.failures link.new) (progress_of result) self.new }
     {
@@ -98,11 +98,11 @@ impl Walk {
         ensures sure { L.is_sure link.old (towards transactions.old.route) → L.is_sure link.new (towards transactions.new.route) }
         ensures kept { L.is_sure link.old (towards transactions.old.route) → L.keeps link.old link.new }
         ensures answered { (r : ℕ) (M : List Moment) (H : History) (s : ℕ) →
-            L.is_sure link.old (towards transactions.old.route) → L.is_honest link.old self.old.log r M H → self.old.next ≡ number s →
+            L.is_sure link.old (towards transactions.old.route) → L.is_honest link.old self.old.log r M H → self.old.next ≡ sequence_number s →
             (self.old.fresh ≡ false → IsNearStep s M) → FoundStep result }
         // Over a log that doesn't change it is one step of a walk of it.
         ensures resting { (r : ℕ) (m : Moment) (H : History) (s : ℕ) →
-            L.is_sure link.old (towards transactions.old.route) → L.is_honest link.old self.old.log r (m ∷ []) H → self.old.next ≡ number s →
+            L.is_sure link.old (towards transactions.old.route) → L.is_honest link.old self.old.log r (m ∷ []) H → self.old.next ≡ sequence_number s →
             (self.old.fresh ≡ false → IsNear s m) →
             IsRest (rest r H m self.old.fresh s 1) (step_items result) self.new.next (step_ended result) }
         // A device without the log says so.
@@ -114,13 +114,13 @@ impl Walk {
         ensures goes { (s : ℕ) → Goes self.old.fresh self.old.next s (step_items result) self.new.fresh self.new.next }
         // Over an honest link it delivers the next records that the log holds, with the gap before them.
         ensures headline { (r : ℕ) (M : List Moment) (H : History) (s : ℕ) →
-            L.is_honest link.old self.old.log r M H → self.old.next ≡ number s → (self.old.fresh ≡ false → IsNearStep s M) →
-            (b : ℕ) × (a : ℕ) × (t : ℕ) × (self.old.fresh ≡ false → b ≡ s) × (self.new.next ≡ number t)
+            L.is_honest link.old self.old.log r M H → self.old.next ≡ sequence_number s → (self.old.fresh ≡ false → IsNearStep s M) →
+            (b : ℕ) × (a : ℕ) × (t : ℕ) × (self.old.fresh ≡ false → b ≡ s) × (self.new.next ≡ sequence_number t)
             × DeliversTo H b (step_items result) t M a × L.is_honest link.new self.old.log r (after_answers a M) H }
         // The walk is at ordinal s before the step, near its log, and at t after it.
         ensures honest { (r : ℕ) (M : List Moment) (H : History) (s : ℕ) →
-            L.is_honest link.old self.old.log r M H → self.old.next ≡ number s → (self.old.fresh ≡ false → IsNearStep s M) →
-            (answers : List (List Item)) × (t : ℕ) × (self.new.next ≡ number t)
+            L.is_honest link.old self.old.log r M H → self.old.next ≡ sequence_number s → (self.old.fresh ≡ false → IsNearStep s M) →
+            (answers : List (List Item)) × (t : ℕ) × (self.new.next ≡ sequence_number t)
             × Collected r H M self.old.fresh s 1
             transactions.old.retries (L.failures link.old) (L.failures link.new)
             (step_items result) t (step_ended result) answers
@@ -145,15 +145,15 @@ impl Walk {
         ensures sure { L.is_sure link.old (towards transactions.old.route) → L.is_sure link.new (towards transactions.new.route) }
         ensures kept { L.is_sure link.old (towards transactions.old.route) → L.keeps link.old link.new }
         ensures answered { (r : ℕ) (M : List Moment) (H : History) (s : ℕ) →
-            L.is_sure link.old (towards transactions.old.route) → L.is_honest link.old self.old.log r M H → self.old.next ≡ number s →
+            L.is_sure link.old (towards transactions.old.route) → L.is_honest link.old self.old.log r M H → self.old.next ≡ sequence_number s →
             (self.old.fresh ≡ false → IsNearStep s M) → FoundStep (step_of result) }
         ensures lacking { L.lacks link.old self.old.log → MissingStep (step_of result) × L.lacks link.new self.old.log }
         ensures refused { L.lacks link.old self.old.log → L.is_sure link.old (towards transactions.old.route) → FoundStep (step_of result) }
         ensures told { Told L.asks (towards transactions.old.route) transactions.old.retries (step_ended (step_of result)) self.new link.new }
         ensures goes { (s : ℕ) → Goes self.old.fresh self.old.next s (step_items (step_of result)) self.new.fresh self.new.next }
         ensures honest { (r : ℕ) (M : List Moment) (H : History) (s : ℕ) →
-            L.is_honest link.old self.old.log r M H → self.old.next ≡ number s → (self.old.fresh ≡ false → IsNearStep s M) →
-            (answers : List (List Item)) × (t : ℕ) × (self.new.next ≡ number t)
+            L.is_honest link.old self.old.log r M H → self.old.next ≡ sequence_number s → (self.old.fresh ≡ false → IsNearStep s M) →
+            (answers : List (List Item)) × (t : ℕ) × (self.new.next ≡ sequence_number t)
             × Collected r H M self.old.fresh s 1
             transactions.old.retries (L.failures link.old) (L.failures link.new)
             (step_items (step_of result)) t (step_ended (step_of result)) answers

@@ -4,7 +4,7 @@ ghost use Rattle.bac_walk.specs.Heard.{heard_at};
 ghost use Rattle.bac_link.specs.Links.{AsksFor};
 ghost use Rattle.bac_link.specs.Requests.{IsTooLong};
 ghost use Rattle.bac_walk.specs.Ordinals.{distance, number_after, is_ahead};
-ghost use Rattle.bac_walk.specs.Place.{Place, IsWalk, walk_at, walk_from_oldest};
+ghost use Rattle.bac_walk.specs.Place.{WalkPlace, IsWalk, walk_at, walk_from_oldest};
 ghost use Rattle.bac_walk.specs.Walks.{asks_oldest_now, question_of, is_past, fits, gap_items, gap_of, IsTakenFrom};
 ghost use Rattle.bac_walk.specs.Replied.{IsJudged};
 ghost use Rattle.bac_walk.specs.Spelled.{IsWhole, records_from};
@@ -34,7 +34,7 @@ pub struct Walk {
 }
 
 impl Model for Walk {
-    ghost Value = { Place };
+    ghost Value = { WalkPlace };
 
     ghost view = { λ w. record { log = w.log; next = w.next; fresh = w.fresh; asks_oldest = w.asks_oldest } };
 

@@ -22,7 +22,7 @@ use Rattle.bac_link.specs.Moments.{AreServed, log_at}
 use Rattle.bac_link.specs.Path.{towards}
 use Rattle.bac_link.specs.Requests.{parameters_of, request_apdu, request_octets}
 use Rattle.bac_link.proofs.Datagrams.{request_again}
-use Rattle.bac_walk.specs.Heard.{Heard}
+use Rattle.bac_walk.specs.Heard.{AckParameters}
 use Rattle.bac_walk.specs.Replies.{Wanted, extent_of}
 use Rattle.bac_walk.specs.Takes.{Says}
 use Rattle.bac_walk.specs.Replied as replied
@@ -120,6 +120,6 @@ says_now rounds H d id wanted invoke kind valid here near =
     let ack = is_ack rounds H d id (extent_of wanted) invoke kind here in
     let served = served_at rounds H id.instance d here in (
       served,
-      subst (λ (o : Option Heard). Says d.reply_size m H wanted o) (heard_same id octets (apdu_in octets) invoke ack.0 ack.1)
+      subst (λ (o : Option AckParameters). Says d.reply_size m H wanted o) (heard_same id octets (apdu_in octets) invoke ack.0 ack.1)
           (says_in octets d.reply_size (m ∷ []) H id wanted (towards None) invoke served near valid (replied_at rounds H d id (extent_of wanted) invoke kind here)),
     )

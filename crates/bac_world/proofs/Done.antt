@@ -2,14 +2,14 @@
 use Rattle.std.proofs.Common.{◌≡◌, ℕ, zero, suc, Bool, true, false, ◌||◌, ◌+◌, ◌-◌, ◌<◌, ◌≤◌, ◌⊎◌, inl, inr, if◌then◌else◌, List, [], ◌∷◌, ◌++◌, length, take, Option, Some, None, refl, sym, ap, subst, ◌∙◌, arith, length-append, nat_lt}
 use Rattle.std.proofs.lemmas.Bool.{ltb-true, ltb-false}
 use Rattle.std.proofs.lemmas.List.{length-take, take_all}
-use Rattle.bac_log.specs.TrendLog.{number}
+use Rattle.bac_log.specs.TrendLog.{sequence_number}
 use Rattle.bac_link.specs.declared.item.Item.{Item}
 use Rattle.bac_link.specs.Delivery.{History, Moment, Brings, Leads, items_of}
 use Rattle.bac_link.specs.Laws.{moment_at}
 use Rattle.bac_walk.specs.Collects.{batches, start_of}
 use Rattle.bac_walk.specs.Delivers.{NoneFrom, end_of}
 use Rattle.bac_walk.specs.Near.{IsNear}
-use Rattle.bac_walk.specs.Place.{Place}
+use Rattle.bac_walk.specs.Place.{WalkPlace}
 use Rattle.bac_walk.specs.Turns.{Covers, IsBatch, NoneOfHundred}
 use Rattle.bac_walk.specs.Walks.{asks_oldest_now}
 use Rattle.bac_walk.proofs.Cuts.{Covers-end, one_answer}
@@ -23,16 +23,16 @@ use Rattle.bac_world.proofs.Grows.{moment_at-grow, moment_at-last, idle, length-
 abbrev pub CaughtPart : History → List Moment → Bool → ℕ → ℕ → Bool → List (List Item) → Option ℕ → Type 0
 CaughtPart H M fresh s began waits done None = Unit {0}
 CaughtPart H M fresh s began waits done (Some n) =
-    (i : ℕ) × (t : ℕ) × (i < length M) × (waits ≡ true → i < began) × (n ≡ number t) × Led H M fresh s (take i done) t × NoneFrom t (moment_at M i)
+    (i : ℕ) × (t : ℕ) × (i < length M) × (waits ≡ true → i < began) × (n ≡ sequence_number t) × Led H M fresh s (take i done) t × NoneFrom t (moment_at M i)
 
 -- what was delivered, by the answers up to the last that brought a batch: the walk is at ordinal t
-pub record DonePart (H : History) (M : List Moment) (fresh : Bool) (s began : ℕ) (waits : Bool) (walk : Place) (items : List Item) (caught : Option ℕ)
+pub record DonePart (H : History) (M : List Moment) (fresh : Bool) (s began : ℕ) (waits : Bool) (walk : WalkPlace) (items : List Item) (caught : Option ℕ)
     (done : List (List Item)) (t : ℕ) : Type 0 where
   pub short : length done ≤ length M
   pub behind : waits ≡ true → length done ≤ began
   pub led : Led H M fresh s done t
   pub all : items_of done ≡ items
-  pub next : walk.next ≡ number t
+  pub next : walk.next ≡ sequence_number t
   pub early : walk.fresh ≡ true → (fresh ≡ true) × (done ≡ [])
   pub late : walk.fresh ≡ false → fresh ≡ true → 0 < batches done
   pub hundred : walk.fresh ≡ false → walk.asks_oldest ≡ true →
@@ -47,7 +47,7 @@ caught_asked : (H : History) (M : List Moment) (fresh : Bool) (s began : ℕ) (w
 caught_asked H M fresh s began waits done None c = tt
 caught_asked H M fresh s began waits done (Some n) c = (c.0, c.1, c.2, λ w. c.2, c.4, c.5, c.6)
 
-pub done_asked : (H : History) (M : List Moment) (fresh : Bool) (s began : ℕ) (waits : Bool) (walk : Place) (items : List Item) (caught : Option ℕ)
+pub done_asked : (H : History) (M : List Moment) (fresh : Bool) (s began : ℕ) (waits : Bool) (walk : WalkPlace) (items : List Item) (caught : Option ℕ)
     (done : List (List Item)) (t : ℕ) → DonePart H M fresh s began waits walk items caught done t →
     DonePart H M fresh s (length M) true walk items caught done t
 done_asked H M fresh s began waits walk items caught done t d = record {
@@ -99,7 +99,7 @@ near_grown M m began t old new q from below = at (nat_lt q (length M)) refl
         let Q : ℕ → Type 0 = λ k. IsNear t (moment_at (M ++ m ∷ []) k) in
         subst Q (sym last) (subst P (sym (moment_at-last M m)) new)
 
-pub done_grown : (H : History) (M : List Moment) (m : Moment) (fresh : Bool) (s began : ℕ) (waits : Bool) (walk : Place) (items : List Item) (caught : Option ℕ)
+pub done_grown : (H : History) (M : List Moment) (m : Moment) (fresh : Bool) (s began : ℕ) (waits : Bool) (walk : WalkPlace) (items : List Item) (caught : Option ℕ)
     (done : List (List Item)) (t : ℕ) → (walk.fresh ≡ false → IsNear t m) → DonePart H M fresh s began waits walk items caught done t →
     DonePart H (M ++ m ∷ []) fresh s began waits walk items caught done t
 done_grown H M m fresh s began waits walk items caught done t near d =
@@ -126,7 +126,7 @@ caught_closed : (H : History) (M : List Moment) (fresh : Bool) (s began : ℕ) (
 caught_closed H M fresh s began waits done None c = tt
 caught_closed H M fresh s began waits done (Some n) c = (c.0, c.1, c.2, λ w. absurd (cc), c.4, c.5, c.6)
 
-pub done_closed : (H : History) (M : List Moment) (fresh : Bool) (s began : ℕ) (waits : Bool) (walk : Place) (items : List Item) (caught : Option ℕ)
+pub done_closed : (H : History) (M : List Moment) (fresh : Bool) (s began : ℕ) (waits : Bool) (walk : WalkPlace) (items : List Item) (caught : Option ℕ)
     (done : List (List Item)) (t : ℕ) → DonePart H M fresh s began waits walk items caught done t →
     DonePart H M fresh s began false (restarted walk) items caught done t
 done_closed H M fresh s began waits walk items caught done t d = record {
@@ -143,7 +143,7 @@ done_closed H M fresh s began waits walk items caught done t d = record {
 }
 
 -- no entry of the hundred from the next number on is held: the oldest are asked for next
-pub done_idle : (H : History) (M : List Moment) (fresh : Bool) (s began : ℕ) (waits : Bool) (walk : Place) (items : List Item) (caught : Option ℕ)
+pub done_idle : (H : History) (M : List Moment) (fresh : Bool) (s began : ℕ) (waits : Bool) (walk : WalkPlace) (items : List Item) (caught : Option ℕ)
     (done : List (List Item)) (t p : ℕ) → DonePart H M fresh s began waits walk items caught done t →
     waits ≡ true → began ≤ p → p < length M → NoneOfHundred t (moment_at M p) →
     DonePart H M fresh s began false (record walk { asks_oldest = true }) items caught done t
@@ -171,7 +171,7 @@ led_whole H M fresh s t done i le led =
     let P : List (List Item) → Type 0 = λ xs. Led H M fresh s xs t in
     subst P (sym (take_all i done le)) led
 
-caught_now : (H : History) (M : List Moment) (fresh : Bool) (s began : ℕ) (waits : Bool) (walk : Place) (items : List Item) (caught : Option ℕ)
+caught_now : (H : History) (M : List Moment) (fresh : Bool) (s began : ℕ) (waits : Bool) (walk : WalkPlace) (items : List Item) (caught : Option ℕ)
     (done : List (List Item)) (t p : ℕ) → DonePart H M fresh s began waits walk items caught done t →
     waits ≡ true → began ≤ p → p < length M → ((i : ℕ) → i < p → (moment_at M i).oldest ≤ (moment_at M p).oldest) → asks_oldest_now walk ≡ true →
     (((moment_at M p).newest < (moment_at M p).oldest) ⊎ ((walk.fresh ≡ false) × ((moment_at M p).oldest < t))) →
@@ -199,7 +199,7 @@ caught_now H M fresh s began waits walk items caught done t p d w from below bef
       λ k above held. q.4 t (omega arith) (omega arith) (omega arith, omega (arith, held.0, held.1, above)),
     )
 
-pub done_up : (H : History) (M : List Moment) (fresh : Bool) (s began : ℕ) (waits : Bool) (walk : Place) (items : List Item) (caught : Option ℕ)
+pub done_up : (H : History) (M : List Moment) (fresh : Bool) (s began : ℕ) (waits : Bool) (walk : WalkPlace) (items : List Item) (caught : Option ℕ)
     (done : List (List Item)) (t p : ℕ) → DonePart H M fresh s began waits walk items caught done t →
     waits ≡ true → began ≤ p → p < length M → ((i : ℕ) → i < p → (moment_at M i).oldest ≤ (moment_at M p).oldest) → asks_oldest_now walk ≡ true →
     (((moment_at M p).newest < (moment_at M p).oldest) ⊎ ((walk.fresh ≡ false) × ((moment_at M p).oldest < t))) →
@@ -240,9 +240,9 @@ start_after false s M done more some = refl
 start_after true s M done more some = start_of-more s M done more (some refl)
 
 -- behind others
-done_more : (H : History) (M : List Moment) (fresh : Bool) (s began : ℕ) (waits : Bool) (walk after : Place) (items : List Item) (caught : Option ℕ)
+done_more : (H : History) (M : List Moment) (fresh : Bool) (s began : ℕ) (waits : Bool) (walk after : WalkPlace) (items : List Item) (caught : Option ℕ)
     (done : List (List Item)) (t u p : ℕ) (b : List Item) → DonePart H M fresh s began waits walk items caught done t →
-    waits ≡ true → began ≤ p → p < length M → walk.fresh ≡ false → after.fresh ≡ false → after.asks_oldest ≡ false → after.next ≡ number u →
+    waits ≡ true → began ≤ p → p < length M → walk.fresh ≡ false → after.fresh ≡ false → after.asks_oldest ≡ false → after.next ≡ sequence_number u →
     IsBatch H (moment_at M p) t b → Covers t b u →
     DonePart H M fresh s began false after (items ++ b) caught (done ++ (idle (p - length done) ++ b ∷ [])) u
 done_more H M fresh s began waits walk after items caught done t u p [] d w from below old f a next batch covers = absurd batch
@@ -267,9 +267,9 @@ done_more H M fresh s began waits walk after items caught done t u p (x ∷ b) d
     }
 
 -- the first of a walk from the oldest entry
-done_first : (H : History) (M : List Moment) (s began : ℕ) (waits : Bool) (walk after : Place) (caught : Option ℕ) (t u p : ℕ) (b : List Item) →
+done_first : (H : History) (M : List Moment) (s began : ℕ) (waits : Bool) (walk after : WalkPlace) (caught : Option ℕ) (t u p : ℕ) (b : List Item) →
     DonePart H M true s began waits walk [] caught [] t →
-    waits ≡ true → began ≤ p → p < length M → after.fresh ≡ false → after.asks_oldest ≡ false → after.next ≡ number u →
+    waits ≡ true → began ≤ p → p < length M → after.fresh ≡ false → after.asks_oldest ≡ false → after.next ≡ sequence_number u →
     IsBatch H (moment_at M p) (moment_at M p).oldest b → Covers (moment_at M p).oldest b u →
     DonePart H M true s began false after b caught (idle p ++ b ∷ []) u
 done_first H M s began waits walk after caught t u p [] d w from below f a next batch covers = absurd batch
@@ -289,9 +289,9 @@ done_first H M s began waits walk after caught t u p (x ∷ b) d w from below f 
       up = caught_after H M true s began waits [] caught p (x ∷ b) d.up w (omega arith);
     }
 
-pub done_batch : (H : History) (M : List Moment) (fresh : Bool) (s began : ℕ) (waits : Bool) (walk after : Place) (items : List Item) (caught : Option ℕ)
+pub done_batch : (H : History) (M : List Moment) (fresh : Bool) (s began : ℕ) (waits : Bool) (walk after : WalkPlace) (items : List Item) (caught : Option ℕ)
     (done : List (List Item)) (t u p : ℕ) (b : List Item) → DonePart H M fresh s began waits walk items caught done t →
-    waits ≡ true → began ≤ p → p < length M → (first : Bool) → walk.fresh ≡ first → after.fresh ≡ false → after.asks_oldest ≡ false → after.next ≡ number u →
+    waits ≡ true → began ≤ p → p < length M → (first : Bool) → walk.fresh ≡ first → after.fresh ≡ false → after.asks_oldest ≡ false → after.next ≡ sequence_number u →
     IsBatch H (moment_at M p) (if first then (moment_at M p).oldest else t) b → Covers (if first then (moment_at M p).oldest else t) b u →
     (more : List (List Item)) × DonePart H M fresh s began false after (items ++ b) caught more u
 done_batch H M fresh s began waits walk after items caught done t u p b d w from below false is f a next batch covers =
@@ -328,7 +328,7 @@ no_batch : (fresh : Bool) (done : List (List Item)) (k : ℕ) → (fresh ≡ tru
 no_batch false done k late none = refl
 no_batch true done k late none = absurd (omega (arith, late refl, batches-padded done k, none))
 
-pub stands_of : (H : History) (M : List Moment) (fresh : Bool) (s began : ℕ) (waits : Bool) (walk : Place) (items : List Item) (caught : Option ℕ)
+pub stands_of : (H : History) (M : List Moment) (fresh : Bool) (s began : ℕ) (waits : Bool) (walk : WalkPlace) (items : List Item) (caught : Option ℕ)
     (done : List (List Item)) (t : ℕ) → DonePart H M fresh s began waits walk items caught done t →
     (answers : List (List Item)) × (length answers ≡ length M) × (items_of answers ≡ items) × Led H M fresh s answers t × WasCaughtUp H M fresh s answers caught
     × (walk.fresh ≡ false → batches answers ≡ 0 → fresh ≡ false)

@@ -15,14 +15,14 @@ use Rattle.bac_link.specs.Delivery.{History, Moment}
 use Rattle.bac_link.specs.Laws.{moment_at}
 use Rattle.bac_link.specs.Moments.{AreServed}
 use Rattle.bac_link.specs.Transactions.{is_awaited}
-use Rattle.bac_walk.specs.Heard.{Heard}
+use Rattle.bac_walk.specs.Heard.{AckParameters}
 use Rattle.bac_walk.specs.Ordinals.{number_after}
-use Rattle.bac_walk.specs.Place.{Place}
+use Rattle.bac_walk.specs.Place.{WalkPlace}
 use Rattle.bac_walk.specs.Near.{IsNear}
 use Rattle.bac_walk.specs.Replies.{Wanted}
 use Rattle.bac_walk.specs.Takes.{Says}
 use Rattle.bac_walk.specs.Collects.{batches}
-use Rattle.bac_walk.specs.Walks.{Verdict, Bring, Refuse, Ask, End, brought, verdict, wanted_at}
+use Rattle.bac_walk.specs.Walks.{NextAct, Bring, Refuse, Ask, End, brought, verdict, wanted_at}
 use Rattle.bac_walk.specs.Walks as walks
 use Rattle.bac_walk.proofs.Asking.{asks_at, near_to}
 use Rattle.bac_apdu.specs.declared.service.extent.Extent.{Extent}
@@ -181,7 +181,7 @@ module _ (rounds : ℕ) (near : Type 0) (H : History) (fresh : Bool) (s : ℕ) (
       subst P (sym (moment_in rounds n devices i before.0 before.1))
       (subst Q (sym (moment_in rounds n devices p d at)) (omega (arith, a.rises i p before.0 d (omega arith) before.1 at)))
 
-  keep_taken : (run : Run) (asked : Pending) (v : Verdict) (es : List Entry) (p : ℕ) → run.network.transactions.pending ≡ Some asked → (i : Inv rounds near H fresh s log run) →
+  keep_taken : (run : Run) (asked : Pending) (v : NextAct) (es : List Entry) (p : ℕ) → run.network.transactions.pending ≡ Some asked → (i : Inv rounds near H fresh s log run) →
       run.began ≤ p → p < length (moments_in rounds log.instance run.devices) →
       ((q : ℕ) → q < p → (moment_at (moments_in rounds log.instance run.devices) q).oldest ≤ (moment_at (moments_in rounds log.instance run.devices) p).oldest) →
       ((g : near) → VerdictOf H (moment_at (moments_in rounds log.instance run.devices) p) (i.delivers g).t run.network.walk v es) →
@@ -234,7 +234,7 @@ module _ (rounds : ℕ) (near : Type 0) (H : History) (fresh : Bool) (s : ℕ) (
   keep_taken run asked (Bring f) es p is i from below before said =
       let w = run.network in
       let M = moments_in rounds log.instance run.devices in
-      let after : Place = record { log = w.walk.log; next = number_after f (length es); fresh = false; asks_oldest = false } in
+      let after : WalkPlace = record { log = w.walk.log; next = number_after f (length es); fresh = false; asks_oldest = false } in
       record {
         same = i.same;
         kind = i.kind;
@@ -250,7 +250,7 @@ module _ (rounds : ℕ) (near : Type 0) (H : History) (fresh : Bool) (s : ℕ) (
       }
 
   -- an answer of a moment after the request began
-  keep_heard : (run : Run) (asked : Pending) (o : Option Heard) (p : ℕ) (d : State) → run.network.transactions.pending ≡ Some asked → (i : Inv rounds near H fresh s log run) →
+  keep_heard : (run : Run) (asked : Pending) (o : Option AckParameters) (p : ℕ) (d : State) → run.network.transactions.pending ≡ Some asked → (i : Inv rounds near H fresh s log run) →
       run.began ≤ p → slice_get run.devices p ≡ Some d →
       ((g : near) → run.network.walk.fresh ≡ false → IsNear (i.delivers g).t (placed rounds (moment_of (log_with d log.instance)))) →
       ((g : near) → AreServed d.reply_size (placed rounds (moment_of (log_with d log.instance)) ∷ []) H

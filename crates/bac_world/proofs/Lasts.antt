@@ -14,8 +14,8 @@ use Rattle.bac_link.specs.Laws.{moment_at}
 use Rattle.bac_link.specs.Moments.{IsMoment, entries_from}
 use Rattle.bac_link.specs.Transactions.{is_awaited}
 use Rattle.bac_link.specs.declared.transactions.Pending.{Pending}
-use Rattle.bac_walk.specs.Heard.{Heard}
-use Rattle.bac_walk.specs.Walks.{Verdict, Bring, Refuse, Ask, End, verdict}
+use Rattle.bac_walk.specs.Heard.{AckParameters}
+use Rattle.bac_walk.specs.Walks.{NextAct, Bring, Refuse, Ask, End, verdict}
 use Rattle.bac_direct.specs.Ahead.{IsThere, log_with, logged_since, moment_of, placed, turn}
 use Rattle.bac_direct.specs.declared.event.LinkEvent.TheVariants as link
 use Rattle.bac_direct.proofs.Ahead.{log_is}
@@ -49,13 +49,13 @@ keeps_times_out : (w : Network) (p : Option Pending) → KeepsDevice w (times_ou
 keeps_times_out w None = stays w.device
 keeps_times_out w (Some p) = keeps_repeats w p _
 
-keeps_takes : (w : Network) (v : Verdict) (es : List Entry) → KeepsDevice w (takes w v es)
+keeps_takes : (w : Network) (v : NextAct) (es : List Entry) → KeepsDevice w (takes w v es)
 keeps_takes w Refuse es = stays w.device
 keeps_takes w Ask es = stays w.device
 keeps_takes w End es = stays w.device
 keeps_takes w (Bring f) es = stays w.device
 
-keeps_hears : (w : Network) (h : Option Heard) → KeepsDevice w (hears w h)
+keeps_hears : (w : Network) (h : Option AckParameters) → KeepsDevice w (hears w h)
 keeps_hears w None = stays w.device
 keeps_hears w (Some h) = keeps_takes w (verdict w.walk h.first h.count h.entries) h.entries
 

@@ -20,7 +20,7 @@ use Rattle.bac_link.specs.Requests.{next_invoke, request_octets}
 use Rattle.bac_link.specs.Transactions.{begun_with, closed, is_awaited}
 use Rattle.bac_link.specs.declared.transactions.Pending.{Pending}
 use Rattle.bac_link.specs.declared.transactions.Transactions.{Transactions}
-use Rattle.bac_walk.specs.Place.{Place}
+use Rattle.bac_walk.specs.Place.{WalkPlace}
 use Rattle.bac_walk.specs.Walks as walks
 use Rattle.bac_direct.specs.Events.{datagram_in}
 use Rattle.bac_world.specs.declared.packet.Packet.{Packet}
@@ -50,15 +50,15 @@ Belongs devices began request Client octets = IsReplied devices began request oc
 
 -- ---- the open request
 
-pub record IsOpen (log : Id) (devices : List State) (began : ℕ) (packets : List Packet) (begun : ℕ) (walk : Place) (request : List ℕ) : Type 0 where
+pub record IsOpen (log : Id) (devices : List State) (began : ℕ) (packets : List Packet) (begun : ℕ) (walk : WalkPlace) (request : List ℕ) : Type 0 where
   pub asks : IsQuestion log (walks.question_of walk) (towards None) (begun % 256) request
   pub belong : (k : ℕ) (p : Packet) → slice_get packets k ≡ Some p → p.transaction ≡ begun → Belongs devices began request p.to p.datagram
 
-abbrev pub OpenPart : Id → List State → ℕ → List Packet → ℕ → Place → Option Pending → Type 0
+abbrev pub OpenPart : Id → List State → ℕ → List Packet → ℕ → WalkPlace → Option Pending → Type 0
 OpenPart log devices began packets begun walk None = Unit {0}
 OpenPart log devices began packets begun walk (Some asked) = IsOpen log devices began packets begun walk asked.request
 
-pub record PacketPart (log : Id) (devices : List State) (began : ℕ) (packets : List Packet) (begun : ℕ) (transactions : Transactions) (walk : Place) : Type 0 where
+pub record PacketPart (log : Id) (devices : List State) (began : ℕ) (packets : List Packet) (begun : ℕ) (transactions : Transactions) (walk : WalkPlace) : Type 0 where
   pub route : transactions.route ≡ None
   pub invoke : transactions.invoke ≡ begun % 256
   pub begins : began ≤ length devices
@@ -72,7 +72,7 @@ abbrev packet : ℕ → Side → List ℕ → Packet
 packet j to octets = record { transaction = j; to = to; datagram = octets }
 
 -- a question begins
-pub packets_begun : (log : Id) (devices : List State) (began : ℕ) (packets : List Packet) (begun : ℕ) (tx : Transactions) (walk : Place) →
+pub packets_begun : (log : Id) (devices : List State) (began : ℕ) (packets : List Packet) (begun : ℕ) (tx : Transactions) (walk : WalkPlace) →
     walk.log ≡ log → IsValid (Object log) → IsExtent (walks.question_of walk) → PacketPart log devices began packets begun tx walk →
     PacketPart log devices (length devices) (sent packets (begun + 1) Device (request_octets (towards tx.route) (next_invoke tx.invoke) (question_of walk))) (begun + 1)
     (begun_with (question_of walk) tx) walk
@@ -113,7 +113,7 @@ packets_begun log devices began packets begun tx walk own valid ranged a =
     }
 
 -- its octets are sent again
-pub packets_again : (log : Id) (devices : List State) (began : ℕ) (packets : List Packet) (begun : ℕ) (tx : Transactions) (walk : Place) (asked : Pending) (count : ℕ) →
+pub packets_again : (log : Id) (devices : List State) (began : ℕ) (packets : List Packet) (begun : ℕ) (tx : Transactions) (walk : WalkPlace) (asked : Pending) (count : ℕ) →
     tx.pending ≡ Some asked → PacketPart log devices began packets begun tx walk →
     PacketPart log devices began (sent packets begun Device asked.request) begun (record tx { pending = Some (record asked { repeats = count }) }) walk
 packets_again log devices began packets begun tx walk asked count is a =
@@ -145,7 +145,7 @@ packets_again log devices began packets begun tx walk asked count is a =
     }
 
 -- nothing is open any more
-pub packets_closed : (log : Id) (devices : List State) (began : ℕ) (packets : List Packet) (begun : ℕ) (tx : Transactions) (walk after : Place) →
+pub packets_closed : (log : Id) (devices : List State) (began : ℕ) (packets : List Packet) (begun : ℕ) (tx : Transactions) (walk after : WalkPlace) →
     PacketPart log devices began packets begun tx walk → PacketPart log devices began packets begun (closed tx) after
 packets_closed log devices began packets begun tx walk after a =
     record { route = a.route; invoke = a.invoke; begins = a.begins; young = a.young; known = a.known; opened = tt }
@@ -160,7 +160,7 @@ belongs_more : (devices : List State) (d : State) (began : ℕ) (request : List 
 belongs_more devices d began request Device octets b = b
 belongs_more devices d began request Client octets b = replied_more devices d began request octets b
 
-open_more : (log : Id) (devices : List State) (began : ℕ) (packets : List Packet) (begun : ℕ) (walk : Place) (pending : Option Pending) (d : State) (k j : ℕ) (octets text : List ℕ) →
+open_more : (log : Id) (devices : List State) (began : ℕ) (packets : List Packet) (begun : ℕ) (walk : WalkPlace) (pending : Option Pending) (d : State) (k j : ℕ) (octets text : List ℕ) →
     slice_get packets k ≡ Some (packet j Device octets) → datagram_in (answer d octets).0 ≡ Some text → began ≤ length devices →
     OpenPart log devices began packets begun walk pending → OpenPart log (devices ++ d ∷ []) began (sent packets j Client text) begun walk pending
 open_more log devices began packets begun walk None d k j octets text at said begins o = tt
@@ -176,7 +176,7 @@ open_more log devices began packets begun walk (Some asked) d k j octets text at
       ];
     }
 
-pub packets_answered : (rounds : ℕ) (H : History) (log : Id) (devices : List State) (began : ℕ) (packets : List Packet) (begun : ℕ) (tx : Transactions) (walk : Place)
+pub packets_answered : (rounds : ℕ) (H : History) (log : Id) (devices : List State) (began : ℕ) (packets : List Packet) (begun : ℕ) (tx : Transactions) (walk : WalkPlace)
     (d : State) (k j : ℕ) (octets : List ℕ) (extent : Extent) → log.kind ≡ 20 → InHistory rounds H log.instance d →
     slice_get packets k ≡ Some (packet j Device octets) → IsQuestion log extent (towards None) (j % 256) octets →
     PacketPart log devices began packets begun tx walk →
@@ -204,7 +204,7 @@ packets_answered rounds H log devices began packets begun tx walk d k j octets e
 
 -- ---- what the client takes for the answer to the open request is one
 
-pub is_right : (log : Id) (devices : List State) (began : ℕ) (packets : List Packet) (begun : ℕ) (tx : Transactions) (walk : Place) (asked : Pending)
+pub is_right : (log : Id) (devices : List State) (began : ℕ) (packets : List Packet) (begun : ℕ) (tx : Transactions) (walk : WalkPlace) (asked : Pending)
     (k j : ℕ) (octets : List ℕ) → PacketPart log devices began packets begun tx walk → tx.pending ≡ Some asked →
     slice_get packets k ≡ Some (packet j Client octets) → nat_lt begun (j + 256) ≡ true → is_awaited (Some asked) octets ≡ true →
     IsOpen log devices began packets begun walk asked.request × IsReplied devices began asked.request octets

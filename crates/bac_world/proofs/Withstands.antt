@@ -2,13 +2,13 @@
 use Rattle.std.proofs.Common.{◌≡◌, ℕ, Bool, true, false, ◌&&◌, List, [], ◌∷◌, ◌++◌, slice_get, Option, Some, refl, sym, ap, subst, ◌∙◌, arith}
 use Rattle.std.proofs.lemmas.Bool.{and_parts}
 use Rattle.bac_wire.specs.Primitive.{Id}
-use Rattle.bac_log.specs.TrendLog.{number}
+use Rattle.bac_log.specs.TrendLog.{sequence_number}
 use Rattle.bac_objects.specs.State.{State}
 use Rattle.bac_link.specs.declared.item.Item.{Item}
 use Rattle.bac_link.specs.declared.transactions.Pending.{Pending}
 use Rattle.bac_link.specs.Delivery.{History}
 use Rattle.bac_walk.specs.Collects.{start_of}
-use Rattle.bac_walk.specs.Place.{Place}
+use Rattle.bac_walk.specs.Place.{WalkPlace}
 use Rattle.bac_direct.specs.Ahead.{IsThere}
 use Rattle.bac_link.specs.Transactions.{is_awaited}
 use Rattle.bac_world.specs.declared.event.WorldEvent.{WorldEvent}
@@ -37,11 +37,11 @@ start_none false s = refl
 
 -- ---- the first event
 
-log_start : (rounds : ℕ) (d : State) (walk : Place) (retries : ℕ) (es : List WorldEvent) → IsThere d walk.log.instance →
+log_start : (rounds : ℕ) (d : State) (walk : WalkPlace) (retries : ℕ) (es : List WorldEvent) → IsThere d walk.log.instance →
     LogPart rounds (history_of rounds walk.log.instance (started d walk retries) es) walk.log.instance d (entries_of walk.log.instance (started d walk retries) es)
 log_start rounds d walk retries es there = record { there = there; past = []; gone = omega arith; entries = refl }
 
-inv_start : (rounds : ℕ) (near : Type 0) (H : History) (d : State) (walk : Place) (retries s : ℕ) → IsSane (started d walk retries) → walk.asks_oldest ≡ false → walk.next ≡ number s →
+inv_start : (rounds : ℕ) (near : Type 0) (H : History) (d : State) (walk : WalkPlace) (retries s : ℕ) → IsSane (started d walk retries) → walk.asks_oldest ≡ false → walk.next ≡ sequence_number s →
     Inv rounds near H walk.fresh s walk.log (record { network = started d walk retries; devices = []; began = 0 })
 inv_start rounds near H d walk retries s sane new next = record {
   same = refl;
@@ -86,14 +86,14 @@ are_right rounds near H fresh s log run k i p asked at side is taken =
 
 -- ---- the theorem
 
-abbrev Outcome : Network → List WorldEvent → Network → Place → ℕ → ℕ → Type 0
+abbrev Outcome : Network → List WorldEvent → Network → WalkPlace → ℕ → ℕ → Type 0
 Outcome old es new walk s rounds =
     (IsNearAll rounds walk s old es → (answers : List (List Item)) × (t : ℕ)
     × Stands (history_of rounds walk.log.instance old es) (moments_of rounds walk.log.instance old es) walk.fresh s new answers t)
     × ((before : List WorldEvent) (k : ℕ) (after : List WorldEvent) → es ≡ before ++ Deliver k ∷ after → IsRight (run_of old before) k)
 
-from_start : (d : State) (walk : Place) (retries s rounds : ℕ) (es : List WorldEvent) → AreSane (started d walk retries) es → walk.asks_oldest ≡ false →
-    IsThere d walk.log.instance → walk.next ≡ number s → Outcome (started d walk retries) es (happens_all (started d walk retries) es) walk s rounds
+from_start : (d : State) (walk : WalkPlace) (retries s rounds : ℕ) (es : List WorldEvent) → AreSane (started d walk retries) es → walk.asks_oldest ≡ false →
+    IsThere d walk.log.instance → walk.next ≡ sequence_number s → Outcome (started d walk retries) es (happens_all (started d walk retries) es) walk s rounds
 from_start d walk retries s rounds es sane new there next =
     let w = started d walk retries in
     let n = walk.log.instance in

@@ -20,10 +20,10 @@ use Rattle.bac_link.specs.declared.item.Item.{Item}
 use Rattle.bac_link.specs.declared.request.Request.{Request}
 use Rattle.bac_link.specs.declared.transactions.Pending.{Pending}
 use Rattle.bac_link.specs.declared.transactions.Transactions.{Transactions}
-use Rattle.bac_walk.specs.Heard.{Heard, heard_at}
+use Rattle.bac_walk.specs.Heard.{AckParameters, heard_at}
 use Rattle.bac_walk.specs.Ordinals.{number_after}
-use Rattle.bac_walk.specs.Place.{Place}
-use Rattle.bac_walk.specs.Walks.{Verdict, Bring, Refuse, brought, verdict}
+use Rattle.bac_walk.specs.Place.{WalkPlace}
+use Rattle.bac_walk.specs.Walks.{NextAct, Bring, Refuse, brought, verdict}
 use Rattle.bac_walk.specs.Walks as walks
 use Rattle.bac_world.specs.declared.event.WorldEvent.{WorldEvent}
 use Rattle.bac_world.specs.declared.event.WorldEvent.TheVariants.{Ask, Deliver, Timeout, Sample, Advance, Handle}
@@ -35,7 +35,7 @@ use Rattle.bac_world.specs.declared.packet.Side.TheVariants.{Device, Client}
 -- sent, in the order of sending, what the walk has delivered, and its next number when it was last caught up.
 pub record Network : Type 0 where
   pub device : State
-  pub walk : Place
+  pub walk : WalkPlace
   pub transactions : Transactions
   pub begun : ℕ
   pub packets : List Packet
@@ -43,7 +43,7 @@ pub record Network : Type 0 where
   pub caught : Option ℕ
 
 -- before the first event
-abbrev pub started : State → Place → ℕ → Network
+abbrev pub started : State → WalkPlace → ℕ → Network
 started d walk retries = record {
   device = d;
   walk = walk;
@@ -67,7 +67,7 @@ is_young w transaction = nat_lt w.begun (transaction + 256)
 -- ---- the client asks
 
 -- the question of a walk as a request
-abbrev pub question_of : Place → Request
+abbrev pub question_of : WalkPlace → Request
 question_of walk = question walk.log (walks.question_of walk)
 
 -- the question of the walk is sent under the next invoke ID
@@ -86,7 +86,7 @@ asks w (Some p) = w
 -- ---- no answer comes in time
 
 -- a walk that is back at the first question of its step
-abbrev pub restarted : Place → Place
+abbrev pub restarted : WalkPlace → WalkPlace
 restarted walk = record walk { asks_oldest = false }
 
 -- the same octets once more, a packet of the same transaction
@@ -123,7 +123,7 @@ replies w transaction said = record w { device = said.1; packets = reply_sent w.
 -- ---- a packet comes to the client
 
 -- what the walk makes of an answer, by its verdict on it
-abbrev pub takes : Network → Verdict → List Entry → Network
+abbrev pub takes : Network → NextAct → List Entry → Network
 takes w Refuse es = record w { walk = restarted w.walk }
 takes w walks.Ask es = record w { walk = record w.walk { asks_oldest = true } }
 takes w walks.End es = record w { walk = restarted w.walk; caught = Some w.walk.next }
@@ -133,17 +133,17 @@ takes w (Bring first) es = record w {
 }
 
 -- an answer that says nothing to the walk is refused
-abbrev pub hears : Network → Option Heard → Network
+abbrev pub hears : Network → Option AckParameters → Network
 hears w None = takes w Refuse []
 hears w (Some h) = takes w (verdict w.walk h.first h.count h.entries) h.entries
 
 -- the records of a ComplexACK; any other answer says nothing
-abbrev pub heard_of : Id → Answer → Option Heard
+abbrev pub heard_of : Id → Answer → Option AckParameters
 heard_of log (answer.Complex parameters) = heard_at log parameters
 heard_of log other = None
 
 -- the same of an answer beside its invoke ID, if there is one
-abbrev pub heard_in : Id → Option (ℕ × Answer) → Option Heard
+abbrev pub heard_in : Id → Option (ℕ × Answer) → Option AckParameters
 heard_in log None = None
 heard_in log (Some said) = heard_of log said.1
 

@@ -5,7 +5,7 @@ use Rattle.bac_link.specs.declared.item.Item.{Item}
 use Rattle.bac_link.specs.declared.transactions.Pending.{Pending}
 use Rattle.bac_link.specs.Delivery.{History, Moment, DeliversTo, Leads, items_of}
 use Rattle.bac_link.specs.Laws.{moment_at}
-use Rattle.bac_log.specs.TrendLog.{number}
+use Rattle.bac_log.specs.TrendLog.{sequence_number}
 use Rattle.bac_log.specs.declared.entry.Entry.{Entry}
 use Rattle.bac_objects.specs.Sound.{IsSound}
 use Rattle.bac_objects.specs.State.{State}
@@ -14,7 +14,7 @@ use Rattle.bac_device.specs.declared.reply.Reply.{Reply}
 use Rattle.bac_walk.specs.Collects.{batches, start_of}
 use Rattle.bac_walk.specs.Delivers.{NoneFrom}
 use Rattle.bac_walk.specs.Near.{IsNear, AreInWindow}
-use Rattle.bac_walk.specs.Place.{Place}
+use Rattle.bac_walk.specs.Place.{WalkPlace}
 use Rattle.bac_walk.specs.Walks as walks
 use Rattle.bac_wire.specs.Canon.{IsValid}
 use Rattle.bac_wire.specs.Primitive.{Object}
@@ -113,7 +113,7 @@ history_of rounds n w es = record { logged = (log_with w.device n).before + turn
 abbrev pub WasCaughtUp : History → List Moment → Bool → ℕ → List (List Item) → Option ℕ → Type 0
 WasCaughtUp H M fresh s answers None = Unit {0}
 WasCaughtUp H M fresh s answers (Some n) =
-    (i : ℕ) × (t : ℕ) × (i < length M) × (n ≡ number t)
+    (i : ℕ) × (t : ℕ) × (i < length M) × (n ≡ sequence_number t)
     × Leads H M (start_of fresh s M (take i answers)) (take i answers) t × NoneFrom t (moment_at M i)
 
 -- What the answers brought, one for each moment: a walk that was at ordinal s, or that began at the oldest entry, is at
@@ -122,7 +122,7 @@ pub record Stands (H : History) (M : List Moment) (fresh : Bool) (s : ℕ) (w : 
   pub count : length answers ≡ length M
   pub all : items_of answers ≡ w.items
   pub leads : Leads H M (start_of fresh s M answers) answers t
-  pub next : w.walk.next ≡ number t
+  pub next : w.walk.next ≡ sequence_number t
   pub caught : WasCaughtUp H M fresh s answers w.caught
 
 -- ---- how near a walk is to its log
@@ -141,7 +141,7 @@ StaysNear rounds n H fresh s run (e ∷ es) =
     IsNearWhere rounds n H fresh s run (devices_after run e) × StaysNear rounds n H fresh s (follow run e) es
 
 -- a walk of this log that is at ordinal s, or at the oldest entry, stays near while these events happen
-abbrev pub IsNearAll : ℕ → Place → ℕ → Network → List WorldEvent → Type 0
+abbrev pub IsNearAll : ℕ → WalkPlace → ℕ → Network → List WorldEvent → Type 0
 IsNearAll rounds walk s w es = StaysNear rounds walk.log.instance (history_of rounds walk.log.instance w es) walk.fresh s (run_of w []) es
 
 -- ---- the theorem
@@ -162,8 +162,8 @@ IsRight run k =
 -- that it took was right, near or not.
 abbrev pub WithstandsFrom : Network → List WorldEvent → Network → Type 0
 WithstandsFrom old es new =
-    (d : State) (walk : Place) (retries s rounds : ℕ) → old ≡ started d walk retries → walk.asks_oldest ≡ false →
-    IsThere d walk.log.instance → walk.next ≡ number s →
+    (d : State) (walk : WalkPlace) (retries s rounds : ℕ) → old ≡ started d walk retries → walk.asks_oldest ≡ false →
+    IsThere d walk.log.instance → walk.next ≡ sequence_number s →
     (IsNearAll rounds walk s old es → (answers : List (List Item)) × (t : ℕ)
     × Stands (history_of rounds walk.log.instance old es) (moments_of rounds walk.log.instance old es) walk.fresh s new answers t)
     × ((before : List WorldEvent) (k : ℕ) (after : List WorldEvent) → es ≡ before ++ Deliver k ∷ after → IsRight (run_of old before) k)
@@ -171,9 +171,9 @@ WithstandsFrom old es new =
 -- the headline of it: a walk from ordinal s, or from the oldest entry
 abbrev pub DeliversFrom : Network → List WorldEvent → Network → Type 0
 DeliversFrom old es new =
-    (d : State) (walk : Place) (retries s rounds : ℕ) → old ≡ started d walk retries → walk.asks_oldest ≡ false →
-    IsThere d walk.log.instance → walk.next ≡ number s → IsNearAll rounds walk s old es →
-    (b : ℕ) × (t : ℕ) × (walk.fresh ≡ false → b ≡ s) × (new.walk.next ≡ number t)
+    (d : State) (walk : WalkPlace) (retries s rounds : ℕ) → old ≡ started d walk retries → walk.asks_oldest ≡ false →
+    IsThere d walk.log.instance → walk.next ≡ sequence_number s → IsNearAll rounds walk s old es →
+    (b : ℕ) × (t : ℕ) × (walk.fresh ≡ false → b ≡ s) × (new.walk.next ≡ sequence_number t)
     × DeliversTo (history_of rounds walk.log.instance old es) b new.items t (moments_of rounds walk.log.instance old es)
     (length (moments_of rounds walk.log.instance old es))
 
@@ -198,6 +198,6 @@ Withstands = (w : Network) (es : List WorldEvent) → AreSane w es → Withstand
 -- A plain premise that is enough for a walk to stay near: all that is logged or held at any of the moments lies within
 -- half of the count from one ordinal on, and so does the ordinal where the walk begins, unless that is the oldest entry.
 abbrev pub WindowsStayNear : Type 0
-WindowsStayNear = (rounds low s : ℕ) (walk : Place) (w : Network) (es : List WorldEvent) →
+WindowsStayNear = (rounds low s : ℕ) (walk : WalkPlace) (w : Network) (es : List WorldEvent) →
     AreInWindow low (moments_of rounds walk.log.instance w es) → (walk.fresh ≡ false → (low ≤ s) × (s < low + 2147483648)) →
     IsNearAll rounds walk s w es

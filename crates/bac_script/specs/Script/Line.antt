@@ -16,17 +16,17 @@ use Rattle.bac_script.specs.Script.Words.{words_of, text_in}
 -- what happens to a device: it receives these octets, its clock comes to this moment,
 -- its Trend Log with this instance takes a sample, or a client walks a trend log, from
 -- a sequence number or, without one, from its oldest record, in at most so many steps
-pub data Event : Type 0 where
-  Received : List ℕ → Event
-  Clocked : CivilTime → Event
-  Sampled : ℕ → Event
-  Walked : Id → Option ℕ → ℕ → Event
+pub data ScriptEvent : Type 0 where
+  Received : List ℕ → ScriptEvent
+  Clocked : CivilTime → ScriptEvent
+  Sampled : ℕ → ScriptEvent
+  Walked : Id → Option ℕ → ℕ → ScriptEvent
 
 -- what a line says: the device, one of its objects, or an event
 pub data ScriptLine : Type 0 where
   Device : DeviceLine → ScriptLine
   Object : ObjectLine → ScriptLine
-  Happens : Event → ScriptLine
+  Happens : ScriptEvent → ScriptLine
 
 -- ---- what the words behind the first one say, by the kind of the line
 

@@ -1,7 +1,7 @@
 //! What a walk of a trend log prints.
 
 ghost use Rattle.std.specs.Prelude.{◌≡◌, [], ◌∷◌, ℕ, false, IfOk};
-ghost use Rattle.bac_log.specs.TrendLog.{number};
+ghost use Rattle.bac_log.specs.TrendLog.{sequence_number};
 ghost use Rattle.bac_link.specs.Delivery.{History, Moment};
 ghost use Rattle.bac_link.specs.Path.{towards};
 ghost use Rattle.bac_walk.specs.Near.{IsNear};
@@ -63,7 +63,7 @@ fn walk_over<L: LogLink>(
     steps: u32,
 ) -> Result<Vec<u8>, AllocError>
     ensures rests { (r : ℕ) (m : Moment) (H : History) (s : ℕ) →
-        L.is_sure link.old (towards transactions.old.route) → L.is_honest link.old walk.old.log r (m ∷ []) H → walk.old.next ≡ number s →
+        L.is_sure link.old (towards transactions.old.route) → L.is_honest link.old walk.old.log r (m ∷ []) H → walk.old.next ≡ sequence_number s →
         (walk.old.fresh ≡ false → IsNear s m) →
         IfOk result (λ text. text.items ≡ rested_text (rest r H m walk.old.fresh s steps)) }
     ensures missing { L.lacks link.old walk.old.log → L.is_sure link.old (towards transactions.old.route) →

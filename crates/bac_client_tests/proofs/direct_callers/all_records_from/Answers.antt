@@ -11,7 +11,7 @@ use Rattle.bac_link.specs.Moments.{log_at}
 use Rattle.bac_link.specs.declared.transactions.Transactions.{Transactions}
 use Rattle.bac_link.specs.Delivery.{History, Moment}
 use Rattle.bac_walk.specs.Near.{IsNear}
-use Rattle.bac_walk.specs.Place.{Place}
+use Rattle.bac_walk.specs.Place.{WalkPlace}
 use Rattle.bac_walk.specs.Rests.{Misses, Rested, Rests, rest, rest_all}
 use Rattle.bac_direct.specs.Ahead.{IsAhead, Lacks, history_ahead, log_with, moment_of, placed, turn}
 use Rattle.bac_client_tests.specs.Held.{held_from}
@@ -43,7 +43,7 @@ returns-clause-records c = λ k there here near more.
     let close : IsNear k m = subst (λ (x : Moment). IsNear k x) zero near in
     let whole = c.rests_all.ensures r H m k c.args.steps ahead.served loggable close (subst (λ (x : Moment). (x.newest + 1) - max k x.oldest < c.args.steps) zero (enough log k c.args.steps more)) in
     let all : held_from log k ≡ (rest_all H m k).items = sym (held_all log k) ∙ ap (λ (x : Moment). (rest_all (history_of log) x k).items) zero ∙ ap (λ (h : History). (rest_all h m k).items) same in
-    elim (subst R (ap (λ (w : Place). w.fresh) is) (c.collect.ensures.resting r m H k (c.new-link.ensures.events, ap (λ (t : Transactions). t.route) c.new-transactions.ensures) (subst K (sym (ap (λ (w : Place). w.log) is ∙ id)) (0, ahead)) (ap (λ (w : Place). w.next) is ∙ here) (λ old. close))) [
+    elim (subst R (ap (λ (w : WalkPlace). w.fresh) is) (c.collect.ensures.resting r m H k (c.new-link.ensures.events, ap (λ (t : Transactions). t.route) c.new-transactions.ensures) (subst K (sym (ap (λ (w : WalkPlace). w.log) is ∙ id)) (0, ahead)) (ap (λ (w : WalkPlace). w.next) is ∙ here) (λ old. close))) [
       | inl memory ↦ inl memory
       | inr rests ↦ inr (rests.0 ∙ ap (λ (x : Rested). x.items) whole ∙ sym all)
     ]
@@ -55,5 +55,5 @@ returns-clause-missing c = λ none.
     let kind = ((c.in-Some.ensures {u = tt}).is_some.0 refl).1 in
     let id : c.args.log ≡ log_id n = ap (λ k. let i : Id = record { kind = k; instance = n } in i) kind in
     let K : Id → Type 0 = λ i. Lacks c.new-link.result.device.now i in
-    subst (λ k. Misses c.args.steps k c.collect.result.items.items c.collect.result.next c.collect.result.why) (ap (λ (w : Place). w.next) is)
-    (c.collect.ensures.missing (subst K (sym (ap (λ (w : Place). w.log) is ∙ id)) (c.new-link.ensures.lacks n none)) (c.new-link.ensures.events, ap (λ (t : Transactions). t.route) c.new-transactions.ensures))
+    subst (λ k. Misses c.args.steps k c.collect.result.items.items c.collect.result.next c.collect.result.why) (ap (λ (w : WalkPlace). w.next) is)
+    (c.collect.ensures.missing (subst K (sym (ap (λ (w : WalkPlace). w.log) is ∙ id)) (c.new-link.ensures.lacks n none)) (c.new-link.ensures.events, ap (λ (t : Transactions). t.route) c.new-transactions.ensures))

@@ -1,6 +1,6 @@
 use Rattle.std.proofs.Common.{◌≡◌, ℕ, ◌+◌, ◌<◌, ◌≤◌, List, [], ◌∷◌, refl, sym, ap, subst, arith}
 use Rattle.bac_wire.specs.Primitive.{Id}
-use Rattle.bac_log.specs.TrendLog.{empty_log, number}
+use Rattle.bac_log.specs.TrendLog.{empty_log, sequence_number}
 use Rattle.bac_objects.specs.State.{State}
 use Rattle.bac_link.specs.Delivery.{DeliversTo, Moment}
 use Rattle.bac_direct.specs.Ahead.{IsThere, history_ahead, moments_ahead, placed_all}
@@ -22,9 +22,9 @@ returns c =
     let items = c.in_ok-outcome.outcome.items.items in
     let next = c.in_ok-outcome.outcome.next in
     let d : State = plant c.args.device.now c.args.name c.args.source in
-    let P : State → Id → List ℕ → Type 0 = λ d id octets. (rounds k low : ℕ) → IsThere d id.instance → 1 ≡ number k →
+    let P : State → Id → List ℕ → Type 0 = λ d id octets. (rounds k low : ℕ) → IsThere d id.instance → 1 ≡ sequence_number k →
     AreInWindow low (placed_all rounds (moments_ahead d id.instance (day_with octets))) → low ≤ k → k < low + 2147483648 →
-    (count : ℕ) × (t : ℕ) × (next ≡ number t) × DeliversTo (history_ahead rounds d id.instance (day_with octets)) k items t (placed_all rounds (moments_ahead d id.instance (day_with octets))) count in
+    (count : ℕ) × (t : ℕ) × (next ≡ sequence_number t) × DeliversTo (history_ahead rounds d id.instance (day_with octets)) k items t (placed_all rounds (moments_ahead d id.instance (day_with octets))) count in
     let a : P c.in-Ok.built c.in_ok-log.log c.in_ok-purge.purge = c.in_ok-outcome.ensures.delivers in
     let b = subst (λ (x : State). P x c.in_ok-log.log c.in_ok-purge.purge) (c.in-Ok.ensures.built).1 a in
     let e = subst (λ (x : Id). P d x c.in_ok-purge.purge) (c.in_ok-log.ensures.some).0 b in

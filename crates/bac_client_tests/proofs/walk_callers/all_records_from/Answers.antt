@@ -4,19 +4,19 @@ use Rattle.bac_apdu.specs.Npdu.{Place as Far}
 use Rattle.bac_link.specs.Path.{towards}
 use Rattle.bac_link.specs.declared.item.Item.{Item}
 use Rattle.bac_link.specs.declared.transactions.Transactions.{Transactions}
-use Rattle.bac_walk.specs.Place.{Place}
+use Rattle.bac_walk.specs.Place.{WalkPlace}
 use Rattle.bac_walk.specs.Rests.{Rested, rest, Rests}
 use Rattle.bac_client_tests.proofs.walk_callers.all_records_from.Goals as goal
 
 pub returns : goal.returns
 returns g c = λ r m H k sure honest here near loggable enough.
     let is = (c.in-Some.ensures {u = tt}).some in
-    let log = ap (λ (w : Place). w.log) is in
+    let log = ap (λ (w : WalkPlace). w.log) is in
     let K : Id → Type 0 = λ n. g.L.LogLink.is_honest c.args.link.now n r (m ∷ []) H in
     let S : Option Far → Type 0 = λ way. g.L.LogLink.is_sure c.args.link.now (towards way) in
     let R : Bool → Type 0 = λ f. Rests (rest r H m f k c.args.steps) c.args.steps c.collect.result.items.items c.collect.result.next c.collect.result.why in
     let whole = c.rests_all.ensures r H m k c.args.steps (g.met.L.LogLink.serves c.args.link.now c.args.log r (m ∷ []) H honest) loggable near enough in
-    elim (subst R (ap (λ (w : Place). w.fresh) is) (c.collect.ensures.resting r m H k (subst S (sym (ap (λ (t : Transactions). t.route) c.new-transactions.ensures)) sure) (subst K (sym log) honest) (ap (λ (w : Place). w.next) is ∙ here) (λ old. near))) [
+    elim (subst R (ap (λ (w : WalkPlace). w.fresh) is) (c.collect.ensures.resting r m H k (subst S (sym (ap (λ (t : Transactions). t.route) c.new-transactions.ensures)) sure) (subst K (sym log) honest) (ap (λ (w : WalkPlace). w.next) is ∙ here) (λ old. near))) [
       | inl memory ↦ inl memory
       | inr rests ↦ inr (rests.0 ∙ ap (λ (x : Rested). x.items) whole)
     ]

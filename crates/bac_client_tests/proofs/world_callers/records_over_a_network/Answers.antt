@@ -1,6 +1,6 @@
 use Rattle.std.proofs.Common.{◌≡◌, ℕ, length, refl, sym, ap, subst, ◌∙◌}
 use Rattle.bac_link.specs.Delivery.{DeliversTo}
-use Rattle.bac_walk.specs.Place.{Place, walk_at}
+use Rattle.bac_walk.specs.Place.{WalkPlace, walk_at}
 use Rattle.bac_world.specs.Network.{Network, started}
 use Rattle.bac_world.specs.Runs.{IsNearAll, history_of, moments_of}
 use Rattle.bac_world.specs.Views.{network_of}
@@ -10,10 +10,10 @@ pub returns-in-Ok-clause-delivers : goal.returns-in-Ok-clause-delivers
 returns-in-Ok-clause-delivers c = λ rounds k low there here window above below.
     let n = c.args.log.instance in
     let es = c.args.events.now in
-    let walk : Place = walk_at c.args.log c.args.s in
+    let walk : WalkPlace = walk_at c.args.log c.args.s in
     let first : Network = started c.args.device walk c.args.retries in
     let begins : network_of c.new-world.result ≡ first =
-    c.new-world.ensures ∙ ap (λ (w : Place). started c.args.device w c.args.retries) (c.in-Some.ensures {u = tt}).some in
+    c.new-world.ensures ∙ ap (λ (w : WalkPlace). started c.args.device w c.args.retries) (c.in-Some.ensures {u = tt}).some in
     let N : Network → Type 0 = λ x. IsNearAll rounds walk k x es in
     let near = c.windows_stay_near.ensures rounds low k walk first es window (λ old. (above, below)) in
     let said = c.in-Ok.ensures.headline c.args.device walk c.args.retries k rounds begins refl there here (subst N (sym begins) near) in

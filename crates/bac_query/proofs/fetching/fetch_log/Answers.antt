@@ -1,7 +1,7 @@
 use Rattle.std.proofs.Common.{◌≡◌, ◌+◌, ◌++◌, ℕ, List, [], Some, Err, refl, sym, ap, subst, ◌∙◌, rules, arith, length-append}
 use Rattle.std.proofs.KnownBytes.{Appends-nil}
 use Rattle.bac_wire.specs.Primitive.{Id}
-use Rattle.bac_log.specs.TrendLog.{number}
+use Rattle.bac_log.specs.TrendLog.{sequence_number}
 use Rattle.bac_link.specs.Delivery.{History, Moment}
 use Rattle.bac_walk.specs.Sinks.{IsRun}
 use Rattle.bac_walk.specs.declared.outcome.Ended.{Ended}
@@ -54,7 +54,7 @@ returns-in_err-print g c =
     c.args.walk c.loop-done.walk c.deliver_lines.new.walk c.loop-done.done c.deliver_lines.result v.0 step.0 v.1 v.2 v.3 v.5 step.2 in
     let e : c.from_residual.result ≡ Err c.in_err-print.field-0.0 = search rules in
     let P : Fetching → Type 0 = λ r. PrintsItems (v.0 ++ step.0) r (g.W.Write.contents c.args.out.now) (g.W.Write.contents c.print.new.out) in
-    let Q : Fetching → Type 0 = λ r. (t : ℕ) → c.deliver_lines.new.walk.next ≡ number t → NextIs r t in
+    let Q : Fetching → Type 0 = λ r. (t : ℕ) → c.deliver_lines.new.walk.next ≡ sequence_number t → NextIs r t in
     let S : Fetching → Type 0 = λ r. EndsAs (v.0 ++ step.0) c.args.steps (c.loop-done.done + 1) c.deliver_lines.result c.deliver_lines.new.walk r
     (g.W.Write.contents c.args.out.now) (g.W.Write.contents c.print.new.out) in (
       v.0 ++ step.0,

@@ -1,6 +1,6 @@
 use Rattle.std.proofs.Common.{◌+◌, ℕ, sym, ap, ◌∙◌, subst}
 use Rattle.bac_wire.specs.Primitive.{Id}
-use Rattle.bac_walk.specs.Place.{Place}
+use Rattle.bac_walk.specs.Place.{WalkPlace}
 use Rattle.bac_link.specs.Laws.{after_answers}
 use Rattle.bac_link.specs.Delivery.{DeliversTo}
 use Rattle.bac_walk.specs.Near.{AreInWindow}
@@ -14,10 +14,10 @@ pub returns : goal.returns
 returns g c = record {
   resumed = λ r M H s low old honest next window above below.
       let served = g.met.L.LogLink.serves c.args.link.now c.args.walk.now.log r M H honest in
-      let walk : Place = c.in-Some.resumed in
+      let walk : WalkPlace = c.in-Some.resumed in
       let is = (c.in-Some.ensures {u = tt}).some in
-      let log = ap (λ (w : Place). w.log) is ∙ c.log.ensures.log in
-      let here = ap (λ (w : Place). w.next) is ∙ c.next_number.ensures.next in
+      let log = ap (λ (w : WalkPlace). w.log) is ∙ c.log.ensures.log in
+      let here = ap (λ (w : WalkPlace). w.next) is ∙ c.next_number.ensures.next in
       let x = c.deliver-first.ensures.delivers in
       let y = c.deliver-second.ensures.delivers in
       let a = headline_of (λ r M H. g.L.LogLink.is_honest c.args.link.now c.args.walk.now.log r M H)
@@ -47,6 +47,6 @@ returns g c = record {
         x.1,
         y.1,
         joined H s a.2 b.2 a.1 b.1 M (put_items x.0) (put_items y.0) first
-            (subst Q (b.3 (ap (λ (w : Place). w.fresh) is)) b.5),
+            (subst Q (b.3 (ap (λ (w : WalkPlace). w.fresh) is)) b.5),
       );
 }

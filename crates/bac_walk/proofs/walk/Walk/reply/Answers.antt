@@ -1,10 +1,10 @@
 use Rattle.std.proofs.Common.{true, false, ◌≡◌, ℕ, length, Result, Ok, Err, sym, ap, subst, ◌∙◌}
 use Rattle.std.proofs.lemmas.Bool.{or_parts}
 use Rattle.bac_wire.specs.Primitive.{Id}
-use Rattle.bac_walk.specs.Place.{Place}
+use Rattle.bac_walk.specs.Place.{WalkPlace}
 use Rattle.bac_walk.specs.declared.outcome.Step.{Step}
 use Rattle.bac_walk.specs.declared.outcome.WalkFault.{WalkFault}
-use Rattle.bac_log.specs.TrendLog.{number}
+use Rattle.bac_log.specs.TrendLog.{sequence_number}
 use Rattle.bac_link.specs.Delivery.{later}
 use Rattle.bac_link.specs.Laws.{after_answers}
 use Rattle.bac_walk.specs.Collects.{asks_next, FoundTurn, FoundStep, MissingTurn, MissingStep, Collected, finished, step_items, step_ended, is_fresh_after}
@@ -19,12 +19,12 @@ use Rattle.bac_walk.proofs.Told.{told_first, told_second, turn_same}
 use Rattle.bac_link.specs.Path.{towards}
 use Rattle.bac_walk.proofs.walk.Walk.reply.Goals as goal
 
-kept : (p : Result Progress WalkFault) (before after : Place) (next : ℕ) → before.next ≡ next → OnErr p (after ≡ before) →
+kept : (p : Result Progress WalkFault) (before after : WalkPlace) (next : ℕ) → before.next ≡ next → OnErr p (after ≡ before) →
     OnErr (finished p) (after.next ≡ next)
 kept (Ok (BatchOf b)) before after next is h = h
 kept (Ok AskOldest) before after next is h = h
 kept (Ok IsUp) before after next is h = h
-kept (Err e) before after next is h = ap (λ (v : Place). v.next) h ∙ is
+kept (Err e) before after next is h = ap (λ (v : WalkPlace). v.next) h ∙ is
 
 found_turn : (p : Result Progress WalkFault) → FoundTurn p → FoundStep (finished p)
 found_turn (Ok (BatchOf b)) h = h
@@ -48,10 +48,10 @@ no_more (Err e) asks h = absurd (cc)
 
 pub returns-then-not-asks_next-clause-honest : goal.returns-then-not-asks_next-clause-honest
 returns-then-not-asks_next-clause-honest g c r M H s honest next near =
-    let log : c.restart.new.self.log ≡ c.args.self.now.log = ap (λ (v : Place). v.log) c.restart.ensures in
+    let log : c.restart.new.self.log ≡ c.args.self.now.log = ap (λ (v : WalkPlace). v.log) c.restart.ensures in
     let P : Id → Type 0 = λ n. g.L.LogLink.is_honest c.args.link.now n r M H in
-    let shown : c.restart.new.self.next ≡ number s = ap (λ (v : Place). v.next) c.restart.ensures ∙ next in
-    let fresh : c.restart.new.self.fresh ≡ c.args.self.now.fresh = ap (λ (v : Place). v.fresh) c.restart.ensures in
+    let shown : c.restart.new.self.next ≡ sequence_number s = ap (λ (v : WalkPlace). v.next) c.restart.ensures ∙ next in
+    let fresh : c.restart.new.self.fresh ≡ c.args.self.now.fresh = ap (λ (v : WalkPlace). v.fresh) c.restart.ensures in
     let done = first_at (λ N. g.L.LogLink.is_honest c.turn-first.new.link c.restart.new.self.log r N H) r H M s
     c.args.self.now c.restart.new.self c.args.transactions.now.retries (g.L.LogLink.failures c.args.link.now) (g.L.LogLink.failures c.turn-first.new.link) (progress_of c.turn-first.result) c.turn-first.new.self next c.restart.ensures
     (c.turn-first.ensures.honest r M H s (subst P (sym log) honest) shown (λ old. (near (sym fresh ∙ old)).0)) (cc) in
@@ -65,21 +65,21 @@ returns-then-not-asks_next-clause-honest g c r M H s honest next near =
 pub returns-clause-fault : goal.returns-clause-fault
 returns-clause-fault g c =
     let next : c.turn-first.new.self.next ≡ c.args.self.now.next =
-    c.turn-first.ensures.asks (cc) ∙ ap (λ (v : Place). v.next) c.restart.ensures in
+    c.turn-first.ensures.asks (cc) ∙ ap (λ (v : WalkPlace). v.next) c.restart.ensures in
     let P : Result Step WalkFault → Type 0 = λ s. OnErr s (c.turn.new.self.next ≡ c.args.self.now.next) in
     subst P (sym c.finished-2.ensures) (kept _ _ _ _ next c.turn.ensures.fault)
 
 pub returns-clause-honest : goal.returns-clause-honest
 returns-clause-honest g c r M H s honest next near =
-    let log : c.restart.new.self.log ≡ c.args.self.now.log = ap (λ (v : Place). v.log) c.restart.ensures in
+    let log : c.restart.new.self.log ≡ c.args.self.now.log = ap (λ (v : WalkPlace). v.log) c.restart.ensures in
     let logs : c.turn-first.new.self.log ≡ c.args.self.now.log = c.turn-first.ensures.log ∙ log in
     let P : Id → Type 0 = λ n. g.L.LogLink.is_honest c.args.link.now n r M H in
-    let shown : c.restart.new.self.next ≡ number s = ap (λ (v : Place). v.next) c.restart.ensures ∙ next in
-    let fresh : c.restart.new.self.fresh ≡ c.args.self.now.fresh = ap (λ (v : Place). v.fresh) c.restart.ensures in
+    let shown : c.restart.new.self.next ≡ sequence_number s = ap (λ (v : WalkPlace). v.next) c.restart.ensures ∙ next in
+    let fresh : c.restart.new.self.fresh ≡ c.args.self.now.fresh = ap (λ (v : WalkPlace). v.fresh) c.restart.ensures in
     let first = asked (λ N. g.L.LogLink.is_honest c.turn-first.new.link c.restart.new.self.log r N H) r H M s
     c.args.self.now c.restart.new.self c.args.transactions.now.retries (g.L.LogLink.failures c.args.link.now) (g.L.LogLink.failures c.turn-first.new.link) (progress_of c.turn-first.result) c.turn-first.new.self c.restart.ensures
     (c.turn-first.ensures.honest r M H s (subst P (sym log) honest) shown (λ old. (near (sym fresh ∙ old)).0)) (cc) in
-    let shown_next : c.turn-first.new.self.next ≡ number s = c.turn-first.ensures.asks (cc) ∙ shown in
+    let shown_next : c.turn-first.new.self.next ≡ sequence_number s = c.turn-first.ensures.asks (cc) ∙ shown in
     let U : Id → Type 0 = λ n. g.L.LogLink.is_honest c.turn-first.new.link n r (later M) H in
     let V : ℕ → Type 0 = λ n. IsTurned (λ N. g.L.LogLink.is_honest c.turn.new.link c.turn-first.new.self.log r N H) r (later M) H s c.turn-first.new.self n
     (g.L.LogLink.failures c.turn-first.new.link) (g.L.LogLink.failures c.turn.new.link) (progress_of c.turn.result) c.turn.new.self in
@@ -100,7 +100,7 @@ returns-clause-honest g c r M H s honest next near =
 pub returns-then-not-asks_next-clause-goes : goal.returns-then-not-asks_next-clause-goes
 returns-then-not-asks_next-clause-goes g c s =
     moved_goes c.args.self.now.fresh c.restart.new.self.fresh c.args.self.now.next c.restart.new.self.next s _ c.turn-first.new.self.fresh c.turn-first.new.self.next
-    (ap (λ (v : Place). v.next) c.restart.ensures) (ap (λ (v : Place). v.fresh) c.restart.ensures)
+    (ap (λ (v : WalkPlace). v.next) c.restart.ensures) (ap (λ (v : WalkPlace). v.fresh) c.restart.ensures)
     (step_goes c.restart.new.self.fresh c.restart.new.self.next s (progress_of c.turn-first.result) _ c.turn-first.new.self.fresh c.turn-first.new.self.next
     c.finished.ensures (c.turn-first.ensures.goes s))
 
@@ -109,16 +109,16 @@ returns-clause-goes g c s =
     let none = nothing_goes c.restart.new.self.fresh c.restart.new.self.next s (progress_of c.turn-first.result) c.turn-first.new.self.fresh c.turn-first.new.self.next
     (cc) (c.turn-first.ensures.goes s) in
     moved_goes c.args.self.now.fresh c.turn-first.new.self.fresh c.args.self.now.next c.turn-first.new.self.next s _ c.turn.new.self.fresh c.turn.new.self.next
-    (none.0 ∙ ap (λ (v : Place). v.next) c.restart.ensures) (none.1 ∙ ap (λ (v : Place). v.fresh) c.restart.ensures)
+    (none.0 ∙ ap (λ (v : WalkPlace). v.next) c.restart.ensures) (none.1 ∙ ap (λ (v : WalkPlace). v.fresh) c.restart.ensures)
     (step_goes c.turn-first.new.self.fresh c.turn-first.new.self.next s (progress_of c.turn.result) _ c.turn.new.self.fresh c.turn.new.self.next
     c.finished-2.ensures (c.turn.ensures.goes s))
 
 pub returns-clause-answered : goal.returns-clause-answered
 returns-clause-answered g c r M H s sure honest next near =
-    let log : c.restart.new.self.log ≡ c.args.self.now.log = ap (λ (v : Place). v.log) c.restart.ensures in
+    let log : c.restart.new.self.log ≡ c.args.self.now.log = ap (λ (v : WalkPlace). v.log) c.restart.ensures in
     let P : Id → Type 0 = λ n. g.L.LogLink.is_honest c.args.link.now n r M H in
-    let shown : c.restart.new.self.next ≡ number s = ap (λ (v : Place). v.next) c.restart.ensures ∙ next in
-    let fresh : c.restart.new.self.fresh ≡ c.args.self.now.fresh = ap (λ (v : Place). v.fresh) c.restart.ensures in
+    let shown : c.restart.new.self.next ≡ sequence_number s = ap (λ (v : WalkPlace). v.next) c.restart.ensures ∙ next in
+    let fresh : c.restart.new.self.fresh ≡ c.args.self.now.fresh = ap (λ (v : WalkPlace). v.fresh) c.restart.ensures in
     let first = asked (λ N. g.L.LogLink.is_honest c.turn-first.new.link c.restart.new.self.log r N H) r H M s
     c.args.self.now c.restart.new.self c.args.transactions.now.retries (g.L.LogLink.failures c.args.link.now) (g.L.LogLink.failures c.turn-first.new.link) (progress_of c.turn-first.result) c.turn-first.new.self c.restart.ensures
     (c.turn-first.ensures.honest r M H s (subst P (sym log) honest) shown (λ old. (near (sym fresh ∙ old)).0)) (cc) in
@@ -129,7 +129,7 @@ returns-clause-answered g c r M H s sure honest next near =
 pub returns-then-not-asks_next-clause-answered : goal.returns-then-not-asks_next-clause-answered
 returns-then-not-asks_next-clause-answered g c r M H s sure honest next near =
     let P : Id → Type 0 = λ n. g.L.LogLink.is_honest c.args.link.now n r M H in
-    let log : c.restart.new.self.log ≡ c.args.self.now.log = ap (λ (v : Place). v.log) c.restart.ensures in
+    let log : c.restart.new.self.log ≡ c.args.self.now.log = ap (λ (v : WalkPlace). v.log) c.restart.ensures in
     found_step (progress_of c.turn-first.result) (step_of c.finished.result) c.finished.ensures
     (c.turn-first.ensures.answered r M H sure (subst P (sym log) honest))
 
@@ -137,26 +137,26 @@ pub returns-then-not-asks_next-clause-lacking : goal.returns-then-not-asks_next-
 returns-then-not-asks_next-clause-lacking g c lacks =
     let P : Id → Type 0 = λ n. g.L.LogLink.lacks c.args.link.now n in
     let Q : Id → Type 0 = λ n. g.L.LogLink.lacks c.turn-first.new.link n in
-    let log : c.restart.new.self.log ≡ c.args.self.now.log = ap (λ (v : Place). v.log) c.restart.ensures in
+    let log : c.restart.new.self.log ≡ c.args.self.now.log = ap (λ (v : WalkPlace). v.log) c.restart.ensures in
     let both = c.turn-first.ensures.lacking (subst P (sym log) lacks) in
     (missing_step (progress_of c.turn-first.result) (step_of c.finished.result) c.finished.ensures both.0, subst Q log both.1)
 
 pub returns-then-not-asks_next-clause-refused : goal.returns-then-not-asks_next-clause-refused
 returns-then-not-asks_next-clause-refused g c lacks sure =
     let P : Id → Type 0 = λ n. g.L.LogLink.lacks c.args.link.now n in
-    let log : c.restart.new.self.log ≡ c.args.self.now.log = ap (λ (v : Place). v.log) c.restart.ensures in
+    let log : c.restart.new.self.log ≡ c.args.self.now.log = ap (λ (v : WalkPlace). v.log) c.restart.ensures in
     found_step (progress_of c.turn-first.result) (step_of c.finished.result) c.finished.ensures ((c.turn-first.ensures.lacking (subst P (sym log) lacks)).2 sure)
 
 pub returns-clause-lacking : goal.returns-clause-lacking
 returns-clause-lacking g c lacks =
     let P : Id → Type 0 = λ n. g.L.LogLink.lacks c.args.link.now n in
-    let log : c.restart.new.self.log ≡ c.args.self.now.log = ap (λ (v : Place). v.log) c.restart.ensures in
+    let log : c.restart.new.self.log ≡ c.args.self.now.log = ap (λ (v : WalkPlace). v.log) c.restart.ensures in
     absurd (no_more (progress_of c.turn-first.result) (cc) (c.turn-first.ensures.lacking (subst P (sym log) lacks)).0)
 
 pub returns-clause-refused : goal.returns-clause-refused
 returns-clause-refused g c lacks sure =
     let P : Id → Type 0 = λ n. g.L.LogLink.lacks c.args.link.now n in
-    let log : c.restart.new.self.log ≡ c.args.self.now.log = ap (λ (v : Place). v.log) c.restart.ensures in
+    let log : c.restart.new.self.log ≡ c.args.self.now.log = ap (λ (v : WalkPlace). v.log) c.restart.ensures in
     absurd (no_more (progress_of c.turn-first.result) (cc) (c.turn-first.ensures.lacking (subst P (sym log) lacks)).0)
 
 pub returns-then-not-asks_next-clause-told : goal.returns-then-not-asks_next-clause-told
