@@ -43,7 +43,8 @@ question r invoke = Confirmed false 1476 invoke read_range_service (canon_form r
 
 -- the ReadRange that an APDU asks, if it is one that can be read
 abbrev pub question_of : Apdu → Option ReadRange
-question_of (Confirmed segmented size invoke service parameters) = if service == read_range_service then result_ok (read_range_at parameters) else None
+question_of (Confirmed segmented size invoke service parameters) =
+    if service == read_range_service then result_ok (read_range_at parameters) else None
 question_of other = None
 
 -- the ReadRange in a datagram
@@ -56,15 +57,18 @@ question_in datagram = do
 
 -- what the ACK says: of this property, without an index, one value and then another
 abbrev pub two_values : Id → ℕ → Primitive → Primitive → PropertyAck
-two_values object property v w = record { object = object; property = property; index = None; values = value_octets v ++ value_octets w }
+two_values object property v w =
+    record { object = object; property = property; index = None; values = value_octets v ++ value_octets w }
 
 -- the ReadProperty-ACK with the two values
 abbrev pub answer : Id → ℕ → Primitive → Primitive → ℕ → Apdu
-answer object property v w invoke = Complex false invoke read_property_service (property_ack_octets (two_values object property v w))
+answer object property v w invoke =
+    Complex false invoke read_property_service (property_ack_octets (two_values object property v w))
 
 -- the ReadProperty-ACK that an APDU is, if it is one that can be read
 abbrev pub answer_of : Apdu → Option PropertyAck
-answer_of (Complex segmented invoke service parameters) = if service == read_property_service then read_property_ack_at parameters else None
+answer_of (Complex segmented invoke service parameters) =
+    if service == read_property_service then read_property_ack_at parameters else None
 answer_of other = None
 
 -- two values, if no octets are left behind them

@@ -1,6 +1,7 @@
 -- What a device answers to a datagram, and what it is afterwards.
 -- Read from the end: a frame (Annex J), what it has for the device (clause 6), an APDU (20.1), a request, a service.
-use Rattle.std.specs.Prelude.{ℕ, ◌==◌, ◌&&◌, not, nat_le, Bool, true, false, if◌then◌else◌, List, [], ◌∷◌, min, Option, None, Some, Result, Ok, Err}
+use Rattle.std.specs.Prelude.{ℕ, ◌==◌, ◌&&◌, not, nat_le, Bool, true, false, if◌then◌else◌, List, [], ◌∷◌, min, Option}
+use Rattle.std.specs.Prelude.{None, Some, Result, Ok, Err}
 use Rattle.std.specs.Option.{option_map}
 use Rattle.bac_wire.specs.Primitive.{Object, Enumerated, Id}
 use Rattle.bac_apdu.specs.Apdu.{Apdu, Confirmed, Unconfirmed, Simple, Complex, Reject}
@@ -101,7 +102,8 @@ answer_write d invoke (Err reason) = (reject invoke reason, d)
 abbrev pub records_ack : ℕ → ℕ → Id → Extent → Log → Apdu
 records_ack limit invoke object extent log =
     let records = packed extent limit (selected log extent) in
-    Complex false invoke read_range_service (ack_parameters object (answer_of log extent limit).flags (first_shown extent records) (entries_in records))
+    Complex false invoke read_range_service
+        (ack_parameters object (answer_of log extent limit).flags (first_shown extent records) (entries_in records))
 
 -- there are no records
 abbrev pub is_empty : List HeldEntry → Bool
@@ -110,11 +112,13 @@ is_empty (r ∷ rs) = false
 
 -- records are asked for, and not one of them fits
 abbrev pub is_too_small : ℕ → Extent → Log → Bool
-is_too_small limit extent log = not (is_empty (selected log extent)) && is_empty (packed extent limit (selected log extent))
+is_too_small limit extent log =
+    not (is_empty (selected log extent)) && is_empty (packed extent limit (selected log extent))
 
 -- that ACK, or an Abort if no record fits or the ACK is over the limit
 abbrev pub records_said : ℕ → ℕ → Id → Extent → Log → Apdu
-records_said limit invoke object extent log = if is_too_small limit extent log then abort invoke else limited limit invoke (records_ack limit invoke object extent log)
+records_said limit invoke object extent log = if is_too_small limit extent log
+    then abort invoke else limited limit invoke (records_ack limit invoke object extent log)
 
 -- the same of the log that was found, or the Error
 abbrev pub range_said : ℕ → ℕ → ReadRange → Result Log Fault → Apdu
@@ -135,7 +139,8 @@ answer_request d segmented size invoke service parameters =
     if service == read_property_service
     then (answer_read d (min size d.reply_size) invoke (read_property_at parameters), d) else
     if service == write_property_service then answer_write d invoke (write_property_at parameters) else
-    if service == read_range_service then (answer_range d (min size d.reply_size) invoke (read_range_at parameters), d) else
+    if service == read_range_service
+        then (answer_range d (min size d.reply_size) invoke (read_range_at parameters), d) else
     (Reject invoke unrecognized_service, d)
 
 -- ---- Who-Is (16.10)
@@ -197,7 +202,8 @@ abbrev pub nak : ℕ → Option Reply
 nak function =
     option_map (λ code. let r : Reply = record { datagram = nak_octets code; to = Sender } in r) (nak_code function)
 
--- Original-Unicast-NPDU and Original-Broadcast-NPDU are answered to their sender, Forwarded-NPDU to its address (J.2.5).
+-- Original-Unicast-NPDU and Original-Broadcast-NPDU are answered to their sender, Forwarded-NPDU to its address
+-- (J.2.5).
 abbrev pub answer_frame : State → Option Frame → Option Reply × State
 answer_frame d None = (None, d)
 answer_frame d (Some (Unicast npdu)) = answer_npdu d Sender (heard_at false npdu)

@@ -6,7 +6,8 @@ use Rattle.bac_objects.specs.State.{State}
 
 -- how many samples its logs take, and the device after it; None where the clock would go back
 unfoldable pub advanced : State → CivilTime → Option (ℕ × State)
-advanced state stamp = if nat_lt (ticks_of stamp) (ticks_of state.clock) then None else Some (samples state stamp, ticked state stamp)
+advanced state stamp =
+    if nat_lt (ticks_of stamp) (ticks_of state.clock) then None else Some (samples state stamp, ticked state stamp)
 
 -- what advancing answers
 abbrev pub Advances : {E : Type 0} → Result ℕ E → State → State → Option (ℕ × State) → Type 0

@@ -1,5 +1,6 @@
 -- What a device is after datagrams, and which writes among them it accepted.
-use Rattle.std.specs.Prelude.{◌≡◌, ◌≤◌, ◌-◌, ℕ, Bool, true, false, not, ◌&&◌, ◌==◌, if◌then◌else◌, List, [], ◌∷◌, length, map, slice_get, Option, None, Some, Ok}
+use Rattle.std.specs.Prelude.{◌≡◌, ◌≤◌, ◌-◌, ℕ, Bool, true, false, not, ◌&&◌, ◌==◌, if◌then◌else◌, List, [], ◌∷◌}
+use Rattle.std.specs.Prelude.{length, map, slice_get, Option, None, Some, Ok}
 use Rattle.std.specs.List.{range_with_len}
 use Rattle.std.specs.Map.{lookup}
 use Rattle.std.specs.Option.{option_or, unwrap_or}
@@ -128,13 +129,15 @@ abbrev pub slot_after : Id → List PropertyWrite → ℕ → Option Setting
 slot_after id ws priority = unwrap_or (last_at id priority ws) None
 
 -- At each priority the object has what the last accepted write at it set, or what it had; nothing else of the object
--- has changed; and Present_Value is read as the value at the lowest-numbered priority that isn't Null, else as Relinquish_Default.
+-- has changed; and Present_Value is read as the value at the lowest-numbered priority that isn't Null, else as
+-- Relinquish_Default.
 pub record Stands (d : State) (datagrams : List (List ℕ)) (id : Id) (o : object.Object) (c : command.Command)
     : Type 0 where
   pub slots : List (Option Setting)
   pub size : length slots ≡ 16
   pub last : (priority : ℕ) → 1 ≤ priority → priority ≤ 16
-      → slice_get slots (priority - 1) ≡ option_or (last_at id priority (writes d datagrams)) (slice_get c.slots (priority - 1))
+      → slice_get slots (priority - 1)
+          ≡ option_or (last_at id priority (writes d datagrams)) (slice_get c.slots (priority - 1))
   pub held : lookup (is_id id) (after d datagrams).objects ≡ Some (with_slots o c slots)
   pub read : read_of (after d datagrams) (record { object = id; property = 85; index = None })
       ≡ Ok (values_octets (value_of (present slots c.default) ∷ []))

@@ -23,7 +23,8 @@ use Rattle.bac_objects.specs.declared.lines.ObjectLine.{ObjectLine}
 use Rattle.bac_objects.specs.declared.object.Body.TheVariants as body
 use Rattle.bac_objects.specs.declared.object.Object as object
 use Rattle.bac_device.specs.Answer.{ack, ack_octets, answer, read_property_service, write_property_service}
-use Rattle.bac_device.specs.History.{IsCommanded, Stands, after, default_of, heard_in, ids_in_order, is_done, write_asked, writes}
+use Rattle.bac_device.specs.History.{IsCommanded, Stands, after, default_of, heard_in, ids_in_order, is_done}
+use Rattle.bac_device.specs.History.{write_asked, writes}
 use Rattle.bac_device.specs.Reply.{limited, reply}
 use Rattle.bac_device.specs.declared.reply.Receiver.{Receiver}
 
@@ -31,7 +32,8 @@ use Rattle.bac_device.specs.declared.reply.Receiver.{Receiver}
 
 -- a datagram that isn't answered by a SimpleACK
 abbrev pub RefusalsChangeNothing : Type 0
-RefusalsChangeNothing = (d : State) (datagram : List ℕ) → is_done (answer d datagram).0 ≡ false → (answer d datagram).1 ≡ d
+RefusalsChangeNothing =
+    (d : State) (datagram : List ℕ) → is_done (answer d datagram).0 ≡ false → (answer d datagram).1 ≡ d
 
 -- a datagram that is no WriteProperty to this device alone
 abbrev pub OthersChangeNothing : Type 0
@@ -49,22 +51,29 @@ AcceptedWritesStand =
 -- the same of each commandable object of a device that was built of lines
 abbrev pub BuiltObjectsAreCommanded : Type 0
 BuiltObjectsAreCommanded =
-    (device : DeviceLine) (lines : List ObjectLine) (datagrams : List (List ℕ)) (i : ℕ) (line : ObjectLine) (default : Setting)
+    (device : DeviceLine) (lines : List ObjectLine)
+        (datagrams : List (List ℕ)) (i : ℕ) (line : ObjectLine) (default : Setting)
     → build_fault device lines ≡ None → slice_get lines i ≡ Some line → default_of line ≡ Some default
     → IsCommanded (after (built device lines) datagrams) (id_of line) (writes (built device lines) datagrams) default
 
 -- an accepted WriteProperty to this device alone is answered by SimpleACK, and leaves the device with what was written
 abbrev pub WritesAreAnswered : Type 0
 WritesAreAnswered =
-    (d new : State) (datagram : List ℕ) (source : Option Place) (size invoke : ℕ) (parameters : List ℕ) (w : PropertyWrite)
+    (d new : State) (datagram : List ℕ) (source : Option Place)
+        (size invoke : ℕ) (parameters : List ℕ) (w : PropertyWrite)
     → heard_in (frame_at datagram)
-    ≡ Some (record { to_all = false; source = source; apdu = Confirmed false size invoke write_property_service parameters })
+    ≡ Some
+        (record { to_all = false; source = source;
+            apdu = Confirmed false size invoke write_property_service parameters })
     → write_property_at parameters ≡ Ok w → write_of d w ≡ Ok new
-    → (to : Receiver) × (answer d datagram ≡ (Some (reply (record { to = to; place = source }) (Simple invoke write_property_service)), new))
+    → (to : Receiver)
+        × (answer d datagram
+          ≡ (Some (reply (record { to = to; place = source }) (Simple invoke write_property_service)), new))
 
 -- ---- reads
 
--- after any datagrams to a device that was built of lines, Object_List has the device and then the objects in the lines' order
+-- after any datagrams to a device that was built of lines, Object_List has the device and then the objects in the
+-- lines' order
 abbrev pub ObjectListKeepsTheOrderOfLines : Type 0
 ObjectListKeepsTheOrderOfLines =
     (device : DeviceLine) (lines : List ObjectLine) (datagrams : List (List ℕ))
@@ -75,15 +84,24 @@ ObjectListKeepsTheOrderOfLines =
 -- a ReadProperty to this device alone is answered by the ACK with the values that are read, within the limit
 abbrev pub ReadsAreAnswered : Type 0
 ReadsAreAnswered =
-    (d : State) (datagram : List ℕ) (source : Option Place) (size invoke : ℕ) (parameters : List ℕ) (r : ReadProperty) (values : List ℕ)
+    (d : State) (datagram : List ℕ) (source : Option Place)
+        (size invoke : ℕ) (parameters : List ℕ) (r : ReadProperty) (values : List ℕ)
     → heard_in (frame_at datagram)
-    ≡ Some (record { to_all = false; source = source; apdu = Confirmed false size invoke read_property_service parameters })
+    ≡ Some
+        (record { to_all = false; source = source;
+            apdu = Confirmed false size invoke read_property_service parameters })
     → read_property_at parameters ≡ Ok r → read_of d r ≡ Ok values
-    → (to : Receiver) × ((answer d datagram).0 ≡ Some (reply (record { to = to; place = source }) (limited (min size d.reply_size) invoke (ack invoke d r values))))
+    → (to : Receiver)
+        × ((answer d datagram).0
+          ≡ Some
+          (reply (record { to = to; place = source }) (limited (min size d.reply_size) invoke (ack invoke d r values))))
 
 -- what an ACK has is read back
 abbrev pub AcksAreReadBack : Type 0
 AcksAreReadBack =
-    (id : Id) (property : ℕ) (index : Option ℕ) (values : List Primitive) → IsProperty id property index → AreValid values
+    (id : Id) (property : ℕ) (index : Option ℕ) (values : List Primitive) →
+        IsProperty id property index → AreValid values
     → form_at read_property_ack (ack_octets id property index (values_octets values))
-    ≡ Ok (Value (Object id) ∷ Value (Enumerated property) ∷ number_parameter index ∷ Mark 3 ∷ Inside (values_octets values) ∷ [])
+    ≡ Ok
+        (Value (Object id) ∷ Value (Enumerated property) ∷ number_parameter index ∷ Mark 3 ∷ Inside
+          (values_octets values) ∷ [])

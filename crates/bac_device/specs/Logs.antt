@@ -34,12 +34,14 @@ StepsTo log new =
     ⊎ (newest log ≢ last_ordinal) × ((moment : CivilTime) × (new ≡ purges moment log))
     ⊎ (newest log ≢ last_ordinal) × ((value : Bool) × ((moment : CivilTime) × (new ≡ enables value moment log)))
 
--- Each log moves by at most one step; the device keeps its logs, its identifier, its reply size and the identifiers of its objects.
+-- Each log moves by at most one step; the device keeps its logs, its identifier, its reply size and the identifiers of
+-- its objects.
 pub record Keeps (d new : State) : Type 0 where
   pub reply_size : new.reply_size ≡ d.reply_size
   pub instance : new.instance ≡ d.instance
   pub ids : keys_of new.objects ≡ keys_of d.objects
-  pub logs : (n : ℕ) (log : Log) → log_of d n ≡ Some log → (after : Log) × (log_of new n ≡ Some after) × StepsTo log after
+  pub logs : (n : ℕ) (log : Log) → log_of d n ≡ Some log →
+      (after : Log) × (log_of new n ≡ Some after) × StepsTo log after
   pub lacks : (n : ℕ) → log_of d n ≡ None → log_of new n ≡ None
   pub has : HasLogs d → HasLogs new
 
@@ -55,7 +57,10 @@ question n extent = record { object = log_id n; property = log_buffer; index = N
 
 -- as a datagram that takes an answer of 1476 octets
 abbrev pub question_octets : Option Place → ℕ → ℕ → Extent → List ℕ
-question_octets source invoke n extent = frame_octets (header_octets (asking source) ++ apdu_octets (Confirmed false 1476 invoke read_range_service (canon_form read_range (range_parameters (question n extent)))))
+question_octets source invoke n extent =
+    frame_octets (header_octets (asking source)
+      ++ apdu_octets
+      (Confirmed false 1476 invoke read_range_service (canon_form read_range (range_parameters (question n extent)))))
 
 -- ---- answers to any ReadRange
 
@@ -77,7 +82,9 @@ is_aborted (Some reply) = told_abort (told_in (frame_at reply.datagram))
 -- an unsegmented ReadRange, whatever it asks for, and whatever the greatest answer is that it takes
 abbrev pub IsRangeAsked : List ℕ → Bool → Option Place → ℕ → ℕ → List ℕ → Type 0
 IsRangeAsked datagram to_all source size invoke parameters =
-    heard_in (frame_at datagram) ≡ Some (record { to_all = to_all; source = source; apdu = Confirmed false size invoke read_range_service parameters })
+    heard_in (frame_at datagram)
+        ≡ Some
+        (record { to_all = to_all; source = source; apdu = Confirmed false size invoke read_range_service parameters })
 
 -- no such ReadRange is answered by an Abort
 abbrev pub RangesAreNotAborted : Type 0
@@ -100,4 +107,8 @@ abbrev pub RangesAreAnswered : Type 0
 RangesAreAnswered =
     (d : State) (datagram : List ℕ) (source : Option Place) (size invoke : ℕ) (parameters : List ℕ)
     → IsSound d → IsRangeAsked datagram false source size invoke parameters
-    → (to : Receiver) × (answer d datagram ≡ (Some (reply (record { to = to; place = source }) (log_answer d (min size d.reply_size) invoke (read_range_at parameters))), d))
+    → (to : Receiver)
+        × (answer d datagram
+          ≡ (Some
+            (reply (record { to = to; place = source })
+              (log_answer d (min size d.reply_size) invoke (read_range_at parameters))), d))

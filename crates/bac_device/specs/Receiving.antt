@@ -1,5 +1,6 @@
 -- What reaches a device (Annex J, clause 6).
-use Rattle.std.specs.Prelude.{ℕ, ◌==◌, ◌||◌, ◌&&◌, not, nat_le, Bool, true, is_some, if◌then◌else◌, List, [], ◌∷◌, length, Option, None, Some}
+use Rattle.std.specs.Prelude.{ℕ, ◌==◌, ◌||◌, ◌&&◌, not, nat_le, Bool, true, is_some, if◌then◌else◌, List, [], ◌∷◌}
+use Rattle.std.specs.Prelude.{length, Option, None, Some}
 use Rattle.std.specs.Map.{lookup}
 use Rattle.bac_wire.specs.OptionChain.{◌>>=◌}
 use Rattle.bac_apdu.specs.Apdu.{Apdu, apdu_at}
@@ -42,7 +43,8 @@ is_for_all (Some place) = place.net == all_networks && length place.address == 0
 abbrev pub is_answerable : Option Place → Bool
 is_answerable None = true
 is_answerable (Some place) =
-    nat_le 1 place.net && (nat_le place.net 65534 && (nat_le 1 (length place.address) && nat_le (length place.address) 15))
+    nat_le 1 place.net
+        && (nat_le place.net 65534 && (nat_le 1 (length place.address) && nat_le (length place.address) 15))
 
 -- no network message, none from where no answer can go, and none to another network
 abbrev pub is_heard : Header → Bool

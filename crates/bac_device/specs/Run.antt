@@ -64,4 +64,5 @@ RunsAreJoined =
 
 -- datagrams alone leave what History says
 abbrev pub RunsOfDatagrams : Type 0
-RunsOfDatagrams = (d : State) (datagrams : List (List ℕ)) → left_by d (map (λ octets. Datagram octets) datagrams) ≡ after d datagrams
+RunsOfDatagrams =
+    (d : State) (datagrams : List (List ℕ)) → left_by d (map (λ octets. Datagram octets) datagrams) ≡ after d datagrams

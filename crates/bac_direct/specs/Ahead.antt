@@ -54,7 +54,9 @@ entries_ahead d n (event ∷ events) =
 
 -- the entries that are held, and those that will be logged
 abbrev pub history_ahead : ℕ → State → ℕ → List LinkEvent → History
-history_ahead rounds d n events = record { logged = (log_with d n).before + turn rounds; entries = (log_with d n).entries ++ entries_ahead d n events }
+history_ahead rounds d n events =
+    record { logged = (log_with d n).before + turn rounds;
+      entries = (log_with d n).entries ++ entries_ahead d n events }
 
 -- there is a log with this instance
 abbrev pub IsThere : State → ℕ → Type 0
@@ -63,7 +65,8 @@ IsThere d n = (log : Log) × (log_of d n ≡ Some log)
 -- The identifier is that of a log of the device, the reply size is the device's, and the events lead the log to these
 -- moments, so many rounds further on. The history has the entries held and those to come, behind any that are gone. So
 -- the moments are those of one log (`served`, which follows from the rest).
-pub record LiesAhead (rounds : ℕ) (d : State) (events : List LinkEvent) (id : Id) (r : ℕ) (M : List Moment) (H : History) : Type 0 where
+pub record LiesAhead (rounds : ℕ) (d : State)
+    (events : List LinkEvent) (id : Id) (r : ℕ) (M : List Moment) (H : History) : Type 0 where
   pub sound : IsSound d
   pub kind : id.kind ≡ 20
   pub there : IsThere d id.instance

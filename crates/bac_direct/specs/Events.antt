@@ -1,5 +1,6 @@
 -- What happens at a link straight to a device, and what it makes of the device.
-use Rattle.std.specs.Prelude.{◌≡◌, ◌+◌, min, ℕ, Bool, true, false, if◌then◌else◌, List, [], ◌∷◌, Option, None, Some, Result}
+use Rattle.std.specs.Prelude.{◌≡◌, ◌+◌, min, ℕ, Bool, true, false, if◌then◌else◌, List, [], ◌∷◌, Option, None, Some}
+use Rattle.std.specs.Prelude.{Result}
 use Rattle.std.specs.Result.{result_ok}
 use Rattle.bac_wire.specs.OptionChain.{◌>>=◌}
 use Rattle.bac_apdu.specs.Frame.{Frame, Unicast, Broadcast, Forwarded, Function, frame_at}
@@ -15,7 +16,8 @@ use Rattle.bac_direct.specs.declared.event.LinkEvent.TheVariants.{Sample, Advanc
 
 -- ---- one event
 
--- the device after an event, as a run of the device has it: one that is refused changes nothing, nor does an answer or a loss
+-- the device after an event, as a run of the device has it: one that is refused changes nothing, nor does an answer or
+-- a loss
 abbrev pub happens : LinkEvent → State → State
 happens (Sample instance) d = (step d (run.Sample instance)).1
 happens (Advance moment) d = (step d (run.Advance moment)).1
@@ -53,7 +55,8 @@ abbrev pub has_dest : Option (Header × List ℕ) → Bool
 has_dest None = false
 has_dest (Some header) = is_there header.0.dest
 
--- whether a datagram names a destination on another network, or on all (6.2.2): a link straight to a device has no router
+-- whether a datagram names a destination on another network, or on all (6.2.2): a link straight to a device has no
+-- router
 unfoldable pub goes_on : List ℕ → Bool
 goes_on datagram = has_dest (do
   npdu ← npdu_in (frame_at datagram)

@@ -1,5 +1,7 @@
--- What a router makes of a datagram that it hands on (clause 6.5): of a request on its way, and of the reply on its way back.
-use Rattle.std.specs.Prelude.{◌≡◌, ℕ, Bool, not, ◌&&◌, nat_lt, if◌then◌else◌, List, ◌++◌, length, Option, None, Some, Result, Ok, Err}
+-- What a router makes of a datagram that it hands on (clause 6.5): of a request on its way, and of the reply on its way
+-- back.
+use Rattle.std.specs.Prelude.{◌≡◌, ℕ, Bool, not, ◌&&◌, nat_lt, if◌then◌else◌, List, ◌++◌, length, Option, None, Some}
+use Rattle.std.specs.Prelude.{Result, Ok, Err}
 use Rattle.std.specs.Result.{result_ok}
 use Rattle.bac_wire.specs.OptionChain.{◌>>=◌}
 use Rattle.bac_apdu.specs.Frame.{frame_at, frame_octets}
@@ -33,7 +35,8 @@ IsHandedBack far near (Ok reply) answer = result_ok answer ≡ handed_on near fa
 IsHandedBack far near (Err lost) answer = result_ok answer ≡ None
 
 -- an ask through a router: the request that is handed on is asked behind it; where it isn't handed on, nothing is
-abbrev pub PassesOn : {S : Type 0} → (S → List ℕ → Result (List ℕ) Lost → S → Type 0) → Place → Place → Option (List ℕ) → S →
+abbrev pub PassesOn : {S : Type 0} → (S → List ℕ → Result (List ℕ) Lost → S → Type 0) →
+    Place → Place → Option (List ℕ) → S →
     Result (List ℕ) Lost → S → Type 0
 PassesOn {S = S} asks far near None old answer new = (result_ok answer ≡ None) × (new ≡ old)
 PassesOn {S = S} asks far near (Some request) old answer new =

@@ -1,6 +1,7 @@
 -- How devices are found, over any port and any writer. Read from the end. A port, and what a writer holds where that is
 -- known, stand before the answer as they were, and behind it as they are afterwards.
-use Rattle.std.specs.Prelude.{◌≡◌, ℕ, ◌≤◌, ◌<◌, ◌⊎◌, is_some, Bool, true, false, List, [], ◌∷◌, ◌++◌, length, Option, Some, None, Ok, Err}
+use Rattle.std.specs.Prelude.{◌≡◌, ℕ, ◌≤◌, ◌<◌, ◌⊎◌, is_some, Bool, true, false, List, [], ◌∷◌, ◌++◌, length, Option}
+use Rattle.std.specs.Prelude.{Some, None, Ok, Err}
 use Rattle.std.specs.List.{list_any}
 use Rattle.std.specs.Io.KnownBytes.{Appends}
 use Rattle.bac_find.specs.Announcements.{Announcement, announced}
@@ -58,7 +59,8 @@ Ends receives limit came port held (Err Socket) new after =
     (length came < limit) × receives port (Err Failed) new × Appends held after (lines_of came)
 Ends receives limit came port held (Err Write) new after =
     (new ≡ port)
-    × ((said : Announcement) × (between : Held) × IsLast said came held between × AppendsPart between after (device_line said))
+    × ((said : Announcement) × (between : Held)
+          × IsLast said came held between × AppendsPart between after (device_line said))
 Ends receives limit came port held (Err Memory) new after =
     (new ≡ port) × ((said : Announcement) × IsLast said came held after)
 Ends receives limit came port held (Err (Refused address)) new after = ⊥
@@ -98,7 +100,8 @@ told_of (Some address) (Err Write) = Err Write
 told_of (Some address) (Err Memory) = Err Memory
 
 -- the request goes to each address in order, and then so many datagrams are received at most
-abbrev pub Finds : {P : Type 0} → (P → List ℕ → List ℕ → Sending → P → Type 0) → (P → Receiving → P → Type 0) → ℕ → Search
+abbrev pub Finds : {P : Type 0} → (P → List ℕ → List ℕ → Sending → P → Type 0) →
+    (P → Receiving → P → Type 0) → ℕ → Search
     → List (List ℕ) → P → Held → Found → P → Held → Type 0
 Finds {P = P} sends receives limit search addresses port held result new after =
     (refused : Option (List ℕ)) × (mid : P) × (heard : Found)

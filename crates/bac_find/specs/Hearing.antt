@@ -1,5 +1,6 @@
 -- How datagrams are received and shown, one after the other. What that comes to is in Finding.
-use Rattle.std.specs.Prelude.{◌≡◌, ℕ, zero, suc, ◌||◌, Bool, true, false, if◌then◌else◌, Option, Some, None, Result, Ok, Err, List}
+use Rattle.std.specs.Prelude.{◌≡◌, ℕ, zero, suc, ◌||◌, Bool, true, false, if◌then◌else◌, Option, Some, None, Result, Ok}
+use Rattle.std.specs.Prelude.{Err, List}
 use Rattle.std.specs.Io.KnownBytes.{Appends, Keeps}
 use Rattle.bac_find.specs.Announcements.{Announcement, announced}
 use Rattle.bac_find.specs.Lines.{device_line}
@@ -19,8 +20,8 @@ Held = Option (List ℕ)
 
 -- ---- one datagram
 
--- Nothing is printed where no device announces itself. Else its line is written, or a front part of it where a write was
--- refused, or nothing where there was no memory for it.
+-- Nothing is printed where no device announces itself. Else its line is written, or a front part of it where a write
+-- was refused, or nothing where there was no memory for it.
 abbrev pub Shows : Option Announcement → Result Bool FindFault → Held → Held → Type 0
 Shows None shown held after = (shown ≡ Ok false) × (after ≡ held)
 Shows (Some said) (Ok shown) held after = (shown ≡ true) × Appends held after (device_line said)
@@ -31,7 +32,8 @@ Shows (Some said) (Err (Refused address)) held after = ⊥
 Shows (Some said) (Err NoAnswer) held after = ⊥
 
 -- a fault is the end; else there is more to be done, and it is known whether an I-Am was taken so far
-abbrev pub IsShown : {P : Type 0} → Result Bool FindFault → Bool → P → Held → Found → P → Held → (Bool → Type 0) → Type 0
+abbrev pub IsShown : {P : Type 0} → Result Bool FindFault →
+    Bool → P → Held → Found → P → Held → (Bool → Type 0) → Type 0
 IsShown (Err fault) taken port held result new after more = (result ≡ Err fault) × (new ≡ port) × (after ≡ held)
 IsShown (Ok shown) taken port held result new after more = more (taken || shown)
 
@@ -54,4 +56,5 @@ unfoldable pub Hears : {P : Type 0} → (P → Receiving → P → Type 0) → �
 Hears receives zero taken port held result new after = (result ≡ ended taken) × (new ≡ port) × (after ≡ held)
 Hears {P = P} receives (suc limit) taken port held result new after =
     (heard : Receiving) × (mid : P) × receives port heard mid
-    × IsHeard heard taken mid held result new after (λ now between. Hears receives limit now mid between result new after)
+    × IsHeard heard taken mid held result new after
+        (λ now between. Hears receives limit now mid between result new after)

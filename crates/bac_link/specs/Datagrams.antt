@@ -48,7 +48,8 @@ asked_id _ = None
 -- the invoke ID of an answer by a server, and the answer
 abbrev pub answer_in : Option Apdu → Option (ℕ × Answer)
 answer_in (Some (apdu.Simple invoke service)) = Some (invoke, Simple)
-answer_in (Some (apdu.Complex segmented invoke service parameters)) = Some (invoke, if segmented then Segmented else Complex parameters)
+answer_in (Some (apdu.Complex segmented invoke service parameters)) =
+    Some (invoke, if segmented then Segmented else Complex parameters)
 answer_in (Some (apdu.Error invoke service class code)) = Some (invoke, Error class code)
 answer_in (Some (apdu.Reject invoke reason)) = Some (invoke, Reject reason)
 answer_in (Some (apdu.Abort by_server invoke reason)) = if by_server then Some (invoke, Abort reason) else None
@@ -70,4 +71,5 @@ same_path (Some asked) (Some told) = comes_back asked told
 -- request went
 unfoldable pub answers_to : List ℕ → List ℕ → Bool
 answers_to request datagram =
-    same_id (asked_id (apdu_in request)) (answer_in (apdu_in datagram)) && same_path (path_in request) (path_in datagram)
+    same_id (asked_id (apdu_in request)) (answer_in (apdu_in datagram))
+        && same_path (path_in request) (path_in datagram)

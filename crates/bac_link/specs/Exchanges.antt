@@ -1,5 +1,6 @@
 -- An exchange: a request is sent until an answer comes, and what it then brings.
-use Rattle.std.specs.Prelude.{◌≡◌, ℕ, zero, suc, ◌+◌, ◌≤◌, true, false, not, ◌&&◌, ◌==◌, if◌then◌else◌, Option, Some, None, Result, Ok, Err, List}
+use Rattle.std.specs.Prelude.{◌≡◌, ℕ, zero, suc, ◌+◌, ◌≤◌, true, false, not, ◌&&◌, ◌==◌, if◌then◌else◌, Option, Some}
+use Rattle.std.specs.Prelude.{None, Result, Ok, Err, List}
 use Rattle.bac_apdu.specs.Apdu.{Apdu}
 use Rattle.bac_apdu.specs.Apdu as apdu
 use Rattle.bac_apdu.specs.declared.service.extent.Extent.{Extent}
@@ -22,7 +23,8 @@ use Rattle.bac_link.specs.Transactions.{begun_with, closed}
 -- What an answer is to its request (clause 5.4.4): the ACK of the request's service, which is a SimpleACK for a service
 -- without a result and a whole ComplexACK for one with a result; a refusal; or nothing that belongs to the request.
 abbrev pub verdict_of : Request → Option Apdu → Verdict
-verdict_of r (Some (apdu.Simple invoke service)) = if not (has_result r) && service == service_of r then Ack else BadReply
+verdict_of r (Some (apdu.Simple invoke service)) =
+    if not (has_result r) && service == service_of r then Ack else BadReply
 verdict_of r (Some (apdu.Complex segmented invoke service parameters)) =
     if has_result r && (not segmented && service == service_of r) then Ack else BadReply
 verdict_of r (Some (apdu.Error invoke service class code)) = Refused (refusal.Error class code)
@@ -38,7 +40,8 @@ IsAnswer path invoke r verdict datagram =
 -- what is returned is the verdict on a datagram that came and answers the request
 abbrev pub Concludes : Path → ℕ → Request → Result (List ℕ) ExchangeFault → Type 0
 Concludes path invoke r (Ok datagram) = IsAnswer path invoke r Ack datagram
-Concludes path invoke r (Err (fault.Refused refusal)) = (datagram : List ℕ) × IsAnswer path invoke r (Refused refusal) datagram
+Concludes path invoke r (Err (fault.Refused refusal)) =
+    (datagram : List ℕ) × IsAnswer path invoke r (Refused refusal) datagram
 Concludes path invoke r (Err fault.BadReply) = (datagram : List ℕ) × IsAnswer path invoke r BadReply datagram
 Concludes path invoke r (Err fault.Lost) = Unit {0}
 Concludes path invoke r (Err fault.TooLong) = Unit {0}
@@ -58,20 +61,24 @@ Unanswered {S = S} asks octets (suc n) old new =
     × asks mid octets answer new × IsNoAnswer octets answer
 
 -- tries without an answer, at most as many as there are retries, and then one that brought an answer with this verdict
-abbrev pub Answers : {S : Type 0} → (S → List ℕ → Result (List ℕ) Loss → S → Type 0) → Path → ℕ → Request → ℕ → Verdict → S → List ℕ → S → Type 0
+abbrev pub Answers : {S : Type 0} → (S → List ℕ → Result (List ℕ) Loss → S → Type 0) →
+    Path → ℕ → Request → ℕ → Verdict → S → List ℕ → S → Type 0
 Answers {S = S} asks path invoke r retries verdict old datagram new =
     (tries : ℕ) × (mid : S) × (tries ≤ retries) × Unanswered asks (request_octets path invoke r) tries old mid
     × asks mid (request_octets path invoke r) (Ok datagram) new × IsAnswer path invoke r verdict datagram
 
 -- An exchange over any link: the request is asked until an answer comes, and as often again as the retries say. Its
 -- result is the verdict on that answer; Lost where no try brought one. Nothing is asked where the request doesn't fit.
-abbrev pub Exchanges : {S : Type 0} → (S → List ℕ → Result (List ℕ) Loss → S → Type 0) → Path → ℕ → Request → ℕ → S → Result (List ℕ) ExchangeFault → S → Type 0
-Exchanges {S = S} asks path invoke r retries old (Ok datagram) new = Answers asks path invoke r retries Ack old datagram new
+abbrev pub Exchanges : {S : Type 0} → (S → List ℕ → Result (List ℕ) Loss → S → Type 0) →
+    Path → ℕ → Request → ℕ → S → Result (List ℕ) ExchangeFault → S → Type 0
+Exchanges {S = S} asks path invoke r retries old (Ok datagram) new =
+    Answers asks path invoke r retries Ack old datagram new
 Exchanges {S = S} asks path invoke r retries old (Err (fault.Refused refusal)) new =
     (datagram : List ℕ) × Answers asks path invoke r retries (Refused refusal) old datagram new
 Exchanges {S = S} asks path invoke r retries old (Err fault.BadReply) new =
     (datagram : List ℕ) × Answers asks path invoke r retries BadReply old datagram new
-Exchanges {S = S} asks path invoke r retries old (Err fault.Lost) new = Unanswered asks (request_octets path invoke r) (retries + 1) old new
+Exchanges {S = S} asks path invoke r retries old (Err fault.Lost) new =
+    Unanswered asks (request_octets path invoke r) (retries + 1) old new
 Exchanges {S = S} asks path invoke r retries old (Err fault.TooLong) new = new ≡ old
 
 -- one more transaction was begun, and nothing is open; where the request doesn't fit, nothing changes
@@ -85,7 +92,8 @@ Leaves r old (Ok datagram) new = new ≡ closed (begun_with r old)
 -- ---- over an honest link
 
 -- the reply of the next moment, or Lost where the count of failures rose by more than the retries, and nothing else
-abbrev pub IsExchanged : (List Moment → Type 0) → ℕ → List Moment → History → Id → Extent → Path → ℕ → ℕ → ℕ → Result (List ℕ) ExchangeFault → Type 0
+abbrev pub IsExchanged : (List Moment → Type 0) →
+    ℕ → List Moment → History → Id → Extent → Path → ℕ → ℕ → ℕ → Result (List ℕ) ExchangeFault → Type 0
 IsExchanged stays r M H id extent path retries old new (Ok datagram) =
     ((invoke : ℕ) × IsReply r (now M) H id extent path invoke datagram) × stays (later M)
 IsExchanged stays r M H id extent path retries old new (Err fault.Lost) = RisesBy (retries + 1) old new × stays M
@@ -114,13 +122,17 @@ IsNotLost (Err fault.TooLong) = Unit {0}
 -- ---- one try
 
 -- over any link: the datagram that came answers the request, or none did
-abbrev pub IsTried : {S : Type 0} → (S → List ℕ → Result (List ℕ) Loss → S → Type 0) → List ℕ → S → Option (List ℕ) → S → Type 0
+abbrev pub IsTried : {S : Type 0} → (S → List ℕ → Result (List ℕ) Loss → S → Type 0) →
+    List ℕ → S → Option (List ℕ) → S → Type 0
 IsTried {S = S} asks octets old (Some datagram) new = asks old octets (Ok datagram) new
-IsTried {S = S} asks octets old None new = (answer : Result (List ℕ) Loss) × asks old octets answer new × IsNoAnswer octets answer
+IsTried {S = S} asks octets old None new =
+    (answer : Result (List ℕ) Loss) × asks old octets answer new × IsNoAnswer octets answer
 
 -- over an honest link: the reply of the next moment, or a failure
-abbrev pub IsHeard : (List Moment → Type 0) → ℕ → List Moment → History → Id → Extent → Path → ℕ → ℕ → ℕ → Option (List ℕ) → Type 0
-IsHeard stays r M H id extent path invoke old new (Some datagram) = IsReply r (now M) H id extent path invoke datagram × stays (later M)
+abbrev pub IsHeard : (List Moment → Type 0) →
+    ℕ → List Moment → History → Id → Extent → Path → ℕ → ℕ → ℕ → Option (List ℕ) → Type 0
+IsHeard stays r M H id extent path invoke old new (Some datagram) =
+    IsReply r (now M) H id extent path invoke datagram × stays (later M)
 IsHeard stays r M H id extent path invoke old new None = RisesBy 1 old new × stays M
 
 -- over a link that lacks the log

@@ -19,7 +19,8 @@ moment_at M i = now (after_answers i M)
 -- least, an entry its own.
 abbrev pub CoversEach : ℕ → List Item → ℕ → Type 0
 CoversEach s [] t = t ≡ s
-CoversEach s (Gap first before ∷ items) t = (u : ℕ) × (s < u) × (first ≡ sequence_number s) × (before ≡ sequence_number u) × CoversEach u items t
+CoversEach s (Gap first before ∷ items) t =
+    (u : ℕ) × (s < u) × (first ≡ sequence_number s) × (before ≡ sequence_number u) × CoversEach u items t
 CoversEach s (Logged shown entry ∷ items) t = (shown ≡ sequence_number s) × CoversEach (s + 1) items t
 
 -- each number is delivered once, in rising order

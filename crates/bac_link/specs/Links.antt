@@ -62,8 +62,10 @@ abbrev pub RisesBy : ℕ → ℕ → ℕ → Type 0
 RisesBy k old new = min (old + k) 18446744073709551615 ≤ new
 
 -- of an honest link: the reply of the next moment, which is then used up; a loss leaves the moments
-abbrev pub IsAsked : (List Moment → Type 0) → ℕ → List Moment → History → Id → Extent → Path → ℕ → Result (List ℕ) Lost → Type 0
-IsAsked stays r M H id extent path invoke (Ok datagram) = IsReply r (now M) H id extent path invoke datagram × stays (later M)
+abbrev pub IsAsked : (List Moment → Type 0) →
+    ℕ → List Moment → History → Id → Extent → Path → ℕ → Result (List ℕ) Lost → Type 0
+IsAsked stays r M H id extent path invoke (Ok datagram) =
+    IsReply r (now M) H id extent path invoke datagram × stays (later M)
 IsAsked stays r M H id extent path invoke (Err lost) = stays M
 
 -- of a link that lacks the log

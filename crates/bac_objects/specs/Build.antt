@@ -1,5 +1,6 @@
 -- Which lines make a device, and which device they make.
-use Rattle.std.specs.Prelude.{◌≡◌, ℕ, ◌==◌, ◌||◌, ◌&&◌, not, nat_lt, nat_le, Bool, if◌then◌else◌, List, [], ◌∷◌, ◌++◌, map, length, Option, None, Some, Result, Ok, Err}
+use Rattle.std.specs.Prelude.{◌≡◌, ℕ, ◌==◌, ◌||◌, ◌&&◌, not, nat_lt, nat_le, Bool, if◌then◌else◌, List, [], ◌∷◌, ◌++◌}
+use Rattle.std.specs.Prelude.{map, length, Option, None, Some, Result, Ok, Err}
 use Rattle.std.specs.List.{list_any}
 use Rattle.std.specs.Option.{option_or}
 use Rattle.std.specs.Str.{bytes_eq}
@@ -10,7 +11,9 @@ use Rattle.bac_objects.specs.State.{State, is_id}
 use Rattle.bac_objects.specs.declared.command.Setting.TheVariants as setting
 use Rattle.bac_objects.specs.declared.command.Range.TheVariants as range
 use Rattle.bac_objects.specs.declared.build.BuildFault.{BuildFault}
-use Rattle.bac_objects.specs.declared.build.BuildFault.TheVariants.{BadInstance, DuplicateId, BadName, DuplicateName, BadStates, BadDefault, BadCapacity, BadInterval, BadReplySize, Memory}
+use Rattle.bac_objects.specs.declared.build.BuildFault.TheVariants.{BadInstance, DuplicateId, BadName, DuplicateName}
+use Rattle.bac_objects.specs.declared.build.BuildFault.TheVariants.{BadStates, BadDefault, BadCapacity, BadInterval}
+use Rattle.bac_objects.specs.declared.build.BuildFault.TheVariants.{BadReplySize, Memory}
 use Rattle.bac_objects.specs.declared.lines.DeviceLine.{DeviceLine}
 use Rattle.bac_objects.specs.declared.lines.ObjectLine.{ObjectLine}
 use Rattle.bac_objects.specs.declared.lines.ObjectLine.TheVariants.{Binary, Multistate, Integer, Log}
@@ -119,9 +122,11 @@ build_fault device lines = option_or (device_fault device) (objects_fault device
 -- what a line makes: an object that nobody has commanded yet, or an empty log
 abbrev pub body_of : ObjectLine → Body
 body_of (Binary instance name default) = body.Command (commanded range.Binary (setting.Enumerated default))
-body_of (Multistate instance name states default) = body.Command (commanded (range.Multistate states) (setting.Unsigned default))
+body_of (Multistate instance name states default) =
+    body.Command (commanded (range.Multistate states) (setting.Unsigned default))
 body_of (Integer instance name default) = body.Command (commanded range.Integer (setting.Signed default))
-body_of (Log instance name source capacity interval logged) = body.Log (record { source = source; interval = interval; log = empty_log capacity logged })
+body_of (Log instance name source capacity interval logged) =
+    body.Log (record { source = source; interval = interval; log = empty_log capacity logged })
 
 -- the object of a line with its identifier
 abbrev pub entry_of : ObjectLine → Id × Object

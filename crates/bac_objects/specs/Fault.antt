@@ -1,7 +1,8 @@
 -- The numbers of errors (clause 18, and BACnet-Error of clause 21).
 use Rattle.std.specs.Prelude.{ℕ}
 use Rattle.bac_objects.specs.declared.fault.Fault.{Fault}
-use Rattle.bac_objects.specs.declared.fault.Fault.TheVariants.{UnknownObject, UnknownProperty, NotArray, BadIndex, ReadDenied, NotList, WriteDenied, BadType, BadValue}
+use Rattle.bac_objects.specs.declared.fault.Fault.TheVariants.{UnknownObject, UnknownProperty, NotArray, BadIndex}
+use Rattle.bac_objects.specs.declared.fault.Fault.TheVariants.{ReadDenied, NotList, WriteDenied, BadType, BadValue}
 
 -- object, services or property
 abbrev pub class_of : Fault → ℕ

@@ -26,7 +26,8 @@ KeepsBody old new = ((id : Id) → IsBody id old → IsBody id new) × (interval
 abbrev pub AreObjects : List (Id × object.Object) → Type 0
 AreObjects objects = AllByRecursion (λ e. IsBody e.0 e.1.body) objects
 
--- as long as the clock goes on, and not up to the moment `until`, an object isn't due; moments are in hundredths of a second
+-- as long as the clock goes on, and not up to the moment `until`, an object isn't due; moments are in hundredths of a
+-- second
 abbrev pub IsQuiet : ℕ → ℕ → ℕ → Body → Type 0
 IsQuiet origin clock until b = (new : ℕ) → clock ≤ new → new < until → is_due origin clock new (interval_in b) ≡ false
 

@@ -1,8 +1,10 @@
 -- The properties of each object (clause 12), a row for each, in the order of the standard's tables.
-use Rattle.std.specs.Prelude.{ℕ, ◌==◌, ◌&&◌, ◌||◌, Bool, false, List, [], ◌∷◌, length, map, codes, if◌then◌else◌, Option, Some, None, Result, Ok}
+use Rattle.std.specs.Prelude.{ℕ, ◌==◌, ◌&&◌, ◌||◌, Bool, false, List, [], ◌∷◌, length, map, codes, if◌then◌else◌}
+use Rattle.std.specs.Prelude.{Option, Some, None, Result, Ok}
 use Rattle.std.specs.Map.{lookup, keys_of}
 use Rattle.bac_wire.specs.Chain.{◌>>=◌}
-use Rattle.bac_wire.specs.Primitive.{Primitive, Null, Boolean, Unsigned, Signed, Enumerated, Bits, Chars, Date, Time, Object, Id}
+use Rattle.bac_wire.specs.Primitive.{Primitive, Null, Boolean, Unsigned, Signed, Enumerated, Bits, Chars, Date, Time}
+use Rattle.bac_wire.specs.Primitive.{Object, Id}
 use Rattle.bac_wire.specs.Stamp.{date_of, time_of, date_octets, time_octets}
 use Rattle.bac_log.specs.TrendLog.{total_of}
 use Rattle.bac_objects.specs.Bits.{services_supported, types_supported}
@@ -21,8 +23,8 @@ use Rattle.bac_objects.specs.declared.object.Body.TheVariants as body
 use Rattle.bac_objects.specs.declared.object.Logger.{Logger}
 use Rattle.bac_objects.specs.declared.object.Object as object
 
--- What a property is: one value, a list, or an array, whose elements have an index; the object and the property of a reference
--- (BACnetDeviceObjectPropertyReference, clause 21); or records, which ReadRange alone reads.
+-- What a property is: one value, a list, or an array, whose elements have an index; the object and the property of a
+-- reference (BACnetDeviceObjectPropertyReference, clause 21); or records, which ReadRange alone reads.
 pub data Shown : Type 0 where
   One : Primitive → Shown
   Several : List Primitive → Shown

@@ -1,5 +1,6 @@
 -- How properties are read (clause 15.5), and the octets of their values.
-use Rattle.std.specs.Prelude.{◌≡◌, ◌<◌, ℕ, ◌+◌, ◌-◌, ◌==◌, nat_lt, List, [], ◌∷◌, ◌++◌, length, map, slice_get, if◌then◌else◌, Option, Some, None, Result, Ok, Err}
+use Rattle.std.specs.Prelude.{◌≡◌, ◌<◌, ℕ, ◌+◌, ◌-◌, ◌==◌, nat_lt, List, [], ◌∷◌, ◌++◌, length, map, slice_get}
+use Rattle.std.specs.Prelude.{if◌then◌else◌, Option, Some, None, Result, Ok, Err}
 use Rattle.bac_wire.specs.Chain.{◌>>=◌}
 use Rattle.bac_wire.specs.Canon.{IsValid}
 use Rattle.bac_wire.specs.Primitive.{Primitive, Unsigned, Enumerated, Object, Id}
@@ -7,7 +8,8 @@ use Rattle.bac_wire.specs.View.{view, IsWellFormed}
 use Rattle.bac_apdu.specs.Adding.{context_octets, value_octets}
 use Rattle.bac_apdu.specs.declared.service.read_property.ReadProperty.{ReadProperty}
 use Rattle.bac_objects.specs.Chain.{or_fault}
-use Rattle.bac_objects.specs.Properties.{Shown, One, Several, Array, Reference, Records, object_list, row, slot_value, table_at}
+use Rattle.bac_objects.specs.Properties.{Shown, One, Several, Array, Reference, Records, object_list, row, slot_value}
+use Rattle.bac_objects.specs.Properties.{table_at}
 use Rattle.bac_objects.specs.State.{State}
 use Rattle.bac_objects.specs.declared.fault.Fault.{Fault}
 use Rattle.bac_objects.specs.declared.fault.Fault.TheVariants.{UnknownProperty, NotArray, BadIndex, ReadDenied}
@@ -51,8 +53,8 @@ abbrev pub elements_of : Option Shown → Option ℕ → Result (List ℕ) Fault
 elements_of None index = Err UnknownProperty
 elements_of (Some shown) index = elements shown index
 
--- The octets of the values that a request asks for, or the first fault: the object isn't there, it lacks the property, an index into what is no
--- array, no such element, records of a log.
+-- The octets of the values that a request asks for, or the first fault: the object isn't there, it lacks the property,
+-- an index into what is no array, no such element, records of a log.
 abbrev pub read_of : State → ReadProperty → Result (List ℕ) Fault
 read_of d r = do
   table ← table_at d r.object

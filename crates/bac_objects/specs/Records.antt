@@ -31,8 +31,10 @@ abbrev pub device_refusal : Result (Unit {0}) Fault → Fault
 device_refusal (Ok ok) = NotList
 device_refusal (Err fault) = fault
 
--- The log, or the first fault: the object isn't there, it lacks the property, an index into what is no array, a property without records.
+-- The log, or the first fault: the object isn't there, it lacks the property, an index into what is no array, a
+-- property without records.
 abbrev pub records_of : State → ReadRange → Result Log Fault
-records_of d r = if is_device d r.object then Err (device_refusal (checked (row r.property (device_table d)) r.index)) else (do
+records_of d r =
+    if is_device d r.object then Err (device_refusal (checked (row r.property (device_table d)) r.index)) else (do
   o ← or_fault (lookup (is_id r.object) d.objects) UnknownObject
   object_records r o)

@@ -11,14 +11,16 @@ use Rattle.bac_objects.specs.declared.object.Object as object
 
 -- an object of the type Trend Log has records
 abbrev pub HasLogs : State → Type 0
-HasLogs d = (instance : ℕ) (o : object.Object) → lookup (is_id (log_id instance)) d.objects ≡ Some o → (l : Logger) × (o.body ≡ body.Log l)
+HasLogs d = (instance : ℕ) (o : object.Object) →
+    lookup (is_id (log_id instance)) d.objects ≡ Some o → (l : Logger) × (o.body ≡ body.Log l)
 
--- Its instance isn't the one that stands for all devices, its replies fit into a datagram, each Trend Log and no other object has records,
--- and those of each are what a log can hold.
+-- Its instance isn't the one that stands for all devices, its replies fit into a datagram, each Trend Log and no other
+-- object has records, and those of each are what a log can hold.
 pub record IsSound (d : State) : Type 0 where
   pub instance : d.instance ≤ 4194302
   pub least_reply : 50 ≤ d.reply_size
   pub greatest_reply : d.reply_size ≤ 1476
   pub has : HasLogs d
-  pub only : (id : Id) (o : object.Object) (l : Logger) → lookup (is_id id) d.objects ≡ Some o → o.body ≡ body.Log l → (id.kind ≡ 20) × (id.instance < 4194304)
+  pub only : (id : Id) (o : object.Object) (l : Logger) →
+      lookup (is_id id) d.objects ≡ Some o → o.body ≡ body.Log l → (id.kind ≡ 20) × (id.instance < 4194304)
   pub logs : (n : ℕ) (log : Log) → log_of d n ≡ Some log → IsLog log

@@ -1,5 +1,6 @@
 -- How properties are written (clause 15.9): each fault in its order.
-use Rattle.std.specs.Prelude.{ℕ, ℤ, pos, negsuc, ◌-◌, ◌^◌, Bool, true, false, slice_set, Option, Some, None, Result, Ok, Err, nat_lt, nat_le, ◌==◌, ◌&&◌, ◌||◌, not, if◌then◌else◌}
+use Rattle.std.specs.Prelude.{ℕ, ℤ, pos, negsuc, ◌-◌, ◌^◌, Bool, true, false, slice_set, Option, Some, None, Result, Ok}
+use Rattle.std.specs.Prelude.{Err, nat_lt, nat_le, ◌==◌, ◌&&◌, ◌||◌, not, if◌then◌else◌}
 use Rattle.std.specs.Map.{lookup, set_value}
 use Rattle.std.specs.Option.{unwrap_or}
 use Rattle.bac_wire.specs.Chain.{◌>>=◌}
@@ -17,7 +18,8 @@ use Rattle.bac_objects.specs.declared.command.Range.TheVariants as range
 use Rattle.bac_objects.specs.declared.command.Setting.{Setting}
 use Rattle.bac_objects.specs.declared.command.Setting.TheVariants as setting
 use Rattle.bac_objects.specs.declared.fault.Fault.{Fault}
-use Rattle.bac_objects.specs.declared.fault.Fault.TheVariants.{UnknownObject, UnknownProperty, NotArray, WriteDenied, BadType, BadValue}
+use Rattle.bac_objects.specs.declared.fault.Fault.TheVariants.{UnknownObject, UnknownProperty, NotArray, WriteDenied}
+use Rattle.bac_objects.specs.declared.fault.Fault.TheVariants.{BadType, BadValue}
 use Rattle.bac_objects.specs.declared.object.Body.{Body}
 use Rattle.bac_objects.specs.declared.object.Body.TheVariants as body
 use Rattle.bac_objects.specs.declared.object.Logger.{Logger}
@@ -57,7 +59,8 @@ unless_full log next = if newest log == last_ordinal then Err WriteDenied else O
 
 -- A changed Enable is logged; the value that is there changes nothing.
 abbrev pub enabled : CivilTime → Primitive → Log → Result Log Fault
-enabled clock (Boolean value) log = if is_change log.enabled value then unless_full log (enables value clock log) else Ok log
+enabled clock (Boolean value) log =
+    if is_change log.enabled value then unless_full log (enables value clock log) else Ok log
 enabled clock value log = Err BadType
 
 -- Record_Count is set to 0 alone, and that empties the log and is logged.

@@ -15,7 +15,8 @@ IsLost (Err lost) = Unit {0}
 -- the same with sender and datagram apart, and none where no datagram came
 abbrev pub fitting_of : List ℕ → List ℕ → List ℕ → Option (List ℕ) → Option (List ℕ)
 fitting_of peer request from None = None
-fitting_of peer request from (Some datagram) = if bytes_eq from peer && answers_to request datagram then Some datagram else None
+fitting_of peer request from (Some datagram) =
+    if bytes_eq from peer && answers_to request datagram then Some datagram else None
 
 -- the datagram that came, where it is from the peer and answers the request
 abbrev pub fitting : List ℕ → List ℕ → Heard → Option (List ℕ)
@@ -32,16 +33,19 @@ IsHeard peer request (Err fault) port result new more = IsLost result × (new �
 IsHeard peer request (Ok heard) port result new more = IsTaken (fitting peer request heard) port result new more
 
 -- at most so many receives, up to the first datagram that fits
-unfoldable pub Awaits : {P : Type 0} → (P → Receiving → P → Type 0) → List ℕ → List ℕ → ℕ → P → Result (List ℕ) Lost → P → Type 0
+unfoldable pub Awaits : {P : Type 0} → (P → Receiving → P → Type 0) →
+    List ℕ → List ℕ → ℕ → P → Result (List ℕ) Lost → P → Type 0
 Awaits {P = P} receives peer request zero port result new = IsLost result × (new ≡ port)
 Awaits {P = P} receives peer request (suc n) port result new =
     (heard : Receiving) × (mid : P) × receives port heard mid
     × IsHeard peer request heard mid result new (Awaits receives peer request n mid result new)
 
 -- a refused send is the end
-abbrev pub IsSent : {P : Type 0} → (P → Receiving → P → Type 0) → List ℕ → List ℕ → ℕ → Sending → P → Result (List ℕ) Lost → P → Type 0
+abbrev pub IsSent : {P : Type 0} → (P → Receiving → P → Type 0) →
+    List ℕ → List ℕ → ℕ → Sending → P → Result (List ℕ) Lost → P → Type 0
 IsSent {P = P} receives peer request limit (Err fault) port result new = IsLost result × (new ≡ port)
-IsSent {P = P} receives peer request limit (Ok done) port result new = Awaits receives peer request limit port result new
+IsSent {P = P} receives peer request limit (Ok done) port result new =
+    Awaits receives peer request limit port result new
 
 -- one send to the peer, and then at most so many receives
 abbrev pub Asks : {P : Type 0} → (P → List ℕ → List ℕ → Sending → P → Type 0) → (P → Receiving → P → Type 0)

@@ -25,7 +25,8 @@ Fetching = Result Fetched QueryFault
 
 -- the end line was written, or a front part of it, or there was no memory for it
 abbrev pub PrintsEnd : Why → ℕ → Fetching → Held → Held → Type 0
-PrintsEnd why next (Ok fetched) old new = (fetched.why ≡ why) × (fetched.next ≡ next) × Appends old new (end_line why next)
+PrintsEnd why next (Ok fetched) old new =
+    (fetched.why ≡ why) × (fetched.next ≡ next) × Appends old new (end_line why next)
 PrintsEnd why next (Err Write) old new = AppendsPart old new (end_line why next)
 PrintsEnd why next (Err Memory) old new = Keeps old new
 PrintsEnd why next (Err (Exchange fault)) old new = ⊥
@@ -34,7 +35,8 @@ PrintsEnd why next (Err (Exchange fault)) old new = ⊥
 -- no memory for the end line, the lines of the items.
 abbrev pub PrintsItems : List Item → Fetching → Held → Held → Type 0
 PrintsItems items (Ok fetched) old new = Appends old new (items_text items ++ end_line fetched.why fetched.next)
-PrintsItems items (Err Write) old new = (why : Why) × (next : ℕ) × AppendsPart old new (items_text items ++ end_line why next)
+PrintsItems items (Err Write) old new =
+    (why : Why) × (next : ℕ) × AppendsPart old new (items_text items ++ end_line why next)
 PrintsItems items (Err Memory) old new = Appends old new (items_text items)
 PrintsItems items (Err (Exchange fault)) old new = ⊥
 
@@ -47,7 +49,8 @@ NextIs (Err fault) t = Unit {0}
 -- walk's place up to the number that comes next
 abbrev pub Delivers : (ℕ → List Moment → History → Type 0) → WalkPlace → ℕ → List Item → Fetching → Type 0
 Delivers was walk steps items result =
-    (r : ℕ) (M : List Moment) (H : History) (s : ℕ) → was r M H → walk.next ≡ sequence_number s → StaysNear r H M walk.fresh s steps →
+    (r : ℕ) (M : List Moment) (H : History) (s : ℕ) →
+        was r M H → walk.next ≡ sequence_number s → StaysNear r H M walk.fresh s steps →
     (b : ℕ) × (a : ℕ) × (t : ℕ) × (walk.fresh ≡ false → b ≡ s) × NextIs result t × DeliversTo H b items t M a
 
 -- why the walk ended, and the number that comes next: those of a run of n steps that ended so and left the walk here
@@ -61,13 +64,15 @@ EndsAs items steps n ended after (Ok fetched) old new = IsEnd steps n ended afte
 EndsAs items steps n ended after (Err Write) old new =
     (n ≤ steps)
     × (AppendsPart old new (items_text items)
-    ⊎ ((why : Why) × (next : ℕ) × IsEnd steps n ended after why next × AppendsPart old new (items_text items ++ end_line why next)))
+    ⊎ ((why : Why) × (next : ℕ) × IsEnd steps n ended after why next
+          × AppendsPart old new (items_text items ++ end_line why next)))
 EndsAs items steps n ended after (Err Memory) old new = (why : Why) × (next : ℕ) × IsEnd steps n ended after why next
 EndsAs items steps n ended after (Err (Exchange fault)) old new = ⊥
 
--- The items are those of a run of n steps of the walk, over any link: each step brought at most 100 records and one gap,
--- and a record at least where all were whole. Over an honest link they are what its answers brought.
-abbrev pub IsFetched : (ℕ → List Moment → History → Type 0) → ℕ → ℕ → ℕ → WalkPlace → WalkPlace → ℕ → Ended → List Item → Type 0
+-- The items are those of a run of n steps of the walk, over any link: each step brought at most 100 records and one
+-- gap, and a record at least where all were whole. Over an honest link they are what its answers brought.
+abbrev pub IsFetched : (ℕ → List Moment → History → Type 0) →
+    ℕ → ℕ → ℕ → WalkPlace → WalkPlace → ℕ → Ended → List Item → Type 0
 IsFetched was retries old new before after n ended items =
     IsRun was (λ r M H. Unit {0}) retries old new before after n ended items
     × (length items ≤ 101 * n) × (ended ≡ StepLimit → n ≤ length items)

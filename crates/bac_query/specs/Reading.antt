@@ -35,7 +35,8 @@ Prints text (Err (Exchange fault)) old new = ⊥
 
 -- the octets of the values in an ACK that can be read (clause 15.5)
 abbrev pub values_in : Option Apdu → Option (List ℕ)
-values_in (Some (apdu.Complex segmented invoke service parameters)) = option_map (λ ack. ack.values) (read_property_ack_at parameters)
+values_in (Some (apdu.Complex segmented invoke service parameters)) =
+    option_map (λ ack. ack.values) (read_property_ack_at parameters)
 values_in other = None
 
 -- the text of the values was written, or a front part of it; without memory for the text nothing was
@@ -58,11 +59,14 @@ PrintsAnswer (Ok datagram) result old new = PrintsValues (values_in (apdu_in dat
 -- an exchange of the request, and the values of its ACK are printed
 abbrev pub ReadsProperty : Path → ℕ → ReadProperty → Answer → Held → Held → Type 0
 ReadsProperty path invoke asked result old new =
-    (answer : Result (List ℕ) ExchangeFault) × Concludes path invoke (request.ReadProperty asked) answer × PrintsAnswer answer result old new
+    (answer : Result (List ℕ) ExchangeFault) × Concludes path invoke (request.ReadProperty asked) answer
+        × PrintsAnswer answer result old new
 
 -- and that exchange was one over the link, with as many retries
-abbrev pub ReadsOver : {S : Type 0} → (S → List ℕ → Result (List ℕ) Lost → S → Type 0) → Path → ℕ → ReadProperty → ℕ → S → Answer → S →
+abbrev pub ReadsOver : {S : Type 0} → (S → List ℕ → Result (List ℕ) Lost → S → Type 0) →
+    Path → ℕ → ReadProperty → ℕ → S → Answer → S →
     Held → Held → Type 0
 ReadsOver {S = S} asks path invoke asked retries link result left old new =
-    (answer : Result (List ℕ) ExchangeFault) × Exchanges asks path invoke (request.ReadProperty asked) retries link answer left
+    (answer : Result (List ℕ) ExchangeFault)
+        × Exchanges asks path invoke (request.ReadProperty asked) retries link answer left
     × PrintsAnswer answer result old new

@@ -28,7 +28,9 @@ IsShown octets text =
 
 -- lines that were appended, of all the values or of some at the front; nothing is known where memory ran out
 abbrev pub ShowsLines : {E : Type 0} → List ℕ → List ℕ → List ℕ → Result Bool E → Type 0
-ShowsLines octets old new (Ok true) = (values : List Primitive) × AreValues octets values × (new ≡ old ++ value_lines values)
+ShowsLines octets old new (Ok true) =
+    (values : List Primitive) × AreValues octets values × (new ≡ old ++ value_lines values)
 ShowsLines octets old new (Ok false) =
-    ((values : List Primitive) → AreValues octets values → ⊥) × ((more : List Primitive) × (new ≡ old ++ value_lines more))
+    ((values : List Primitive) → AreValues octets values → ⊥)
+        × ((more : List Primitive) × (new ≡ old ++ value_lines more))
 ShowsLines octets old new (Err error) = Unit {0}

@@ -24,7 +24,9 @@ WritesProperty path invoke asked result old new =
     (answer : Result (List ℕ) ExchangeFault) × Concludes path invoke asked answer × PrintsIfDone answer result old new
 
 -- and that exchange was one over the link, with as many retries
-abbrev pub WritesOver : {S : Type 0} → (S → List ℕ → Result (List ℕ) Lost → S → Type 0) → Path → ℕ → Request → ℕ → S → Answer → S →
+abbrev pub WritesOver : {S : Type 0} → (S → List ℕ → Result (List ℕ) Lost → S → Type 0) →
+    Path → ℕ → Request → ℕ → S → Answer → S →
     Held → Held → Type 0
 WritesOver {S = S} asks path invoke asked retries link result left old new =
-    (answer : Result (List ℕ) ExchangeFault) × Exchanges asks path invoke asked retries link answer left × PrintsIfDone answer result old new
+    (answer : Result (List ℕ) ExchangeFault) × Exchanges asks path invoke asked retries link answer left
+        × PrintsIfDone answer result old new

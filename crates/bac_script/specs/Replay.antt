@@ -54,7 +54,8 @@ fault_of_script limit script =
     else past_limit (play 1 Empty (ended_lines (take limit script))).1
 
 -- All the lines were played, and the writer holds their text.
-pub record PlaysAll (old new : Option (List ℕ)) (s : SessionState) (all : List (List ℕ)) (t : SessionState) : Type 0 where
+pub record PlaysAll (old new : Option (List ℕ))
+    (s : SessionState) (all : List (List ℕ)) (t : SessionState) : Type 0 where
   pub state : (play 1 s all).1 ≡ Ok t
   pub text : Appends old new (play 1 s all).0
 

@@ -19,7 +19,8 @@ use Rattle.bac_device.specs.declared.reply.Receiver.TheVariants.{Sender, Address
 use Rattle.bac_device.specs.declared.reply.Reply.{Reply}
 use Rattle.bac_script.specs.Fault.{Refusal, Bad, Unbuilt}
 use Rattle.bac_script.specs.Walk.{walk_text}
-use Rattle.bac_script.specs.Script.Line.{ScriptEvent, Received, Clocked, Sampled, Walked, ScriptLine, Device, Object, Happens}
+use Rattle.bac_script.specs.Script.Line.{ScriptEvent, Received, Clocked, Sampled, Walked, ScriptLine, Device, Object}
+use Rattle.bac_script.specs.Script.Line.{Happens}
 use Rattle.bac_script.specs.Script.Line.{is_silent, line_in}
 
 -- what the lines so far have made: nothing, a device that is described with its

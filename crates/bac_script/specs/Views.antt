@@ -4,7 +4,8 @@ use Rattle.bac_wire.specs.Primitive.{Id}
 use Rattle.bac_wire.specs.Stamp.{CivilTime}
 use Rattle.bac_objects.specs.declared.lines.ObjectLine.TheVariants.{Binary, Multistate, Integer, Log}
 use Rattle.bac_script.specs.Fault.{Refusal, Bad, Unbuilt}
-use Rattle.bac_script.specs.Script.Line.{ScriptEvent, Received, Clocked, Sampled, Walked, ScriptLine, Device, Object, Happens}
+use Rattle.bac_script.specs.Script.Line.{ScriptEvent, Received, Clocked, Sampled, Walked, ScriptLine, Device, Object}
+use Rattle.bac_script.specs.Script.Line.{Happens}
 use Rattle.bac_script.specs.Session.{SessionState, Empty, Described, Running}
 use Rattle.bac_script.specs.declared.replay.fault.LineFault.{LineFault}
 use Rattle.bac_script.specs.declared.replay.fault.LineFault.TheVariants as fault

@@ -68,7 +68,8 @@ begins log (Some sequence_number) = (log.kind == 20) && nat_lt 0 sequence_number
 -- the walk, where it begins
 abbrev pub start_of : Id → Option ℕ → Option WalkPlace
 start_of log None = if begins log None then Some (walk_from_oldest log) else None
-start_of log (Some sequence_number) = if begins log (Some sequence_number) then Some (walk_at log sequence_number) else None
+start_of log (Some sequence_number) =
+    if begins log (Some sequence_number) then Some (walk_at log sequence_number) else None
 
 -- what it prints
 abbrev pub begun_text : device.State → Id → Option ℕ → ℕ → List ℕ

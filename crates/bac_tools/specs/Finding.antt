@@ -24,7 +24,8 @@ abbrev pub of_found : Found → Ending
 of_found (Ok done) = Ok 0
 of_found (Err fault) = Err (of_find fault)
 
--- the request goes to each address from a socket as the words say, and lines are printed of at most 4096 datagrams that come
+-- the request goes to each address from a socket as the words say, and lines are printed of at most 4096 datagrams that
+-- come
 abbrev pub Searches : Search → List (List ℕ) → Option (List ℕ) → ℕ → Held → Held → Ending → Type 0
 Searches search addresses local timeout old new result =
     IsClosed old new result

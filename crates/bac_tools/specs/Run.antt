@@ -1,5 +1,5 @@
--- What the program does with its words. Read from the end. `input` is what the reader had and `left` what it has left; `old` and `new` are
--- what the output held before and holds now, each where that is known.
+-- What the program does with its words. Read from the end. `input` is what the reader had and `left` what it has left;
+-- `old` and `new` are what the output held before and holds now, each where that is known.
 use Rattle.std.specs.Prelude.{◌≡◌, ◌≢◌, ◌≤◌, ◌⊎◌, ℕ, ◌==◌, if◌then◌else◌, List, [], Option, Some, None, Result, Ok, Err}
 use Rattle.std.specs.List.{list_any}
 use Rattle.std.specs.Io.KnownBytes.{Keeps}
@@ -123,7 +123,8 @@ IsUnasked word old new result = (result ≡ Err (BadValue word)) × Keeps old ne
 
 -- no trend log has this instance, or no record this number
 abbrev pub IsNoWalk : ℕ → Option ℕ → Fault → Type 0
-IsNoWalk instance from fault = (IsOutside 20 instance × (fault ≡ BadValue Instance)) ⊎ ((from ≡ Some 0) × (fault ≡ BadValue From))
+IsNoWalk instance from fault =
+    (IsOutside 20 instance × (fault ≡ BadValue Instance)) ⊎ ((from ≡ Some 0) × (fault ≡ BadValue From))
 
 -- the trend log with this instance
 abbrev pub trend_log : ℕ → Id
@@ -165,7 +166,8 @@ IsConfigured input left (Err other) = ⊥
 
 -- the device can't be built, or there is no memory for it
 abbrev pub IsUnbuilt : Option BuildFault → Fault → Type 0
-IsUnbuilt said fault = (said ≡ None × (fault ≡ Memory)) ⊎ ((f : BuildFault) × (said ≡ Some f) × (fault ≡ Script (Build f)))
+IsUnbuilt said fault =
+    (said ≡ None × (fault ≡ Memory)) ⊎ ((f : BuildFault) × (said ≡ Some f) × (fault ≡ Script (Build f)))
 
 -- how serving ends: done, or the socket failed
 abbrev pub of_served : Done → Ending
@@ -173,28 +175,34 @@ of_served (Ok done) = Ok 0
 of_served (Err fault) = Err Socket
 
 -- the device was served for so many datagrams at a socket with this address and wait, or there was no socket for it
-abbrev pub IsServed : {C : Type 0} → (C → Option CivilTime → C → Type 0) → List ℕ → ℕ → ℕ → State → C → Ending → C → Type 0
+abbrev pub IsServed : {C : Type 0} → (C → Option CivilTime → C → Type 0) →
+    List ℕ → ℕ → ℕ → State → C → Ending → C → Type 0
 IsServed tells address wait count device clock result told =
     ((result ≡ Err Socket) × (told ≡ clock))
     ⊎ ((port : UdpPort) × (served : Done) × (new : UdpPort) × (after : State) × IsOpen address wait port
-    × ServesDevice any_send any_receive tells count port device clock served new after told × (result ≡ of_served served))
+    × ServesDevice any_send any_receive tells count port device clock served new after told
+        × (result ≡ of_served served))
 
 -- a fifth of a second while a log has an interval, so that it takes its samples while nobody asks; else without limit
 abbrev pub wait_of : List ObjectLine → ℕ
 wait_of lines = if list_any has_interval lines then 200 else 0
 
 -- the faults of the configuration, of the build and of the socket, in this order
-abbrev pub Serves : {C : Type 0} → (C → Option CivilTime → C → Type 0) → List ℕ → ℕ → Held → Held → C → Ending → C → Type 0
+abbrev pub Serves : {C : Type 0} → (C → Option CivilTime → C → Type 0) →
+    List ℕ → ℕ → Held → Held → C → Ending → C → Type 0
 Serves tells address count input left clock result told =
     ((fault : Fault) × IsConfigured input left (Err fault) × (result ≡ Err fault) × (told ≡ clock))
     ⊎ ((c : Configuration) × IsConfigured input left (Ok c)
-    × (((fault : Fault) × IsUnbuilt (build_fault c.device c.objects.items) fault × (result ≡ Err fault) × (told ≡ clock))
-    ⊎ ((build_fault c.device c.objects.items ≡ None) × IsServed tells address (wait_of c.objects.items) count (built c.device c.objects.items) clock result told)))
+    × (((fault : Fault) × IsUnbuilt (build_fault c.device c.objects.items) fault
+            × (result ≡ Err fault) × (told ≡ clock))
+    ⊎ ((build_fault c.device c.objects.items ≡ None)
+          × IsServed tells address (wait_of c.objects.items) count (built c.device c.objects.items) clock result told)))
 
 -- ---- any job
 
 -- The clock moves on only while a device is served.
-abbrev pub Works : {C : Type 0} → (C → Option CivilTime → C → Type 0) → Job → Held → Held → Held → Held → C → Ending → C → Type 0
+abbrev pub Works : {C : Type 0} → (C → Option CivilTime → C → Type 0) →
+    Job → Held → Held → Held → Held → C → Ending → C → Type 0
 Works tells job.Replay input left old new clock result told = Plays input left old new result × (told ≡ clock)
 Works tells (job.Rp asked object_type instance property index) input left old new clock result told =
     ((IsOutside object_type instance × IsUnasked Instance old new result)
@@ -204,7 +212,8 @@ Works tells (job.Wp asked object_type instance property priority given index) in
     ⊎ ((w : WriteProperty) × (write_of_code w ≡ setting object_type instance property priority given index)
     × Writes asked (request.WriteProperty w) old new result)) × (told ≡ clock)
 Works tells (job.Log asked instance from steps) input left old new clock result told =
-    (((fault : Fault) × (IsNoWalk instance from fault × (result ≡ Err fault)) × Keeps old new) ⊎ Fetches asked (walk_from instance from) steps old new result)
+    (((fault : Fault) × (IsNoWalk instance from fault × (result ≡ Err fault))
+            × Keeps old new) ⊎ Fetches asked (walk_from instance from) steps old new result)
     × (told ≡ clock)
 Works tells (job.Serve address count) input left old new clock result told =
     Serves tells address count input left clock result told × Keeps old new
@@ -225,7 +234,8 @@ Ends (Ok done) old new status = (status ≡ done) × Keeps old new
 Ends (Err fault) old new status = IsTold fault old new status
 
 -- what the words ask for is done, or nothing is, for want of memory for the words
-abbrev pub Runs : {C : Type 0} → (C → Option CivilTime → C → Type 0) → Job → Held → Held → Held → Held → Held → Held → C → ℕ → C → Type 0
+abbrev pub Runs : {C : Type 0} → (C → Option CivilTime → C → Type 0) →
+    Job → Held → Held → Held → Held → Held → Held → C → ℕ → C → Type 0
 Runs tells asked input left old new errors told clock status after =
     (IsTold Memory errors told status × Keeps old new × (after ≡ clock))
     ⊎ ((result : Ending) × Works tells asked input left old new clock result after × Ends result errors told status)

@@ -31,7 +31,8 @@ any_receive before answer behind = Unit {0}
 -- an ask over a socket: the request is sent once to the peer, and at most 16 datagrams are taken, up to the first one
 -- that comes from the peer and answers it
 abbrev pub socket_asks : UdpLink UdpPort → List ℕ → Result (List ℕ) Lost → UdpLink UdpPort → Type 0
-socket_asks old octets answer new = Asks any_send any_receive old.peer octets 16 old.port answer new.port × (new.peer ≡ old.peer)
+socket_asks old octets answer new =
+    Asks any_send any_receive old.peer octets 16 old.port answer new.port × (new.peer ≡ old.peer)
 
 -- ---- asking one device
 
@@ -39,7 +40,8 @@ socket_asks old octets answer new = Asks any_send any_receive old.peer octets 16
 abbrev pub transactions_with : Asked → Transactions
 transactions_with asked = record { retries = asked.retries; route = asked.route; invoke = 0; begun = 0; pending = None }
 
--- a link to the device that the words name, over a socket at the address and with the wait that they say, and transactions as they say
+-- a link to the device that the words name, over a socket at the address and with the wait that they say, and
+-- transactions as they say
 pub record IsAsking (asked : Asked) (asking : Asking) : Type 0 where
   pub socket : IsOpen (own_address asked.local) asked.timeout asking.link.port
   pub peer : asking.link.peer ≡ asked.address

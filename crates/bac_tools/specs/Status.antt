@@ -1,10 +1,11 @@
--- The program's exit statuses: 0 done; 1 the words, the script or the configuration aren't right; 2 no answer, or a read,
--- a write or a socket failed; 3 the device refused; 4 a reply that doesn't belong; 5 out of memory.
+-- The program's exit statuses: 0 done; 1 the words, the script or the configuration aren't right; 2 no answer, or a
+-- read, a write or a socket failed; 3 the device refused; 4 a reply that doesn't belong; 5 out of memory.
 use Rattle.std.specs.Prelude.{ℕ}
 use Rattle.bac_link.specs.declared.exchanges.ExchangeFault.{ExchangeFault}
 use Rattle.bac_link.specs.declared.exchanges.ExchangeFault.TheVariants as exchange
 use Rattle.bac_tools.specs.declared.fault.Fault.{Fault}
-use Rattle.bac_tools.specs.declared.fault.Fault.TheVariants.{NotText, BadValue, NoDevice, Script, Socket, Refused, NoAnswer, Exchange, Write, Memory}
+use Rattle.bac_tools.specs.declared.fault.Fault.TheVariants.{NotText, BadValue, NoDevice, Script, Socket, Refused}
+use Rattle.bac_tools.specs.declared.fault.Fault.TheVariants.{NoAnswer, Exchange, Write, Memory}
 use Rattle.bac_script.specs.declared.replay.fault.ReplayFault.{ReplayFault}
 use Rattle.bac_script.specs.declared.replay.fault.ReplayFault.TheVariants as replay
 use Rattle.bac_walk.specs.declared.outcome.WalkFault.TheVariants as walk

@@ -9,7 +9,8 @@ use Rattle.bac_report.specs.Ends.{refusal_text}
 use Rattle.bac_script.specs.declared.replay.fault.ReplayFault.{ReplayFault}
 use Rattle.bac_script.specs.declared.replay.fault.ReplayFault.TheVariants as script
 use Rattle.bac_tools.specs.declared.fault.Fault.{Fault}
-use Rattle.bac_tools.specs.declared.fault.Fault.TheVariants.{NotText, BadValue, NoDevice, Script, Socket, Refused, NoAnswer, Exchange, Write, Memory}
+use Rattle.bac_tools.specs.declared.fault.Fault.TheVariants.{NotText, BadValue, NoDevice, Script, Socket, Refused}
+use Rattle.bac_tools.specs.declared.fault.Fault.TheVariants.{NoAnswer, Exchange, Write, Memory}
 use Rattle.bac_words.specs.Names.{name_of, is_option}
 use Rattle.bac_words.specs.declared.word.Word.{Word}
 use Rattle.bac_words.specs.declared.word.Word.TheVariants as word

@@ -1,5 +1,6 @@
 -- What a run of a walk over an honest link delivers, and how it ends.
-use Rattle.std.specs.Prelude.{◌++◌, ◌≡◌, ℕ, suc, Bool, true, false, ◌+◌, ◌*◌, ◌<◌, ◌≤◌, Result, Ok, Err, List, [], ◌∷◌, length, drop}
+use Rattle.std.specs.Prelude.{◌++◌, ◌≡◌, ℕ, suc, Bool, true, false, ◌+◌, ◌*◌, ◌<◌, ◌≤◌, Result, Ok, Err, List, [], ◌∷◌}
+use Rattle.std.specs.Prelude.{length, drop}
 use Rattle.bac_link.specs.declared.item.Item.{Item}
 use Rattle.bac_walk.specs.declared.outcome.Progress.{Progress}
 use Rattle.bac_walk.specs.declared.outcome.Progress.TheVariants.{Batch as BatchOf, AskOldest, CaughtUp as IsUp}
@@ -57,9 +58,11 @@ AreWhole ended r H M by_oldest s [] = Unit {0}
 AreWhole ended r H M by_oldest s ([] ∷ answers) = AreWhole ended r H (later M) true s answers
 AreWhole ended r H M by_oldest s ((x ∷ xs) ∷ []) = IsOfReply ended (x ∷ xs) (whole_reply r H (now M) by_oldest s)
 AreWhole ended r H M by_oldest s ((x ∷ xs) ∷ y ∷ answers) =
-    ((x ∷ xs) ≡ whole_reply r H (now M) by_oldest s) × AreWhole ended r H (later M) false (end_of s (x ∷ xs)) (y ∷ answers)
+    ((x ∷ xs) ≡ whole_reply r H (now M) by_oldest s)
+        × AreWhole ended r H (later M) false (end_of s (x ∷ xs)) (y ∷ answers)
 
--- the ordinal where a run begins: that of the next number, or for a walk from the oldest entry at the oldest of its first batch's moment
+-- the ordinal where a run begins: that of the next number, or for a walk from the oldest entry at the oldest of its
+-- first batch's moment
 abbrev pub start_of : Bool → ℕ → List Moment → List (List Item) → ℕ
 start_of false next M answers = next
 start_of true next M [] = next
@@ -77,7 +80,8 @@ IsCaughtUp fresh t M answers =
 abbrev pub IsEnded : Ended → Bool → ℕ → List Moment → List (List Item) → ℕ → ℕ → ℕ → ℕ → Type 0
 IsEnded CaughtUp fresh t M answers steps retries old new = (batches answers < steps) × IsCaughtUp fresh t M answers
 IsEnded StepLimit fresh t M answers steps retries old new = (batches answers ≡ steps) × IsWhole answers
-IsEnded Stopped fresh t M answers steps retries old new = (0 < batches answers) × (batches answers ≤ steps) × IsWhole answers
+IsEnded Stopped fresh t M answers steps retries old new =
+    (0 < batches answers) × (batches answers ≤ steps) × IsWhole answers
 IsEnded (Fault Lost) fresh t M answers steps retries old new = RisesBy (retries + 1) old new
 IsEnded (Fault (Refused refusal)) fresh t M answers steps retries old new = ⊥
 IsEnded (Fault BadReply) fresh t M answers steps retries old new = ⊥
@@ -147,7 +151,8 @@ Goes false before s (x ∷ xs) after next =
     (before ≡ sequence_number s → (t : ℕ) × (next ≡ sequence_number t) × Covers s (x ∷ xs) t) × (after ≡ false)
 Goes true before s (Gap first until ∷ xs) after next = ⊥
 Goes true before s (Logged shown entry ∷ xs) after next =
-    (shown ≡ sequence_number s → (t : ℕ) × (next ≡ sequence_number t) × Covers s (Logged shown entry ∷ xs) t) × (after ≡ false)
+    (shown ≡ sequence_number s → (t : ℕ) × (next ≡ sequence_number t) × Covers s (Logged shown entry ∷ xs) t)
+        × (after ≡ false)
 
 -- a turn and a step that aren't lost, and those of a log that the device doesn't have
 abbrev pub IsFound : WalkFault → Type 0

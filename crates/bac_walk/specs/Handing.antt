@@ -22,7 +22,8 @@ ended_after None = StepLimit
 ended_after (Some n) = Stopped
 
 -- the batch of a step is put into the sink; a step without a batch and a fault leave sink and walk as they were
-abbrev pub HandedOn : {S : Type 0} → (S → Option GapOf → Numbered → Bool → S → Type 0) → S → WalkPlace → Result Step WalkFault → Ended → WalkPlace → S → Type 0
+abbrev pub HandedOn : {S : Type 0} → (S → Option GapOf → Numbered → Bool → S → Type 0) →
+    S → WalkPlace → Result Step WalkFault → Ended → WalkPlace → S → Type 0
 HandedOn puts sink w (Err e) ended after left = (left ≡ sink) × (after ≡ w) × (ended ≡ Fault e)
 HandedOn puts sink w (Ok NoStep) ended after left = (left ≡ sink) × (after ≡ w) × (ended ≡ CaughtUp)
 HandedOn puts sink w (Ok (StepOf b)) ended after left =

@@ -9,4 +9,5 @@ use Rattle.bac_walk.specs.Sinks.{gaps_in}
 -- the room and the items before, the gap, the record, the answer, and the room and the items after
 abbrev pub IsKept : ℕ → List Item → Option GapOf → Numbered → Bool → ℕ → List Item → Type 0
 IsKept room old gap item taken left new =
-    (length old + gaps_in gap + 1 ≤ room → (taken ≡ true) × (left ≡ room) × (new ≡ old ++ (gap_items gap ++ item_of item ∷ [])))
+    (length old + gaps_in gap + 1 ≤ room → (taken ≡ true)
+          × (left ≡ room) × (new ≡ old ++ (gap_items gap ++ item_of item ∷ [])))

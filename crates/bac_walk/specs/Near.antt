@@ -21,7 +21,8 @@ IsNearStep s M = IsNear s (now M) × (NoneOfHundred s (now M) → IsNear s (now 
 -- walk from the oldest entry may be anywhere until its first batch.
 abbrev pub StaysNear : ℕ → History → List Moment → Bool → ℕ → ℕ → Type 0
 StaysNear r H M fresh s steps = (i retries old new t : ℕ) (items : List Item) (answers : List (List Item)) →
-    i < steps → Collected r H M fresh s i retries old new items t StepLimit answers → (batches answers ≡ 0 → fresh ≡ false) →
+    i < steps → Collected r H M fresh s i retries old new items t StepLimit answers →
+        (batches answers ≡ 0 → fresh ≡ false) →
     IsNearStep t (after_answers (length answers) M)
 
 -- A plain premise that is enough: all that is logged or held at any of the moments lies within half of the count from
@@ -37,5 +38,6 @@ AreInWindow low (m ∷ M) = IsInWindow low m × AreInWindow low M
 
 -- and so does the ordinal where the walk begins, unless that is the oldest entry
 abbrev pub WindowsAreNear : Type 0
-WindowsAreNear = (r : ℕ) (H : History) (M : List Moment) (low s steps : ℕ) (fresh : Bool) → AreServed r M H → AreInWindow low M →
+WindowsAreNear =
+    (r : ℕ) (H : History) (M : List Moment) (low s steps : ℕ) (fresh : Bool) → AreServed r M H → AreInWindow low M →
     (fresh ≡ false → (low ≤ s) × (s < low + 2147483648)) → StaysNear r H M fresh s steps

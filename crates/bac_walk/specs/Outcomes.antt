@@ -3,7 +3,8 @@ use Rattle.std.specs.Prelude.{◌≡◌, ℕ, ◌<◌, Option, Some, None}
 use Rattle.bac_walk.specs.declared.outcome.Ended.{Ended}
 use Rattle.bac_walk.specs.declared.outcome.Ended.TheVariants.{CaughtUp, StepLimit, Stopped, Fault}
 use Rattle.bac_walk.specs.declared.outcome.Why.{Why}
-use Rattle.bac_walk.specs.declared.outcome.Why.TheVariants.{CaughtUp as WasUp, StepLimit as WasLimit, Fault as WasFault, Memory}
+use Rattle.bac_walk.specs.declared.outcome.Why.TheVariants.{CaughtUp as WasUp, StepLimit as WasLimit, Fault as WasFault}
+use Rattle.bac_walk.specs.declared.outcome.Why.TheVariants.{Memory}
 
 -- a run of so many steps that ended so is one of n steps over a link; want of memory ends it as if n had been asked for
 abbrev pub IsRunOf : Why → ℕ → ℕ → Ended → Type 0

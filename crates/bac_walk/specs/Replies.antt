@@ -45,7 +45,8 @@ last_asked FromOldest m = min (m.oldest + 99) m.newest
 abbrev pub asked_count : Wanted → Moment → ℕ
 asked_count wanted m = (last_asked wanted m + 1) - first_asked wanted m
 
--- how many of these entries, the first of which has this ordinal, are in the longest prefix whose ACK is within r octets
+-- how many of these entries, the first of which has this ordinal, are in the longest prefix whose ACK is within r
+-- octets
 abbrev pub fitting : ℕ → ℕ → List Entry → ℕ
 fitting r first es = greatest (λ n. nat_le (ack_length (Some (sequence_number first)) (take n es)) r) (length es)
 
@@ -54,7 +55,8 @@ abbrev pub how_many : ℕ → History → Wanted → Moment → ℕ
 how_many r H wanted m = fitting r (first_asked wanted m) (entries_from H (first_asked wanted m) (asked_count wanted m))
 
 -- the records and the first number of the answer to a question at a moment
-pub record IsAnswer (r : ℕ) (m : Moment) (H : History) (wanted : Wanted) (first : Option ℕ) (es : List Entry) : Type 0 where
+pub record IsAnswer (r : ℕ) (m : Moment) (H : History)
+    (wanted : Wanted) (first : Option ℕ) (es : List Entry) : Type 0 where
   pub entries : es ≡ entries_from H (first_asked wanted m) (how_many r H wanted m)
   pub first_is : 0 < how_many r H wanted m → first ≡ Some (sequence_number (first_asked wanted m))
   pub some : 0 < asked_count wanted m → 0 < how_many r H wanted m

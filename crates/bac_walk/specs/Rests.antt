@@ -1,5 +1,6 @@
 -- A walk over a log that doesn't change.
-use Rattle.std.specs.Prelude.{◌≡◌, ℕ, Bool, zero, suc, ◌+◌, ◌-◌, ◌<◌, ◌≤◌, max, nat_lt, if◌then◌else◌, ◌⊎◌, List, [], ◌∷◌, ◌++◌, length, All}
+use Rattle.std.specs.Prelude.{◌≡◌, ℕ, Bool, zero, suc, ◌+◌, ◌-◌, ◌<◌, ◌≤◌, max, nat_lt, if◌then◌else◌, ◌⊎◌, List, []}
+use Rattle.std.specs.Prelude.{◌∷◌, ◌++◌, length, All}
 use Rattle.bac_log.specs.declared.entry.Entry.{Entry}
 use Rattle.bac_link.specs.declared.item.Item.{Item}
 use Rattle.bac_walk.specs.declared.outcome.Ended.{Ended}
@@ -50,12 +51,14 @@ rest r H m fresh s steps = if fresh then rest_oldest r H m s steps else rest_fro
 
 -- a run that ended so
 abbrev pub IsRest : Rested → List Item → ℕ → Ended → Type 0
-IsRest rested items shown ended = (items ≡ rested.items) × (shown ≡ sequence_number rested.next) × (ended ≡ rested.ended)
+IsRest rested items shown ended =
+    (items ≡ rested.items) × (shown ≡ sequence_number rested.next) × (ended ≡ rested.ended)
 
 -- a walk ended so, or it had no memory
 abbrev pub Rests : Rested → ℕ → List Item → ℕ → Why → Type 0
 Rests rested steps items next why =
-    (why ≡ Memory) ⊎ ((items ≡ rested.items) × (next ≡ sequence_number rested.next) × IsRunOf why steps steps rested.ended)
+    (why ≡ Memory) ⊎ ((items ≡ rested.items) × (next ≡ sequence_number rested.next)
+          × IsRunOf why steps steps rested.ended)
 
 -- a walk of a log that isn't there
 abbrev pub end_missing : ℕ → Ended
@@ -64,7 +67,8 @@ end_missing (suc steps) = Fault (Refused (refusal.Error 1 31))
 
 -- such a walk delivered nothing, stayed at its number and ended so, or it had no memory
 abbrev pub Misses : ℕ → ℕ → List Item → ℕ → Why → Type 0
-Misses steps before items next why = (why ≡ Memory) ⊎ ((items ≡ []) × (next ≡ before) × IsRunOf why steps steps (end_missing steps))
+Misses steps before items next why =
+    (why ≡ Memory) ⊎ ((items ≡ []) × (next ≡ before) × IsRunOf why steps steps (end_missing steps))
 
 -- all that a log holds from ordinal s on, and the end of a walk that takes it
 abbrev pub rest_all : History → Moment → ℕ → Rested
@@ -80,11 +84,13 @@ rest_all H m s =
 
 -- with more steps than entries held from there on, a walk near a log that doesn't change delivers all of them
 abbrev pub RestsAll : Type 0
-RestsAll = (r : ℕ) (H : History) (m : Moment) (s steps : ℕ) → AreServed r (m ∷ []) H → All IsLoggable (log_at m H).entries → IsNear s m →
+RestsAll = (r : ℕ) (H : History) (m : Moment) (s steps : ℕ) →
+    AreServed r (m ∷ []) H → All IsLoggable (log_at m H).entries → IsNear s m →
     (m.newest + 1) - max s m.oldest < steps → rest_from r H m s steps ≡ rest_all H m s
 
 -- stopped after any entry and resumed at the next number, it delivers exactly what was left
 abbrev pub RestResumes : Type 0
-RestResumes = (H : History) (m : Moment) (s shown : ℕ) (entry : Entry) (before after : List Item) → IsMoment H.logged m → m.newest ≤ H.logged + length H.entries →
+RestResumes = (H : History) (m : Moment) (s shown : ℕ) (entry : Entry) (before after : List Item) →
+    IsMoment H.logged m → m.newest ≤ H.logged + length H.entries →
     (rest_all H m s).items ≡ before ++ Logged shown entry ∷ after →
     (k : ℕ) × (shown ≡ sequence_number k) × (after ≡ (rest_all H m (k + 1)).items)

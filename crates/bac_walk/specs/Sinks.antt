@@ -1,5 +1,6 @@
 -- Records that are put into a sink one after the other.
-use Rattle.std.specs.Prelude.{◌≡◌, ℕ, ◌+◌, ◌*◌, ◌≤◌, Bool, true, false, ◌⊎◌, Option, Some, None, List, [], ◌∷◌, ◌++◌, length}
+use Rattle.std.specs.Prelude.{◌≡◌, ℕ, ◌+◌, ◌*◌, ◌≤◌, Bool, true, false, ◌⊎◌, Option, Some, None, List, [], ◌∷◌, ◌++◌}
+use Rattle.std.specs.Prelude.{length}
 use Rattle.bac_link.specs.declared.item.Item.{Item}
 use Rattle.bac_walk.specs.declared.batch.Gap.{Gap as GapOf}
 use Rattle.bac_walk.specs.declared.batch.Numbered.{Numbered}
@@ -41,7 +42,8 @@ Takes {S = S} puts old (c ∷ calls) stopped new =
     ⊎ ((mid : S) × puts old c.gap c.record_put true mid × Takes puts mid calls stopped new)
 
 -- the records of a batch, put up to one that was answered false, whose number this is
-abbrev pub PutAll : {S : Type 0} → (S → Option GapOf → Numbered → Bool → S → Type 0) → S → Option GapOf → List Numbered → Option ℕ → S → Type 0
+abbrev pub PutAll : {S : Type 0} → (S → Option GapOf → Numbered → Bool → S → Type 0) →
+    S → Option GapOf → List Numbered → Option ℕ → S → Type 0
 PutAll {S = S} puts old gap [] refused new = (new ≡ old) × (refused ≡ None)
 PutAll {S = S} puts old gap (x ∷ xs) refused new =
     (puts old gap x false new × (refused ≡ Some x.number))
@@ -56,7 +58,8 @@ is_stopped (Fault e) = false
 
 -- a run of at most so many steps: over any link its items cover all from the walk's number up to the new one; over one
 -- that was honest, wherever the walk stays near, they are what its answers brought, and it is honest still
-abbrev pub IsRun : (ℕ → List Moment → History → Type 0) → (ℕ → List Moment → History → Type 0) → ℕ → ℕ → ℕ → WalkPlace → WalkPlace → ℕ → Ended → List Item → Type 0
+abbrev pub IsRun : (ℕ → List Moment → History → Type 0) →
+    (ℕ → List Moment → History → Type 0) → ℕ → ℕ → ℕ → WalkPlace → WalkPlace → ℕ → Ended → List Item → Type 0
 IsRun was is retries old new before after steps ended items =
     ((s : ℕ) → Goes before.fresh before.next s items after.fresh after.next)
     × ((r : ℕ) (M : List Moment) (H : History) (s : ℕ) → was r M H → before.next ≡ sequence_number s →
@@ -64,19 +67,23 @@ IsRun was is retries old new before after steps ended items =
     × Collected r H M before.fresh s steps retries old new items t ended answers
     × is r (after_answers (length answers) M) H × IsFreshAfter before.fresh answers after.fresh)
 
--- such a run into a sink: over any link each step puts at most 100 records and at most one gap; each brought a record at
--- least where it ended since there were so many
-abbrev pub Delivery : {S : Type 0} → (S → Option GapOf → Numbered → Bool → S → Type 0) → S → S → (ℕ → List Moment → History → Type 0) → (ℕ → List Moment → History → Type 0) → ℕ → ℕ → ℕ → WalkPlace → WalkPlace → ℕ → Ended → Type 0
+-- such a run into a sink: over any link each step puts at most 100 records and at most one gap; each brought a record
+-- at least where it ended since there were so many
+abbrev pub Delivery : {S : Type 0} → (S → Option GapOf → Numbered → Bool → S → Type 0) → S → S →
+    (ℕ → List Moment → History → Type 0) → (ℕ → List Moment → History → Type 0) →
+    ℕ → ℕ → ℕ → WalkPlace → WalkPlace → ℕ → Ended → Type 0
 Delivery {S = S} puts sink left was is retries old new before after steps ended =
     (calls : List Call) × Takes puts sink calls (is_stopped ended) left
     × (length calls ≤ 100 * steps) × (gaps calls ≤ steps)
     × IsRun was is retries old new before after steps ended (put_items calls)
     × (ended ≡ StepLimit → steps ≤ length calls)
 
--- Over a link that was honest, wherever the walk stays near: from the ordinal of its number on, or from that of the oldest
--- record where it begins there, so many answers deliver the items, and the link is honest still.
-abbrev pub IsDelivered : (ℕ → List Moment → History → Type 0) → (ℕ → List Moment → History → Type 0) → WalkPlace → WalkPlace → ℕ → List Item → Type 0
+-- Over a link that was honest, wherever the walk stays near: from the ordinal of its number on, or from that of the
+-- oldest record where it begins there, so many answers deliver the items, and the link is honest still.
+abbrev pub IsDelivered : (ℕ → List Moment → History → Type 0) →
+    (ℕ → List Moment → History → Type 0) → WalkPlace → WalkPlace → ℕ → List Item → Type 0
 IsDelivered was is before after steps items =
-    (r : ℕ) (M : List Moment) (H : History) (s : ℕ) → was r M H → before.next ≡ sequence_number s → StaysNear r H M before.fresh s steps →
+    (r : ℕ) (M : List Moment) (H : History) (s : ℕ) →
+        was r M H → before.next ≡ sequence_number s → StaysNear r H M before.fresh s steps →
     (b : ℕ) × (a : ℕ) × (t : ℕ) × (before.fresh ≡ false → b ≡ s) × (after.next ≡ sequence_number t)
     × DeliversTo H b items t M a × is r (after_answers a M) H

@@ -20,7 +20,8 @@ first_of r log extent = first_shown extent (packed extent r (selected log extent
 
 -- the parameters of an ACK of ReadRange
 abbrev pub parameters_in : Option Apdu → Option (List ℕ)
-parameters_in (Some (Complex segmented invoke service parameters)) = if segmented then None else (if service == 26 then Some parameters else None)
+parameters_in (Some (Complex segmented invoke service parameters)) =
+    if segmented then None else (if service == 26 then Some parameters else None)
 parameters_in message = None
 
 -- what a walk hears is the whole reply of a moment, with the right count

@@ -14,7 +14,8 @@ use Rattle.bac_walk.specs.declared.outcome.Progress.TheVariants.{Batch as BatchO
 use Rattle.bac_walk.specs.declared.outcome.WalkFault.{WalkFault}
 use Rattle.bac_walk.specs.declared.outcome.WalkFault.TheVariants.{Lost, Refused, BadReply}
 use Rattle.bac_walk.specs.declared.outcome.Why.{Why}
-use Rattle.bac_walk.specs.declared.outcome.Why.TheVariants.{CaughtUp as WasUp, StepLimit as WasLimit, Fault as WasFault, Memory}
+use Rattle.bac_walk.specs.declared.outcome.Why.TheVariants.{CaughtUp as WasUp, StepLimit as WasLimit, Fault as WasFault}
+use Rattle.bac_walk.specs.declared.outcome.Why.TheVariants.{Memory}
 use Rattle.bac_walk.specs.Place.{WalkPlace}
 use Rattle.bac_walk.specs.Replied.{heard_in}
 use Rattle.bac_walk.specs.Walks.{asks_oldest_now, question_of, IsTakenFrom}
@@ -32,28 +33,33 @@ IsFault w result Lost = result ≡ Err fault.Lost
 IsFault w result (Refused refusal) = result ≡ Err (fault.Refused refusal)
 IsFault w result BadReply =
     (result ≡ Err fault.BadReply)
-    ⊎ ((datagram : List ℕ) × (bad : NotTaken) × (result ≡ Ok datagram) × IsTakenFrom w (heard_in w.log datagram) (Err bad) w)
+    ⊎ ((datagram : List ℕ) × (bad : NotTaken)
+          × (result ≡ Ok datagram) × IsTakenFrom w (heard_in w.log datagram) (Err bad) w)
 
 -- the question of a walk that is here was asked last, and its result is this fault
-abbrev pub ToldFault : {S : Type 0} → (S → List ℕ → Result (List ℕ) Loss → S → Type 0) → Path → ℕ → WalkFault → WalkPlace → S → Type 0
+abbrev pub ToldFault : {S : Type 0} → (S → List ℕ → Result (List ℕ) Loss → S → Type 0) →
+    Path → ℕ → WalkFault → WalkPlace → S → Type 0
 ToldFault {S = S} asks path retries fault w new =
     (result : Result (List ℕ) ExchangeFault) × HasAsked asks path retries w result new × IsFault w result fault
 
 -- an ACK came that says that there is no more
 abbrev pub ToldUp : {S : Type 0} → (S → List ℕ → Result (List ℕ) Loss → S → Type 0) → Path → ℕ → WalkPlace → S → Type 0
 ToldUp {S = S} asks path retries w new =
-    (datagram : List ℕ) × HasAsked asks path retries w (Ok datagram) new × IsTakenFrom w (heard_in w.log datagram) (Ok IsUp) w
+    (datagram : List ℕ) × HasAsked asks path retries w (Ok datagram) new
+        × IsTakenFrom w (heard_in w.log datagram) (Ok IsUp) w
 
 -- one turn, from a place to another
 abbrev pub ToldTurn : {S : Type 0} → (S → List ℕ → Result (List ℕ) Loss → S → Type 0) → Path → ℕ → WalkPlace →
     Result Progress WalkFault → WalkPlace → S → Type 0
 ToldTurn {S = S} asks path retries before (Err fault) after new = ToldFault asks path retries fault after new
 ToldTurn {S = S} asks path retries before (Ok IsUp) after new = ToldUp asks path retries after new
-ToldTurn {S = S} asks path retries before (Ok AskOldest) after new = (asks_oldest_now before ≡ false) × (after.asks_oldest ≡ true)
+ToldTurn {S = S} asks path retries before (Ok AskOldest) after new =
+    (asks_oldest_now before ≡ false) × (after.asks_oldest ≡ true)
 ToldTurn {S = S} asks path retries before (Ok (BatchOf b)) after new = Unit {0}
 
 -- A run that ended so, with the walk here: it was told its fault, or that there is no more, by the last exchange.
-abbrev pub Told : {S : Type 0} → (S → List ℕ → Result (List ℕ) Loss → S → Type 0) → Path → ℕ → Ended → WalkPlace → S → Type 0
+abbrev pub Told : {S : Type 0} → (S → List ℕ → Result (List ℕ) Loss → S → Type 0) →
+    Path → ℕ → Ended → WalkPlace → S → Type 0
 Told {S = S} asks path retries CaughtUp w new = ToldUp asks path retries w new
 Told {S = S} asks path retries StepLimit w new = Unit {0}
 Told {S = S} asks path retries Stopped w new = Unit {0}

@@ -1,5 +1,6 @@
 -- What one honest answer means to a walk.
-use Rattle.std.specs.Prelude.{◌++◌, min, max, ◌-◌, nat_lt, ◌≡◌, ℕ, Bool, true, false, ◌+◌, ◌<◌, ◌≤◌, ◌⊎◌, if◌then◌else◌, List, [], ◌∷◌, length}
+use Rattle.std.specs.Prelude.{◌++◌, min, max, ◌-◌, nat_lt, ◌≡◌, ℕ, Bool, true, false, ◌+◌, ◌<◌, ◌≤◌, ◌⊎◌, if◌then◌else◌}
+use Rattle.std.specs.Prelude.{List, [], ◌∷◌, length}
 use Rattle.bac_log.specs.TrendLog.{sequence_number}
 use Rattle.bac_link.specs.declared.item.Item.{Item}
 use Rattle.bac_link.specs.declared.item.Item.TheVariants.{Gap, Logged}
@@ -42,7 +43,9 @@ NoneOfHundred s m = (k : ℕ) → s ≤ k → k < s + 100 → Holds m k → ⊥
 -- how many entries a whole reply has: those that fit it of the hundred ordinals from s on, or from the oldest held
 abbrev pub reply_count : ℕ → History → Moment → Bool → ℕ → ℕ
 reply_count r H m by_oldest s =
-    fitting r (max s m.oldest) (entries_from H (max s m.oldest) ((min ((if by_oldest then max s m.oldest else s) + 99) m.newest + 1) - max s m.oldest))
+    fitting r (max s m.oldest)
+        (entries_from H
+          (max s m.oldest) ((min ((if by_oldest then max s m.oldest else s) + 99) m.newest + 1) - max s m.oldest))
 
 -- the items of one whole reply to a walk that is at ordinal s: all entries that fit it of those that are held and
 -- asked for, with the gap before them

@@ -1,5 +1,6 @@
 -- Addresses of BACnet/IP: A.B.C.D, or A.B.C.D:PORT.
-use Rattle.std.specs.Prelude.{ℕ, ◌+◌, ◌==◌, List, [], ◌∷◌, ◌++◌, take, slice_range, length, Option, None, Some, option_map}
+use Rattle.std.specs.Prelude.{ℕ, ◌+◌, ◌==◌, List, [], ◌∷◌, ◌++◌, take, slice_range, length, Option, None, Some}
+use Rattle.std.specs.Prelude.{option_map}
 use Rattle.std.specs.List.{position}
 use Rattle.std.specs.Int.{w16, to_be_bytes}
 use Rattle.bac_words.specs.Numbers.{number_in}

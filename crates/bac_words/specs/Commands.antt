@@ -6,7 +6,9 @@ use Rattle.clap.specs.Words.{App, Rule, Text, app_of, new_app, new_rule, with_ru
 use Rattle.clap.specs.declared.builder.command.Command.{Command}
 use Rattle.clap.specs.declared.builder.command.Command.TheViews.{out-Command}
 use Rattle.bac_words.specs.declared.word.Word.{Word}
-use Rattle.bac_words.specs.declared.word.Word.TheVariants.{Address, ObjectType, Instance, Property, Priority, Tag, From, Index, Value, Min, Max, Steps, Count, Local, Timeout, Retries, Dnet, Dadr}
+use Rattle.bac_words.specs.declared.word.Word.TheVariants.{Address, ObjectType, Instance, Property, Priority, Tag, From}
+use Rattle.bac_words.specs.declared.word.Word.TheVariants.{Index, Value, Min, Max, Steps, Count, Local, Timeout}
+use Rattle.bac_words.specs.declared.word.Word.TheVariants.{Retries, Dnet, Dadr}
 use Rattle.bac_words.specs.Names.{name_of}
 
 -- NAME, a word that has to be there

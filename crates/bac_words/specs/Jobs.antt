@@ -4,7 +4,8 @@ use Rattle.std.specs.Option.{ok_or}
 use Rattle.std.specs.Str.{bytes_eq}
 use Rattle.clap.specs.Words.{Row, Text}
 use Rattle.bac_words.specs.declared.word.Word.{Word}
-use Rattle.bac_words.specs.declared.word.Word.TheVariants.{Tool, ObjectType, Instance, Property, Priority, Tag, From, Index, Value, Min, Max, Steps, Count, Timeout, Retries, Dnet}
+use Rattle.bac_words.specs.declared.word.Word.TheVariants.{Tool, ObjectType, Instance, Property, Priority, Tag, From}
+use Rattle.bac_words.specs.declared.word.Word.TheVariants.{Index, Value, Min, Max, Steps, Count, Timeout, Retries, Dnet}
 use Rattle.bac_words.specs.declared.job.Job.{Job}
 use Rattle.bac_words.specs.declared.job.Job.TheVariants.{Replay, Wi, Rp, Wp, Log, Serve}
 use Rattle.bac_words.specs.declared.job.Asked.{Asked}

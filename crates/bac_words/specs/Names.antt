@@ -2,7 +2,9 @@
 use Rattle.std.specs.Prelude.{Bool, true, false, codes}
 use Rattle.clap.specs.Words.{Text}
 use Rattle.bac_words.specs.declared.word.Word.{Word}
-use Rattle.bac_words.specs.declared.word.Word.TheVariants.{Tool, Address, ObjectType, Instance, Property, Priority, Tag, From, Index, Value, Min, Max, Steps, Count, Local, Timeout, Retries, Dnet, Dadr}
+use Rattle.bac_words.specs.declared.word.Word.TheVariants.{Tool, Address, ObjectType, Instance, Property, Priority, Tag}
+use Rattle.bac_words.specs.declared.word.Word.TheVariants.{From, Index, Value, Min, Max, Steps, Count, Local, Timeout}
+use Rattle.bac_words.specs.declared.word.Word.TheVariants.{Retries, Dnet, Dadr}
 
 -- a word's name in the help; an option's, without its --
 abbrev pub name_of : Word → Text

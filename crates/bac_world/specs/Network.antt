@@ -1,5 +1,6 @@
 -- A device and its client over a network that keeps, repeats and reorders datagrams: what an event makes of them.
-use Rattle.std.specs.Prelude.{ℕ, Bool, true, false, ◌&&◌, ◌+◌, nat_lt, is_some, is_none, is_ok, if◌then◌else◌, Option, Some, None, List, [], ◌∷◌, ◌++◌, length, slice_get}
+use Rattle.std.specs.Prelude.{ℕ, Bool, true, false, ◌&&◌, ◌+◌, nat_lt, is_some, is_none, is_ok, if◌then◌else◌, Option}
+use Rattle.std.specs.Prelude.{Some, None, List, [], ◌∷◌, ◌++◌, length, slice_get}
 use Rattle.bac_wire.specs.Primitive.{Id}
 use Rattle.bac_log.specs.declared.entry.Entry.{Entry}
 use Rattle.bac_objects.specs.Sampling.{sampled}
@@ -75,7 +76,9 @@ abbrev pub begins : Network → Network
 begins w = record w {
   transactions = begun_with (question_of w.walk) w.transactions;
   begun = w.begun + 1;
-  packets = sent w.packets (w.begun + 1) Device (request_octets (towards w.transactions.route) (next_invoke w.transactions.invoke) (question_of w.walk));
+  packets =
+      sent w.packets (w.begun + 1) Device
+      (request_octets (towards w.transactions.route) (next_invoke w.transactions.invoke) (question_of w.walk));
 }
 
 -- where no request is open
@@ -149,7 +152,8 @@ heard_in log (Some said) = heard_of log said.1
 
 -- a datagram that doesn't answer the open request is nothing; one that does closes it
 abbrev pub receives : Network → List ℕ → Network
-receives w octets = if is_awaited w.transactions.pending octets then hears (closes w) (heard_in w.walk.log (answer_in (apdu_in octets))) else w
+receives w octets = if is_awaited w.transactions.pending octets
+    then hears (closes w) (heard_in w.walk.log (answer_in (apdu_in octets))) else w
 
 -- ---- events
 

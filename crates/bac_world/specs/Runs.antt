@@ -1,5 +1,6 @@
 -- What a walk over such a network delivers, whatever the network does.
-use Rattle.std.specs.Prelude.{◌≡◌, ℕ, Bool, false, ◌+◌, ◌<◌, ◌≤◌, if◌then◌else◌, Option, Some, None, List, [], ◌∷◌, ◌++◌, length, map, take, slice_get, true}
+use Rattle.std.specs.Prelude.{◌≡◌, ℕ, Bool, false, ◌+◌, ◌<◌, ◌≤◌, if◌then◌else◌, Option, Some, None, List, [], ◌∷◌}
+use Rattle.std.specs.Prelude.{◌++◌, length, map, take, slice_get, true}
 use Rattle.bac_apdu.specs.Service.Extent.{IsExtent}
 use Rattle.bac_link.specs.declared.item.Item.{Item}
 use Rattle.bac_link.specs.declared.transactions.Pending.{Pending}
@@ -100,11 +101,14 @@ moments_of rounds n w es = moments_in rounds n (run_of w es).devices
 -- the entries that events log
 abbrev pub entries_of : ℕ → Network → List WorldEvent → List Entry
 entries_of n w [] = []
-entries_of n w (e ∷ es) = logged_since (log_with w.device n) (log_with (happens w e).device n) ++ entries_of n (happens w e) es
+entries_of n w (e ∷ es) =
+    logged_since (log_with w.device n) (log_with (happens w e).device n) ++ entries_of n (happens w e) es
 
 -- the entries that are held, and those that events log
 abbrev pub history_of : ℕ → ℕ → Network → List WorldEvent → History
-history_of rounds n w es = record { logged = (log_with w.device n).before + turn rounds; entries = (log_with w.device n).entries ++ entries_of n w es }
+history_of rounds n w es =
+    record { logged = (log_with w.device n).before + turn rounds;
+      entries = (log_with w.device n).entries ++ entries_of n w es }
 
 -- ---- what holds of a run
 
@@ -118,7 +122,8 @@ WasCaughtUp H M fresh s answers (Some n) =
 
 -- What the answers brought, one for each moment: a walk that was at ordinal s, or that began at the oldest entry, is at
 -- t. The items and the answer at which the walk was caught up are theirs.
-pub record Stands (H : History) (M : List Moment) (fresh : Bool) (s : ℕ) (w : Network) (answers : List (List Item)) (t : ℕ) : Type 0 where
+pub record Stands (H : History) (M : List Moment)
+    (fresh : Bool) (s : ℕ) (w : Network) (answers : List (List Item)) (t : ℕ) : Type 0 where
   pub count : length answers ≡ length M
   pub all : items_of answers ≡ w.items
   pub leads : Leads H M (start_of fresh s M answers) answers t
@@ -131,8 +136,10 @@ pub record Stands (H : History) (M : List Moment) (fresh : Bool) (s : ℕ) (w : 
 -- oldest entry may be anywhere until its first batch.
 abbrev pub IsNearWhere : ℕ → ℕ → History → Bool → ℕ → Run → List State → Type 0
 IsNearWhere rounds n H fresh s run devices =
-    (answers : List (List Item)) (t : ℕ) (d : State) → Stands H (moments_in rounds n run.devices) fresh s run.network answers t →
-    (batches answers ≡ 0 → fresh ≡ false) → devices ≡ run.devices ++ d ∷ [] → IsNear t (placed rounds (moment_of (log_with d n)))
+    (answers : List (List Item)) (t : ℕ) (d : State) →
+        Stands H (moments_in rounds n run.devices) fresh s run.network answers t →
+    (batches answers ≡ 0 → fresh ≡ false) → devices ≡ run.devices ++ d ∷ [] →
+        IsNear t (placed rounds (moment_of (log_with d n)))
 
 -- each time that the device answers a packet
 abbrev pub StaysNear : ℕ → ℕ → History → Bool → ℕ → Run → List WorldEvent → Type 0
@@ -142,20 +149,23 @@ StaysNear rounds n H fresh s run (e ∷ es) =
 
 -- a walk of this log that is at ordinal s, or at the oldest entry, stays near while these events happen
 abbrev pub IsNearAll : ℕ → WalkPlace → ℕ → Network → List WorldEvent → Type 0
-IsNearAll rounds walk s w es = StaysNear rounds walk.log.instance (history_of rounds walk.log.instance w es) walk.fresh s (run_of w []) es
+IsNearAll rounds walk s w es =
+    StaysNear rounds walk.log.instance (history_of rounds walk.log.instance w es) walk.fresh s (run_of w []) es
 
 -- ---- the theorem
 
 -- a datagram is what the device answered to a request, at a moment after that request began
 abbrev pub IsAnswered : Run → List ℕ → List ℕ → Type 0
 IsAnswered run request datagram =
-    (p : ℕ) × (d : State) × (run.began ≤ p) × (slice_get run.devices p ≡ Some d) × (datagram_in (answer d request).0 ≡ Some datagram)
+    (p : ℕ) × (d : State) × (run.began ≤ p) × (slice_get run.devices p ≡ Some d)
+        × (datagram_in (answer d request).0 ≡ Some datagram)
 
 -- where the packet at a place is taken as the answer to the open request, it is that
 abbrev pub IsRight : Run → ℕ → Type 0
 IsRight run k =
     (p : Packet) (request : Pending) → slice_get run.network.packets k ≡ Some p → p.to ≡ Client →
-    run.network.transactions.pending ≡ Some request → moves run.network (Deliver k) ≡ true → IsAnswered run request.request p.datagram
+    run.network.transactions.pending ≡ Some request →
+        moves run.network (Deliver k) ≡ true → IsAnswered run request.request p.datagram
 
 -- Events took a world that was new, with a walk of a log of its device, to another one: over the moments of the run and
 -- the log's history a walk that stayed near delivered what Delivery says, at every placing of the ordinals. Each reply
@@ -165,8 +175,10 @@ WithstandsFrom old es new =
     (d : State) (walk : WalkPlace) (retries s rounds : ℕ) → old ≡ started d walk retries → walk.asks_oldest ≡ false →
     IsThere d walk.log.instance → walk.next ≡ sequence_number s →
     (IsNearAll rounds walk s old es → (answers : List (List Item)) × (t : ℕ)
-    × Stands (history_of rounds walk.log.instance old es) (moments_of rounds walk.log.instance old es) walk.fresh s new answers t)
-    × ((before : List WorldEvent) (k : ℕ) (after : List WorldEvent) → es ≡ before ++ Deliver k ∷ after → IsRight (run_of old before) k)
+    × Stands (history_of rounds walk.log.instance old es)
+        (moments_of rounds walk.log.instance old es) walk.fresh s new answers t)
+    × ((before : List WorldEvent) (k : ℕ) (after : List WorldEvent) →
+          es ≡ before ++ Deliver k ∷ after → IsRight (run_of old before) k)
 
 -- the headline of it: a walk from ordinal s, or from the oldest entry
 abbrev pub DeliversFrom : Network → List WorldEvent → Network → Type 0
@@ -196,8 +208,10 @@ abbrev pub Withstands : Type 0
 Withstands = (w : Network) (es : List WorldEvent) → AreSane w es → WithstandsFrom w es (happens_all w es)
 
 -- A plain premise that is enough for a walk to stay near: all that is logged or held at any of the moments lies within
--- half of the count from one ordinal on, and so does the ordinal where the walk begins, unless that is the oldest entry.
+-- half of the count from one ordinal on, and so does the ordinal where the walk begins, unless that is the oldest
+-- entry.
 abbrev pub WindowsStayNear : Type 0
 WindowsStayNear = (rounds low s : ℕ) (walk : WalkPlace) (w : Network) (es : List WorldEvent) →
-    AreInWindow low (moments_of rounds walk.log.instance w es) → (walk.fresh ≡ false → (low ≤ s) × (s < low + 2147483648)) →
+    AreInWindow low (moments_of rounds walk.log.instance w es) →
+        (walk.fresh ≡ false → (low ≤ s) × (s < low + 2147483648)) →
     IsNearAll rounds walk s w es
