@@ -103,7 +103,7 @@ abbrev pub records_ack : ℕ → ℕ → Id → Extent → Log → Apdu
 records_ack limit invoke object extent log =
     let records = packed extent limit (selected log extent) in
     Complex false invoke read_range_service
-        (ack_parameters object (answer_of log extent limit).flags (first_shown extent records) (entries_in records))
+    (ack_parameters object (answer_of log extent limit).flags (first_shown extent records) (entries_in records))
 
 -- there are no records
 abbrev pub is_empty : List HeldEntry → Bool
@@ -140,7 +140,7 @@ answer_request d segmented size invoke service parameters =
     then (answer_read d (min size d.reply_size) invoke (read_property_at parameters), d) else
     if service == write_property_service then answer_write d invoke (write_property_at parameters) else
     if service == read_range_service
-        then (answer_range d (min size d.reply_size) invoke (read_range_at parameters), d) else
+    then (answer_range d (min size d.reply_size) invoke (read_range_at parameters), d) else
     (Reject invoke unrecognized_service, d)
 
 -- ---- Who-Is (16.10)

@@ -55,8 +55,10 @@ entries_ahead d n (event ∷ events) =
 -- the entries that are held, and those that will be logged
 abbrev pub history_ahead : ℕ → State → ℕ → List LinkEvent → History
 history_ahead rounds d n events =
-    record { logged = (log_with d n).before + turn rounds;
-      entries = (log_with d n).entries ++ entries_ahead d n events }
+    record {
+      logged = (log_with d n).before + turn rounds;
+      entries = (log_with d n).entries ++ entries_ahead d n events;
+    }
 
 -- there is a log with this instance
 abbrev pub IsThere : State → ℕ → Type 0

@@ -57,4 +57,4 @@ Hears receives zero taken port held result new after = (result ≡ ended taken) 
 Hears {P = P} receives (suc limit) taken port held result new after =
     (heard : Receiving) × (mid : P) × receives port heard mid
     × IsHeard heard taken mid held result new after
-        (λ now between. Hears receives limit now mid between result new after)
+    (λ now between. Hears receives limit now mid between result new after)

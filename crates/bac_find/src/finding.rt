@@ -3,7 +3,7 @@
 ghost use Rattle.std.specs.Prelude.{◌≡◌, None, OnErr, OnOk, false};
 ghost use Rattle.std.specs.Io.KnownBytes.{Appends};
 ghost use Rattle.bac_find.specs.Announcements.{announced as announced_by};
-ghost use Rattle.bac_find.specs.Finding.{AsksEach, Finds, refused_by, told_of};
+ghost use Rattle.bac_find.specs.Finding.{AsksEach, Finds, console, refused_by, told_of};
 ghost use Rattle.bac_find.specs.Hearing.{Hears, Shows, ended};
 ghost use Rattle.bac_print.specs.Output.{AppendsPart};
 
@@ -38,7 +38,7 @@ pub fn find_devices<P: Port, W: Write>(
     search: &Search,
     out: &mut W,
 ) -> Result<(), FindFault>
-    ensures { Finds P.sends P.receives RECEIVES search.now addresses.now port.old (W.contents out.old) result port.new (W.contents out.new) }
+    ensures { Finds P.sends P.receives 4096 search.now addresses.now (console port.old (W.contents out.old)) result (console port.new (W.contents out.new)) }
 {
     let datagram = datagram_of(search);
     let refused = ask_each(port, datagram.octets(), addresses);

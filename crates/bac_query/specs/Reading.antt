@@ -8,11 +8,13 @@ use Rattle.bac_apdu.specs.Service.ReadPropertyAck.{read_property_ack_at}
 use Rattle.bac_apdu.specs.declared.service.read_property.ReadProperty.{ReadProperty}
 use Rattle.bac_link.specs.Datagrams.{apdu_in}
 use Rattle.bac_link.specs.Exchanges.{Concludes, Exchanges}
-use Rattle.bac_link.specs.Path.{Path}
+use Rattle.bac_link.specs.Path.{Path, towards}
+use Rattle.bac_link.specs.Requests.{next_invoke}
 use Rattle.bac_link.specs.declared.exchanges.ExchangeFault.{ExchangeFault}
 use Rattle.bac_link.specs.declared.exchanges.ExchangeFault.TheVariants.{BadReply}
 use Rattle.bac_link.specs.declared.link.Lost.{Lost}
 use Rattle.bac_link.specs.declared.request.Request.TheVariants as request
+use Rattle.bac_link.specs.declared.transactions.Transactions.{Transactions}
 use Rattle.bac_print.specs.Output.{AppendsPart}
 use Rattle.bac_query.specs.Values.{IsShown}
 use Rattle.bac_query.specs.declared.fault.QueryFault.{QueryFault}
@@ -60,13 +62,22 @@ PrintsAnswer (Ok datagram) result old new = PrintsValues (values_in (apdu_in dat
 abbrev pub ReadsProperty : Path → ℕ → ReadProperty → Answer → Held → Held → Type 0
 ReadsProperty path invoke asked result old new =
     (answer : Result (List ℕ) ExchangeFault) × Concludes path invoke (request.ReadProperty asked) answer
-        × PrintsAnswer answer result old new
+    × PrintsAnswer answer result old new
 
--- and that exchange was one over the link, with as many retries
+-- how a request goes: by a path, under an invoke ID, and so many times more as long as no answer comes (clause 5.4)
+pub record Way : Type 0 where
+  pub path : Path
+  pub invoke : ℕ
+  pub retries : ℕ
+
+-- the way of the next request of these transactions
+abbrev pub next_way : Transactions → Way
+next_way t = record { path = towards t.route; invoke = next_invoke t.invoke; retries = t.retries }
+
+-- and that exchange was one over the link, which is left so
 abbrev pub ReadsOver : {S : Type 0} → (S → List ℕ → Result (List ℕ) Lost → S → Type 0) →
-    Path → ℕ → ReadProperty → ℕ → S → Answer → S →
-    Held → Held → Type 0
-ReadsOver {S = S} asks path invoke asked retries link result left old new =
+    Way → ReadProperty → S → Answer → S → Held → Held → Type 0
+ReadsOver {S = S} asks way asked link result left old new =
     (answer : Result (List ℕ) ExchangeFault)
-        × Exchanges asks path invoke (request.ReadProperty asked) retries link answer left
+    × Exchanges asks way.path way.invoke (request.ReadProperty asked) way.retries link answer left
     × PrintsAnswer answer result old new

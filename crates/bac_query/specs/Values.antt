@@ -32,5 +32,5 @@ ShowsLines octets old new (Ok true) =
     (values : List Primitive) × AreValues octets values × (new ≡ old ++ value_lines values)
 ShowsLines octets old new (Ok false) =
     ((values : List Primitive) → AreValues octets values → ⊥)
-        × ((more : List Primitive) × (new ≡ old ++ value_lines more))
+    × ((more : List Primitive) × (new ≡ old ++ value_lines more))
 ShowsLines octets old new (Err error) = Unit {0}

@@ -6,7 +6,7 @@ use Rattle.bac_link.specs.Path.{Path}
 use Rattle.bac_link.specs.declared.exchanges.ExchangeFault.{ExchangeFault}
 use Rattle.bac_link.specs.declared.link.Lost.{Lost}
 use Rattle.bac_link.specs.declared.request.Request.{Request}
-use Rattle.bac_query.specs.Reading.{Answer, Held, Prints}
+use Rattle.bac_query.specs.Reading.{Answer, Held, Prints, Way}
 use Rattle.bac_query.specs.declared.fault.QueryFault.TheVariants.{Exchange}
 
 -- a line says that it was done
@@ -23,10 +23,10 @@ abbrev pub WritesProperty : Path → ℕ → Request → Answer → Held → Hel
 WritesProperty path invoke asked result old new =
     (answer : Result (List ℕ) ExchangeFault) × Concludes path invoke asked answer × PrintsIfDone answer result old new
 
--- and that exchange was one over the link, with as many retries
+-- and that exchange was one over the link, which is left so
 abbrev pub WritesOver : {S : Type 0} → (S → List ℕ → Result (List ℕ) Lost → S → Type 0) →
-    Path → ℕ → Request → ℕ → S → Answer → S →
-    Held → Held → Type 0
-WritesOver {S = S} asks path invoke asked retries link result left old new =
-    (answer : Result (List ℕ) ExchangeFault) × Exchanges asks path invoke asked retries link answer left
-        × PrintsIfDone answer result old new
+    Way → Request → S → Answer → S → Held → Held → Type 0
+WritesOver {S = S} asks way asked link result left old new =
+    (answer : Result (List ℕ) ExchangeFault)
+    × Exchanges asks way.path way.invoke asked way.retries link answer left
+    × PrintsIfDone answer result old new

@@ -6,7 +6,7 @@ ghost use Rattle.bac_link.specs.Datagrams.{apdu_in};
 ghost use Rattle.bac_link.specs.Exchanges.{Leaves};
 ghost use Rattle.bac_link.specs.Path.{towards};
 ghost use Rattle.bac_link.specs.Requests.{next_invoke};
-ghost use Rattle.bac_query.specs.Reading.{ReadsOver, ReadsProperty, PrintsValues, Prints, values_in};
+ghost use Rattle.bac_query.specs.Reading.{ReadsOver, ReadsProperty, PrintsValues, Prints, next_way, values_in};
 ghost use Rattle.bac_query.specs.Values.{IsShown};
 
 use crate::fault::QueryFault;
@@ -31,8 +31,8 @@ pub fn read_property<L: LogLink, W: Write>(
     ensures printed { ReadsProperty (towards transactions.old.route) (next_invoke transactions.old.invoke) asked result (W.contents out.old) (W.contents out.new) }
     // Over any link it is asked once, and as often again as the retries say; what is printed came
     // over the link.
-    ensures asked { ReadsOver L.asks (towards transactions.old.route) (next_invoke transactions.old.invoke) asked
-        transactions.old.retries link.old result link.new (W.contents out.old) (W.contents out.new) }
+    ensures asked { ReadsOver L.asks (next_way transactions.old) asked
+        link.old result link.new (W.contents out.old) (W.contents out.new) }
 {
     let request = Request::ReadProperty(asked);
     match exchange(link, transactions, &request) {

@@ -156,8 +156,8 @@ pub fn read_configuration<R: Read>(
     alloc: Global,
     reader: &mut R,
 ) -> Result<Option<Configuration>, ReplayFault>
-    ensures configures { Configures LIMIT (R.remaining reader.old) (R.remaining reader.new) result }
-    ensures read { ConsumesUpTo (LIMIT + 1) (R.remaining reader.old) (R.remaining reader.new) }
+    ensures configures { Configures 1048576 (R.remaining reader.old) (R.remaining reader.new) result }
+    ensures read { ConsumesUpTo 1048577 (R.remaining reader.old) (R.remaining reader.new) }
     ensures whole { OnOk result (IsAtEnd (R.remaining reader.new)) }
 {
     configuration_within(alloc, LIMIT, reader)

@@ -84,6 +84,6 @@ abbrev pub IsDelivered : (ℕ → List Moment → History → Type 0) →
     (ℕ → List Moment → History → Type 0) → WalkPlace → WalkPlace → ℕ → List Item → Type 0
 IsDelivered was is before after steps items =
     (r : ℕ) (M : List Moment) (H : History) (s : ℕ) →
-        was r M H → before.next ≡ sequence_number s → StaysNear r H M before.fresh s steps →
+    was r M H → before.next ≡ sequence_number s → StaysNear r H M before.fresh s steps →
     (b : ℕ) × (a : ℕ) × (t : ℕ) × (before.fresh ≡ false → b ≡ s) × (after.next ≡ sequence_number t)
     × DeliversTo H b items t M a × is r (after_answers a M) H

@@ -44,8 +44,8 @@ NoneOfHundred s m = (k : ℕ) → s ≤ k → k < s + 100 → Holds m k → ⊥
 abbrev pub reply_count : ℕ → History → Moment → Bool → ℕ → ℕ
 reply_count r H m by_oldest s =
     fitting r (max s m.oldest)
-        (entries_from H
-          (max s m.oldest) ((min ((if by_oldest then max s m.oldest else s) + 99) m.newest + 1) - max s m.oldest))
+    (entries_from H
+    (max s m.oldest) ((min ((if by_oldest then max s m.oldest else s) + 99) m.newest + 1) - max s m.oldest))
 
 -- the items of one whole reply to a walk that is at ordinal s: all entries that fit it of those that are held and
 -- asked for, with the gap before them
