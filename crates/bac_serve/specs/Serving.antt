@@ -1,5 +1,5 @@
 -- A device that is served over any port, with any clock. Read from the end. A port, the device and a clock stand before
--- the answer as they were, and behind it as they are afterwards.
+-- the answer as they were, and after it as they are afterwards.
 use Rattle.std.specs.Prelude.{◌≡◌, ℕ, zero, suc, Bool, true, false, List, Option, Some, None, Result, Ok, Err}
 use Rattle.bac_wire.specs.Stamp.{CivilTime}
 use Rattle.bac_objects.specs.State.{State}
@@ -20,7 +20,7 @@ abbrev pub set_by : State → Option (ℕ × State) → State
 set_by device None = device
 set_by device (Some said) = said.1
 
--- the device when its clock goes to a time, where there is one and it isn't earlier
+-- the device when its clock goes to a time, if there is one and it isn't earlier
 abbrev pub ticked_at : State → Option CivilTime → State
 ticked_at device None = device
 ticked_at device (Some now) = set_by device (advanced device now)
