@@ -59,7 +59,7 @@ unrecognized_service = 9
 
 -- ---- ReadProperty (15.5)
 
--- the ACK has the device's own identifier where the device is asked
+-- the ACK has the device's own identifier if the device is asked
 abbrev pub own_id : State → Id → Id
 own_id d id = if is_here d id then device_id d else id
 
@@ -211,6 +211,6 @@ answer_frame d (Some (Broadcast npdu)) = answer_npdu d Sender (heard_at true npd
 answer_frame d (Some (Forwarded address npdu)) = answer_npdu d (Address address) (heard_at true npdu)
 answer_frame d (Some (Function function rest)) = (nak function, d)
 
--- the reply to a datagram, where there is one, and the device after it
+-- the reply to a datagram, if there is one, and the device after it
 unfoldable pub answer : State → List ℕ → Option Reply × State
 answer d datagram = answer_frame d (frame_at datagram)

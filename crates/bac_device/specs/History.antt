@@ -50,7 +50,7 @@ abbrev pub write_heard : Option ReceivedApdu → Option PropertyWrite
 write_heard None = None
 write_heard (Some heard) = if heard.to_all then None else write_in_apdu heard.apdu
 
--- the WriteProperty that a datagram is, where it is one to this device alone
+-- the WriteProperty that a datagram is, if it is one to this device alone
 abbrev pub write_asked : List ℕ → Option PropertyWrite
 write_asked datagram = write_heard (heard_in (frame_at datagram))
 

@@ -1,5 +1,5 @@
--- How devices are found, over any port and any writer. Read from the end. A port, and what a writer holds where that is
--- known, stand before the answer as they were, and behind it as they are afterwards.
+-- How devices are found, over any port and any writer. Read from the end. A port, and what a writer holds if that is
+-- known, stand before the answer as they were, and after it as they are afterwards.
 use Rattle.std.specs.Prelude.{◌≡◌, ℕ, ◌≤◌, ◌<◌, ◌⊎◌, is_some, Bool, true, false, List, [], ◌∷◌, ◌++◌, length, Option}
 use Rattle.std.specs.Prelude.{Some, None, Ok, Err}
 use Rattle.std.specs.List.{list_any}
@@ -89,7 +89,7 @@ AsksEach {P = P} sends octets (address ∷ addresses) before port refused new =
 
 -- ---- the whole
 
--- what is told in the end: an address to which a send was refused, where nothing else failed
+-- what is told in the end: an address to which a send was refused, if nothing else failed
 abbrev pub told_of : Option (List ℕ) → Found → Found
 told_of None heard = heard
 told_of (Some address) (Ok done) = Err (Refused address)

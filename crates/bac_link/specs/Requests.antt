@@ -37,7 +37,7 @@ IsSendable (request.ReadProperty r) = Unit {0}
 IsSendable (request.WriteProperty w) = IsWellFormed w.value
 IsSendable (request.ReadRange r) = Unit {0}
 
--- a message may pass so many routers, where it has another network to go to (6.2.3)
+-- a message may pass so many routers, if it has another network to go to (6.2.3)
 abbrev pub hops_to : Option Place → ℕ
 hops_to None = 0
 hops_to (Some place) = 255

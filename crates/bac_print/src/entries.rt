@@ -80,7 +80,7 @@ fn push_flags(text: &mut Vec<u8>, flags: Option<u8>) -> Result<(), AllocError>
     }
 }
 
-/// Appends a record: its date and time, what was logged, and its four status flags, or `-` where it
+/// Appends a record: its date and time, what was logged, and its four status flags, or `-` if it
 /// has none.
 #[tactic(auto, unfolding(crate::specs::Entries::entry_text))]
 pub fn push_entry(text: &mut Vec<u8>, entry: &Entry) -> Result<(), AllocError>

@@ -20,7 +20,7 @@ use Rattle.bac_query.specs.Values.{IsShown}
 use Rattle.bac_query.specs.declared.fault.QueryFault.{QueryFault}
 use Rattle.bac_query.specs.declared.fault.QueryFault.TheVariants.{Exchange, Write, Memory}
 
--- what a query answers, and what a writer holds where that is known
+-- what a query answers, and what a writer holds if that is known
 abbrev pub Answer : Type 0
 Answer = Result (Unit {0}) QueryFault
 
@@ -53,7 +53,7 @@ abbrev pub PrintsValues : Option (List ℕ) → Answer → Held → Held → Typ
 PrintsValues None result old new = (result ≡ Err (Exchange BadReply)) × Keeps old new
 PrintsValues (Some values) result old new = PrintsShown values result old new
 
--- nothing is printed where no ACK came
+-- nothing is printed if no ACK came
 abbrev pub PrintsAnswer : Result (List ℕ) ExchangeFault → Answer → Held → Held → Type 0
 PrintsAnswer (Err fault) result old new = (result ≡ Err (Exchange fault)) × Keeps old new
 PrintsAnswer (Ok datagram) result old new = PrintsValues (values_in (apdu_in datagram)) result old new

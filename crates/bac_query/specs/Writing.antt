@@ -13,12 +13,12 @@ use Rattle.bac_query.specs.declared.fault.QueryFault.TheVariants.{Exchange}
 abbrev pub PrintsDone : Answer → Held → Held → Type 0
 PrintsDone result old new = Prints (codes "written" ++ 10 ∷ []) result old new
 
--- where the device has acknowledged it
+-- if the device has acknowledged it
 abbrev pub PrintsIfDone : Result (List ℕ) ExchangeFault → Answer → Held → Held → Type 0
 PrintsIfDone (Err fault) result old new = (result ≡ Err (Exchange fault)) × Keeps old new
 PrintsIfDone (Ok datagram) result old new = PrintsDone result old new
 
--- an exchange of the request, and the line where it was done
+-- an exchange of the request, and the line if it was done
 abbrev pub WritesProperty : Path → ℕ → Request → Answer → Held → Held → Type 0
 WritesProperty path invoke asked result old new =
     (answer : Result (List ℕ) ExchangeFault) × Concludes path invoke asked answer × PrintsIfDone answer result old new

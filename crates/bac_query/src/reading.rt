@@ -17,8 +17,8 @@ use bac_print::write_text;
 use std::alloc::Global;
 use std::io::Write;
 
-/// Reads a property, and prints its values, a line each, with one write. Where they aren't all
-/// values behind application tags, the line is `raw(HEX)`; where there are none, nothing is
+/// Reads a property, and prints its values, a line each, with one write. If they aren't all
+/// values after application tags, the line is `raw(HEX)`; if there are none, nothing is
 /// printed. That the ACK has the object and the property that were asked for isn't looked at: a
 /// device answers for instance 4194303 with its own.
 pub fn read_property<L: LogLink, W: Write>(

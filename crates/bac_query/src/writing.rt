@@ -10,7 +10,7 @@ use crate::reading::print;
 use bac_link::{LogLink, Request, Transactions, exchange};
 use std::io::Write;
 
-/// Sends a WriteProperty, and prints `written` where the device has done it.
+/// Sends a WriteProperty, and prints `written` if the device has done it.
 pub fn write_property<L: LogLink, W: Write>(
     link: &mut L,
     transactions: &mut Transactions,

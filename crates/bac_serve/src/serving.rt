@@ -10,7 +10,7 @@ use bac_ports::{Heard, Port, SocketFault};
 /// How often a datagram is waited for: without an end, as far as anyone sees.
 const WAITS: u64 = u64::MAX;
 
-/// Receives once. The device's clock goes to the clock's time, where there is one that isn't
+/// Receives once. The device's clock goes to the clock's time, if there is one that isn't
 /// earlier; then the device handles the datagram, and its reply is sent, to the sender or to the
 /// address in a Forwarded-NPDU. Answers whether a reply was sent.
 ///
@@ -89,7 +89,7 @@ fn answer<P: Port, C: Clock>(
     Ok(true)
 }
 
-/// The device's clock goes to the clock's time, where there is one that isn't earlier.
+/// The device's clock goes to the clock's time, if there is one that isn't earlier.
 fn tick<C: Clock>(device: &mut Device, clock: &mut C)
     ensures { Ticks C.tells clock.old device.old clock.new device.new }
 {

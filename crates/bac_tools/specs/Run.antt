@@ -1,5 +1,5 @@
 -- What the program does with its words. Read from the end. `input` is what the reader had and `left` what it has left;
--- `old` and `new` are what the output held before and holds now, each where that is known.
+-- `old` and `new` are what the output held before and holds now, each if that is known.
 use Rattle.std.specs.Prelude.{◌≡◌, ◌≢◌, ◌≤◌, ◌⊎◌, ℕ, ◌==◌, if◌then◌else◌, List, [], Option, Some, None, Result, Ok, Err}
 use Rattle.std.specs.List.{list_any}
 use Rattle.std.specs.Io.KnownBytes.{Keeps}
@@ -225,12 +225,12 @@ IsTold fault old new status =
     ((status ≡ exit_status fault) × AppendsPart old new (told_text fault))
     ⊎ ((status ≡ exit_status Memory) × AppendsPart old new (told_text Memory))
 
--- nothing is written on the errors where there is no fault
+-- nothing is written on the errors if there is no fault
 abbrev pub Ends : Ending → Held → Held → ℕ → Type 0
 Ends (Ok done) old new status = (status ≡ done) × Keeps old new
 Ends (Err fault) old new status = IsTold fault old new status
 
--- what the words ask for is done, or nothing is, for want of memory for the words
+-- what the words ask for is done, or nothing is, as there is no memory for the words
 abbrev pub Runs : {C : Type 0} → (C → Option CivilTime → C → Type 0) →
     Job → Held → Held → Held → Held → Held → Held → C → ℕ → C → Type 0
 Runs tells asked input left old new errors told clock status after =

@@ -13,7 +13,7 @@ pub record IsNear (s : ℕ) (m : Moment) : Type 0 where
   pub above : m.oldest < s + 2147483648
   pub below : s < m.oldest + 2147483648
 
--- a walk at ordinal s is near at each answer of its next step: at the second where a second question is asked
+-- a walk at ordinal s is near at each answer of its next step: at the second if a second question is asked
 abbrev pub IsNearStep : ℕ → List Moment → Type 0
 IsNearStep s M = IsNear s (now M) × (NoneOfHundred s (now M) → IsNear s (now (later M)))
 

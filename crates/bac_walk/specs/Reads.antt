@@ -7,7 +7,7 @@ use Rattle.bac_walk.specs.declared.read.Said.{Said}
 use Rattle.bac_walk.specs.Heard.{AckParameters, heard_at, records_in}
 use Rattle.bac_walk.specs.Spelled.{data_in}
 
--- how many records there are, where all octets are records
+-- how many records there are, if all octets are records
 abbrev pub IsCounted : Option ℕ → Result (List Entry) WireFault → Type 0
 IsCounted None read = (fault : WireFault) × (read ≡ Err fault)
 IsCounted (Some count) read = (es : List Entry) × (read ≡ Ok es) × (count ≡ length es)

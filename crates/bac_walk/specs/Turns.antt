@@ -27,7 +27,7 @@ AreRecords H m s (Gap first before ∷ items) = ⊥
 AreRecords H m s (Logged shown entry ∷ items) =
     (shown ≡ sequence_number s) × Holds m s × IsEntry H s entry × AreRecords H m (s + 1) items
 
--- one batch: entries held at the moment, at least one. Where they don't begin at s, a gap comes first: it shows
+-- one batch: entries held at the moment, at least one. If they don't begin at s, a gap comes first: it shows
 -- the oldest held as its end, and is just so long
 abbrev pub IsBatch : History → Moment → ℕ → List Item → Type 0
 IsBatch H m s [] = ⊥

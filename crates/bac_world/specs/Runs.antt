@@ -162,7 +162,7 @@ IsAnswered run request datagram =
     (p : ℕ) × (d : State) × (run.began ≤ p) × (slice_get run.devices p ≡ Some d)
     × (datagram_in (answer d request).0 ≡ Some datagram)
 
--- where the packet at a place is taken as the answer to the open request, it is that
+-- if the packet at a place is taken as the answer to the open request, it is that
 abbrev pub IsRight : Run → ℕ → Type 0
 IsRight run k =
     (p : Packet) (request : Pending) → slice_get run.network.packets k ≡ Some p → p.to ≡ Client →
