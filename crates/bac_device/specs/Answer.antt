@@ -8,6 +8,7 @@ use Rattle.bac_apdu.specs.Apdu.{Apdu, Confirmed, Unconfirmed, Simple, Complex, R
 use Rattle.bac_apdu.specs.Form.{Value, Mark, Inside, number_parameter}
 use Rattle.bac_apdu.specs.FormCanon.{canon_form}
 use Rattle.bac_apdu.specs.Frame.{Frame, Unicast, Broadcast, Forwarded, Function, frame_at}
+pub use Rattle.bac_apdu.specs.Service.Choice.{i_am_service, read_property_service, who_is_service, write_property_service}
 use Rattle.bac_apdu.specs.Service.IAm.{i_am, i_am_parameters}
 use Rattle.bac_apdu.specs.Service.ReadPropertyAck.{read_property_ack}
 use Rattle.bac_apdu.specs.declared.reason.Reason.{Reason}
@@ -35,23 +36,7 @@ use Rattle.bac_device.specs.declared.reply.Receiver.{Receiver}
 use Rattle.bac_device.specs.declared.reply.Receiver.TheVariants.{Sender, Address}
 use Rattle.bac_device.specs.declared.reply.Reply.{Reply}
 
--- ---- numbers of services (clause 21, BACnetConfirmedServiceChoice and BACnetUnconfirmedServiceChoice)
-
--- ReadProperty, confirmed (15.5)
-abbrev pub read_property_service : ℕ
-read_property_service = 12
-
--- WriteProperty, confirmed (15.9)
-abbrev pub write_property_service : ℕ
-write_property_service = 15
-
--- I-Am, unconfirmed (16.10)
-abbrev pub i_am_service : ℕ
-i_am_service = 0
-
--- Who-Is, unconfirmed (16.10)
-abbrev pub who_is_service : ℕ
-who_is_service = 8
+-- ---- numbers (clause 21)
 
 -- the reason of a Reject that the service isn't there (clause 21, BACnetRejectReason)
 abbrev pub unrecognized_service : ℕ

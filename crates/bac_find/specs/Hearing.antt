@@ -8,15 +8,12 @@ use Rattle.bac_find.specs.declared.fault.FindFault.{FindFault}
 use Rattle.bac_find.specs.declared.fault.FindFault.TheVariants.{Socket, Refused, NoAnswer, Write, Memory}
 use Rattle.bac_ports.specs.Port.{Receiving}
 use Rattle.bac_ports.specs.declared.port.SocketFault.TheVariants.{Timeout, Failed}
+pub use Rattle.bac_print.specs.Output.{Held}
 use Rattle.bac_print.specs.Output.{AppendsPart}
 
--- what finding devices answers, and what a writer holds if that is known
+-- what finding devices answers
 abbrev pub Found : Type 0
 Found = Result (Unit {0}) FindFault
-
--- what a writer holds, if that is known
-abbrev pub Held : Type 0
-Held = Option (List ℕ)
 
 -- ---- one datagram
 

@@ -15,18 +15,15 @@ use Rattle.bac_link.specs.declared.exchanges.ExchangeFault.TheVariants.{BadReply
 use Rattle.bac_link.specs.declared.link.Lost.{Lost}
 use Rattle.bac_link.specs.declared.request.Request.TheVariants as request
 use Rattle.bac_link.specs.declared.transactions.Transactions.{Transactions}
+pub use Rattle.bac_print.specs.Output.{Held}
 use Rattle.bac_print.specs.Output.{AppendsPart}
 use Rattle.bac_query.specs.Values.{IsShown}
 use Rattle.bac_query.specs.declared.fault.QueryFault.{QueryFault}
 use Rattle.bac_query.specs.declared.fault.QueryFault.TheVariants.{Exchange, Write, Memory}
 
--- what a query answers, and what a writer holds if that is known
+-- what a query answers
 abbrev pub Answer : Type 0
 Answer = Result (Unit {0}) QueryFault
-
--- what a writer holds, if that is known
-abbrev pub Held : Type 0
-Held = Option (List ℕ)
 
 -- the whole text was written, or a front part of it
 abbrev pub Prints : List ℕ → Answer → Held → Held → Type 0
