@@ -8,7 +8,7 @@ use Rattle.std.proofs.lemmas.Bool.Decides.{nat_tests}
 use Rattle.indexmap.specs.IndexMap.{insert_entry}
 use Rattle.indexmap.proofs.MapLemmas.{absent_from_lookup, insert_entry-absent}
 use Rattle.bac_wire.specs.Primitive.{Id}
-use Rattle.bac_objects.specs.Build.{is_name, first_of, id_of, instance_of, name_of, has_id, has_name, own_tests, object_fault, objects_fault, device_fault, build_fault, entry_of, body_of, Refuses}
+use Rattle.bac_objects.specs.Build.{is_name, first_of, id_of, instance_of, name_of, has_id, has_name, own_tests, object_fault, objects_fault, device_fault, build_fault, entry_of, body_of, Finds, Refuses}
 use Rattle.bac_objects.specs.State.{is_id}
 use Rattle.bac_objects.specs.declared.lines.DeviceLine.{DeviceLine}
 use Rattle.bac_objects.specs.declared.lines.ObjectLine.{ObjectLine}
@@ -65,7 +65,7 @@ never_three false true c h = search rules
 never_three false false true h = search rules
 never_three false false false h = search rules
 
-never_memory : (device : DeviceLine) (lines : List ObjectLine) → Never (build_fault device lines)
+pub never_memory : (device : DeviceLine) (lines : List ObjectLine) → Never (build_fault device lines)
 never_memory device lines = never_or (device_fault device) (objects_fault device [] lines) (never_three _ _ _) (never_objects device [] lines)
 
 refuses : (fault : BuildFault) (said : Option BuildFault) → Never said → said ≡ Some fault → Refuses fault said
@@ -73,16 +73,17 @@ refuses Memory said never is = absurd (never is)
 refuses fault said never is = is
 
 -- the fault that lines have is told
-pub told : (device : DeviceLine) (lines : List ObjectLine) (fault : BuildFault) → build_fault device lines ≡ Some fault → Refuses fault (build_fault device lines)
-told device lines fault is = refuses fault (build_fault device lines) (never_memory device lines) is
+pub told : (device : DeviceLine) (lines : List ObjectLine) (found : Option BuildFault) → found ≡ objects_fault device [] lines → Finds found (objects_fault device [] lines)
+told device lines None is = sym is
+told device lines (Some fault) is = refuses fault (objects_fault device [] lines) (never_objects device [] lines) (sym is)
 
 -- ---- each line by itself
 
-right_none : (a b : Option BuildFault) → option_or a b ≡ None → b ≡ None
+pub right_none : (a b : Option BuildFault) → option_or a b ≡ None → b ≡ None
 right_none None b h = h
 right_none (Some x) b h = search rules
 
-left_none : (a b : Option BuildFault) → option_or a b ≡ None → a ≡ None
+pub left_none : (a b : Option BuildFault) → option_or a b ≡ None → a ≡ None
 left_none None b h = refl
 left_none (Some x) b h = absurd cc
 

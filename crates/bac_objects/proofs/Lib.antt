@@ -6,3 +6,4 @@ pub mod Tables
 pub mod Samples
 pub mod Kept
 pub mod Quiet
+pub mod Described

@@ -1,11 +1,11 @@
 -- Which lines make a device, and which device they make.
-use Rattle.std.specs.Prelude.{◌≡◌, ℕ, ◌==◌, ◌||◌, ◌&&◌, not, nat_lt, nat_le, Bool, if◌then◌else◌, List, [], ◌∷◌, ◌++◌}
+use Rattle.std.specs.Prelude.{◌≡◌, ◌≤◌, ℕ, ◌==◌, ◌||◌, ◌&&◌, not, nat_lt, nat_le, Bool, if◌then◌else◌, List, [], ◌∷◌, ◌++◌}
 use Rattle.std.specs.Prelude.{map, length, Option, None, Some, Result, Ok, Err}
 use Rattle.std.specs.List.{list_any}
 use Rattle.std.specs.Option.{option_or}
 use Rattle.std.specs.Str.{bytes_eq}
 use Rattle.bac_wire.specs.Primitive.{Id}
-use Rattle.bac_log.specs.TrendLog.{empty_log}
+use Rattle.bac_log.specs.TrendLog.{empty_log, last_ordinal}
 use Rattle.bac_objects.specs.Command.{commanded}
 use Rattle.bac_objects.specs.State.{State, is_id}
 use Rattle.bac_objects.specs.declared.command.Setting.TheVariants as setting
@@ -128,6 +128,13 @@ body_of (Integer instance name default) = body.Command (commanded range.Integer 
 body_of (Log instance name source capacity interval logged) =
     body.Log (record { source = source; interval = interval; log = empty_log capacity logged })
 
+-- so many records were logged before as a number of 64 bits can count
+abbrev pub IsCounted : ObjectLine → Type 0
+IsCounted (Binary instance name default) = Unit {0}
+IsCounted (Multistate instance name states default) = Unit {0}
+IsCounted (Integer instance name default) = Unit {0}
+IsCounted (Log instance name source capacity interval logged) = logged ≤ last_ordinal
+
 -- the object of a line with its identifier
 abbrev pub entry_of : ObjectLine → Id × Object
 entry_of line = (id_of line, record { name = name_of line; body = body_of line })
@@ -149,6 +156,11 @@ built device lines =
 abbrev pub Refuses : BuildFault → Option BuildFault → Type 0
 Refuses Memory said = said ≡ None
 Refuses fault said = said ≡ Some fault
+
+-- the first fault that was found in lines whose first fault is this, or none: they are refused so, or have none
+abbrev pub Finds : Option BuildFault → Option BuildFault → Type 0
+Finds None said = said ≡ None
+Finds (Some fault) said = Refuses fault said
 
 -- what building answers
 abbrev pub Builds : Result State BuildFault → DeviceLine → List ObjectLine → Type 0

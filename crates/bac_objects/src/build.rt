@@ -5,7 +5,7 @@ ghost use Rattle.std.specs.List.{list_any};
 ghost use Rattle.std.specs.Map.{lookup};
 ghost use Rattle.std.specs.Str.{bytes_eq};
 ghost use Rattle.indexmap.specs.IndexSet.{insert_key};
-ghost use Rattle.bac_objects.specs.Build.{Builds, body_of, build_fault, device_fault, entry_of, first_of, has_id, has_name, id_of, instance_of, is_control, is_name, line_tests, log_tests, objects_fault, own_tests};
+ghost use Rattle.bac_objects.specs.Build.{Builds, Finds, body_of, build_fault, device_fault, entry_of, first_of, has_id, has_name, id_of, instance_of, is_control, is_name, line_tests, log_tests, objects_fault, own_tests};
 ghost use Rattle.bac_objects.specs.Kept.{AreObjects, IsBody};
 ghost use Rattle.bac_objects.specs.Sound.{IsSound};
 ghost use Rattle.bac_objects.specs.State.{is_id};
@@ -277,19 +277,23 @@ fn tabled_fault(
     Some(None)
 }
 
-/// The first fault of the object lines.
+/// The first fault of the object lines. Where there is no memory for the tables, it is told only of
+/// lines that have no other fault.
 fn objects_fault(alloc: Global, device: &DeviceLine, lines: &[ObjectLine]) -> Option<BuildFault>
-    ensures { result ≡ objects_fault device.now [] lines.now }
+    ensures { Finds result (objects_fault device.now [] lines.now) }
 {
     match tabled_fault(alloc, device, lines) {
         Some(fault) => fault,
-        None => compared_fault(device, lines),
+        None => match compared_fault(device, lines) {
+            Some(fault) => Some(fault),
+            None => Some(BuildFault::Memory),
+        },
     }
 }
 
 /// The first fault of all the lines.
 fn build_fault(alloc: Global, device: &DeviceLine, lines: &[ObjectLine]) -> Option<BuildFault>
-    ensures { result ≡ build_fault device.now lines.now }
+    ensures { Finds result (build_fault device.now lines.now) }
 {
     match device.fault() {
         Some(fault) => Some(fault),
@@ -347,8 +351,8 @@ pub(crate) fn objects_of(
 }
 
 impl Database {
-    /// The device that lines describe, or their first fault. Only lines without a fault make
-    /// anything grow, so out of memory comes last.
+    /// The device that lines describe, or their first fault. If memory runs out, for the tables in
+    /// which lines are looked up too, only lines without a fault are refused for it.
     pub fn build(
         alloc: Global,
         device: &DeviceLine,

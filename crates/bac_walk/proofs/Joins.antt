@@ -1,4 +1,4 @@
--- A run and the step after it are one run.
+-- A run and one after it are one run.
 use Rattle.std.proofs.Common.{◌≡◌, ℕ, zero, suc, Bool, true, false, ◌+◌, ◌*◌, ◌<◌, ◌≤◌, List, [], ◌∷◌, ◌++◌, length, drop, refl, sym, ap, subst, ◌∙◌, arith, length-append, zero-add, append-nil, ◌≢◌, Result, Ok, Err}
 use Rattle.bac_link.specs.declared.item.Item.{Item}
 use Rattle.bac_walk.specs.declared.outcome.Step.{Step}
@@ -14,7 +14,7 @@ use Rattle.bac_walk.specs.Delivers.{end_of, AreAnswers, NoneFrom}
 use Rattle.bac_walk.specs.Collects.{IsOfReply, AreWhole, batches, IsWhole, IsPaced, start_of, IsEnded, Collected, IsFreshAfter, step_items, step_ended, is_fresh_after}
 use Rattle.bac_walk.proofs.Cuts.{Covers-append, Covers-end, items_of-append, end_of-append, AreAnswers-append}
 
-batches-append : (xs ys : List (List Item)) → batches (xs ++ ys) ≡ batches xs + batches ys
+pub batches-append : (xs ys : List (List Item)) → batches (xs ++ ys) ≡ batches xs + batches ys
 batches-append [] ys = omega arith
 batches-append ([] ∷ xs) ys = batches-append xs ys
 batches-append ((x ∷ b) ∷ xs) ys = omega (arith, batches-append xs ys)
@@ -129,10 +129,10 @@ no_items [] h = refl
 no_items ([] ∷ ys) h = no_items ys h
 no_items ((x ∷ b) ∷ ys) h = absurd (cc)
 
-ended_after : (why : Ended) (fresh mid_fresh : Bool) (t : ℕ) (M : List Moment) (xs ys : List (List Item)) (i retries old mid new : ℕ) →
+ended_after : (why : Ended) (fresh mid_fresh : Bool) (t : ℕ) (M : List Moment) (xs ys : List (List Item)) (i j retries old mid new : ℕ) →
     (batches xs ≡ 0 → mid_fresh ≡ fresh) → batches xs ≡ i → IsWhole xs → old ≤ mid →
-    IsEnded why mid_fresh t (after_answers (length xs) M) ys 1 retries mid new → IsEnded why fresh t M (xs ++ ys) (i + 1) retries old new
-ended_after CaughtUp fresh mid_fresh t M xs ys i retries old mid new same count whole up ended =
+    IsEnded why mid_fresh t (after_answers (length xs) M) ys j retries mid new → IsEnded why fresh t M (xs ++ ys) (i + j) retries old new
+ended_after CaughtUp fresh mid_fresh t M xs ys i j retries old mid new same count whole up ended =
     let P : List (List Item) → Type 0 = λ l. batches l ≡ 0 in
     let Q : List Moment → Type 0 = λ N. NoneFrom t (now N) in
     let R : List Moment → Type 0 = λ N. (now N).newest < (now N).oldest in (
@@ -146,21 +146,21 @@ ended_after CaughtUp fresh mid_fresh t M xs ys i retries old mid new same count 
             (ended.1.4 (same (omega (arith, batches-append xs ys, none)) ∙ f) (omega (arith, batches-append xs ys, none))),
       ),
     )
-ended_after StepLimit fresh mid_fresh t M xs ys i retries old mid new same count whole up ended =
+ended_after StepLimit fresh mid_fresh t M xs ys i j retries old mid new same count whole up ended =
     (omega (arith, batches-append xs ys, count, ended.0), IsWhole-append xs ys whole ended.1)
-ended_after Stopped fresh mid_fresh t M xs ys i retries old mid new same count whole up ended =
+ended_after Stopped fresh mid_fresh t M xs ys i j retries old mid new same count whole up ended =
     (omega (arith, batches-append xs ys, count, ended.0), omega (arith, batches-append xs ys, count, ended.1), IsWhole-append xs ys whole ended.2)
-ended_after (Fault Lost) fresh mid_fresh t M xs ys i retries old mid new same count whole up ended = omega arith
-ended_after (Fault (Refused refusal)) fresh mid_fresh t M xs ys i retries old mid new same count whole up ended = ended
-ended_after (Fault BadReply) fresh mid_fresh t M xs ys i retries old mid new same count whole up ended = ended
+ended_after (Fault Lost) fresh mid_fresh t M xs ys i j retries old mid new same count whole up ended = omega arith
+ended_after (Fault (Refused refusal)) fresh mid_fresh t M xs ys i j retries old mid new same count whole up ended = ended
+ended_after (Fault BadReply) fresh mid_fresh t M xs ys i j retries old mid new same count whole up ended = ended
 
--- a run that brought something, and a step after it
-join_some : (r : ℕ) (H : History) (M : List Moment) (fresh : Bool) (next i retries old mid new : ℕ) (items more : List Item) (t u : ℕ) (why : Ended)
+-- a run that brought something, and one after it
+join_some : (r : ℕ) (H : History) (M : List Moment) (fresh : Bool) (next i j retries old mid new : ℕ) (items more : List Item) (t u : ℕ) (why : Ended)
     (x : List Item) (xs ys : List (List Item)) →
     Collected r H M fresh next i retries old mid items t StepLimit (x ∷ xs) →
-    Collected r H (after_answers (length (x ∷ xs)) M) false t 1 retries mid new more u why ys → old ≤ mid →
-    Collected r H M fresh next (i + 1) retries old new (items ++ more) u why ((x ∷ xs) ++ ys)
-join_some r H M fresh next i retries old mid new items more t u why x xs ys first rest up =
+    Collected r H (after_answers (length (x ∷ xs)) M) false t j retries mid new more u why ys → old ≤ mid →
+    Collected r H M fresh next (i + j) retries old new (items ++ more) u why ((x ∷ xs) ++ ys)
+join_some r H M fresh next i j retries old mid new items more t u why x xs ys first rest up =
     let whole : IsWhole (x ∷ xs) = first.end.1 in
     let start : start_of fresh next M ((x ∷ xs) ++ ys) ≡ start_of fresh next M (x ∷ xs) = start_of-append fresh next M x xs ys whole in
     let end : end_of (start_of fresh next M (x ∷ xs)) (items_of (x ∷ xs)) ≡ t =
@@ -180,18 +180,18 @@ join_some r H M fresh next i retries old mid new items more t u why x xs ys firs
       twice_batches = omega (arith, length-append (x ∷ xs) ys, batches-append (x ∷ xs) ys, whole_twice (x ∷ xs) whole, rest.twice_batches);
       whole = subst X (sym start) (AreWhole-append why r H M (start_of fresh next M (x ∷ xs)) (x ∷ xs) ys whole first.whole (subst W (sym end) rest.whole));
       paced = subst Y (sym start) (IsPaced-append why M (start_of fresh next M (x ∷ xs)) (x ∷ xs) ys whole first.paced (subst G (sym end) rest.paced));
-      end = ended_after why fresh false u M (x ∷ xs) ys i retries old mid new (λ h. absurd (omega (arith, h, whole_some x xs whole))) first.end.0 whole up rest.end;
+      end = ended_after why fresh false u M (x ∷ xs) ys i j retries old mid new (λ h. absurd (omega (arith, h, whole_some x xs whole))) first.end.0 whole up rest.end;
     }
 
--- a first step
-join_none : (r : ℕ) (H : History) (M : List Moment) (fresh : Bool) (next i retries old mid new : ℕ) (items more : List Item) (t u : ℕ) (why : Ended)
+-- a run that brought nothing, and one after it
+join_none : (r : ℕ) (H : History) (M : List Moment) (fresh : Bool) (next i j retries old mid new : ℕ) (items more : List Item) (t u : ℕ) (why : Ended)
     (ys : List (List Item)) →
     Collected r H M fresh next i retries old mid items t StepLimit [] →
-    Collected r H M fresh t 1 retries mid new more u why ys → old ≤ mid →
-    Collected r H M fresh next (i + 1) retries old new (items ++ more) u why ys
-join_none r H M fresh next i retries old mid new [] more t u why ys first rest up =
+    Collected r H M fresh t j retries mid new more u why ys → old ≤ mid →
+    Collected r H M fresh next (i + j) retries old new (items ++ more) u why ys
+join_none r H M fresh next i j retries old mid new [] more t u why ys first rest up =
     let same : t ≡ next = first.covers ∙ start_of-nil fresh next M in
-    let S : ℕ → Type 0 = λ n. Collected r H M fresh n 1 retries mid new more u why ys in
+    let S : ℕ → Type 0 = λ n. Collected r H M fresh n j retries mid new more u why ys in
     let moved = subst S same rest in
     record {
       covers = moved.covers;
@@ -201,21 +201,21 @@ join_none r H M fresh next i retries old mid new [] more t u why ys first rest u
       twice_batches = moved.twice_batches;
       paced = moved.paced;
       whole = moved.whole;
-      end = ended_after why fresh fresh u M [] ys i retries old mid new (λ h. refl) first.end.0 tt up moved.end;
+      end = ended_after why fresh fresh u M [] ys i j retries old mid new (λ h. refl) first.end.0 tt up moved.end;
     }
-join_none r H M fresh next i retries old mid new (x ∷ items) more t u why ys first rest up = absurd (let e = first.all in cc)
+join_none r H M fresh next i j retries old mid new (x ∷ items) more t u why ys first rest up = absurd (let e = first.all in cc)
 
-pub join : (r : ℕ) (H : History) (M : List Moment) (fresh mid_fresh : Bool) (next i retries old mid new : ℕ) (items more : List Item) (t u : ℕ) (why : Ended)
+pub join : (r : ℕ) (H : History) (M : List Moment) (fresh mid_fresh : Bool) (next i j retries old mid new : ℕ) (items more : List Item) (t u : ℕ) (why : Ended)
     (xs ys : List (List Item)) →
     Collected r H M fresh next i retries old mid items t StepLimit xs → IsFreshAfter fresh xs mid_fresh →
-    Collected r H (after_answers (length xs) M) mid_fresh t 1 retries mid new more u why ys → old ≤ mid →
-    Collected r H M fresh next (i + 1) retries old new (items ++ more) u why (xs ++ ys)
-join r H M fresh mid_fresh next i retries old mid new items more t u why [] ys first left rest up =
-    let P : Bool → Type 0 = λ b. Collected r H M b t 1 retries mid new more u why ys in
-    join_none r H M fresh next i retries old mid new items more t u why ys first (subst P (left.none refl) rest) up
-join r H M fresh mid_fresh next i retries old mid new items more t u why (x ∷ xs) ys first left rest up =
-    let P : Bool → Type 0 = λ b. Collected r H (after_answers (length (x ∷ xs)) M) b t 1 retries mid new more u why ys in
-    join_some r H M fresh next i retries old mid new items more t u why x xs ys first (subst P (left.some (whole_some x xs first.end.1)) rest) up
+    Collected r H (after_answers (length xs) M) mid_fresh t j retries mid new more u why ys → old ≤ mid →
+    Collected r H M fresh next (i + j) retries old new (items ++ more) u why (xs ++ ys)
+join r H M fresh mid_fresh next i j retries old mid new items more t u why [] ys first left rest up =
+    let P : Bool → Type 0 = λ b. Collected r H M b t j retries mid new more u why ys in
+    join_none r H M fresh next i j retries old mid new items more t u why ys first (subst P (left.none refl) rest) up
+join r H M fresh mid_fresh next i j retries old mid new items more t u why (x ∷ xs) ys first left rest up =
+    let P : Bool → Type 0 = λ b. Collected r H (after_answers (length (x ∷ xs)) M) b t j retries mid new more u why ys in
+    join_some r H M fresh next i j retries old mid new items more t u why x xs ys first (subst P (left.some (whole_some x xs first.end.1)) rest) up
 
 pub fresh_join : (fresh mid_fresh new_fresh : Bool) (xs ys : List (List Item)) →
     IsFreshAfter fresh xs mid_fresh → IsFreshAfter mid_fresh ys new_fresh → IsFreshAfter fresh (xs ++ ys) new_fresh
@@ -228,6 +228,20 @@ fresh_join fresh mid_fresh new_fresh xs ys first rest = record {
         IsFreshAfter fresh xs mid_fresh → IsFreshAfter mid_fresh ys new_fresh → (n : ℕ) → batches ys ≡ n → 0 < batches xs + n → new_fresh ≡ false
     fresh_some fresh mid_fresh new_fresh xs ys first rest zero is h = rest.none is ∙ first.some (omega arith)
     fresh_some fresh mid_fresh new_fresh xs ys first rest (suc n) is h = rest.some (omega arith)
+
+-- how whole steps end has nothing to do with what was lost
+pub at_limit : (r : ℕ) (H : History) (M : List Moment) (fresh : Bool) (s i retries old new tries was is : ℕ) (items : List Item) (t : ℕ) (answers : List (List Item)) →
+    Collected r H M fresh s i retries old new items t StepLimit answers → Collected r H M fresh s i tries was is items t StepLimit answers
+at_limit r H M fresh s i retries old new tries was is items t answers run = record {
+  covers = run.covers;
+  all = run.all;
+  each = run.each;
+  twice_steps = run.twice_steps;
+  twice_batches = run.twice_batches;
+  paced = run.paced;
+  whole = run.whole;
+  end = run.end;
+}
 
 -- a run of no steps
 pub no_steps : (r : ℕ) (H : History) (M : List Moment) (fresh : Bool) (next retries old : ℕ) → Collected r H M fresh next 0 retries old old [] next StepLimit []

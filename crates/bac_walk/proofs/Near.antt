@@ -1,5 +1,5 @@
 -- Where a run may bring a walk, and how near to its log it stays.
-use Rattle.std.proofs.Common.{◌≡◌, ℕ, zero, suc, Bool, true, false, ◌+◌, ◌<◌, ◌≤◌, List, [], ◌∷◌, length, refl, sym, ap, subst, ◌∙◌, arith}
+use Rattle.std.proofs.Common.{◌≡◌, ℕ, zero, suc, Bool, true, false, ◌+◌, ◌<◌, ◌≤◌, List, [], ◌∷◌, ◌++◌, length, refl, sym, ap, subst, ◌∙◌, arith, length-append}
 use Rattle.bac_link.specs.declared.item.Item.{Item}
 use Rattle.bac_link.specs.declared.item.Item.TheVariants.{Gap, Logged}
 use Rattle.bac_link.specs.Delivery.{History, Moment, Holds, now, later, items_of, AreHeld, Brings, Leads}
@@ -9,11 +9,10 @@ use Rattle.bac_walk.specs.declared.outcome.Ended.TheVariants.{StepLimit}
 use Rattle.bac_walk.specs.Collects.{batches, start_of, Collected, IsFreshAfter}
 use Rattle.bac_walk.specs.Delivers.{end_of}
 use Rattle.bac_walk.specs.Near.{IsNear, IsNearStep, StaysNear, IsInWindow, AreInWindow}
-use Rattle.bac_walk.specs.Turns.{Covers}
 use Rattle.bac_walk.proofs.Cuts.{Covers-end}
 use Rattle.bac_walk.proofs.Headline.{leads}
 use Rattle.bac_walk.proofs.Held.{Sound, AllSound, all_sound}
-use Rattle.bac_walk.proofs.Joins.{no_steps, start_of-nil, whole_some}
+use Rattle.bac_walk.proofs.Joins.{after_answers-add, at_limit, batches-append, join, no_steps}
 
 -- ---- fewer steps, the first, and one more
 
@@ -24,25 +23,24 @@ fewer_steps r H M fresh s i n le near = λ j retries old new t items answers lt 
 pub at_once : (r : ℕ) (H : History) (M : List Moment) (fresh : Bool) (s steps retries old : ℕ) → 0 < steps → StaysNear r H M fresh s steps → fresh ≡ false → IsNearStep s M
 at_once r H M fresh s steps retries old some near not_fresh = near 0 retries old old s [] [] some (no_steps r H M fresh s retries old) (λ none. not_fresh)
 
--- a run of no steps is where it began
-still : (r : ℕ) (H : History) (M : List Moment) (fresh : Bool) (s j retries old new t : ℕ) (items : List Item) (answers : List (List Item)) → j < 1 →
-    Collected r H M fresh s j retries old new items t StepLimit answers → (answers ≡ []) × (t ≡ s)
-still r H M fresh s j retries old new t items [] lt run =
-    let P : List Item → Type 0 = λ l. Covers (start_of fresh s M []) l t in
-    (refl, subst P (sym run.all) run.covers ∙ start_of-nil fresh s M)
-still r H M fresh s j retries old new t items (x ∷ xs) lt run = absurd (omega (arith, lt, run.end.0, whole_some x xs run.end.1))
+pub next_steps : (r : ℕ) (H : History) (M : List Moment) (fresh mid_fresh : Bool) (s i j retries old mid t : ℕ) (items : List Item) (answers : List (List Item)) →
+    StaysNear r H M fresh s (i + j) → Collected r H M fresh s i retries old mid items t StepLimit answers → IsFreshAfter fresh answers mid_fresh →
+    StaysNear r H (after_answers (length answers) M) mid_fresh t j
+next_steps r H M fresh mid_fresh s i j retries old mid t items answers near run left = λ k tries was is u more others lt rest not_fresh.
+    let N : List Moment = after_answers (length answers) M in
+    let first = at_limit r H M fresh s i retries old mid 0 0 0 items t answers run in
+    let second = at_limit r H N mid_fresh t k tries was is 0 0 0 more u others rest in
+    let both = join r H M fresh mid_fresh s i k 0 0 0 0 items more t u StepLimit answers others first left second (omega arith) in
+    let place : after_answers (length (answers ++ others)) M ≡ after_answers (length others) N =
+    ap (λ n. after_answers n M) (length-append answers others) ∙ after_answers-add (length answers) (length others) M in
+    let P : List Moment → Type 0 = λ l. IsNearStep u l in
+    subst P place (near (i + k) 0 0 0 u (items ++ more) (answers ++ others) (omega (arith, lt)) both
+    (λ none. sym (left.none (omega (arith, batches-append answers others, none))) ∙ not_fresh (omega (arith, batches-append answers others, none))))
 
 pub next_step : (r : ℕ) (H : History) (M : List Moment) (fresh mid_fresh : Bool) (s i retries old mid t : ℕ) (items : List Item) (answers : List (List Item)) →
     StaysNear r H M fresh s (i + 1) → Collected r H M fresh s i retries old mid items t StepLimit answers → IsFreshAfter fresh answers mid_fresh →
     StaysNear r H (after_answers (length answers) M) mid_fresh t 1
-next_step r H M fresh mid_fresh s i retries old mid t items answers near run left = λ j tries was is u more others lt rest not_fresh.
-    let N : List Moment = after_answers (length answers) M in
-    let here = still r H N mid_fresh t j tries was is u more others lt rest in
-    let passed : mid_fresh ≡ false = not_fresh (ap batches here.0) in
-    let close : IsNearStep t N = near i retries old mid t items answers (omega arith) run (λ none. sym (left.none none) ∙ passed) in
-    let P : ℕ → Type 0 = λ n. IsNearStep n N in
-    let Q : List (List Item) → Type 0 = λ l. IsNearStep u (after_answers (length l) N) in
-    subst Q (sym here.0) (subst P (sym here.1) close)
+next_step r H M fresh mid_fresh s i retries old mid t items answers near run left = next_steps r H M fresh mid_fresh s i 1 retries old mid t items answers near run left
 
 -- ---- what an answer brings
 

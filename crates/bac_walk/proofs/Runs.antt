@@ -1,4 +1,4 @@
--- A run and the step after it are one run, also into a sink.
+-- A run and one after it are one run, also into a sink.
 use Rattle.std.proofs.Common.{◌≡◌, ◌≢◌, ℕ, Bool, true, false, ◌+◌, ◌≤◌, inl, inr, Option, Some, None, List, [], ◌∷◌, ◌++◌, length, refl, sym, ap, subst, ◌∙◌, arith, length-append, append_assoc}
 use Rattle.bac_link.specs.declared.item.Item.{Item}
 use Rattle.bac_walk.specs.declared.batch.Gap.{Gap as GapOf}
@@ -21,7 +21,7 @@ use Rattle.bac_walk.proofs.Joins.{join, fresh_join, no_steps, ended_early, after
 use Rattle.bac_walk.proofs.Goes.{join_goes, stays_goes}
 use Rattle.bac_walk.proofs.Cuts.{Covers-end}
 use Rattle.bac_walk.proofs.Headline.{leads}
-use Rattle.bac_walk.proofs.Near.{fewer_steps, next_step}
+use Rattle.bac_walk.proofs.Near.{fewer_steps, next_steps}
 
 pub no_run : (was : ℕ → List Moment → History → Type 0) (retries old : ℕ) (w : WalkPlace) → IsRun was was retries old old w w 0 StepLimit []
 no_run was retries old w = (
@@ -29,26 +29,32 @@ no_run was retries old w = (
   (λ r M H s honest next near. ([], s, next, no_steps r H M w.fresh s retries old, honest, record { none = λ h. refl; some = λ h. absurd (omega arith) })),
 )
 
-pub join_run : (was mid is : ℕ → List Moment → History → Type 0) (retries old half new : ℕ) (before middle after : WalkPlace) (i : ℕ) (ended : Ended) (xs ys : List Item) →
-    IsRun was mid retries old half before middle i StepLimit xs → IsRun mid is retries half new middle after 1 ended ys → old ≤ half →
-    IsRun was is retries old new before after (i + 1) ended (xs ++ ys)
-join_run was mid is retries old half new before middle after i ended xs ys first rest up = (
+pub join_runs : (was mid is : ℕ → List Moment → History → Type 0) (retries old half new : ℕ) (before middle after : WalkPlace) (i j : ℕ) (ended : Ended) (xs ys : List Item) →
+    IsRun was mid retries old half before middle i StepLimit xs → IsRun mid is retries half new middle after j ended ys → old ≤ half →
+    IsRun was is retries old new before after (i + j) ended (xs ++ ys)
+join_runs was mid is retries old half new before middle after i j ended xs ys first rest up = (
   (λ s. join_goes before.fresh before.next xs middle.fresh middle.next ys after.fresh after.next first.0 rest.0 s),
   (λ r M H s honest next near.
-      let a = first.1 r M H s honest next (fewer_steps r H M before.fresh s i (i + 1) (omega arith) near) in
+      let a = first.1 r M H s honest next (fewer_steps r H M before.fresh s i (i + j) (omega arith) near) in
       let b = rest.1 r (after_answers (length a.0) M) H a.1 a.4 a.2
-      (next_step r H M before.fresh middle.fresh s i retries old half a.1 xs a.0 near a.3 a.5) in
+      (next_steps r H M before.fresh middle.fresh s i j retries old half a.1 xs a.0 near a.3 a.5) in
       let P : List Moment → Type 0 = λ N. is r N H in
       let e : after_answers (length (a.0 ++ b.0)) M ≡ after_answers (length b.0) (after_answers (length a.0) M) =
       ap (λ n. after_answers n M) (length-append a.0 b.0) ∙ after_answers-add (length a.0) (length b.0) M in (
         a.0 ++ b.0,
         b.1,
         b.2,
-        join r H M before.fresh middle.fresh s i retries old half new xs ys a.1 b.1 ended a.0 b.0 a.3 a.5 b.3 up,
+        join r H M before.fresh middle.fresh s i j retries old half new xs ys a.1 b.1 ended a.0 b.0 a.3 a.5 b.3 up,
         subst P (sym e) b.4,
         fresh_join before.fresh middle.fresh after.fresh a.0 b.0 a.5 b.5,
       )),
 )
+
+pub join_run : (was mid is : ℕ → List Moment → History → Type 0) (retries old half new : ℕ) (before middle after : WalkPlace) (i : ℕ) (ended : Ended) (xs ys : List Item) →
+    IsRun was mid retries old half before middle i StepLimit xs → IsRun mid is retries half new middle after 1 ended ys → old ≤ half →
+    IsRun was is retries old new before after (i + 1) ended (xs ++ ys)
+join_run was mid is retries old half new before middle after i ended xs ys first rest up =
+    join_runs was mid is retries old half new before middle after i 1 ended xs ys first rest up
 
 pub run_early : (was is : ℕ → List Moment → History → Type 0) (retries old new : ℕ) (before after : WalkPlace) (i n : ℕ) (ended : Ended) (xs : List Item) →
     ended ≢ StepLimit → i ≤ n → IsRun was is retries old new before after i ended xs → IsRun was is retries old new before after n ended xs

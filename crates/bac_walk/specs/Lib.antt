@@ -18,3 +18,4 @@ pub mod Sinks
 pub mod Handing
 pub mod Kept
 pub mod Told
+pub mod Runs

@@ -21,7 +21,9 @@ mod walk;
 
 pub use batch::{Batch, Gap, Numbered};
 pub use kept::collect;
-pub use laws::{rest_resumes, rests_all, windows_are_near};
+pub use laws::{
+    collected_is_delivered, rest_resumes, rests_all, runs_deliver, runs_join, windows_are_near,
+};
 pub use outcome::{BadReply, Ended, Outcome, Progress, Step, WalkFault, Why};
 pub use resume::stop_and_resume;
 pub use sink::{Sink, deliver};

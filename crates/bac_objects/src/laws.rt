@@ -1,0 +1,29 @@
+//! What is true of the devices that lines describe. Each function does nothing: what it ensures is
+//! the law.
+
+ghost use Rattle.std.specs.Prelude.{◌≡◌, ◌≢◌, ℕ, List, None, Some, slice_get};
+ghost use Rattle.std.specs.List.{AllByRecursion};
+ghost use Rattle.std.specs.Map.{lookup};
+ghost use Rattle.bac_objects.specs.Build.{IsCounted, build_fault, built, entry_of, id_of};
+ghost use Rattle.bac_objects.specs.Sound.{IsSound};
+ghost use Rattle.bac_objects.specs.State.{is_id};
+ghost use Rattle.bac_objects.specs.declared.build.BuildFault.TheVariants.{Memory};
+ghost use Rattle.bac_objects.specs.declared.lines.DeviceLine.{DeviceLine as FirstLine};
+ghost use Rattle.bac_objects.specs.declared.lines.ObjectLine.{ObjectLine as LineOf};
+
+/// The object of each line is found under its identifier.
+pub fn objects_are_found()
+    ensures { (device : FirstLine) (lines : List LineOf) (i : ℕ) (line : LineOf) → build_fault device lines ≡ None → slice_get lines i ≡ Some line
+        → lookup (is_id (id_of line)) (built device lines).objects ≡ Some (entry_of line).1 }
+{}
+
+/// Lines without a fault describe a device that is sound, where no line says that more records were
+/// logged before than 64 bits can count.
+pub fn built_devices_are_sound()
+    ensures { (device : FirstLine) (lines : List LineOf) → build_fault device lines ≡ None → AllByRecursion IsCounted lines → IsSound (built device lines) }
+{}
+
+/// No fault of lines is want of memory.
+pub fn lines_need_no_memory()
+    ensures { (device : FirstLine) (lines : List LineOf) → build_fault device lines ≢ Some Memory }
+{}
