@@ -34,7 +34,7 @@ wanted_at w s = if asks_oldest_now w then FromOldest else FromOrdinal s
 -- entries with their numbers, the first of which is this
 abbrev pub with_numbers : ℕ → List Entry → List Numbered
 with_numbers n [] = []
-with_numbers n (e ∷ es) = record { sequence_number = n; entry = e } ∷ with_numbers (number_after n 1) es
+with_numbers n (e ∷ es) = record { number = n; entry = e } ∷ with_numbers (number_after n 1) es
 
 -- items that show these numbers
 abbrev pub shown_from : ℕ → List Entry → List Item
