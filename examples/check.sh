@@ -231,6 +231,8 @@ counted ./edges.sh
 counted ./keeping.sh
 # A device among strangers.
 counted ./hostile.sh
+# Memory, streams and sockets that are refused.
+counted ./faults.py
 
 # The rows of vectors/, by a program of their own.
 counted ./vectors.sh ../crates/bac_vectors/out/bac_vectors

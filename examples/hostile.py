@@ -93,11 +93,13 @@ def accepted_of(program, datagrams):
     answered = list(zip(datagrams, replies(program, datagrams)))
     accepted = [it for it, frame in answered if is_accepted(frame)]
     refused = [it for it, frame in answered if not is_accepted(frame)]
-    frames = replies(program, refused + READINGS)
-    if any(is_accepted(frame) for frame in frames):
-        raise Wrong("a write is accepted that was refused before")
-    if frames[len(refused) :] != replies(program, READINGS):
-        raise Wrong(f"refused datagrams changed the device; one of {len(refused)}")
+    # Also backwards, since one may undo what another did.
+    for order in (refused, refused[::-1]):
+        frames = replies(program, order + READINGS)
+        if any(is_accepted(frame) for frame in frames):
+            raise Wrong("a write is accepted that was refused before")
+        if frames[len(refused) :] != replies(program, READINGS):
+            raise Wrong(f"refused datagrams changed the device; one of {len(refused)}")
     return accepted
 
 

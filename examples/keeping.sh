@@ -46,9 +46,10 @@ switched 4
 kept 2
 once 10
 
-# ---- commands that fail: the file stays as it was
+# ---- commands that fail: the file stays as it was, though the log has two records more
 
 cp "$file" "$room/before"
+switched 2
 mkdir "$room/broken"
 for command in sed mktemp sync mv tail; do
     printf '#!/bin/sh\nexit 9\n' > "$room/broken/$command"
@@ -77,11 +78,16 @@ is 'keep.sh is killed' "$(cmp "$file" "$room/before" && echo same)" same
 kept 2
 is 'another run is at work' "$status" 8
 sleep 1
-switched 2
 kept 2
 is 'after kills and failures' "$status $(tail -n 1 "$file")" '0 caught up, next 13'
 once 12
-# Lost: the end line says so, and the next run goes on.
+# Lost behind the next record: the record is kept, and the end line and the status say why.
+printf '#!/bin/sh\n[ "$1" = rp ] && exec %s "$@"\nprintf "13 x\\nlost, next 14\\n"\nexit 2\n' "$program" > "$room/broken/bac"
+cp "$file" "$room/before"
+BAC=$room/broken/bac ./keep.sh "$at" 2 "$file" > /dev/null 2>&1
+is 'lost behind a record' "$? $(tail -n 2 "$file" | tr '\n' ';')" '2 13 x;lost, next 14;'
+mv "$room/before" "$file"
+# Lost at once, as the count is read: the file stays.
 ./keep.sh 127.77.77.77:9 2 "$file" 2> /dev/null &
 wait $!
 is 'nobody answers' "$? $(tail -n 1 "$file")" '2 caught up, next 13'

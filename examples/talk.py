@@ -18,8 +18,9 @@ Each FILE, or each *.talk of this folder, has talks of these lines:
     = STATUS       the exit status, at the end of the talk
 
 OCTETS are hexadecimal digits, with blanks if they help. `N times OCTETS` is N such datagrams one
-after the other, and `OCTETS up to N` has zeros behind them up to N octets. The last line is
-`N passed, M failed`.
+after the other, and `OCTETS up to N` has zeros behind them up to N octets. A talk with a line
+`< each front of OCTETS / OCTETS` is played once for each answer that is cut off behind the slash, and
+whose frame says its length. The last line is `N passed, M failed`.
 """
 
 import os
@@ -59,7 +60,21 @@ def talks(file):
                 if mark not in (">", ">2", "<", "<2", "|", ".", "!", "="):
                     sys.exit(f"{file}:{number}: no line of a talk")
                 found[-1][2].append((mark, text))
-    return found
+    return [(number, words, cut) for number, words, lines in found for cut in cuts(lines)]
+
+
+def cuts(lines):
+    """The talk's lines, or for each cut of its answer the lines with that one."""
+    for place, (mark, text) in enumerate(lines):
+        whole = re.fullmatch(r"each front of (.*) / (.*)", text)
+        if whole:
+            head, rest = (bytes.fromhex(it) for it in whole.groups())
+            for size in range(len(rest)):
+                octets = bytearray(head + rest[:size])
+                octets[2:4] = len(octets).to_bytes(2, "big")
+                yield [*lines[:place], (mark, octets.hex()), *lines[place + 1 :]]
+            return
+    yield lines
 
 
 def heard(peer, wanted):
