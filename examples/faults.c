@@ -1,7 +1,8 @@
 // Refuses one call of the program that it is loaded into (LD_PRELOAD), for faults.py.
 //
-//     CALL   malloc, read, write, socket, bind, setsockopt, sendto or recvfrom
-//     AT     the first call that is refused, counted from 1; malloc counts reallocations too
+//     CALL   malloc, read, write, tell, socket, bind, setsockopt, sendto or recvfrom
+//     AT     the first call that is refused, counted from 1; malloc counts reallocations too, write
+//            counts writes on standard output and tell those on standard error
 //     MANY   how many are refused from there on
 //     ERROR  the errno of a refusal
 //     SHORT  where it is set, reads and writes of the standard streams move one octet each
@@ -55,7 +56,9 @@ ssize_t read(int file, void *to, size_t size) {
 }
 
 ssize_t write(int file, const void *from, size_t size) {
-    return file == 1 && refuses("write") ? -1 : NEXT(write)(file, from, moved(file, size));
+    if (file == 1 && refuses("write")) return -1;
+    if (file == 2 && refuses("tell")) return -1;
+    return NEXT(write)(file, from, moved(file, size));
 }
 
 int socket(int domain, int type, int protocol) {
@@ -70,10 +73,12 @@ int setsockopt(int file, int level, int name, const void *value, socklen_t size)
     return refuses("setsockopt") ? -1 : NEXT(setsockopt)(file, level, name, value, size);
 }
 
-ssize_t sendto(int file, const void *from, size_t size, int flags, const struct sockaddr *to, socklen_t length) {
-    return refuses("sendto") ? -1 : NEXT(sendto)(file, from, size, flags, to, length);
+ssize_t sendto(int file, const void *octets, size_t size, int flags, const struct sockaddr *to,
+               socklen_t length) {
+    return refuses("sendto") ? -1 : NEXT(sendto)(file, octets, size, flags, to, length);
 }
 
-ssize_t recvfrom(int file, void *to, size_t size, int flags, struct sockaddr *from, socklen_t *length) {
-    return refuses("recvfrom") ? -1 : NEXT(recvfrom)(file, to, size, flags, from, length);
+ssize_t recvfrom(int file, void *octets, size_t size, int flags, struct sockaddr *from,
+                 socklen_t *length) {
+    return refuses("recvfrom") ? -1 : NEXT(recvfrom)(file, octets, size, flags, from, length);
 }

@@ -1,5 +1,5 @@
 #!/usr/bin/env python3
-"""Refuses the memory, the reads, the writes and the sockets of the built programs, one call after the other.
+"""Refuses memory, reads, writes and sockets to the built programs, one call after the other.
 
     examples/faults.py PROGRAM [VECTORS]
 
@@ -123,12 +123,13 @@ def script_without_memory(program, name):
 
 def words_without_memory(program):
     usage = Ended(program, ["rp"])
+    rp = ["rp", "10.0.0.1"]
     bad = b"bad value\nTYPE: a number from 0 to 1023\n"
     served = ["serve", "127.77.77.77:47813", "--count=0"]
     return [
         ("memory of help", without_memory, program, ["log", "--help"], b"", 0, text_of("log.help")),
         ("memory of a mistake", without_memory, program, ["rp"], b"", 1, b"", usage.errors),
-        ("memory of a bad value", without_memory, program, ["rp", "10.0.0.1", "1024", "1", "77"], b"", 1, b"", bad),
+        ("memory of a bad value", without_memory, program, [*rp, "1024", "1", "77"], b"", 1, b"", bad),
         ("memory of a server", without_memory, program, served, text_of("plant.conf")),
     ]
 
@@ -157,7 +158,7 @@ def walk_without_memory(program, words, whole):
 
 
 def rows_without_memory(vectors):
-    """A row whose memory is refused is answered by its fault, and a log is as it was before; or all ends."""
+    """A row that makes a log is answered by its fault where memory is refused; or the program ends."""
     rows = [it for it in text_of("vectors/logs.vectors").splitlines() if it and not it.startswith(b"#")]
     made = []
     for call, answer in (row.split(b" -> ") for row in rows):
@@ -257,6 +258,22 @@ def version_refused(program):
         ended.must(2, whole[: at - 1], b"write fault\n")
 
     return f"{each(refused, *run, CALL='write', MANY=1, ERROR=errno.EIO, SHORT=1)} writes"
+
+
+def lines_refused(program):
+    """What is told of a fault is one write, and where that is refused the status stays."""
+    for words, given, status in (
+        (["rp", "10.0.0.1", "1024", "1", "77"], b"", 1),
+        (["rp", "127.77.77.77:9", "8", "123", "77", "--timeout=1", "--retries=0"], b"", 2),
+        (["replay"], b"rx 8\n", 1),
+    ):
+        run = (program, words, given)
+        if not Ended(*run).errors:
+            raise Wrong(f"{words}: nothing is told")
+        found = each(lambda _, it: it.must(status, b"", b""), *run, CALL="tell", MANY=1, ERROR=errno.EIO)
+        if found != 1:
+            raise Wrong(f"{words}: {found} writes on standard error")
+    return "one write each"
 
 
 def configuration_refused(program):
@@ -381,8 +398,10 @@ def sockets_refused(program, at):
             ended.must(2, b"", b"lost\n")
             if ended.refused != 4:
                 raise Wrong(f"{ended.refused} {call} refused, and 4 are wanted")
-        Ended(*asked, CALL=call, AT=1, MANY=1, ERROR=errno.EINTR).must(0, whole, b"")
-    return ""
+    # A receive that a signal interrupts is made again: nothing is asked anew.
+    once = (program, [*asked[1], "--retries=0"])
+    Ended(*once, CALL="recvfrom", AT=1, MANY=3, ERROR=errno.EINTR).must(0, whole, b"")
+    return "done"
 
 
 def server_refused(program, configuration):
@@ -395,7 +414,7 @@ def server_refused(program, configuration):
     Ended(*run, CALL="recvfrom", AT=1, MANY=1, ERROR=errno.EIO).must(2, b"", b"socket fault\n")
     for call in ("socket", "bind"):
         Ended(*run, CALL=call, AT=1, MANY=1, ERROR=errno.EPERM).must(2, b"", b"socket fault\n")
-    return ""
+    return "done"
 
 
 def served_without_memory(program, configuration):
@@ -455,6 +474,7 @@ def main(program, vectors=os.path.join(FOLDER, "../crates/bac_vectors/out/bac_ve
             ("reads", reads_refused, program, "walk"),
             ("writes", writes_refused, program, "walk"),
             ("the version", version_refused, program),
+            ("lines on standard error", lines_refused, program),
             ("a configuration", configuration_refused, program),
             ("sockets", sockets_refused, program, server.at),
             ("the socket of a server", server_refused, program, configuration),
