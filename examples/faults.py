@@ -162,21 +162,25 @@ def rows_without_memory(vectors):
     rows = [it for it in text_of("vectors/logs.vectors").splitlines() if it and not it.startswith(b"#")]
     made = []
     for call, answer in (row.split(b" -> ") for row in rows):
-        # The rows that make a log, alone: the calls behind one would answer of the log before it.
+        # The rows that make a log, alone: the calls after one would answer of the log before it.
         if call.split()[0] in (b"log", b"replay", b"replay_nothing") and answer != b"BadCapacity":
             made.append((call, answer))
 
+    told = []
+
     def judge(_, ended):
-        if ended.status == 0 and ended.output == b"Memory\n":
-            return
-        if ended.status and ended.output == b"":
-            return
-        raise Wrong(f"status {ended.status}, output {ended.output!r}")
+        if (ended.status, ended.output) == (0, b"Memory\n"):
+            told.append(ended)
+        elif not ended.status or ended.output:
+            raise Wrong(f"status {ended.status}, output {ended.output!r}")
 
     count = 0
     for call, answer in made:
+        told.clear()
         Ended(vectors, [], call + b"\n").must(0, answer + b"\n", b"")
         count += each(judge, vectors, [], call + b"\n", CALL="malloc", MANY=1, ERROR=errno.ENOMEM)
+        if not told:
+            raise Wrong(f"{call}: want of memory is never told")
     if not made:
         raise Wrong("no row makes a log")
     return f"{len(made)} rows, {count} allocations"
