@@ -1,5 +1,5 @@
-//! The program `bac`: its words, its standard streams and the machine's clock. What it does with them
-//! is in the crate bac_tools.
+//! The program `bac`: its words, its standard streams and the machine's clock. What it does with
+//! them is in the crate bac_tools.
 #![tactic(auto)]
 
 use bac_tools::{Fault, SystemClock, UntilRefused, run, tell};
@@ -8,8 +8,8 @@ use std::io::{BufWriter, ErrorKind};
 use std::process::ExitCode;
 use std::{env, io};
 
-/// All words, the first of which is the program's name. `env::args` tells one that isn't UTF-8 by an
-/// error for all of them.
+/// All words, the first of which is the program's name. `env::args` tells one that isn't UTF-8 by
+/// an error for all of them.
 fn words_of(rt: &HostRuntime) -> Result<Vec<String>, Fault> {
     let words = match env::args(rt) {
         Ok(words) => words,
@@ -28,7 +28,7 @@ fn words_of(rt: &HostRuntime) -> Result<Vec<String>, Fault> {
 /// Runs the program, and answers its exit status.
 fn started(rt: &HostRuntime) -> Result<u8, Fault> {
     let words = words_of(rt)?;
-    // What the buffer holds behind a refused write isn't written when it is dropped.
+    // What the buffer holds after a refused write isn't written when it is dropped.
     let writer = UntilRefused::new(io::writer(rt));
     let Ok(mut output) = BufWriter::new(rt.alloc(), writer) else {
         return Err(Fault::Memory);

@@ -57,7 +57,7 @@ unfoldable pub optional_at : ℕ → ℕ → (Primitive → Bool) → List ℕ �
 optional_at tag type fits bytes =
     if value_next tag bytes then row_at (context tag type fits) bytes else Ok (Absent, bytes)
 
--- the parameters of a form in order, and nothing behind them
+-- the parameters of a form in order, and nothing after them
 unfoldable pub form_at : Form → List ℕ → Result (List Parameter) Reason
 form_at end bytes = end_at bytes
 form_at (row p form) bytes = do
@@ -73,7 +73,7 @@ form_at (choice tag there otherwise) bytes =
 form_at (nothing_or form) [] = Ok []
 form_at (nothing_or form) (octet ∷ bytes) = form_at form (octet ∷ bytes)
 
--- a value behind a context tag has the tag number of a primitive type, 0 to 12 (clause 20.2.1.4)
+-- a value after a context tag has the tag number of a primitive type, 0 to 12 (clause 20.2.1.4)
 abbrev pub IsRow : Row → Type 0
 IsRow (context tag type fits) = type ≤ 12
 IsRow p = Unit {0}

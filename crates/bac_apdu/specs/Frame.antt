@@ -54,7 +54,7 @@ frame_octets body = (0x81 ∷ 0x0A ∷ to_be_bytes w16 (length body + 4)) ++ bod
 abbrev pub unicast_head : ℕ → List ℕ
 unicast_head len = 0x81 ∷ 0x0A ∷ to_be_bytes w16 len
 
--- The head of the frame that begins at `start` tells its length, in the two octets behind type and function.
+-- The head of the frame that begins at `start` tells its length, in the two octets after type and function.
 abbrev pub with_length : ℕ → List ℕ → List ℕ
 with_length start octets =
     let len = length octets - start in
@@ -73,7 +73,7 @@ function_of (Broadcast npdu) = 0x0B
 function_of (Forwarded address npdu) = 0x04
 function_of (Function function body) = function
 
--- what comes behind the length
+-- what comes after the length
 abbrev pub body_of : Frame → List ℕ
 body_of (Unicast npdu) = npdu
 body_of (Broadcast npdu) = npdu

@@ -28,7 +28,7 @@ pub record Header : Type 0 where
 abbrev pub place_of : Far → Place
 place_of far = record { net = far.net; address = far.address.now }
 
--- the same where a header may have none
+-- the same if a header may have none
 abbrev pub maybe_place_of : Option Far → Option Place
 maybe_place_of None = None
 maybe_place_of (Some far) = Some (place_of far)

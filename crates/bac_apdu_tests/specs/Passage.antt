@@ -71,7 +71,7 @@ answer_of (Complex segmented invoke service parameters) =
     if service == read_property_service then read_property_ack_at parameters else None
 answer_of other = None
 
--- two values, if no octets are left behind them
+-- two values, if no octets are left after them
 abbrev pub nothing_behind : Primitive → Primitive → List ℕ → Option (Primitive × Primitive)
 nothing_behind v w [] = Some (v, w)
 nothing_behind v w (octet ∷ rest) = None

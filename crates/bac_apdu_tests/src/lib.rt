@@ -1,5 +1,5 @@
-//! A caller of the encodings that sees their public contracts alone. What their calls answer, octets
-//! by octets, is in examples/vectors.
+//! A caller of the encodings that sees their public contracts alone. What their calls answer,
+//! octets by octets, is in examples/vectors.
 #![tactic(auto)]
 
 #[cfg(test)]

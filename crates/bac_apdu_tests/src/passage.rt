@@ -24,6 +24,7 @@ use std::test::Fail;
 fn apdus_come_back()
     ensures { (reply : Bool) (apdu : ApduValue) → IsApdu apdu → length (apdu_octets apdu) ≤ 1495 → apdu_in (datagram_with reply apdu) ≡ Some apdu }
 {
+    // For the prover alone: the laws that the contract follows from.
     frame_is_read();
     header_is_read();
     apdu_is_read();
@@ -45,6 +46,7 @@ fn answers_come_back()
         → answer_in (datagram_with false (answer object property v w invoke)) ≡ Some (v, w) }
 {
     apdus_come_back();
+    // For the prover alone: the laws that the contract follows from.
     levels_are_made();
     value_is_read_back();
     ReadPropertyAck::fields_are_read_back();
@@ -57,6 +59,7 @@ fn sent(reply: bool, apdu: &Apdu) -> Datagram
     requires short { length (apdu_octets (apdu_of apdu.now)) ≤ 1495 }
     ensures { result ≡ datagram_with reply (apdu_of apdu.now) }
 {
+    // For the prover alone: a law that the contract follows from.
     frames_have_a_size();
     let npdu = Npdu {
         network: false,

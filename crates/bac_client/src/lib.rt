@@ -1,6 +1,6 @@
 //! The client of a device: requests, links, ports and the walk of a trend log.
 //!
-//! This crate is the door: it has no code of its own, and gives on what a tool needs. Requests,
+//! This crate is the door: it has no code of its own, and re-exports what a tool needs. Requests,
 //! transactions and links are of bac_link, the walk of bac_walk, ports and links over them of
 //! bac_ports, links in memory of bac_direct, and a network that repeats and reorders of bac_world.
 #![tactic(auto)]

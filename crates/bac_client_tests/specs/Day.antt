@@ -31,6 +31,6 @@ day =
 abbrev pub holding : ℕ → ℕ → Moment
 holding oldest newest = record { newest = newest; oldest = oldest }
 
--- the answers come where records 1 and 2 are held, 4 to 6, and 8 alone
+-- the answers come when records 1 and 2 are held, 4 to 6, and 8 alone
 abbrev pub day_moments : List Moment
 day_moments = holding 1 2 ∷ holding 4 6 ∷ holding 8 8 ∷ []

@@ -5,8 +5,8 @@ use Rattle.bac_link.specs.declared.item.Item.{Item}
 use Rattle.bac_link.specs.declared.item.Item.TheVariants.{Gap}
 use Rattle.bac_walk.specs.Walks.{numbered}
 
--- the gap up to the oldest record, where number s is below it, and the records
--- from there on; nothing where none is held
+-- the gap up to the oldest record, if number s is below it, and the records
+-- from there on; nothing if none is held
 abbrev pub held_from : Log → ℕ → List Item
 held_from log s =
     if nat_lt (newest log) (max s (oldest log)) then []

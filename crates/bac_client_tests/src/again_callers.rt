@@ -14,7 +14,7 @@ use bac_walk::{Outcome, Walk, collect, rests_all, windows_are_near};
 use bac_wire::ObjectId;
 use std::alloc::Global;
 
-/// Over a link that loses nothing, of a log that doesn't change: behind a walk with steps enough,
+/// Over a link that loses nothing, of a log that doesn't change: after a walk with steps enough,
 /// another brings nothing and is caught up at the same number, unless memory runs out.
 pub fn nothing_more<L: LogLink>(
     alloc: Global,

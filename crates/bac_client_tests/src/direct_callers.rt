@@ -39,6 +39,7 @@ pub fn questions_bring_replies()
         (octets : List ℕ) × (answer d (request_octets (back (towards source)) invoke (question (log_id n) extent)) ≡ (Some (record { datagram = octets; to = Receiver.Sender }), d))
         × HasReply d.reply_size log (log_id n) extent (back (towards source)) invoke octets }
 {
+    // For the prover alone: the laws that the contract follows from.
     questions_are_the_devices();
     questions_are_answered();
     replies_are_the_devices();
@@ -47,7 +48,7 @@ pub fn questions_bring_replies()
 /// Whatever happens at a device between its answers, steps of a walk from number s on deliver the
 /// records from its ordinal on that the log holds when each is reached: the moments and the history
 /// are those that the device and the events lead to, however many rounds of numbers further on,
-/// where they lie within half of the count.
+/// if they lie within half of the count.
 pub fn records_from(
     alloc: Global,
     device: &mut Device,
@@ -63,6 +64,7 @@ pub fn records_from(
         × DeliversTo (history_ahead rounds device.old log.instance events.now) k outcome.items.items t
         (placed_all rounds (moments_ahead device.old log.instance events.now)) count) }
 {
+    // For the prover alone: a law that the contract follows from.
     windows_are_near();
     let Some(mut walk) = Walk::from_number(log, s) else {
         return None;
@@ -72,9 +74,9 @@ pub fn records_from(
     Some(collect(alloc, &mut link, &mut transactions, &mut walk, steps))
 }
 
-/// Where nothing happens at a device, more steps than its log has records bring all that the log
-/// holds from the ordinal of number s on which is near, unless memory runs out, and leave the device
-/// as it was.
+/// If nothing happens at a device, more steps than its log has records bring all that the log holds
+/// from the ordinal of number s on which is near, unless memory runs out, and leave the device as
+/// it was.
 pub fn all_records_from(
     alloc: Global,
     device: &mut Device,
@@ -91,6 +93,7 @@ pub fn all_records_from(
         Misses steps s outcome.items.items outcome.next outcome.why) }
     ensures unchanged { device.new ≡ device.old }
 {
+    // For the prover alone: a law that the contract follows from.
     rests_all();
     let Some(mut walk) = Walk::from_number(log, s) else {
         return None;

@@ -57,7 +57,7 @@ pub(crate) fn plant(
     )
 }
 
-/// The octets that digits spell, as a datagram.
+/// The octets that digits say, as a datagram.
 fn datagram(alloc: Global, digits: &str) -> Result<Datagram, Fail> {
     let octets = hex::decode(alloc, digits.as_bytes())
         .ok()

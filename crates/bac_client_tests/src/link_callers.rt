@@ -11,7 +11,7 @@ use bac_apdu::{Extent, ReadRange};
 use bac_link::{ExchangeFault, LogLink, Request, Timeout, Transactions, exchange};
 use bac_wire::{Datagram, ObjectId};
 
-/// A request that nobody answers is sent a second time where one retry is given: the same octets.
+/// A request that nobody answers is sent a second time if one retry is given: the same octets.
 pub fn sent_twice(request: &Request) -> Option<(Datagram, Datagram)>
     requires { IsSendable request.now }
     ensures same { IfSome result (λ sent. sent.0 ≡ sent.1) }
@@ -27,8 +27,8 @@ pub fn sent_twice(request: &Request) -> Option<(Datagram, Datagram)>
     }
 }
 
-/// Over a sure link that is honest for a log, a question for its records from a number on brings the
-/// reply of the next moment.
+/// Over a sure link that is honest for a log, a question for its records from a number on brings
+/// the reply of the next moment.
 pub fn records_from<L: LogLink>(
     link: &mut L,
     transactions: &mut Transactions,
@@ -40,6 +40,7 @@ pub fn records_from<L: LogLink>(
     ensures lost { (r : ℕ) (M : List Moment) (H : History) → L.is_honest link.old log r M H →
         OnErr result (RisesBy (transactions.old.retries + 1) (L.failures link.old) (L.failures link.new)) }
 {
+    // For the prover alone, both: their numbers are small enough for a request.
     let _kind = log.kind();
     let _instance = log.instance();
     let request = Request::ReadRange(ReadRange {

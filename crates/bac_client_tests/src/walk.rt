@@ -1,5 +1,5 @@
-//! Walks of a trend log over links that answer from a list: octets by hand, each call once, and what
-//! a sink is given.
+//! Walks of a trend log over links that answer from a list: octets by hand, each call once, and
+//! what a sink is given.
 
 ghost use Rattle.std.specs.Prelude.{◌≡◌};
 

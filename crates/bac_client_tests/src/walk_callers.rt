@@ -21,9 +21,9 @@ use bac_walk::{Outcome, Walk, collect, rests_all, windows_are_near};
 use bac_wire::ObjectId;
 use std::alloc::Global;
 
-/// Over every honest link whose moments lie within half of the count, steps from number s on deliver
-/// the records from its ordinal on that the log holds when each is reached, and the link has that
-/// many moments less.
+/// Over every honest link whose moments lie within half of the count, steps from number s on
+/// deliver the records from its ordinal on that the log holds when each is reached, and the link
+/// has that many moments less.
 pub fn records_from<L: LogLink>(
     alloc: Global,
     link: &mut L,
@@ -36,6 +36,7 @@ pub fn records_from<L: LogLink>(
         (count : ℕ) × (t : ℕ) × (outcome.next ≡ sequence_number t) × DeliversTo H k outcome.items.items t M count
         × L.is_honest link.new log r (after_answers count M) H) }
 {
+    // For the prover alone: a law that the contract follows from.
     windows_are_near();
     let Some(mut walk) = Walk::from_number(log, s) else {
         return None;
@@ -58,6 +59,7 @@ pub fn all_records_from<L: LogLink>(
         (m.newest + 1) - max k m.oldest < steps →
         (outcome.why ≡ why.Memory) ⊎ (outcome.items.items ≡ (rest_all H m k).items)) }
 {
+    // For the prover alone: a law that the contract follows from.
     rests_all();
     let Some(mut walk) = Walk::from_number(log, s) else {
         return None;

@@ -132,7 +132,7 @@ fn a_late_empty_answer_is_not_the_next_one(rt: HostRuntime) -> Result<(), Fail> 
     Ok(())
 }
 
-/// Where memory is refused, the events before stand, and the refused one can be played again.
+/// If memory is refused, the events before stand, and the refused one can be played again.
 #[test]
 fn refused_memory_leaves_the_events_before(rt: HostRuntime) -> Result<(), Fail> {
     let mut world = world(rt.alloc(), 1, 3)?;

@@ -19,7 +19,7 @@ use std::alloc::Global;
 /// Whatever a network makes of the packets between a device and a walk from number s on, the walk
 /// delivers the records from its ordinal on that the log held when it answered: the moments and the
 /// history are those that the device and the events lead to, however many rounds of numbers further
-/// on, where they lie within half of the count.
+/// on, if they lie within half of the count.
 pub fn records_over_a_network(
     alloc: Global,
     device: Device,
@@ -36,6 +36,7 @@ pub fn records_over_a_network(
         (moments_of rounds log.instance (started device (walk_at log s) retries) events.now)
         (length (moments_of rounds log.instance (started device (walk_at log s) retries) events.now)))) }
 {
+    // For the prover alone: a law that the contract follows from.
     windows_stay_near();
     let Some(walk) = Walk::from_number(log, s) else {
         return None;

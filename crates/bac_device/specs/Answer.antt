@@ -8,6 +8,7 @@ use Rattle.bac_apdu.specs.Apdu.{Apdu, Confirmed, Unconfirmed, Simple, Complex, R
 use Rattle.bac_apdu.specs.Form.{Value, Mark, Inside, number_parameter}
 use Rattle.bac_apdu.specs.FormCanon.{canon_form}
 use Rattle.bac_apdu.specs.Frame.{Frame, Unicast, Broadcast, Forwarded, Function, frame_at}
+pub use Rattle.bac_apdu.specs.Service.Choice.{i_am_service, read_property_service, who_is_service, write_property_service}
 use Rattle.bac_apdu.specs.Service.IAm.{i_am, i_am_parameters}
 use Rattle.bac_apdu.specs.Service.ReadPropertyAck.{read_property_ack}
 use Rattle.bac_apdu.specs.declared.reason.Reason.{Reason}
@@ -35,23 +36,7 @@ use Rattle.bac_device.specs.declared.reply.Receiver.{Receiver}
 use Rattle.bac_device.specs.declared.reply.Receiver.TheVariants.{Sender, Address}
 use Rattle.bac_device.specs.declared.reply.Reply.{Reply}
 
--- ---- numbers of services (clause 21, BACnetConfirmedServiceChoice and BACnetUnconfirmedServiceChoice)
-
--- ReadProperty, confirmed (15.5)
-abbrev pub read_property_service : ℕ
-read_property_service = 12
-
--- WriteProperty, confirmed (15.9)
-abbrev pub write_property_service : ℕ
-write_property_service = 15
-
--- I-Am, unconfirmed (16.10)
-abbrev pub i_am_service : ℕ
-i_am_service = 0
-
--- Who-Is, unconfirmed (16.10)
-abbrev pub who_is_service : ℕ
-who_is_service = 8
+-- ---- numbers (clause 21)
 
 -- the reason of a Reject that the service isn't there (clause 21, BACnetRejectReason)
 abbrev pub unrecognized_service : ℕ
@@ -59,7 +44,7 @@ unrecognized_service = 9
 
 -- ---- ReadProperty (15.5)
 
--- the ACK has the device's own identifier where the device is asked
+-- the ACK has the device's own identifier if the device is asked
 abbrev pub own_id : State → Id → Id
 own_id d id = if is_here d id then device_id d else id
 
@@ -103,7 +88,7 @@ abbrev pub records_ack : ℕ → ℕ → Id → Extent → Log → Apdu
 records_ack limit invoke object extent log =
     let records = packed extent limit (selected log extent) in
     Complex false invoke read_range_service
-        (ack_parameters object (answer_of log extent limit).flags (first_shown extent records) (entries_in records))
+    (ack_parameters object (answer_of log extent limit).flags (first_shown extent records) (entries_in records))
 
 -- there are no records
 abbrev pub is_empty : List HeldEntry → Bool
@@ -140,7 +125,7 @@ answer_request d segmented size invoke service parameters =
     then (answer_read d (min size d.reply_size) invoke (read_property_at parameters), d) else
     if service == write_property_service then answer_write d invoke (write_property_at parameters) else
     if service == read_range_service
-        then (answer_range d (min size d.reply_size) invoke (read_range_at parameters), d) else
+    then (answer_range d (min size d.reply_size) invoke (read_range_at parameters), d) else
     (Reject invoke unrecognized_service, d)
 
 -- ---- Who-Is (16.10)
@@ -211,6 +196,6 @@ answer_frame d (Some (Broadcast npdu)) = answer_npdu d Sender (heard_at true npd
 answer_frame d (Some (Forwarded address npdu)) = answer_npdu d (Address address) (heard_at true npdu)
 answer_frame d (Some (Function function rest)) = (nak function, d)
 
--- the reply to a datagram, where there is one, and the device after it
+-- the reply to a datagram, if there is one, and the device after it
 unfoldable pub answer : State → List ℕ → Option Reply × State
 answer d datagram = answer_frame d (frame_at datagram)

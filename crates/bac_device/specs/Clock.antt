@@ -4,7 +4,7 @@ use Rattle.bac_wire.specs.Stamp.{CivilTime, ticks_of}
 use Rattle.bac_objects.specs.Sampling.{samples, ticked}
 use Rattle.bac_objects.specs.State.{State}
 
--- how many samples its logs take, and the device after it; None where the clock would go back
+-- how many samples its logs take, and the device after it; None if the clock would go back
 unfoldable pub advanced : State → CivilTime → Option (ℕ × State)
 advanced state stamp =
     if nat_lt (ticks_of stamp) (ticks_of state.clock) then None else Some (samples state stamp, ticked state stamp)

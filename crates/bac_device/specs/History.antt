@@ -50,7 +50,7 @@ abbrev pub write_heard : Option ReceivedApdu → Option PropertyWrite
 write_heard None = None
 write_heard (Some heard) = if heard.to_all then None else write_in_apdu heard.apdu
 
--- the WriteProperty that a datagram is, where it is one to this device alone
+-- the WriteProperty that a datagram is, if it is one to this device alone
 abbrev pub write_asked : List ℕ → Option PropertyWrite
 write_asked datagram = write_heard (heard_in (frame_at datagram))
 
@@ -137,7 +137,7 @@ pub record Stands (d : State) (datagrams : List (List ℕ)) (id : Id) (o : objec
   pub size : length slots ≡ 16
   pub last : (priority : ℕ) → 1 ≤ priority → priority ≤ 16
       → slice_get slots (priority - 1)
-          ≡ option_or (last_at id priority (writes d datagrams)) (slice_get c.slots (priority - 1))
+      ≡ option_or (last_at id priority (writes d datagrams)) (slice_get c.slots (priority - 1))
   pub held : lookup (is_id id) (after d datagrams).objects ≡ Some (with_slots o c slots)
   pub read : read_of (after d datagrams) (record { object = id; property = 85; index = None })
       ≡ Ok (values_octets (value_of (present slots c.default) ∷ []))

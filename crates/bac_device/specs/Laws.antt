@@ -52,7 +52,7 @@ AcceptedWritesStand =
 abbrev pub BuiltObjectsAreCommanded : Type 0
 BuiltObjectsAreCommanded =
     (device : DeviceLine) (lines : List ObjectLine)
-        (datagrams : List (List ℕ)) (i : ℕ) (line : ObjectLine) (default : Setting)
+    (datagrams : List (List ℕ)) (i : ℕ) (line : ObjectLine) (default : Setting)
     → build_fault device lines ≡ None → slice_get lines i ≡ Some line → default_of line ≡ Some default
     → IsCommanded (after (built device lines) datagrams) (id_of line) (writes (built device lines) datagrams) default
 
@@ -60,15 +60,18 @@ BuiltObjectsAreCommanded =
 abbrev pub WritesAreAnswered : Type 0
 WritesAreAnswered =
     (d new : State) (datagram : List ℕ) (source : Option Place)
-        (size invoke : ℕ) (parameters : List ℕ) (w : PropertyWrite)
+    (size invoke : ℕ) (parameters : List ℕ) (w : PropertyWrite)
     → heard_in (frame_at datagram)
     ≡ Some
-        (record { to_all = false; source = source;
-            apdu = Confirmed false size invoke write_property_service parameters })
+    (record {
+      to_all = false;
+      source = source;
+      apdu = Confirmed false size invoke write_property_service parameters;
+    })
     → write_property_at parameters ≡ Ok w → write_of d w ≡ Ok new
     → (to : Receiver)
-        × (answer d datagram
-          ≡ (Some (reply (record { to = to; place = source }) (Simple invoke write_property_service)), new))
+    × (answer d datagram
+    ≡ (Some (reply (record { to = to; place = source }) (Simple invoke write_property_service)), new))
 
 -- ---- reads
 
@@ -85,23 +88,26 @@ ObjectListKeepsTheOrderOfLines =
 abbrev pub ReadsAreAnswered : Type 0
 ReadsAreAnswered =
     (d : State) (datagram : List ℕ) (source : Option Place)
-        (size invoke : ℕ) (parameters : List ℕ) (r : ReadProperty) (values : List ℕ)
+    (size invoke : ℕ) (parameters : List ℕ) (r : ReadProperty) (values : List ℕ)
     → heard_in (frame_at datagram)
     ≡ Some
-        (record { to_all = false; source = source;
-            apdu = Confirmed false size invoke read_property_service parameters })
+    (record {
+      to_all = false;
+      source = source;
+      apdu = Confirmed false size invoke read_property_service parameters;
+    })
     → read_property_at parameters ≡ Ok r → read_of d r ≡ Ok values
     → (to : Receiver)
-        × ((answer d datagram).0
-          ≡ Some
-          (reply (record { to = to; place = source }) (limited (min size d.reply_size) invoke (ack invoke d r values))))
+    × ((answer d datagram).0
+    ≡ Some
+    (reply (record { to = to; place = source }) (limited (min size d.reply_size) invoke (ack invoke d r values))))
 
 -- what an ACK has is read back
 abbrev pub AcksAreReadBack : Type 0
 AcksAreReadBack =
     (id : Id) (property : ℕ) (index : Option ℕ) (values : List Primitive) →
-        IsProperty id property index → AreValid values
+    IsProperty id property index → AreValid values
     → form_at read_property_ack (ack_octets id property index (values_octets values))
     ≡ Ok
-        (Value (Object id) ∷ Value (Enumerated property) ∷ number_parameter index ∷ Mark 3 ∷ Inside
-          (values_octets values) ∷ [])
+    (Value (Object id) ∷ Value (Enumerated property) ∷ number_parameter index ∷ Mark 3 ∷ Inside
+    (values_octets values) ∷ [])

@@ -59,8 +59,8 @@ question n extent = record { object = log_id n; property = log_buffer; index = N
 abbrev pub question_octets : Option Place → ℕ → ℕ → Extent → List ℕ
 question_octets source invoke n extent =
     frame_octets (header_octets (asking source)
-      ++ apdu_octets
-      (Confirmed false 1476 invoke read_range_service (canon_form read_range (range_parameters (question n extent)))))
+    ++ apdu_octets
+    (Confirmed false 1476 invoke read_range_service (canon_form read_range (range_parameters (question n extent)))))
 
 -- ---- answers to any ReadRange
 
@@ -83,8 +83,8 @@ is_aborted (Some reply) = told_abort (told_in (frame_at reply.datagram))
 abbrev pub IsRangeAsked : List ℕ → Bool → Option Place → ℕ → ℕ → List ℕ → Type 0
 IsRangeAsked datagram to_all source size invoke parameters =
     heard_in (frame_at datagram)
-        ≡ Some
-        (record { to_all = to_all; source = source; apdu = Confirmed false size invoke read_range_service parameters })
+    ≡ Some
+    (record { to_all = to_all; source = source; apdu = Confirmed false size invoke read_range_service parameters })
 
 -- no such ReadRange is answered by an Abort
 abbrev pub RangesAreNotAborted : Type 0
@@ -108,7 +108,10 @@ RangesAreAnswered =
     (d : State) (datagram : List ℕ) (source : Option Place) (size invoke : ℕ) (parameters : List ℕ)
     → IsSound d → IsRangeAsked datagram false source size invoke parameters
     → (to : Receiver)
-        × (answer d datagram
-          ≡ (Some
-            (reply (record { to = to; place = source })
-              (log_answer d (min size d.reply_size) invoke (read_range_at parameters))), d))
+    × (answer d datagram
+    ≡ (
+      Some
+          (reply (record { to = to; place = source })
+          (log_answer d (min size d.reply_size) invoke (read_range_at parameters))),
+      d,
+    ))

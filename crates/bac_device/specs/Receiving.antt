@@ -44,7 +44,7 @@ abbrev pub is_answerable : Option Place → Bool
 is_answerable None = true
 is_answerable (Some place) =
     nat_le 1 place.net
-        && (nat_le place.net 65534 && (nat_le 1 (length place.address) && nat_le (length place.address) 15))
+    && (nat_le place.net 65534 && (nat_le 1 (length place.address) && nat_le (length place.address) 15))
 
 -- no network message, none from where no answer can go, and none to another network
 abbrev pub is_heard : Header → Bool

@@ -72,6 +72,6 @@ reject invoke reason = Reject invoke (reason_code reason)
 abbrev pub abort : ℕ → Apdu
 abort invoke = Abort true invoke 4
 
--- an answer, where it has at most so many octets
+-- an answer, if it has at most so many octets
 abbrev pub limited : ℕ → ℕ → Apdu → Apdu
 limited limit invoke apdu = if nat_lt limit (length (apdu_octets apdu)) then abort invoke else apdu

@@ -39,7 +39,7 @@ impl Model for Device {
 impl Device {
     /// The device that lines describe, or their first fault: the device's own line first, then each
     /// object line by rising numbers of faults. Only lines without a fault make anything grow, so
-    /// want of memory comes last.
+    /// out of memory comes last.
     pub fn build(
         alloc: Global,
         device: &DeviceLine,
@@ -63,7 +63,7 @@ impl Device {
     }
 
     /// Takes one sample into the Trend Log with an instance, and gives its sequence number. The
-    /// sample has the clock and the source's present value, or an error where the source isn't
+    /// sample has the clock and the source's present value, or an error if the source isn't
     /// there (object, unknown-object) or has none (property, unknown-property). The first fault
     /// decides: no such log, a disabled one, no sequence number left.
     pub fn sample(&mut self, instance: u32) -> Result<u32, SampleFault>

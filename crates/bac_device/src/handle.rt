@@ -18,8 +18,8 @@ use bac_wire::Datagram;
 const UNRECOGNIZED_SERVICE: u8 = 9;
 
 impl Device {
-    /// The answer to a confirmed request, in place of what `out` holds, and what the device is after
-    /// it.
+    /// The answer to a confirmed request, in place of what `out` holds, and what the device is
+    /// after it.
     fn answer_request(
         &mut self,
         out: &mut Datagram,
@@ -98,6 +98,7 @@ impl Device {
         ensures octets { out.new ≡ reply_octets (answer_npdu self.old to (heard_at to_all npdu.now)).0 }
         ensures state { self.new ≡ (answer_npdu self.old to (heard_at to_all npdu.now)).1 }
     {
+        // For the prover alone: it tells that the reply size is one that a device can have.
         let _ = self.database.reply_size();
         match heard_at(to_all, npdu) {
             Some(heard) => {
@@ -112,7 +113,7 @@ impl Device {
         }
     }
 
-    /// Takes a datagram, and gives the reply where there is one. Only an accepted WriteProperty
+    /// Takes a datagram, and gives the reply if there is one. Only an accepted WriteProperty
     /// changes the device.
     #[tactic(auto, using(crate::proofs::Replies::no_reply, crate::proofs::Replies::reply_is))]
     pub fn handle(&mut self, datagram: &[u8]) -> Option<Reply>
@@ -132,7 +133,7 @@ impl Device {
     }
 
     /// Takes a datagram as [`handle`](Device::handle) does, and writes the octets of the reply into
-    /// `out` in place of what it holds: none where there is no reply. Answers who gets it.
+    /// `out` in place of what it holds: none if there is no reply. Answers who gets it.
     pub fn answer_into(&mut self, datagram: &[u8], out: &mut Datagram) -> Option<Receiver>
         ensures receiver { result ≡ receiver_of (answer self.old datagram.now).0 }
         ensures octets { out.new ≡ reply_octets (answer self.old datagram.now).0 }
@@ -140,6 +141,7 @@ impl Device {
         ensures was_sound { IsSound self.old }
         ensures sound { IsSound self.new }
     {
+        // For the prover alone, here and at the end: a database that is looked at is sound.
         let _ = &self.database;
         out.cut(0);
         let to = self.answer(out, datagram);
@@ -147,7 +149,7 @@ impl Device {
         to
     }
 
-    /// The reply to a datagram, where there is one, and who gets it.
+    /// The reply to a datagram, if there is one, and who gets it.
     #[tactic(auto, unfolding(crate::specs::Answer::answer))]
     fn answer(&mut self, out: &mut Datagram, datagram: &[u8]) -> Option<Receiver>
         requires { out.old ≡ [] }

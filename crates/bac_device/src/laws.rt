@@ -25,8 +25,8 @@ pub fn accepted_writes_stand()
 {}
 
 /// After any datagrams to a device that was built of lines, each object has at each priority what
-/// the last accepted write at it set, else Null, and its present value is that of the least priority
-/// that isn't Null, else its line's default.
+/// the last accepted write at it set, else Null, and its present value is that of the least
+/// priority that isn't Null, else its line's default.
 pub fn built_objects_are_commanded()
     ensures { BuiltObjectsAreCommanded }
 {}

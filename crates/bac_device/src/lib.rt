@@ -1,12 +1,12 @@
 //! A BACnet/IP device: it is built of lines, and answers datagrams.
 //!
 //! [`Device::build`] makes a device of a [`DeviceLine`] and [`ObjectLine`]s, or tells the first
-//! fault ([`BuildFault`]). [`Device::handle`] takes a datagram and gives the [`Reply`], where there
-//! is one; [`Device::answer_into`] writes the same reply into a datagram of the caller.
+//! fault ([`BuildFault`]). [`Device::handle`] takes a datagram and gives the [`Reply`], if there is
+//! one; [`Device::answer_into`] writes the same reply into a datagram of the caller.
 //! [`Device::sample`] takes a sample, [`Device::advance`] sets the clock, and [`Device::run`] takes
-//! a slice of such [`Event`]s. Contracts see a device as the record `State` of bac_objects, and each
-//! call is a function of it: specs/Answer says what is answered and which state is left, specs/Clock
-//! what the passing of time does, specs/Run what events do one after the other.
+//! a slice of such [`Event`]s. Contracts see a device as the record `State` of bac_objects, and
+//! each call is a function of it: specs/Answer says what is answered and which state is left,
+//! specs/Clock what the passing of time does, specs/Run what events do one after the other.
 //!
 //! A datagram goes through Annex J (specs/Receiving, frames and the functions that a device
 //! refuses), clause 6 (network headers), clause 20.1 (APDUs) and one service of clauses 15 and 16;

@@ -46,7 +46,7 @@ pub fn questions_for_no_log_are_refused()
 {}
 
 /// An answer of 44 octets holds a record of any log, so no question for records is answered by an
-/// Abort where the limit is that high, and a device's reply size is.
+/// Abort if the limit is that high, and a device's reply size is.
 pub fn records_fit()
     ensures { (limit invoke : ℕ) (object : Id) (extent : AnyExtent) (log : Log) → IsLog log → 44 ≤ limit → records_said limit invoke object extent log ≡ records_ack limit invoke object extent log }
 {}

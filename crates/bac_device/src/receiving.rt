@@ -52,7 +52,7 @@ fn is_answerable(source: Option<Far>) -> bool
     }
 }
 
-/// Whether a device takes what stands behind a header (clause 6): no network message, from where an
+/// Whether a device takes what stands after a header (clause 6): no network message, from where an
 /// answer can go, and for it or for all devices.
 fn is_heard(header: &Npdu) -> bool
     ensures { result ≡ is_heard (header_of header.now) }

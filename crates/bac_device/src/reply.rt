@@ -71,7 +71,7 @@ pub(crate) fn end(out: &mut Datagram)
     end_datagram(out, 0);
 }
 
-/// Ends a datagram that was begun, where its APDU has at most `limit` octets, else an Abort takes
+/// Ends a datagram that was begun, if its APDU has at most `limit` octets, else an Abort takes
 /// its place.
 pub(crate) fn end_within(out: &mut Datagram, limit: u16, invoke: u8)
     requires { 6 ≤ length out.old }

@@ -24,7 +24,7 @@ pub enum Event<'a> {
 /// What a device made of an event.
 #[derive(Debug, Drop)]
 pub enum Outcome {
-    /// The reply to a datagram, where there is one.
+    /// The reply to a datagram, if there is one.
     Datagram(Option<Reply>),
     /// The number of a sample, or why there is none.
     Sample(Result<u32, SampleFault>),
@@ -54,6 +54,7 @@ impl Device {
         ensures was_sound { IsSound self.old }
         ensures sound { IsSound self.new }
     {
+        // For the prover alone, here and at the end: a database that is looked at is sound.
         let _ = &self.database;
         let mut outcomes = Vec::with_capacity(alloc, events.len())?;
         for event in events {

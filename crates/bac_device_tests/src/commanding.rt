@@ -26,12 +26,13 @@ pub fn ask(device: &mut Device, datagram: &[u8]) -> Option<Reply>
     requires { write_asked datagram.now ≡ None }
     ensures { device.new ≡ device.old }
 {
+    // For the prover alone: a law that the contract follows from.
     refusals_change_nothing();
     device.handle(datagram)
 }
 
-/// Builds a device and gives it datagrams: each of its commandable objects then has at each priority what the
-/// last accepted write at it set, and the present value that follows.
+/// Builds a device and gives it datagrams: each of its commandable objects then has at each
+/// priority what the last accepted write at it set, and the present value that follows.
 pub fn build_and_give(
     alloc: Global,
     line: &DeviceLine,
@@ -40,6 +41,7 @@ pub fn build_and_give(
 ) -> Result<Device, BuildFault>
     ensures { IfOk result (λ device. (i : ℕ) (object : Line) (default : Setting) → slice_get lines.now i ≡ Some object → default_of object ≡ Some default → IsCommanded device (id_of object) (writes (built line.now lines.now) (map (λ datagram. datagram.now) datagrams.now)) default) }
 {
+    // For the prover alone: a law that the contract follows from.
     built_objects_are_commanded();
     let mut device = Device::build(alloc, line, lines)?;
     give_all(&mut device, datagrams);

@@ -1,5 +1,5 @@
-//! Devices by their public calls: built of lines, asked by datagrams, and their clock. Which lines are
-//! refused is in examples/lines.rows.
+//! Devices by their public calls: built of lines, asked by datagrams, and their clock. Which lines
+//! are refused is in examples/lines.rows.
 
 use bac_device::{BuildFault, ClockBack, Device, DeviceLine, Name, ObjectLine, Receiver};
 use bac_wire::{Datagram, Stamp};

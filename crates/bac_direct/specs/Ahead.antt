@@ -15,7 +15,7 @@ use Rattle.bac_objects.specs.Sound.{IsSound}
 use Rattle.bac_direct.specs.declared.event.LinkEvent.{LinkEvent}
 use Rattle.bac_direct.specs.declared.event.LinkEvent.TheVariants.{Answer}
 
--- the log with an instance; where there is none, an empty one
+-- the log with an instance; if there is none, an empty one
 abbrev pub log_with : State → ℕ → Log
 log_with d n = unwrap_or (log_of d n) (empty_log 1 0)
 
@@ -55,15 +55,17 @@ entries_ahead d n (event ∷ events) =
 -- the entries that are held, and those that will be logged
 abbrev pub history_ahead : ℕ → State → ℕ → List LinkEvent → History
 history_ahead rounds d n events =
-    record { logged = (log_with d n).before + turn rounds;
-      entries = (log_with d n).entries ++ entries_ahead d n events }
+    record {
+      logged = (log_with d n).before + turn rounds;
+      entries = (log_with d n).entries ++ entries_ahead d n events;
+    }
 
 -- there is a log with this instance
 abbrev pub IsThere : State → ℕ → Type 0
 IsThere d n = (log : Log) × (log_of d n ≡ Some log)
 
 -- The identifier is that of a log of the device, the reply size is the device's, and the events lead the log to these
--- moments, so many rounds further on. The history has the entries held and those to come, behind any that are gone. So
+-- moments, so many rounds further on. The history has the entries held and those to come, after any that are gone. So
 -- the moments are those of one log (`served`, which follows from the rest).
 pub record LiesAhead (rounds : ℕ) (d : State)
     (events : List LinkEvent) (id : Id) (r : ℕ) (M : List Moment) (H : History) : Type 0 where

@@ -66,7 +66,7 @@ goes_on datagram = has_dest (do
 abbrev pub meets : State → List LinkEvent → List ℕ → Played
 meets d events request = if goes_on request then record { device = d; rest = events; lost = true } else played d events
 
--- the datagram of a reply, where there is one
+-- the datagram of a reply, if there is one
 abbrev pub datagram_in : Option Reply → Option (List ℕ)
 datagram_in None = None
 datagram_in (Some reply) = Some reply.datagram
@@ -80,7 +80,7 @@ abbrev pub failures_after : ℕ → Option Reply → ℕ
 failures_after failures (Some reply) = failures
 failures_after failures None = one_more failures
 
--- what the device answers to the request, or nothing where the answer is lost, and the device after it
+-- what the device answers to the request, or nothing if the answer is lost, and the device after it
 abbrev pub told : Played → List ℕ → Option Reply × State
 told p request = if p.lost then (None, p.device) else answer p.device request
 

@@ -18,7 +18,7 @@ is_for dest h = same_place h.dest (Some dest) && not (is_there h.source)
 abbrev pub handed : Place → Header → Header
 handed source h = record h { dest = None; source = Some source; hops = 0 }
 
--- where it is no longer than a datagram can be
+-- if it is no longer than a datagram can be
 abbrev pub whole : List ℕ → Option (List ℕ)
 whole octets = if nat_lt 1501 (length octets) then None else Some octets
 
@@ -29,12 +29,12 @@ handed_on dest source datagram = do
   header ← header_at npdu
   if is_for dest header.0 then whole (frame_octets (header_octets (handed source header.0) ++ header.1)) else None
 
--- the reply on its way back, where one came and is handed on
+-- the reply on its way back, if one came and is handed on
 abbrev pub IsHandedBack : Place → Place → Result (List ℕ) Lost → Result (List ℕ) Lost → Type 0
 IsHandedBack far near (Ok reply) answer = result_ok answer ≡ handed_on near far reply
 IsHandedBack far near (Err lost) answer = result_ok answer ≡ None
 
--- an ask through a router: the request that is handed on is asked behind it; where it isn't handed on, nothing is
+-- an ask through a router: the request that is handed on is asked behind it; if it isn't handed on, nothing is
 abbrev pub PassesOn : {S : Type 0} → (S → List ℕ → Result (List ℕ) Lost → S → Type 0) →
     Place → Place → Option (List ℕ) → S →
     Result (List ℕ) Lost → S → Type 0

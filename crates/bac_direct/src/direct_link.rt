@@ -100,7 +100,7 @@ impl<'a> DirectLink<'a> {
         // It lacks every other log.
         ensures lacks { (n : ℕ) → log_of device.old n ≡ None → Lacks result.device.now (log_id n) }
     {
-        // Any call tells that the device is sound.
+        // For the prover alone: any call tells that the device is sound.
         let _clock = device.clock();
         DirectLink {
             device,
@@ -109,8 +109,8 @@ impl<'a> DirectLink<'a> {
         }
     }
 
-    /// Plays events up to the next answer, and gives it, unless it is lost or the device has none. A
-    /// request to another network is lost, and nothing is played.
+    /// Plays events up to the next answer, and gives it, unless it is lost or the device has none.
+    /// A request to another network is lost, and nothing is played.
     fn tell(&mut self, request: &[u8]) -> Option<Datagram>
         ensures reply { result ≡ datagram_in (told (meets self.old.device.now self.old.events.now request.now) request.now).0 }
         ensures device { self.new.device.now ≡ (told (meets self.old.device.now self.old.events.now request.now) request.now).1 }
@@ -120,13 +120,14 @@ impl<'a> DirectLink<'a> {
         ensures sound { IsSound (meets self.old.device.now self.old.events.now request.now).device }
     {
         if goes_on(request) {
+            // For the prover alone: any call tells that the device is sound.
             let _clock = self.device.clock();
             return None;
         }
         let events = self.events;
         let (count, lost) = play(&mut *self.device, events);
         self.events = &events[count..];
-        // So it is sound also where the answer is lost.
+        // For the prover alone: the device is sound also when the answer is lost.
         let _clock = self.device.clock();
         if lost {
             return None;
@@ -157,8 +158,8 @@ impl<'a> LogLink for DirectLink<'a> {
     ghost asks = { λ old octets answer new.
         IsAnswered old.device.now old.events.now octets answer new.device.now new.events.now };
 
-    /// Plays events up to and with the next answer or loss, and lets the device answer. `Lost` where
-    /// the answer is lost, and where the device doesn't answer the request: one failure more each. So
+    /// Plays events up to and with the next answer or loss, and lets the device answer. `Lost` if
+    /// the answer is lost, and if the device doesn't answer the request: one failure more each. So
     /// is a request to another network, which has a DNET; then nothing is played.
     fn ask(&mut self, request: &[u8]) -> Result<Datagram, Lost>
         ensures never_falls { self.old.failures ≤ self.new.failures }

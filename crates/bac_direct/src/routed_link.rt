@@ -85,8 +85,8 @@ impl<L: LogLink> LogLink for RoutedLink<L> {
         PassesOn L.asks old.far old.near (handed_on old.far old.near octets) old.inner answer new.inner };
 
     /// Asks the inner link with `near` as SNET and SADR in place of `far`, and gives its reply with
-    /// `far` as SNET and SADR in place of its DNET and DADR. `Lost` where the request isn't for `far`
-    /// or has an SNET, and nothing is asked; where the inner link loses it; and where the reply isn't
+    /// `far` as SNET and SADR in place of its DNET and DADR. `Lost` if the request isn't for `far`
+    /// or has an SNET, and nothing is asked; if the inner link loses it; and if the reply isn't
     /// for `near` or has an SNET. One failure more each, apart from those of the inner link.
     fn ask(&mut self, request: &[u8]) -> Result<Datagram, Lost>
         ensures never_falls { self.old.failures ≤ self.new.failures }
@@ -138,14 +138,15 @@ fn is_for(header: &Npdu, dest: &Route) -> bool
     there && header.source.is_none()
 }
 
-/// A datagram to the place `dest`, as it is handed on to it from the place `source`; `None` where it
-/// isn't to that place or comes from a third one, and where it would be too long.
+/// A datagram to the place `dest`, as it is handed on to it from the place `source`; `None` if it
+/// isn't to that place or comes from a third one, and if it would be too long.
 #[tactic(auto, unfolding(crate::specs::Routing::handed_on))]
 fn handed_on(datagram: &[u8], dest: &Route, source: &Route) -> Option<Datagram>
     ensures handed { result ≡ handed_on dest.now source.now datagram.now }
     ensures dest { IsRoute dest.now }
     ensures source { IsRoute source.now }
 {
+    // For the prover alone: it tells that `dest` is a place behind a router.
     let _dest = dest.far();
     let place = source.far();
     let npdu = match read_frame(datagram) {

@@ -1,5 +1,5 @@
--- How devices are found, over any port and any writer. Read from the end. A port, and what a writer holds where that is
--- known, stand before the answer as they were, and behind it as they are afterwards.
+-- How devices are found, over any port and any writer. Read from the end. A port, and what a writer holds if that is
+-- known, stand before the answer as they were, and after it as they are afterwards.
 use Rattle.std.specs.Prelude.{◌≡◌, ℕ, ◌≤◌, ◌<◌, ◌⊎◌, is_some, Bool, true, false, List, [], ◌∷◌, ◌++◌, length, Option}
 use Rattle.std.specs.Prelude.{Some, None, Ok, Err}
 use Rattle.std.specs.List.{list_any}
@@ -60,7 +60,7 @@ Ends receives limit came port held (Err Socket) new after =
 Ends receives limit came port held (Err Write) new after =
     (new ≡ port)
     × ((said : Announcement) × (between : Held)
-          × IsLast said came held between × AppendsPart between after (device_line said))
+    × IsLast said came held between × AppendsPart between after (device_line said))
 Ends receives limit came port held (Err Memory) new after =
     (new ≡ port) × ((said : Announcement) × IsLast said came held after)
 Ends receives limit came port held (Err (Refused address)) new after = ⊥
@@ -89,7 +89,7 @@ AsksEach {P = P} sends octets (address ∷ addresses) before port refused new =
 
 -- ---- the whole
 
--- what is told in the end: an address to which a send was refused, where nothing else failed
+-- what is told in the end: an address to which a send was refused, if nothing else failed
 abbrev pub told_of : Option (List ℕ) → Found → Found
 told_of None heard = heard
 told_of (Some address) (Ok done) = Err (Refused address)
@@ -99,11 +99,19 @@ told_of (Some address) (Err (Refused other)) = Err (Refused other)
 told_of (Some address) (Err Write) = Err Write
 told_of (Some address) (Err Memory) = Err Memory
 
+-- a port, and what a writer holds
+pub record Console (P : Type 0) : Type 0 where
+  pub port : P
+  pub held : Held
+
+-- the two together
+abbrev pub console : {P : Type 0} → P → Held → Console P
+console port held = record { port = port; held = held }
+
 -- the request goes to each address in order, and then so many datagrams are received at most
-abbrev pub Finds : {P : Type 0} → (P → List ℕ → List ℕ → Sending → P → Type 0) →
-    (P → Receiving → P → Type 0) → ℕ → Search
-    → List (List ℕ) → P → Held → Found → P → Held → Type 0
-Finds {P = P} sends receives limit search addresses port held result new after =
+abbrev pub Finds : {P : Type 0} → (P → List ℕ → List ℕ → Sending → P → Type 0) → (P → Receiving → P → Type 0)
+    → ℕ → Search → List (List ℕ) → Console P → Found → Console P → Type 0
+Finds {P = P} sends receives limit search addresses old result new =
     (refused : Option (List ℕ)) × (mid : P) × (heard : Found)
-    × AsksEach sends (who_is_octets search) addresses None port refused mid
-    × Prints receives limit mid held heard new after × (result ≡ told_of refused heard)
+    × AsksEach sends (who_is_octets search) addresses None old.port refused mid
+    × Prints receives limit mid old.held heard new.port new.held × (result ≡ told_of refused heard)

@@ -8,20 +8,17 @@ use Rattle.bac_find.specs.declared.fault.FindFault.{FindFault}
 use Rattle.bac_find.specs.declared.fault.FindFault.TheVariants.{Socket, Refused, NoAnswer, Write, Memory}
 use Rattle.bac_ports.specs.Port.{Receiving}
 use Rattle.bac_ports.specs.declared.port.SocketFault.TheVariants.{Timeout, Failed}
+pub use Rattle.bac_print.specs.Output.{Held}
 use Rattle.bac_print.specs.Output.{AppendsPart}
 
--- what finding devices answers, and what a writer holds where that is known
+-- what finding devices answers
 abbrev pub Found : Type 0
 Found = Result (Unit {0}) FindFault
 
--- what a writer holds, if that is known
-abbrev pub Held : Type 0
-Held = Option (List ℕ)
-
 -- ---- one datagram
 
--- Nothing is printed where no device announces itself. Else its line is written, or a front part of it where a write
--- was refused, or nothing where there was no memory for it.
+-- Nothing is printed if no device announces itself. Else its line is written, or a front part of it if a write
+-- was refused, or nothing if there was no memory for it.
 abbrev pub Shows : Option Announcement → Result Bool FindFault → Held → Held → Type 0
 Shows None shown held after = (shown ≡ Ok false) × (after ≡ held)
 Shows (Some said) (Ok shown) held after = (shown ≡ true) × Appends held after (device_line said)
@@ -57,4 +54,4 @@ Hears receives zero taken port held result new after = (result ≡ ended taken) 
 Hears {P = P} receives (suc limit) taken port held result new after =
     (heard : Receiving) × (mid : P) × receives port heard mid
     × IsHeard heard taken mid held result new after
-        (λ now between. Hears receives limit now mid between result new after)
+    (λ now between. Hears receives limit now mid between result new after)

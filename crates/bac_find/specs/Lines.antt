@@ -6,7 +6,7 @@ use Rattle.bac_apdu.specs.declared.service.i_am.IAm.{IAm}
 use Rattle.bac_print.specs.Addresses.{address_text}
 use Rattle.bac_find.specs.Announcements.{Announcement}
 
--- a word, and the number behind it
+-- a word, and the number after it
 unfoldable pub named : List ℕ → ℕ → List ℕ
 named word n = word ++ decimal n
 

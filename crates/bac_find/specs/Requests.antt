@@ -14,7 +14,7 @@ abbrev pub devices_of : Option ℕ → Option Place
 devices_of None = None
 devices_of (Some net) = Some (record { net = net; address = [] })
 
--- a message may pass so many routers, where it has another network to go to (6.2.3)
+-- a message may pass so many routers, if it has another network to go to (6.2.3)
 abbrev pub hops_to : Option ℕ → ℕ
 hops_to None = 0
 hops_to (Some net) = 255

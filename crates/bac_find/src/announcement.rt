@@ -23,7 +23,7 @@ pub(crate) struct Announcement<'a> {
     pub(crate) i_am: IAm,
 }
 
-/// Whether what stands behind a header is for us (clause 6): no network message, and for no other
+/// Whether what stands after a header is for us (clause 6): no network message, and for no other
 /// network.
 fn is_heard(header: &Npdu) -> bool
     ensures { result ≡ is_heard (header_of header.now) }
@@ -72,7 +72,7 @@ fn announced_in(sender: [u8; 6], datagram: &[u8]) -> Option<Announcement>
     }
 }
 
-/// What came announces.
+/// The device that announces itself in what came, if one does.
 pub(crate) fn announced(heard: &Heard) -> Option<Announcement>
     ensures { GivesSome announcement_of result (announced_by heard.now) }
 {

@@ -3,7 +3,7 @@
 ghost use Rattle.std.specs.Prelude.{◌≡◌, None, OnErr, OnOk, false};
 ghost use Rattle.std.specs.Io.KnownBytes.{Appends};
 ghost use Rattle.bac_find.specs.Announcements.{announced as announced_by};
-ghost use Rattle.bac_find.specs.Finding.{AsksEach, Finds, refused_by, told_of};
+ghost use Rattle.bac_find.specs.Finding.{AsksEach, Finds, console, refused_by, told_of};
 ghost use Rattle.bac_find.specs.Hearing.{Hears, Shows, ended};
 ghost use Rattle.bac_print.specs.Output.{AppendsPart};
 
@@ -24,13 +24,13 @@ pub const RECEIVES: u32 = 4096;
 /// to a wait in which nothing comes: `I-Am INSTANCE A.B.C.D:PORT max-apdu N segmentation S vendor
 /// V`, each with one write, as far as the output takes it at once, and flushed. An address is four
 /// octets of IPv4 address and two of port, high octet first (Annex J.1.2); that of an I-Am is its
-/// sender's, or the one in a Forwarded-NPDU. Behind it stands ` net N mac HEX` where the device is
+/// sender's, or the one in a Forwarded-NPDU. After it stands ` net N mac HEX` if the device is
 /// behind a router.
 ///
 /// Other datagrams are passed over. After 4096 datagrams, whatever they are, no more are received.
-/// A failed receive, a refused write and want of memory for a line end it at once; the lines before
+/// A failed receive, a refused write and no memory for a line end it at once; the lines before
 /// are written. A refused send ends nothing: the others are asked, their lines are printed, and the
-/// first address that refused is told. Else it is `NoAnswer` where no I-Am came.
+/// first address that refused is told. Else it is `NoAnswer` if no I-Am came.
 pub fn find_devices<P: Port, W: Write>(
     alloc: Global,
     port: &mut P,
@@ -38,7 +38,7 @@ pub fn find_devices<P: Port, W: Write>(
     search: &Search,
     out: &mut W,
 ) -> Result<(), FindFault>
-    ensures { Finds P.sends P.receives RECEIVES search.now addresses.now port.old (W.contents out.old) result port.new (W.contents out.new) }
+    ensures { Finds P.sends P.receives 4096 search.now addresses.now (console port.old (W.contents out.old)) result (console port.new (W.contents out.new)) }
 {
     let datagram = datagram_of(search);
     let refused = ask_each(port, datagram.octets(), addresses);
@@ -46,7 +46,7 @@ pub fn find_devices<P: Port, W: Write>(
     told_of(refused, heard)
 }
 
-/// What is told in the end: an address to which a send was refused, where nothing else failed.
+/// What is told in the end: an address to which a send was refused, if nothing else failed.
 fn told_of(refused: Option<[u8; 6]>, heard: Result<(), FindFault>) -> Result<(), FindFault>
     ensures { result ≡ told_of refused heard }
 {

@@ -10,7 +10,7 @@ use bac_apdu::{Far, IAm};
 use bac_print::{push_address, push_hex, push_number};
 use std::alloc::AllocError;
 
-/// Appends a word, and the number behind it.
+/// Appends a word, and the number after it.
 #[tactic(auto, unfolding(crate::specs::Lines::named))]
 fn push_named(text: &mut Vec<u8>, word: &[u8], n: u64) -> Result<(), AllocError>
     ensures { OnOk result (text.new.items ≡ text.old.items ++ named word.now n) }
@@ -32,7 +32,7 @@ fn push_place(text: &mut Vec<u8>, place: Option<Far>) -> Result<(), AllocError>
     push_hex(text, far.address)
 }
 
-/// Appends what a device says of itself behind its instance.
+/// Appends what a device says of itself after its instance.
 #[tactic(auto, unfolding(crate::specs::Lines::facts_text))]
 fn push_facts(text: &mut Vec<u8>, i_am: &IAm) -> Result<(), AllocError>
     ensures { OnOk result (text.new.items ≡ text.old.items ++ facts_text i_am.now) }
@@ -42,7 +42,7 @@ fn push_facts(text: &mut Vec<u8>, i_am: &IAm) -> Result<(), AllocError>
     push_named(text, b" vendor ", i_am.vendor)
 }
 
-/// Appends the line of a device: its instance, its address, its place where that is behind a
+/// Appends the line of a device: its instance, its address, its place if that is behind a
 /// router, and what else it says of itself.
 #[tactic(auto, unfolding(crate::specs::Lines::device_line))]
 pub(crate) fn push_device(text: &mut Vec<u8>, said: &Announcement) -> Result<(), AllocError>

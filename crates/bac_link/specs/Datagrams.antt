@@ -72,4 +72,4 @@ same_path (Some asked) (Some told) = comes_back asked told
 unfoldable pub answers_to : List ℕ → List ℕ → Bool
 answers_to request datagram =
     same_id (asked_id (apdu_in request)) (answer_in (apdu_in datagram))
-        && same_path (path_in request) (path_in datagram)
+    && same_path (path_in request) (path_in datagram)

@@ -68,7 +68,7 @@ Answers {S = S} asks path invoke r retries verdict old datagram new =
     × asks mid (request_octets path invoke r) (Ok datagram) new × IsAnswer path invoke r verdict datagram
 
 -- An exchange over any link: the request is asked until an answer comes, and as often again as the retries say. Its
--- result is the verdict on that answer; Lost where no try brought one. Nothing is asked where the request doesn't fit.
+-- result is the verdict on that answer; Lost if no try brought one. Nothing is asked if the request doesn't fit.
 abbrev pub Exchanges : {S : Type 0} → (S → List ℕ → Result (List ℕ) Loss → S → Type 0) →
     Path → ℕ → Request → ℕ → S → Result (List ℕ) ExchangeFault → S → Type 0
 Exchanges {S = S} asks path invoke r retries old (Ok datagram) new =
@@ -81,7 +81,7 @@ Exchanges {S = S} asks path invoke r retries old (Err fault.Lost) new =
     Unanswered asks (request_octets path invoke r) (retries + 1) old new
 Exchanges {S = S} asks path invoke r retries old (Err fault.TooLong) new = new ≡ old
 
--- one more transaction was begun, and nothing is open; where the request doesn't fit, nothing changes
+-- one more transaction was begun, and nothing is open; if the request doesn't fit, nothing changes
 abbrev pub Leaves : Request → Transactions → Result (List ℕ) ExchangeFault → Transactions → Type 0
 Leaves r old (Err fault.TooLong) new = new ≡ old
 Leaves r old (Err fault.Lost) new = new ≡ closed (begun_with r old)
@@ -91,7 +91,7 @@ Leaves r old (Ok datagram) new = new ≡ closed (begun_with r old)
 
 -- ---- over an honest link
 
--- the reply of the next moment, or Lost where the count of failures rose by more than the retries, and nothing else
+-- the reply of the next moment, or Lost if the count of failures rose by more than the retries, and nothing else
 abbrev pub IsExchanged : (List Moment → Type 0) →
     ℕ → List Moment → History → Id → Extent → Path → ℕ → ℕ → ℕ → Result (List ℕ) ExchangeFault → Type 0
 IsExchanged stays r M H id extent path retries old new (Ok datagram) =

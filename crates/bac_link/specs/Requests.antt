@@ -37,7 +37,7 @@ IsSendable (request.ReadProperty r) = Unit {0}
 IsSendable (request.WriteProperty w) = IsWellFormed w.value
 IsSendable (request.ReadRange r) = Unit {0}
 
--- a message may pass so many routers, where it has another network to go to (6.2.3)
+-- a message may pass so many routers, if it has another network to go to (6.2.3)
 abbrev pub hops_to : Option Place → ℕ
 hops_to None = 0
 hops_to (Some place) = 255
@@ -45,8 +45,14 @@ hops_to (Some place) = 255
 -- a reply is expected: 01 04, or 01 24 with the place that it is for
 abbrev pub asking : Path → Header
 asking path =
-    record { network = false; reply = true; priority = 0;
-          dest = path.dest; source = path.source; hops = hops_to path.dest }
+    record {
+      network = false;
+      reply = true;
+      priority = 0;
+      dest = path.dest;
+      source = path.source;
+      hops = hops_to path.dest;
+    }
 
 -- a Confirmed-Request that isn't segmented and takes an answer of 1476 octets
 unfoldable pub request_apdu : ℕ → Request → List ℕ

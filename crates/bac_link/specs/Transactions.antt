@@ -50,5 +50,5 @@ is_awaited (Some p) datagram = answers_to p.request datagram
 abbrev pub Receives : Transactions → List ℕ → Received → Transactions → Type 0
 Receives old datagram (Done answer) new =
     (is_awaited old.pending datagram ≡ true)
-        × ((invoke : ℕ) × (answer_in (apdu_in datagram) ≡ Some (invoke, answer_of answer))) × (new ≡ closed old)
+    × ((invoke : ℕ) × (answer_in (apdu_in datagram) ≡ Some (invoke, answer_of answer))) × (new ≡ closed old)
 Receives old datagram Ignored new = (is_awaited old.pending datagram ≡ false) × (new ≡ old)

@@ -143,7 +143,7 @@ fn comes_back(request: &[u8], datagram: &[u8]) -> bool
 /// Whether a datagram answers a request: the request is a confirmed one, the datagram a SimpleACK,
 /// ComplexACK, Error, Reject or a server's Abort with its invoke ID; both are frames to one device
 /// (Original-Unicast-NPDU) without a network message; and the datagram's SNET and SADR are the
-/// request's DNET and DADR, or it has none where the request has none. A datagram with a DNET is no
+/// request's DNET and DADR, or it has none if the request has none. A datagram with a DNET is no
 /// answer, and a request with an SNET has none here.
 #[tactic(auto, unfolding(crate::specs::Datagrams::answers_to))]
 pub fn answers(request: &[u8], datagram: &[u8]) -> bool

@@ -65,7 +65,7 @@ pub enum Verdict {
     BadReply,
 }
 
-/// What a datagram, which answers the request, is to it.
+/// Whether an answer to the request is its ACK, a refusal or neither.
 pub fn judge(request: &Request, datagram: &[u8]) -> Verdict
     ensures { result ≡ verdict_of request.now (apdu_in datagram.now) }
 {
@@ -97,7 +97,7 @@ pub fn judge(request: &Request, datagram: &[u8]) -> Verdict
     }
 }
 
-/// One try: the datagram that answers the request, where one came.
+/// One try: the datagram that answers the request, if one came.
 fn heard<L: LogLink>(link: &mut L, request: &[u8]) -> Option<Datagram>
     ensures never_falls { L.failures link.old ≤ L.failures link.new }
     ensures answers { IfSome result (λ d. answers_to request.now d ≡ true) }
@@ -127,7 +127,7 @@ fn heard<L: LogLink>(link: &mut L, request: &[u8]) -> Option<Datagram>
 
 /// Sends a request until an answer to it comes, once and then as often as the transactions' retries
 /// say, each time the same octets. A datagram that doesn't answer the request counts as none.
-/// It gives the datagram with the ACK that belongs to the request. `TooLong` exactly where the
+/// It gives the datagram with the ACK that belongs to the request. `TooLong` exactly if the
 /// request doesn't fit, and then nothing is sent and no transaction is begun.
 pub fn exchange<L: LogLink>(
     link: &mut L,

@@ -19,10 +19,11 @@ pub struct Lost;
 ///
 /// What a link must promise to be *honest* for a trend log: a question for the log's records (a
 /// ReadRange of its Log_Buffer, as [`Transactions::begin`](crate::Transactions::begin) gives it, or
-/// as a router hands it on) is answered as that log answers it at some moment, with as many records as a reply of the link's
-/// size holds, and the reply arrives unchanged; or it is lost, and the link counts a failure. The
-/// moments are those of one log that records and purges as it goes on, and never go back. Nothing
-/// is promised of other requests, of when an answer comes, or of how often one is lost.
+/// as a router hands it on) is answered as that log answers it at some moment, with as many records
+/// as a reply of the link's size holds, and the reply arrives unchanged; or it is lost, and the
+/// link counts a failure. The moments are those of one log that records and purges as it goes on,
+/// and never go back. Nothing is promised of other requests, of when an answer comes, or of how
+/// often one is lost.
 ///
 /// That a link is honest is a premise of what is proved over it. A socket is not claimed to be:
 /// datagrams there may be altered, repeated, or sent by someone else.
@@ -40,11 +41,11 @@ pub trait LogLink {
     /// No question for a log's records that goes by these networks is lost.
     ghost is_sure: { Self → Path → Type 0 };
 
-    /// What questions leave as it is, where none of them is lost: for a device in memory, the device.
+    /// What questions leave as it is, if none of them is lost: for a device in memory, the device.
     ghost keeps: { Self → Self → Type 0 };
 
-    /// What an ask is, whatever is asked: the link before it, the octets, the answer, the link after
-    /// it. Each link names it itself; so what is proved over any link says what came over it.
+    /// What an ask is, whatever is asked: the link before it, the octets, the answer, the link
+    /// after it. Each link names it itself; so what is proved over any link says what came over it.
     ghost asks: { Self → List ℕ → Result (List ℕ) LostOf → Self → Type 0 };
 
     /// Sends the datagram and waits for one that answers it.

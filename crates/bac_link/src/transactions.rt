@@ -43,7 +43,7 @@ pub enum Received<'a> {
 pub struct Transactions {
     /// How often a request is repeated.
     retries: u8,
-    /// The place that requests are for, where it is behind a router.
+    /// The place that requests are for, if it is behind a router.
     route: Option<Route>,
     /// The invoke ID of the last request.
     invoke: u8,
@@ -87,7 +87,7 @@ impl Transactions {
     }
 
     /// Opens a request, in place of one that is open, and gives the datagram to be sent. Invoke IDs
-    /// are 1, 2 and so on; after 255 comes 0. `Full` where the request's APDU has over 1476 octets;
+    /// are 1, 2 and so on; after 255 comes 0. `Full` if the request's APDU has over 1476 octets;
     /// then nothing changes.
     pub fn begin(&mut self, request: &Request) -> Result<Datagram, Full>
         requires { IsSendable request.now }

@@ -1,5 +1,5 @@
-//! A caller of trend logs that sees their public contracts alone. What a log holds and answers is in
-//! examples/vectors.
+//! A caller of trend logs that sees their public contracts alone. What a log holds and answers is
+//! in examples/vectors.
 #![tactic(auto)]
 
 mod log_callers;

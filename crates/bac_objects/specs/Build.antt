@@ -86,7 +86,7 @@ own_tests (Multistate instance name states default) =
 own_tests (Integer instance name default) = []
 own_tests (Log instance name source capacity interval logged) = log_tests capacity interval
 
--- the tests of an object line behind the device's line; whether a line before it has the same identifier, or name
+-- the tests of an object line after the device's line; whether a line before it has the same identifier, or name
 abbrev pub line_tests : DeviceLine → ObjectLine → Bool → Bool → List (Bool × BuildFault)
 line_tests device line same_id same_name =
     (nat_lt 4194302 (instance_of line), BadInstance)
@@ -95,12 +95,12 @@ line_tests device line same_id same_name =
     ∷ (bytes_eq (name_of line) device.name || same_name, DuplicateName)
     ∷ own_tests line
 
--- the first fault of an object line behind the device's line and these object lines
+-- the first fault of an object line after the device's line and these object lines
 abbrev pub object_fault : DeviceLine → List ObjectLine → ObjectLine → Option BuildFault
 object_fault device before line =
     first_of (line_tests device line (has_id (id_of line) before) (has_name (name_of line) before))
 
--- the first fault of object lines behind the device's line and these object lines
+-- the first fault of object lines after the device's line and these object lines
 abbrev pub objects_fault : DeviceLine → List ObjectLine → List ObjectLine → Option BuildFault
 objects_fault device before [] = None
 objects_fault device before (line ∷ lines) =
@@ -152,7 +152,7 @@ built device lines =
       objects = map entry_of lines;
     }
 
--- Lines with this fault are refused so. Want of memory is met only by lines without a fault.
+-- Lines with this fault are refused so. Only lines without a fault can run out of memory.
 abbrev pub Refuses : BuildFault → Option BuildFault → Type 0
 Refuses Memory said = said ≡ None
 Refuses fault said = said ≡ Some fault

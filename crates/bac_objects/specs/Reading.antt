@@ -60,12 +60,12 @@ read_of d r = do
   table ← table_at d r.object
   elements_of (row r.property table) r.index
 
--- octets, where they fit a datagram
+-- octets, if they fit a datagram
 abbrev pub fitted : Result (List ℕ) Fault → Result (List ℕ) Refused
 fitted (Ok octets) = if nat_lt 1501 (length octets) then Err refused.TooLong else Ok octets
 fitted (Err fault) = Err (refused.Fault fault)
 
--- the octets that a datagram holds where they were written, or why they weren't
+-- the octets that a datagram holds if they were written, or why they weren't
 abbrev pub told : Result (Unit {0}) Refused → List ℕ → Result (List ℕ) Refused
 told (Ok done) octets = Ok octets
 told (Err why) octets = Err why

@@ -36,5 +36,5 @@ device_refusal (Err fault) = fault
 abbrev pub records_of : State → ReadRange → Result Log Fault
 records_of d r =
     if is_device d r.object then Err (device_refusal (checked (row r.property (device_table d)) r.index)) else (do
-  o ← or_fault (lookup (is_id r.object) d.objects) UnknownObject
-  object_records r o)
+      o ← or_fault (lookup (is_id r.object) d.objects) UnknownObject
+      object_records r o)

@@ -101,7 +101,7 @@ abbrev pub unindexed : Shown → Option ℕ → Result (Unit {0}) Fault
 unindexed shown None = Ok tt
 unindexed shown (Some index) = if is_array shown then Ok tt else Err NotArray
 
--- the property is there, and an index only where it is an array
+-- the property is there, and an index only if it is an array
 abbrev pub checked : Option Shown → Option ℕ → Result (Unit {0}) Fault
 checked None index = Err UnknownProperty
 checked (Some shown) index = unindexed shown index

@@ -38,7 +38,8 @@ pub enum BuildFault {
     /// The number of states isn't 1 to 65535.
     #[error("bad states")]
     BadStates,
-    /// The default of a binary object isn't 0 or 1, or that of a multi-state one none of its states.
+    /// The default of a binary object isn't 0 or 1, or that of a multi-state one none of its
+    /// states.
     #[error("bad default")]
     BadDefault,
     /// The capacity of a log isn't 1 to 65535.
@@ -158,7 +159,7 @@ impl ObjectLine {
         }
     }
 
-    /// The first fault of the line behind the device's line, where lines before it have the same
+    /// The first fault of the line after the device's line, if lines before it have the same
     /// identifier or the same name.
     fn fault(&self, device: &DeviceLine, same_id: bool, same_name: bool) -> Option<BuildFault>
         ensures { result ≡ first_of (line_tests device.now self.now same_id same_name) }
@@ -220,7 +221,7 @@ impl ObjectLine {
     }
 }
 
-/// The first fault of the object lines, where each line is compared with all before it.
+/// The first fault of the object lines, found by comparing each line with all before it.
 fn compared_fault(device: &DeviceLine, lines: &[ObjectLine]) -> Option<BuildFault>
     ensures { result ≡ objects_fault device.now [] lines.now }
 {
@@ -250,7 +251,7 @@ fn note<'a>(
 }
 
 /// The first fault of the object lines, found by tables of identifiers and names in which each line
-/// is looked up once; `None` where there is no memory for them.
+/// is looked up once; `None` if there is no memory for them.
 fn tabled_fault(
     alloc: Global,
     device: &DeviceLine,
@@ -350,8 +351,8 @@ pub(crate) fn objects_of(
 }
 
 impl Database {
-    /// The device that lines describe, or their first fault. Of want of memory, for the tables in
-    /// which lines are looked up too, only lines without a fault are refused.
+    /// The device that lines describe, or their first fault. If memory runs out, for the tables in
+    /// which lines are looked up too, only lines without a fault are refused for it.
     pub fn build(
         alloc: Global,
         device: &DeviceLine,

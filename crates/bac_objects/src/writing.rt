@@ -74,7 +74,7 @@ impl<'a> Property<'a> {
     }
 }
 
-/// Whether the property is there, and an index only where it is an array.
+/// Whether the property is there, and an index only if it is an array.
 pub(crate) fn checked(property: &Option<Property>, index: Option<u32>) -> Result<(), Fault>
     ensures { result ≡ checked (option_map shown_of property.now) index }
 {

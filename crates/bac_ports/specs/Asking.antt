@@ -12,17 +12,17 @@ abbrev pub IsLost : Result (List ℕ) Lost → Type 0
 IsLost (Ok datagram) = ⊥
 IsLost (Err lost) = Unit {0}
 
--- the same with sender and datagram apart, and none where no datagram came
+-- the same with sender and datagram apart, and none if no datagram came
 abbrev pub fitting_of : List ℕ → List ℕ → List ℕ → Option (List ℕ) → Option (List ℕ)
 fitting_of peer request from None = None
 fitting_of peer request from (Some datagram) =
     if bytes_eq from peer && answers_to request datagram then Some datagram else None
 
--- the datagram that came, where it is from the peer and answers the request
+-- the datagram that came, if it is from the peer and answers the request
 abbrev pub fitting : List ℕ → List ℕ → Heard → Option (List ℕ)
 fitting peer request heard = fitting_of peer request heard.from heard.datagram
 
--- where it fits it is the result, else there is more to be done
+-- if it fits it is the result, else there is more to be done
 abbrev pub IsTaken : {P : Type 0} → Option (List ℕ) → P → Result (List ℕ) Lost → P → Type 0 → Type 0
 IsTaken None port result new more = more
 IsTaken (Some datagram) port result new more = (result ≡ Ok datagram) × (new ≡ port)

@@ -19,7 +19,7 @@ pub enum SocketFault {
 pub struct Heard {
     /// Its sender: four octets of IPv4 address and two of port.
     pub from: [u8; 6],
-    /// `None` where it has over 1501 octets: it is dropped.
+    /// `None` if it has over 1501 octets: it is dropped.
     pub datagram: Option<Datagram>,
 }
 

@@ -112,7 +112,7 @@ fn wait_for<P: Port>(
     Err(Lost)
 }
 
-/// The datagram, where it comes from the peer and answers the request.
+/// The datagram, if it comes from the peer and answers the request.
 fn fitting(heard: Heard, peer: [u8; 6], request: &[u8]) -> Option<Datagram>
     ensures { result ≡ fitting peer request.now heard }
 {

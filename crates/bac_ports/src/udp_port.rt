@@ -41,7 +41,7 @@ impl UdpPort {
         }
     }
 
-    /// The address that the socket has; `None` where the system doesn't tell.
+    /// The address that the socket has; `None` if the system doesn't tell.
     pub fn local(&self) -> Option<[u8; 6]> {
         match self.socket.local_addr() {
             Ok(address) => octets_of(address),

@@ -1,11 +1,11 @@
 -- The text of a moment whose parts have no star and two digits each.
-use Rattle.std.proofs.Common.{◌≡◌, ℕ, ◌+◌, ◌/◌, ◌%◌, ◌<◌, ◌≤◌, eqb, ltb, true, false, List, [], ◌∷◌, ◌++◌, refl, ap, ◌∙◌, inl, inr, arith}
+use Rattle.std.proofs.Common.{◌≡◌, ℕ, ◌+◌, ◌/◌, ◌%◌, ◌<◌, ◌≤◌, eqb, ltb, true, false, List, [], ◌∷◌, ◌++◌, refl, ap, inl, inr, arith}
 use Rattle.std.specs.Prelude.{decimal}
 use Rattle.std.specs.Fmt.{digits}
 use Rattle.std.proofs.lemmas.Bool.{ne_eqb, eq-eqb, lt-ltb, le-ltb, cases_lt}
 use Rattle.bac_print.specs.Moments.{year_text, part_text, day_text, time_text}
 
-one_digit : (n : ℕ) → n < 10 → decimal n ≡ (48 + n) ∷ []
+pub one_digit : (n : ℕ) → n < 10 → decimal n ≡ (48 + n) ∷ []
 unfolding digits
 one_digit n lt =
     let over : eqb (n / 10) 0 ≡ true = eq-eqb _ _ (omega arith) in
@@ -55,11 +55,11 @@ pub year_is : (y : ℕ) → y < 255
 year_is y lt = let plain : eqb y 255 ≡ false = ne_eqb _ _ (λ e. omega (arith, e)) in rw plain (four_digits_are (1900 + y) (omega arith) (omega arith))
 
 pub moment_is : (year month day weekday hour minute second hundredth : ℕ) → year < 255 → month < 100 → day < 100 → hour < 100 → minute < 100 → second < 100 → hundredth < 100
-    → day_text (year ∷ month ∷ day ∷ weekday ∷ []) ++ (84 ∷ time_text (hour ∷ minute ∷ second ∷ hundredth ∷ []))
+    → day_text (year ∷ month ∷ day ∷ weekday ∷ []) ++ (84 ∷ (time_text (hour ∷ minute ∷ second ∷ hundredth ∷ []) ++ 32 ∷ []))
     ≡ (48 + (1900 + year) / 1000) ∷ (48 + (1900 + year) / 100 % 10) ∷ (48 + (1900 + year) / 10 % 10) ∷ (48 + (1900 + year) % 10) ∷ 45
     ∷ (48 + month / 10) ∷ (48 + month % 10) ∷ 45 ∷ (48 + day / 10) ∷ (48 + day % 10) ∷ 84
     ∷ (48 + hour / 10) ∷ (48 + hour % 10) ∷ 58 ∷ (48 + minute / 10) ∷ (48 + minute % 10) ∷ 58 ∷ (48 + second / 10) ∷ (48 + second % 10) ∷ 46
-    ∷ (48 + hundredth / 10) ∷ (48 + hundredth % 10) ∷ []
+    ∷ (48 + hundredth / 10) ∷ (48 + hundredth % 10) ∷ 32 ∷ []
 unfolding day_text time_text
 moment_is year month day weekday hour minute second hundredth y m d h i s c =
     rw (year_is year y, part_is month m, part_is day d, part_is hour h, part_is minute i, part_is second s, part_is hundredth c) refl

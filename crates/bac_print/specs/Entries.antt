@@ -31,7 +31,7 @@ datum_text (Failure class code) = called_two (codes "failure") class code
 datum_text (TimeChange octets) = called_hex (codes "time-change") octets
 datum_text (Any octets) = counted (codes "any") octets
 
--- four digits, or - where a record has no status flags
+-- four digits, or - if a record has no status flags
 unfoldable pub flags_text : Option ℕ → List ℕ
 flags_text None = 45 ∷ []
 flags_text (Some flags) = first_bits 4 (flags ∷ [])

@@ -6,7 +6,7 @@ ghost use Rattle.bac_print.specs.Addresses.{address_text};
 use crate::numbers::push_number;
 use std::alloc::AllocError;
 
-/// Appends a number, and what stands behind it.
+/// Appends a number, and what stands after it.
 fn push_before(text: &mut Vec<u8>, n: u64, mark: &[u8]) -> Result<(), AllocError>
     ensures { OnOk result (text.new.items ≡ text.old.items ++ (decimal n ++ mark.now)) }
 {

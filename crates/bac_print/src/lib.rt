@@ -1,8 +1,8 @@
 //! Texts for people: numbers, addresses, moments, primitive values and records of trend logs.
 //!
-//! Each call appends to a text that is kept: no line is made apart and copied. [`push_value`] is
-//! the text of a value (specs/Values), [`push_record`] and [`push_gap`] are the lines of what a
-//! walk of a trend log delivers (specs/Entries). They take memory where the text has no room left.
+//! Each call appends to the caller's buffer. [`push_value`] is the text of a value (specs/Values),
+//! [`push_record`] and [`push_gap`] are the lines of what a walk of a trend log delivers
+//! (specs/Entries). They take memory when the text has no room left.
 //! [`write_text`] writes a text, and tells what a refused write left (specs/Output).
 #![tactic(auto)]
 

@@ -1,6 +1,6 @@
 //! Dates and times (clauses 20.2.12 and 20.2.13).
 
-ghost use Rattle.std.specs.Prelude.{◌≡◌, ◌<◌, ◌∷◌, ◌++◌, OnOk};
+ghost use Rattle.std.specs.Prelude.{◌≡◌, ◌<◌, ◌∷◌, [], ◌++◌, OnOk, decimal};
 ghost use Rattle.bac_wire.specs.Stamp.{date_octets, time_octets};
 ghost use Rattle.bac_print.specs.Moments.{date_text, day_text, part_text, time_text, weekday_text, year_text};
 
@@ -77,8 +77,26 @@ pub(crate) fn push_time(text: &mut Vec<u8>, time: Time4) -> Result<(), AllocErro
     push_part(text, time.hundredth)
 }
 
-/// Appends `YYYY-MM-DDTHH:MM:SS.hh` of parts that have no star and two digits each, at once.
-fn push_plain_moment(text: &mut Vec<u8>, date: Date4, time: Time4) -> Result<(), AllocError>
+/// Appends `YYYY-MM-DDTHH:MM:SS.hh`.
+pub(crate) fn push_moment(text: &mut Vec<u8>, date: Date4, time: Time4) -> Result<(), AllocError>
+    ensures { OnOk result (text.new.items ≡ text.old.items ++ (day_text (date_octets date) ++ (84 ∷ time_text (time_octets time)))) }
+{
+    push_day(text, date)?;
+    text.extend_from_slice(b"T")?;
+    push_time(text, time)
+}
+
+/// How many digits the longest sequence number has.
+const MOST_DIGITS: usize = 10;
+
+/// Appends a number, a blank, `YYYY-MM-DDTHH:MM:SS.hh` and a blank at once, where the parts have no
+/// star and two digits each.
+fn push_plain_head(
+    text: &mut Vec<u8>,
+    number: u32,
+    date: Date4,
+    time: Time4,
+) -> Result<(), AllocError>
     requires year { date.year < 255 }
     requires month { date.month < 100 }
     requires day { date.day < 100 }
@@ -86,10 +104,21 @@ fn push_plain_moment(text: &mut Vec<u8>, date: Date4, time: Time4) -> Result<(),
     requires minute { time.minute < 100 }
     requires second { time.second < 100 }
     requires hundredth { time.hundredth < 100 }
-    ensures { OnOk result (text.new.items ≡ text.old.items ++ (day_text (date_octets date) ++ (84 ∷ time_text (time_octets time)))) }
+    ensures { OnOk result (text.new.items ≡ text.old.items ++ (decimal number ++ (32 ∷ (day_text (date_octets date) ++ (84 ∷ (time_text (time_octets time) ++ 32 ∷ [])))))) }
 {
     let year = 1900 + date.year as u16;
-    text.extend_from_slice(&[
+    let mut head = [
+        0,
+        0,
+        0,
+        0,
+        0,
+        0,
+        0,
+        0,
+        0,
+        0,
+        b' ',
         b'0' + (year / 1000) as u8,
         b'0' + (year / 100 % 10) as u8,
         b'0' + (year / 10 % 10) as u8,
@@ -112,19 +141,28 @@ fn push_plain_moment(text: &mut Vec<u8>, date: Date4, time: Time4) -> Result<(),
         b'.',
         b'0' + time.hundredth / 10,
         b'0' + time.hundredth % 10,
-    ])
+        b' ',
+    ];
+    let start = itoa::write_digits(number as u64, &mut head, MOST_DIGITS);
+    text.extend_from_slice(&head[start..])
 }
 
-/// Appends `YYYY-MM-DDTHH:MM:SS.hh`.
-pub(crate) fn push_moment(text: &mut Vec<u8>, date: Date4, time: Time4) -> Result<(), AllocError>
-    ensures { OnOk result (text.new.items ≡ text.old.items ++ (day_text (date_octets date) ++ (84 ∷ time_text (time_octets time)))) }
+/// Appends a number, a blank, `YYYY-MM-DDTHH:MM:SS.hh` and a blank.
+pub(crate) fn push_head(
+    text: &mut Vec<u8>,
+    number: u32,
+    date: Date4,
+    time: Time4,
+) -> Result<(), AllocError>
+    ensures { OnOk result (text.new.items ≡ text.old.items ++ (decimal number ++ (32 ∷ (day_text (date_octets date) ++ (84 ∷ (time_text (time_octets time) ++ 32 ∷ [])))))) }
 {
     if date.year < UNSPECIFIED && date.month < 100 && date.day < 100 {
         if time.hour < 100 && time.minute < 100 && time.second < 100 && time.hundredth < 100 {
-            return push_plain_moment(text, date, time);
+            return push_plain_head(text, number, date, time);
         }
     }
-    push_day(text, date)?;
-    text.extend_from_slice(b"T")?;
-    push_time(text, time)
+    push_number(text, u64::from(number))?;
+    text.extend_from_slice(b" ")?;
+    push_moment(text, date, time)?;
+    text.extend_from_slice(b" ")
 }

@@ -16,7 +16,7 @@ pub fn push_number(text: &mut Vec<u8>, n: u64) -> Result<(), AllocError>
     text.extend_from_slice(digits.format(n).as_bytes())
 }
 
-/// Appends a number in decimal digits, behind `-` where it is below 0.
+/// Appends a number in decimal digits, after `-` if it is below 0.
 pub fn push_signed(text: &mut Vec<u8>, z: i64) -> Result<(), AllocError>
     ensures { OnOk result (text.new.items ≡ text.old.items ++ signed_decimal z) }
 {

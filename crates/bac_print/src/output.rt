@@ -11,7 +11,7 @@ use std::io::{ErrorKind, Result, Write};
 #[derive(Clone, Copy, Debug, PartialEq, Eq)]
 pub struct WriteRefused;
 
-/// One write. Where a signal interrupts it, it is made again.
+/// One write. If a signal interrupts it, it is made again.
 fn write_again<W: Write>(writer: &mut W, text: &[u8]) -> Result<usize>
     ensures bound { WritesAtMost result text.now }
     ensures bytes { WriteAppends (W.contents writer.old) (W.contents writer.new) result text.now }

@@ -31,7 +31,7 @@ PrintsEnd why next (Err Write) old new = AppendsPart old new (end_line why next)
 PrintsEnd why next (Err Memory) old new = Keeps old new
 PrintsEnd why next (Err (Exchange fault)) old new = ⊥
 
--- The lines of the items and the end line were written; after a refused write, a front part of these; where there was
+-- The lines of the items and the end line were written; after a refused write, a front part of these; if there was
 -- no memory for the end line, the lines of the items.
 abbrev pub PrintsItems : List Item → Fetching → Held → Held → Type 0
 PrintsItems items (Ok fetched) old new = Appends old new (items_text items ++ end_line fetched.why fetched.next)
@@ -50,14 +50,14 @@ NextIs (Err fault) t = Unit {0}
 abbrev pub Delivers : (ℕ → List Moment → History → Type 0) → WalkPlace → ℕ → List Item → Fetching → Type 0
 Delivers was walk steps items result =
     (r : ℕ) (M : List Moment) (H : History) (s : ℕ) →
-        was r M H → walk.next ≡ sequence_number s → StaysNear r H M walk.fresh s steps →
+    was r M H → walk.next ≡ sequence_number s → StaysNear r H M walk.fresh s steps →
     (b : ℕ) × (a : ℕ) × (t : ℕ) × (walk.fresh ≡ false → b ≡ s) × NextIs result t × DeliversTo H b items t M a
 
 -- why the walk ended, and the number that comes next: those of a run of n steps that ended so and left the walk here
 abbrev pub IsEnd : ℕ → ℕ → Ended → WalkPlace → Why → ℕ → Type 0
 IsEnd steps n ended after why next = IsRunOf why steps n ended × (next ≡ after.next)
 
--- What was told or written at the end is the end of that run. Where a write was refused, it was that of lines of items,
+-- What was told or written at the end is the end of that run. If a write was refused, it was that of lines of items,
 -- or of the end line.
 abbrev pub EndsAs : List Item → ℕ → ℕ → Ended → WalkPlace → Fetching → Held → Held → Type 0
 EndsAs items steps n ended after (Ok fetched) old new = IsEnd steps n ended after fetched.why fetched.next
@@ -65,12 +65,12 @@ EndsAs items steps n ended after (Err Write) old new =
     (n ≤ steps)
     × (AppendsPart old new (items_text items)
     ⊎ ((why : Why) × (next : ℕ) × IsEnd steps n ended after why next
-          × AppendsPart old new (items_text items ++ end_line why next)))
+    × AppendsPart old new (items_text items ++ end_line why next)))
 EndsAs items steps n ended after (Err Memory) old new = (why : Why) × (next : ℕ) × IsEnd steps n ended after why next
 EndsAs items steps n ended after (Err (Exchange fault)) old new = ⊥
 
 -- The items are those of a run of n steps of the walk, over any link: each step brought at most 100 records and one
--- gap, and a record at least where all were whole. Over an honest link they are what its answers brought.
+-- gap, and a record at least if all were whole. Over an honest link they are what its answers brought.
 abbrev pub IsFetched : (ℕ → List Moment → History → Type 0) →
     ℕ → ℕ → ℕ → WalkPlace → WalkPlace → ℕ → Ended → List Item → Type 0
 IsFetched was retries old new before after n ended items =

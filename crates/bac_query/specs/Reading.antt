@@ -8,23 +8,22 @@ use Rattle.bac_apdu.specs.Service.ReadPropertyAck.{read_property_ack_at}
 use Rattle.bac_apdu.specs.declared.service.read_property.ReadProperty.{ReadProperty}
 use Rattle.bac_link.specs.Datagrams.{apdu_in}
 use Rattle.bac_link.specs.Exchanges.{Concludes, Exchanges}
-use Rattle.bac_link.specs.Path.{Path}
+use Rattle.bac_link.specs.Path.{Path, towards}
+use Rattle.bac_link.specs.Requests.{next_invoke}
 use Rattle.bac_link.specs.declared.exchanges.ExchangeFault.{ExchangeFault}
 use Rattle.bac_link.specs.declared.exchanges.ExchangeFault.TheVariants.{BadReply}
 use Rattle.bac_link.specs.declared.link.Lost.{Lost}
 use Rattle.bac_link.specs.declared.request.Request.TheVariants as request
+use Rattle.bac_link.specs.declared.transactions.Transactions.{Transactions}
+pub use Rattle.bac_print.specs.Output.{Held}
 use Rattle.bac_print.specs.Output.{AppendsPart}
 use Rattle.bac_query.specs.Values.{IsShown}
 use Rattle.bac_query.specs.declared.fault.QueryFault.{QueryFault}
 use Rattle.bac_query.specs.declared.fault.QueryFault.TheVariants.{Exchange, Write, Memory}
 
--- what a query answers, and what a writer holds where that is known
+-- what a query answers
 abbrev pub Answer : Type 0
 Answer = Result (Unit {0}) QueryFault
-
--- what a writer holds, if that is known
-abbrev pub Held : Type 0
-Held = Option (List ℕ)
 
 -- the whole text was written, or a front part of it
 abbrev pub Prints : List ℕ → Answer → Held → Held → Type 0
@@ -51,7 +50,7 @@ abbrev pub PrintsValues : Option (List ℕ) → Answer → Held → Held → Typ
 PrintsValues None result old new = (result ≡ Err (Exchange BadReply)) × Keeps old new
 PrintsValues (Some values) result old new = PrintsShown values result old new
 
--- nothing is printed where no ACK came
+-- nothing is printed if no ACK came
 abbrev pub PrintsAnswer : Result (List ℕ) ExchangeFault → Answer → Held → Held → Type 0
 PrintsAnswer (Err fault) result old new = (result ≡ Err (Exchange fault)) × Keeps old new
 PrintsAnswer (Ok datagram) result old new = PrintsValues (values_in (apdu_in datagram)) result old new
@@ -60,13 +59,22 @@ PrintsAnswer (Ok datagram) result old new = PrintsValues (values_in (apdu_in dat
 abbrev pub ReadsProperty : Path → ℕ → ReadProperty → Answer → Held → Held → Type 0
 ReadsProperty path invoke asked result old new =
     (answer : Result (List ℕ) ExchangeFault) × Concludes path invoke (request.ReadProperty asked) answer
-        × PrintsAnswer answer result old new
+    × PrintsAnswer answer result old new
 
--- and that exchange was one over the link, with as many retries
+-- how a request goes: by a path, under an invoke ID, and so many times more as long as no answer comes (clause 5.4)
+pub record Way : Type 0 where
+  pub path : Path
+  pub invoke : ℕ
+  pub retries : ℕ
+
+-- the way of the next request of these transactions
+abbrev pub next_way : Transactions → Way
+next_way t = record { path = towards t.route; invoke = next_invoke t.invoke; retries = t.retries }
+
+-- and that exchange was one over the link, which is left so
 abbrev pub ReadsOver : {S : Type 0} → (S → List ℕ → Result (List ℕ) Lost → S → Type 0) →
-    Path → ℕ → ReadProperty → ℕ → S → Answer → S →
-    Held → Held → Type 0
-ReadsOver {S = S} asks path invoke asked retries link result left old new =
+    Way → ReadProperty → S → Answer → S → Held → Held → Type 0
+ReadsOver {S = S} asks way asked link result left old new =
     (answer : Result (List ℕ) ExchangeFault)
-        × Exchanges asks path invoke (request.ReadProperty asked) retries link answer left
+    × Exchanges asks way.path way.invoke (request.ReadProperty asked) way.retries link answer left
     × PrintsAnswer answer result old new

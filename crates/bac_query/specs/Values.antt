@@ -5,7 +5,7 @@ use Rattle.bac_wire.specs.Primitive.{Primitive}
 use Rattle.bac_wire.specs.Spelling.{Spells}
 use Rattle.bac_print.specs.Values.{value_text}
 
--- the octets are the encodings of these values behind their application tags, one after the other
+-- the octets are the encodings of these values after their application tags, one after the other
 abbrev pub AreValues : List ℕ → List Primitive → Type 0
 AreValues octets [] = octets ≡ []
 AreValues octets (value ∷ values) =
@@ -20,17 +20,17 @@ value_lines (value ∷ values) = (value_text value ++ 10 ∷ []) ++ value_lines 
 abbrev pub raw_line : List ℕ → List ℕ
 raw_line octets = codes "raw(" ++ (encode_lower octets ++ (41 ∷ 10 ∷ []))
 
--- the lines of the values, or the octets as they are where they aren't values alone
+-- the lines of the values, or the octets as they are if they aren't values alone
 abbrev pub IsShown : List ℕ → List ℕ → Type 0
 IsShown octets text =
     ((values : List Primitive) × AreValues octets values × (text ≡ value_lines values))
     ⊎ (((values : List Primitive) → AreValues octets values → ⊥) × (text ≡ raw_line octets))
 
--- lines that were appended, of all the values or of some at the front; nothing is known where memory ran out
+-- lines that were appended, of all the values or of some at the front; nothing is known if memory ran out
 abbrev pub ShowsLines : {E : Type 0} → List ℕ → List ℕ → List ℕ → Result Bool E → Type 0
 ShowsLines octets old new (Ok true) =
     (values : List Primitive) × AreValues octets values × (new ≡ old ++ value_lines values)
 ShowsLines octets old new (Ok false) =
     ((values : List Primitive) → AreValues octets values → ⊥)
-        × ((more : List Primitive) × (new ≡ old ++ value_lines more))
+    × ((more : List Primitive) × (new ≡ old ++ value_lines more))
 ShowsLines octets old new (Err error) = Unit {0}

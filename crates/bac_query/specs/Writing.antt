@@ -6,27 +6,27 @@ use Rattle.bac_link.specs.Path.{Path}
 use Rattle.bac_link.specs.declared.exchanges.ExchangeFault.{ExchangeFault}
 use Rattle.bac_link.specs.declared.link.Lost.{Lost}
 use Rattle.bac_link.specs.declared.request.Request.{Request}
-use Rattle.bac_query.specs.Reading.{Answer, Held, Prints}
+use Rattle.bac_query.specs.Reading.{Answer, Held, Prints, Way}
 use Rattle.bac_query.specs.declared.fault.QueryFault.TheVariants.{Exchange}
 
 -- a line says that it was done
 abbrev pub PrintsDone : Answer → Held → Held → Type 0
 PrintsDone result old new = Prints (codes "written" ++ 10 ∷ []) result old new
 
--- where the device has acknowledged it
+-- if the device has acknowledged it
 abbrev pub PrintsIfDone : Result (List ℕ) ExchangeFault → Answer → Held → Held → Type 0
 PrintsIfDone (Err fault) result old new = (result ≡ Err (Exchange fault)) × Keeps old new
 PrintsIfDone (Ok datagram) result old new = PrintsDone result old new
 
--- an exchange of the request, and the line where it was done
+-- an exchange of the request, and the line if it was done
 abbrev pub WritesProperty : Path → ℕ → Request → Answer → Held → Held → Type 0
 WritesProperty path invoke asked result old new =
     (answer : Result (List ℕ) ExchangeFault) × Concludes path invoke asked answer × PrintsIfDone answer result old new
 
--- and that exchange was one over the link, with as many retries
+-- and that exchange was one over the link, which is left so
 abbrev pub WritesOver : {S : Type 0} → (S → List ℕ → Result (List ℕ) Lost → S → Type 0) →
-    Path → ℕ → Request → ℕ → S → Answer → S →
-    Held → Held → Type 0
-WritesOver {S = S} asks path invoke asked retries link result left old new =
-    (answer : Result (List ℕ) ExchangeFault) × Exchanges asks path invoke asked retries link answer left
-        × PrintsIfDone answer result old new
+    Way → Request → S → Answer → S → Held → Held → Type 0
+WritesOver {S = S} asks way asked link result left old new =
+    (answer : Result (List ℕ) ExchangeFault)
+    × Exchanges asks way.path way.invoke asked way.retries link answer left
+    × PrintsIfDone answer result old new

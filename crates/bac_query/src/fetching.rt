@@ -31,7 +31,7 @@ pub struct Fetched {
 }
 
 /// Walks a log for at most so many steps, and prints a line for each record and each gap, those of
-/// a reply with one write; at the end the line that says why, and which number comes next. Where
+/// a reply with one write; at the end the line that says why, and which number comes next. If
 /// there is no memory for the lines of a reply, none of them is printed, and the next number is the
 /// one before that reply.
 pub fn fetch_log<L: LogLink, W: Write>(

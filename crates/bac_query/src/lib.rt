@@ -2,7 +2,7 @@
 //!
 //! [`read_property`] prints a property's values, a line each (specs/Reading, specs/Values). What is
 //! printed is said of every link and every writer that tells what it holds: the whole text, or a
-//! front part of it where a write was refused, and nothing else.
+//! front part of it if a write was refused, and nothing else.
 #![tactic(auto)]
 
 mod fault;

@@ -6,7 +6,7 @@ ghost use Rattle.bac_link.specs.Datagrams.{apdu_in};
 ghost use Rattle.bac_link.specs.Exchanges.{Leaves};
 ghost use Rattle.bac_link.specs.Path.{towards};
 ghost use Rattle.bac_link.specs.Requests.{next_invoke};
-ghost use Rattle.bac_query.specs.Reading.{ReadsOver, ReadsProperty, PrintsValues, Prints, values_in};
+ghost use Rattle.bac_query.specs.Reading.{ReadsOver, ReadsProperty, PrintsValues, Prints, next_way, values_in};
 ghost use Rattle.bac_query.specs.Values.{IsShown};
 
 use crate::fault::QueryFault;
@@ -17,8 +17,8 @@ use bac_print::write_text;
 use std::alloc::Global;
 use std::io::Write;
 
-/// Reads a property, and prints its values, a line each, with one write. Where they aren't all
-/// values behind application tags, the line is `raw(HEX)`; where there are none, nothing is
+/// Reads a property, and prints its values, a line each, with one write. If they aren't all
+/// values after application tags, the line is `raw(HEX)`; if there are none, nothing is
 /// printed. That the ACK has the object and the property that were asked for isn't looked at: a
 /// device answers for instance 4194303 with its own.
 pub fn read_property<L: LogLink, W: Write>(
@@ -31,8 +31,8 @@ pub fn read_property<L: LogLink, W: Write>(
     ensures printed { ReadsProperty (towards transactions.old.route) (next_invoke transactions.old.invoke) asked result (W.contents out.old) (W.contents out.new) }
     // Over any link it is asked once, and as often again as the retries say; what is printed came
     // over the link.
-    ensures asked { ReadsOver L.asks (towards transactions.old.route) (next_invoke transactions.old.invoke) asked
-        transactions.old.retries link.old result link.new (W.contents out.old) (W.contents out.new) }
+    ensures asked { ReadsOver L.asks (next_way transactions.old) asked
+        link.old result link.new (W.contents out.old) (W.contents out.new) }
 {
     let request = Request::ReadProperty(asked);
     match exchange(link, transactions, &request) {

@@ -9,7 +9,7 @@ use bac_report::push_item;
 use bac_walk::{Gap, Numbered, Sink};
 use std::alloc::AllocError;
 
-/// A sink that makes a line of each record, and of each gap before one. It wants no more where
+/// A sink that makes a line of each record, and of each gap before one. It wants no more if
 /// memory runs out.
 #[derive(Drop)]
 pub(crate) struct Lines {
@@ -25,7 +25,7 @@ impl Sink for Lines {
     }
 }
 
-/// Appends the line of a gap, where there is one, and that of the record behind it.
+/// Appends the line of a gap, if there is one, and that of the record after it.
 fn push_put(text: &mut Vec<u8>, gap: Option<Gap>, item: Numbered) -> Result<(), AllocError>
     ensures { OnOk result (text.new.items ≡ text.old.items ++ items_text (gap_items gap ++ item_of item ∷ [])) }
 {

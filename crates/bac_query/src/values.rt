@@ -36,7 +36,7 @@ fn push_lines(text: &mut Vec<u8>, octets: &[u8]) -> Result<bool, AllocError>
     Ok(true)
 }
 
-/// Appends the values that octets encode, a line each. Where the octets aren't all values behind
+/// Appends the values that octets encode, a line each. If the octets aren't all values after
 /// application tags, one line has them as they are: `raw(HEX)`.
 pub fn push_values(alloc: Global, text: &mut Vec<u8>, octets: &[u8]) -> Result<(), AllocError>
     ensures { OnOk result ((shown : List ℕ) × IsShown octets.now shown × (text.new.items ≡ text.old.items ++ shown)) }

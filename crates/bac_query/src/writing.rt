@@ -2,6 +2,7 @@
 
 ghost use Rattle.bac_link.specs.Path.{towards};
 ghost use Rattle.bac_link.specs.Requests.{next_invoke, IsSendable};
+ghost use Rattle.bac_query.specs.Reading.{next_way};
 ghost use Rattle.bac_query.specs.Writing.{PrintsDone, WritesOver, WritesProperty};
 
 use crate::fault::QueryFault;
@@ -9,7 +10,7 @@ use crate::reading::print;
 use bac_link::{LogLink, Request, Transactions, exchange};
 use std::io::Write;
 
-/// Sends a WriteProperty, and prints `written` where the device has done it.
+/// Sends a WriteProperty, and prints `written` if the device has done it.
 pub fn write_property<L: LogLink, W: Write>(
     link: &mut L,
     transactions: &mut Transactions,
@@ -20,8 +21,8 @@ pub fn write_property<L: LogLink, W: Write>(
     ensures printed { WritesProperty (towards transactions.old.route) (next_invoke transactions.old.invoke) asked.now result (W.contents out.old) (W.contents out.new) }
     // Over any link it is asked once, and as often again as the retries say; what is printed came
     // over the link.
-    ensures asked { WritesOver L.asks (towards transactions.old.route) (next_invoke transactions.old.invoke) asked.now
-        transactions.old.retries link.old result link.new (W.contents out.old) (W.contents out.new) }
+    ensures asked { WritesOver L.asks (next_way transactions.old) asked.now
+        link.old result link.new (W.contents out.old) (W.contents out.new) }
 {
     match exchange(link, transactions, asked) {
         Ok(_) => print_done(out),

@@ -6,7 +6,7 @@ use Rattle.bac_walk.specs.declared.outcome.WalkFault.TheVariants.{Lost, Refused,
 use Rattle.bac_walk.specs.declared.outcome.Why.{Why}
 use Rattle.bac_walk.specs.declared.outcome.Why.TheVariants.{CaughtUp, StepLimit, Fault, Memory}
 
--- a word and a number behind a blank
+-- a word and a number after a blank
 abbrev pub numbered_word : List ℕ → ℕ → List ℕ
 numbered_word word n = word ++ (32 ∷ decimal n)
 

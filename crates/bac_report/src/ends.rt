@@ -8,7 +8,7 @@ use bac_print::push_number;
 use bac_walk::{WalkFault, Why};
 use std::alloc::AllocError;
 
-/// Appends a word and a number behind a blank.
+/// Appends a word and a number after a blank.
 fn push_numbered(text: &mut Vec<u8>, word: &[u8], n: u64) -> Result<(), AllocError>
     ensures { OnOk result (text.new.items ≡ text.old.items ++ numbered_word word.now n) }
 {

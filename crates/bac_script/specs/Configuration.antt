@@ -16,7 +16,7 @@ use Rattle.bac_script.specs.declared.replay.fault.ReplayFault.TheVariants.{BadLi
 abbrev pub Plan : Type 0
 Plan = Option (DeviceLine × List ObjectLine)
 
--- the device's line comes first and once, the others behind it; none for a bad line
+-- the device's line comes first and once, the others after it; none for a bad line
 abbrev pub with_line : Plan → ScriptLine → Option Plan
 with_line None (Device line) = Some (Some (line, []))
 with_line (Some plan) (Object line) = Some (Some (plan.0, plan.1 ++ line ∷ []))
@@ -73,7 +73,7 @@ Describes said (Err Read) = ⊥
 Describes said (Err TooLong) = ⊥
 Describes said (Err Write) = ⊥
 
--- What is read is looked at where it is read to its end and has at most so many
+-- What is read is looked at if it is read to its end and has at most so many
 -- octets. `script` is what the reader had, `left` what it has left.
 abbrev pub IsConfigured : ℕ → List ℕ → Option (List ℕ) → Result (Option Configuration) ReplayFault → Type 0
 IsConfigured limit script left (Err TooLong) = limit < length script
@@ -81,7 +81,7 @@ IsConfigured limit script left (Err Read) = (read : List ℕ) × Consumes (Some 
 IsConfigured limit script left (Err Memory) = Unit {0}
 IsConfigured limit script left other = (length script ≤ limit) × Describes (plan_of 1 None (lines script)) other
 
--- the same, where it is known what the reader had
+-- the same, if it is known what the reader had
 abbrev pub Configures : ℕ → Option (List ℕ) → Option (List ℕ) → Result (Option Configuration) ReplayFault → Type 0
 Configures limit None left result = Unit {0}
 Configures limit (Some script) left result = IsConfigured limit script left result

@@ -28,7 +28,7 @@ abbrev pub at_line : ℕ → Refusal → ReplayFault
 at_line n Bad = BadLine n
 at_line n (Unbuilt fault) = Build fault
 
--- the same of what the code answers, which may be want of memory
+-- the same of what the code answers, which may be that memory ran out
 abbrev pub told : ℕ → LineFault → ReplayFault
 told n line.TheVariants.Bad = BadLine n
 told n (line.TheVariants.Build fault) = Build fault

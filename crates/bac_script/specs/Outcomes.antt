@@ -1,5 +1,5 @@
 -- How a replay ends, one outcome after the other. What the reader had is `script`; `old` and `new` are what the
--- writer held before and holds now, where that is known. A script has at most `limit` octets, else it is too long.
+-- writer held before and holds now, if that is known. A script has at most `limit` octets, else it is too long.
 use Rattle.std.specs.Prelude.{◌≡◌, ℕ, ◌<◌, ◌≤◌, List, length, Option, None, Some}
 use Rattle.std.specs.Io.KnownBytes.{Appends, Consumes}
 use Rattle.bac_print.specs.Output.{AppendsPart}

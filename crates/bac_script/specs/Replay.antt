@@ -39,7 +39,7 @@ past_limit (Err f) = Some f
 
 -- The lines of a script that are played: of one that is too long, those that a line feed ended within the limit.
 -- `lines` is std's: a line feed ends a line, less one carriage return, and what
--- stands behind the last one is a line where there is anything.
+-- stands after the last one is a line if there is anything.
 abbrev pub played_lines : ℕ → List ℕ → List (List ℕ)
 played_lines limit script = if nat_le (length script) limit then lines script else ended_lines (take limit script)
 
@@ -47,7 +47,7 @@ played_lines limit script = if nat_le (length script) limit then lines script el
 abbrev pub text_of : ℕ → List ℕ → List ℕ
 text_of limit script = (play 1 Empty (played_lines limit script)).0
 
--- how a script ends, where it is read whole and each write succeeds
+-- how a script ends, if it is read whole and each write succeeds
 abbrev pub fault_of_script : ℕ → List ℕ → Option ReplayFault
 fault_of_script limit script =
     if nat_le (length script) limit then at_end (play 1 Empty (lines script)).1
@@ -82,7 +82,7 @@ Ends limit script left old new (Err Read) =
 Ends limit script left old new (Err Write) = AppendsPart old new (text_of limit script)
 Ends limit script left old new (Err Memory) = PlaysSome old new (played_lines limit script)
 
--- the same, where it is known what the reader had
+-- the same, if it is known what the reader had
 unfoldable pub Replays : ℕ → Option (List ℕ) → Option (List ℕ) → Option (List ℕ) → Option (List ℕ)
     → Result (Unit {0}) ReplayFault → Type 0
 Replays limit None left old new r = Unit {0}

@@ -43,14 +43,14 @@ on_device s line = Err Bad
 
 -- ---- an object's line
 
--- it stands behind the device's, and before the first event
+-- it stands after the device's, and before the first event
 abbrev pub on_object : SessionState → ObjectLine → Step
 on_object (Described device lines) line = Ok ([], Described device (lines ++ line ∷ []))
 on_object s line = Err Bad
 
 -- ---- an event
 
--- to whom an answer goes, where that isn't who sent what it answers
+-- to whom an answer goes, if that isn't who sent what it answers
 abbrev pub receiver_text : Receiver → List ℕ
 receiver_text Sender = []
 receiver_text (Address address) = codes " to " ++ address_text address
@@ -102,7 +102,7 @@ abbrev pub first_event : Option BuildFault → device.State → ScriptEvent → 
 first_event None device event = running (happens device event)
 first_event (Some fault) device event = Err (Unbuilt fault)
 
--- an event stands behind the device's line
+-- an event stands after the device's line
 abbrev pub on_event : SessionState → ScriptEvent → Step
 on_event Empty event = Err Bad
 on_event (Described device lines) event = first_event (build_fault device lines) (built device lines) event
@@ -116,7 +116,7 @@ on_line s (Device line) = on_device s line
 on_line s (Object line) = on_object s line
 on_line s (Happens event) = on_event s event
 
--- the line that a text says, where it says one
+-- the line that a text says, if it says one
 abbrev pub on_read : SessionState → Option ScriptLine → Step
 on_read s None = Err Bad
 on_read s (Some line) = on_line s line

@@ -60,7 +60,7 @@ state_of (session.Running device transactions) = Running device
 
 -- ---- what functions return
 
--- The refusal is the one that the definition says. Want of memory can come in place of anything.
+-- The refusal is the one that the definition says. Memory can run out in place of anything.
 abbrev pub Fails : {Y : Type 0} → LineFault → Result Y Refusal → Type 0
 Fails fault.Bad said = said ≡ Err Bad
 Fails (fault.Build refused) said = said ≡ Err (Unbuilt refused)

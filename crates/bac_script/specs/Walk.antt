@@ -54,7 +54,7 @@ nearest oldest n =
     else (oldest + distance (sequence_number oldest) n) - 4294967295
 
 -- a walk of a device's log, or of one that the device doesn't have, from a
--- number or, where it is fresh, from the oldest record
+-- number or, if it is fresh, from the oldest record
 abbrev pub walked_text : device.State → Option Log → Bool → ℕ → ℕ → List ℕ
 walked_text d None fresh n steps = missed_text n steps
 walked_text d (Some log) fresh n steps =
@@ -65,7 +65,7 @@ abbrev pub begins : Id → Option ℕ → Bool
 begins log None = log.kind == 20
 begins log (Some sequence_number) = (log.kind == 20) && nat_lt 0 sequence_number
 
--- the walk, where it begins
+-- the walk, if it begins
 abbrev pub start_of : Id → Option ℕ → Option WalkPlace
 start_of log None = if begins log None then Some (walk_from_oldest log) else None
 start_of log (Some sequence_number) =

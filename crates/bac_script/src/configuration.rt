@@ -149,15 +149,15 @@ fn configuration_within<R: Read>(
 }
 
 /// Reads a configuration to its end: lines of a script that describe a device and its objects, and
-/// no event, which is a bad line here. `None` where no line describes a device. Lines are looked at
+/// no event, which is a bad line here. `None` if no line describes a device. Lines are looked at
 /// once all is read: a refused read and a configuration of over 1,048,576 octets come before a bad
 /// line.
 pub fn read_configuration<R: Read>(
     alloc: Global,
     reader: &mut R,
 ) -> Result<Option<Configuration>, ReplayFault>
-    ensures configures { Configures LIMIT (R.remaining reader.old) (R.remaining reader.new) result }
-    ensures read { ConsumesUpTo (LIMIT + 1) (R.remaining reader.old) (R.remaining reader.new) }
+    ensures configures { Configures 1048576 (R.remaining reader.old) (R.remaining reader.new) result }
+    ensures read { ConsumesUpTo 1048577 (R.remaining reader.old) (R.remaining reader.new) }
     ensures whole { OnOk result (IsAtEnd (R.remaining reader.new)) }
 {
     configuration_within(alloc, LIMIT, reader)

@@ -3,7 +3,7 @@
 //! [`run_replay`] plays a script: each line is a device to describe or a datagram that it receives,
 //! and what it answers is written. The text that a script makes is stated in specs/Replay, line by
 //! line from specs/Session, and `run_replay` is proved to write that text and nothing else, also
-//! where the reader, the writer or memory refuses ([`ReplayFault`]).
+//! when the reader, the writer or memory refuses ([`ReplayFault`]).
 //!
 //! `script` reads: a script is cut into lines, and `Line::read` tells what a line says, apart from
 //! what the lines before it have made. `replay` plays: a session holds what the lines so far have

@@ -51,7 +51,7 @@ fn play_line<W: Write>(
 }
 
 /// Plays the lines that a line feed ends. It answers the number of the line that follows, and what
-/// stands behind the last line feed.
+/// stands after the last line feed.
 fn play_ended<'a, W: Write>(
     alloc: Global,
     session: &mut Session,
@@ -113,7 +113,7 @@ fn play_all<W: Write>(
     play_line(alloc, session, scratch, number, rest, writer)
 }
 
-/// Plays all the lines, and builds the device at the end where no line did.
+/// Plays all the lines, and builds the device at the end if no line did.
 fn play_whole<W: Write>(alloc: Global, script: &[u8], writer: &mut W) -> Result<(), ReplayFault>
     requires { length script.now ≤ LIMIT }
     ensures ok { OnOk result ((t : SessionState) × PlaysAll (W.contents writer.old) (W.contents writer.new) Empty (lines script.now) t × (end_fault t ≡ None)) }
@@ -128,8 +128,8 @@ fn play_whole<W: Write>(alloc: Global, script: &[u8], writer: &mut W) -> Result<
     }
 }
 
-/// Plays the script that the reader has, which is read into the buffer, and writes its text. A script
-/// of more than `limit` octets is too long.
+/// Plays the script that the reader has, which is read into the buffer, and writes its text. A
+/// script of more than `limit` octets is too long.
 fn replay_in<R: Read, W: Write>(
     alloc: Global,
     limit: usize,
@@ -177,8 +177,8 @@ fn replay_within<R: Read, W: Write>(
     }
 }
 
-/// Plays the script that the reader has, and writes its text. Each outcome has a clause of its name;
-/// `ends` has all of them in one.
+/// Plays the script that the reader has, and writes its text. Each outcome has a clause of its
+/// name; `ends` has all of them in one.
 pub fn run_replay<R: Read, W: Write>(
     alloc: Global,
     reader: &mut R,

@@ -1,5 +1,4 @@
--- A device that is served over any port, with any clock. Read from the end. A port, the device and a clock stand before
--- the answer as they were, and behind it as they are afterwards.
+-- A device that is served over any port, with any clock. Read from the end.
 use Rattle.std.specs.Prelude.{◌≡◌, ℕ, zero, suc, Bool, true, false, List, Option, Some, None, Result, Ok, Err}
 use Rattle.bac_wire.specs.Stamp.{CivilTime}
 use Rattle.bac_objects.specs.State.{State}
@@ -13,6 +12,22 @@ use Rattle.bac_ports.specs.declared.port.SocketFault.{SocketFault}
 use Rattle.bac_ports.specs.declared.port.SocketFault.TheVariants.{Timeout, Failed}
 use Rattle.bac_ports.specs.Port.{Receiving, Sending}
 
+-- ---- a server
+
+-- a port, the device that is served there, and a clock
+pub record Server (P C : Type 0) : Type 0 where
+  pub port : P
+  pub device : State
+  pub clock : C
+
+-- the server of these three
+abbrev pub server : {P C : Type 0} → P → State → C → Server P C
+server port device clock = record { port = port; device = device; clock = clock }
+
+-- nothing has changed
+abbrev pub Rests : {P C : Type 0} → Server P C → Server P C → Type 0
+Rests old new = (new.port ≡ old.port) × (new.device ≡ old.device) × (new.clock ≡ old.clock)
+
 -- ---- the clock
 
 -- the device with its clock set, or as it was if the clock would go back
@@ -20,7 +35,7 @@ abbrev pub set_by : State → Option (ℕ × State) → State
 set_by device None = device
 set_by device (Some said) = said.1
 
--- the device when its clock goes to a time, where there is one and it isn't earlier
+-- the device when its clock goes to a time, if there is one and it isn't earlier
 abbrev pub ticked_at : State → Option CivilTime → State
 ticked_at device None = device
 ticked_at device (Some now) = set_by device (advanced device now)
@@ -57,28 +72,25 @@ Handles sends from (Some datagram) port device result new after =
 
 -- the clock first, then the datagram
 abbrev pub Answers : {P C : Type 0} → (P → List ℕ → List ℕ → Sending → P → Type 0) → (C → Option CivilTime → C → Type 0)
-    → Heard → P → State → C → Result Bool SocketFault → P → State → C → Type 0
-Answers sends tells heard port device clock result new after told =
-    (now : Option CivilTime) × tells clock now told
-    × Handles sends heard.from heard.datagram port (ticked_at device now) result new after
+    → Heard → Server P C → Result Bool SocketFault → Server P C → Type 0
+Answers sends tells heard old result new =
+    (now : Option CivilTime) × tells old.clock now new.clock
+    × Handles sends heard.from heard.datagram old.port (ticked_at old.device now) result new.port new.device
 
 -- ---- one receive
 
--- a refused receive leaves the device and the clock
+-- a refused receive leaves the server as it was
 abbrev pub IsReceived : {P C : Type 0} → (P → List ℕ → List ℕ → Sending → P → Type 0)
-    → (C → Option CivilTime → C → Type 0)
-    → Receiving → P → State → C → Result Bool SocketFault → P → State → C → Type 0
-IsReceived sends tells (Err fault) port device clock result new after told =
-    (result ≡ Err fault) × (new ≡ port) × (after ≡ device) × (told ≡ clock)
-IsReceived sends tells (Ok heard) port device clock result new after told =
-    Answers sends tells heard port device clock result new after told
+    → (C → Option CivilTime → C → Type 0) → Receiving → Server P C → Result Bool SocketFault → Server P C → Type 0
+IsReceived sends tells (Err fault) old result new = (result ≡ Err fault) × Rests old new
+IsReceived sends tells (Ok heard) old result new = Answers sends tells heard old result new
 
 -- one receive, and what comes is answered
 abbrev pub ServesOne : {P C : Type 0} → (P → List ℕ → List ℕ → Sending → P → Type 0) → (P → Receiving → P → Type 0)
-    → (C → Option CivilTime → C → Type 0) → P → State → C → Result Bool SocketFault → P → State → C → Type 0
-ServesOne {P = P} sends receives tells port device clock result new after told =
-    (heard : Receiving) × (mid : P) × receives port heard mid
-    × IsReceived sends tells heard mid device clock result new after told
+    → (C → Option CivilTime → C → Type 0) → Server P C → Result Bool SocketFault → Server P C → Type 0
+ServesOne {P = P} sends receives tells old result new =
+    (heard : Receiving) × (mid : P) × receives old.port heard mid
+    × IsReceived sends tells heard (server mid old.device old.clock) result new
 
 -- ---- the next datagram
 
@@ -90,40 +102,35 @@ Done = Result (Unit {0}) SocketFault
 -- what comes is answered, whatever becomes of its reply
 abbrev pub IsWaited : {P C : Type 0} → (P → List ℕ → List ℕ → Sending → P → Type 0)
     → (C → Option CivilTime → C → Type 0)
-    → Receiving → P → State → C → Done → P → State → C → (State → C → Type 0) → Type 0
-IsWaited {C = C} sends tells (Err Timeout) port device clock result new after told more =
-    (now : Option CivilTime) × (seen : C) × tells clock now seen × more (ticked_at device now) seen
-IsWaited sends tells (Err Failed) port device clock result new after told more =
-    (result ≡ Err Failed) × (new ≡ port) × (after ≡ device) × (told ≡ clock)
-IsWaited sends tells (Ok heard) port device clock result new after told more =
-    (result ≡ Ok tt)
-    × ((sent : Result Bool SocketFault) × Answers sends tells heard port device clock sent new after told)
+    → Receiving → Server P C → Done → Server P C → (Server P C → Type 0) → Type 0
+IsWaited {C = C} sends tells (Err Timeout) old result new more =
+    (now : Option CivilTime) × (seen : C) × tells old.clock now seen
+    × more (server old.port (ticked_at old.device now) seen)
+IsWaited sends tells (Err Failed) old result new more = (result ≡ Err Failed) × Rests old new
+IsWaited sends tells (Ok heard) old result new more =
+    (result ≡ Ok tt) × ((sent : Result Bool SocketFault) × Answers sends tells heard old sent new)
 
 -- at most so many waits, up to the first datagram
 unfoldable pub ServesNext : {P C : Type 0} → (P → List ℕ → List ℕ → Sending → P → Type 0) → (P → Receiving → P → Type 0)
-    → (C → Option CivilTime → C → Type 0) → ℕ → P → State → C → Done → P → State → C → Type 0
-ServesNext sends receives tells zero port device clock result new after told =
-    (result ≡ Err Timeout) × (new ≡ port) × (after ≡ device) × (told ≡ clock)
-ServesNext {P = P} sends receives tells (suc waits) port device clock result new after told =
-    (heard : Receiving) × (mid : P) × receives port heard mid
-    × IsWaited sends tells heard mid device clock result new after told
-    (λ ticked seen. ServesNext sends receives tells waits mid ticked seen result new after told)
+    → (C → Option CivilTime → C → Type 0) → ℕ → Server P C → Done → Server P C → Type 0
+ServesNext sends receives tells zero old result new = (result ≡ Err Timeout) × Rests old new
+ServesNext {P = P} sends receives tells (suc waits) old result new =
+    (heard : Receiving) × (mid : P) × receives old.port heard mid
+    × IsWaited sends tells heard (server mid old.device old.clock) result new
+    (λ ticked. ServesNext sends receives tells waits ticked result new)
 
 -- ---- so many datagrams
 
 -- a failure is the end
-abbrev pub IsServed : {P C : Type 0} → Done → P → State → C → Done → P → State → C → Type 0 → Type 0
-IsServed (Err fault) port device clock result new after told more =
-    (result ≡ Err fault) × (new ≡ port) × (after ≡ device) × (told ≡ clock)
-IsServed (Ok done) port device clock result new after told more = more
+abbrev pub IsServed : {P C : Type 0} → Done → Server P C → Done → Server P C → Type 0 → Type 0
+IsServed (Err fault) old result new more = (result ≡ Err fault) × Rests old new
+IsServed (Ok done) old result new more = more
 
 -- so many datagrams, each waited for 2^64 - 1 times at most
 unfoldable pub Serves : {P C : Type 0} → (P → List ℕ → List ℕ → Sending → P → Type 0) → (P → Receiving → P → Type 0)
-    → (C → Option CivilTime → C → Type 0) → ℕ → P → State → C → Done → P → State → C → Type 0
-Serves sends receives tells zero port device clock result new after told =
-    (result ≡ Ok tt) × (new ≡ port) × (after ≡ device) × (told ≡ clock)
-Serves {P = P} {C = C} sends receives tells (suc count) port device clock result new after told =
-    (served : Done) × (mid : P) × (between : State) × (seen : C)
-    × ServesNext sends receives tells 18446744073709551615 port device clock served mid between seen
-    × IsServed served mid between seen result new after told
-    (Serves sends receives tells count mid between seen result new after told)
+    → (C → Option CivilTime → C → Type 0) → ℕ → Server P C → Done → Server P C → Type 0
+Serves sends receives tells zero old result new = (result ≡ Ok tt) × Rests old new
+Serves {P = P} {C = C} sends receives tells (suc count) old result new =
+    (served : Done) × (mid : Server P C)
+    × ServesNext sends receives tells 18446744073709551615 old served mid
+    × IsServed served mid result new (Serves sends receives tells count mid result new)

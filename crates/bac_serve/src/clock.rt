@@ -12,7 +12,7 @@ pub trait Clock {
     /// What a look at it is: the clock before, the answer, the clock after.
     ghost tells: { Self → Option CivilTime → Self → Type 0 };
 
-    /// The time; `None` where it isn't known.
+    /// The time; `None` if it isn't known.
     fn now(&mut self) -> Option<Stamp>
         ensures { tells self.old result self.new };
 }

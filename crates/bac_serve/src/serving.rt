@@ -1,7 +1,7 @@
 //! Serving a device: what comes is handled, and what it answers is sent.
 
 ghost use Rattle.std.specs.Prelude.{◌≡◌};
-ghost use Rattle.bac_serve.specs.Serving.{Answers, Serves, ServesNext, ServesOne, Ticks, receiver_of};
+ghost use Rattle.bac_serve.specs.Serving.{Answers, Serves, ServesNext, ServesOne, Ticks, receiver_of, server};
 
 use crate::clock::Clock;
 use bac_device::{Device, Receiver};
@@ -10,7 +10,7 @@ use bac_ports::{Heard, Port, SocketFault};
 /// How often a datagram is waited for: without an end, as far as anyone sees.
 const WAITS: u64 = u64::MAX;
 
-/// Receives once. The device's clock goes to the clock's time, where there is one that isn't
+/// Receives once. The device's clock goes to the clock's time, if there is one that isn't
 /// earlier; then the device handles the datagram, and its reply is sent, to the sender or to the
 /// address in a Forwarded-NPDU. Answers whether a reply was sent.
 ///
@@ -21,7 +21,7 @@ pub fn serve_one<P: Port, C: Clock>(
     device: &mut Device,
     clock: &mut C,
 ) -> Result<bool, SocketFault>
-    ensures { ServesOne P.sends P.receives C.tells port.old device.old clock.old result port.new device.new clock.new }
+    ensures { ServesOne P.sends P.receives C.tells (server port.old device.old clock.old) result (server port.new device.new clock.new) }
 {
     let heard = port.receive()?;
     answer(port, device, clock, heard)
@@ -37,7 +37,7 @@ pub fn serve<P: Port, C: Clock>(
     clock: &mut C,
     count: u32,
 ) -> Result<(), SocketFault>
-    ensures { Serves P.sends P.receives C.tells count port.old device.old clock.old result port.new device.new clock.new }
+    ensures { Serves P.sends P.receives C.tells count (server port.old device.old clock.old) result (server port.new device.new clock.new) }
 {
     for served in 0..count {
         serve_next(port, device, clock, WAITS)?;
@@ -53,7 +53,7 @@ fn serve_next<P: Port, C: Clock>(
     clock: &mut C,
     waits: u64,
 ) -> Result<(), SocketFault>
-    ensures { ServesNext P.sends P.receives C.tells waits port.old device.old clock.old result port.new device.new clock.new }
+    ensures { ServesNext P.sends P.receives C.tells waits (server port.old device.old clock.old) result (server port.new device.new clock.new) }
 {
     for waited in 0..waits {
         match port.receive() {
@@ -75,7 +75,7 @@ fn answer<P: Port, C: Clock>(
     clock: &mut C,
     heard: Heard,
 ) -> Result<bool, SocketFault>
-    ensures { Answers P.sends C.tells heard port.old device.old clock.old result port.new device.new clock.new }
+    ensures { Answers P.sends C.tells heard (server port.old device.old clock.old) result (server port.new device.new clock.new) }
 {
     let Heard { from, datagram } = heard;
     tick(device, clock);
@@ -89,7 +89,7 @@ fn answer<P: Port, C: Clock>(
     Ok(true)
 }
 
-/// The device's clock goes to the clock's time, where there is one that isn't earlier.
+/// The device's clock goes to the clock's time, if there is one that isn't earlier.
 fn tick<C: Clock>(device: &mut Device, clock: &mut C)
     ensures { Ticks C.tells clock.old device.old clock.new device.new }
 {

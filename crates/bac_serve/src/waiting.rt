@@ -9,7 +9,7 @@ use bac_objects::ObjectLine;
 /// A fifth of a second: the shortest interval of a log is five of it.
 const SHORT_WAIT: u32 = 200;
 
-/// How many milliseconds a receive of a server's port may wait at most: a fifth of a second where
+/// How many milliseconds a receive of a server's port may wait at most: a fifth of a second if
 /// one of the device's logs has an interval, so that its samples are taken while nobody asks; else
 /// 0, which is without limit.
 pub fn idle_wait(lines: &[ObjectLine]) -> u32

@@ -1,7 +1,7 @@
 -- What finding devices leaves on the output. Nothing is said of what comes from a socket.
 use Rattle.std.specs.Prelude.{◌≡◌, ◌⊎◌, ℕ, List, Option, None, Some, Ok, Err}
 use Rattle.std.specs.Option.{unwrap_or}
-use Rattle.bac_find.specs.Finding.{Finds}
+use Rattle.bac_find.specs.Finding.{Finds, console}
 use Rattle.bac_find.specs.Hearing.{Found}
 use Rattle.bac_find.specs.declared.search.Search.{Search}
 use Rattle.bac_ports.specs.declared.udp_port.UdpPort.{UdpPort}
@@ -30,4 +30,5 @@ abbrev pub Searches : Search → List (List ℕ) → Option (List ℕ) → ℕ �
 Searches search addresses local timeout old new result =
     IsClosed old new result
     ⊎ ((port : UdpPort) × (found : Found) × (after : UdpPort) × IsOpen (own_address local) timeout port
-    × Finds any_send any_receive 4096 search addresses port old found after new × (result ≡ of_found found))
+    × Finds any_send any_receive 4096 search addresses (console port old) found (console after new)
+    × (result ≡ of_found found))

@@ -1,5 +1,5 @@
 -- What the program does with its words. Read from the end. `input` is what the reader had and `left` what it has left;
--- `old` and `new` are what the output held before and holds now, each where that is known.
+-- `old` and `new` are what the output held before and holds now, each if that is known.
 use Rattle.std.specs.Prelude.{◌≡◌, ◌≢◌, ◌≤◌, ◌⊎◌, ℕ, ◌==◌, if◌then◌else◌, List, [], Option, Some, None, Result, Ok, Err}
 use Rattle.std.specs.List.{list_any}
 use Rattle.std.specs.Io.KnownBytes.{Keeps}
@@ -13,7 +13,6 @@ use Rattle.bac_link.specs.Delivery.{History, Moment}
 use Rattle.bac_link.specs.Path.{towards}
 use Rattle.bac_link.specs.declared.item.Item.{Item}
 use Rattle.bac_link.specs.declared.request.Request.{Request}
-use Rattle.bac_link.specs.Requests.{next_invoke}
 use Rattle.bac_link.specs.declared.request.Request.TheVariants as request
 use Rattle.bac_objects.specs.Build.{build_fault, built}
 use Rattle.bac_objects.specs.State.{State}
@@ -23,7 +22,7 @@ use Rattle.bac_ports.specs.declared.udp_link.UdpLink.{UdpLink}
 use Rattle.bac_ports.specs.declared.udp_port.UdpPort.{UdpPort}
 use Rattle.bac_print.specs.Output.{AppendsPart}
 use Rattle.bac_query.specs.Fetching.{EndsAs, Fetching, IsFetched, PrintsItems}
-use Rattle.bac_query.specs.Reading.{Answer, Held, ReadsOver}
+use Rattle.bac_query.specs.Reading.{Answer, Held, ReadsOver, next_way}
 use Rattle.bac_query.specs.Writing.{WritesOver}
 use Rattle.bac_tools.specs.Ending.{Ending, IsClosed}
 use Rattle.bac_tools.specs.Faults.{of_query}
@@ -40,7 +39,7 @@ use Rattle.bac_script.specs.Replay.{Replays}
 use Rattle.bac_script.specs.declared.configuration.Configuration.{Configuration}
 use Rattle.bac_script.specs.declared.replay.fault.ReplayFault.{ReplayFault}
 use Rattle.bac_script.specs.declared.replay.fault.ReplayFault.TheVariants.{Build}
-use Rattle.bac_serve.specs.Serving.{Done, Serves as ServesDevice}
+use Rattle.bac_serve.specs.Serving.{Done, Serves as ServesDevice, server}
 use Rattle.bac_serve.specs.Waiting.{has_interval}
 use Rattle.bac_walk.specs.Place.{WalkPlace, walk_at, walk_from_oldest}
 use Rattle.bac_walk.specs.Told.{Told}
@@ -84,8 +83,7 @@ abbrev pub Reads : Asked → ReadProperty → Held → Held → Ending → Type 
 Reads asked question old new result =
     IsClosed old new result
     ⊎ ((with : Asking) × (answer : Answer) × (left : UdpLink UdpPort) × IsAsking asked with
-    × ReadsOver socket_asks (towards with.transactions.route) (next_invoke with.transactions.invoke) question
-    with.transactions.retries with.link answer left old new
+    × ReadsOver socket_asks (next_way with.transactions) question with.link answer left old new
     × (result ≡ of_answer answer))
 
 -- WriteProperty, likewise
@@ -93,8 +91,7 @@ abbrev pub Writes : Asked → Request → Held → Held → Ending → Type 0
 Writes asked question old new result =
     IsClosed old new result
     ⊎ ((with : Asking) × (answer : Answer) × (left : UdpLink UdpPort) × IsAsking asked with
-    × WritesOver socket_asks (towards with.transactions.route) (next_invoke with.transactions.invoke) question
-    with.transactions.retries with.link answer left old new
+    × WritesOver socket_asks (next_way with.transactions) question with.link answer left old new
     × (result ≡ of_answer answer))
 
 -- no socket is honest
@@ -180,8 +177,8 @@ abbrev pub IsServed : {C : Type 0} → (C → Option CivilTime → C → Type 0)
 IsServed tells address wait count device clock result told =
     ((result ≡ Err Socket) × (told ≡ clock))
     ⊎ ((port : UdpPort) × (served : Done) × (new : UdpPort) × (after : State) × IsOpen address wait port
-    × ServesDevice any_send any_receive tells count port device clock served new after told
-        × (result ≡ of_served served))
+    × ServesDevice any_send any_receive tells count (server port device clock) served (server new after told)
+    × (result ≡ of_served served))
 
 -- a fifth of a second while a log has an interval, so that it takes its samples while nobody asks; else without limit
 abbrev pub wait_of : List ObjectLine → ℕ
@@ -194,9 +191,9 @@ Serves tells address count input left clock result told =
     ((fault : Fault) × IsConfigured input left (Err fault) × (result ≡ Err fault) × (told ≡ clock))
     ⊎ ((c : Configuration) × IsConfigured input left (Ok c)
     × (((fault : Fault) × IsUnbuilt (build_fault c.device c.objects.items) fault
-            × (result ≡ Err fault) × (told ≡ clock))
+    × (result ≡ Err fault) × (told ≡ clock))
     ⊎ ((build_fault c.device c.objects.items ≡ None)
-          × IsServed tells address (wait_of c.objects.items) count (built c.device c.objects.items) clock result told)))
+    × IsServed tells address (wait_of c.objects.items) count (built c.device c.objects.items) clock result told)))
 
 -- ---- any job
 
@@ -213,7 +210,7 @@ Works tells (job.Wp asked object_type instance property priority given index) in
     × Writes asked (request.WriteProperty w) old new result)) × (told ≡ clock)
 Works tells (job.Log asked instance from steps) input left old new clock result told =
     (((fault : Fault) × (IsNoWalk instance from fault × (result ≡ Err fault))
-            × Keeps old new) ⊎ Fetches asked (walk_from instance from) steps old new result)
+    × Keeps old new) ⊎ Fetches asked (walk_from instance from) steps old new result)
     × (told ≡ clock)
 Works tells (job.Serve address count) input left old new clock result told =
     Serves tells address count input left clock result told × Keeps old new
@@ -228,12 +225,12 @@ IsTold fault old new status =
     ((status ≡ exit_status fault) × AppendsPart old new (told_text fault))
     ⊎ ((status ≡ exit_status Memory) × AppendsPart old new (told_text Memory))
 
--- nothing is written on the errors where there is no fault
+-- nothing is written on the errors if there is no fault
 abbrev pub Ends : Ending → Held → Held → ℕ → Type 0
 Ends (Ok done) old new status = (status ≡ done) × Keeps old new
 Ends (Err fault) old new status = IsTold fault old new status
 
--- what the words ask for is done, or nothing is, for want of memory for the words
+-- what the words ask for is done, or nothing is, as there is no memory for the words
 abbrev pub Runs : {C : Type 0} → (C → Option CivilTime → C → Type 0) →
     Job → Held → Held → Held → Held → Held → Held → C → ℕ → C → Type 0
 Runs tells asked input left old new errors told clock status after =

@@ -16,7 +16,7 @@ use Rattle.bac_words.specs.declared.job.Asked.{Asked}
 abbrev pub IsOpen : List ℕ → ℕ → UdpPort → Type 0
 IsOpen address wait port = (port.opened_at ≡ address) × (port.wait ≡ wait)
 
--- any address of this machine and any free port, where the words name none
+-- any address of this machine and any free port, if the words name none
 abbrev pub own_address : Option (List ℕ) → List ℕ
 own_address local = unwrap_or local (0 ∷ 0 ∷ 0 ∷ 0 ∷ 0 ∷ 0 ∷ [])
 

@@ -1,4 +1,4 @@
--- What is told of a fault on standard error: its line, and where there is more to say, a second one.
+-- What is told of a fault on standard error: its line, and if there is more to say, a second one.
 use Rattle.std.specs.Prelude.{ℕ, List, [], ◌∷◌, ◌++◌, if◌then◌else◌, codes, decimal}
 use Rattle.bac_link.specs.declared.exchanges.ExchangeFault.{ExchangeFault}
 use Rattle.bac_link.specs.declared.exchanges.ExchangeFault.TheVariants as exchange

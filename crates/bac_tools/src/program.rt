@@ -54,7 +54,7 @@ fn walk(instance: u32, from: Option<u32>) -> Result<Walk, Fault>
     }
 }
 
-/// The priority to write at, where there is one.
+/// The priority to write at, if there is one.
 fn priority(number: u8) -> Option<u8>
     ensures { result ≡ priority_of number }
 {

@@ -158,7 +158,7 @@ fn text_of(alloc: Global, fault: Fault) -> Result<Vec<u8>, AllocError>
     Ok(text)
 }
 
-/// Writes a text with one write; where that is refused there is nowhere to tell it.
+/// Writes a text with one write; if that is refused there is nowhere to tell it.
 fn say<E: Write>(text: &[u8], errors: &mut E)
     ensures { AppendsPart (E.contents errors.old) (E.contents errors.new) text.now }
 {

@@ -1,5 +1,5 @@
-//! What the tools print and with how many writes, over links that answer from a list and writers that
-//! refuse or take little at a time. What each answer prints is in examples/*.talk.
+//! What the tools print and with how many writes, over links that answer from a list and writers
+//! that refuse or take little at a time. What each answer prints is in examples/*.talk.
 
 use bac_apdu::{ReadProperty, WriteProperty};
 use bac_link::{ExchangeFault, LogLink, Lost, Request, Transactions};
@@ -184,7 +184,7 @@ fn a_property_is_written(rt: HostRuntime) -> Result<(), Fail> {
     Ok(())
 }
 
-/// The line of each record, behind its number.
+/// The line of each record, after its number.
 const RECORD: &[u8] = b"2024-05-06T07:08:09.10 enum(0) 0000\n";
 
 /// An ACK without records.

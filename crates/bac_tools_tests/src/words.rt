@@ -6,7 +6,7 @@ use std::alloc::Global;
 use std::process::Abort;
 use std::test::Fail;
 
-/// The words behind the program's name, as what starts the program passes them.
+/// The words after the program's name, as what starts the program passes them.
 fn words_of(alloc: Global, line: &str, end: char) -> Result<Vec<String>, Fail> {
     let mut words = Vec::new(alloc);
     words.push(String::from_str(alloc, "bac")?)?;

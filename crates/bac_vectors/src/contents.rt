@@ -81,7 +81,7 @@ fn at_tag(alloc: Global, call: &str, tag: u8, octets: &[u8]) -> Result<String, F
     }
 }
 
-/// The value that is read, written behind a context tag.
+/// The value that is read, written after a context tag.
 fn context_again(alloc: Global, tag: u8, octets: &[u8]) -> Result<String, Fault> {
     if tag > 254 {
         return Err(Fault::BadLine);

@@ -48,7 +48,7 @@ fn begun(alloc: Global, words: &mut SplitWhitespace, bench: &mut Bench) -> Resul
     Ok(format!(in alloc; "{len} octets")?)
 }
 
-/// Whether it was written, and what now stands behind what the datagram began with.
+/// Whether it was written, and what now stands after what the datagram began with.
 fn told(alloc: Global, done: Result<(), Full>, bench: &Bench) -> Result<String, Fault> {
     let all = bench.out.octets();
     let text = match all.strip_prefix(bench.head.octets()) {

@@ -252,7 +252,7 @@ fn request(extent: Extent) -> Result<ReadRange, Fault>
 }
 
 /// The invoke ID, how many octets 55 the datagram begins with, the most octets of the ACK, and the
-/// range: what is selected, and the octets behind.
+/// range: what is selected, and the octets after.
 fn ack(alloc: Global, words: &mut SplitWhitespace, log: &TrendLog) -> Result<String, Fault> {
     let (invoke, before) = (number::<u8>(words)?, number::<usize>(words)?);
     let limit = number::<usize>(words)?;

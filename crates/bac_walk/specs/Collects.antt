@@ -59,7 +59,7 @@ AreWhole ended r H M by_oldest s ([] ∷ answers) = AreWhole ended r H (later M)
 AreWhole ended r H M by_oldest s ((x ∷ xs) ∷ []) = IsOfReply ended (x ∷ xs) (whole_reply r H (now M) by_oldest s)
 AreWhole ended r H M by_oldest s ((x ∷ xs) ∷ y ∷ answers) =
     ((x ∷ xs) ≡ whole_reply r H (now M) by_oldest s)
-        × AreWhole ended r H (later M) false (end_of s (x ∷ xs)) (y ∷ answers)
+    × AreWhole ended r H (later M) false (end_of s (x ∷ xs)) (y ∷ answers)
 
 -- the ordinal where a run begins: that of the next number, or for a walk from the oldest entry at the oldest of its
 -- first batch's moment
@@ -152,7 +152,7 @@ Goes false before s (x ∷ xs) after next =
 Goes true before s (Gap first until ∷ xs) after next = ⊥
 Goes true before s (Logged shown entry ∷ xs) after next =
     (shown ≡ sequence_number s → (t : ℕ) × (next ≡ sequence_number t) × Covers s (Logged shown entry ∷ xs) t)
-        × (after ≡ false)
+    × (after ≡ false)
 
 -- a turn and a step that aren't lost, and those of a log that the device doesn't have
 abbrev pub IsFound : WalkFault → Type 0

@@ -6,7 +6,7 @@ use Rattle.bac_walk.specs.Ordinals.{distance}
 use Rattle.bac_link.specs.Delivery.{History, Moment, Holds, now, later}
 use Rattle.bac_walk.specs.Turns.{IsBatch}
 
--- the ordinal that follows these items, where they begin at s
+-- the ordinal that follows these items, if they begin at s
 abbrev pub end_of : ℕ → List Item → ℕ
 end_of s [] = s
 end_of s (Gap first before ∷ items) = end_of (s + distance first before) items

@@ -36,7 +36,7 @@ abbrev pub heard_with : Option ℕ → ℕ → Option (List Entry) → Option Ac
 heard_with first count None = None
 heard_with first count (Some es) = Some (record { first = first; count = count; entries = es })
 
--- nothing, where it is that of another object or property, has an index, or an item is no record; its flags don't count
+-- nothing, if it is that of another object or property, has an index, or an item is no record; its flags don't count
 abbrev pub heard_of : Id → RangeAck → Option AckParameters
 heard_of log a = if is_of_log log a then heard_with a.first_number a.count (result_ok (records_in a.items)) else None
 
@@ -45,6 +45,6 @@ abbrev pub heard_if : Id → Option RangeAck → Option AckParameters
 heard_if log None = None
 heard_if log (Some a) = heard_of log a
 
--- and nothing, where they are no parameters of an ACK of ReadRange
+-- and nothing, if they are no parameters of an ACK of ReadRange
 unfoldable pub heard_at : Id → List ℕ → Option AckParameters
 heard_at log bytes = heard_if log (read_range_ack_at bytes)

@@ -10,4 +10,4 @@ use Rattle.bac_walk.specs.Sinks.{gaps_in}
 abbrev pub IsKept : ℕ → List Item → Option GapOf → Numbered → Bool → ℕ → List Item → Type 0
 IsKept room old gap item taken left new =
     (length old + gaps_in gap + 1 ≤ room → (taken ≡ true)
-          × (left ≡ room) × (new ≡ old ++ (gap_items gap ++ item_of item ∷ [])))
+    × (left ≡ room) × (new ≡ old ++ (gap_items gap ++ item_of item ∷ [])))

@@ -13,7 +13,7 @@ pub record IsNear (s : ℕ) (m : Moment) : Type 0 where
   pub above : m.oldest < s + 2147483648
   pub below : s < m.oldest + 2147483648
 
--- a walk at ordinal s is near at each answer of its next step: at the second where a second question is asked
+-- a walk at ordinal s is near at each answer of its next step: at the second if a second question is asked
 abbrev pub IsNearStep : ℕ → List Moment → Type 0
 IsNearStep s M = IsNear s (now M) × (NoneOfHundred s (now M) → IsNear s (now (later M)))
 
@@ -22,7 +22,7 @@ IsNearStep s M = IsNear s (now M) × (NoneOfHundred s (now M) → IsNear s (now 
 abbrev pub StaysNear : ℕ → History → List Moment → Bool → ℕ → ℕ → Type 0
 StaysNear r H M fresh s steps = (i retries old new t : ℕ) (items : List Item) (answers : List (List Item)) →
     i < steps → Collected r H M fresh s i retries old new items t StepLimit answers →
-        (batches answers ≡ 0 → fresh ≡ false) →
+    (batches answers ≡ 0 → fresh ≡ false) →
     IsNearStep t (after_answers (length answers) M)
 
 -- A plain premise that is enough: all that is logged or held at any of the moments lies within half of the count from

@@ -6,7 +6,7 @@ use Rattle.bac_walk.specs.declared.outcome.Why.{Why}
 use Rattle.bac_walk.specs.declared.outcome.Why.TheVariants.{CaughtUp as WasUp, StepLimit as WasLimit, Fault as WasFault}
 use Rattle.bac_walk.specs.declared.outcome.Why.TheVariants.{Memory}
 
--- a run of so many steps that ended so is one of n steps over a link; want of memory ends it as if n had been asked for
+-- a run of so many steps that ended so is one of n steps over a link; out of memory, it ends as if n had been asked for
 abbrev pub IsRunOf : Why → ℕ → ℕ → Ended → Type 0
 IsRunOf WasUp steps n ended = (n ≡ steps) × (ended ≡ CaughtUp)
 IsRunOf WasLimit steps n ended = (n ≡ steps) × (ended ≡ StepLimit)

@@ -7,7 +7,7 @@ use Rattle.bac_walk.specs.declared.read.Said.{Said}
 use Rattle.bac_walk.specs.Heard.{AckParameters, heard_at, records_in}
 use Rattle.bac_walk.specs.Spelled.{data_in}
 
--- how many records there are, where all octets are records
+-- how many records there are, if all octets are records
 abbrev pub IsCounted : Option ℕ → Result (List Entry) WireFault → Type 0
 IsCounted None read = (fault : WireFault) × (read ≡ Err fault)
 IsCounted (Some count) read = (es : List Entry) × (read ≡ Ok es) × (count ≡ length es)
@@ -17,5 +17,5 @@ abbrev pub IsSaid : Id → List ℕ → Option Said → Type 0
 IsSaid log ack None = heard_at log ack ≡ None
 IsSaid log ack (Some said) =
     (h : AckParameters) × (heard_at log ack ≡ Some h)
-        × (said.first ≡ h.first) × (said.count ≡ h.count) × (said.total ≡ length h.entries)
+    × (said.first ≡ h.first) × (said.count ≡ h.count) × (said.total ≡ length h.entries)
     × (records_in (data_in ack) ≡ Ok h.entries)

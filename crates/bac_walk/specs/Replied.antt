@@ -39,7 +39,7 @@ IsJudged old ack (Ok verdict.AskOldest) new = IsTakenFrom old (heard_at old.log 
 IsJudged old ack (Ok verdict.CaughtUp) new = IsTakenFrom old (heard_at old.log ack) (Ok CaughtUp) new
 IsJudged old ack (Ok (verdict.Records gap first)) new =
     (whole : IsWhole first (data_in ack))
-        × IsTakenFrom old (heard_at old.log ack) (Ok (BatchOf (batch_from gap first (data_in ack) whole))) new
+    × IsTakenFrom old (heard_at old.log ack) (Ok (BatchOf (batch_from gap first (data_in ack) whole))) new
 
 -- what a walk hears in a datagram
 abbrev pub heard_from : Id → Option (List ℕ) → Option AckParameters

@@ -31,7 +31,7 @@ abbrev pub extent_of : Wanted → Extent
 extent_of (FromOrdinal s) = ByNumber (sequence_number s) (pos 100)
 extent_of FromOldest = ByTime first_date first_time (pos 100)
 
--- the first and the last ordinal that are held and asked for; where the first is above the last, there is none
+-- the first and the last ordinal that are held and asked for; if the first is above the last, there is none
 abbrev pub first_asked : Wanted → Moment → ℕ
 first_asked (FromOrdinal s) m = max s m.oldest
 first_asked FromOldest m = m.oldest

@@ -58,7 +58,7 @@ IsRest rested items shown ended =
 abbrev pub Rests : Rested → ℕ → List Item → ℕ → Why → Type 0
 Rests rested steps items next why =
     (why ≡ Memory) ⊎ ((items ≡ rested.items) × (next ≡ sequence_number rested.next)
-          × IsRunOf why steps steps rested.ended)
+    × IsRunOf why steps steps rested.ended)
 
 -- a walk of a log that isn't there
 abbrev pub end_missing : ℕ → Ended

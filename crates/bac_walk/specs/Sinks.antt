@@ -34,7 +34,7 @@ abbrev pub gaps : List Call → ℕ
 gaps [] = 0
 gaps (c ∷ calls) = gaps_in c.gap + gaps calls
 
--- the sink after these calls of put, in order, each answered true but for the last where it was stopped
+-- the sink after these calls of put, in order, each answered true but for the last if it was stopped
 abbrev pub Takes : {S : Type 0} → (S → Option GapOf → Numbered → Bool → S → Type 0) → S → List Call → Bool → S → Type 0
 Takes {S = S} puts old [] stopped new = (new ≡ old) × (stopped ≡ false)
 Takes {S = S} puts old (c ∷ calls) stopped new =
@@ -68,7 +68,7 @@ IsRun was is retries old new before after steps ended items =
     × is r (after_answers (length answers) M) H × IsFreshAfter before.fresh answers after.fresh)
 
 -- such a run into a sink: over any link each step puts at most 100 records and at most one gap; each brought a record
--- at least where it ended since there were so many
+-- at least if it ended since there were so many
 abbrev pub Delivery : {S : Type 0} → (S → Option GapOf → Numbered → Bool → S → Type 0) → S → S →
     (ℕ → List Moment → History → Type 0) → (ℕ → List Moment → History → Type 0) →
     ℕ → ℕ → ℕ → WalkPlace → WalkPlace → ℕ → Ended → Type 0
@@ -79,11 +79,11 @@ Delivery {S = S} puts sink left was is retries old new before after steps ended 
     × (ended ≡ StepLimit → steps ≤ length calls)
 
 -- Over a link that was honest, wherever the walk stays near: from the ordinal of its number on, or from that of the
--- oldest record where it begins there, so many answers deliver the items, and the link is honest still.
+-- oldest record if it begins there, so many answers deliver the items, and the link is honest still.
 abbrev pub IsDelivered : (ℕ → List Moment → History → Type 0) →
     (ℕ → List Moment → History → Type 0) → WalkPlace → WalkPlace → ℕ → List Item → Type 0
 IsDelivered was is before after steps items =
     (r : ℕ) (M : List Moment) (H : History) (s : ℕ) →
-        was r M H → before.next ≡ sequence_number s → StaysNear r H M before.fresh s steps →
+    was r M H → before.next ≡ sequence_number s → StaysNear r H M before.fresh s steps →
     (b : ℕ) × (a : ℕ) × (t : ℕ) × (before.fresh ≡ false → b ≡ s) × (after.next ≡ sequence_number t)
     × DeliversTo H b items t M a × is r (after_answers a M) H

@@ -9,7 +9,7 @@ use Rattle.bac_walk.specs.Heard.{records_in}
 use Rattle.bac_walk.specs.Takes.{parameters_in}
 use Rattle.bac_walk.specs.Walks.{with_numbers}
 
--- the item data of an ACK, and no octets where there is none
+-- the item data of an ACK, and no octets if there is none
 abbrev pub item_data : Option RangeAck → List ℕ
 item_data None = []
 item_data (Some a) = a.items
@@ -32,7 +32,7 @@ abbrev pub all_or_none : Option (List Entry) → List Entry
 all_or_none None = []
 all_or_none (Some es) = es
 
--- the records that octets encode, and none where they aren't records all through
+-- the records that octets encode, and none if they aren't records all through
 abbrev pub spelled : List ℕ → List Entry
 spelled octets = all_or_none (result_ok (records_in octets))
 

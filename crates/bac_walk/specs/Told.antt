@@ -34,7 +34,7 @@ IsFault w result (Refused refusal) = result ≡ Err (fault.Refused refusal)
 IsFault w result BadReply =
     (result ≡ Err fault.BadReply)
     ⊎ ((datagram : List ℕ) × (bad : NotTaken)
-          × (result ≡ Ok datagram) × IsTakenFrom w (heard_in w.log datagram) (Err bad) w)
+    × (result ≡ Ok datagram) × IsTakenFrom w (heard_in w.log datagram) (Err bad) w)
 
 -- the question of a walk that is here was asked last, and its result is this fault
 abbrev pub ToldFault : {S : Type 0} → (S → List ℕ → Result (List ℕ) Loss → S → Type 0) →
@@ -46,7 +46,7 @@ ToldFault {S = S} asks path retries fault w new =
 abbrev pub ToldUp : {S : Type 0} → (S → List ℕ → Result (List ℕ) Loss → S → Type 0) → Path → ℕ → WalkPlace → S → Type 0
 ToldUp {S = S} asks path retries w new =
     (datagram : List ℕ) × HasAsked asks path retries w (Ok datagram) new
-        × IsTakenFrom w (heard_in w.log datagram) (Ok IsUp) w
+    × IsTakenFrom w (heard_in w.log datagram) (Ok IsUp) w
 
 -- one turn, from a place to another
 abbrev pub ToldTurn : {S : Type 0} → (S → List ℕ → Result (List ℕ) Loss → S → Type 0) → Path → ℕ → WalkPlace →

@@ -8,7 +8,7 @@ use Rattle.bac_link.specs.Delivery.{History, Moment, now, later}
 use Rattle.bac_walk.specs.Place.{WalkPlace}
 use Rattle.bac_walk.specs.Turns.{IsTurn}
 
--- the answer of the next moment and what it means, or Lost where the count of failures rose by more than the retries
+-- the answer of the next moment and what it means, or Lost if the count of failures rose by more than the retries
 abbrev pub IsTurned : (List Moment → Type 0) →
     ℕ → List Moment → History → ℕ → WalkPlace → ℕ → ℕ → ℕ → Result Progress WalkFault → WalkPlace → Type 0
 IsTurned stays r M H s w retries old new (Ok p) after = IsTurn r H (now M) s w p after × stays (later M)

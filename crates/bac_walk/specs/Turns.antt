@@ -27,7 +27,7 @@ AreRecords H m s (Gap first before ∷ items) = ⊥
 AreRecords H m s (Logged shown entry ∷ items) =
     (shown ≡ sequence_number s) × Holds m s × IsEntry H s entry × AreRecords H m (s + 1) items
 
--- one batch: entries held at the moment, at least one. Where they don't begin at s, a gap comes first: it shows
+-- one batch: entries held at the moment, at least one. If they don't begin at s, a gap comes first: it shows
 -- the oldest held as its end, and is just so long
 abbrev pub IsBatch : History → Moment → ℕ → List Item → Type 0
 IsBatch H m s [] = ⊥
@@ -44,8 +44,8 @@ NoneOfHundred s m = (k : ℕ) → s ≤ k → k < s + 100 → Holds m k → ⊥
 abbrev pub reply_count : ℕ → History → Moment → Bool → ℕ → ℕ
 reply_count r H m by_oldest s =
     fitting r (max s m.oldest)
-        (entries_from H
-          (max s m.oldest) ((min ((if by_oldest then max s m.oldest else s) + 99) m.newest + 1) - max s m.oldest))
+    (entries_from H
+    (max s m.oldest) ((min ((if by_oldest then max s m.oldest else s) + 99) m.newest + 1) - max s m.oldest))
 
 -- the items of one whole reply to a walk that is at ordinal s: all entries that fit it of those that are held and
 -- asked for, with the gap before them

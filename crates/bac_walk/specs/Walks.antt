@@ -27,7 +27,7 @@ asks_oldest_now w = w.fresh || w.asks_oldest
 abbrev pub question_of : WalkPlace → Extent
 question_of w = if asks_oldest_now w then ByTime first_date first_time (pos 100) else ByNumber w.next (pos 100)
 
--- what that is where the walk is at ordinal s
+-- what that is when the walk is at ordinal s
 abbrev pub wanted_at : WalkPlace → ℕ → Wanted
 wanted_at w s = if asks_oldest_now w then FromOldest else FromOrdinal s
 
@@ -85,8 +85,8 @@ fits w first count =
     && (is_number first
     && (asks_oldest_now w || nat_le (distance w.next first + count) 100))
 
--- without records: no more, or ask for the oldest; with records and no first number: refused; where those are past: no
--- more; else they are taken where the count is right and they were asked for
+-- without records: no more, or ask for the oldest; with records and no first number: refused; if those are past: no
+-- more; else they are taken if the count is right and they were asked for
 abbrev pub verdict : WalkPlace → Option ℕ → ℕ → List Entry → NextAct
 verdict w first count [] = if asks_oldest_now w then End else Ask
 verdict w None count (e ∷ es) = Refuse

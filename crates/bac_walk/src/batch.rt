@@ -19,7 +19,7 @@ pub struct Numbered {
     pub entry: Entry,
 }
 
-/// What one answer brings: 1 to 100 records, with the gap before them where there is one.
+/// What one answer brings: 1 to 100 records, with the gap before them if there is one.
 #[derive(Drop)]
 pub struct Batch {
     pub gap: Option<Gap>,

@@ -53,7 +53,7 @@ impl Sink for Kept {
 }
 
 /// At most so many steps of a walk, and what they brought: a step is one batch, or the finding that
-/// there is none. Room for 101 items is made before each step, so where there is none (`Memory`)
+/// there is none. Room for 101 items is made before each step, so if there is none (`Memory`)
 /// nothing of that step was asked, and the next number is right. After a fault the items and the
 /// next number of all steps before it stand. "Caught up" says that at some answer after the last
 /// batch no record was as new as the next number, not that nothing was logged since.
@@ -78,17 +78,18 @@ pub fn collect<L: LogLink>(
     // fault, or that there is no more.
     ensures limit { result.why ≡ Why.StepLimit → steps ≤ length result.items.items }
     ensures told { Told L.asks (towards transactions.old.route) transactions.old.retries (ended_of result.why) walk.new link.new }
-    // Over an honest link it delivers the records from its number on that the log holds when each is
-    // reached, each once, in rising order, with one exact gap for what is gone. The number is that of
-    // ordinal s, and wherever the walk comes it is less than half of the count away from the oldest
-    // record held.
+    // Over an honest link it delivers the records from its number on that the log holds when each
+    // is reached, each once, in rising order, with one exact gap for what is gone. The number is
+    // that of ordinal s, and wherever the walk comes it is less than half of the count away from
+    // the oldest record held.
     ensures headline { (r : ℕ) (M : List Moment) (H : History) (s : ℕ) →
         L.is_honest link.old walk.old.log r M H → walk.old.next ≡ sequence_number s →
         StaysNear r H M walk.old.fresh s steps →
         (b : ℕ) × (a : ℕ) × (t : ℕ) × (walk.old.fresh ≡ false → b ≡ s) × (walk.new.next ≡ sequence_number t)
         × DeliversTo H b result.items.items t M a × L.is_honest link.new walk.old.log r (after_answers a M) H }
-    // It is a run of so many steps, or of fewer that had no memory for the next, of which nothing was
-    // asked: over any link, and over an honest one with all that its answers brought and how it ended.
+    // It is a run of so many steps, or of fewer that had no memory for the next, of which nothing
+    // was asked: over any link, and over an honest one with all that its answers brought and how it
+    // ended.
     ensures delivers { (n : ℕ) × (ended : EndedOf) × IsRunOf result.why steps n ended
         × IsRun (λ r M H. L.is_honest link.old walk.old.log r M H) (λ r M H. L.is_honest link.new walk.old.log r M H)
         transactions.old.retries (L.failures link.old) (L.failures link.new) walk.old walk.new n ended result.items.items
@@ -132,7 +133,7 @@ pub fn collect<L: LogLink>(
     }
 }
 
-// Makes room for the items of a step; false where there is no memory.
+// Makes room for the items of a step; false if there is no memory.
 fn make_room(kept: &mut Kept) -> bool
     ensures items { kept.new.items.items ≡ kept.old.items.items }
     ensures room { result ≡ true → length kept.new.items.items + 101 ≤ vec_capacity kept.new.items }

@@ -8,7 +8,8 @@ ghost use Rattle.bac_walk.specs.Runs.{CollectedIsDelivered, RunsDeliver, RunsJoi
 
 use bac_link::LogLink;
 
-/// With steps enough, a walk over a log that doesn't change delivers all that is held from there on.
+/// With steps enough, a walk over a log that doesn't change delivers all that is held from there
+/// on.
 pub fn rests_all()
     ensures { RestsAll }
 {}
@@ -19,7 +20,7 @@ pub fn rest_resumes()
     ensures { RestResumes }
 {}
 
-/// A walk stays near its log where all moments lie within half of the count from one ordinal on, as
+/// A walk stays near its log if all moments lie within half of the count from one ordinal on, as
 /// does the ordinal where it begins, unless that is the oldest record.
 pub fn windows_are_near()
     ensures { WindowsAreNear }

@@ -1,7 +1,8 @@
-//! The walk of a trend log: which question comes next, what an answer brings, and what is delivered.
+//! The walk of a trend log: which question comes next, what an answer brings, and what is
+//! delivered.
 //!
-//! A [`Walk`] is a place in a log. It asks for the records from its next number on, and where none
-//! of them is held, for the oldest ([`Walk::question`], [`Walk::take`], [`Walk::step`]). [`deliver`]
+//! A [`Walk`] is a place in a log. It asks for the records from its next number on, and if none of
+//! them is held, for the oldest ([`Walk::question`], [`Walk::take`], [`Walk::step`]). [`deliver`]
 //! puts record after record into a [`Sink`], with a gap before each that doesn't follow its
 //! predecessor; [`collect`] keeps them. Over an honest link they deliver exactly the records that
 //! the log holds when each is reached, each once, in rising order.

@@ -42,7 +42,7 @@ pub(crate) fn ack_parameters(datagram: &[u8]) -> Option<&[u8]>
     }
 }
 
-/// The item data of the ACK of ReadRange in a datagram; no octets where there is none.
+/// The item data of the ACK of ReadRange in a datagram; no octets if there is none.
 pub(crate) fn data_of(datagram: &[u8]) -> &[u8]
     ensures { result.now ≡ data_held datagram.now }
 {
@@ -52,7 +52,7 @@ pub(crate) fn data_of(datagram: &[u8]) -> &[u8]
     }
 }
 
-/// The item data of an ACK of ReadRange with these parameters; no octets where there is none.
+/// The item data of an ACK of ReadRange with these parameters; no octets if there is none.
 pub(crate) fn data_in(parameters: &[u8]) -> &[u8]
     ensures { result.now ≡ data_in parameters.now }
 {
@@ -80,7 +80,7 @@ pub(crate) fn next_record(octets: &[u8]) -> Option<(Entry, &[u8])>
     }
 }
 
-/// How many records there are, where all octets are records.
+/// How many records there are, if all octets are records.
 fn count_of(octets: &[u8]) -> Option<usize>
     ensures { IsCounted result (records_in octets.now) }
 {

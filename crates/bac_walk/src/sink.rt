@@ -23,19 +23,21 @@ use bac_link::{LogLink, Transactions};
 
 /// Takes records one at a time.
 pub trait Sink {
-    /// What putting a record makes of it: the sink before, the gap, the record, the answer, the sink after.
+    /// What putting a record makes of it: the sink before, the gap, the record, the answer, the
+    /// sink after.
     ghost puts: { Self → Option GapOf → NumberedOf → Bool → Self → Type 0 };
 
-    /// Takes a record, with the gap before it; false where it wants no more.
+    /// Takes a record, with the gap before it; false if it wants no more.
     fn put(&mut self, gap: Option<Gap>, item: Numbered) -> bool
         ensures { puts self.old gap item result self.new };
 }
 
-/// At most so many steps of a walk, whose records are put into a sink one after the other, until one
-/// is answered with false: then it ends as `Stopped`, drops the rest of that reply, and the walk goes
-/// on behind that record. A reply is kept as the octets that came and checked whole before its first
-/// record is put; each record is decoded as it is put. It takes no memory. Over every link it puts at
-/// most 100 records a step, at most one of them with a gap, and begins at most two transactions a step.
+/// At most so many steps of a walk, whose records are put into a sink one after the other, until
+/// one is answered with false: then it ends as `Stopped`, drops the rest of that reply, and the
+/// walk goes on after that record. A reply is kept as the octets that came and checked whole before
+/// its first record is put; each record is decoded as it is put. It takes no memory. Over every
+/// link it puts at most 100 records a step, at most one of them with a gap, and begins at most two
+/// transactions a step.
 pub fn deliver<L: LogLink, S: Sink>(
     link: &mut L,
     transactions: &mut Transactions,
@@ -53,8 +55,8 @@ pub fn deliver<L: LogLink, S: Sink>(
         × (link.new ≡ link.old) × (transactions.new ≡ transactions.old) }
     // Over any link, the last exchange told the fault, or that there is no more.
     ensures told { Told L.asks (towards transactions.old.route) transactions.old.retries result walk.new link.new }
-    // Over an honest link it delivers the records from its number on that the log holds when each is
-    // reached, each once, in rising order, with one exact gap for what is gone.
+    // Over an honest link it delivers the records from its number on that the log holds when each
+    // is reached, each once, in rising order, with one exact gap for what is gone.
     ensures headline { (calls : List Call) × Takes S.puts sink.old calls (is_stopped result) sink.new
         × IsDelivered (λ r M H. L.is_honest link.old walk.old.log r M H) (λ r M H. L.is_honest link.new walk.old.log r M H)
         walk.old walk.new steps (put_items calls) }
@@ -108,6 +110,7 @@ fn deliver_step<L: LogLink, S: Sink>(
     ensures refused { L.lacks link.old walk.old.log → L.is_sure link.old (towards transactions.old.route) → FoundEnd result }
 {
     let replied = walk.reply(link, transactions);
+    // For the prover alone: the next number is a sequence number.
     let _next = walk.next_number();
     hand_on(walk, replied, sink)
 }

@@ -112,7 +112,8 @@ impl Walk {
         // walk's number up to the new one.
         ensures told { Told L.asks (towards transactions.old.route) transactions.old.retries (step_ended result) self.new link.new }
         ensures goes { (s : ℕ) → Goes self.old.fresh self.old.next s (step_items result) self.new.fresh self.new.next }
-        // Over an honest link it delivers the next records that the log holds, with the gap before them.
+        // Over an honest link it delivers the next records that the log holds, with the gap before
+        // them.
         ensures headline { (r : ℕ) (M : List Moment) (H : History) (s : ℕ) →
             L.is_honest link.old self.old.log r M H → self.old.next ≡ sequence_number s → (self.old.fresh ≡ false → IsNearStep s M) →
             (b : ℕ) × (a : ℕ) × (t : ℕ) × (self.old.fresh ≡ false → b ≡ s) × (self.new.next ≡ sequence_number t)
@@ -130,7 +131,7 @@ impl Walk {
         decoded(self.reply(link, transactions))
     }
 
-    // The same, where a reply that brings records stays as it came.
+    // The same, but a reply with records is kept as its octets.
     pub(crate) fn reply<L: LogLink>(
         &mut self,
         link: &mut L,

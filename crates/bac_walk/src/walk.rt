@@ -22,7 +22,7 @@ use bac_wire::{Date4, ObjectId, Time4};
 use std::marker::Model;
 
 /// A place in a trend log, from which its records are asked for: a hundred at a time, by their
-/// numbers, and where none of these is held, the oldest.
+/// numbers, and if none of these is held, the oldest.
 #[derive(Drop)]
 pub struct Walk {
     log: ObjectId,
@@ -42,7 +42,7 @@ impl Model for Walk {
 }
 
 impl Walk {
-    /// A walk from this number on; `None` where it is 0, or the object isn't a trend log.
+    /// A walk from this number on; `None` if it is 0, or the object isn't a trend log.
     pub fn from_number(log: ObjectId, s: u32) -> Option<Walk>
         ensures some { IfSome result (λ w. w ≡ walk_at log s) }
         ensures is_some { IsSome result ↔ (0 < s) × (log.kind ≡ 20) }
@@ -58,7 +58,7 @@ impl Walk {
         })
     }
 
-    /// A walk from the oldest record on; `None` where the object isn't a trend log.
+    /// A walk from the oldest record on; `None` if the object isn't a trend log.
     pub fn oldest(log: ObjectId) -> Option<Walk>
         ensures some { IfSome result (λ w. w ≡ walk_from_oldest log) }
         ensures is_some { IsSome result ↔ log.kind ≡ 20 }
@@ -74,7 +74,7 @@ impl Walk {
         })
     }
 
-    /// The number that the walk asks for next; 1 where it begins at the oldest record and had no
+    /// The number that the walk asks for next; 1 if it begins at the oldest record and had no
     /// batch yet.
     pub fn next_number(&self) -> u32
         ensures next { result ≡ self.now.next }
@@ -91,6 +91,7 @@ impl Walk {
         ensures fits { IsTooLong result → ⊥ }
     {
         let object = self.log();
+        // For the prover alone, all three: their numbers are small enough for a request.
         let _kind = object.kind();
         let _instance = object.instance();
         let _next = self.next_number();
@@ -140,13 +141,13 @@ impl Walk {
         self.asks_oldest = false;
     }
 
-    /// Takes the service parameters of the ACK that answers the question (clause 15.8). Records that
-    /// were asked for are a batch, with a gap before them where they begin behind the next number;
-    /// numbers come round, and half of them lie ahead.
-    /// Without records, the oldest are asked for next; where none newer than the walk is there
-    /// either, it is caught up. `BadReply`, with the walk as it was, where the ACK is that of
-    /// another object or property or has an index, an item is no record, records have no first
-    /// number, or count, records and what was asked for don't agree. The flags aren't looked at.
+    /// Takes the service parameters of the ACK that answers the question (clause 15.8). Records
+    /// that were asked for are a batch, with a gap before them if they begin after the next number;
+    /// numbers come round, and half of them lie ahead. Without records, the oldest are asked for
+    /// next; if none newer than the walk is there either, it is caught up. `BadReply`, with the
+    /// walk as it was, if the ACK is that of another object or property or has an index, an item is
+    /// no record, records have no first number, or count, records and what was asked for don't
+    /// agree. The flags aren't looked at.
     pub fn take(&mut self, ack: &[u8]) -> Result<Progress, BadReply>
         ensures { IsTakenFrom self.old (heard_at self.old.log ack.now) result self.new }
     {
@@ -161,7 +162,8 @@ impl Walk {
         }
     }
 
-    /// What `take` makes of the parameters of an ACK. Each of its records is read, and none is kept.
+    /// What `take` makes of the parameters of an ACK. Each of its records is read, and none is
+    /// kept.
     pub(crate) fn judge(&mut self, ack: &[u8]) -> Result<Verdict, BadReply>
         ensures { IsJudged self.old ack.now result self.new }
     {

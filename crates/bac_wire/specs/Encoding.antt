@@ -4,11 +4,11 @@ use Rattle.std.specs.Prelude.{ℕ, List}
 use Rattle.bac_wire.specs.Primitive.{Primitive}
 use Rattle.bac_wire.specs.Canon.{tag_octets, canon, canon_context}
 
--- a value behind the context tag of this number (clause 20.2.1.5)
+-- a value after the context tag of this number (clause 20.2.1.5)
 unfoldable pub context_octets : ℕ → Primitive → List ℕ
 context_octets tag value = canon_context tag value
 
--- a value behind its application tag (clause 20.2.1.4)
+-- a value after its application tag (clause 20.2.1.4)
 unfoldable pub value_octets : Primitive → List ℕ
 value_octets value = canon value
 

@@ -3,7 +3,7 @@
 use Rattle.std.specs.Prelude.{ℕ, ◌/◌, ◌%◌, Bool, false, not, ◌&&◌, nat_lt, nat_le, ◌==◌, List, [], ◌∷◌, Option, Some}
 use Rattle.std.specs.Prelude.{None, if◌then◌else◌}
 
--- the number in the octet behind the first, beside the low four bits of the first
+-- the number in the octet after the first, beside the low four bits of the first
 abbrev pub own_number : ℕ → List ℕ → Option (ℕ × ℕ)
 own_number low [] = None
 own_number low (own ∷ rest) = if own == 255 then None else Some (low, own)
@@ -19,7 +19,7 @@ abbrev pub if_tag : (ℕ × ℕ → Bool) → Option (ℕ × ℕ) → Bool
 if_tag test None = false
 if_tag test (Some tag) = test tag
 
--- a value behind the context tag of this number
+-- a value after the context tag of this number
 abbrev pub value_next : ℕ → List ℕ → Bool
 value_next number bytes = if_tag (λ tag. nat_le 8 tag.0 && nat_le tag.0 13 && tag.1 == number) (next_tag bytes)
 

@@ -19,7 +19,7 @@ pub fn canon_is_read()
     ensures { (value : Primitive) → IsValid value → Spells (canon value) value }
 {}
 
-/// No encoding of a value, with its application tag or behind a context tag, has fewer octets than
+/// No encoding of a value, with its application tag or after a context tag, has fewer octets than
 /// what is written for it. The same holds for opening and closing tags, whose three low bits are
 /// `low`.
 pub fn canon_is_shortest()
@@ -33,7 +33,7 @@ pub fn value_is_read_back()
     ensures { (value : Primitive) (rest : List ℕ) → IsValid value → value_at (canon value ++ rest) ≡ Ok (value, rest) }
 {}
 
-/// What is written for a value behind a context tag is read back as its contents, whatever follows
+/// What is written for a value after a context tag is read back as its contents, whatever follows
 /// it, and the contents as that value.
 pub fn context_is_read_back()
     ensures contents { (tag : ℕ) (value : Primitive) (rest : List ℕ) → tag < 255 → IsValid value → context_at tag (canon_context tag value ++ rest) ≡ Ok (contents_of value, rest) }
@@ -52,7 +52,7 @@ pub fn marks_are_read_back()
     ensures closing { (tag : ℕ) (rest : List ℕ) → tag < 255 → mark_at 7 tag (tag_octets 8 tag 7 ++ rest) ≡ Ok (tt, rest) }
 {}
 
-/// What is written for a value behind a context tag is an encoding of it. The same holds for
+/// What is written for a value after a context tag is an encoding of it. The same holds for
 /// opening and closing tags, whose three low bits are `low`.
 pub fn context_is_spelled()
     ensures contents { (tag : ℕ) (value : Primitive) → tag < 255 → IsValid value → IsTagged 8 tag (contents_of value) (canon_context tag value) }

@@ -30,7 +30,7 @@ fn next_tag(bytes: &[u8]) -> Option<(u8, u8)>
     }
 }
 
-/// Whether a value behind the context tag of this number is next. Its length isn't looked at.
+/// Whether a value after the context tag of this number is next. Its length isn't looked at.
 pub fn is_value_next(bytes: &[u8], number: u8) -> bool
     ensures { result ≡ value_next number bytes.now }
 {

@@ -74,7 +74,7 @@ pub(crate) fn has_length_of(kind: PrimitiveType, len: usize) -> bool
     }
 }
 
-/// The value of contents that have a length of their type. A Boolean has none behind its
+/// The value of contents that have a length of their type. A Boolean has none after its
 /// application tag.
 #[tactic(auto, unfolding(crate::specs::Reading::value_in))]
 pub(crate) fn value_of_contents(kind: PrimitiveType, contents: &[u8]) -> Result<Value, WireFault>
@@ -187,7 +187,7 @@ fn enumerated_of(contents: &[u8]) -> Result<Value, WireFault>
     Ok(Value::Enumerated(number as u32))
 }
 
-/// The contents of an Unsigned behind a context tag, 1 to 8 octets (clause 20.2.4). BadLength for
+/// The contents of an Unsigned after a context tag, 1 to 8 octets (clause 20.2.4). BadLength for
 /// any other length.
 #[tactic(auto, unfolding(crate::specs::Reading::contents_as, crate::specs::Reading::value_in))]
 pub fn as_unsigned(contents: &[u8]) -> Result<u64, WireFault>
@@ -199,7 +199,7 @@ pub fn as_unsigned(contents: &[u8]) -> Result<u64, WireFault>
     Ok(unsigned_of(contents))
 }
 
-/// The contents of a Signed behind a context tag, 1 to 8 octets in two's complement (clause
+/// The contents of a Signed after a context tag, 1 to 8 octets in two's complement (clause
 /// 20.2.5). BadLength for any other length.
 #[tactic(auto, unfolding(crate::specs::Reading::contents_as, crate::specs::Reading::value_in))]
 pub fn as_signed(contents: &[u8]) -> Result<i64, WireFault>
@@ -211,7 +211,7 @@ pub fn as_signed(contents: &[u8]) -> Result<i64, WireFault>
     Ok(signed_of(contents))
 }
 
-/// The contents of a Boolean behind a context tag, one octet (clause 20.2.3). BadLength for any
+/// The contents of a Boolean after a context tag, one octet (clause 20.2.3). BadLength for any
 /// other length, BadContents unless the octet is 0 or 1.
 #[tactic(auto, unfolding(crate::specs::Reading::contents_as))]
 pub fn as_boolean(contents: &[u8]) -> Result<bool, WireFault>
@@ -228,7 +228,7 @@ pub fn as_boolean(contents: &[u8]) -> Result<bool, WireFault>
     }
 }
 
-/// The contents of an Enumerated behind a context tag, 1 to 8 octets (clause 20.2.11). BadLength
+/// The contents of an Enumerated after a context tag, 1 to 8 octets (clause 20.2.11). BadLength
 /// for any other length, BadContents for a number of 2^32 and more.
 #[tactic(auto, unfolding(crate::specs::Reading::contents_as, crate::specs::Reading::value_in))]
 pub fn as_enumerated(contents: &[u8]) -> Result<u32, WireFault>
@@ -244,7 +244,7 @@ pub fn as_enumerated(contents: &[u8]) -> Result<u32, WireFault>
     Ok(number as u32)
 }
 
-/// The contents of a Bit String behind a context tag (clause 20.2.10): how many bits of the last
+/// The contents of a Bit String after a context tag (clause 20.2.10): how many bits of the last
 /// octet are unused, and the octets, the first bit the highest of the first octet. BadLength if
 /// there are no contents, BadContents for more than 7 unused bits, or for any if no octet follows.
 #[tactic(auto, unfolding(crate::specs::Reading::contents_as, crate::specs::Reading::value_in))]
@@ -263,7 +263,7 @@ pub fn as_bits(contents: &[u8]) -> Result<(u8, &[u8]), WireFault>
     }
 }
 
-/// The contents of an Object Identifier behind a context tag, four octets (clause 20.2.14).
+/// The contents of an Object Identifier after a context tag, four octets (clause 20.2.14).
 /// BadLength for any other length.
 #[tactic(auto, unfolding(crate::specs::Reading::contents_as, crate::specs::Reading::value_in))]
 pub fn as_object(contents: &[u8]) -> Result<ObjectId, WireFault>

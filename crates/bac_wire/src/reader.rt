@@ -48,7 +48,7 @@ impl<'a> Reader<'a> {
 
     // ---- which tag is next
 
-    /// Whether a value behind the context tag of this number is next.
+    /// Whether a value after the context tag of this number is next.
     pub fn is_value_next(&self, number: u8) -> bool
         ensures { result ≡ value_next number self.now }
     {
@@ -100,7 +100,7 @@ impl<'a> Reader<'a> {
         Ok(inside)
     }
 
-    /// The contents behind the context tag of this number.
+    /// The contents after the context tag of this number.
     pub fn contents(&mut self, number: u8) -> Result<&'a [u8], WireFault>
         ensures { Gives (λ x. (x.now, self.new)) result (context_at number self.old) }
     {
@@ -109,7 +109,7 @@ impl<'a> Reader<'a> {
         Ok(contents)
     }
 
-    /// A value behind its application tag.
+    /// A value after its application tag.
     pub fn value(&mut self) -> Result<Value<'a>, WireFault>
         ensures exact { Gives (λ x. (view x, self.new)) result (value_at self.old) }
         ensures well_formed { IfOk result IsWellFormed }

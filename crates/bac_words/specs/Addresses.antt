@@ -6,7 +6,7 @@ use Rattle.std.specs.Int.{w16, to_be_bytes}
 use Rattle.bac_words.specs.Numbers.{number_in}
 use Rattle.bac_words.specs.Chains.{◌>>=◌}
 
--- what stands before and behind the first such octet
+-- what stands before and after the first such octet
 abbrev pub cut : ℕ → List ℕ → Option (List ℕ × List ℕ)
 cut mark word = option_map (λ i. (take i word, slice_range word (i + 1) (length word))) (position (λ c. c == mark) word)
 
@@ -22,7 +22,7 @@ host_in port word = do
   s ← number_in 0 255 c.1
   Some ((p ∷ q ∷ r ∷ s ∷ []) ++ to_be_bytes w16 port)
 
--- the port behind a colon, or 47808 where there is none
+-- the port after a colon, or 47808 if there is none
 abbrev pub address_by : List ℕ → Option (List ℕ × List ℕ) → Option (List ℕ)
 address_by word None = host_in 47808 word
 address_by word (Some x) = number_in 1 65535 x.1 >>= λ port. host_in port x.0

@@ -23,7 +23,7 @@ needed_list w = record (needed w) { range = Some (record { start_inclusive = 1; 
 abbrev pub option : Word → Rule
 option w = record (new_rule (name_of w)) { long = Some (name_of w); value_names = 1 }
 
--- the same, with a value where none is given
+-- the same, with a value if none is given
 abbrev pub option_or : Word → Text → Rule
 option_or w default = record (option w) { defaults = default ∷ [] }
 

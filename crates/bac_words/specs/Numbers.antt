@@ -3,7 +3,7 @@ use Rattle.std.specs.Prelude.{ℕ, ℤ, pos, ◌+◌, ◌-◌, ◌*◌, ◌^◌,
 use Rattle.std.specs.Prelude.{if◌then◌else◌, List, [], ◌∷◌, length, Option, None, Some, option_and_then}
 use Rattle.std.specs.Char.{is_ascii_digit}
 
--- what the digits say behind those that say n
+-- what the digits say after those that say n
 abbrev pub value_of : ℕ → List ℕ → Option ℕ
 value_of n [] = Some n
 value_of n (c ∷ cs) = if is_ascii_digit c then value_of (10 * n + (c - 48)) cs else None
@@ -12,7 +12,7 @@ value_of n (c ∷ cs) = if is_ascii_digit c then value_of (10 * n + (c - 48)) cs
 abbrev pub digits_in : ℕ → List ℕ → Option ℕ
 digits_in most word = if nat_le 1 (length word) && nat_le (length word) most then value_of 0 word else None
 
--- the number, where it is in range
+-- the number, if it is in range
 abbrev pub between : ℕ → ℕ → ℕ → Option ℕ
 between low high n = if nat_le low n && nat_le n high then Some n else None
 
@@ -24,7 +24,7 @@ number_in low high word = option_and_then (between low high) (digits_in 10 word)
 abbrev pub unsigned_in : List ℕ → Option ℕ
 unsigned_in word = option_and_then (λ n. if nat_lt n (2 ^ 64) then Some n else None) (digits_in 20 word)
 
--- what a number says with - before it or without, where that fits 64 bits
+-- what a number says with - before it or without, if that fits 64 bits
 abbrev pub with_sign : Bool → Option ℕ → Option ℤ
 with_sign below_zero None = None
 with_sign false (Some n) = if nat_lt n (2 ^ 63) then Some (pos n) else None

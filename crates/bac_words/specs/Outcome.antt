@@ -8,7 +8,7 @@ use Rattle.bac_words.specs.declared.fault.WordsFault.TheVariants.{Usage, BadValu
 use Rattle.bac_words.specs.Commands.{bac_app}
 use Rattle.bac_words.specs.Jobs.{job_of}
 
--- the kinds of error that clap has for these words; none where bac takes them
+-- the kinds of error that clap has for these words; none if bac takes them
 abbrev pub mistakes_of : List Text → Kinds
 mistakes_of words = fault_of bac_app words
 

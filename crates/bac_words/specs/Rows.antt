@@ -13,7 +13,7 @@ use Rattle.bac_words.specs.Numbers.{number_in}
 use Rattle.bac_words.specs.Addresses.{address_in}
 use Rattle.bac_words.specs.Steps.{◌>>=◌}
 
--- what a word says, where it is there
+-- what a word says, if it is there
 abbrev pub text_at : Word → List Row → Option Text
 text_at w rows = first_of (name_of w) rows
 
@@ -64,6 +64,6 @@ route_in (Some net) (Some address) = do
   mac ← ok_or (mac_in address) Dadr
   Ok (Some (record { net = n; address = mac }))
 
--- the place behind a router that is asked, where there is one
+-- the place behind a router that is asked, if there is one
 abbrev pub route_at : List Row → Result (Option Place) Word
 route_at rows = route_in (text_at Dnet rows) (text_at Dadr rows)

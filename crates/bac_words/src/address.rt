@@ -5,7 +5,7 @@ ghost use Rattle.bac_words.specs.Addresses.{cut, host_in, address_in};
 
 use crate::numbers::{octet, short};
 
-/// The port where none is named.
+/// The port if none is named.
 const BACNET_PORT: u16 = 0xbac0;
 
 /// The place of the first such octet.
@@ -16,7 +16,7 @@ fn place(word: &[u8], mark: u8) -> Option<usize>
     word.iter().position(|c| *c == mark)
 }
 
-/// What stands before and behind the first such octet.
+/// What stands before and after the first such octet.
 fn cut(word: &[u8], mark: u8) -> Option<(&[u8], &[u8])>
     ensures { option_map (λ x. (x.0.now, x.1.now)) result ≡ cut mark word.now }
 {

@@ -9,6 +9,31 @@ use crate::word::Word;
 use clap::{Arg, Command};
 use std::alloc::{AllocError, Global};
 
+/// An example, and what the numbers mean that `rp` and `wp` take and print.
+macro_rules! with_numbers {
+    ($example:literal) => {
+        concat!(
+            $example,
+            "\n\n",
+            "The numbers that are typed and printed:
+
+  TYPE      0, 1, 2 Analog Input, Output, Value; 3, 4, 5 Binary Input, Output, Value;
+            8 Device; 13, 14, 19 Multi-state Input, Output, Value; 20 Trend Log;
+            45 Integer Value
+  PROPERTY  28 Description; 75 Object_Identifier; 76 Object_List; 77 Object_Name;
+            79 Object_Type; 81 Out_Of_Service; 85 Present_Value; 87 Priority_Array;
+            104 Relinquish_Default; 111 Status_Flags; 117 Units; 131 Log_Buffer;
+            133 Enable; 134 Log_Interval; 141 Record_Count; 145 Total_Record_Count
+  error     1 31 unknown object; 2 32 unknown property; 2 42 invalid array index;
+            2 50 not an array; 2 27 read access denied; 2 40 write access denied;
+            2 9 invalid data type; 2 37 value out of range; 5 22 not a list
+  reject    3 invalid data type; 4 invalid tag; 5 missing parameter;
+            6 parameter out of range; 7 too many arguments; 9 unrecognized service
+  abort     4 segmentation not supported: too long for one datagram"
+        )
+    };
+}
+
 /// A word that has to be there.
 fn needed<'a>(alloc: Global, word: Word, help: &'a str) -> Arg<'a>
     ensures rule { rule_of result ≡ needed word }
@@ -139,8 +164,10 @@ fn rp<'a>(alloc: Global) -> Result<Command<'a>, AllocError>
     ensures { IfOk result (IsCommand rp_app) }
 {
     let about = "Read a property and print its values, one a line";
-    let example = "Example: bac rp 192.168.1.20 8 123 77
-prints the name (property 77) of device 123 (object type 8).";
+    let example = with_numbers!(
+        "Example: bac rp 192.168.1.20 8 123 77
+prints the name (property 77) of device 123 (object type 8)."
+    );
     let command = with_property(alloc, tool(alloc, "rp", about, example))?;
     let help = "An element of an array; 0 is the number of elements";
     let command = with(command, option(alloc, Word::Index, "N", help))?;
@@ -151,9 +178,11 @@ fn wp<'a>(alloc: Global) -> Result<Command<'a>, AllocError>
     ensures { IfOk result (IsCommand wp_app) }
 {
     let about = "Write a property";
-    let example = "Example: bac wp 192.168.1.20 5 1 85 8 9 --value=1
+    let example = with_numbers!(
+        "Example: bac wp 192.168.1.20 5 1 85 8 9 --value=1
 writes Enumerated 1 at priority 8 to the present value of binary value 1;
-TAG 0 in place of 9 --value=1 relinquishes it. Write --value=-5 with its '='.";
+TAG 0 in place of 9 --value=1 relinquishes it. Write --value=-5 with its '='."
+    );
     let command = with_property(alloc, tool(alloc, "wp", about, example))?;
     let help = "The priority to write at: 1 to 16, or 0 for none";
     let command = with(command, needed(alloc, Word::Priority, help))?;

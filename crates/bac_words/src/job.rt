@@ -9,14 +9,14 @@ use bac_apdu::Route;
 pub struct Asked {
     /// The device: four octets of the host, two of the port.
     pub address: [u8; 6],
-    /// Our own address; any where it is absent.
+    /// Our own address; any if it is absent.
     pub local: Option<[u8; 6]>,
     /// How long to wait for an answer, in milliseconds: 1 to 60,000.
     pub timeout: u32,
     /// How many times to ask again: 0 to 10.
     pub retries: u8,
-    /// Where the device is behind a router, which then has the address above; on this network
-    /// where it is absent.
+    /// The device's place behind a router, which then has the address above. Without it, the
+    /// device is on this network.
     pub route: Option<Route>,
 }
 
@@ -39,7 +39,7 @@ pub enum Given {
 pub enum Job {
     /// `bac replay`
     Replay,
-    /// `bac wi`: Who-Is (clause 16.10), to the devices of a network behind a router where one is
+    /// `bac wi`: Who-Is (clause 16.10), to the devices of a network behind a router if one is
     /// named; 65535 is all networks.
     Wi {
         addresses: Addresses,

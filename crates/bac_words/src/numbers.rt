@@ -42,7 +42,7 @@ pub(crate) fn number(word: &[u8], low: u32, high: u32) -> Option<u32>
     }
 }
 
-/// The same, where 16 bits do.
+/// The same, if 16 bits do.
 #[tactic(auto, unfolding(crate::specs::Numbers::number_in))]
 pub(crate) fn short(word: &[u8], low: u16, high: u16) -> Option<u16>
     ensures { result ≡ number_in low high word.now }
@@ -55,7 +55,7 @@ pub(crate) fn short(word: &[u8], low: u16, high: u16) -> Option<u16>
     }
 }
 
-/// The same, where an octet does.
+/// The same, if an octet does.
 #[tactic(auto, unfolding(crate::specs::Numbers::number_in))]
 pub(crate) fn octet(word: &[u8], low: u8, high: u8) -> Option<u8>
     ensures { result ≡ number_in low high word.now }
@@ -68,7 +68,7 @@ pub(crate) fn octet(word: &[u8], low: u8, high: u8) -> Option<u8>
     }
 }
 
-/// A number of 1 to 20 digits, where it fits 64 bits.
+/// A number of 1 to 20 digits, if it fits 64 bits.
 pub(crate) fn unsigned(word: &[u8]) -> Option<u64>
     ensures { result ≡ unsigned_in word.now }
 {
@@ -79,7 +79,7 @@ pub(crate) fn unsigned(word: &[u8]) -> Option<u64>
     Some(n as u64)
 }
 
-/// A number that isn't below zero, where it fits 64 bits with a sign.
+/// A number that isn't below zero, if it fits 64 bits with a sign.
 fn natural(word: &[u8]) -> Option<i64>
     ensures { result ≡ with_sign false (digits_in 20 word.now) }
 {
@@ -90,7 +90,7 @@ fn natural(word: &[u8]) -> Option<i64>
     Some(n as i64)
 }
 
-/// The negative of a number, where it fits 64 bits with a sign.
+/// The negative of a number, if it fits 64 bits with a sign.
 fn negative(word: &[u8]) -> Option<i64>
     ensures { result ≡ with_sign true (digits_in 20 word.now) }
 {
@@ -101,7 +101,7 @@ fn negative(word: &[u8]) -> Option<i64>
     Some((0 - n as i128) as i64)
 }
 
-/// An integer of 1 to 20 digits, which `-` may precede, where it fits 64 bits with a sign.
+/// An integer of 1 to 20 digits, which `-` may precede, if it fits 64 bits with a sign.
 pub(crate) fn signed(word: &[u8]) -> Option<i64>
     ensures { result ≡ signed_in word.now }
 {

@@ -16,7 +16,7 @@ use clap::ArgMatches;
 use clap::error::ErrorKind;
 use std::alloc::Global;
 
-/// The job that the words ask for; the first of them is the program's name. Where they are a
+/// The job that the words ask for; the first of them is the program's name. If they are a
 /// mistake, or ask for help, it is `clap`'s error; a value that its word or option can't have is a
 /// bad value.
 pub fn read_words(alloc: Global, words: &[String]) -> Result<Job, WordsFault>

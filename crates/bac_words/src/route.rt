@@ -30,7 +30,7 @@ fn place(net: u16, digits: &[u8]) -> Option<Route>
     }
 }
 
-/// What the two options say where both are there.
+/// What the two options say if both are there.
 #[tactic(auto, unfolding(crate::specs::Rows::route_in, crate::specs::Numbers::number_in))]
 fn route(net: &[u8], digits: &[u8]) -> Result<Option<Route>, Word>
     ensures { result ≡ route_in (Some net.now) (Some digits.now) }
@@ -44,7 +44,7 @@ fn route(net: &[u8], digits: &[u8]) -> Result<Option<Route>, Word>
     }
 }
 
-/// The place behind a router that is asked, where there is one; neither option goes alone.
+/// The place behind a router that is asked, if there is one; neither option goes alone.
 #[tactic(auto, unfolding(crate::specs::Rows::route_in))]
 pub(crate) fn route_at(matches: &ArgMatches) -> Result<Option<Route>, Word>
     ensures { result ≡ route_at (rows_of (found_of matches.now)) }

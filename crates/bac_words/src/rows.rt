@@ -64,7 +64,7 @@ pub(crate) fn maybe_number_at(
     }
 }
 
-/// The same from a least one, where 16 bits do.
+/// The same from a least one, if 16 bits do.
 pub(crate) fn maybe_short_at(
     matches: &ArgMatches,
     word: Word,

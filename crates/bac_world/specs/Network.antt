@@ -81,7 +81,7 @@ begins w = record w {
       (request_octets (towards w.transactions.route) (next_invoke w.transactions.invoke) (question_of w.walk));
 }
 
--- where no request is open
+-- when no request is open
 abbrev pub asks : Network → Option Pending → Network
 asks w None = begins w
 asks w (Some p) = w

@@ -107,8 +107,10 @@ entries_of n w (e ∷ es) =
 -- the entries that are held, and those that events log
 abbrev pub history_of : ℕ → ℕ → Network → List WorldEvent → History
 history_of rounds n w es =
-    record { logged = (log_with w.device n).before + turn rounds;
-      entries = (log_with w.device n).entries ++ entries_of n w es }
+    record {
+      logged = (log_with w.device n).before + turn rounds;
+      entries = (log_with w.device n).entries ++ entries_of n w es;
+    }
 
 -- ---- what holds of a run
 
@@ -137,9 +139,9 @@ pub record Stands (H : History) (M : List Moment)
 abbrev pub IsNearWhere : ℕ → ℕ → History → Bool → ℕ → Run → List State → Type 0
 IsNearWhere rounds n H fresh s run devices =
     (answers : List (List Item)) (t : ℕ) (d : State) →
-        Stands H (moments_in rounds n run.devices) fresh s run.network answers t →
+    Stands H (moments_in rounds n run.devices) fresh s run.network answers t →
     (batches answers ≡ 0 → fresh ≡ false) → devices ≡ run.devices ++ d ∷ [] →
-        IsNear t (placed rounds (moment_of (log_with d n)))
+    IsNear t (placed rounds (moment_of (log_with d n)))
 
 -- each time that the device answers a packet
 abbrev pub StaysNear : ℕ → ℕ → History → Bool → ℕ → Run → List WorldEvent → Type 0
@@ -158,14 +160,14 @@ IsNearAll rounds walk s w es =
 abbrev pub IsAnswered : Run → List ℕ → List ℕ → Type 0
 IsAnswered run request datagram =
     (p : ℕ) × (d : State) × (run.began ≤ p) × (slice_get run.devices p ≡ Some d)
-        × (datagram_in (answer d request).0 ≡ Some datagram)
+    × (datagram_in (answer d request).0 ≡ Some datagram)
 
--- where the packet at a place is taken as the answer to the open request, it is that
+-- if the packet at a place is taken as the answer to the open request, it is that
 abbrev pub IsRight : Run → ℕ → Type 0
 IsRight run k =
     (p : Packet) (request : Pending) → slice_get run.network.packets k ≡ Some p → p.to ≡ Client →
     run.network.transactions.pending ≡ Some request →
-        moves run.network (Deliver k) ≡ true → IsAnswered run request.request p.datagram
+    moves run.network (Deliver k) ≡ true → IsAnswered run request.request p.datagram
 
 -- Events took a world that was new, with a walk of a log of its device, to another one: over the moments of the run and
 -- the log's history a walk that stayed near delivered what Delivery says, at every placing of the ordinals. Each reply
@@ -176,9 +178,9 @@ WithstandsFrom old es new =
     IsThere d walk.log.instance → walk.next ≡ sequence_number s →
     (IsNearAll rounds walk s old es → (answers : List (List Item)) × (t : ℕ)
     × Stands (history_of rounds walk.log.instance old es)
-        (moments_of rounds walk.log.instance old es) walk.fresh s new answers t)
+    (moments_of rounds walk.log.instance old es) walk.fresh s new answers t)
     × ((before : List WorldEvent) (k : ℕ) (after : List WorldEvent) →
-          es ≡ before ++ Deliver k ∷ after → IsRight (run_of old before) k)
+    es ≡ before ++ Deliver k ∷ after → IsRight (run_of old before) k)
 
 -- the headline of it: a walk from ordinal s, or from the oldest entry
 abbrev pub DeliversFrom : Network → List WorldEvent → Network → Type 0
@@ -213,5 +215,5 @@ Withstands = (w : Network) (es : List WorldEvent) → AreSane w es → Withstand
 abbrev pub WindowsStayNear : Type 0
 WindowsStayNear = (rounds low s : ℕ) (walk : WalkPlace) (w : Network) (es : List WorldEvent) →
     AreInWindow low (moments_of rounds walk.log.instance w es) →
-        (walk.fresh ≡ false → (low ≤ s) × (s < low + 2147483648)) →
+    (walk.fresh ≡ false → (low ≤ s) × (s < low + 2147483648)) →
     IsNearAll rounds walk s w es

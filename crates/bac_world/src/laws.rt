@@ -8,7 +8,7 @@ pub fn withstands_all()
     ensures { Withstands }
 {}
 
-/// A walk over a network stays near its log where all moments lie within half of the count from one
+/// A walk over a network stays near its log if all moments lie within half of the count from one
 /// ordinal on, as does the ordinal where it begins, unless that is the oldest record.
 pub fn windows_stay_near()
     ensures { WindowsStayNear }

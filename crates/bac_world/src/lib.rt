@@ -2,10 +2,10 @@
 //!
 //! A [`World`] is a device, its client, which walks one of the device's trend logs, and every
 //! datagram that was ever sent between them. Events say what happens next: that the client asks,
-//! that a datagram comes, as often as wanted and in any order, that no answer came in time, and what
-//! happens to the device. Whatever the events are, the walk delivers what the log held when it
-//! answered, each record once, in rising order. specs/Network says what an event does, and specs/Runs
-//! what a run of events delivers.
+//! that a datagram comes, as often as wanted and in any order, that no answer came in time, and
+//! what happens to the device. Whatever the events are, the walk delivers what the log held when it
+//! answered, each record once, in rising order. specs/Network says what an event does, and
+//! specs/Runs what a run of events delivers.
 #![tactic(auto)]
 
 mod client;

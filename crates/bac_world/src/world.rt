@@ -131,7 +131,7 @@ impl World {
         self.caught
     }
 
-    // Tells what is true of every world.
+    // For the prover alone: tells what is true of every world.
     fn look(&self)
         ensures { IsSane (network_of self.now) }
     {
@@ -140,7 +140,7 @@ impl World {
         let _question = self.walk.question();
     }
 
-    // Begins the walk's question, where none is open.
+    // Begins the walk's question, if none is open.
     fn ask(&mut self) -> bool
         requires room { vec_len self.old.packets + 1 ≤ vec_capacity self.old.packets }
         ensures step { network_of self.new ≡ happens (network_of self.old) Asks }
@@ -242,8 +242,8 @@ impl World {
         }
     }
 
-    // Gives the walk the answer to its question. A walk that was caught up or refused asks by number
-    // again.
+    // Gives the walk the answer to its question. A walk that was caught up or refused asks by
+    // number again.
     fn take(&mut self, answer: Answer)
         requires items_room { vec_len self.old.items + 101 ≤ vec_capacity self.old.items }
         ensures { network_of self.new ≡ hears (network_of self.old) (heard_of self.old.walk.log (answer_of answer.entry)) }

@@ -14,7 +14,7 @@ use bac_apdu::{Apdu, ReadProperty, ReadPropertyAck};
 use bac_objects::Refused;
 use bac_wire::{Datagram, ObjectId};
 
-/// The ACK with these values, where it has at most `limit` octets, else an Abort.
+/// The ACK with these values, if it has at most `limit` octets, else an Abort.
 fn acknowledge(
     out: &mut Datagram,
     limit: u16,
@@ -46,7 +46,7 @@ fn acknowledge(
 }
 
 impl Device {
-    /// The identifier that an ACK has: the device's own where the device is asked.
+    /// The identifier that an ACK has: the device's own if the device is asked.
     fn own_id(&self, id: ObjectId) -> ObjectId
         ensures { result ≡ own_id self.now id }
     {
@@ -57,7 +57,7 @@ impl Device {
         }
     }
 
-    /// The answer to what is asked for, in place of what `out` holds.
+    /// Reads the property, and writes its ACK, Error or Abort in place of what `out` holds.
     fn read_said(&self, out: &mut Datagram, limit: u16, invoke: u8, request: &ReadProperty)
         requires { limit ≤ 1476 }
         ensures { out.new ≡ datagram_octets (read_said self.now limit invoke request.now (read_of self.now request.now)) }

@@ -14,7 +14,7 @@ use bac_apdu::choice::READ_RANGE;
 use bac_log::TrendLog;
 use bac_wire::Datagram;
 
-/// The answer of a log: as many of the records asked for as fit, or an Abort where not one does.
+/// The answer of a log: as many of the records asked for as fit, or an Abort if not one does.
 fn log_answer(out: &mut Datagram, log: &TrendLog, limit: u16, invoke: u8, request: &ReadRange)
     requires limit { limit ≤ 1476 }
     requires buffer { request.now.property ≡ log_buffer }
@@ -29,7 +29,7 @@ fn log_answer(out: &mut Datagram, log: &TrendLog, limit: u16, invoke: u8, reques
 }
 
 impl Device {
-    /// The answer to what is asked for, in place of what `out` holds.
+    /// Finds the log, and writes its ACK, Error or Abort in place of what `out` holds.
     fn range_said(&self, out: &mut Datagram, limit: u16, invoke: u8, request: &ReadRange)
         requires { limit ≤ 1476 }
         ensures { out.new ≡ datagram_octets (range_said limit invoke request.now (records_of self.now request.now)) }

@@ -45,7 +45,7 @@ impl Device {
         }
     }
 
-    /// The answer to a Who-Is, and whether there is one: where it asks for this device.
+    /// The answer to a Who-Is, and whether there is one: if it asks for this device.
     pub(crate) fn answer_who_is(&self, out: &mut Datagram, parameters: &[u8]) -> bool
         requires { out.old ≡ [] }
         ensures answered { result ≡ is_some (announced self.now (who_is_at parameters.now)) }

@@ -12,7 +12,8 @@ use bac_apdu::choice::WRITE_PROPERTY;
 use bac_wire::Datagram;
 
 impl Device {
-    /// The answer to a WriteProperty, in place of what `out` holds, and what the device is after it.
+    /// The answer to a WriteProperty, in place of what `out` holds, and what the device is after
+    /// it.
     pub(crate) fn answer_write(&mut self, out: &mut Datagram, invoke: u8, parameters: &[u8])
         ensures apdu { out.new ≡ datagram_octets (answer_write self.old invoke (write_property_at parameters.now)).0 }
         ensures state { self.new ≡ (answer_write self.old invoke (write_property_at parameters.now)).1 }

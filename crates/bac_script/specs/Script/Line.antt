@@ -28,7 +28,7 @@ pub data ScriptLine : Type 0 where
   Object : ObjectLine → ScriptLine
   Happens : ScriptEvent → ScriptLine
 
--- ---- what the words behind the first one say, by the kind of the line
+-- ---- what the words after the first one say, by the kind of the line
 
 -- device INSTANCE NAME VENDOR REPLY STAMP
 unfoldable pub device_line : List (List ℕ) → Option ScriptLine
@@ -145,7 +145,7 @@ walk_line words = None
 
 -- ---- any line
 
--- a kind of line: its first word, and what the words behind it say
+-- a kind of line: its first word, and what the words after it say
 abbrev pub Kind : Type 0
 Kind = List ℕ × (List (List ℕ) → Option ScriptLine)
 
@@ -172,7 +172,7 @@ abbrev pub said : List (List ℕ) → Option ScriptLine
 said [] = None
 said (word ∷ words) = said_by kinds word words
 
--- what a line says, where it is neither empty nor a comment
+-- what a line says, if it is neither empty nor a comment
 unfoldable pub line_in : List ℕ → Option ScriptLine
 line_in text = said (words_of text)
 

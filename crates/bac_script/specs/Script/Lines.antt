@@ -21,13 +21,13 @@ all_but_last (x ∷ y ∷ more) = strip_carriage_return x ∷ all_but_last (y �
 abbrev pub ended_lines : List ℕ → List (List ℕ)
 ended_lines text = all_but_last (parts text)
 
--- the last part, where it isn't empty
+-- the last part, if it isn't empty
 abbrev pub last_if_any : List (List ℕ) → List (List ℕ)
 last_if_any [] = []
 last_if_any ([] ∷ []) = []
 last_if_any ((b ∷ bs) ∷ []) = (b ∷ bs) ∷ []
 last_if_any (x ∷ y ∷ more) = last_if_any (y ∷ more)
 
--- what stands behind the last line feed, as a line, where there is anything
+-- what stands after the last line feed, as a line, if there is anything
 abbrev pub open_line : List ℕ → List (List ℕ)
 open_line text = last_if_any (parts text)

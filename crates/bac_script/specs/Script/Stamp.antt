@@ -67,7 +67,7 @@ is_moment m =
 abbrev pub checked : CivilTime → Option CivilTime
 checked m = if is_moment m then Some m else None
 
--- a moment, and nothing behind it
+-- a moment, and nothing after it
 unfoldable pub stamp_in : List ℕ → Option CivilTime
 stamp_in word = do
   read ← moment_at word

@@ -51,7 +51,7 @@ impl LineFault {
         }
     }
 
-    /// The fault of the replay where this is that of the line with this number.
+    /// The fault of the replay if this is that of the line with this number.
     pub(crate) fn at_line(self, number: usize) -> ReplayFault
         ensures { result ≡ told number self }
     {

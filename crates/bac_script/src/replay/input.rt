@@ -16,7 +16,7 @@ pub(crate) enum Ending {
     Refused,
 }
 
-/// One read. Where a signal interrupts it, it is made again.
+/// One read. If a signal interrupts it, it is made again.
 fn read_again<R: Read>(reader: &mut R, buffer: &mut [u8]) -> Result<usize>
     ensures bound { ReadsAtMost result buffer.new }
     ensures bytes { ReadConsumes (R.remaining reader.old) (R.remaining reader.new) result buffer.new }

@@ -19,14 +19,14 @@ use std::alloc::{AllocError, Global};
 pub(crate) enum Session {
     /// No device line.
     Empty,
-    /// A device line, the object lines behind it, and no event.
+    /// A device line, the object lines after it, and no event.
     Described(DeviceLine, Vec<ObjectLine>),
     /// A device to which events happen, and the transactions of the clients that walk its logs.
     Running(Device, Local),
 }
 
-/// What each line uses anew: room for a datagram that is received, for the reply to it, and for what
-/// the line prints.
+/// What each line uses anew: room for a datagram that is received, for the reply to it, and for
+/// what the line prints.
 #[derive(Drop)]
 pub(crate) struct Scratch {
     received: [u8; LONGEST],
@@ -55,7 +55,7 @@ impl Scratch {
 /// How often the walks of a script ask again.
 const RETRIES: u8 = 3;
 
-/// Writes to whom an answer goes, where it isn't who sent what it answers.
+/// Writes to whom an answer goes, if it isn't who sent what it answers.
 fn push_receiver(text: &mut Vec<u8>, to: Receiver) -> Result<(), AllocError>
     ensures { OnOk result (text.new.items ≡ text.old.items ++ receiver_text to) }
 {
@@ -83,7 +83,7 @@ fn push_answer(text: &mut Vec<u8>, to: Option<Receiver>, octets: &[u8]) -> Resul
     }
 }
 
-/// Writes what an advance of the clock prints, where it isn't set back.
+/// Writes what an advance of the clock prints, if it isn't set back.
 fn push_advance(text: &mut Vec<u8>, count: Option<usize>) -> Result<(), AllocError>
     ensures { OnOk result (text.new.items ≡ text.old.items ++ clock_text count) }
 {
@@ -97,7 +97,7 @@ fn push_advance(text: &mut Vec<u8>, count: Option<usize>) -> Result<(), AllocErr
     }
 }
 
-/// Writes what a sample on demand prints, where the log takes it and where it doesn't.
+/// Writes what a sample on demand prints, whether the log takes it or not.
 fn push_sample(text: &mut Vec<u8>, taken: Result<u32, SampleFault>) -> Result<(), AllocError>
     ensures { OnOk result (text.new.items ≡ text.old.items ++ sample_text taken) }
 {
@@ -247,7 +247,7 @@ impl Session {
         }
     }
 
-    /// Builds the device at the end of a script, where no event has.
+    /// Builds the device at the end of a script, if no event has.
     pub(crate) fn finish(&self, alloc: Global) -> Result<(), BuildFault>
         ensures ok { OnOk result (end_fault (state_of self.now) ≡ None) }
         ensures err { IfErr result (λ fault. Refuses fault (end_fault (state_of self.now))) }

@@ -78,7 +78,7 @@ fn walk_over<L: LogLink>(
     }
 }
 
-/// The walk that a line asks for, where it can begin.
+/// The walk that a line asks for, if it can begin.
 fn begin(words: WalkWords) -> Option<Walk>
     ensures { result ≡ start_of words.log words.from }
 {
@@ -104,7 +104,7 @@ pub(crate) fn print_walk(
         text.extend_from_slice(b"no walk\n")?;
         return Ok(text);
     };
-    // It is a number.
+    // For the prover alone: the next number is a sequence number.
     let _next = walk.next_number();
     let mut link = DirectLink::new(&mut *device, &[]);
     walk_over(alloc, &mut link, &mut local.transactions, &mut walk, steps)

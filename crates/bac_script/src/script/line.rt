@@ -28,8 +28,8 @@ pub(crate) enum Event<'r> {
     Walked(WalkWords),
 }
 
-/// A walk of a trend log: from a sequence number or, without one, from the oldest record, in at most
-/// so many steps.
+/// A walk of a trend log: from a sequence number or, without one, from the oldest record, in at
+/// most so many steps.
 #[derive(Clone, Copy, Debug, PartialEq, Eq)]
 pub(crate) struct WalkWords {
     pub log: ObjectId,
@@ -312,7 +312,7 @@ pub(crate) fn is_silent(text: &[u8]) -> bool
 }
 
 impl<'r> Line<'r> {
-    /// What a text says that is neither empty nor a comment, where it is a line of a script. The
+    /// What a text says that is neither empty nor a comment, if it is a line of a script. The
     /// octets of a datagram are put into the room.
     #[tactic(auto, unfolding(crate::specs::Script::Line::line_in, crate::specs::Script::Line::device_line, crate::specs::Script::Line::binary_line, crate::specs::Script::Line::multistate_line, crate::specs::Script::Line::integer_line, crate::specs::Script::Line::log_line, crate::specs::Script::Line::rx_line, crate::specs::Script::Line::clock_line, crate::specs::Script::Line::sample_line, crate::specs::Script::Line::walk_line))]
     pub(crate) fn read(

@@ -5,7 +5,7 @@ ghost use Rattle.bac_script.specs.Script.Lines.{parts};
 
 use crate::script::split::split_at;
 
-/// The text before the first line feed, and the text behind it.
+/// The text before the first line feed, and the text after it.
 pub(crate) fn split_line(text: &[u8]) -> Option<(&[u8], &[u8])>
     ensures parts { IfSome result (λ x. parts text.now ≡ x.0.now ∷ parts x.1.now) }
     ensures shorter { IfSome result (λ x. length x.1.now < length text.now) }

@@ -28,14 +28,14 @@ fn number_in(word: &[u8]) -> Option<u64>
     value(word)
 }
 
-/// The number that 1 to 10 digits say, where it fits 32 bits.
+/// The number that 1 to 10 digits say, if it fits 32 bits.
 pub(crate) fn u32_in(word: &[u8]) -> Option<u32>
     ensures { result ≡ below (2 ^ 32) (number_in word.now) }
 {
     u32::try_from(number_in(word)?).ok()
 }
 
-/// The number that 1 to 10 digits say, where it fits 16 bits.
+/// The number that 1 to 10 digits say, if it fits 16 bits.
 pub(crate) fn u16_in(word: &[u8]) -> Option<u16>
     ensures { result ≡ below (2 ^ 16) (number_in word.now) }
 {
@@ -53,7 +53,7 @@ fn natural(word: &[u8]) -> Option<i32>
     Some(number as i32)
 }
 
-/// The negative of a number, where it fits 32 bits.
+/// The negative of a number, if it fits 32 bits.
 fn negative(word: &[u8]) -> Option<i32>
     ensures { result ≡ with_sign true (number_in word.now) }
 {
@@ -64,7 +64,7 @@ fn negative(word: &[u8]) -> Option<i32>
     Some((0 - number as i64) as i32)
 }
 
-/// The integer that 1 to 10 digits say, which `-` may precede, where it fits 32 bits.
+/// The integer that 1 to 10 digits say, which `-` may precede, if it fits 32 bits.
 pub(crate) fn i32_in(word: &[u8]) -> Option<i32>
     ensures { result ≡ integer_in word.now }
 {

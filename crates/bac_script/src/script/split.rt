@@ -11,7 +11,7 @@ fn place(text: &[u8], mark: u8) -> Option<usize>
     text.iter().position(|b| *b == mark)
 }
 
-/// The text before the first octet that is `mark`, and the text behind it.
+/// The text before the first octet that is `mark`, and the text after it.
 pub(crate) fn split_at(text: &[u8], mark: u8) -> Option<(&[u8], &[u8])>
     ensures parts { IfSome result (λ x. slice_split (is_octet mark) text.now ≡ x.0.now ∷ slice_split (is_octet mark) x.1.now) }
     ensures shorter { IfSome result (λ x. length x.1.now < length text.now) }

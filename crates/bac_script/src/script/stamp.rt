@@ -44,7 +44,7 @@ fn year_at(text: &[u8]) -> Option<(u16, &[u8])>
     Some((100 * u16::from(century) + u16::from(year), rest))
 }
 
-/// The number that two digits behind this character say, and the rest.
+/// The number that two digits after this character say, and the rest.
 #[tactic(auto, unfolding(crate::specs::Script::Stamp::part_at))]
 fn part_at(text: &[u8], mark: u8) -> Option<(u8, &[u8])>
     ensures { GivesSome (λ x. (x.0, x.1.now)) result (part_at mark text.now) }
@@ -65,7 +65,7 @@ fn end_at(text: &[u8]) -> Option<()>
     }
 }
 
-/// The moment of these parts, where the calendar has it.
+/// The moment of these parts, if the calendar has it.
 fn stamp_of(
     year: u16,
     month: u8,

@@ -5,7 +5,7 @@ ghost use Rattle.bac_script.specs.Script.Words.{words_of, HasTwo, text_in};
 
 use crate::script::split::split_at;
 
-/// The first word and what follows the space behind it.
+/// The first word and what follows the space after it.
 pub(crate) fn split_word(line: &[u8]) -> Option<(&[u8], &[u8])>
     ensures words { IfSome result (λ x. words_of line.now ≡ x.0.now ∷ words_of x.1.now) }
     ensures last { IfNone result (words_of line.now ≡ line.now ∷ []) }
@@ -24,7 +24,7 @@ pub(crate) fn last_word(line: &[u8]) -> Option<&[u8]>
     }
 }
 
-/// A word as a text, where it has an octet and its octets are UTF-8.
+/// A word as a text, if it has an octet and its octets are UTF-8.
 pub(crate) fn text_in(word: &[u8]) -> Option<&str>
     ensures { GivesSome (λ text. text.now) result (text_in word.now) }
 {
