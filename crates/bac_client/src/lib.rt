@@ -17,6 +17,7 @@ pub use bac_link::{
 pub use bac_ports::{Heard, Port, SocketFault, UdpLink, UdpPort};
 pub use bac_walk::{
     BadReply, Batch, Ended, Gap, Numbered, Outcome, Progress, Sink, Step, Walk, WalkFault, Why,
-    collect, deliver, rest_resumes, rests_all, stop_and_resume, windows_are_near,
+    collect, collected_is_delivered, deliver, rest_resumes, rests_all, runs_deliver, runs_join,
+    stop_and_resume, windows_are_near,
 };
 pub use bac_world::{Memory, Packet, Side, World, WorldEvent, windows_stay_near, withstands_all};

@@ -3,6 +3,8 @@
 #![tactic(auto)]
 
 #[cfg(test)]
+mod again_callers;
+#[cfg(test)]
 mod direct_callers;
 #[cfg(test)]
 mod direct_link;

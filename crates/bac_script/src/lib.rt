@@ -12,9 +12,11 @@
 #![tactic(auto)]
 
 mod configuration;
+mod laws;
 mod replay;
 mod script;
 
 pub use configuration::{Configuration, read_configuration};
+pub use laws::texts_are_joined;
 pub use replay::fault::ReplayFault;
 pub use replay::{LIMIT, run_replay, run_replay_buffered};

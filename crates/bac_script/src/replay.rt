@@ -1,5 +1,5 @@
 //! A script read from a reader, its text written to a writer.
-ghost use Rattle.std.specs.Prelude.{◌≡◌, ◌⊎◌, ◌+◌, ◌<◌, ◌≤◌, ℕ, List, [], ◌∷◌, ◌++◌, length, None, Some, Ok, Err, IfOk, IfErr, OnOk};
+ghost use Rattle.std.specs.Prelude.{◌≡◌, ◌≢◌, ◌⊎◌, ◌+◌, ◌<◌, ◌≤◌, ℕ, List, [], ◌∷◌, ◌++◌, length, None, Some, Ok, Err, IfOk, IfErr, OnOk};
 ghost use Rattle.std.specs.Io.KnownBytes.{Appends, IsAtEnd};
 ghost use Rattle.std.specs.Io.Buffered.{writer_buffer, writer_contents};
 ghost use Rattle.bac_script.specs.Input.{ConsumesUpTo};
@@ -142,6 +142,7 @@ fn replay_in<R: Read, W: Write>(
     ensures ends { Replays limit (R.remaining reader.old) (R.remaining reader.new) (W.contents writer.old) (W.contents writer.new) result }
     ensures read { ConsumesUpTo (limit + 1) (R.remaining reader.old) (R.remaining reader.new) }
     ensures whole { OnOk result (IsAtEnd (R.remaining reader.new)) }
+    ensures build_memory { result ≢ Err (ReplayFault.Build BuildFault.Memory) }
 {
     let (filled, ending) = fill(reader, buffer);
     match ending {
@@ -168,6 +169,7 @@ fn replay_within<R: Read, W: Write>(
     ensures ends { Replays limit (R.remaining reader.old) (R.remaining reader.new) (W.contents writer.old) (W.contents writer.new) result }
     ensures read { ConsumesUpTo (limit + 1) (R.remaining reader.old) (R.remaining reader.new) }
     ensures whole { OnOk result (IsAtEnd (R.remaining reader.new)) }
+    ensures build_memory { result ≢ Err (ReplayFault.Build BuildFault.Memory) }
 {
     match vec![in alloc; 0u8; limit + 1] {
         Ok(mut buffer) => replay_in(alloc, limit, &mut buffer, reader, writer),
@@ -199,6 +201,7 @@ pub fn run_replay<R: Read, W: Write>(
     ensures ends { Replays LIMIT (R.remaining reader.old) (R.remaining reader.new) (W.contents writer.old) (W.contents writer.new) result }
     ensures read { ConsumesUpTo (LIMIT + 1) (R.remaining reader.old) (R.remaining reader.new) }
     ensures whole { OnOk result (IsAtEnd (R.remaining reader.new)) }
+    ensures build_memory { result ≢ Err (ReplayFault.Build BuildFault.Memory) }
 {
     replay_within(alloc, LIMIT, reader, writer)
 }
@@ -212,6 +215,7 @@ pub fn run_replay_buffered<R: Read, W: Write + Drop>(
 ) -> Result<(), ReplayFault>
     ensures ends { Replays LIMIT (R.remaining reader.old) (R.remaining reader.new) (writer_contents W.contents output.old) (writer_contents W.contents output.new) result }
     ensures flushed { (result ≡ Err ReplayFault.Write) ⊎ (writer_buffer output.new ≡ []) }
+    ensures build_memory { result ≢ Err (ReplayFault.Build BuildFault.Memory) }
 {
     let ended = run_replay(alloc, reader, output);
     if let Err(ReplayFault::Write) = ended {

@@ -1,6 +1,6 @@
 //! Walks that are stopped and gone on with.
 
-ghost use Rattle.std.specs.Prelude.{false, ◌≡◌, ◌+◌, ◌<◌, ◌≤◌, ◌++◌, ℕ, List};
+ghost use Rattle.std.specs.Prelude.{false, ◌≡◌, ◌+◌, ◌<◌, ◌≤◌, ◌++◌, ℕ, List, length};
 ghost use Rattle.bac_log.specs.TrendLog.{sequence_number};
 ghost use Rattle.bac_link.specs.Delivery.{History, Moment, DeliversTo};
 ghost use Rattle.bac_walk.specs.Near.{AreInWindow};
@@ -11,8 +11,9 @@ use crate::sink::{Sink, deliver};
 use crate::walk::Walk;
 use bac_link::{LogLink, Transactions};
 
-/// A walk into one sink, and a new walk from the number where it ended into another: over an honest
-/// link, all of whose moments lie within half of the count, the two together deliver as one.
+/// A walk into one sink, and a new walk from the number where it ended into another. Over any link a
+/// walk that ends at its step limit put a record at least for each step; over an honest one, all of
+/// whose moments lie within half of the count, the two together deliver as one.
 pub fn stop_and_resume<L: LogLink, S: Sink, R: Sink>(
     link: &mut L,
     transactions: &mut Transactions,
@@ -22,12 +23,13 @@ pub fn stop_and_resume<L: LogLink, S: Sink, R: Sink>(
     more: u32,
     rest: &mut R,
 ) -> (Ended, Ended)
-    ensures resumed { (r : ℕ) (M : List Moment) (H : History) (s low : ℕ) →
+    ensures resumed { (first : List Call) × (second : List Call)
+        × Takes S.puts sink.old first (is_stopped result.0) sink.new × Takes R.puts rest.old second (is_stopped result.1) rest.new
+        × (result.0 ≡ Ended.StepLimit → steps ≤ length first) × (result.1 ≡ Ended.StepLimit → more ≤ length second)
+        × ((r : ℕ) (M : List Moment) (H : History) (s low : ℕ) →
         walk.old.fresh ≡ false → L.is_honest link.old walk.old.log r M H → walk.old.next ≡ sequence_number s →
         AreInWindow low M → low ≤ s → s < low + 2147483648 →
-        (first : List Call) × (second : List Call) × (a : ℕ) × (t : ℕ) × (walk.new.next ≡ sequence_number t)
-        × Takes S.puts sink.old first (is_stopped result.0) sink.new × Takes R.puts rest.old second (is_stopped result.1) rest.new
-        × DeliversTo H s (put_items first ++ put_items second) t M a }
+        (a : ℕ) × (t : ℕ) × (walk.new.next ≡ sequence_number t) × DeliversTo H s (put_items first ++ put_items second) t M a) }
 {
     let first = deliver(link, transactions, walk, steps, sink);
     let Some(resumed) = Walk::from_number(walk.log(), walk.next_number()) else {

@@ -1,10 +1,11 @@
-use Rattle.std.proofs.Common.{arith, take, length, sym, subst, ◌≡◌, ◌+◌, ◌≤◌, length-take-le}
+use Rattle.std.proofs.Common.{Err, arith, take, length, refl, sym, subst, ◌≡◌, ◌+◌, ◌≤◌, length-take-le}
 use lib.Seq.{take-take}
 use Rattle.std.proofs.lemmas.Result.{err_from_is_err_and}
 use Rattle.bac_script.specs.Script.Lines.{ended_lines}
 use Rattle.bac_script.specs.Replay.{PlaysAll}
 use Rattle.bac_script.specs.Session.{Empty}
 use Rattle.bac_script.specs.Stops.{Stops}
+use Rattle.bac_script.proofs.NeverMemory.{cut_never, whole_never}
 use Rattle.bac_script.proofs.EndLemmas.{Ends-read, Ends-full, Ends-full_stopped, Ends-cut, Ends-cut_stopped}
 use Rattle.bac_script.proofs.replay.replay_in.Goals as goal
 
@@ -83,3 +84,22 @@ returns-in_err-play_cut-in-Full-clause-ends g c =
     let over : limit ≤ filled = omega (arith, sent.full c.in-Full.is, c.requires.room) in
     let front : take limit (take filled buffer) ≡ take limit buffer = take-take limit filled buffer over in
     rw (p.1, p.2) (Ends-full_stopped limit old new (take filled buffer) full have left f sent.consumed (subst (λ l. Stops old new Empty (ended_lines l) f) (sym front) c.in_err-play_cut-in-Full.ensures.err))
+
+pub returns-in-End-clause-build_memory : goal.returns-in-End-clause-build_memory
+returns-in-End-clause-build_memory g c =
+    whole_never (g.W.Write.contents c.args.writer.now) (g.W.Write.contents c.play_whole.new.writer) (take c.fill-filled.result.0 c.fill-filled.new.buffer) c.play_whole.result
+    c.play_whole.ensures.err
+
+pub returns-in_err-play_cut-in-Refused-clause-build_memory : goal.returns-in_err-play_cut-in-Refused-clause-build_memory
+returns-in_err-play_cut-in-Refused-clause-build_memory g c =
+    let p = err_from_is_err_and c.from_residual-in_err-play_cut-in-Refused.result c.from_residual-in_err-play_cut-in-Refused.ensures.1 in
+    let new = g.W.Write.contents c.play_cut-in-Refused.new.writer in
+    rw (p.1, p.2) (cut_never (g.W.Write.contents c.args.writer.now) new Empty (ended_lines (take c.fill-filled.result.0 c.fill-filled.new.buffer))
+    c.in_err-play_cut-in-Refused.field-0.0 (Err c.in_err-play_cut-in-Refused.field-0.0) refl c.in_err-play_cut-in-Refused.ensures.err)
+
+pub returns-in_err-play_cut-in-Full-clause-build_memory : goal.returns-in_err-play_cut-in-Full-clause-build_memory
+returns-in_err-play_cut-in-Full-clause-build_memory g c =
+    let p = err_from_is_err_and c.from_residual.result c.from_residual.ensures.1 in
+    let new = g.W.Write.contents c.play_cut.new.writer in
+    rw (p.1, p.2) (cut_never (g.W.Write.contents c.args.writer.now) new Empty (ended_lines (take c.args.limit c.fill-filled.new.buffer))
+    c.in_err-play_cut-in-Full.field-0.0 (Err c.in_err-play_cut-in-Full.field-0.0) refl c.in_err-play_cut-in-Full.ensures.err)

@@ -11,42 +11,46 @@ use Rattle.bac_walk.proofs.Runs.{headline_of}
 use Rattle.bac_walk.proofs.resume.stop_and_resume.Goals as goal
 
 pub returns : goal.returns
-returns g c = record {
-  resumed = λ r M H s low old honest next window above below.
-      let served = g.met.L.LogLink.serves c.args.link.now c.args.walk.now.log r M H honest in
-      let walk : WalkPlace = c.in-Some.resumed in
-      let is = (c.in-Some.ensures {u = tt}).some in
-      let log = ap (λ (w : WalkPlace). w.log) is ∙ c.log.ensures.log in
-      let here = ap (λ (w : WalkPlace). w.next) is ∙ c.next_number.ensures.next in
-      let x = c.deliver-first.ensures.delivers in
-      let y = c.deliver-second.ensures.delivers in
-      let a = headline_of (λ r M H. g.L.LogLink.is_honest c.args.link.now c.args.walk.now.log r M H)
-      (λ r M H. g.L.LogLink.is_honest c.deliver-first.new.link c.args.walk.now.log r M H) c.args.transactions.now.retries
-      (g.L.LogLink.failures c.args.link.now) (g.L.LogLink.failures c.deliver-first.new.link) c.args.walk.now c.deliver-first.new.walk
-      c.args.steps c.deliver-first.result (put_items x.0) x.4 r M H s honest next
-      (windows_near r H M low s c.args.steps c.args.walk.now.fresh served window (λ is. (above, below))) in
-      let K : Id → Type 0 = λ n. g.L.LogLink.is_honest c.deliver-first.new.link n r (after_answers a.1 M) H in
-      let P : ℕ → Type 0 = λ n. DeliversTo H n (put_items x.0) a.2 M a.1 in
-      let first = subst P (a.3 old) a.5 in
-      let place = stays_in r H M low s a.2 first.0 served window above below first.3 in
-      let W : ℕ → Type 0 = λ n. AreInWindow low (after_answers n M) in
-      let left = subst W first.1 place.2 in
-      let b = headline_of (λ r M H. g.L.LogLink.is_honest c.deliver-first.new.link walk.log r M H)
-      (λ r M H. g.L.LogLink.is_honest c.deliver-second.new.link walk.log r M H) c.deliver-first.new.transactions.retries
-      (g.L.LogLink.failures c.deliver-first.new.link) (g.L.LogLink.failures c.deliver-second.new.link) walk c.deliver-second.new.walk
-      c.args.more c.deliver-second.result (put_items y.0) y.4 r (after_answers a.1 M) H a.2
-      (subst K (sym (log ∙ c.deliver-first.ensures.log)) a.6) (here ∙ a.4)
-      (windows_near r H (after_answers a.1 M) low a.2 c.args.more walk.fresh
-      (g.met.L.LogLink.serves c.deliver-first.new.link c.args.walk.now.log r (after_answers a.1 M) H a.6) left (λ is. (place.0, place.1))) in
-      let Q : ℕ → Type 0 = λ n. DeliversTo H n (put_items y.0) b.2 (after_answers a.1 M) b.1 in (
+returns g c =
+    let x = c.deliver-first.ensures.delivers in
+    let y = c.deliver-second.ensures.delivers in record {
+      resumed = (
         x.0,
         y.0,
-        a.1 + b.1,
-        b.2,
-        b.4,
         x.1,
         y.1,
-        joined H s a.2 b.2 a.1 b.1 M (put_items x.0) (put_items y.0) first
-            (subst Q (b.3 (ap (λ (w : WalkPlace). w.fresh) is)) b.5),
+        x.5,
+        y.5,
+        λ r M H s low old honest next window above below.
+            let served = g.met.L.LogLink.serves c.args.link.now c.args.walk.now.log r M H honest in
+            let walk : WalkPlace = c.in-Some.resumed in
+            let is = (c.in-Some.ensures {u = tt}).some in
+            let log = ap (λ (w : WalkPlace). w.log) is ∙ c.log.ensures.log in
+            let here = ap (λ (w : WalkPlace). w.next) is ∙ c.next_number.ensures.next in
+            let a = headline_of (λ r M H. g.L.LogLink.is_honest c.args.link.now c.args.walk.now.log r M H)
+            (λ r M H. g.L.LogLink.is_honest c.deliver-first.new.link c.args.walk.now.log r M H) c.args.transactions.now.retries
+            (g.L.LogLink.failures c.args.link.now) (g.L.LogLink.failures c.deliver-first.new.link) c.args.walk.now c.deliver-first.new.walk
+            c.args.steps c.deliver-first.result (put_items x.0) x.4 r M H s honest next
+            (windows_near r H M low s c.args.steps c.args.walk.now.fresh served window (λ is. (above, below))) in
+            let K : Id → Type 0 = λ n. g.L.LogLink.is_honest c.deliver-first.new.link n r (after_answers a.1 M) H in
+            let P : ℕ → Type 0 = λ n. DeliversTo H n (put_items x.0) a.2 M a.1 in
+            let first = subst P (a.3 old) a.5 in
+            let place = stays_in r H M low s a.2 first.0 served window above below first.3 in
+            let W : ℕ → Type 0 = λ n. AreInWindow low (after_answers n M) in
+            let left = subst W first.1 place.2 in
+            let b = headline_of (λ r M H. g.L.LogLink.is_honest c.deliver-first.new.link walk.log r M H)
+            (λ r M H. g.L.LogLink.is_honest c.deliver-second.new.link walk.log r M H) c.deliver-first.new.transactions.retries
+            (g.L.LogLink.failures c.deliver-first.new.link) (g.L.LogLink.failures c.deliver-second.new.link) walk c.deliver-second.new.walk
+            c.args.more c.deliver-second.result (put_items y.0) y.4 r (after_answers a.1 M) H a.2
+            (subst K (sym (log ∙ c.deliver-first.ensures.log)) a.6) (here ∙ a.4)
+            (windows_near r H (after_answers a.1 M) low a.2 c.args.more walk.fresh
+            (g.met.L.LogLink.serves c.deliver-first.new.link c.args.walk.now.log r (after_answers a.1 M) H a.6) left (λ is. (place.0, place.1))) in
+            let Q : ℕ → Type 0 = λ n. DeliversTo H n (put_items y.0) b.2 (after_answers a.1 M) b.1 in (
+              a.1 + b.1,
+              b.2,
+              b.4,
+              joined H s a.2 b.2 a.1 b.1 M (put_items x.0) (put_items y.0) first
+                  (subst Q (b.3 (ap (λ (w : WalkPlace). w.fresh) is)) b.5),
+            ),
       );
-}
+    }
