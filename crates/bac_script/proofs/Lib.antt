@@ -7,3 +7,4 @@ pub mod Moments
 pub mod Walks
 pub mod Outcomes
 pub mod ConfigurationLemmas
+pub mod Flaws

@@ -15,6 +15,7 @@ mod configuration;
 mod replay;
 mod script;
 
-pub use configuration::{Configuration, read_configuration};
-pub use replay::fault::ReplayFault;
-pub use replay::{LIMIT, run_replay, run_replay_buffered};
+pub use configuration::{Configuration, read_configuration, read_configuration_explained};
+pub use replay::fault::{Refused, ReplayFault};
+pub use replay::{LIMIT, run_replay, run_replay_explained};
+pub use script::flaw::{Flaw, LineKind, Wanted};
