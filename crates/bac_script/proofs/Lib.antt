@@ -8,3 +8,4 @@ pub mod Walks
 pub mod Outcomes
 pub mod ConfigurationLemmas
 pub mod NeverMemory
+pub mod Flaws

@@ -8,3 +8,4 @@ pub mod Replay
 pub mod Outcomes
 pub mod Stops
 pub mod Configuration
+pub mod Flaw

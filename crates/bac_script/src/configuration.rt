@@ -1,14 +1,15 @@
 //! A configuration: the lines of a script that describe a device, without an event.
 
-ghost use Rattle.std.specs.Prelude.{◌≡◌, ◌+◌, ◌<◌, ◌≤◌, length, None, OnOk};
-ghost use Rattle.std.specs.Io.KnownBytes.{IsAtEnd};
+ghost use Rattle.std.specs.Prelude.{◌≡◌, ◌+◌, ◌<◌, ◌≤◌, length, take, None, OnOk, IfErr};
+ghost use Rattle.std.specs.Io.KnownBytes.{Consumes, IsAtEnd};
 ghost use Rattle.std.specs.Str.Lines.{lines};
 ghost use Rattle.bac_script.specs.Configuration.{AddsLine, Configures, Describes, IsAdded, kept_plan, plan_of, with_line, with_text};
+ghost use Rattle.bac_script.specs.Flaw.{IsExplained, without_flaw};
 ghost use Rattle.bac_script.specs.Input.{ConsumesUpTo};
 ghost use Rattle.bac_script.specs.Script.Line.{Device, Object};
 
 use crate::replay::LIMIT;
-use crate::replay::fault::{LineFault, ReplayFault};
+use crate::replay::fault::{LineFault, Refused, ReplayFault};
 use crate::replay::input::{Ending, fill};
 use crate::script::hexadecimal::LONGEST;
 use crate::script::line::{Line, is_silent};
@@ -110,24 +111,27 @@ fn described(alloc: Global, text: &[u8]) -> Result<Option<Configuration>, Replay
     Ok(kept)
 }
 
-/// What the reader has, which is read into the buffer.
+/// What the reader has, which is read into the buffer. The first part of the answer says how many
+/// octets came.
 fn configuration_in<R: Read>(
     alloc: Global,
     limit: usize,
     buffer: &mut [u8],
     reader: &mut R,
-) -> Result<Option<Configuration>, ReplayFault>
+) -> (usize, Result<Option<Configuration>, ReplayFault>)
     requires limit { limit ≤ LIMIT }
     requires room { length buffer.old ≡ limit + 1 }
-    ensures configures { Configures limit (R.remaining reader.old) (R.remaining reader.new) result }
+    ensures within { result.0 ≤ length buffer.new }
+    ensures kept { Consumes (R.remaining reader.old) (R.remaining reader.new) (take result.0 buffer.new) }
+    ensures configures { Configures limit (R.remaining reader.old) (R.remaining reader.new) result.1 }
     ensures read { ConsumesUpTo (limit + 1) (R.remaining reader.old) (R.remaining reader.new) }
-    ensures whole { OnOk result (IsAtEnd (R.remaining reader.new)) }
+    ensures whole { OnOk result.1 (IsAtEnd (R.remaining reader.new)) }
 {
     let (filled, ending) = fill(reader, buffer);
     match ending {
-        Ending::End => described(alloc, &buffer[..filled]),
-        Ending::Full => Err(ReplayFault::TooLong),
-        Ending::Refused => Err(ReplayFault::Read),
+        Ending::End => (filled, described(alloc, &buffer[..filled])),
+        Ending::Full => (filled, Err(ReplayFault::TooLong)),
+        Ending::Refused => (filled, Err(ReplayFault::Read)),
     }
 }
 
@@ -143,9 +147,51 @@ fn configuration_within<R: Read>(
     ensures whole { OnOk result (IsAtEnd (R.remaining reader.new)) }
 {
     match vec![in alloc; 0u8; limit + 1] {
-        Ok(mut buffer) => configuration_in(alloc, limit, &mut buffer, reader),
+        Ok(mut buffer) => {
+            let (_, read) = configuration_in(alloc, limit, &mut buffer, reader);
+            read
+        }
         Err(_) => Err(ReplayFault::Memory),
     }
+}
+
+/// The same; a fault comes with what is wrong with a bad line.
+fn explained_within<R: Read>(
+    alloc: Global,
+    limit: usize,
+    reader: &mut R,
+) -> Result<Option<Configuration>, Refused>
+    requires { limit ≤ LIMIT }
+    ensures configures { Configures limit (R.remaining reader.old) (R.remaining reader.new) (without_flaw result) }
+    ensures explained { IfErr result (IsExplained (R.remaining reader.old) (R.remaining reader.new)) }
+    ensures read { ConsumesUpTo (limit + 1) (R.remaining reader.old) (R.remaining reader.new) }
+    ensures whole { OnOk result (IsAtEnd (R.remaining reader.new)) }
+{
+    let Ok(mut buffer) = vec![in alloc; 0u8; limit + 1] else {
+        return Err(Refused {
+            fault: ReplayFault::Memory,
+            flaw: None,
+        });
+    };
+    let (filled, read) = configuration_in(alloc, limit, &mut buffer, reader);
+    match read {
+        Ok(configuration) => Ok(configuration),
+        Err(fault) => Err(Refused::of(&buffer[..filled], fault)),
+    }
+}
+
+/// Reads a configuration as [`read_configuration`] does; a fault comes with what is wrong with a bad
+/// line.
+pub fn read_configuration_explained<R: Read>(
+    alloc: Global,
+    reader: &mut R,
+) -> Result<Option<Configuration>, Refused>
+    ensures configures { Configures LIMIT (R.remaining reader.old) (R.remaining reader.new) (without_flaw result) }
+    ensures explained { IfErr result (IsExplained (R.remaining reader.old) (R.remaining reader.new)) }
+    ensures read { ConsumesUpTo (LIMIT + 1) (R.remaining reader.old) (R.remaining reader.new) }
+    ensures whole { OnOk result (IsAtEnd (R.remaining reader.new)) }
+{
+    explained_within(alloc, LIMIT, reader)
 }
 
 /// Reads a configuration to its end: lines of a script that describe a device and its objects, and

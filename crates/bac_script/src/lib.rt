@@ -16,7 +16,8 @@ mod laws;
 mod replay;
 mod script;
 
-pub use configuration::{Configuration, read_configuration};
+pub use configuration::{Configuration, read_configuration, read_configuration_explained};
 pub use laws::texts_are_joined;
-pub use replay::fault::ReplayFault;
-pub use replay::{LIMIT, run_replay, run_replay_buffered};
+pub use replay::fault::{Refused, ReplayFault};
+pub use replay::{LIMIT, run_replay, run_replay_explained};
+pub use script::flaw::{Flaw, LineKind, Wanted};

@@ -1,7 +1,7 @@
 //! A script read from a reader, its text written to a writer.
-ghost use Rattle.std.specs.Prelude.{◌≡◌, ◌≢◌, ◌⊎◌, ◌+◌, ◌<◌, ◌≤◌, ℕ, List, [], ◌∷◌, ◌++◌, length, None, Some, Ok, Err, IfOk, IfErr, OnOk};
-ghost use Rattle.std.specs.Io.KnownBytes.{Appends, IsAtEnd};
-ghost use Rattle.std.specs.Io.Buffered.{writer_buffer, writer_contents};
+ghost use Rattle.std.specs.Prelude.{◌≡◌, ◌≢◌, ◌+◌, ◌<◌, ◌≤◌, ℕ, List, [], ◌∷◌, ◌++◌, length, None, Some, Ok, Err, IfOk, IfErr, OnOk, Option, take};
+ghost use Rattle.std.specs.Io.KnownBytes.{Appends, Consumes, IsAtEnd};
+ghost use Rattle.bac_script.specs.Flaw.{IsExplained, without_flaw};
 ghost use Rattle.bac_script.specs.Input.{ConsumesUpTo};
 ghost use Rattle.std.specs.Str.Lines.{lines};
 ghost use Rattle.bac_script.specs.Script.Lines.{ended_lines, open_line, last_if_any};
@@ -17,13 +17,13 @@ pub(crate) mod input;
 mod session;
 mod walk;
 
-use crate::replay::fault::ReplayFault;
+use crate::replay::fault::{Refused, ReplayFault};
 use crate::replay::input::{Ending, fill};
 use crate::replay::session::{Scratch, Session};
 use crate::script::lines::{split_line, without_return};
 use bac_print::write_text;
 use std::alloc::Global;
-use std::io::{BufWriter, Read, Write};
+use std::io::{Read, Write};
 
 /// The greatest number of octets of a script.
 pub const LIMIT: usize = 1_048_576;
@@ -51,7 +51,7 @@ fn play_line<W: Write>(
 }
 
 /// Plays the lines that a line feed ends. It answers the number of the line that follows, and what
-/// stands after the last line feed.
+/// stands behind the last line feed.
 fn play_ended<'a, W: Write>(
     alloc: Global,
     session: &mut Session,
@@ -113,7 +113,7 @@ fn play_all<W: Write>(
     play_line(alloc, session, scratch, number, rest, writer)
 }
 
-/// Plays all the lines, and builds the device at the end if no line did.
+/// Plays all the lines, and builds the device at the end where no line did.
 fn play_whole<W: Write>(alloc: Global, script: &[u8], writer: &mut W) -> Result<(), ReplayFault>
     requires { length script.now ≤ LIMIT }
     ensures ok { OnOk result ((t : SessionState) × PlaysAll (W.contents writer.old) (W.contents writer.new) Empty (lines script.now) t × (end_fault t ≡ None)) }
@@ -128,34 +128,57 @@ fn play_whole<W: Write>(alloc: Global, script: &[u8], writer: &mut W) -> Result<
     }
 }
 
-/// Plays the script that the reader has, which is read into the buffer, and writes its text. A
-/// script of more than `limit` octets is too long.
+/// Plays what was read, by how the reading ended. A script of more than `limit` octets is too long.
+fn play_read<W: Write>(
+    alloc: Global,
+    limit: usize,
+    text: &[u8],
+    ending: Ending,
+    writer: &mut W,
+) -> Result<(), ReplayFault>
+    requires limit { limit ≤ LIMIT }
+    requires end { ending ≡ Ending.End → length text.now ≤ limit }
+    requires full { ending ≡ Ending.Full → length text.now ≡ limit + 1 }
+    requires refused { ending ≡ Ending.Refused → length text.now ≤ limit }
+    ensures ends { (have left : Option (List ℕ)) → Consumes have left text.now → (ending ≡ Ending.End → IsAtEnd left) →
+        Replays limit have left (W.contents writer.old) (W.contents writer.new) result }
+    ensures whole { OnOk result (ending ≡ Ending.End) }
+    ensures build_memory { result ≢ Err (ReplayFault.Build BuildFault.Memory) }
+{
+    match ending {
+        Ending::End => play_whole(alloc, text, writer),
+        Ending::Full => {
+            play_cut(alloc, &text[..limit], writer)?;
+            Err(ReplayFault::TooLong)
+        }
+        Ending::Refused => {
+            play_cut(alloc, text, writer)?;
+            Err(ReplayFault::Read)
+        }
+    }
+}
+
+/// Plays the script that the reader has, which is read into the buffer, and writes its text. The
+/// first part of the answer says how many octets came.
 fn replay_in<R: Read, W: Write>(
     alloc: Global,
     limit: usize,
     buffer: &mut [u8],
     reader: &mut R,
     writer: &mut W,
-) -> Result<(), ReplayFault>
+) -> (usize, Result<(), ReplayFault>)
     requires limit { limit ≤ LIMIT }
     requires room { length buffer.old ≡ limit + 1 }
-    ensures ends { Replays limit (R.remaining reader.old) (R.remaining reader.new) (W.contents writer.old) (W.contents writer.new) result }
+    ensures within { result.0 ≤ length buffer.new }
+    ensures kept { Consumes (R.remaining reader.old) (R.remaining reader.new) (take result.0 buffer.new) }
+    ensures ends { Replays limit (R.remaining reader.old) (R.remaining reader.new) (W.contents writer.old) (W.contents writer.new) result.1 }
     ensures read { ConsumesUpTo (limit + 1) (R.remaining reader.old) (R.remaining reader.new) }
-    ensures whole { OnOk result (IsAtEnd (R.remaining reader.new)) }
-    ensures build_memory { result ≢ Err (ReplayFault.Build BuildFault.Memory) }
+    ensures whole { OnOk result.1 (IsAtEnd (R.remaining reader.new)) }
+    ensures build_memory { result.1 ≢ Err (ReplayFault.Build BuildFault.Memory) }
 {
     let (filled, ending) = fill(reader, buffer);
-    match ending {
-        Ending::End => play_whole(alloc, &buffer[..filled], writer),
-        Ending::Full => {
-            play_cut(alloc, &buffer[..limit], writer)?;
-            Err(ReplayFault::TooLong)
-        }
-        Ending::Refused => {
-            play_cut(alloc, &buffer[..filled], writer)?;
-            Err(ReplayFault::Read)
-        }
-    }
+    let played = play_read(alloc, limit, &buffer[..filled], ending, writer);
+    (filled, played)
 }
 
 /// The same, with a buffer of its own.
@@ -172,13 +195,59 @@ fn replay_within<R: Read, W: Write>(
     ensures build_memory { result ≢ Err (ReplayFault.Build BuildFault.Memory) }
 {
     match vec![in alloc; 0u8; limit + 1] {
-        Ok(mut buffer) => replay_in(alloc, limit, &mut buffer, reader, writer),
+        Ok(mut buffer) => {
+            let (_, played) = replay_in(alloc, limit, &mut buffer, reader, writer);
+            played
+        }
         Err(_) => Err(ReplayFault::Memory),
     }
 }
 
-/// Plays the script that the reader has, and writes its text. Each outcome has a clause of its
-/// name; `ends` has all of them in one.
+/// The same; a fault comes with what is wrong with a bad line.
+fn explained_within<R: Read, W: Write>(
+    alloc: Global,
+    limit: usize,
+    reader: &mut R,
+    writer: &mut W,
+) -> Result<(), Refused>
+    requires { limit ≤ LIMIT }
+    ensures ends { Replays limit (R.remaining reader.old) (R.remaining reader.new) (W.contents writer.old) (W.contents writer.new) (without_flaw result) }
+    ensures explained { IfErr result (IsExplained (R.remaining reader.old) (R.remaining reader.new)) }
+    ensures read { ConsumesUpTo (limit + 1) (R.remaining reader.old) (R.remaining reader.new) }
+    ensures whole { OnOk result (IsAtEnd (R.remaining reader.new)) }
+    ensures build_memory { without_flaw result ≢ Err (ReplayFault.Build BuildFault.Memory) }
+{
+    let Ok(mut buffer) = vec![in alloc; 0u8; limit + 1] else {
+        return Err(Refused {
+            fault: ReplayFault::Memory,
+            flaw: None,
+        });
+    };
+    let (filled, played) = replay_in(alloc, limit, &mut buffer, reader, writer);
+    match played {
+        Ok(()) => Ok(()),
+        Err(fault) => Err(Refused::of(&buffer[..filled], fault)),
+    }
+}
+
+/// Plays the script that the reader has as [`run_replay`] does; a fault comes with what is wrong
+/// with a bad line.
+pub fn run_replay_explained<R: Read, W: Write>(
+    alloc: Global,
+    reader: &mut R,
+    writer: &mut W,
+) -> Result<(), Refused>
+    ensures ends { Replays LIMIT (R.remaining reader.old) (R.remaining reader.new) (W.contents writer.old) (W.contents writer.new) (without_flaw result) }
+    ensures explained { IfErr result (IsExplained (R.remaining reader.old) (R.remaining reader.new)) }
+    ensures read { ConsumesUpTo (LIMIT + 1) (R.remaining reader.old) (R.remaining reader.new) }
+    ensures whole { OnOk result (IsAtEnd (R.remaining reader.new)) }
+    ensures build_memory { without_flaw result ≢ Err (ReplayFault.Build BuildFault.Memory) }
+{
+    explained_within(alloc, LIMIT, reader, writer)
+}
+
+/// Plays the script that the reader has, and writes its text. Each outcome has a clause of its name;
+/// `ends` has all of them in one.
 pub fn run_replay<R: Read, W: Write>(
     alloc: Global,
     reader: &mut R,
@@ -204,25 +273,4 @@ pub fn run_replay<R: Read, W: Write>(
     ensures build_memory { result ≢ Err (ReplayFault.Build BuildFault.Memory) }
 {
     replay_within(alloc, LIMIT, reader, writer)
-}
-
-/// The same over a buffered writer, whose buffer is written out at the end, also before a fault is
-/// told. Output that can't be written is the fault to tell; after a failed write nothing more is.
-pub fn run_replay_buffered<R: Read, W: Write + Drop>(
-    alloc: Global,
-    reader: &mut R,
-    output: &mut BufWriter<W>,
-) -> Result<(), ReplayFault>
-    ensures ends { Replays LIMIT (R.remaining reader.old) (R.remaining reader.new) (writer_contents W.contents output.old) (writer_contents W.contents output.new) result }
-    ensures flushed { (result ≡ Err ReplayFault.Write) ⊎ (writer_buffer output.new ≡ []) }
-    ensures build_memory { result ≢ Err (ReplayFault.Build BuildFault.Memory) }
-{
-    let ended = run_replay(alloc, reader, output);
-    if let Err(ReplayFault::Write) = ended {
-        return ended;
-    }
-    match output.flush() {
-        Ok(()) => ended,
-        Err(_) => Err(ReplayFault::Write),
-    }
 }

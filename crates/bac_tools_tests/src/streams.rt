@@ -1,7 +1,7 @@
 //! Scripts whose reader or writer fails, is interrupted, or gives and takes single octets.
 
-use bac_script::{ReplayFault, run_replay, run_replay_buffered};
-use std::io::{self, BufWriter, Read, Write};
+use bac_script::{ReplayFault, run_replay};
+use std::io::{self, Read, Write};
 use std::process::Abort;
 use std::test::Fail;
 
@@ -222,26 +222,5 @@ fn a_signal_is_no_fault(rt: HostRuntime) -> Result<(), Fail> {
     let ended = run_replay(rt.alloc(), &mut reader, &mut writer);
     assert_eq!(rt; ended, Ok(()));
     assert_eq!(rt; writer.text.as_slice(), want.as_slice());
-    Ok(())
-}
-
-#[test]
-fn a_buffer_is_written_out_before_a_fault_is_told(rt: HostRuntime) -> Result<(), Fail> {
-    let script = [DEVICE, WHO_IS, b"rx 8\n"].concat(rt.alloc())?;
-    let mut reader = script.as_slice();
-    let mut output = BufWriter::new(rt.alloc(), Vec::new(rt.alloc()))?;
-    let ended = run_replay_buffered(rt.alloc(), &mut reader, &mut output);
-    assert_eq!(rt; ended, Err(ReplayFault::BadLine(3)));
-    assert_eq!(rt; output.get_ref().as_slice(), I_AM);
-
-    let mut reader = script.as_slice();
-    let full = Short {
-        text: Vec::new(rt.alloc()),
-        room: 10,
-    };
-    let mut output = BufWriter::new(rt.alloc(), full)?;
-    let ended = run_replay_buffered(rt.alloc(), &mut reader, &mut output);
-    assert_eq!(rt; ended, Err(ReplayFault::Write));
-    assert_eq!(rt; output.get_ref().text.as_slice(), &I_AM[..10]);
     Ok(())
 }

@@ -1,8 +1,11 @@
 //! Why a replay ends early.
 
-ghost use Rattle.std.specs.Prelude.{◌≡◌};
+ghost use Rattle.std.specs.Prelude.{◌≡◌, None};
+ghost use Rattle.std.specs.Str.Lines.{lines};
 ghost use Rattle.bac_script.specs.Fault.{line_fault, replay_fault, told};
+ghost use Rattle.bac_script.specs.Flaw.{flaw_in};
 
+use crate::script::flaw::{Flaw, flaw_of, line_at};
 use bac_device::BuildFault;
 use thiserror::Error;
 
@@ -72,5 +75,34 @@ impl ReplayFault {
             BuildFault::Memory => ReplayFault::Memory,
             fault => ReplayFault::Build(fault),
         }
+    }
+}
+
+/// A script or a configuration that is refused: why, and of a bad line what is wrong with it.
+#[derive(Clone, Copy, Debug, PartialEq, Eq)]
+pub struct Refused {
+    pub fault: ReplayFault,
+    pub flaw: Option<Flaw>,
+}
+
+impl Refused {
+    /// A fault of a text that was read.
+    pub(crate) fn of(text: &[u8], fault: ReplayFault) -> Refused
+        ensures { result ≡ record { fault = fault; flaw = flaw_in text.now fault } }
+    {
+        let flaw = match fault {
+            ReplayFault::BadLine(number) => Some(flaw_of(line_at(text, number))),
+            _ => None,
+        };
+        Refused { fault, flaw }
+    }
+}
+
+impl From<ReplayFault> for Refused {
+    /// A fault that is of no line.
+    fn from(fault: ReplayFault) -> Refused
+        ensures { result ≡ record { fault = fault; flaw = None } }
+    {
+        Refused { fault, flaw: None }
     }
 }

@@ -170,7 +170,7 @@ fn integer_line<'r>(alloc: Global, words: &[u8]) -> Result<Option<Line<'r>>, All
 }
 
 /// The number of the object type that a word says (clause 21, BACnetObjectType).
-fn kind_in(word: &[u8]) -> Option<u16>
+pub(crate) fn kind_in(word: &[u8]) -> Option<u16>
     ensures value { result ≡ kind_in word.now }
     ensures bound { IfSome result (λ kind. kind < 1024) }
 {
@@ -271,7 +271,7 @@ fn sample_line<'r>(words: &[u8]) -> Option<Line<'r>>
 
 /// The Trend Log with the instance that a word says.
 #[tactic(auto, unfolding(crate::specs::Script::Line::walked_log))]
-fn walked_log(word: &[u8]) -> Option<ObjectId>
+pub(crate) fn walked_log(word: &[u8]) -> Option<ObjectId>
     ensures { result ≡ walked_log word.now }
 {
     let instance = u32_in(word)?;
@@ -280,7 +280,7 @@ fn walked_log(word: &[u8]) -> Option<ObjectId>
 
 /// Where a walk starts: at a number, or at the oldest record.
 #[tactic(auto, unfolding(crate::specs::Script::Line::start_in))]
-fn start_in(word: &[u8]) -> Option<Option<u32>>
+pub(crate) fn start_in(word: &[u8]) -> Option<Option<u32>>
     ensures { result ≡ start_in word.now }
 {
     if word == b"oldest".as_slice() {
