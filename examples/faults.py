@@ -447,6 +447,7 @@ def served_without_memory(program, configuration):
 
 
 def datagrams():
+    sys.dont_write_bytecode = True
     sys.path.insert(0, FOLDER)
     import hostile
 

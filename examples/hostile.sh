@@ -51,9 +51,9 @@ while time.monotonic() < end:
     count += len(sent)
 print(count)
 P
-python3 "$room/flood.py" "$port" 1 > "$room/sent"
+python3 -B "$room/flood.py" "$port" 1 > "$room/sent"
 before=$(memory)
-python3 "$room/flood.py" "$port" 6 > "$room/sent" &
+python3 -B "$room/flood.py" "$port" 6 > "$room/sent" &
 flood=$!
 sleep 0.5
 bac log "$at" 2 oldest --timeout=100 --retries=10
