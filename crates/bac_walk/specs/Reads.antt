@@ -18,4 +18,4 @@ IsSaid log ack None = heard_at log ack ≡ None
 IsSaid log ack (Some said) =
     (h : AckParameters) × (heard_at log ack ≡ Some h)
     × (said.first ≡ h.first) × (said.count ≡ h.count) × (said.total ≡ length h.entries)
-    × (records_in (data_in ack) ≡ Ok h.entries)
+    × (records_in (data_in ack) ≡ Ok h.entries) × (said.items.now ≡ data_in ack)

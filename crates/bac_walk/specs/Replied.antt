@@ -37,9 +37,10 @@ abbrev pub IsJudged : WalkPlace → List ℕ → Result Verdict BadReply → Wal
 IsJudged old ack (Err e) new = IsTakenFrom old (heard_at old.log ack) (Err e) new
 IsJudged old ack (Ok verdict.AskOldest) new = IsTakenFrom old (heard_at old.log ack) (Ok AskOldest) new
 IsJudged old ack (Ok verdict.CaughtUp) new = IsTakenFrom old (heard_at old.log ack) (Ok CaughtUp) new
-IsJudged old ack (Ok (verdict.Records gap first)) new =
+IsJudged old ack (Ok (verdict.Records gap first items)) new =
     (whole : IsWhole first (data_in ack))
     × IsTakenFrom old (heard_at old.log ack) (Ok (BatchOf (batch_from gap first (data_in ack) whole))) new
+    × (items.now ≡ data_in ack)
 
 -- what a walk hears in a datagram
 abbrev pub heard_from : Id → Option (List ℕ) → Option AckParameters

@@ -1,5 +1,5 @@
 -- Records that stand in a reply as octets.
-use Rattle.std.specs.Prelude.{◌≡◌, ℕ, ◌<◌, ◌≤◌, List, [], length, Option, Some, None, Ok}
+use Rattle.std.specs.Prelude.{◌≡◌, ℕ, ◌-◌, ◌<◌, ◌≤◌, List, [], length, take, drop, Option, Some, None, IfSome, Ok}
 use Rattle.std.specs.Result.{result_ok}
 use Rattle.bac_apdu.specs.Service.ReadRangeAck.{RangeAck, read_range_ack_at}
 use Rattle.bac_log.specs.declared.entry.Entry.{Entry}
@@ -26,6 +26,11 @@ data_if (Some parameters) = data_in parameters
 -- the item data in a datagram with an ACK of ReadRange
 abbrev pub data_held : List ℕ → List ℕ
 data_held datagram = data_if (parameters_in (apdu_in datagram))
+
+-- where octets start and end in a datagram, if that is known
+abbrev pub LiesAt : Option (ℕ × ℕ) → List ℕ → List ℕ → Type 0
+LiesAt place datagram octets =
+    IfSome place (λ p. (p.0 ≤ p.1) × (p.1 ≤ length datagram) × (take (p.1 - p.0) (drop p.0 datagram) ≡ octets))
 
 -- the records that were read, and none if they couldn't be read
 abbrev pub all_or_none : Option (List Entry) → List Entry

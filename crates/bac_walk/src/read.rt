@@ -7,9 +7,10 @@ ghost use Rattle.std.specs.Result.{result_ok};
 ghost use Rattle.bac_log.specs.RecordReading.{entry_at};
 ghost use Rattle.bac_walk.specs.Heard.{is_of_log, records_in, same_id};
 ghost use Rattle.bac_walk.specs.Reads.{IsCounted, IsSaid};
-ghost use Rattle.bac_walk.specs.Spelled.{data_held, data_in};
+ghost use Rattle.bac_walk.specs.Spelled.{LiesAt, data_held, data_in};
 ghost use Rattle.bac_apdu.specs.Service.ReadRangeAck.{range_ack_of};
 
+use crate::reply::Reply;
 use bac_apdu::choice::READ_RANGE;
 use bac_apdu::property_id::LOG_BUFFER;
 use bac_apdu::{Apdu, ReadRangeAck};
@@ -43,7 +44,7 @@ pub(crate) fn ack_parameters(datagram: &[u8]) -> Option<&[u8]>
 }
 
 /// The item data of the ACK of ReadRange in a datagram; no octets if there is none.
-pub(crate) fn data_of(datagram: &[u8]) -> &[u8]
+fn data_of(datagram: &[u8]) -> &[u8]
     ensures { result.now ≡ data_held datagram.now }
 {
     match ack_parameters(datagram) {
@@ -53,7 +54,7 @@ pub(crate) fn data_of(datagram: &[u8]) -> &[u8]
 }
 
 /// The item data of an ACK of ReadRange with these parameters; no octets if there is none.
-pub(crate) fn data_in(parameters: &[u8]) -> &[u8]
+fn data_in(parameters: &[u8]) -> &[u8]
     ensures { result.now ≡ data_in parameters.now }
 {
     match ReadRangeAck::read(parameters) {
@@ -62,12 +63,42 @@ pub(crate) fn data_in(parameters: &[u8]) -> &[u8]
     }
 }
 
-/// What an ACK says of a walk's log, and how many records it has.
+/// What an ACK says of a walk's log, how many records it has, and its item data.
 #[derive(Clone, Copy)]
-pub(crate) struct Said {
+pub(crate) struct Said<'a> {
     pub(crate) first: Option<u32>,
     pub(crate) count: u64,
     pub(crate) total: usize,
+    pub(crate) items: &'a [u8],
+}
+
+/// Where in a datagram these octets are its item data: before the tag that closes them and a first
+/// number in its usual form. `None` where they aren't there.
+pub(crate) fn place_of(octets: &[u8], first: u32, items: &[u8]) -> Option<(usize, usize)>
+    ensures { LiesAt result octets.now items.now }
+{
+    let number = match first {
+        0..0x100 => 2,
+        0x100..0x1_0000 => 3,
+        0x1_0000..0x100_0000 => 4,
+        _ => 5,
+    };
+    let end = octets.len().checked_sub(1 + number)?;
+    let start = end.checked_sub(items.len())?;
+    if &octets[start..end] != items {
+        return None;
+    }
+    Some((start, end))
+}
+
+/// The item data of a reply: where they lie, or read again.
+pub(crate) fn items_of(reply: &Reply) -> &[u8]
+    ensures { result.now ≡ data_held reply.now.datagram }
+{
+    match reply.place {
+        Some((start, end)) => &reply.datagram.octets()[start..end],
+        None => data_of(reply.datagram.octets()),
+    }
 }
 
 /// The record at the front, and the octets after it.
@@ -116,7 +147,7 @@ fn is_of(ack: &ReadRangeAck, log: ObjectId) -> bool
 }
 
 /// What the parameters of an ACK say of a log, of which all records are read.
-pub(crate) fn said_of(log: ObjectId, parameters: &[u8]) -> Option<Said>
+pub(crate) fn said_of<'a>(log: ObjectId, parameters: &'a [u8]) -> Option<Said<'a>>
     ensures { IsSaid log parameters.now result }
 {
     let Some(ack) = ReadRangeAck::read(parameters) else {
@@ -132,5 +163,6 @@ pub(crate) fn said_of(log: ObjectId, parameters: &[u8]) -> Option<Said>
         first: ack.first_number,
         count: ack.count,
         total,
+        items: ack.items,
     })
 }

@@ -16,7 +16,7 @@ ghost use Rattle.bac_walk.specs.Told.{Told};
 
 use crate::batch::{Gap, Numbered};
 use crate::outcome::{Ended, WalkFault};
-use crate::read::{data_of, next_record};
+use crate::read::{items_of, next_record};
 use crate::reply::Replied;
 use crate::walk::{Walk, number_after};
 use bac_link::{LogLink, Transactions};
@@ -124,8 +124,7 @@ fn hand_on<S: Sink>(walk: &mut Walk, replied: Result<Replied, WalkFault>, sink: 
         Ok(Replied::CaughtUp) => return Ended::CaughtUp,
         Ok(Replied::Reply(reply)) => reply,
     };
-    let data = data_of(reply.datagram.octets());
-    match put_all(sink, reply.gap, reply.first, data) {
+    match put_all(sink, reply.gap, reply.first, items_of(&reply)) {
         None => Ended::StepLimit,
         Some(number) => {
             walk.go_on_at(number_after(number, 1));

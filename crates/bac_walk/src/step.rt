@@ -16,7 +16,7 @@ ghost use Rattle.bac_walk.specs.Walks.{IsTakenFrom};
 
 use crate::batch::Batch;
 use crate::outcome::{BadReply, Step, WalkFault};
-use crate::read::{ack_parameters, data_of};
+use crate::read::{ack_parameters, items_of, place_of};
 use crate::reply::{Replied, Reply, Turned, Verdict};
 use crate::walk::{Walk, numbered_from};
 use bac_link::{ExchangeFault, LogLink, Transactions, exchange};
@@ -31,11 +31,15 @@ impl Walk {
             return Err(BadReply);
         };
         match self.judge(parameters) {
-            Ok(Verdict::Records { gap, first }) => Ok(Turned::Reply(Reply {
-                datagram,
-                gap,
-                first,
-            })),
+            Ok(Verdict::Records { gap, first, items }) => {
+                let place = place_of(datagram.octets(), first, items);
+                Ok(Turned::Reply(Reply {
+                    datagram,
+                    gap,
+                    first,
+                    place,
+                }))
+            }
             Ok(Verdict::AskOldest) => Ok(Turned::AskOldest),
             Ok(Verdict::CaughtUp) => Ok(Turned::CaughtUp),
             Err(BadReply) => Err(BadReply),
@@ -207,6 +211,6 @@ fn batch_of(reply: &Reply) -> Batch
 {
     Batch {
         gap: reply.gap,
-        entries: numbered_from(reply.first, data_of(reply.datagram.octets())),
+        entries: numbered_from(reply.first, items_of(reply)),
     }
 }

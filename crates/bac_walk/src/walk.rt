@@ -11,7 +11,7 @@ ghost use Rattle.bac_walk.specs.Spelled.{IsWhole, records_from};
 
 use crate::batch::{Batch, Gap, Numbered};
 use crate::outcome::{BadReply, Progress};
-use crate::read::{data_in, next_record, said_of};
+use crate::read::{next_record, said_of};
 use crate::reply::Verdict;
 use arrayvec::ArrayVec;
 use bac_apdu::object_type::TREND_LOG;
@@ -152,8 +152,8 @@ impl Walk {
         ensures { IsTakenFrom self.old (heard_at self.old.log ack.now) result self.new }
     {
         match self.judge(ack) {
-            Ok(Verdict::Records { gap, first }) => {
-                let entries = numbered_from(first, data_in(ack));
+            Ok(Verdict::Records { gap, first, items }) => {
+                let entries = numbered_from(first, items);
                 Ok(Progress::Batch(Batch { gap, entries }))
             }
             Ok(Verdict::AskOldest) => Ok(Progress::AskOldest),
@@ -164,7 +164,7 @@ impl Walk {
 
     /// What `take` makes of the parameters of an ACK. Each of its records is read, and none is
     /// kept.
-    pub(crate) fn judge(&mut self, ack: &[u8]) -> Result<Verdict, BadReply>
+    pub(crate) fn judge<'a>(&mut self, ack: &'a [u8]) -> Result<Verdict<'a>, BadReply>
         ensures { IsJudged self.old ack.now result self.new }
     {
         let Some(said) = said_of(self.log(), ack) else {
@@ -189,7 +189,8 @@ impl Walk {
         }
         let gap = self.gap_up_to(first);
         self.go_on_at(number_after(first, total as u32));
-        Ok(Verdict::Records { gap, first })
+        let items = said.items;
+        Ok(Verdict::Records { gap, first, items })
     }
 
     /// The trend log.

@@ -17,11 +17,13 @@ returns-in_default-count_of c =
 
 pub returns : goal.returns
 returns c =
-    let good = c.in-Some-count_of.ensures {u = tt} in (
+    let good = c.in-Some-count_of.ensures {u = tt} in
+    let items = data_fields c.args.parameters.now (Some c.in-Some.ack) (c.in-Some.ensures {u = tt}).named in (
       record { first = c.in-Some.ack.first_number; count = c.in-Some.ack.count; entries = good.0 },
       heard_read c.args.log c.args.parameters.now c.in-Some.ack (Ok good.0) (c.in-Some.ensures {u = tt}).exact (sym c.is_of.ensures ∙ c.if-not-is_of.false) good.1,
       refl,
       refl,
       good.2,
-      ap records_in (data_fields c.args.parameters.now (Some c.in-Some.ack) (c.in-Some.ensures {u = tt}).named) ∙ good.1,
+      ap records_in items ∙ good.1,
+      sym items,
     )

@@ -17,4 +17,5 @@ returns c =
       taken c.args.self.now s.0 _ c.in-Some-first.first _ _ said (sym s.2 ∙ c.in-Some-first.is) (omega (arith, s.4, c.if-total-eq0.false)) (sym c.is_past.ensures ∙ c.if-is_past.false)
           (omega (arith, s.3, s.4, c.if-said-total.false)) (ap (λ n. fits c.args.self.now c.in-Some-first.first n) (sym s.4) ∙ sym c.fits.ensures ∙ c.if-not-fits.false)
           c.gap_up_to-gap.ensures (records_are c.in-Some-first.first (data_in c.args.ack.now) s.0.entries s.5) (cc),
+      s.6,
     )
