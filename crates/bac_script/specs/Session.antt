@@ -1,5 +1,5 @@
 -- What one line of a script does.
-use Rattle.std.specs.Prelude.{ℕ, ◌+◌, ◌*◌, decimal, if◌then◌else◌, List, [], ◌∷◌, ◌++◌, codes, Option, None, Some}
+use Rattle.std.specs.Prelude.{ℕ, decimal, if◌then◌else◌, List, [], ◌∷◌, ◌++◌, codes, Option, None, Some}
 use Rattle.std.specs.Prelude.{Result, Ok, Err}
 use Rattle.hex.specs.Hex.{encode_lower}
 use Rattle.bac_print.specs.Addresses.{address_text}

@@ -1,4 +1,4 @@
-use Rattle.std.proofs.Common.{Err, arith, refl, take, ◌≡◌, ◌+◌, ◌≤◌}
+use Rattle.std.proofs.Common.{Err, refl, take}
 use Rattle.std.proofs.lemmas.Result.{err_from_is_err_and}
 use Rattle.bac_script.specs.Script.Lines.{ended_lines}
 use Rattle.bac_script.specs.Session.{Empty}

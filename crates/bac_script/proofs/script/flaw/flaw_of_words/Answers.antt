@@ -1,4 +1,4 @@
-use Rattle.std.proofs.Common.{arith, ap, sym, ◌∙◌, ◌≡◌, ◌<◌, ◌≤◌, drop, length, subst}
+use Rattle.std.proofs.Common.{ap, sym, ◌∙◌, ◌<◌, ◌≤◌, drop, length, subst}
 use Rattle.std.specs.Option.{option_map}
 use Rattle.bac_script.specs.Flaw.{flaw_from, words_left, words_wanted}
 use Rattle.bac_script.proofs.Flaws.{flaw-none_left, flaw-some_left}

@@ -1,4 +1,4 @@
-use Rattle.std.proofs.Common.{◌≡◌, ◌+◌, drop, length}
+use Rattle.std.proofs.Common.{◌≡◌, ◌+◌, drop}
 use Rattle.std.specs.Option.{option_map}
 use Rattle.bac_script.specs.Flaw.{flaw_from, words_left, words_wanted}
 use Rattle.bac_script.proofs.script.flaw.flaw_of_words.Given as goal

@@ -1,4 +1,4 @@
-use Rattle.std.proofs.Common.{sym, ◌∙◌, arith}
+use Rattle.std.proofs.Common.{sym, ◌∙◌}
 use Rattle.bac_script.proofs.Flaws.{line_at-here}
 use Rattle.bac_script.proofs.script.flaw.line_at.Goals as goal
 
