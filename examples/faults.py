@@ -81,13 +81,12 @@ def each(judge, *run, **refusal):
 def without_memory(program, words, given=b"", status=0, output=b"", errors=b"", judge=None):
     """Each allocation refused, alone and with all behind it."""
     done = (status, output, errors)
-    spared = []
 
-    def judged(at, ended):
-        # What was asked for beyond need, as room for a table to grow, may be refused, and all is done.
+    def judged(_, ended):
+        # Nothing is asked for beyond need, so nothing is done as if there had been memory.
         if (ended.status, ended.output, ended.errors) == done:
-            spared.append(at)
-        elif judge:
+            raise Wrong("all was done without it")
+        if judge:
             judge(ended)
         else:
             ended.must(5, front(output, ended.output), MEMORY)
@@ -95,9 +94,9 @@ def without_memory(program, words, given=b"", status=0, output=b"", errors=b"", 
     Ended(program, words, given).must(*done)
     run = (program, words, given)
     found = [each(judged, *run, CALL="malloc", MANY=many, ERROR=errno.ENOMEM) for many in (1, EVERY)]
-    if min(found) - len(spared) < 20:
-        raise Wrong(f"{found} allocations were refused, and without {spared} all was done")
-    return f"{found[0]} allocations, {len(spared)} of them spared"
+    if min(found) < 20:
+        raise Wrong(f"only {found} allocations were refused")
+    return f"{found[0]} allocations"
 
 
 def front(whole, printed):

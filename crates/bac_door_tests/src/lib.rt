@@ -3,5 +3,7 @@
 #![tactic(auto)]
 
 mod fetching;
+#[cfg(test)]
+mod loopback;
 
 pub use fetching::fetch;
