@@ -13,6 +13,7 @@ ghost use Rattle.bac_link.specs.Requests.{request_octets};
 ghost use Rattle.bac_walk.specs.declared.outcome.Why.TheVariants as why;
 ghost use Rattle.bac_walk.specs.Near.{AreInWindow, IsNear};
 ghost use Rattle.bac_walk.specs.Rests.{Misses, rest_all};
+ghost use Rattle.bac_walk.specs.Told.{ToldFault};
 ghost use Rattle.bac_walk.specs.Walks.{question_of};
 ghost use Rattle.bac_walk.specs.declared.outcome.WalkFault.TheVariants as fault;
 
@@ -92,6 +93,22 @@ pub fn lost_after_all_tries<L: LogLink>(
     ensures { result.why ≡ why.Fault fault.Lost → (before : L) × (invoke : ℕ)
         × Unanswered L.asks (request_octets (towards transactions.old.route) invoke (question walk.new.log (question_of walk.new)))
         (transactions.old.retries + 1) before link.new }
+{
+    collect(alloc, link, transactions, walk, steps)
+}
+
+/// Over any link, a walk that ends with a bad reply had one to its last question: an answer of
+/// another service, or an ACK that a walk there can't take. The retries stay as they were.
+pub fn bad_replies_came<L: LogLink>(
+    alloc: Global,
+    link: &mut L,
+    transactions: &mut Transactions,
+    walk: &mut Walk,
+    steps: u32,
+) -> Outcome
+    ensures told { result.why ≡ why.Fault fault.BadReply →
+        ToldFault L.asks (towards transactions.old.route) transactions.old.retries fault.BadReply walk.new link.new }
+    ensures retries { transactions.new.retries ≡ transactions.old.retries }
 {
     collect(alloc, link, transactions, walk, steps)
 }

@@ -14,6 +14,8 @@ mod print;
 #[cfg(test)]
 mod queries;
 #[cfg(test)]
+mod query_callers;
+#[cfg(test)]
 mod refusing;
 #[cfg(test)]
 mod routes;

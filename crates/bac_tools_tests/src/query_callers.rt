@@ -1,0 +1,59 @@
+//! What a user of the queries needs, proved from their public contracts alone.
+
+ghost use Rattle.std.specs.Prelude.{◌≡◌, ◌+◌, ℕ, List, true, length, Err, IfSome};
+ghost use Rattle.bac_link.specs.Delivery.{History, Moment, DeliversTo};
+ghost use Rattle.bac_link.specs.Exchanges.{Unanswered};
+ghost use Rattle.bac_link.specs.Path.{towards};
+ghost use Rattle.bac_link.specs.Requests.{next_invoke, request_octets, IsSendable};
+ghost use Rattle.bac_link.specs.declared.item.Item.{Item};
+ghost use Rattle.bac_query.specs.Fetching.{PrintsItems};
+ghost use Rattle.bac_walk.specs.Collects.{start_of};
+ghost use Rattle.bac_walk.specs.Near.{AreInWindow};
+
+use bac_link::{ExchangeFault, LogLink, Request, Transactions};
+use bac_query::{Fetched, QueryFault, fetch_log, write_property};
+use bac_walk::{Walk, collected_is_delivered, windows_are_near};
+use bac_wire::ObjectId;
+use std::alloc::Global;
+use std::io::Write;
+
+/// Over an honest link, what is fetched from the oldest record on begins at the oldest record that
+/// the log holds when the first reply with records is given: none of those is left out.
+pub fn fetched_from_the_oldest<L: LogLink, W: Write>(
+    alloc: Global,
+    link: &mut L,
+    log: ObjectId,
+    steps: u32,
+    out: &mut W,
+) -> Option<Result<Fetched, QueryFault>>
+    ensures { IfSome result (λ fetched. (r : ℕ) (M : List Moment) (H : History) (low : ℕ) →
+        L.is_honest link.old log r M H → AreInWindow low M →
+        (items : List Item) × (answers : List (List Item)) × (t : ℕ)
+        × PrintsItems items fetched (W.contents out.old) (W.contents out.new)
+        × DeliversTo H (start_of true 1 M answers) items t M (length answers)) }
+{
+    // For the prover alone: laws that the contract follows from.
+    windows_are_near();
+    collected_is_delivered();
+    let Some(walk) = Walk::oldest(log) else {
+        return None;
+    };
+    let mut transactions = Transactions::new(3);
+    Some(fetch_log(alloc, link, &mut transactions, walk, steps, out))
+}
+
+/// Over any link, a write that ends as lost was asked once, and as often again as the retries say:
+/// each time the same octets, and no answer came.
+pub fn written_until_lost<L: LogLink, W: Write>(
+    link: &mut L,
+    transactions: &mut Transactions,
+    asked: &Request,
+    out: &mut W,
+) -> Result<(), QueryFault>
+    requires { IsSendable asked.now }
+    ensures { result ≡ Err (QueryFault.Exchange ExchangeFault.Lost) →
+        Unanswered L.asks (request_octets (towards transactions.old.route) (next_invoke transactions.old.invoke) asked.now)
+        (transactions.old.retries + 1) link.old link.new }
+{
+    write_property(link, transactions, asked, out)
+}
