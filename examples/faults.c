@@ -4,7 +4,7 @@
 //     AT     the first call that is refused, counted from 1; malloc counts reallocations too, write
 //            counts writes on standard output and tell those on standard error
 //     MANY   how many are refused from there on
-//     ERROR  the errno of a refusal
+//     ERROR  the errno of a refusal; 0 lets sendto send all, and say that it took an octet less
 //     SHORT  where it is set, reads and writes of the standard streams move one octet each
 //
 // For each refusal an octet is written to the file descriptor TOLD.
@@ -75,7 +75,9 @@ int setsockopt(int file, int level, int name, const void *value, socklen_t size)
 
 ssize_t sendto(int file, const void *octets, size_t size, int flags, const struct sockaddr *to,
                socklen_t length) {
-    return refuses("sendto") ? -1 : NEXT(sendto)(file, octets, size, flags, to, length);
+    if (!refuses("sendto")) return NEXT(sendto)(file, octets, size, flags, to, length);
+    if (errno) return -1;
+    return NEXT(sendto)(file, octets, size, flags, to, length) - 1;
 }
 
 ssize_t recvfrom(int file, void *octets, size_t size, int flags, struct sockaddr *from,

@@ -401,6 +401,8 @@ def sockets_refused(program, at):
             ended.must(2, b"", b"lost\n")
             if ended.refused != 4:
                 raise Wrong(f"{ended.refused} {call} refused, and 4 are wanted")
+    # A send that took fewer octets than it was given has failed, whatever is answered to it.
+    Ended(*asked, CALL="sendto", AT=1, MANY=EVERY, ERROR=0).must(2, b"", b"lost\n")
     # A receive that a signal interrupts is made again: nothing is asked anew.
     once = (program, [*asked[1], "--retries=0"])
     Ended(*once, CALL="recvfrom", AT=1, MANY=3, ERROR=errno.EINTR).must(0, whole, b"")
