@@ -22,14 +22,15 @@ lasts() {
     is "$name: $least to $most ms" "$([ "$took" -ge "$least" ] && [ "$took" -le "$most" ] || echo "$took")" ''
 }
 
-# No one is at this address: two waits of 200 ms each, or one of 300.
+# No one is at this address: two waits of 200 ms each, or one of 300. A program that waits its own 3 s, or ten times as
+# long, takes more than the upper bounds, which leave room for a busy machine.
 silent=127.77.77.77:9
-lasts 'rp' 400 1400 rp $silent 8 123 77 --timeout=200 --retries=1
-lasts 'wp' 400 1400 wp $silent 5 1 85 8 0 --timeout=200 --retries=1
-lasts 'log' 400 1400 log $silent 1 1 --timeout=200 --retries=1
-lasts 'wi' 300 1300 wi $silent --timeout=300
-lasts 'rp with its three retries' 800 2000 rp $silent 8 123 77 --timeout=200
-lasts 'rp with its three seconds' 3000 4500 rp $silent 8 123 77 --retries=0
+lasts 'rp' 400 2900 rp $silent 8 123 77 --timeout=200 --retries=1
+lasts 'wp' 400 2900 wp $silent 5 1 85 8 0 --timeout=200 --retries=1
+lasts 'log' 400 2900 log $silent 1 1 --timeout=200 --retries=1
+lasts 'wi' 300 2900 wi $silent --timeout=300
+lasts 'rp with its three retries' 800 2900 rp $silent 8 123 77 --timeout=200
+lasts 'rp with its three seconds' 3000 5900 rp $silent 8 123 77 --retries=0
 
 # ---- ports
 
