@@ -23,7 +23,7 @@ property_first object property (Some n) form items =
     sym (append_assoc a (b ++ (d ++ [])) rest ∙ ap (λ (l : List ℕ). a ++ l) (append_assoc b (d ++ []) rest ∙ ap (λ (l : List ℕ). b ++ l) (append_assoc d [] rest)))
 
 module _ {E : Type 0} where
-  -- the second text goes behind the first
+  -- the second text goes after the first
   pub adds_then : (old mid new a b : List ℕ) (result : Result (Unit {0}) E) → mid ≡ old ++ a → Adds mid b result new → Adds old (a ++ b) result new
   adds_then old mid new a b (Ok u) e adds = adds ∙ (ap (λ (l : List ℕ). l ++ b) e ∙ append_assoc old a b)
   adds_then old mid new a b (Err full) e adds =

@@ -36,12 +36,12 @@ abbrev some : {X : Type 0} → X → Option X
 some x = Some x
 
 module _ {X Y : Type 0} (items_of : X → List Parameter) (back : List Parameter → Y) (shown : X → Y) (same : (x : X) → back (items_of x) ≡ shown x) where
-  -- where the reason of a fault is told
+  -- if the reason of a fault is told
   pub is_named : (r : Result X Reason) (read : Result (List Parameter) Reason) → Gives items_of r read → Gives shown r (result_map back read)
   is_named (Ok x) read e = rw e (ap ok (same x))
   is_named (Err reason) read e = rw e refl
 
-  -- where it is left out
+  -- if it is left out
   pub is_named_some : (r : Option X) (read : Option (List Parameter)) → GivesSome items_of r read → GivesSome shown r (option_map back read)
   is_named_some (Some x) read e = rw e (ap some (same x))
   is_named_some None read e = rw e refl
@@ -51,7 +51,7 @@ pub gives_ok : {X : Type 0} (items_of : X → List Parameter) (r : Result X Reas
 gives_ok items_of (Ok x) read given same e = rw (same, e) refl
 gives_ok items_of (Err reason) read given same e = rw (same, e) refl
 
--- where the record of the code is the record of the definitions
+-- if the record of the code is the record of the definitions
 
 pub is_same : {X : Type 0} (r : Result X Reason) (s : Result X Reason) → Gives (λ x. x) r s → r ≡ s
 is_same (Ok x) s e = sym e

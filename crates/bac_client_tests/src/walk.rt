@@ -186,7 +186,7 @@ fn numbers_that_were_not_asked_for_are_refused(rt: HostRuntime) -> Result<(), Fa
     let mut walk = walk_from(5)?;
     assert!(rt; matches!(walk.take(&one(1, 3)[9..]), Err(BadReply)));
     assert!(rt; matches!(walk.take(&one(1, 105)[9..]), Err(BadReply)));
-    // by time the count of records that lie behind the walk isn't looked at
+    // by time the count of records that lie before the walk's number isn't looked at
     assert!(rt; matches!(walk.take(&empty(1)[9..]), Ok(Progress::AskOldest)));
     assert!(rt; matches!(walk.take(&wrong_count[9..]), Ok(Progress::CaughtUp)));
     assert_eq!(rt; walk.next_number(), 5);

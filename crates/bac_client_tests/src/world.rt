@@ -148,7 +148,7 @@ fn refused_memory_leaves_the_events_before(rt: HostRuntime) -> Result<(), Fail> 
 }
 
 /// Number 4294967294 was logged before, and isn't held: it is a gap. The records are 4294967295, 1
-/// and 2, and then 3; with 4 as the next number the oldest is behind.
+/// and 2, and then 3; with 4 as the next number the oldest lies before it.
 #[test]
 fn a_walk_over_a_network_goes_round_the_count(rt: HostRuntime) -> Result<(), Fail> {
     let mut world = world_from(rt.alloc(), 4294967294, 3, 4294967294, 3)?;

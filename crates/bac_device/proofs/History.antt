@@ -216,7 +216,7 @@ one_write false d w new id o c slots e t h =
     ∙ looked_other (is_id w.object) (is_id id) (λ k y. apart id w.object k e y) d.objects t.n
     ∙ h
 
--- one datagram more, where the rest is known
+-- one datagram more, if the rest is known
 next_write : (x : List ℕ) (xs : List (List ℕ)) (d : State) (id : Id) (o : object.Object) (c : Command) (slots : List (Option Setting)) → lookup (is_id id) d.objects ≡ Some (with_slots o c slots)
     → ((s : List (Option Setting)) → lookup (is_id id) (answer d x).1.objects ≡ Some (with_slots o c s) → lookup (is_id id) (after (answer d x).1 xs).objects ≡ Some (with_slots o c (slots_after id s (writes (answer d x).1 xs))))
     → Told d (answer d x) (write_asked x)

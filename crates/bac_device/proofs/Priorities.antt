@@ -21,7 +21,7 @@ ok_same a b e = cc
 err_ok : {X : Type 0} (f : Reason) (b : X) → (let r : Result X Reason = Err f in r) ≡ Ok b → ⊥
 err_ok f b e = cc
 
--- the items behind the first
+-- the items after the first
 record Rest (form : Form) (items : List Parameter) : Type 0 where
   item : Parameter
   tail : List Parameter

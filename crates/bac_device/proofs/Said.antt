@@ -120,7 +120,7 @@ said_short d to_all (Error invoke service class code) le = tt
 said_short d to_all (Reject invoke reason) le = tt
 said_short d to_all (Abort by_server invoke reason) le = tt
 
--- behind the heads of a reply stands its APDU
+-- after the heads of a reply comes its APDU
 pub behind_heads : (m : Apdu) → drop 6 (datagram_octets m) ≡ apdu_octets m
 unfolding datagram_octets frame_octets place_octets
 behind_heads m = refl

@@ -11,7 +11,7 @@ use Rattle.bac_ports.specs.Port.{Receiving}
 use Rattle.bac_ports.specs.declared.port.Heard.{Heard}
 use Rattle.bac_ports.specs.declared.port.SocketFault.TheVariants.{Timeout, Failed}
 
--- the same where an I-Am may have been taken before
+-- the same if an I-Am may have been taken before
 abbrev pub EndsOn : {P : Type 0} → (P → Receiving → P → Type 0) → ℕ → Bool → List Heard → P → Held → Found → P → Held → Type 0
 EndsOn receives limit taken came port held (Ok done) new after =
     ((taken || has_device came) ≡ true) × IsOver receives limit came port new × Appends held after (lines_of came)

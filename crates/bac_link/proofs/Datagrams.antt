@@ -73,7 +73,7 @@ frame_fits place hops old apdu way none small large =
 
 -- ---- what is read back
 
--- what stands in a frame to one device, behind a header of no network message
+-- what stands in a frame to one device, after a header of no network message
 pub carried_again : (h : Header) (apdu : List ℕ) → IsHeader h → h.network ≡ false → length (header_octets h ++ apdu) + 4 < 65536 → carried_in (frame_octets (header_octets h ++ apdu)) ≡ Some (path_of h, apdu)
 unfolding carried_in
 carried_again h apdu valid here small = rw (frame_again (header_octets h ++ apdu) small, header_again h apdu valid, here) refl

@@ -55,7 +55,7 @@ not_stopped (Fault e) on = refl
 
 -- ---- what was written
 
--- a front part of a text is one of a longer text, and stands behind what was written before
+-- a front part of a text is one of a longer text, and stands after what was written before
 behind_first : (old mid new : Held) (text more : List ℕ) → Appends old mid text → AppendsPart mid new more → AppendsPart old new (text ++ more)
 behind_first old mid new text more first (written, rest, split, appended) =
     (text ++ written, rest, ap (λ t. text ++ t) split ∙ sym (append_assoc text written rest), Appends-trans old mid new text written first appended)

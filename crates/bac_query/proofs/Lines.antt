@@ -21,7 +21,7 @@ pub lines_more : (values : List Primitive) (value : Primitive) →
 lines_more [] value = search rules
 lines_more (v ∷ values) value = ap (λ l. (value_text v ++ 10 ∷ []) ++ l) (lines_more values value) ∙ sym (append_assoc (value_text v ++ 10 ∷ []) (value_lines values) (value_text value ++ 10 ∷ []))
 
--- values that were found at the front, and the values behind them: those are there exactly where all are values
+-- values that were found at the front, and the values after them: those are there if and only if all are values
 abbrev pub Covers : List ℕ → List ℕ → List ℕ → List ℕ → Type 0
 Covers octets old text rest =
     (done : List Primitive) × (text ≡ old ++ value_lines done)

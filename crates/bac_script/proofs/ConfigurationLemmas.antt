@@ -15,7 +15,7 @@ lines-first text line more h =
     ∙ ap (λ l. (strip_carriage_return line ∷ ended_lines more) ++ l) (open_line-first text line more h)
     ∙ ap (λ l. strip_carriage_return line ∷ l) (sym (lines-parts more))
 
--- a plan of the lines of a text is one of its first line and the lines behind it
+-- a plan of the lines of a text is one of its first line and the lines after it
 pub plan_of-cut : (said : Result Plan ℕ) (n : ℕ) (plan : Plan) (text line more first : List ℕ) → said ≡ plan_of n plan (lines text)
     → parts text ≡ line ∷ parts more → first ≡ strip_carriage_return line → said ≡ plan_of n plan (first ∷ lines more)
 plan_of-cut said n plan text line more first is h e =

@@ -30,7 +30,7 @@ SamePlay-step : (r : Result (List ℕ × SessionState) Refusal) (n : ℕ) (f g :
 SamePlay-step (Ok x) n f g e stopped more = let next = more x.1 stopped in (ap (λ l. x.0 ++ l) next.0, next.1)
 SamePlay-step (Err d) n f g e stopped more = (refl, refl)
 
--- nothing is played behind a fault
+-- nothing is played after a fault
 pub play-stopped : (before after : List (List ℕ)) (n : ℕ) (s : SessionState) (e : ReplayFault) → (play n s before).1 ≡ Err e → SamePlay (play n s (before ++ after)) (play n s before)
 play-stopped [] after n s e stopped = cc
 play-stopped (x ∷ more) after n s e stopped =

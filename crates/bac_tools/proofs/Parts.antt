@@ -28,7 +28,7 @@ three (Ok done) old x y z a b new p q last =
     last ∙ ap (λ l. l ++ z) (q ∙ ap (λ l. l ++ y) p) ∙ append_assoc (old ++ x) y z ∙ append_assoc old x (y ++ z)
 three (Err fault) old x y z a b new p q last = last
 
--- what an append leaves where there was memory for it
+-- what an append leaves if there was memory for it
 pub grown : {E : Type 0} (r : Result (Unit {0}) E) (old text new : List ℕ) → new ≡ (if is_ok r then old ++ text else old)
     → OnOk r (new ≡ old ++ text)
 grown (Ok done) old text new e = e

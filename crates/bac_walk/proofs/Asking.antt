@@ -34,7 +34,7 @@ question_is w object extent log asks =
     ap (λ (o : Id). request.ReadRange (record { object = o; property = log_buffer; index = None; extent = extent })) log
     ∙ ap (λ (x : Extent). request.ReadRange (record { object = w.log; property = log_buffer; index = None; extent = x })) asks
 
--- what is asked for where the walk is at ordinal s
+-- what is asked for when the walk is at ordinal s
 pub asks_at : (w : WalkPlace) (s : ℕ) → w.next ≡ sequence_number s → question_of w ≡ extent_of (wanted_at w s)
 asks_at w s next = at (asks_oldest_now w)
   where

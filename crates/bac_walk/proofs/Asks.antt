@@ -36,7 +36,7 @@ selected-by_number log s few above below =
     filter_run (is_asked log (ByNumber (sequence_number s) (pos 100))) (max s (oldest log)) (s + 100) (oldest log) log.entries (omega arith)
     (λ k p q. asked_near (oldest log) k s k p (omega arith) (omega (arith, few, q)) above below)
 
--- the greatest is some where 1 passes
+-- the greatest is some if 1 passes
 pub greatest_some : (passes : ℕ → Bool) (most : ℕ) → 0 < most → passes 1 ≡ true → 0 < greatest passes most
 greatest_some passes zero some one = absurd (omega arith)
 greatest_some passes (suc n) some one = elim (cases_Bool (passes (suc n))) [

@@ -24,7 +24,7 @@ pub data_fields : (bytes : List ℕ) (o : Option ReadRangeAck) → GivesSome ran
 data_fields bytes None e = ap item_data e
 data_fields bytes (Some a) e = ap item_data e
 
--- octets that were read as these records are right as a whole, where there are few enough
+-- octets that were read as these records are right as a whole, if there are few enough
 pub whole_of : (first : ℕ) (octets : List ℕ) (es : List Entry) → records_in octets ≡ Ok es → 0 < length es → length es ≤ 100 → IsWhole first octets
 whole_of first octets es read some most =
     let is : spelled octets ≡ es = ap (λ r. all_or_none (result_ok r)) read in
@@ -35,7 +35,7 @@ whole_of first octets es read some most =
       most = omega (arith, count, most);
     }
 
--- where no record is at the front, none is left
+-- if no record is at the front, none is left
 pub left_none : (n : ℕ) (rest : List ℕ) (es : List Entry) → result_ok (entry_at rest) ≡ None → entries_at n rest ≡ Ok es → es ≡ []
 unfolding entries_at
 left_none zero [] es none read = cc

@@ -19,7 +19,7 @@ use Rattle.bac_world.specs.Network.{restarted}
 use Rattle.bac_world.specs.Runs.{WasCaughtUp}
 use Rattle.bac_world.proofs.Grows.{moment_at-grow, moment_at-last, idle, length-idle, one_after, Leads-after, length-after, items_of-after, items_of-padded, batches-after, start_of-more, start_of-first, Led, led_grown, led_padded, led_before}
 
--- where the walk was caught up: before the request that is open
+-- when the walk was caught up: before the request that is open
 abbrev pub CaughtPart : History → List Moment → Bool → ℕ → ℕ → Bool → List (List Item) → Option ℕ → Type 0
 CaughtPart H M fresh s began waits done None = Unit {0}
 CaughtPart H M fresh s began waits done (Some n) =
@@ -239,7 +239,7 @@ start_after : (fresh : Bool) (s : ℕ) (M : List Moment) (done more : List (List
 start_after false s M done more some = refl
 start_after true s M done more some = start_of-more s M done more (some refl)
 
--- behind others
+-- after others
 done_more : (H : History) (M : List Moment) (fresh : Bool) (s began : ℕ) (waits : Bool) (walk after : WalkPlace) (items : List Item) (caught : Option ℕ)
     (done : List (List Item)) (t u p : ℕ) (b : List Item) → DonePart H M fresh s began waits walk items caught done t →
     waits ≡ true → began ≤ p → p < length M → walk.fresh ≡ false → after.fresh ≡ false → after.asks_oldest ≡ false → after.next ≡ sequence_number u →

@@ -85,7 +85,7 @@ batches-after [] (suc k) x b = batches-after [] k x b
 batches-after ([] ∷ done) k x b = batches-after done k x b
 batches-after ((y ∷ ys) ∷ done) k x b = omega arith
 
--- ---- the answers before a place, where what is put behind stands there or later
+-- ---- the answers before a place, if what is put after them stands there or later
 
 take-idle : (i k : ℕ) (rest : List (List Item)) → i ≤ k → take i (idle k ++ rest) ≡ idle i
 take-idle zero k rest le = refl
