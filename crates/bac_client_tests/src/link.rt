@@ -6,9 +6,9 @@ ghost use Rattle.bac_link.specs.Requests.{IsSendable};
 
 use bac_apdu::{Extent, ReadRange, WriteProperty};
 use bac_link::{
-    Answer, ExchangeFault, LogLink, Lost, Received, Refusal, Request, Timeout, Transactions,
-    answers, exchange,
+    Answer, ExchangeFault, Received, Refusal, Request, Timeout, Transactions, answers, exchange,
 };
+use bac_scripted_link::ScriptedLink;
 use bac_wire::{Datagram, ObjectId, Value};
 use std::test::Fail;
 
@@ -115,59 +115,16 @@ fn what_answers_a_request(rt: HostRuntime) -> Result<(), Fail> {
     Ok(())
 }
 
-/// Loses so many asks, and then answers with these octets.
-#[derive(Drop)]
-struct Scripted<'a> {
-    losses: u8,
-    failures: u64,
-    reply: &'a [u8],
-}
+/// An answer that doesn't come.
+const NONE: [u8; 0] = [];
 
-impl LogLink for Scripted<'_> {
-    ghost failures = { λ link. link.failures };
-
-    ghost is_honest = { λ link id r M H. ⊥ };
-
-    ghost lacks = { λ link id. ⊥ };
-
-    ghost is_sure = { λ link path. ⊥ };
-
-    ghost keeps = { λ a b. Unit {0} };
-
-    ghost asks = { λ old octets answer new. Unit {0} };
-
-    fn ask(&mut self, _request: &[u8]) -> Result<Datagram, Lost> {
-        if self.losses > 0 {
-            self.losses -= 1;
-            self.failures = self.failures.saturating_add(1);
-            return Err(Lost);
-        }
-        match Datagram::of(self.reply) {
-            Some(reply) => Ok(reply),
-            None => {
-                self.failures = self.failures.saturating_add(1);
-                Err(Lost)
-            }
-        }
-    }
-
-    ghost serves = { λ link id r M H h. absurd h };
-
-    ghost keeps_itself = { λ link. tt };
-
-    ghost keeps_on = { λ a b c h k. tt };
-}
-
-/// What an exchange of the question brings, with three retries, and how many failures it met.
-fn exchanged(losses: u8, reply: &[u8]) -> Result<(Result<Datagram, ExchangeFault>, u64), Fail> {
+/// What an exchange of the question brings over a link with these answers, with three retries, and
+/// how many failures it met.
+fn exchanged(replies: &[&[u8]]) -> Result<(Result<Datagram, ExchangeFault>, u64), Fail> {
     let Some(question) = question() else {
         return Err(Fail::from("no such request"));
     };
-    let mut link = Scripted {
-        losses,
-        failures: 0,
-        reply,
-    };
+    let mut link = ScriptedLink::new(replies);
     let mut transactions = Transactions::new(3);
     let result = exchange(&mut link, &mut transactions, &question);
     Ok((result, link.failures))
@@ -175,10 +132,10 @@ fn exchanged(losses: u8, reply: &[u8]) -> Result<(Result<Datagram, ExchangeFault
 
 #[test]
 fn retries_are_counted_for_each_request(rt: HostRuntime) -> Result<(), Fail> {
-    let (result, failures) = exchanged(3, &REPLY)?;
+    let (result, failures) = exchanged(&[&NONE, &NONE, &NONE, &REPLY])?;
     assert_eq!(rt; result.ok(), Datagram::of(&REPLY));
     assert_eq!(rt; failures, 3);
-    let (result, failures) = exchanged(4, &REPLY)?;
+    let (result, failures) = exchanged(&[&NONE, &NONE, &NONE, &NONE, &REPLY])?;
     assert_eq!(rt; result.err(), Some(ExchangeFault::Lost));
     assert_eq!(rt; failures, 4);
     Ok(())
@@ -219,7 +176,7 @@ fn what_an_exchange_makes_of_an_answer(rt: HostRuntime) -> Result<(), Fail> {
         ),
     ];
     for (reply, want) in rows {
-        let (result, failures) = exchanged(0, reply)?;
+        let (result, failures) = exchanged(&[reply])?;
         assert_eq!(rt; result.err(), Some(want));
         assert_eq!(rt; failures, 0);
     }
@@ -247,16 +204,17 @@ fn a_write_is_sent_again_until_it_is_acknowledged(rt: HostRuntime) -> Result<(),
     };
     // the SimpleACK of WriteProperty
     let reply = [0x81, 0x0a, 0, 9, 1, 0, 0x20, 1, 0x0f];
-    for (losses, is_done) in [(0, true), (3, true), (4, false)] {
-        let mut link = Scripted {
-            losses,
-            failures: 0,
-            reply: &reply,
-        };
+    let rows: [(&[&[u8]], bool, u64); 3] = [
+        (&[&reply], true, 0),
+        (&[&NONE, &NONE, &NONE, &reply], true, 3),
+        (&[&NONE, &NONE, &NONE, &NONE, &reply], false, 4),
+    ];
+    for (replies, is_done, losses) in rows {
+        let mut link = ScriptedLink::new(replies);
         let mut transactions = Transactions::new(3);
         let result = exchange(&mut link, &mut transactions, &write);
         assert_eq!(rt; result.is_ok(), is_done);
-        assert_eq!(rt; link.failures, u64::from(losses));
+        assert_eq!(rt; link.failures, losses);
     }
     Ok(())
 }
@@ -272,11 +230,7 @@ fn a_request_of_1476_octets_fits(rt: HostRuntime) -> Result<(), Fail> {
     // 4 of the frame, 2 of the header, and the APDU
     assert_eq!(rt; sent.octets().len(), 1482);
     assert!(rt; transactions.begin(&long).is_err());
-    let mut link = Scripted {
-        losses: 0,
-        failures: 0,
-        reply: &REPLY,
-    };
+    let mut link = ScriptedLink::new(&[&REPLY]);
     let result = exchange(&mut link, &mut transactions, &long);
     assert_eq!(rt; result.err(), Some(ExchangeFault::TooLong));
     assert_eq!(rt; link.failures, 0);

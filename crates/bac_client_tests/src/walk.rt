@@ -3,13 +3,14 @@
 
 ghost use Rattle.std.specs.Prelude.{◌≡◌};
 
-use bac_link::{Item, LogLink, Lost, Refusal, Transactions};
+use bac_link::{Item, Refusal, Transactions};
 use bac_log::{Datum, Entry};
+use bac_scripted_link::ScriptedLink;
 use bac_walk::{
     BadReply, Ended, Gap, Numbered, Progress, Sink, Step, Walk, WalkFault, Why, collect, deliver,
     stop_and_resume,
 };
-use bac_wire::{Datagram, Date4, ObjectId, Time4};
+use bac_wire::{Date4, ObjectId, Time4};
 use std::test::Fail;
 
 /// Error of ReadRange: class object, code unknown-object.
@@ -82,47 +83,6 @@ fn walk_from(s: u32) -> Result<Walk, Fail> {
 
 fn walk_from_oldest() -> Result<Walk, Fail> {
     Ok(Walk::oldest(log_one()?).ok_or("no walk")?)
-}
-
-/// Answers each ask with the next of these datagrams; an empty one is lost, and when all are used
-/// each ask is lost.
-#[derive(Drop)]
-struct Scripted<'a> {
-    replies: &'a [&'a [u8]],
-    failures: u64,
-}
-
-impl LogLink for Scripted<'_> {
-    ghost failures = { λ link. link.failures };
-
-    ghost is_honest = { λ link id r M H. ⊥ };
-
-    ghost lacks = { λ link id. ⊥ };
-
-    ghost is_sure = { λ link path. ⊥ };
-
-    ghost keeps = { λ a b. Unit {0} };
-
-    ghost asks = { λ old octets answer new. Unit {0} };
-
-    fn ask(&mut self, _request: &[u8]) -> Result<Datagram, Lost> {
-        if let [reply, rest @ ..] = self.replies {
-            self.replies = rest;
-            if !reply.is_empty() {
-                if let Some(datagram) = Datagram::of(reply) {
-                    return Ok(datagram);
-                }
-            }
-        }
-        self.failures = self.failures.saturating_add(1);
-        Err(Lost)
-    }
-
-    ghost serves = { λ link id r M H h. absurd h };
-
-    ghost keeps_itself = { λ link. tt };
-
-    ghost keeps_on = { λ a b c h k. tt };
 }
 
 /// Keeps what it is given, and wants no more after the record of this number.
@@ -236,10 +196,7 @@ fn a_step_asks_for_the_oldest_where_none_came(rt: HostRuntime) -> Result<(), Fai
     let first = empty(1);
     let second = one(2, 200);
     let replies: [&[u8]; 2] = [&first, &second];
-    let mut link = Scripted {
-        replies: &replies,
-        failures: 0,
-    };
+    let mut link = ScriptedLink::new(&replies);
     let mut walk = walk_from(3)?;
     let Ok(Step::Batch(batch)) = walk.step(&mut link, &mut Transactions::new(0)) else {
         return Err(Fail::from("no batch"));
@@ -261,10 +218,7 @@ fn items_are_collected_until_the_walk_is_caught_up(rt: HostRuntime) -> Result<()
     let second = empty(2);
     let third = one(3, 4);
     let replies: [&[u8]; 3] = [&first, &second, &third];
-    let mut link = Scripted {
-        replies: &replies,
-        failures: 0,
-    };
+    let mut link = ScriptedLink::new(&replies);
     let mut walk = walk_from(1)?;
     let mut transactions = Transactions::new(0);
     let outcome = collect(rt.alloc(), &mut link, &mut transactions, &mut walk, 10);
@@ -286,10 +240,7 @@ fn items_are_collected_until_the_walk_is_caught_up(rt: HostRuntime) -> Result<()
 fn a_lost_question_keeps_what_came(rt: HostRuntime) -> Result<(), Fail> {
     let first = one(1, 1);
     let replies: [&[u8]; 2] = [&NONE, &first];
-    let mut link = Scripted {
-        replies: &replies,
-        failures: 0,
-    };
+    let mut link = ScriptedLink::new(&replies);
     let mut walk = walk_from(1)?;
     let outcome = collect(
         rt.alloc(),
@@ -308,10 +259,7 @@ fn a_lost_question_keeps_what_came(rt: HostRuntime) -> Result<(), Fail> {
 #[test]
 fn a_refused_walk_stays_where_it_was(rt: HostRuntime) -> Result<(), Fail> {
     let replies: [&[u8]; 1] = [&UNKNOWN];
-    let mut link = Scripted {
-        replies: &replies,
-        failures: 0,
-    };
+    let mut link = ScriptedLink::new(&replies);
     let mut walk = walk_from_oldest()?;
     let outcome = collect(
         rt.alloc(),
@@ -356,10 +304,7 @@ fn a_walk_tells_the_fault_that_came(rt: HostRuntime) -> Result<(), Fail> {
     ];
     for (reply, want) in rows {
         let replies: [&[u8]; 2] = [&NONE, reply];
-        let mut link = Scripted {
-            replies: &replies,
-            failures: 0,
-        };
+        let mut link = ScriptedLink::new(&replies);
         let mut walk = walk_from(7)?;
         let mut transactions = Transactions::new(3);
         let outcome = collect(rt.alloc(), &mut link, &mut transactions, &mut walk, 10);
@@ -377,10 +322,7 @@ fn a_stopped_walk_goes_on_behind_the_record(rt: HostRuntime) -> Result<(), Fail>
     let third = empty(3);
     let fourth = two(4, 4);
     let replies: [&[u8]; 4] = [&first, &second, &third, &fourth];
-    let mut link = Scripted {
-        replies: &replies,
-        failures: 0,
-    };
+    let mut link = ScriptedLink::new(&replies);
     let mut transactions = Transactions::new(0);
     let mut walk = walk_from(1)?;
     let mut sink = StopsAt {
@@ -415,10 +357,7 @@ fn a_reply_with_a_broken_last_record_puts_nothing(rt: HostRuntime) -> Result<(),
     // The status flags of the second record have the tag 3, with which no record begins or goes on.
     broken[57] = 0x3a;
     let replies: [&[u8]; 2] = [&broken, &whole];
-    let mut link = Scripted {
-        replies: &replies,
-        failures: 0,
-    };
+    let mut link = ScriptedLink::new(&replies);
     let mut transactions = Transactions::new(0);
     let mut walk = walk_from(1)?;
     let mut sink = StopsAt {
@@ -441,10 +380,7 @@ fn a_walk_is_resumed_into_another_sink(rt: HostRuntime) -> Result<(), Fail> {
     let first = two(1, 1);
     let second = one(2, 2);
     let replies: [&[u8]; 2] = [&first, &second];
-    let mut link = Scripted {
-        replies: &replies,
-        failures: 0,
-    };
+    let mut link = ScriptedLink::new(&replies);
     let mut walk = walk_from(1)?;
     let mut sink = StopsAt {
         number: 1,

@@ -2,59 +2,15 @@
 //! that refuse or take little at a time. What each answer prints is in examples/*.talk.
 
 use bac_apdu::{ReadProperty, WriteProperty};
-use bac_link::{ExchangeFault, LogLink, Lost, Request, Transactions};
+use bac_link::{ExchangeFault, Request, Transactions};
 use bac_print::write_text;
 use bac_query::{Fetched, QueryFault, fetch_log, push_values, read_property, write_property};
+use bac_scripted_link::ScriptedLink;
 use bac_walk::{Walk, Why};
-use bac_wire::{Datagram, ObjectId, Value};
+use bac_wire::{ObjectId, Value};
 use std::alloc::Global;
 use std::io::{self, Write};
 use std::test::Fail;
-
-/// Answers each ask with the next of these datagrams; when all are used each ask is lost.
-#[derive(Drop)]
-struct Scripted<'a> {
-    replies: &'a [&'a [u8]],
-    failures: u64,
-}
-
-impl LogLink for Scripted<'_> {
-    ghost failures = { λ link. link.failures };
-
-    ghost is_honest = { λ link id r M H. ⊥ };
-
-    ghost lacks = { λ link id. ⊥ };
-
-    ghost is_sure = { λ link path. ⊥ };
-
-    ghost keeps = { λ a b. Unit {0} };
-
-    ghost asks = { λ old octets answer new. Unit {0} };
-
-    fn ask(&mut self, _request: &[u8]) -> Result<Datagram, Lost> {
-        if let [reply, rest @ ..] = self.replies {
-            self.replies = rest;
-            if let Some(datagram) = Datagram::of(reply) {
-                return Ok(datagram);
-            }
-        }
-        self.failures = self.failures.saturating_add(1);
-        Err(Lost)
-    }
-
-    ghost serves = { λ link id r M H h. absurd h };
-
-    ghost keeps_itself = { λ link. tt };
-
-    ghost keeps_on = { λ a b c h k. tt };
-}
-
-fn link_of<'a>(replies: &'a [&'a [u8]]) -> Scripted<'a> {
-    Scripted {
-        replies,
-        failures: 0,
-    }
-}
 
 /// Takes at most so many octets a write, and so many writes in all; then it refuses.
 #[derive(Drop)]
@@ -120,7 +76,7 @@ fn octets_of_a_value_that_is_cut_are_shown_as_they_are(rt: HostRuntime) -> Resul
 
 #[test]
 fn a_property_is_read(rt: HostRuntime) -> Result<(), Fail> {
-    let mut link = link_of(&[&OBJECT]);
+    let mut link = ScriptedLink::new(&[&OBJECT]);
     let mut transactions = Transactions::new(0);
     let mut out = new_paper(rt.alloc(), 1);
     assert_eq!(rt;
@@ -139,7 +95,7 @@ fn a_refused_write_is_told(rt: HostRuntime) -> Result<(), Fail> {
     assert_eq!(rt;
         read_property(
             rt.alloc(),
-            &mut link_of(&[&OBJECT]),
+            &mut ScriptedLink::new(&[&OBJECT]),
             &mut transactions,
             asked()?,
             &mut out
@@ -168,7 +124,7 @@ fn a_property_is_written(rt: HostRuntime) -> Result<(), Fail> {
     let mut out = new_paper(rt.alloc(), 1);
     assert_eq!(rt;
         write_property(
-            &mut link_of(&[&DONE]),
+            &mut ScriptedLink::new(&[&DONE]),
             &mut transactions,
             &request,
             &mut out
@@ -177,7 +133,12 @@ fn a_property_is_written(rt: HostRuntime) -> Result<(), Fail> {
     );
     assert_eq!(rt; out.text.as_slice(), b"written\n".as_slice());
     assert_eq!(rt;
-        write_property(&mut link_of(&[]), &mut transactions, &request, &mut out),
+        write_property(
+            &mut ScriptedLink::new(&[]),
+            &mut transactions,
+            &request,
+            &mut out
+        ),
         Err(QueryFault::Exchange(ExchangeFault::Lost))
     );
     assert_eq!(rt; out.writes, 1);
@@ -218,7 +179,7 @@ fn records_are_printed_a_reply_at_a_time(rt: HostRuntime) -> Result<(), Fail> {
     let mut out = new_paper(rt.alloc(), 3);
     let fetched = fetch_log(
         rt.alloc(),
-        &mut link_of(&replies),
+        &mut ScriptedLink::new(&replies),
         &mut Transactions::new(0),
         walk_from(1)?,
         10,
@@ -257,7 +218,7 @@ fn a_walk_ends_with_a_refused_write(rt: HostRuntime) -> Result<(), Fail> {
     out.width = 4;
     let fetched = fetch_log(
         rt.alloc(),
-        &mut link_of(&replies),
+        &mut ScriptedLink::new(&replies),
         &mut Transactions::new(0),
         walk_from(1)?,
         5,
