@@ -15,7 +15,7 @@ use bac_apdu::choice::READ_RANGE;
 use bac_apdu::property_id::LOG_BUFFER;
 use bac_apdu::{Apdu, ReadRangeAck};
 use bac_link::read_datagram;
-use bac_log::{Entry, read_entry};
+use bac_log::{Entry, read_entry, record_len};
 use bac_wire::ObjectId;
 
 /// The service parameters of the ACK of ReadRange in a datagram.
@@ -73,7 +73,7 @@ pub(crate) struct Said<'a> {
 }
 
 /// Where in a datagram these octets are its item data: before the tag that closes them and a first
-/// number in its usual form. `None` where they aren't there.
+/// number in its usual form. `None` if they aren't there.
 pub(crate) fn place_of(octets: &[u8], first: u32, items: &[u8]) -> Option<(usize, usize)>
     ensures { LiesAt result octets.now items.now }
 {
@@ -102,6 +102,7 @@ pub(crate) fn items_of(reply: &Reply) -> &[u8]
 }
 
 /// The record at the front, and the octets after it.
+#[inline(always)]
 pub(crate) fn next_record(octets: &[u8]) -> Option<(Entry, &[u8])>
     ensures { GivesSome (λ x. (x.0, x.1.now)) result (result_ok (entry_at octets.now)) }
 {
@@ -120,8 +121,8 @@ fn count_of(octets: &[u8]) -> Option<usize>
         if rest.is_empty() {
             return Some(taken);
         }
-        match next_record(rest) {
-            Some((_, after)) => rest = after,
+        match record_len(rest) {
+            Some(len) => rest = &rest[len..],
             None => return None,
         }
     }
