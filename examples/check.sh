@@ -185,8 +185,16 @@ bac log 127.0.0.1 1 1 --local=192.0.2.1
 ended 'an address of another machine for log' 2 $'socket fault\n'
 bac serve 192.0.2.1 < plant.conf
 ended 'a server at an address of another machine' 2 $'socket fault\n'
-bac serve "127.77.77.77:$((20000 + RANDOM))" --count=0 < plant.conf
-ended 'a server of no datagram' 0 ''
+at=127.77.77.77:$((20000 + RANDOM))
+bac serve "$at" --count=0 < plant.conf
+ended 'a server of no datagram' 0 "serving $at"$'\n'
+bac serve "${at%:*}" --count=0 < plant.conf
+ended 'a server at the port of BACnet' 0 "serving ${at%:*}:47808"$'\n'
+"$program" serve "$at" --count=0 < plant.conf > "$room/out" 2> /dev/full
+status=$?
+: > "$room/err"
+(exit "$status")
+ended 'a server that cannot tell that it is up' 0 ''
 
 bac wi 255.255.255.255:47808 --timeout=100
 ended 'an address that the system refuses' 2 $'socket fault\nnothing was sent to 255.255.255.255:47808\n'

@@ -46,7 +46,7 @@ for port in 43981 47808; do
     done 2> /dev/null
     kill -KILL "$server" 2> /dev/null
     wait "$server"
-    is "a server at port $port" "$? $(cat "$room/served")" '0 '
+    is "a server at port $port" "$? $(cat "$room/served")" "0 serving ${at%:*}:$port"
     server=
 done
 
@@ -105,7 +105,8 @@ kill -CONT "$client"
 sleep 0.3
 is 'a client that was stopped waits on' "$(kill -0 "$client" 2> /dev/null && echo yes)" yes
 wait "$client"
-is 'and ends as lost' "$? $(cat "$room/err")" '2 lost'
+is 'and ends as lost' "$? $(cat "$room/err")" "2 lost
+no answer came from $silent"
 
 # ---- datagrams that are no requests, and forged addresses
 

@@ -125,11 +125,12 @@ def words_without_memory(program):
     rp = ["rp", "10.0.0.1"]
     bad = b"bad value\nTYPE: a number from 0 to 1023\n"
     served = ["serve", "127.77.77.77:47813", "--count=0"]
+    up = b"serving 127.77.77.77:47813\n"
     return [
         ("memory of help", without_memory, program, ["log", "--help"], b"", 0, text_of("log.help")),
         ("memory of a mistake", without_memory, program, ["rp"], b"", 1, b"", usage.errors),
         ("memory of a bad value", without_memory, program, [*rp, "1024", "1", "77"], b"", 1, b"", bad),
-        ("memory of a server", without_memory, program, served, text_of("plant.conf")),
+        ("memory of a server", without_memory, program, served, text_of("plant.conf"), 0, b"", up),
     ]
 
 
@@ -179,7 +180,7 @@ def rows_without_memory(vectors):
         Ended(vectors, [], call + b"\n").must(0, answer + b"\n", b"")
         count += each(judge, vectors, [], call + b"\n", CALL="malloc", MANY=1, ERROR=errno.ENOMEM)
         if not told:
-            raise Wrong(f"{call}: want of memory is never told")
+            raise Wrong(f"{call}: that memory ran out is never told")
     if not made:
         raise Wrong("no row makes a log")
     return f"{len(made)} rows, {count} allocations"
@@ -264,11 +265,12 @@ def version_refused(program):
 
 
 def lines_refused(program):
-    """What is told of a fault is one write, and where that is refused the status stays."""
+    """What is told of a fault, and that a server is up, is one write; if that is refused the status stays."""
     for words, given, status in (
         (["rp", "10.0.0.1", "1024", "1", "77"], b"", 1),
         (["rp", "127.77.77.77:9", "8", "123", "77", "--timeout=1", "--retries=0"], b"", 2),
         (["replay"], b"rx 8\n", 1),
+        (["serve", "127.77.77.77:47816", "--count=0"], text_of("plant.conf"), 0),
     ):
         run = (program, words, given)
         if not Ended(*run).errors:
@@ -282,7 +284,7 @@ def lines_refused(program):
 def configuration_refused(program):
     configuration = b"".join(text_of("plant.conf").splitlines(keepends=True)[2:4])
     run = (program, ["serve", "127.77.77.77:47813", "--count=0"], configuration)
-    Ended(*run).must(0, b"", b"")
+    Ended(*run).must(0, b"", b"serving 127.77.77.77:47813\n")
 
     def refused(_, ended):
         ended.must(2, b"", b"read fault\n")
@@ -381,6 +383,10 @@ def tools_without_memory(program, at, peer):
     ]
 
 
+def lost_at(at):
+    return f"lost\nno answer came from {at}\n".encode()
+
+
 def no_socket(_, ended):
     ended.must(2, b"", b"socket fault\n")
 
@@ -389,6 +395,7 @@ def sockets_refused(program, at):
     """A socket that can't be had, bound or set; sends and receives that fail once, or each time."""
     asked = (program, ["rp", at, "8", "123", "77", "--timeout=200"])
     whole = b'"plant"\n'
+    lost = lost_at(at)
     for call in ("socket", "bind", "setsockopt"):
         for many in (1, EVERY):
             each(no_socket, *asked, CALL=call, MANY=many, ERROR=errno.EPERM)
@@ -398,11 +405,11 @@ def sockets_refused(program, at):
             Ended(*asked, CALL=call, AT=1, MANY=many, ERROR=errno.ENETDOWN).must(0, whole, b"")
         for many in (4, EVERY):
             ended = Ended(*asked, CALL=call, AT=1, MANY=many, ERROR=errno.ENETDOWN)
-            ended.must(2, b"", b"lost\n")
+            ended.must(2, b"", lost)
             if ended.refused != 4:
                 raise Wrong(f"{ended.refused} {call} refused, and 4 are wanted")
     # A send that took fewer octets than it was given has failed, whatever is answered to it.
-    Ended(*asked, CALL="sendto", AT=1, MANY=EVERY, ERROR=0).must(2, b"", b"lost\n")
+    Ended(*asked, CALL="sendto", AT=1, MANY=EVERY, ERROR=0).must(2, b"", lost)
     # A receive that a signal interrupts is made again: nothing is asked anew.
     once = (program, [*asked[1], "--retries=0"])
     Ended(*once, CALL="recvfrom", AT=1, MANY=3, ERROR=errno.EINTR).must(0, whole, b"")
@@ -413,10 +420,12 @@ def server_refused(program, configuration):
     """A reply that can't be sent is dropped, and serving goes on; a receive that fails ends the server."""
     with Server(program, configuration, CALL="sendto", AT=2, MANY=1, ERROR=errno.EPERM) as server:
         asked = ["rp", server.at, "8", "123", "77"]
-        Ended(program, [*asked, "--retries=0", "--timeout=300"]).must(2, b"", b"lost\n")
+        Ended(program, [*asked, "--retries=0", "--timeout=300"]).must(2, b"", lost_at(server.at))
         Ended(program, asked).must(0, b'"plant"\n', b"")
     run = (program, ["serve", "127.77.77.77:47814", "--count=1"], configuration)
-    Ended(*run, CALL="recvfrom", AT=1, MANY=1, ERROR=errno.EIO).must(2, b"", b"socket fault\n")
+    # It was up before that.
+    failed = b"serving 127.77.77.77:47814\nsocket fault\n"
+    Ended(*run, CALL="recvfrom", AT=1, MANY=1, ERROR=errno.EIO).must(2, b"", failed)
     for call in ("socket", "bind"):
         Ended(*run, CALL=call, AT=1, MANY=1, ERROR=errno.EPERM).must(2, b"", b"socket fault\n")
     return "done"
@@ -442,7 +451,7 @@ def served_without_memory(program, configuration):
         if server.run.poll() is not None:
             raise Wrong("the server has ended")
         os.set_blocking(server.run.stderr.fileno(), False)
-        if server.run.stderr.read():
+        if server.run.stderr.read() != f"serving {server.at}\n".encode():
             raise Wrong("the server has asked for memory")
     return f"{taken} allocations before it serves"
 

@@ -18,9 +18,13 @@ is 'found' "$said" "I-Am 123 $at max-apdu 1476 segmentation 3 vendor 0||0"
 wait "$server"
 status=$?
 server=
-is 'the server after one datagram' "$status $(cat "$room/served")" '0 '
+is 'the server after one datagram' "$status $(cat "$room/served")" "0 serving $at"
 bac rp "$at" 8 123 77 --timeout=100 --retries=1
-is 'nobody is there' "$said" '|lost|2'
+is 'nobody is there' "$said" "|lost
+no answer came from $at|2"
+bac wp "$at" 5 1 85 8 0 --timeout=100 --retries=0
+is 'nobody is there to write to' "$said" "|lost
+no answer came from $at|2"
 bac wi "$at" --timeout=100
 is 'nobody answers' "$said" '|no answer|2'
 bac log "$at" 1 oldest --timeout=100 --retries=0
@@ -144,7 +148,7 @@ exec 3>&-
 
 kill "$server"
 wait "$server" 2> /dev/null
-is 'the server until it is ended' "$? $(cat "$room/served")" '143 '
+is 'the server until it is ended' "$? $(cat "$room/served")" "143 serving $at"
 server=
 
 counted

@@ -72,9 +72,11 @@ is 'a router is no device' "$said" '|no answer|2'
 bac rp "$at" 8 123 77 "${far[@]}"
 is 'the name of the device' "$said" '"plant"||0'
 bac rp "$at" 8 123 77 --dnet=7 --dadr=0a02 --timeout=100 --retries=1
-is 'another address' "$said" '|lost|2'
+is 'another address' "$said" "|lost
+no answer came from $at|2"
 bac rp "$at" 8 123 77 --timeout=100 --retries=1
-is 'no way to the device' "$said" '|lost|2'
+is 'no way to the device' "$said" "|lost
+no answer came from $at|2"
 bac rp "$at" 5 2 85 "${far[@]}"
 is 'a binary value that is not there' "$said" '|refused: error 1 31|3'
 bac wp "$at" 5 1 85 8 9 --value=1 "${far[@]}"

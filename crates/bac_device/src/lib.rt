@@ -23,7 +23,9 @@ mod reply;
 mod run;
 mod service;
 
-pub use bac_objects::{BuildFault, DeviceLine, Name, ObjectLine, SampleFault};
+pub use bac_objects::{
+    BuildFault, DeviceLine, LineId, Misfit, Name, ObjectLine, SampleFault, misfit,
+};
 pub use device::{ClockBack, Device};
 pub use laws::{
     accepted_writes_stand, acks_are_read_back, built_objects_are_commanded,

@@ -1,5 +1,5 @@
 -- Lines without a fault.
-use Rattle.std.proofs.Common.{◌≡◌, refl, subst, ap, sym, rules, arith, ℕ, zero, suc, ◌<◌, ◌++◌, Bool, true, false, ◌||◌, not, List, [], ◌∷◌, length, map, take, slice_get, get_or, Option, Some, None, nat_lt, append-nil}
+use Rattle.std.proofs.Common.{◌≡◌, refl, subst, ap, sym, rules, arith, ℕ, zero, suc, ◌<◌, ◌++◌, Bool, true, false, ◌||◌, not, List, [], ◌∷◌, length, map, take, slice_get, get_or, Option, Some, None, nat_lt, append-nil, append_assoc, ◌∙◌}
 use Rattle.std.specs.List.{list_any}
 use Rattle.std.specs.Option.{option_or}
 use Rattle.std.specs.Map.{lookup}
@@ -9,6 +9,7 @@ use Rattle.indexmap.specs.IndexMap.{insert_entry}
 use Rattle.indexmap.proofs.MapLemmas.{absent_from_lookup, insert_entry-absent}
 use Rattle.bac_wire.specs.Primitive.{Id}
 use Rattle.bac_objects.specs.Build.{is_name, first_of, id_of, instance_of, name_of, has_id, has_name, own_tests, object_fault, objects_fault, device_fault, build_fault, entry_of, body_of, Finds, Refuses}
+use Rattle.bac_objects.specs.Misfit.{IsFaulty}
 use Rattle.bac_objects.specs.State.{is_id}
 use Rattle.bac_objects.specs.declared.lines.DeviceLine.{DeviceLine}
 use Rattle.bac_objects.specs.declared.lines.ObjectLine.{ObjectLine}
@@ -71,6 +72,28 @@ never_memory device lines = never_or (device_fault device) (objects_fault device
 refuses : (fault : BuildFault) (said : Option BuildFault) → Never said → said ≡ Some fault → Refuses fault said
 refuses Memory said never is = absurd (never is)
 refuses fault said never is = is
+
+-- ---- lines in parts
+
+option_or-assoc : (a b c : Option BuildFault) → option_or a (option_or b c) ≡ option_or (option_or a b) c
+option_or-assoc None b c = refl
+option_or-assoc (Some x) b c = refl
+
+pub objects_fault-append : (device : DeviceLine) (before xs ys : List ObjectLine) → objects_fault device before (xs ++ ys) ≡ option_or (objects_fault device before xs) (objects_fault device (before ++ xs) ys)
+objects_fault-append device before [] ys = ap (λ (b : List ObjectLine). objects_fault device b ys) (sym (append-nil before))
+objects_fault-append device before (x ∷ xs) ys =
+    let rest = objects_fault-append device (before ++ x ∷ []) xs ys
+    ∙ ap (λ (b : List ObjectLine). option_or (objects_fault device (before ++ x ∷ []) xs) (objects_fault device b ys)) (append_assoc before (x ∷ []) xs) in
+    ap (option_or (object_fault device before x)) rest
+    ∙ option_or-assoc (object_fault device before x) (objects_fault device (before ++ x ∷ []) xs) (objects_fault device (before ++ x ∷ xs) ys)
+
+-- the first fault of object lines is that of the first line with one
+pub faulty_told : (device : DeviceLine) (lines before : List ObjectLine) (line : ObjectLine) (fault : BuildFault) → IsFaulty device lines before line fault → objects_fault device [] lines ≡ Some fault
+faulty_told device lines before line fault f =
+    ap (objects_fault device []) f.split
+    ∙ objects_fault-append device [] before (line ∷ f.after)
+    ∙ ap (λ (o : Option BuildFault). option_or o (objects_fault device before (line ∷ f.after))) f.first
+    ∙ ap (λ (o : Option BuildFault). option_or o (objects_fault device (before ++ line ∷ []) f.after)) f.refused
 
 -- the fault that lines have is told
 pub told : (device : DeviceLine) (lines : List ObjectLine) (found : Option BuildFault) → found ≡ objects_fault device [] lines → Finds found (objects_fault device [] lines)

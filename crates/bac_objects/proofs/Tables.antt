@@ -5,16 +5,18 @@ use Rattle.std.specs.Option.{option_or}
 use Rattle.std.specs.Str.{bytes_eq}
 use Rattle.std.proofs.Math.Seq.{drop-cons}
 use Rattle.std.proofs.lemmas.Bool.Decides.{nat_tests}
-use Rattle.std.proofs.lemmas.List.{take_more}
+use Rattle.std.proofs.lemmas.List.{take-append-drop, take_more}
 use Rattle.std.proofs.lemmas.List.Folds.{list_any-append}
 use Rattle.indexmap.specs.IndexSet.{insert_key}
 use Rattle.bac_wire.specs.Primitive.{Id}
 use Rattle.bac_objects.specs.Build.{first_of, has_id, has_name, id_of, instance_of, is_name, line_tests, name_of, object_fault, objects_fault, own_tests}
+use Rattle.bac_objects.specs.Misfit.{IsFaulty}
 use Rattle.bac_objects.specs.State.{is_id}
 use Rattle.bac_objects.specs.declared.build.BuildFault.{BuildFault}
 use Rattle.bac_objects.specs.declared.build.BuildFault.TheVariants.{BadInstance, DuplicateId, BadName, DuplicateName}
 use Rattle.bac_objects.specs.declared.lines.DeviceLine.{DeviceLine}
 use Rattle.bac_objects.specs.declared.lines.ObjectLine.{ObjectLine}
+use Rattle.bac_objects.proofs.Builds.{objects_fault-append}
 
 -- ---- one line more
 
@@ -25,18 +27,22 @@ here lines i line lt e =
 pub before_more : (lines : List ObjectLine) (i : ℕ) (line : ObjectLine) → i < length lines → line ≡ get_or lines i line → take (i + 1) lines ≡ take i lines ++ line ∷ []
 before_more lines i line lt e = take_more lines i line lt ∙ ap (λ (x : ObjectLine). take i lines ++ x ∷ []) (sym e)
 
-pub faulty : (device : DeviceLine) (lines : List ObjectLine) (i : ℕ) (line : ObjectLine) (fault : BuildFault) → i < length lines → line ≡ get_or lines i line
-    → object_fault device (take i lines) line ≡ Some fault → objects_fault device (take i lines) (drop i lines) ≡ Some fault
-faulty device lines i line fault lt e h =
-    ap (objects_fault device (take i lines)) (here lines i line lt e)
-    ∙ ap (λ (o : Option BuildFault). option_or o (objects_fault device (take i lines ++ line ∷ []) (drop (i + 1) lines))) h
+pub is_faulty : (device : DeviceLine) (lines before : List ObjectLine) (i : ℕ) (line : ObjectLine) (fault : BuildFault) → before ≡ take i lines → i < length lines → line ≡ get_or lines i line
+    → objects_fault device [] (take i lines) ≡ None → object_fault device (take i lines) line ≡ Some fault → IsFaulty device lines before line fault
+is_faulty device lines before i line fault is lt e first h = record {
+  after = drop (i + 1) lines;
+  split = sym (take-append-drop i lines) ∙ ap (λ (l : List ObjectLine). take i lines ++ l) (here lines i line lt e) ∙ ap (λ (l : List ObjectLine). l ++ line ∷ drop (i + 1) lines) (sym is);
+  first = ap (objects_fault device []) is ∙ first;
+  refused = ap (λ (l : List ObjectLine). object_fault device l line) is ∙ h;
+}
 
-pub faultless : (device : DeviceLine) (lines : List ObjectLine) (i : ℕ) (line : ObjectLine) → i < length lines → line ≡ get_or lines i line
-    → object_fault device (take i lines) line ≡ None → objects_fault device (take (i + 1) lines) (drop (i + 1) lines) ≡ objects_fault device (take i lines) (drop i lines)
-faultless device lines i line lt e h =
-    ap (λ (before : List ObjectLine). objects_fault device before (drop (i + 1) lines)) (before_more lines i line lt e)
-    ∙ sym (ap (λ (o : Option BuildFault). option_or o (objects_fault device (take i lines ++ line ∷ []) (drop (i + 1) lines))) h)
-    ∙ sym (ap (objects_fault device (take i lines)) (here lines i line lt e))
+pub first_more : (device : DeviceLine) (lines : List ObjectLine) (i : ℕ) (line : ObjectLine) → i < length lines → line ≡ get_or lines i line
+    → objects_fault device [] (take i lines) ≡ None → object_fault device (take i lines) line ≡ None → objects_fault device [] (take (i + 1) lines) ≡ None
+first_more device lines i line lt e first h =
+    ap (objects_fault device []) (before_more lines i line lt e)
+    ∙ objects_fault-append device [] (take i lines) (line ∷ [])
+    ∙ ap (λ (o : Option BuildFault). option_or o (objects_fault device (take i lines) (line ∷ []))) first
+    ∙ ap (λ (o : Option BuildFault). option_or o None) h
 
 -- ---- its fault
 

@@ -12,3 +12,4 @@ pub mod Steps
 pub mod Records
 pub mod Sound
 pub mod Kept
+pub mod Misfit

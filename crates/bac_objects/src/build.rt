@@ -7,12 +7,13 @@ ghost use Rattle.std.specs.Str.{bytes_eq};
 ghost use Rattle.indexmap.specs.IndexSet.{insert_key};
 ghost use Rattle.bac_objects.specs.Build.{Builds, Finds, body_of, build_fault, device_fault, entry_of, first_of, has_id, has_name, id_of, instance_of, is_control, is_name, line_tests, log_tests, objects_fault, own_tests};
 ghost use Rattle.bac_objects.specs.Kept.{AreObjects, IsBody};
+ghost use Rattle.bac_objects.specs.Misfit.{IsFirstFaulty};
 ghost use Rattle.bac_objects.specs.Sound.{IsSound};
 ghost use Rattle.bac_objects.specs.State.{is_id};
 
 use crate::command::{Command, Range, Setting};
 use crate::database::Database;
-use crate::lines::{DeviceLine, ObjectLine};
+use crate::lines::{DeviceLine, LineId, ObjectLine};
 use crate::object::{Body, Logger, Object};
 use bac_log::TrendLog;
 use bac_wire::ObjectId;
@@ -56,6 +57,16 @@ pub enum BuildFault {
     Memory,
 }
 
+/// The line with which a device can't be built.
+#[derive(Clone, Copy, Debug, PartialEq, Eq)]
+pub struct Misfit {
+    pub line: LineId,
+    pub fault: BuildFault,
+    /// The earlier line with the same name, if that is the fault: the device's, if it has that name,
+    /// else the first object line that has it.
+    pub namesake: Option<LineId>,
+}
+
 /// Whether a name has a character below 32 or 127.
 fn has_control(name: &[u8]) -> bool
     ensures { result ≡ list_any is_control name.now }
@@ -72,7 +83,7 @@ fn is_name(name: &[u8]) -> bool
 
 impl DeviceLine {
     /// The first fault of the line.
-    fn fault(&self) -> Option<BuildFault>
+    pub(crate) fn fault(&self) -> Option<BuildFault>
         ensures { result ≡ device_fault self.now }
     {
         if 4_194_302 < self.instance {
@@ -221,9 +232,17 @@ impl ObjectLine {
     }
 }
 
-/// The first fault of the object lines, found by comparing each line with all before it.
-fn compared_fault(device: &DeviceLine, lines: &[ObjectLine]) -> Option<BuildFault>
-    ensures { result ≡ objects_fault device.now [] lines.now }
+/// An object line with a fault, and the lines before it, which have none.
+#[derive(Clone, Copy, Debug)]
+pub(crate) struct Faulty<'a> {
+    pub before: &'a [ObjectLine],
+    pub line: &'a ObjectLine,
+    pub fault: BuildFault,
+}
+
+/// The first object line with a fault, found by comparing each line with all before it.
+fn compared_fault<'a>(device: &DeviceLine, lines: &'a [ObjectLine]) -> Option<Faulty<'a>>
+    ensures { IsFirstFaulty device.now lines.now result }
 {
     for place in 0..lines.len() {
         let line = &lines[place];
@@ -231,7 +250,11 @@ fn compared_fault(device: &DeviceLine, lines: &[ObjectLine]) -> Option<BuildFaul
         let same_id = has_id(before, line.kind(), line.instance());
         let same_name = has_name(before, line.name().octets());
         if let Some(fault) = line.fault(device, same_id, same_name) {
-            return Some(fault);
+            return Some(Faulty {
+                before,
+                line,
+                fault,
+            });
         }
     }
     None
@@ -250,25 +273,34 @@ fn note<'a>(
     ids.insert(id).is_ok() && names.insert(name).is_ok()
 }
 
-/// The first fault of the object lines, found by tables of identifiers and names in which each line
+/// The first object line with a fault, found by tables of identifiers and names in which each line
 /// is looked up once; `None` if there is no memory for them.
-fn tabled_fault(
+fn tabled_fault<'a>(
     alloc: Global,
     device: &DeviceLine,
-    lines: &[ObjectLine],
-) -> Option<Option<BuildFault>>
-    ensures { IfSome result (λ fault. fault ≡ objects_fault device.now [] lines.now) }
+    lines: &'a [ObjectLine],
+) -> Option<Option<Faulty<'a>>>
+    ensures { IfSome result (IsFirstFaulty device.now lines.now) }
 {
     let mut ids: IndexSet<ObjectId> = IndexSet::with_capacity(alloc, lines.len()).ok()?;
     let mut names: IndexSet<&str> = IndexSet::with_capacity(alloc, lines.len()).ok()?;
     for place in 0..lines.len() {
         let line = &lines[place];
+        let before = &lines[..place];
         let Some(id) = ObjectId::new(line.kind(), line.instance()) else {
-            return Some(Some(BuildFault::BadInstance));
+            return Some(Some(Faulty {
+                before,
+                line,
+                fault: BuildFault::BadInstance,
+            }));
         };
         let name = line.name().text();
         if let Some(fault) = line.fault(device, ids.contains(&id), names.contains(&name)) {
-            return Some(Some(fault));
+            return Some(Some(Faulty {
+                before,
+                line,
+                fault,
+            }));
         }
         if !note(&mut ids, &mut names, id, name) {
             return None;
@@ -277,15 +309,30 @@ fn tabled_fault(
     Some(None)
 }
 
-/// The first fault of the object lines. Where there is no memory for the tables, it is told only of
-/// lines that have no other fault.
+/// The first object line with a fault.
+pub(crate) fn first_faulty<'a>(
+    alloc: Global,
+    device: &DeviceLine,
+    lines: &'a [ObjectLine],
+) -> Option<Faulty<'a>>
+    ensures { IsFirstFaulty device.now lines.now result }
+{
+    match tabled_fault(alloc, device, lines) {
+        Some(found) => found,
+        None => compared_fault(device, lines),
+    }
+}
+
+/// The first fault of the object lines; or, if they have none, that there was no memory for the
+/// tables in which they are looked up.
 fn objects_fault(alloc: Global, device: &DeviceLine, lines: &[ObjectLine]) -> Option<BuildFault>
     ensures { Finds result (objects_fault device.now [] lines.now) }
 {
     match tabled_fault(alloc, device, lines) {
-        Some(fault) => fault,
+        Some(Some(faulty)) => Some(faulty.fault),
+        Some(None) => None,
         None => match compared_fault(device, lines) {
-            Some(fault) => Some(fault),
+            Some(faulty) => Some(faulty.fault),
             None => Some(BuildFault::Memory),
         },
     }

@@ -17,13 +17,13 @@ pub fn objects_are_found()
         → lookup (is_id (id_of line)) (built device lines).objects ≡ Some (entry_of line).1 }
 {}
 
-/// Lines without a fault describe a device that is sound, where no line says that more records were
+/// Lines without a fault describe a device that is sound, if no line says that more records were
 /// logged before than 64 bits can count.
 pub fn built_devices_are_sound()
     ensures { (device : FirstLine) (lines : List LineOf) → build_fault device lines ≡ None → AllByRecursion IsCounted lines → IsSound (built device lines) }
 {}
 
-/// No fault of lines is want of memory.
+/// No fault of lines is that memory ran out.
 pub fn lines_need_no_memory()
     ensures { (device : FirstLine) (lines : List LineOf) → build_fault device lines ≢ Some Memory }
 {}

@@ -20,6 +20,14 @@ pub struct DeviceLine {
     pub clock: Stamp,
 }
 
+/// A line that describes the device or one of its objects, by type (clause 21, BACnetObjectType; 8
+/// is the device) and instance as written.
+#[derive(Clone, Copy, Debug, PartialEq, Eq)]
+pub struct LineId {
+    pub object_type: u16,
+    pub instance: u32,
+}
+
 /// What is said of an object.
 #[derive(Debug, Drop)]
 pub enum ObjectLine {

@@ -9,6 +9,8 @@ use Rattle.bac_script.specs.Script.Line.{kind_in, start_in, walked_log}
 use Rattle.bac_script.specs.Script.Number.{below, integer_in, number_in}
 use Rattle.bac_script.specs.Script.Stamp.{stamp_in}
 use Rattle.bac_script.specs.Script.Words.{text_in, words_of}
+use Rattle.bac_script.specs.declared.replay.fault.Reason.{Reason}
+use Rattle.bac_script.specs.declared.replay.fault.Reason.TheVariants.{Line}
 use Rattle.bac_script.specs.declared.replay.fault.Refused.{Refused}
 use Rattle.bac_script.specs.declared.replay.fault.ReplayFault.{ReplayFault}
 use Rattle.bac_script.specs.declared.replay.fault.ReplayFault.TheVariants.{BadLine}
@@ -94,16 +96,17 @@ line_at number (line ∷ more) = if nat_le number 1 then line else line_at (numb
 
 -- ---- scripts and configurations
 
--- what is wrong with the line of a text that is bad
-abbrev pub flaw_in : List ℕ → ReplayFault → Option Flaw
-flaw_in text (BadLine number) = Some (flaw_of (line_at number (lines text)))
-flaw_in text other = None
+-- what is to mend in a text that is refused for this fault: of a bad line what is wrong with it
+abbrev pub IsReason : List ℕ → ReplayFault → Option Reason → Type 0
+IsReason text (BadLine number) said = said ≡ Some (Line (flaw_of (line_at number (lines text))))
+IsReason text other said = said ≡ None
 
--- a fault comes with what is wrong with the line, which is one of what was read
+-- a fault comes with what is to mend in what was read
 abbrev pub IsExplained : Option (List ℕ) → Option (List ℕ) → Refused → Type 0
-IsExplained have left refused = (read : List ℕ) × Consumes have left read × (refused.flaw ≡ flaw_in read refused.fault)
+IsExplained have left refused =
+    (read : List ℕ) × Consumes have left read × IsReason read refused.fault refused.reason
 
--- the same answer without what is wrong with the line
-abbrev pub without_flaw : {T : Type 0} → Result T Refused → Result T ReplayFault
-without_flaw (Ok done) = Ok done
-without_flaw (Err refused) = Err refused.fault
+-- the same answer without what is to mend
+abbrev pub without_reason : {T : Type 0} → Result T Refused → Result T ReplayFault
+without_reason (Ok done) = Ok done
+without_reason (Err refused) = Err refused.fault

@@ -4,7 +4,7 @@ ghost use Rattle.std.specs.Prelude.{◌≡◌, ◌+◌, ◌<◌, ◌≤◌, leng
 ghost use Rattle.std.specs.Io.KnownBytes.{Consumes, IsAtEnd};
 ghost use Rattle.std.specs.Str.Lines.{lines};
 ghost use Rattle.bac_script.specs.Configuration.{AddsLine, Configures, Describes, IsAdded, kept_plan, plan_of, with_line, with_text};
-ghost use Rattle.bac_script.specs.Flaw.{IsExplained, without_flaw};
+ghost use Rattle.bac_script.specs.Flaw.{IsExplained, without_reason};
 ghost use Rattle.bac_script.specs.Input.{ConsumesUpTo};
 ghost use Rattle.bac_script.specs.Script.Line.{Device, Object};
 
@@ -155,14 +155,14 @@ fn configuration_within<R: Read>(
     }
 }
 
-/// The same; a fault comes with what is wrong with a bad line.
+/// The same; a fault comes with what is to mend.
 fn explained_within<R: Read>(
     alloc: Global,
     limit: usize,
     reader: &mut R,
 ) -> Result<Option<Configuration>, Refused>
     requires { limit ≤ LIMIT }
-    ensures configures { Configures limit (R.remaining reader.old) (R.remaining reader.new) (without_flaw result) }
+    ensures configures { Configures limit (R.remaining reader.old) (R.remaining reader.new) (without_reason result) }
     ensures explained { IfErr result (IsExplained (R.remaining reader.old) (R.remaining reader.new)) }
     ensures read { ConsumesUpTo (limit + 1) (R.remaining reader.old) (R.remaining reader.new) }
     ensures whole { OnOk result (IsAtEnd (R.remaining reader.new)) }
@@ -170,7 +170,7 @@ fn explained_within<R: Read>(
     let Ok(mut buffer) = vec![in alloc; 0u8; limit + 1] else {
         return Err(Refused {
             fault: ReplayFault::Memory,
-            flaw: None,
+            reason: None,
         });
     };
     let (filled, read) = configuration_in(alloc, limit, &mut buffer, reader);
@@ -180,13 +180,13 @@ fn explained_within<R: Read>(
     }
 }
 
-/// Reads a configuration as [`read_configuration`] does; a fault comes with what is wrong with a bad
-/// line.
+/// Reads a configuration as [`read_configuration`] does; a fault comes with what is wrong with a
+/// bad line.
 pub fn read_configuration_explained<R: Read>(
     alloc: Global,
     reader: &mut R,
 ) -> Result<Option<Configuration>, Refused>
-    ensures configures { Configures LIMIT (R.remaining reader.old) (R.remaining reader.new) (without_flaw result) }
+    ensures configures { Configures LIMIT (R.remaining reader.old) (R.remaining reader.new) (without_reason result) }
     ensures explained { IfErr result (IsExplained (R.remaining reader.old) (R.remaining reader.new)) }
     ensures read { ConsumesUpTo (LIMIT + 1) (R.remaining reader.old) (R.remaining reader.new) }
     ensures whole { OnOk result (IsAtEnd (R.remaining reader.new)) }

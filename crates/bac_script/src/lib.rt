@@ -18,6 +18,6 @@ mod script;
 
 pub use configuration::{Configuration, read_configuration, read_configuration_explained};
 pub use laws::texts_are_joined;
-pub use replay::fault::{Refused, ReplayFault};
+pub use replay::fault::{Reason, Refused, ReplayFault};
 pub use replay::{LIMIT, run_replay, run_replay_explained};
 pub use script::flaw::{Flaw, LineKind, Wanted};

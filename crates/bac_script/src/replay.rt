@@ -1,7 +1,7 @@
 //! A script read from a reader, its text written to a writer.
 ghost use Rattle.std.specs.Prelude.{◌≡◌, ◌≢◌, ◌+◌, ◌<◌, ◌≤◌, ℕ, List, [], ◌∷◌, ◌++◌, length, None, Some, Ok, Err, IfOk, IfErr, OnOk, Option, take};
 ghost use Rattle.std.specs.Io.KnownBytes.{Appends, Consumes, IsAtEnd};
-ghost use Rattle.bac_script.specs.Flaw.{IsExplained, without_flaw};
+ghost use Rattle.bac_script.specs.Flaw.{IsExplained, without_reason};
 ghost use Rattle.bac_script.specs.Input.{ConsumesUpTo};
 ghost use Rattle.std.specs.Str.Lines.{lines};
 ghost use Rattle.bac_script.specs.Script.Lines.{ended_lines, open_line, last_if_any};
@@ -203,7 +203,7 @@ fn replay_within<R: Read, W: Write>(
     }
 }
 
-/// The same; a fault comes with what is wrong with a bad line.
+/// The same; a fault comes with what is to mend.
 fn explained_within<R: Read, W: Write>(
     alloc: Global,
     limit: usize,
@@ -211,16 +211,16 @@ fn explained_within<R: Read, W: Write>(
     writer: &mut W,
 ) -> Result<(), Refused>
     requires { limit ≤ LIMIT }
-    ensures ends { Replays limit (R.remaining reader.old) (R.remaining reader.new) (W.contents writer.old) (W.contents writer.new) (without_flaw result) }
+    ensures ends { Replays limit (R.remaining reader.old) (R.remaining reader.new) (W.contents writer.old) (W.contents writer.new) (without_reason result) }
     ensures explained { IfErr result (IsExplained (R.remaining reader.old) (R.remaining reader.new)) }
     ensures read { ConsumesUpTo (limit + 1) (R.remaining reader.old) (R.remaining reader.new) }
     ensures whole { OnOk result (IsAtEnd (R.remaining reader.new)) }
-    ensures build_memory { without_flaw result ≢ Err (ReplayFault.Build BuildFault.Memory) }
+    ensures build_memory { without_reason result ≢ Err (ReplayFault.Build BuildFault.Memory) }
 {
     let Ok(mut buffer) = vec![in alloc; 0u8; limit + 1] else {
         return Err(Refused {
             fault: ReplayFault::Memory,
-            flaw: None,
+            reason: None,
         });
     };
     let (filled, played) = replay_in(alloc, limit, &mut buffer, reader, writer);
@@ -230,18 +230,18 @@ fn explained_within<R: Read, W: Write>(
     }
 }
 
-/// Plays the script that the reader has as [`run_replay`] does; a fault comes with what is wrong
-/// with a bad line.
+/// Plays the script that the reader has as [`run_replay`] does; a fault comes with what is to mend,
+/// if that can be told.
 pub fn run_replay_explained<R: Read, W: Write>(
     alloc: Global,
     reader: &mut R,
     writer: &mut W,
 ) -> Result<(), Refused>
-    ensures ends { Replays LIMIT (R.remaining reader.old) (R.remaining reader.new) (W.contents writer.old) (W.contents writer.new) (without_flaw result) }
+    ensures ends { Replays LIMIT (R.remaining reader.old) (R.remaining reader.new) (W.contents writer.old) (W.contents writer.new) (without_reason result) }
     ensures explained { IfErr result (IsExplained (R.remaining reader.old) (R.remaining reader.new)) }
     ensures read { ConsumesUpTo (LIMIT + 1) (R.remaining reader.old) (R.remaining reader.new) }
     ensures whole { OnOk result (IsAtEnd (R.remaining reader.new)) }
-    ensures build_memory { without_flaw result ≢ Err (ReplayFault.Build BuildFault.Memory) }
+    ensures build_memory { without_reason result ≢ Err (ReplayFault.Build BuildFault.Memory) }
 {
     explained_within(alloc, LIMIT, reader, writer)
 }

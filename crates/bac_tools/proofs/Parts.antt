@@ -1,5 +1,5 @@
 -- A text of which a front part was written, and the word that is wrong.
-use Rattle.std.proofs.Common.{◌≡◌, ℕ, List, [], ◌++◌, Option, Result, Ok, Err, OnOk, OnErr, if◌then◌else◌, sym, ap, append-nil, append_assoc, ◌∙◌}
+use Rattle.std.proofs.Common.{◌≡◌, ℕ, List, [], ◌++◌, ◌⊎◌, inl, inr, Option, Result, Ok, Err, OnOk, OnErr, if◌then◌else◌, sym, ap, append-nil, append_assoc, ◌∙◌}
 use Rattle.std.specs.Result.{is_ok}
 use Rattle.std.specs.Io.KnownBytes.{Appends}
 use Rattle.bac_print.specs.Output.{AppendsPart}
@@ -33,3 +33,9 @@ pub grown : {E : Type 0} (r : Result (Unit {0}) E) (old text new : List ℕ) →
     → OnOk r (new ≡ old ++ text)
 grown (Ok done) old text new e = e
 grown (Err fault) old text new e = tt
+
+-- an answer that is one of two faults
+pub either_fault : {T F : Type 0} (r : Result T F) (fault a b : F) → r ≡ Err fault → (fault ≡ a) ⊎ (fault ≡ b)
+    → (r ≡ Err a) ⊎ (r ≡ Err b)
+either_fault r fault a b said (inl p) = inl (said ∙ ap Err p)
+either_fault r fault a b said (inr q) = inr (said ∙ ap Err q)

@@ -5,4 +5,5 @@ pub mod Texts
 pub mod Sockets
 pub mod Given
 pub mod Finding
+pub mod Streams
 pub mod Run

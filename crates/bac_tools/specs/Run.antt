@@ -1,5 +1,6 @@
--- What the program does with its words. Read from the end. `input` is what the reader had and `left` what it has left;
--- `old` and `new` are what the output held before and holds now, each if that is known.
+-- What the program does with its words. Read from the end. Of one tool, `input` is what the reader had and `left` what it
+-- has left; `old` and `new` are what the output held before and holds now, each if that is known. Of the program they
+-- are all its streams and its clock, before and now.
 use Rattle.std.specs.Prelude.{◌≡◌, ◌≢◌, ◌≤◌, ◌⊎◌, ℕ, ◌==◌, if◌then◌else◌, List, [], Option, Some, None, Result, Ok, Err}
 use Rattle.std.specs.List.{list_any}
 use Rattle.std.specs.Io.KnownBytes.{Keeps}
@@ -30,7 +31,8 @@ use Rattle.bac_tools.specs.Finding.{Searches, search_of}
 use Rattle.bac_tools.specs.Given.{value_of}
 use Rattle.bac_tools.specs.Sockets.{IsAsking, IsOpen, any_receive, any_send, socket_asks}
 use Rattle.bac_tools.specs.Status.{exit_status, walk_status}
-use Rattle.bac_tools.specs.Texts.{told_text}
+use Rattle.bac_tools.specs.Streams.{Streams, IsQuiet, with_errors}
+use Rattle.bac_tools.specs.Texts.{serving_line, told_text}
 use Rattle.bac_tools.specs.declared.asking.Asking.{Asking}
 use Rattle.bac_tools.specs.declared.fault.Fault.{Fault}
 use Rattle.bac_tools.specs.declared.fault.Fault.TheVariants.{BadValue, NoDevice, Script, Socket, Memory}
@@ -68,15 +70,15 @@ Plays input left old new result =
 
 -- ---- bac rp, wp and log
 
--- done, or a fault of the query
-abbrev pub of_answer : Answer → Ending
-of_answer (Ok done) = Ok 0
-of_answer (Err fault) = Err (of_query fault)
+-- done, or a fault of the query to this address
+abbrev pub of_answer : List ℕ → Answer → Ending
+of_answer address (Ok done) = Ok 0
+of_answer address (Err fault) = Err (of_query address fault)
 
 -- the line of a walk's end is printed, whatever it says
-abbrev pub of_fetching : Fetching → Ending
-of_fetching (Ok fetched) = Ok (walk_status fetched.why)
-of_fetching (Err fault) = Err (of_query fault)
+abbrev pub of_fetching : List ℕ → Fetching → Ending
+of_fetching address (Ok fetched) = Ok (walk_status fetched.why)
+of_fetching address (Err fault) = Err (of_query address fault)
 
 -- ReadProperty: an exchange over the link and with the transactions that the words say, and the values of its ACK
 abbrev pub Reads : Asked → ReadProperty → Held → Held → Ending → Type 0
@@ -84,7 +86,7 @@ Reads asked question old new result =
     IsClosed old new result
     ⊎ ((with : Asking) × (answer : Answer) × (left : UdpLink UdpPort) × IsAsking asked with
     × ReadsOver socket_asks (next_way with.transactions) question with.link answer left old new
-    × (result ≡ of_answer answer))
+    × (result ≡ of_answer asked.address answer))
 
 -- WriteProperty, likewise
 abbrev pub Writes : Asked → Request → Held → Held → Ending → Type 0
@@ -92,7 +94,7 @@ Writes asked question old new result =
     IsClosed old new result
     ⊎ ((with : Asking) × (answer : Answer) × (left : UdpLink UdpPort) × IsAsking asked with
     × WritesOver socket_asks (next_way with.transactions) question with.link answer left old new
-    × (result ≡ of_answer answer))
+    × (result ≡ of_answer asked.address answer))
 
 -- no socket is honest
 abbrev pub no_honest : ℕ → List Moment → History → Type 0
@@ -108,7 +110,7 @@ Fetches asked walk steps old new result =
     × ((n : ℕ) × (ended : Ended) × (after : WalkPlace) × EndsAs items steps n ended after fetching old new
     × IsFetched no_honest with.transactions.retries with.link.failures left.failures walk after n ended items
     × Told socket_asks (towards with.transactions.route) with.transactions.retries ended after left)
-    × (result ≡ of_fetching fetching))
+    × (result ≡ of_fetching asked.address fetching))
 
 -- an object type or an instance that no identifier has (clause 20.2.14)
 abbrev pub IsOutside : ℕ → ℕ → Type 0
@@ -171,13 +173,15 @@ abbrev pub of_served : Done → Ending
 of_served (Ok done) = Ok 0
 of_served (Err fault) = Err Socket
 
--- the device was served for so many datagrams at a socket with this address and wait, or there was no socket for it
+-- The device is served for so many datagrams at a socket with this address and wait, and a line on the errors says so.
+-- Without a socket for it, or without memory for that line, nothing is told.
 abbrev pub IsServed : {C : Type 0} → (C → Option CivilTime → C → Type 0) →
-    List ℕ → ℕ → ℕ → State → C → Ending → C → Type 0
-IsServed tells address wait count device clock result told =
-    ((result ≡ Err Socket) × (told ≡ clock))
-    ⊎ ((port : UdpPort) × (served : Done) × (new : UdpPort) × (after : State) × IsOpen address wait port
-    × ServesDevice any_send any_receive tells count (server port device clock) served (server new after told)
+    List ℕ → ℕ → ℕ → State → Streams C → Ending → Streams C → Type 0
+IsServed tells address wait count device old result new =
+    (((result ≡ Err Socket) ⊎ (result ≡ Err Memory)) × IsQuiet old new)
+    ⊎ ((port : UdpPort) × (served : Done) × (behind : UdpPort) × (after : State) × IsOpen address wait port
+    × AppendsPart old.errors new.errors (serving_line address)
+    × ServesDevice any_send any_receive tells count (server port device old.clock) served (server behind after new.clock)
     × (result ≡ of_served served))
 
 -- a fifth of a second while a log has an interval, so that it takes its samples while nobody asks; else without limit
@@ -186,56 +190,58 @@ wait_of lines = if list_any has_interval lines then 200 else 0
 
 -- the faults of the configuration, of the build and of the socket, in this order
 abbrev pub Serves : {C : Type 0} → (C → Option CivilTime → C → Type 0) →
-    List ℕ → ℕ → Held → Held → C → Ending → C → Type 0
-Serves tells address count input left clock result told =
-    ((fault : Fault) × IsConfigured input left (Err fault) × (result ≡ Err fault) × (told ≡ clock))
-    ⊎ ((c : Configuration) × IsConfigured input left (Ok c)
-    × (((fault : Fault) × IsUnbuilt (build_fault c.device c.objects.items) fault
-    × (result ≡ Err fault) × (told ≡ clock))
+    List ℕ → ℕ → Streams C → Ending → Streams C → Type 0
+Serves tells address count old result new =
+    ((fault : Fault) × IsConfigured old.input new.input (Err fault) × (result ≡ Err fault) × IsQuiet old new)
+    ⊎ ((c : Configuration) × IsConfigured old.input new.input (Ok c)
+    × (((fault : Fault) × IsUnbuilt (build_fault c.device c.objects.items) fault × (result ≡ Err fault) × IsQuiet old new)
     ⊎ ((build_fault c.device c.objects.items ≡ None)
-    × IsServed tells address (wait_of c.objects.items) count (built c.device c.objects.items) clock result told)))
+    × IsServed tells address (wait_of c.objects.items) count (built c.device c.objects.items) old result new)))
 
 -- ---- any job
 
--- The clock moves on only while a device is served.
-abbrev pub Works : {C : Type 0} → (C → Option CivilTime → C → Type 0) →
-    Job → Held → Held → Held → Held → C → Ending → C → Type 0
-Works tells job.Replay input left old new clock result told = Plays input left old new result × (told ≡ clock)
-Works tells (job.Rp asked object_type instance property index) input left old new clock result told =
-    ((IsOutside object_type instance × IsUnasked Instance old new result)
-    ⊎ Reads asked (question object_type instance property index) old new result) × (told ≡ clock)
-Works tells (job.Wp asked object_type instance property priority given index) input left old new clock result told =
-    ((IsOutside object_type instance × IsUnasked Instance old new result)
+-- The tool of a job, before its fault is told. Only `serve` looks at the clock, and tells that it is up.
+abbrev pub Works : {C : Type 0} → (C → Option CivilTime → C → Type 0) → Job → Streams C → Ending → Streams C → Type 0
+Works tells job.Replay old result new =
+    Plays old.input new.input old.output new.output result × IsQuiet old new
+Works tells (job.Rp asked object_type instance property index) old result new =
+    ((IsOutside object_type instance × IsUnasked Instance old.output new.output result)
+    ⊎ Reads asked (question object_type instance property index) old.output new.output result)
+    × IsQuiet old new
+Works tells (job.Wp asked object_type instance property priority given index) old result new =
+    ((IsOutside object_type instance × IsUnasked Instance old.output new.output result)
     ⊎ ((w : WriteProperty) × (write_of_code w ≡ setting object_type instance property priority given index)
-    × Writes asked (request.WriteProperty w) old new result)) × (told ≡ clock)
-Works tells (job.Log asked instance from steps) input left old new clock result told =
+    × Writes asked (request.WriteProperty w) old.output new.output result))
+    × IsQuiet old new
+Works tells (job.Log asked instance from steps) old result new =
     (((fault : Fault) × (IsNoWalk instance from fault × (result ≡ Err fault))
-    × Keeps old new) ⊎ Fetches asked (walk_from instance from) steps old new result)
-    × (told ≡ clock)
-Works tells (job.Serve address count) input left old new clock result told =
-    Serves tells address count input left clock result told × Keeps old new
-Works tells (job.Wi addresses min max dnet local timeout) input left old new clock result told =
-    Searches (search_of min max dnet) addresses local timeout old new result × (told ≡ clock)
+    × Keeps old.output new.output) ⊎ Fetches asked (walk_from instance from) steps old.output new.output result)
+    × IsQuiet old new
+Works tells (job.Serve address count) old result new =
+    Serves tells address count old result new × Keeps old.output new.output
+Works tells (job.Wi addresses min max dnet local timeout) old result new =
+    Searches (search_of min max dnet) addresses local timeout old.output new.output result × IsQuiet old new
 
 -- ---- the status
 
--- the fault's text is written on the errors, or a front part of it; or that memory was wanting for the text
+-- the fault's text is written on the errors, or a front part of it; or, without memory for it, that of out of memory
 abbrev pub IsTold : Fault → Held → Held → ℕ → Type 0
 IsTold fault old new status =
     ((status ≡ exit_status fault) × AppendsPart old new (told_text fault))
     ⊎ ((status ≡ exit_status Memory) × AppendsPart old new (told_text Memory))
 
--- nothing is written on the errors if there is no fault
+-- a fault is told on the errors, and without one nothing more
 abbrev pub Ends : Ending → Held → Held → ℕ → Type 0
 Ends (Ok done) old new status = (status ≡ done) × Keeps old new
 Ends (Err fault) old new status = IsTold fault old new status
 
--- what the words ask for is done, or nothing is, as there is no memory for the words
-abbrev pub Runs : {C : Type 0} → (C → Option CivilTime → C → Type 0) →
-    Job → Held → Held → Held → Held → Held → Held → C → ℕ → C → Type 0
-Runs tells asked input left old new errors told clock status after =
-    (IsTold Memory errors told status × Keeps old new × (after ≡ clock))
-    ⊎ ((result : Ending) × Works tells asked input left old new clock result after × Ends result errors told status)
+-- What the words ask for is done, which leaves this on the errors, and then its fault is told; or nothing is done, as
+-- there is no memory for the words.
+abbrev pub Runs : {C : Type 0} → (C → Option CivilTime → C → Type 0) → Job → Streams C → ℕ → Streams C → Type 0
+Runs tells asked old status new =
+    (IsTold Memory old.errors new.errors status × Keeps old.output new.output × (new.clock ≡ old.clock))
+    ⊎ ((result : Ending) × (said : Held) × Works tells asked old result (with_errors said new)
+    × Ends result said new.errors status)
 
 -- words that ask for a job
 abbrev pub AskFor : List Text → Job → Type 0

@@ -37,7 +37,7 @@ exit_status (Script fault) = script_status fault
 exit_status Socket = 2
 exit_status (Refused address) = 2
 exit_status NoAnswer = 2
-exit_status (Exchange fault) = exchange_status fault
+exit_status (Exchange address fault) = exchange_status fault
 exit_status Write = 2
 exit_status Memory = 5
 

@@ -1,4 +1,4 @@
--- What is told of a fault on standard error: its line, and if there is more to say, a second one.
+-- What is told on standard error. Of a fault it is a line, and if there is more to say, a second one.
 use Rattle.std.specs.Prelude.{ℕ, List, [], ◌∷◌, ◌++◌, if◌then◌else◌, codes, decimal}
 use Rattle.bac_link.specs.declared.exchanges.ExchangeFault.{ExchangeFault}
 use Rattle.bac_link.specs.declared.exchanges.ExchangeFault.TheVariants as exchange
@@ -75,16 +75,20 @@ script_text script.Memory = codes "out of memory"
 abbrev pub bad_value : List ℕ
 bad_value = codes "bad value" ++ 10 ∷ []
 
--- a fault of one question
-unfoldable pub exchange_text : ExchangeFault → List ℕ
-exchange_text exchange.Lost = codes "lost"
-exchange_text (exchange.Refused refusal) = refusal_text refusal
-exchange_text exchange.BadReply = codes "bad reply"
-exchange_text exchange.TooLong = bad_value ++ codes "the request is too long"
+-- a line, and on a second one what is said of an address
+abbrev pub of_address : List ℕ → List ℕ → List ℕ → List ℕ
+of_address line said address = (line ++ 10 ∷ []) ++ (said ++ address_text address)
+
+-- a fault of one question to an address
+unfoldable pub exchange_text : List ℕ → ExchangeFault → List ℕ
+exchange_text address exchange.Lost = of_address (codes "lost") (codes "no answer came from ") address
+exchange_text address (exchange.Refused refusal) = refusal_text refusal
+exchange_text address exchange.BadReply = codes "bad reply"
+exchange_text address exchange.TooLong = bad_value ++ codes "the request is too long"
 
 -- nothing could be sent to an address
-unfoldable pub refused_text : List ℕ → List ℕ
-refused_text address = (codes "socket fault" ++ 10 ∷ []) ++ (codes "nothing was sent to " ++ address_text address)
+abbrev pub refused_text : List ℕ → List ℕ
+refused_text address = of_address (codes "socket fault") (codes "nothing was sent to ") address
 
 -- a word's value is none that it can have
 unfoldable pub wrong_text : Word → List ℕ
@@ -99,10 +103,16 @@ fault_text (Script fault) = script_text fault
 fault_text Socket = codes "socket fault"
 fault_text (Refused address) = refused_text address
 fault_text NoAnswer = codes "no answer"
-fault_text (Exchange fault) = exchange_text fault
+fault_text (Exchange address fault) = exchange_text address fault
 fault_text Write = codes "write fault"
 fault_text Memory = codes "out of memory"
 
 -- with the last line's end
 abbrev pub told_text : Fault → List ℕ
 told_text fault = fault_text fault ++ 10 ∷ []
+
+-- ---- serving
+
+-- a device is up at an address, a line
+unfoldable pub serving_line : List ℕ → List ℕ
+serving_line address = codes "serving " ++ (address_text address ++ 10 ∷ [])

@@ -70,13 +70,14 @@ pub(crate) fn rp<R: Net, O: Write>(
 ) -> Result<u8, Fault>
     ensures { Reads asked question (O.contents output.old) (O.contents output.new) result }
 {
+    let address = asked.address;
     let Asking {
         mut link,
         mut transactions,
     } = connect(rt, asked)?;
     match read_property(alloc, &mut link, &mut transactions, question, output) {
         Ok(()) => Ok(0),
-        Err(fault) => Err(Fault::of_query(fault)),
+        Err(fault) => Err(Fault::of_query(address, fault)),
     }
 }
 
@@ -90,13 +91,14 @@ pub(crate) fn wp<R: Net, O: Write>(
     requires { IsSendable question.now }
     ensures { Writes asked question.now (O.contents output.old) (O.contents output.new) result }
 {
+    let address = asked.address;
     let Asking {
         mut link,
         mut transactions,
     } = connect(rt, asked)?;
     match write_property(&mut link, &mut transactions, question, output) {
         Ok(()) => Ok(0),
-        Err(fault) => Err(Fault::of_query(fault)),
+        Err(fault) => Err(Fault::of_query(address, fault)),
     }
 }
 
@@ -111,13 +113,14 @@ pub(crate) fn log<R: Net, O: Write>(
 ) -> Result<u8, Fault>
     ensures { Fetches asked walk steps (O.contents output.old) (O.contents output.new) result }
 {
+    let address = asked.address;
     let Asking {
         mut link,
         mut transactions,
     } = connect(rt, asked)?;
     match fetch_log(alloc, &mut link, &mut transactions, walk, steps, output) {
         Ok(fetched) => Ok(walk_status(fetched.why)),
-        Err(fault) => Err(Fault::of_query(fault)),
+        Err(fault) => Err(Fault::of_query(address, fault)),
     }
 }
 

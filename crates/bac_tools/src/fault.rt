@@ -27,8 +27,11 @@ pub enum Fault {
     Refused([u8; 6]),
     /// No device announced itself.
     NoAnswer,
-    /// The device's answer didn't come, or isn't the ACK that belongs to the request.
-    Exchange(ExchangeFault),
+    /// The answer from this address didn't come, or isn't the ACK that belongs to the request.
+    Exchange {
+        address: [u8; 6],
+        fault: ExchangeFault,
+    },
     /// The output refused a write.
     Write,
     /// Out of memory.
@@ -65,17 +68,17 @@ impl Fault {
             Fault::NotText | Fault::BadValue(_) | Fault::NoDevice => 1,
             Fault::Script(fault) => script_status(fault),
             Fault::Socket | Fault::Refused(_) | Fault::NoAnswer | Fault::Write => 2,
-            Fault::Exchange(fault) => exchange_status(fault),
+            Fault::Exchange { fault, .. } => exchange_status(fault),
             Fault::Memory => 5,
         }
     }
 
-    /// The fault of a tool whose query wasn't done.
-    pub(crate) fn of_query(fault: QueryFault) -> Fault
-        ensures { result ≡ of_query fault }
+    /// The fault of a tool whose query of this address wasn't done.
+    pub(crate) fn of_query(address: [u8; 6], fault: QueryFault) -> Fault
+        ensures { result ≡ of_query address fault }
     {
         match fault {
-            QueryFault::Exchange(fault) => Fault::Exchange(fault),
+            QueryFault::Exchange(fault) => Fault::Exchange { address, fault },
             QueryFault::Write => Fault::Write,
             QueryFault::Memory => Fault::Memory,
         }

@@ -5,6 +5,7 @@ ghost use Rattle.std.specs.Io.KnownBytes.{Keeps};
 ghost use Rattle.std.specs.String.{string_bytes};
 ghost use Rattle.clap.specs.Values.{kind_of};
 ghost use Rattle.bac_tools.specs.Run.{AreMistaken, AreWrong, AskFor, Ends, IsMistake, IsNoWalk, IsOutside, IsTold, Runs, Works, priority_of, walk_from};
+ghost use Rattle.bac_tools.specs.Streams.{streams};
 ghost use Rattle.bac_words.specs.declared.job.Job.{Job as AnyJob};
 ghost use Rattle.bac_words.specs.declared.word.Word.{Word as AnyWord};
 
@@ -61,16 +62,20 @@ fn priority(number: u8) -> Option<u8>
     if number == 0 { None } else { Some(number) }
 }
 
-/// Does what a job asks for; answers the exit status.
-fn work<R: Net, I: Read, O: Write, C: Clock>(
+/// Does what a job asks for; answers the exit status. Of the errors, a server tells there that it is
+/// up.
+fn work<R: Net, I: Read, O: Write, E: Write, C: Clock>(
     rt: &R,
     alloc: Global,
     job: Job,
     input: &mut I,
     output: &mut O,
+    errors: &mut E,
     clock: &mut C,
 ) -> Result<u8, Fault>
-    ensures { Works C.tells job (I.remaining input.old) (I.remaining input.new) (O.contents output.old) (O.contents output.new) clock.old result clock.new }
+    ensures { Works C.tells job
+        (streams (I.remaining input.old) (O.contents output.old) (E.contents errors.old) clock.old) result
+        (streams (I.remaining input.new) (O.contents output.new) (E.contents errors.new) clock.new) }
 {
     match job {
         Job::Replay => replay(alloc, input, output),
@@ -128,7 +133,7 @@ fn work<R: Net, I: Read, O: Write, C: Clock>(
             from,
             steps,
         } => log(rt, alloc, asked, walk(instance, from)?, steps, output),
-        Job::Serve { address, count } => serve(rt, alloc, address, count, input, clock),
+        Job::Serve { address, count } => serve(rt, alloc, address, count, input, errors, clock),
     }
 }
 
@@ -157,7 +162,8 @@ fn explain<O: Write, E: Write>(
 }
 
 /// The program `bac`: does what its words ask for, the first of which is its name, and answers the
-/// exit status. Results and help go to the output, faults to the errors, each with one write.
+/// exit status. Results and help go to the output, faults and that a server
+/// is up to the errors, each with one write.
 pub fn run<R: Net, I: Read, O: Write, E: Write, C: Clock>(
     rt: &R,
     alloc: Global,
@@ -169,8 +175,9 @@ pub fn run<R: Net, I: Read, O: Write, E: Write, C: Clock>(
 ) -> u8
     // The tool that the words name does what they say.
     ensures done { (job : AnyJob) → AskFor (map string_bytes words.now) job →
-        Runs C.tells job (I.remaining input.old) (I.remaining input.new) (O.contents output.old) (O.contents output.new)
-        (E.contents errors.old) (E.contents errors.new) clock.old result clock.new }
+        Runs C.tells job
+        (streams (I.remaining input.old) (O.contents output.old) (E.contents errors.old) clock.old) result
+        (streams (I.remaining input.new) (O.contents output.new) (E.contents errors.new) clock.new) }
     // Words that are wrong leave the output as it is.
     ensures bad_value { (word : AnyWord) → AreWrong (map string_bytes words.now) word →
         Keeps (O.contents output.old) (O.contents output.new)
@@ -185,7 +192,7 @@ pub fn run<R: Net, I: Read, O: Write, E: Write, C: Clock>(
         Err(WordsFault::BadValue(word)) => return tell(alloc, Fault::BadValue(word), errors),
         Err(WordsFault::Memory) => return tell(alloc, Fault::Memory, errors),
     };
-    match work(rt, alloc, job, input, output, clock) {
+    match work(rt, alloc, job, input, output, errors, clock) {
         Ok(status) => status,
         Err(fault) => tell(alloc, fault, errors),
     }

@@ -1,16 +1,21 @@
 //! The tool that is a device.
 
-ghost use Rattle.std.specs.Prelude.{◌≡◌, Ok, Err, Some, None, IfOk, IfErr};
+ghost use Rattle.std.specs.Prelude.{◌≡◌, ◌⊎◌, Ok, Err, Some, None, IfOk, IfErr};
 ghost use Rattle.bac_objects.specs.Build.{build_fault, built as built_of};
-ghost use Rattle.bac_tools.specs.Run.{IsConfigured, IsServed, IsUnbuilt, Serves};
+ghost use Rattle.bac_print.specs.Output.{AppendsPart};
+ghost use Rattle.bac_tools.specs.Run.{IsConfigured, IsUnbuilt, Serves};
+ghost use Rattle.bac_tools.specs.Sockets.{IsOpen};
+ghost use Rattle.bac_tools.specs.Streams.{streams};
+ghost use Rattle.bac_tools.specs.Texts.{serving_line};
 
 use crate::fault::Fault;
+use crate::telling::{announcement, say};
 use bac_device::{BuildFault, Device};
 use bac_ports::UdpPort;
 use bac_script::{Configuration, ReplayFault, read_configuration};
 use bac_serve::{Clock, idle_wait};
 use std::alloc::Global;
-use std::io::Read;
+use std::io::{Read, Write};
 use std::net::Net;
 
 /// Reads the configuration to its end.
@@ -37,39 +42,49 @@ fn built(alloc: Global, configuration: &Configuration) -> Result<Device, Fault>
     }
 }
 
-/// Serves the device at an address for so many datagrams; each receive waits so long at most.
-fn serve_at<R: Net, C: Clock>(
+/// The socket of a server at an address; each receive waits so long at most. That it is up is told.
+fn open_socket<R: Net, E: Write>(
     rt: &R,
+    alloc: Global,
     address: [u8; 6],
     wait: u32,
-    count: u32,
-    mut device: Device,
-    clock: &mut C,
-) -> Result<u8, Fault>
-    ensures { IsServed C.tells address wait count device clock.old result clock.new }
+    errors: &mut E,
+) -> Result<UdpPort, Fault>
+    ensures ok { IfOk result (λ port. IsOpen address wait port
+        × AppendsPart (E.contents errors.old) (E.contents errors.new) (serving_line address)) }
+    ensures err { IfErr result (λ fault. ((fault ≡ Fault.Socket) ⊎ (fault ≡ Fault.Memory)) × (errors.new ≡ errors.old)) }
 {
-    let Ok(mut port) = UdpPort::open(rt, address, wait) else {
+    // The memory for the line comes first: a socket that is open is told.
+    let Ok(line) = announcement(alloc, address) else {
+        return Err(Fault::Memory);
+    };
+    let Ok(port) = UdpPort::open(rt, address, wait) else {
         return Err(Fault::Socket);
     };
-    match bac_serve::serve(&mut port, &mut device, clock, count) {
-        Ok(()) => Ok(0),
-        Err(_) => Err(Fault::Socket),
-    }
+    say(&line, errors);
+    Ok(port)
 }
 
 /// Is the device that the input describes, until so many datagrams have come.
-pub(crate) fn serve<R: Net, I: Read, C: Clock>(
+pub(crate) fn serve<R: Net, I: Read, E: Write, C: Clock>(
     rt: &R,
     alloc: Global,
     address: [u8; 6],
     count: u32,
     input: &mut I,
+    errors: &mut E,
     clock: &mut C,
 ) -> Result<u8, Fault>
-    ensures { Serves C.tells address count (I.remaining input.old) (I.remaining input.new) clock.old result clock.new }
+    ensures { Serves C.tells address count
+        (streams (I.remaining input.old) None (E.contents errors.old) clock.old) result
+        (streams (I.remaining input.new) None (E.contents errors.new) clock.new) }
 {
     let configuration = configured(alloc, input)?;
-    let device = built(alloc, &configuration)?;
+    let mut device = built(alloc, &configuration)?;
     let wait = idle_wait(&configuration.objects);
-    serve_at(rt, address, wait, count, device, clock)
+    let mut port = open_socket(rt, alloc, address, wait, errors)?;
+    match bac_serve::serve(&mut port, &mut device, clock, count) {
+        Ok(()) => Ok(0),
+        Err(_) => Err(Fault::Socket),
+    }
 }

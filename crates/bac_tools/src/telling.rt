@@ -1,9 +1,9 @@
-//! What is told of a fault on standard error.
+//! What is told on standard error.
 
 ghost use Rattle.std.specs.Prelude.{◌≡◌, ◌++◌, OnOk, IfOk};
 ghost use Rattle.bac_print.specs.Output.{AppendsPart};
 ghost use Rattle.bac_tools.specs.Run.{IsTold};
-ghost use Rattle.bac_tools.specs.Texts.{build_text, exchange_text, fault_text, range_text, refused_text, script_text, told_text, unbuilt_text, word_text, wrong_text};
+ghost use Rattle.bac_tools.specs.Texts.{build_text, exchange_text, fault_text, of_address, range_text, script_text, serving_line, told_text, unbuilt_text, word_text, wrong_text};
 
 use crate::fault::Fault;
 use bac_device::BuildFault;
@@ -106,27 +106,36 @@ fn push_script(text: &mut Vec<u8>, fault: ReplayFault) -> Result<(), AllocError>
     }
 }
 
-/// Appends why an exchange brought no ACK.
+/// Appends a line, and on a second one what is said of an address.
+fn push_of_address(
+    text: &mut Vec<u8>,
+    line: &str,
+    said: &str,
+    address: [u8; 6],
+) -> Result<(), AllocError>
+    ensures { OnOk result (text.new.items ≡ text.old.items ++ of_address line.now said.now address) }
+{
+    text.extend_from_slice(line.as_bytes())?;
+    text.push(b'\n')?;
+    text.extend_from_slice(said.as_bytes())?;
+    push_address(text, address)
+}
+
+/// Appends why an exchange with an address brought no ACK.
 #[tactic(auto, unfolding(crate::specs::Texts::exchange_text))]
-fn push_exchange(text: &mut Vec<u8>, fault: ExchangeFault) -> Result<(), AllocError>
-    ensures { OnOk result (text.new.items ≡ text.old.items ++ exchange_text fault) }
+fn push_exchange(
+    text: &mut Vec<u8>,
+    address: [u8; 6],
+    fault: ExchangeFault,
+) -> Result<(), AllocError>
+    ensures { OnOk result (text.new.items ≡ text.old.items ++ exchange_text address fault) }
 {
     match fault {
-        ExchangeFault::Lost => text.extend_from_slice(b"lost"),
+        ExchangeFault::Lost => push_of_address(text, "lost", "no answer came from ", address),
         ExchangeFault::Refused(refusal) => push_refusal(text, refusal),
         ExchangeFault::BadReply => text.extend_from_slice(b"bad reply"),
         ExchangeFault::TooLong => text.extend_from_slice(b"bad value\nthe request is too long"),
     }
-}
-
-/// Appends which address can't be asked.
-#[tactic(auto, unfolding(crate::specs::Texts::refused_text))]
-fn push_unsent(text: &mut Vec<u8>, address: [u8; 6]) -> Result<(), AllocError>
-    ensures { OnOk result (text.new.items ≡ text.old.items ++ refused_text address) }
-{
-    text.extend_from_slice(b"socket fault\n")?;
-    text.extend_from_slice(b"nothing was sent to ")?;
-    push_address(text, address)
 }
 
 /// Appends what is told of a fault.
@@ -140,9 +149,14 @@ fn push_fault(text: &mut Vec<u8>, fault: Fault) -> Result<(), AllocError>
         Fault::NoDevice => text.extend_from_slice(b"bad value\nno device line"),
         Fault::Script(fault) => push_script(text, fault),
         Fault::Socket => text.extend_from_slice(b"socket fault"),
-        Fault::Refused(address) => push_unsent(text, address),
+        Fault::Refused(address) => push_of_address(
+            text,
+            "socket fault",
+            "nothing was sent to ",
+            address,
+        ),
         Fault::NoAnswer => text.extend_from_slice(b"no answer"),
-        Fault::Exchange(fault) => push_exchange(text, fault),
+        Fault::Exchange { address, fault } => push_exchange(text, address, fault),
         Fault::Write => text.extend_from_slice(b"write fault"),
         Fault::Memory => text.extend_from_slice(b"out of memory"),
     }
@@ -158,8 +172,20 @@ fn text_of(alloc: Global, fault: Fault) -> Result<Vec<u8>, AllocError>
     Ok(text)
 }
 
+/// The line that tells that a device is up at an address.
+#[tactic(auto, unfolding(crate::specs::Texts::serving_line))]
+pub(crate) fn announcement(alloc: Global, address: [u8; 6]) -> Result<Vec<u8>, AllocError>
+    ensures { IfOk result (λ line. line.items ≡ serving_line address) }
+{
+    let mut line = Vec::new(alloc);
+    line.extend_from_slice(b"serving ")?;
+    push_address(&mut line, address)?;
+    line.push(b'\n')?;
+    Ok(line)
+}
+
 /// Writes a text with one write; if that is refused there is nowhere to tell it.
-fn say<E: Write>(text: &[u8], errors: &mut E)
+pub(crate) fn say<E: Write>(text: &[u8], errors: &mut E)
     ensures { AppendsPart (E.contents errors.old) (E.contents errors.new) text.now }
 {
     let _ = write_text(errors, text);

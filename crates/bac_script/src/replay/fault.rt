@@ -3,10 +3,10 @@
 ghost use Rattle.std.specs.Prelude.{◌≡◌, None};
 ghost use Rattle.std.specs.Str.Lines.{lines};
 ghost use Rattle.bac_script.specs.Fault.{line_fault, replay_fault, told};
-ghost use Rattle.bac_script.specs.Flaw.{flaw_in};
+ghost use Rattle.bac_script.specs.Flaw.{IsReason};
 
 use crate::script::flaw::{Flaw, flaw_of, line_at};
-use bac_device::BuildFault;
+use bac_device::{BuildFault, Misfit};
 use thiserror::Error;
 
 /// Why a line can't be played.
@@ -78,31 +78,45 @@ impl ReplayFault {
     }
 }
 
-/// A script or a configuration that is refused: why, and of a bad line what is wrong with it.
+/// What is to mend in a text that is refused.
+#[derive(Clone, Copy, Debug, PartialEq, Eq)]
+pub enum Reason {
+    /// What is wrong with the bad line.
+    Line(Flaw),
+    /// The line with which the device can't be built.
+    Device(Misfit),
+}
+
+/// A script or a configuration that is refused: why, and what is to mend in it.
 #[derive(Clone, Copy, Debug, PartialEq, Eq)]
 pub struct Refused {
     pub fault: ReplayFault,
-    pub flaw: Option<Flaw>,
+    /// Of a bad line it is always told.
+    pub reason: Option<Reason>,
 }
 
 impl Refused {
     /// A fault of a text that was read.
     pub(crate) fn of(text: &[u8], fault: ReplayFault) -> Refused
-        ensures { result ≡ record { fault = fault; flaw = flaw_in text.now fault } }
+        ensures fault { result.fault ≡ fault }
+        ensures reason { IsReason text.now fault result.reason }
     {
-        let flaw = match fault {
-            ReplayFault::BadLine(number) => Some(flaw_of(line_at(text, number))),
+        let reason = match fault {
+            ReplayFault::BadLine(number) => Some(Reason::Line(flaw_of(line_at(text, number)))),
             _ => None,
         };
-        Refused { fault, flaw }
+        Refused { fault, reason }
     }
 }
 
 impl From<ReplayFault> for Refused {
     /// A fault that is of no line.
     fn from(fault: ReplayFault) -> Refused
-        ensures { result ≡ record { fault = fault; flaw = None } }
+        ensures { result ≡ record { fault = fault; reason = None } }
     {
-        Refused { fault, flaw: None }
+        Refused {
+            fault,
+            reason: None,
+        }
     }
 }

@@ -1,6 +1,6 @@
-use Rattle.std.proofs.Common.{◌≡◌, [], take, drop}
+use Rattle.std.proofs.Common.{◌≡◌, [], take, None}
 use Rattle.bac_objects.specs.Build.{objects_fault}
 use Rattle.bac_objects.proofs.build.compared_fault.Given as goal
 
 abbrev pub invariant-loop-place : goal.invariant-loop-place
-invariant-loop-place l = objects_fault l.device (take l.place l.lines) (drop l.place l.lines) ≡ objects_fault l.fn.device [] l.fn.lines
+invariant-loop-place l = objects_fault l.device [] (take l.place l.lines) ≡ None

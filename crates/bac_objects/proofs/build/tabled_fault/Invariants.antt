@@ -1,4 +1,4 @@
-use Rattle.std.proofs.Common.{◌≡◌, ℕ, List, [], take, drop}
+use Rattle.std.proofs.Common.{◌≡◌, ℕ, List, [], take, None}
 use Rattle.std.specs.List.{list_any}
 use Rattle.std.specs.Str.{bytes_eq}
 use Rattle.bac_wire.specs.Primitive.{Id}
@@ -9,7 +9,7 @@ use Rattle.bac_objects.proofs.build.tabled_fault.Given as goal
 -- the tables have what the lines before have
 abbrev pub invariant-loop-place : goal.invariant-loop-place
 invariant-loop-place l = record {
-  rest : objects_fault l.device (take l.place l.lines) (drop l.place l.lines) ≡ objects_fault l.fn.device [] l.fn.lines;
+  first : objects_fault l.device [] (take l.place l.lines) ≡ None;
   ids : (id : Id) → list_any (is_id id) l.ids.keys ≡ has_id id (take l.place l.lines);
   names : (name : List ℕ) → list_any (λ key. bytes_eq name key.now) l.names.keys ≡ has_name name (take l.place l.lines);
 }
