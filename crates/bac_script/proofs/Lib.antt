@@ -9,3 +9,4 @@ pub mod Outcomes
 pub mod ConfigurationLemmas
 pub mod NeverMemory
 pub mod Flaws
+pub mod Unbuilt
