@@ -158,7 +158,7 @@ fn push_logged(text: &mut Vec<u8>, datum: &Datum, flags: Option<u8>) -> Result<(
 }
 
 /// Appends the line of a record: its sequence number, its date and time, what was logged, and its
-/// four status flags, or `-` where it has none.
+/// four status flags, or `-` if it has none.
 #[tactic(auto, unfolding(crate::specs::Entries::record_line, crate::specs::Entries::entry_text))]
 pub fn push_record(text: &mut Vec<u8>, number: u32, entry: &Entry) -> Result<(), AllocError>
     ensures { OnOk result (text.new.items ≡ text.old.items ++ record_line number entry.now) }

@@ -89,7 +89,7 @@ pub(crate) fn push_moment(text: &mut Vec<u8>, date: Date4, time: Time4) -> Resul
 /// How many digits the longest sequence number has.
 const MOST_DIGITS: usize = 10;
 
-/// Appends a number, a blank, `YYYY-MM-DDTHH:MM:SS.hh` and a blank at once, where the parts have no
+/// Appends a number, a blank, `YYYY-MM-DDTHH:MM:SS.hh` and a blank at once, if the parts have no
 /// star and two digits each.
 fn push_plain_head(
     text: &mut Vec<u8>,

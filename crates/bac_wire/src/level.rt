@@ -1,6 +1,6 @@
 //! Tags on one level: whole tags, and the tags that open and close a level (clause 20.2.1.3.2).
 
-ghost use Rattle.std.specs.Prelude.{◌≡◌, ◌+◌, ◌≤◌, ℕ, List, ◌++◌, length, drop, IfOk, IsOkAnd};
+ghost use Rattle.std.specs.Prelude.{◌≡◌, true, ◌+◌, ◌≤◌, ℕ, List, ◌++◌, length, drop, slice_index, IfOk, IsOkAnd};
 ghost use Rattle.bac_wire.specs.Chain.{Gives};
 ghost use Rattle.bac_wire.specs.Spelling.{IsTag};
 ghost use Rattle.bac_wire.specs.Level.{token_at, close_at, IsLevel, EndsAt};
@@ -56,7 +56,26 @@ pub fn octets_to_close(bytes: &[u8], wanted: u8) -> Result<usize, WireFault>
     count_to_close(bytes, wanted)
 }
 
-/// Goes from tag to tag, and counts the levels that are open.
+/// Whether a date and a time between an opening and a closing tag 0 are next, as at the front of
+/// each record of a log: four tags in twelve octets.
+#[inline(always)]
+fn is_stamp_next(bytes: &[u8]) -> bool
+    ensures { result ≡ true → (12 ≤ length bytes.now) × (slice_index bytes.now 0 ≡ 14) × (slice_index bytes.now 1 ≡ 164)
+        × (slice_index bytes.now 6 ≡ 180) × (slice_index bytes.now 11 ≡ 15) }
+{
+    match bytes {
+        [open, date, _, _, _, _, time, _, _, _, _, close, ..] => {
+            if *open != 0x0e || *date != 0xa4 || *time != 0xb4 || *close != 0x0f {
+                return false;
+            }
+            true
+        }
+        _ => false,
+    }
+}
+
+/// Goes from tag to tag, and counts the levels that are open. The four tags of a stamp are passed
+/// over in one look.
 fn count_to_close(bytes: &[u8], wanted: u8) -> Result<usize, WireFault>
     ensures within { IfOk result (λ n. n ≤ length bytes.now) }
     ensures exact { Gives (λ n. drop n bytes.now) result (close_at (length bytes.now + 1) 0 wanted bytes.now) }
@@ -64,6 +83,10 @@ fn count_to_close(bytes: &[u8], wanted: u8) -> Result<usize, WireFault>
     let mut at: usize = 0;
     let mut depth: usize = 0;
     loop {
+        if is_stamp_next(&bytes[at..]) {
+            at += 12;
+            continue;
+        }
         let (token, after) = token_of(&bytes[at..])?;
         match token {
             Token::Whole => {}
