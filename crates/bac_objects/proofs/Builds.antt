@@ -19,7 +19,7 @@ use Rattle.bac_objects.specs.declared.object.Object.{Object}
 use Rattle.bac_objects.specs.declared.build.BuildFault.{BuildFault}
 use Rattle.bac_objects.specs.declared.build.BuildFault.TheVariants.{BadInstance, DuplicateId, BadName, DuplicateName, BadStates, BadDefault, BadCapacity, BadInterval, BadReplySize, Memory}
 
--- ---- no line is faulty for want of memory
+-- ---- no fault of a line is that memory ran out
 
 abbrev Never : Option BuildFault → Type 0
 Never said = said ≡ Some Memory → ⊥

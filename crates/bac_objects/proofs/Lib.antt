@@ -7,3 +7,4 @@ pub mod Samples
 pub mod Kept
 pub mod Quiet
 pub mod Described
+pub mod Misfits

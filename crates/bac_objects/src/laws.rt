@@ -4,10 +4,13 @@
 ghost use Rattle.std.specs.Prelude.{◌≡◌, ◌≢◌, ℕ, List, None, Some, slice_get};
 ghost use Rattle.std.specs.List.{AllByRecursion};
 ghost use Rattle.std.specs.Map.{lookup};
+ghost use Rattle.std.specs.Option.{IsSome};
 ghost use Rattle.bac_objects.specs.Build.{IsCounted, build_fault, built, entry_of, id_of};
+ghost use Rattle.bac_objects.specs.Misfit.{IsMisfit};
 ghost use Rattle.bac_objects.specs.Sound.{IsSound};
 ghost use Rattle.bac_objects.specs.State.{is_id};
-ghost use Rattle.bac_objects.specs.declared.build.BuildFault.TheVariants.{Memory};
+ghost use Rattle.bac_objects.specs.declared.build.BuildFault.TheVariants.{DuplicateName, Memory};
+ghost use Rattle.bac_objects.specs.declared.build.Misfit.{Misfit};
 ghost use Rattle.bac_objects.specs.declared.lines.DeviceLine.{DeviceLine as FirstLine};
 ghost use Rattle.bac_objects.specs.declared.lines.ObjectLine.{ObjectLine as LineOf};
 
@@ -26,4 +29,14 @@ pub fn built_devices_are_sound()
 /// No fault of lines is that memory ran out.
 pub fn lines_need_no_memory()
     ensures { (device : FirstLine) (lines : List LineOf) → build_fault device lines ≢ Some Memory }
+{}
+
+/// The fault of the line that is told as the first with one is the first fault of all the lines.
+pub fn misfits_have_the_first_fault()
+    ensures { (device : FirstLine) (lines : List LineOf) (m : Misfit) → IsMisfit device lines m → build_fault device lines ≡ Some m.fault }
+{}
+
+/// A line that has the same name as another is told with the line that has it.
+pub fn duplicate_names_have_a_namesake()
+    ensures { (device : FirstLine) (lines : List LineOf) (m : Misfit) → IsMisfit device lines m → m.fault ≡ DuplicateName → IsSome m.namesake }
 {}

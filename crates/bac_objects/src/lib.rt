@@ -28,7 +28,10 @@ pub use build::{BuildFault, Misfit};
 pub use command::{Command, Range, Setting};
 pub use database::Database;
 pub use fault::{Fault, Refused};
-pub use laws::{built_devices_are_sound, lines_need_no_memory, objects_are_found};
+pub use laws::{
+    built_devices_are_sound, duplicate_names_have_a_namesake, lines_need_no_memory,
+    misfits_have_the_first_fault, objects_are_found,
+};
 pub use lines::{DeviceLine, LineId, ObjectLine};
 pub use mending::misfit;
 pub use name::Name;

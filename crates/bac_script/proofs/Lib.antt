@@ -10,3 +10,4 @@ pub mod ConfigurationLemmas
 pub mod NeverMemory
 pub mod Flaws
 pub mod Unbuilt
+pub mod Places
