@@ -1,7 +1,8 @@
 -- The lines of a configuration, one after the other.
-use Rattle.std.proofs.Common.{◌≡◌, ℕ, ◌+◌, ◌<◌, List, [], ◌∷◌, ◌++◌, length, Some, Result, Err, sym, ap, ◌∙◌, arith}
+use Rattle.std.proofs.Common.{◌≡◌, ℕ, ◌+◌, ◌<◌, List, [], ◌∷◌, ◌++◌, length, Option, None, Some, Result, Err, sym, ap, ◌∙◌, arith}
 use Rattle.std.specs.Str.Lines.{strip_carriage_return, lines}
 use Rattle.bac_script.specs.Configuration.{Plan, plan_of, next_plan, with_text, AddsLine, Describes}
+use Rattle.bac_script.specs.Reason.{described, with_next}
 use Rattle.bac_script.specs.Script.Lines.{parts, all_but_last, last_if_any, ended_lines, open_line}
 use Rattle.bac_script.specs.declared.replay.fault.ReplayFault.{ReplayFault}
 use Rattle.bac_script.specs.declared.replay.fault.ReplayFault.TheVariants.{BadLine, Build, Read, TooLong, Write, Memory}
@@ -44,3 +45,16 @@ module _ (said : Result Plan ℕ) (n : ℕ) (plan new : Plan) (text : List ℕ) 
   Describes-fault TooLong h = h
   Describes-fault Write h = h
   Describes-fault Memory h = tt
+
+-- ---- up to the first line that describes nothing
+
+pub described-cut : (said plan : Plan) (text line more first : List ℕ) → said ≡ described plan (lines text) → parts text ≡ line ∷ parts more → first ≡ strip_carriage_return line
+    → said ≡ described plan (first ∷ lines more)
+described-cut said plan text line more first is h e =
+    is ∙ ap (described plan) (lines-first text line more h ∙ ap (λ (l : List ℕ). l ∷ lines more) (sym e))
+
+pub described-line : (said plan next : Plan) (text : List ℕ) (more : List (List ℕ)) → said ≡ described plan (text ∷ more) → with_text plan text ≡ Some next → said ≡ described next more
+described-line said plan next text more is e = is ∙ ap (λ (o : Option Plan). with_next plan o (λ q. described q more)) e
+
+pub described-stop : (said plan : Plan) (text : List ℕ) (more : List (List ℕ)) → said ≡ described plan (text ∷ more) → with_text plan text ≡ None → said ≡ plan
+described-stop said plan text more is e = is ∙ ap (λ (o : Option Plan). with_next plan o (λ q. described q more)) e

@@ -9,3 +9,5 @@ pub mod Outcomes
 pub mod ConfigurationLemmas
 pub mod NeverMemory
 pub mod Flaws
+pub mod Unbuilt
+pub mod Places

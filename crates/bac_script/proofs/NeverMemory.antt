@@ -1,4 +1,4 @@
--- No script is told that its device can't be built for want of memory.
+-- No script is told that its device can't be built since memory ran out.
 use Rattle.std.proofs.Common.{◌≡◌, ◌+◌, ap, sym, ◌∙◌, ℕ, Bool, true, false, if◌then◌else◌, inl, inr, List, [], ◌∷◌, Option, Some, None, Result, Ok, Err, IfErr}
 use Rattle.bac_objects.specs.Build.{build_fault, built}
 use Rattle.bac_objects.specs.State as device

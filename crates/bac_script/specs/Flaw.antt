@@ -1,19 +1,12 @@
 -- What is wrong with a line that is none of a script: its first word that isn't what it has to be.
 use Rattle.std.specs.Prelude.{ℕ, ◌+◌, ◌-◌, ◌^◌, nat_le, Bool, is_some, if◌then◌else◌, codes, List, [], ◌∷◌}
-use Rattle.std.specs.Prelude.{◌≡◌, Option, None, Some, Result, Ok, Err}
-use Rattle.std.specs.Io.KnownBytes.{Consumes}
+use Rattle.std.specs.Prelude.{Option, None, Some}
 use Rattle.std.specs.Str.{bytes_eq}
-use Rattle.std.specs.Str.Lines.{lines}
 use Rattle.bac_script.specs.Script.Hexadecimal.{octets_in}
 use Rattle.bac_script.specs.Script.Line.{kind_in, start_in, walked_log}
 use Rattle.bac_script.specs.Script.Number.{below, integer_in, number_in}
 use Rattle.bac_script.specs.Script.Stamp.{stamp_in}
 use Rattle.bac_script.specs.Script.Words.{text_in, words_of}
-use Rattle.bac_script.specs.declared.replay.fault.Reason.{Reason}
-use Rattle.bac_script.specs.declared.replay.fault.Reason.TheVariants.{Line}
-use Rattle.bac_script.specs.declared.replay.fault.Refused.{Refused}
-use Rattle.bac_script.specs.declared.replay.fault.ReplayFault.{ReplayFault}
-use Rattle.bac_script.specs.declared.replay.fault.ReplayFault.TheVariants.{BadLine}
 use Rattle.bac_script.specs.declared.script.flaw.Flaw.{Flaw}
 use Rattle.bac_script.specs.declared.script.flaw.Flaw.TheVariants as flaw
 use Rattle.bac_script.specs.declared.script.flaw.LineKind.{LineKind}
@@ -93,20 +86,3 @@ words_left (Some text) = words_of text
 abbrev pub line_at : ℕ → List (List ℕ) → List ℕ
 line_at number [] = []
 line_at number (line ∷ more) = if nat_le number 1 then line else line_at (number - 1) more
-
--- ---- scripts and configurations
-
--- what is to mend in a text that is refused for this fault: of a bad line what is wrong with it
-abbrev pub IsReason : List ℕ → ReplayFault → Option Reason → Type 0
-IsReason text (BadLine number) said = said ≡ Some (Line (flaw_of (line_at number (lines text))))
-IsReason text other said = said ≡ None
-
--- a fault comes with what is to mend in what was read
-abbrev pub IsExplained : Option (List ℕ) → Option (List ℕ) → Refused → Type 0
-IsExplained have left refused =
-    (read : List ℕ) × Consumes have left read × IsReason read refused.fault refused.reason
-
--- the same answer without what is to mend
-abbrev pub without_reason : {T : Type 0} → Result T Refused → Result T ReplayFault
-without_reason (Ok done) = Ok done
-without_reason (Err refused) = Err refused.fault

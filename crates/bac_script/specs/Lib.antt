@@ -9,3 +9,4 @@ pub mod Outcomes
 pub mod Stops
 pub mod Configuration
 pub mod Flaw
+pub mod Reason

@@ -1,10 +1,10 @@
 //! A configuration: the lines of a script that describe a device, without an event.
 
-ghost use Rattle.std.specs.Prelude.{◌≡◌, ◌+◌, ◌<◌, ◌≤◌, length, take, None, OnOk, IfErr};
+ghost use Rattle.std.specs.Prelude.{◌≡◌, ◌+◌, ◌<◌, ◌≤◌, length, take, None, OnErr, OnOk, IfErr, IfSome};
 ghost use Rattle.std.specs.Io.KnownBytes.{Consumes, IsAtEnd};
 ghost use Rattle.std.specs.Str.Lines.{lines};
 ghost use Rattle.bac_script.specs.Configuration.{AddsLine, Configures, Describes, IsAdded, kept_plan, plan_of, with_line, with_text};
-ghost use Rattle.bac_script.specs.Flaw.{IsExplained, without_reason};
+ghost use Rattle.bac_script.specs.Reason.{IsExplained, described, without_reason};
 ghost use Rattle.bac_script.specs.Input.{ConsumesUpTo};
 ghost use Rattle.bac_script.specs.Script.Line.{Device, Object};
 
@@ -31,7 +31,8 @@ fn add_device(
     kept: &mut Option<Configuration>,
     device: DeviceLine,
 ) -> Result<(), LineFault>
-    ensures { IsAdded (with_line (kept_plan kept.old) (Device device)) result (kept_plan kept.new) }
+    ensures added { IsAdded (with_line (kept_plan kept.old) (Device device)) result (kept_plan kept.new) }
+    ensures err { OnErr result (kept_plan kept.new ≡ kept_plan kept.old) }
 {
     match kept {
         None => {
@@ -47,7 +48,8 @@ fn add_device(
 
 /// Adds an object of the device.
 fn add_object(kept: &mut Option<Configuration>, object: ObjectLine) -> Result<(), LineFault>
-    ensures { IsAdded (with_line (kept_plan kept.old) (Object object)) result (kept_plan kept.new) }
+    ensures added { IsAdded (with_line (kept_plan kept.old) (Object object)) result (kept_plan kept.new) }
+    ensures err { OnErr result (kept_plan kept.new ≡ kept_plan kept.old) }
 {
     match kept {
         Some(configuration) => match configuration.objects.push(object) {
@@ -61,7 +63,8 @@ fn add_object(kept: &mut Option<Configuration>, object: ObjectLine) -> Result<()
 /// Adds what a text says.
 #[tactic(auto, unfolding(crate::specs::Configuration::with_text))]
 fn add_text(alloc: Global, kept: &mut Option<Configuration>, text: &[u8]) -> Result<(), LineFault>
-    ensures { IsAdded (with_text (kept_plan kept.old) text.now) result (kept_plan kept.new) }
+    ensures added { IsAdded (with_text (kept_plan kept.old) text.now) result (kept_plan kept.new) }
+    ensures err { OnErr result (kept_plan kept.new ≡ kept_plan kept.old) }
 {
     if is_silent(text) {
         return Ok(());
@@ -109,6 +112,29 @@ fn described(alloc: Global, text: &[u8]) -> Result<Option<Configuration>, Replay
     }
     add_line(alloc, &mut kept, number, rest)?;
     Ok(kept)
+}
+
+/// What the lines of a text describe, up to the first that describes nothing, as an event does;
+/// `None` if there is no memory for it.
+pub(crate) fn described_before_events(alloc: Global, text: &[u8]) -> Option<Option<Configuration>>
+    ensures { IfSome result (λ kept. kept_plan kept ≡ described None (lines text.now)) }
+{
+    let mut kept = None;
+    let mut rest = text;
+    while let Some((line, more)) = split_line(rest) {
+        match add_text(alloc, &mut kept, without_return(line)) {
+            Ok(()) => rest = more,
+            Err(LineFault::Bad) => return Some(kept),
+            Err(_) => return None,
+        }
+    }
+    if rest.is_empty() {
+        return Some(kept);
+    }
+    match add_text(alloc, &mut kept, rest) {
+        Ok(()) | Err(LineFault::Bad) => Some(kept),
+        Err(_) => None,
+    }
 }
 
 /// What the reader has, which is read into the buffer. The first part of the answer says how many

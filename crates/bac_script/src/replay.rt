@@ -1,7 +1,7 @@
 //! A script read from a reader, its text written to a writer.
 ghost use Rattle.std.specs.Prelude.{◌≡◌, ◌≢◌, ◌+◌, ◌<◌, ◌≤◌, ℕ, List, [], ◌∷◌, ◌++◌, length, None, Some, Ok, Err, IfOk, IfErr, OnOk, Option, take};
 ghost use Rattle.std.specs.Io.KnownBytes.{Appends, Consumes, IsAtEnd};
-ghost use Rattle.bac_script.specs.Flaw.{IsExplained, without_reason};
+ghost use Rattle.bac_script.specs.Reason.{IsExplained, IsUnbuilt, described, without_reason};
 ghost use Rattle.bac_script.specs.Input.{ConsumesUpTo};
 ghost use Rattle.std.specs.Str.Lines.{lines};
 ghost use Rattle.bac_script.specs.Script.Lines.{ended_lines, open_line, last_if_any};
@@ -14,6 +14,7 @@ ghost use Rattle.bac_script.specs.Stops.{LineStops, Stops, ScriptStops};
 
 pub(crate) mod fault;
 pub(crate) mod input;
+mod mending;
 mod session;
 mod walk;
 
@@ -142,6 +143,7 @@ fn play_read<W: Write>(
     requires refused { ending ≡ Ending.Refused → length text.now ≤ limit }
     ensures ends { (have left : Option (List ℕ)) → Consumes have left text.now → (ending ≡ Ending.End → IsAtEnd left) →
         Replays limit have left (W.contents writer.old) (W.contents writer.new) result }
+    ensures unbuilt { (f : BuildFault) → result ≡ Err (ReplayFault.Build f) → IsUnbuilt (described None (lines text.now)) f }
     ensures whole { OnOk result (ending ≡ Ending.End) }
     ensures build_memory { result ≢ Err (ReplayFault.Build BuildFault.Memory) }
 {
@@ -172,6 +174,7 @@ fn replay_in<R: Read, W: Write>(
     ensures within { result.0 ≤ length buffer.new }
     ensures kept { Consumes (R.remaining reader.old) (R.remaining reader.new) (take result.0 buffer.new) }
     ensures ends { Replays limit (R.remaining reader.old) (R.remaining reader.new) (W.contents writer.old) (W.contents writer.new) result.1 }
+    ensures unbuilt { (f : BuildFault) → result.1 ≡ Err (ReplayFault.Build f) → IsUnbuilt (described None (lines (take result.0 buffer.new))) f }
     ensures read { ConsumesUpTo (limit + 1) (R.remaining reader.old) (R.remaining reader.new) }
     ensures whole { OnOk result.1 (IsAtEnd (R.remaining reader.new)) }
     ensures build_memory { result.1 ≢ Err (ReplayFault.Build BuildFault.Memory) }
@@ -226,6 +229,9 @@ fn explained_within<R: Read, W: Write>(
     let (filled, played) = replay_in(alloc, limit, &mut buffer, reader, writer);
     match played {
         Ok(()) => Ok(()),
+        Err(ReplayFault::Build(fault)) => {
+            Err(Refused::of_build(alloc, &buffer[..filled], fault))
+        }
         Err(fault) => Err(Refused::of(&buffer[..filled], fault)),
     }
 }

@@ -3,7 +3,7 @@
 ghost use Rattle.std.specs.Prelude.{◌≡◌, None};
 ghost use Rattle.std.specs.Str.Lines.{lines};
 ghost use Rattle.bac_script.specs.Fault.{line_fault, replay_fault, told};
-ghost use Rattle.bac_script.specs.Flaw.{IsReason};
+ghost use Rattle.bac_script.specs.Reason.{IsReason};
 
 use crate::script::flaw::{Flaw, flaw_of, line_at};
 use bac_device::{BuildFault, Misfit};
@@ -91,12 +91,13 @@ pub enum Reason {
 #[derive(Clone, Copy, Debug, PartialEq, Eq)]
 pub struct Refused {
     pub fault: ReplayFault,
-    /// Of a bad line it is always told.
+    /// Of a bad line always, and of a device that can't be built, if there is memory to look its
+    /// line up; else nothing.
     pub reason: Option<Reason>,
 }
 
 impl Refused {
-    /// A fault of a text that was read.
+    /// A fault of a text that was read, of which a bad line alone is explained.
     pub(crate) fn of(text: &[u8], fault: ReplayFault) -> Refused
         ensures fault { result.fault ≡ fault }
         ensures reason { IsReason text.now fault result.reason }
