@@ -34,18 +34,20 @@ for script in *.script; do
 done
 
 # What was answered before a fault stays printed.
+hex='word 2: 2 to 3002 hexadecimal digits, an even number'
+place="the device's line comes first and stands once, then its objects', then events"
 device='device 123 plant 0 1476 2024-05-06T07:08:09.10'
 who_is='rx 810b000c0120ffff00ff1008'
 printf 'tx 810a001401001000c40200007b2205c491032100\n' > "$room/answer"
 printf '%s\n' "$device" "$who_is" 'rx 8' "$who_is" > "$room/bad"
 bac replay < "$room/bad"
-ended 'a bad line' 1 $'line 3: bad line\n' "$room/answer"
+ended 'a bad line' 1 $'line 3: bad line\n'"$hex"$'\n' "$room/answer"
 bac replay <<< "${device/123/4194303}"
-ended 'an instance that no device has' 1 $'cannot build: bad instance\n'
+ended 'an instance that no device has' 1 $'cannot build: bad instance\ndevice 4194303: an instance is a number from 0 to 4194302\n'
 bac replay <<< "${device/plant/$'\x7f'}"
-ended 'a name with a control character' 1 $'cannot build: bad name\n'
+ended 'a name with a control character' 1 $'cannot build: bad name\ndevice 123: a name has 1 to 64 octets and no control character\n'
 bac replay <<< "${device/1476/49}"
-ended 'a reply of 49 octets' 1 $'cannot build: bad reply size\n'
+ended 'a reply of 49 octets' 1 $'cannot build: bad reply size\ndevice 123: REPLY is a number from 50 to 1476\n'
 
 # Objects and the clock.
 objects=$'binary 1 pump 0\nmultistate 1 mode 3 3'
@@ -55,7 +57,7 @@ bac replay < "$room/objects"
 ended 'objects and a clock' 0 '' "$room/clocked"
 printf '%s\n' "$device" 'binary 1 pump 0' 'binary 2 pump 0' "$who_is" > "$room/named"
 bac replay < "$room/named"
-ended 'two objects of one name' 1 $'cannot build: duplicate name\n'
+ended 'two objects of one name' 1 $'cannot build: duplicate name\nbinary 2: its name is that of binary 1\n'
 
 # The longest script, and one octet more: empty lines fill it.
 { printf '%s\n' "$device" "$who_is"; yes ''; } 2> /dev/null | head -c 1048577 > "$room/longer"
@@ -73,7 +75,7 @@ bac replay < "$room/lines"
 ended 'a line of 1,048,576 octets' 1 $'script too long\n' "$room/answer"
 { printf '%s\n' "$device" "$who_is" 'rx 8'; cat "$room/longer"; } > "$room/lines"
 bac replay < "$room/lines"
-ended 'a bad line in a script that is too long' 1 $'line 3: bad line\n' "$room/answer"
+ended 'a bad line in a script that is too long' 1 $'line 3: bad line\n'"$hex"$'\n' "$room/answer"
 
 # A datagram has at most 1501 octets.
 printf 'none\n' > "$room/none"
@@ -82,7 +84,7 @@ bac replay < "$room/lines"
 ended 'a datagram of 1501 octets' 0 '' "$room/none"
 printf '%s\nrx %03004d\n' "$device" 0 > "$room/lines"
 bac replay < "$room/lines"
-ended 'a datagram of 1502 octets' 1 $'line 2: bad line\n'
+ended 'a datagram of 1502 octets' 1 $'line 2: bad line\n'"$hex"$'\n'
 
 # clap's text is its own: it is there, and nothing is printed.
 mistaken() {
@@ -159,18 +161,18 @@ wrong 'a word that is no text' "a word isn't UTF-8"
 bac serve 127.0.0.1 < /dev/null
 wrong 'no device line' 'no device line'
 bac serve 127.0.0.1 < who-is.script
-ended 'an event in a configuration' 1 $'line 21: bad line\n'
+ended 'an event in a configuration' 1 $'line 21: bad line\n'"$place"$'\n'
 bac serve 127.0.0.1 < "$room/named"
-ended 'an event behind two objects of one name' 1 $'line 4: bad line\n'
+ended 'an event behind two objects of one name' 1 $'line 4: bad line\n'"$place"$'\n'
 head -n 3 "$room/named" > "$room/configuration"
 bac serve 127.0.0.1 < "$room/configuration"
-ended 'a configuration with two objects of one name' 1 $'cannot build: duplicate name\n'
+ended 'a configuration with two objects of one name' 1 $'cannot build: duplicate name\nbinary 2: its name is that of binary 1\n'
 printf '%s\n' "$device" 'sample 1' > "$room/configuration"
 bac serve 127.0.0.1:47813 --count=0 < "$room/configuration"
-ended 'a sample in a configuration' 1 $'line 2: bad line\n'
+ended 'a sample in a configuration' 1 $'line 2: bad line\n'"$place"$'\n'
 printf '%s\n' "${device/1476/49}" > "$room/configuration"
 bac serve 127.0.0.1:47813 --count=0 < "$room/configuration"
-ended 'a configuration with replies of 49 octets' 1 $'cannot build: bad reply size\n'
+ended 'a configuration with replies of 49 octets' 1 $'cannot build: bad reply size\ndevice 123: REPLY is a number from 50 to 1476\n'
 bac serve 127.0.0.1 < "$room/longer"
 ended 'a configuration of 1,048,577 octets' 1 $'script too long\n'
 bac serve 127.0.0.1 < .

@@ -27,14 +27,13 @@ device='device 123 plant 0 1476 2024-05-06T07:08:09.10\n'
 who_is='rx 810b000c0120ffff00ff1008\n'
 i_am='tx 810a001401001000c40200007b2205c491032100\n'
 
-# played FAULT OUTPUT SCRIPT: plays a script, and compares how it ends and what it prints. What stands
-# on standard error behind the first line says more of the same fault.
+# played FAULT OUTPUT SCRIPT: plays a script, and compares how it ends, what it tells and what it prints.
 played() {
     local status
     printf '%b' "$3" | "$program" replay > "$room/out" 2> "$room/err"
     status=$?
     printf '%b' "$2" > "$room/want"
-    is "$3" "$status $(head -n 1 "$room/err")" "$([ -n "$1" ] && echo 1 || echo 0) $1"
+    is "$3" "$status $(cat "$room/err")" "$([ -n "$1" ] && echo 1 || echo 0) $(printf '%b' "$1")"
     cmp -s "$room/out" "$room/want" || is "the output of $3" "$(cat -v "$room/out")" "$(cat -v "$room/want")"
 }
 

@@ -1,6 +1,7 @@
 pub mod Ending
 pub mod Faults
 pub mod Status
+pub mod Reasons
 pub mod Texts
 pub mod Sockets
 pub mod Given

@@ -1,7 +1,7 @@
 -- What the program does with its words. Read from the end. Of one tool, `input` is what the reader had and `left` what it
 -- has left; `old` and `new` are what the output held before and holds now, each if that is known. Of the program they
 -- are all its streams and its clock, before and now.
-use Rattle.std.specs.Prelude.{◌≡◌, ◌≢◌, ◌≤◌, ◌⊎◌, ℕ, ◌==◌, if◌then◌else◌, List, [], Option, Some, None, Result, Ok, Err}
+use Rattle.std.specs.Prelude.{◌≡◌, ◌≢◌, ◌≤◌, ◌⊎◌, ℕ, ◌==◌, if◌then◌else◌, List, [], Option, Some, None, Result, Ok, Err, IfErr}
 use Rattle.std.specs.List.{list_any}
 use Rattle.std.specs.Io.KnownBytes.{Keeps}
 use Rattle.clap.specs.Words.{Text, IsAmong}
@@ -16,9 +16,11 @@ use Rattle.bac_link.specs.declared.item.Item.{Item}
 use Rattle.bac_link.specs.declared.request.Request.{Request}
 use Rattle.bac_link.specs.declared.request.Request.TheVariants as request
 use Rattle.bac_objects.specs.Build.{build_fault, built}
+use Rattle.bac_objects.specs.Misfit.{IsMisfit}
 use Rattle.bac_objects.specs.State.{State}
+use Rattle.bac_objects.specs.declared.build.Misfit.{Misfit}
+use Rattle.bac_objects.specs.declared.lines.DeviceLine.{DeviceLine}
 use Rattle.bac_objects.specs.declared.lines.ObjectLine.{ObjectLine}
-use Rattle.bac_objects.specs.declared.build.BuildFault.{BuildFault}
 use Rattle.bac_ports.specs.declared.udp_link.UdpLink.{UdpLink}
 use Rattle.bac_ports.specs.declared.udp_port.UdpPort.{UdpPort}
 use Rattle.bac_print.specs.Output.{AppendsPart}
@@ -37,9 +39,11 @@ use Rattle.bac_tools.specs.declared.asking.Asking.{Asking}
 use Rattle.bac_tools.specs.declared.fault.Fault.{Fault}
 use Rattle.bac_tools.specs.declared.fault.Fault.TheVariants.{BadValue, NoDevice, Script, Socket, Memory}
 use Rattle.bac_script.specs.Configuration.{Configures}
+use Rattle.bac_script.specs.Reason.{IsExplained, without_reason}
 use Rattle.bac_script.specs.Replay.{Replays}
 use Rattle.bac_script.specs.declared.configuration.Configuration.{Configuration}
-use Rattle.bac_script.specs.declared.replay.fault.ReplayFault.{ReplayFault}
+use Rattle.bac_script.specs.declared.replay.fault.Reason.TheVariants.{Device}
+use Rattle.bac_script.specs.declared.replay.fault.Refused.{Refused}
 use Rattle.bac_script.specs.declared.replay.fault.ReplayFault.TheVariants.{Build}
 use Rattle.bac_serve.specs.Serving.{Done, Serves as ServesDevice, server}
 use Rattle.bac_serve.specs.Waiting.{has_interval}
@@ -59,14 +63,15 @@ use Rattle.bac_words.specs.declared.word.Word.TheVariants.{Instance, From}
 -- ---- bac replay
 
 -- done, or a fault of the script
-abbrev pub of_replay : Result (Unit {0}) ReplayFault → Ending
+abbrev pub of_replay : Result (Unit {0}) Refused → Ending
 of_replay (Ok done) = Ok 0
-of_replay (Err fault) = Err (Script fault)
+of_replay (Err refused) = Err (Script refused)
 
--- a replay of at most 1,048,576 octets
+-- a replay of at most 1,048,576 octets; a fault comes with what is to mend in them
 abbrev pub Plays : Held → Held → Held → Held → Ending → Type 0
 Plays input left old new result =
-    (played : Result (Unit {0}) ReplayFault) × Replays 1048576 input left old new played × (result ≡ of_replay played)
+    (played : Result (Unit {0}) Refused) × Replays 1048576 input left old new (without_reason played)
+    × IfErr played (IsExplained input left) × (result ≡ of_replay played)
 
 -- ---- bac rp, wp and log
 
@@ -156,17 +161,24 @@ setting object_type instance property priority given index =
 
 -- ---- bac serve
 
--- the input is a configuration of at most 1,048,576 octets, which describes a device; or it isn't
+-- the input is a configuration of at most 1,048,576 octets, which describes a device; or it isn't, and what is to mend
 abbrev pub IsConfigured : Held → Held → Result Configuration Fault → Type 0
 IsConfigured input left (Ok c) = Configures 1048576 input left (Ok (Some c))
 IsConfigured input left (Err NoDevice) = Configures 1048576 input left (Ok None)
-IsConfigured input left (Err (Script fault)) = Configures 1048576 input left (Err fault)
+IsConfigured input left (Err (Script refused)) =
+    Configures 1048576 input left (Err refused.fault) × IsExplained input left refused
 IsConfigured input left (Err other) = ⊥
 
--- the device can't be built, or there is no memory for it
-abbrev pub IsUnbuilt : Option BuildFault → Fault → Type 0
-IsUnbuilt said fault =
-    (said ≡ None × (fault ≡ Memory)) ⊎ ((f : BuildFault) × (said ≡ Some f) × (fault ≡ Script (Build f)))
+-- the refusal of a configuration with this line
+abbrev pub refused_with : Misfit → Refused
+refused_with misfit = record { fault = Build misfit.fault; reason = Some (Device misfit) }
+
+-- the device can't be built with one of the lines, the first that has a fault; or there is no memory for it
+abbrev pub IsUnbuilt : DeviceLine → List ObjectLine → Fault → Type 0
+IsUnbuilt device lines fault =
+    ((build_fault device lines ≡ None) × (fault ≡ Memory))
+    ⊎ ((misfit : Misfit) × IsMisfit device lines misfit × (build_fault device lines ≡ Some misfit.fault)
+    × (fault ≡ Script (refused_with misfit)))
 
 -- how serving ends: done, or the socket failed
 abbrev pub of_served : Done → Ending
@@ -194,7 +206,7 @@ abbrev pub Serves : {C : Type 0} → (C → Option CivilTime → C → Type 0) �
 Serves tells address count old result new =
     ((fault : Fault) × IsConfigured old.input new.input (Err fault) × (result ≡ Err fault) × IsQuiet old new)
     ⊎ ((c : Configuration) × IsConfigured old.input new.input (Ok c)
-    × (((fault : Fault) × IsUnbuilt (build_fault c.device c.objects.items) fault × (result ≡ Err fault) × IsQuiet old new)
+    × (((fault : Fault) × IsUnbuilt c.device c.objects.items fault × (result ≡ Err fault) × IsQuiet old new)
     ⊎ ((build_fault c.device c.objects.items ≡ None)
     × IsServed tells address (wait_of c.objects.items) count (built c.device c.objects.items) old result new)))
 

@@ -33,7 +33,7 @@ abbrev pub exit_status : Fault → ℕ
 exit_status NotText = 1
 exit_status (BadValue word) = 1
 exit_status NoDevice = 1
-exit_status (Script fault) = script_status fault
+exit_status (Script refused) = script_status refused.fault
 exit_status Socket = 2
 exit_status (Refused address) = 2
 exit_status NoAnswer = 2

@@ -6,8 +6,10 @@ use Rattle.bac_objects.specs.declared.build.BuildFault.{BuildFault}
 use Rattle.bac_objects.specs.declared.build.BuildFault.TheVariants as build
 use Rattle.bac_print.specs.Addresses.{address_text}
 use Rattle.bac_report.specs.Ends.{refusal_text}
+use Rattle.bac_script.specs.declared.replay.fault.Refused.{Refused as Refusal}
 use Rattle.bac_script.specs.declared.replay.fault.ReplayFault.{ReplayFault}
 use Rattle.bac_script.specs.declared.replay.fault.ReplayFault.TheVariants as script
+use Rattle.bac_tools.specs.Reasons.{second_line}
 use Rattle.bac_tools.specs.declared.fault.Fault.{Fault}
 use Rattle.bac_tools.specs.declared.fault.Fault.TheVariants.{NotText, BadValue, NoDevice, Script, Socket, Refused}
 use Rattle.bac_tools.specs.declared.fault.Fault.TheVariants.{NoAnswer, Exchange, Write, Memory}
@@ -62,7 +64,7 @@ build_text build.Memory = codes "out of memory"
 unfoldable pub unbuilt_text : BuildFault → List ℕ
 unbuilt_text fault = codes "cannot build: " ++ build_text fault
 
--- a fault of a script or a configuration
+-- why a script or a configuration is refused
 unfoldable pub script_text : ReplayFault → List ℕ
 script_text (script.BadLine number) = codes "line " ++ (decimal number ++ codes ": bad line")
 script_text (script.Build fault) = unbuilt_text fault
@@ -70,6 +72,10 @@ script_text script.Read = codes "read fault"
 script_text script.TooLong = codes "script too long"
 script_text script.Write = codes "write fault"
 script_text script.Memory = codes "out of memory"
+
+-- the same, and what is to mend
+abbrev pub refusal_lines : Refusal → List ℕ
+refusal_lines refused = script_text refused.fault ++ second_line refused.reason
 
 -- the line of a bad value; the second line says of what (10 is the line's end)
 abbrev pub bad_value : List ℕ
@@ -99,7 +105,7 @@ unfoldable pub fault_text : Fault → List ℕ
 fault_text NotText = bad_value ++ codes "a word isn't UTF-8"
 fault_text (BadValue w) = wrong_text w
 fault_text NoDevice = bad_value ++ codes "no device line"
-fault_text (Script fault) = script_text fault
+fault_text (Script refused) = refusal_lines refused
 fault_text Socket = codes "socket fault"
 fault_text (Refused address) = refused_text address
 fault_text NoAnswer = codes "no answer"

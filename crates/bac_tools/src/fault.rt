@@ -6,7 +6,7 @@ ghost use Rattle.bac_tools.specs.Status.{exit_status, exchange_status, script_st
 
 use bac_link::ExchangeFault;
 use bac_query::QueryFault;
-use bac_script::ReplayFault;
+use bac_script::{Refused, ReplayFault};
 use bac_walk::{WalkFault, Why};
 use bac_words::Word;
 
@@ -19,8 +19,9 @@ pub enum Fault {
     BadValue(Word),
     /// The configuration describes no device.
     NoDevice,
-    /// A script or a configuration is wrong, or a stream refused while it was played.
-    Script(ReplayFault),
+    /// A script or a configuration is wrong, or a stream refused while it was played; and what is to
+    /// mend.
+    Script(Refused),
     /// A socket couldn't be opened, or it failed.
     Socket,
     /// No request could be sent to this address.
@@ -66,7 +67,7 @@ impl Fault {
     {
         match self {
             Fault::NotText | Fault::BadValue(_) | Fault::NoDevice => 1,
-            Fault::Script(fault) => script_status(fault),
+            Fault::Script(refused) => script_status(refused.fault),
             Fault::Socket | Fault::Refused(_) | Fault::NoAnswer | Fault::Write => 2,
             Fault::Exchange { fault, .. } => exchange_status(fault),
             Fault::Memory => 5,

@@ -14,11 +14,15 @@ mod fault;
 mod finding;
 mod playing;
 mod program;
+mod reason;
 mod serving;
 mod telling;
 mod until_refused;
 
-pub use bac_script::{Configuration, LIMIT, ReplayFault, read_configuration, run_replay};
+pub use bac_script::{
+    Configuration, Flaw, LIMIT, LineKind, Reason, Refused, ReplayFault, Wanted, read_configuration,
+    read_configuration_explained, run_replay, run_replay_explained,
+};
 pub use bac_serve::{Clock, SystemClock, serve, serve_one};
 pub use bac_words::{Addresses, Asked, Given, Job, Word, WordsFault, read_words};
 pub use fault::Fault;

@@ -4,7 +4,7 @@ ghost use Rattle.std.specs.Prelude.{◌≡◌};
 ghost use Rattle.bac_tools.specs.Run.{Plays};
 
 use crate::fault::Fault;
-use bac_script::{ReplayFault, run_replay};
+use bac_script::{Refused, ReplayFault, run_replay_explained};
 use std::alloc::Global;
 use std::io::{Read, Write};
 
@@ -17,15 +17,22 @@ pub(crate) fn replay<I: Read, O: Write>(
 ) -> Result<u8, Fault>
     ensures { Plays (I.remaining input.old) (I.remaining input.new) (O.contents output.old) (O.contents output.new) result }
 {
-    let played = run_replay(alloc, input, output);
-    if let Err(ReplayFault::Write) = played {
-        return Err(Fault::Script(ReplayFault::Write));
+    let played = run_replay_explained(alloc, input, output);
+    if let Err(
+        Refused {
+            fault: ReplayFault::Write,
+            reason,
+        },
+    ) = played
+    {
+        let fault = ReplayFault::Write;
+        return Err(Fault::Script(Refused { fault, reason }));
     }
     if output.flush().is_err() {
-        return Err(Fault::Script(ReplayFault::Write));
+        return Err(Fault::Script(Refused::from(ReplayFault::Write)));
     }
     match played {
         Ok(()) => Ok(0),
-        Err(fault) => Err(Fault::Script(fault)),
+        Err(refused) => Err(Fault::Script(refused)),
     }
 }

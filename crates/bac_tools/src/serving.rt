@@ -10,9 +10,9 @@ ghost use Rattle.bac_tools.specs.Texts.{serving_line};
 
 use crate::fault::Fault;
 use crate::telling::{announcement, say};
-use bac_device::{BuildFault, Device};
+use bac_device::{Device, misfit};
 use bac_ports::UdpPort;
-use bac_script::{Configuration, ReplayFault, read_configuration};
+use bac_script::{Configuration, Reason, Refused, ReplayFault, read_configuration_explained};
 use bac_serve::{Clock, idle_wait};
 use std::alloc::Global;
 use std::io::{Read, Write};
@@ -22,10 +22,23 @@ use std::net::Net;
 fn configured<I: Read>(alloc: Global, input: &mut I) -> Result<Configuration, Fault>
     ensures { IsConfigured (I.remaining input.old) (I.remaining input.new) result }
 {
-    match read_configuration(alloc, input) {
+    match read_configuration_explained(alloc, input) {
         Ok(Some(configuration)) => Ok(configuration),
         Ok(None) => Err(Fault::NoDevice),
-        Err(fault) => Err(Fault::Script(fault)),
+        Err(refused) => Err(Fault::Script(refused)),
+    }
+}
+
+/// Why lines make no device: the first line that has a fault, or that memory ran out, if none has.
+fn unfit(alloc: Global, configuration: &Configuration) -> Fault
+    ensures { IsUnbuilt configuration.now.device configuration.now.objects.items result }
+{
+    match misfit(alloc, &configuration.device, &configuration.objects) {
+        Some(misfit) => Fault::Script(Refused {
+            fault: ReplayFault::Build(misfit.fault),
+            reason: Some(Reason::Device(misfit)),
+        }),
+        None => Fault::Memory,
     }
 }
 
@@ -33,12 +46,11 @@ fn configured<I: Read>(alloc: Global, input: &mut I) -> Result<Configuration, Fa
 fn built(alloc: Global, configuration: &Configuration) -> Result<Device, Fault>
     ensures ok { IfOk result (λ device. (build_fault configuration.now.device configuration.now.objects.items ≡ None)
         × (device ≡ built_of configuration.now.device configuration.now.objects.items)) }
-    ensures err { IfErr result (IsUnbuilt (build_fault configuration.now.device configuration.now.objects.items)) }
+    ensures err { IfErr result (IsUnbuilt configuration.now.device configuration.now.objects.items) }
 {
     match Device::build(alloc, &configuration.device, &configuration.objects) {
         Ok(device) => Ok(device),
-        Err(BuildFault::Memory) => Err(Fault::Memory),
-        Err(fault) => Err(Fault::Script(ReplayFault::Build(fault))),
+        Err(_) => Err(unfit(alloc, configuration)),
     }
 }
 

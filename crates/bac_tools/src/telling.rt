@@ -3,14 +3,15 @@
 ghost use Rattle.std.specs.Prelude.{◌≡◌, ◌++◌, OnOk, IfOk};
 ghost use Rattle.bac_print.specs.Output.{AppendsPart};
 ghost use Rattle.bac_tools.specs.Run.{IsTold};
-ghost use Rattle.bac_tools.specs.Texts.{build_text, exchange_text, fault_text, of_address, range_text, script_text, serving_line, told_text, unbuilt_text, word_text, wrong_text};
+ghost use Rattle.bac_tools.specs.Texts.{build_text, exchange_text, fault_text, of_address, range_text, refusal_lines, script_text, serving_line, told_text, unbuilt_text, word_text, wrong_text};
 
 use crate::fault::Fault;
+use crate::reason::push_second_line;
 use bac_device::BuildFault;
 use bac_link::ExchangeFault;
 use bac_print::{push_address, push_number, write_text};
 use bac_report::push_refusal;
-use bac_script::ReplayFault;
+use bac_script::{Refused, ReplayFault};
 use bac_words::Word;
 use std::alloc::{AllocError, Global};
 use std::io::Write;
@@ -121,6 +122,14 @@ fn push_of_address(
     push_address(text, address)
 }
 
+/// Appends why a script or a configuration is refused, and what is to mend.
+fn push_refused(text: &mut Vec<u8>, refused: Refused) -> Result<(), AllocError>
+    ensures { OnOk result (text.new.items ≡ text.old.items ++ refusal_lines refused) }
+{
+    push_script(text, refused.fault)?;
+    push_second_line(text, refused.reason)
+}
+
 /// Appends why an exchange with an address brought no ACK.
 #[tactic(auto, unfolding(crate::specs::Texts::exchange_text))]
 fn push_exchange(
@@ -147,7 +156,7 @@ fn push_fault(text: &mut Vec<u8>, fault: Fault) -> Result<(), AllocError>
         Fault::NotText => text.extend_from_slice(b"bad value\na word isn't UTF-8"),
         Fault::BadValue(word) => push_wrong(text, word),
         Fault::NoDevice => text.extend_from_slice(b"bad value\nno device line"),
-        Fault::Script(fault) => push_script(text, fault),
+        Fault::Script(refused) => push_refused(text, refused),
         Fault::Socket => text.extend_from_slice(b"socket fault"),
         Fault::Refused(address) => push_of_address(
             text,
