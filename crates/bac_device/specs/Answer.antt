@@ -8,7 +8,8 @@ use Rattle.bac_apdu.specs.Apdu.{Apdu, Confirmed, Unconfirmed, Simple, Complex, R
 use Rattle.bac_apdu.specs.Form.{Value, Mark, Inside, number_parameter}
 use Rattle.bac_apdu.specs.FormCanon.{canon_form}
 use Rattle.bac_apdu.specs.Frame.{Frame, Unicast, Broadcast, Forwarded, Function, frame_at}
-pub use Rattle.bac_apdu.specs.Service.Choice.{i_am_service, read_property_service, who_is_service, write_property_service}
+pub use Rattle.bac_apdu.specs.Service.Choice.{i_am_service, read_property_service, who_is_service}
+pub use Rattle.bac_apdu.specs.Service.Choice.{write_property_service}
 use Rattle.bac_apdu.specs.Service.IAm.{i_am, i_am_parameters}
 use Rattle.bac_apdu.specs.Service.ReadPropertyAck.{read_property_ack}
 use Rattle.bac_apdu.specs.declared.reason.Reason.{Reason}

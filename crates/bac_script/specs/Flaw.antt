@@ -54,8 +54,8 @@ line_kind word =
     if bytes_eq word (codes "sample") then Some line.Sample else
     if bytes_eq word (codes "walk") then Some line.Walk else None
 
--- the first word, counted on from n, that isn't what it has to be, or that words are wanting or too many; a line without
--- such a word stands in the wrong place
+-- the first word, counted on from n, that isn't what it has to be, or that words are missing or too many; a line
+-- without such a word stands in the wrong place
 abbrev pub flaw_from : LineKind → ℕ → List Wanted → List (List ℕ) → Flaw
 flaw_from kind n [] [] = flaw.Place
 flaw_from kind n [] (word ∷ words) = flaw.Count kind
@@ -63,7 +63,7 @@ flaw_from kind n (wanted ∷ more) [] = flaw.Count kind
 flaw_from kind n (wanted ∷ more) (word ∷ words) =
     if is_wanted wanted word then flaw_from kind (n + 1) more words else flaw.Word n wanted
 
--- the same of the words behind the first one, if that says a kind
+-- the same of the words after the first one, if that says a kind
 abbrev pub flaw_of_kind : Option LineKind → List (List ℕ) → Flaw
 flaw_of_kind None words = flaw.Kind
 flaw_of_kind (Some kind) words = flaw_from kind 2 (words_wanted kind) words

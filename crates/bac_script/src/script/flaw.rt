@@ -89,7 +89,7 @@ fn is_wanted(wanted: Wanted, word: &[u8]) -> bool
     }
 }
 
-/// What the words behind the first one have to be.
+/// What the words after the first one have to be.
 fn words_wanted<'a>(kind: LineKind) -> &'a [Wanted]
     ensures { result.now ≡ words_wanted kind }
 {
@@ -164,7 +164,7 @@ fn first_word(text: &[u8]) -> (&[u8], Option<&[u8]>)
     }
 }
 
-/// What is wrong with the words behind the first one.
+/// What is wrong with the words after the first one.
 fn flaw_of_words(kind: LineKind, words: Option<&[u8]>) -> Flaw
     ensures { result ≡ flaw_from kind 2 (words_wanted kind) (words_left (option_map (λ rest. rest.now) words.entry)) }
 {
