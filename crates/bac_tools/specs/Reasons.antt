@@ -1,5 +1,5 @@
--- What is told of a script or a configuration that isn't right: the second line, which says what to mend. Words of lines
--- are called as in docs/PROTOCOL.md.
+-- What is told of a script or a configuration that isn't right: the second line, which says what to mend. Words of
+-- lines are called as in docs/PROTOCOL.md.
 use Rattle.std.specs.Prelude.{ℕ, ◌==◌, if◌then◌else◌, List, [], ◌∷◌, ◌++◌, codes, decimal, Option, None, Some}
 use Rattle.bac_objects.specs.declared.build.BuildFault.{BuildFault}
 use Rattle.bac_objects.specs.declared.build.BuildFault.TheVariants as build

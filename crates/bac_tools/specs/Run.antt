@@ -1,7 +1,8 @@
--- What the program does with its words. Read from the end. Of one tool, `input` is what the reader had and `left` what it
--- has left; `old` and `new` are what the output held before and holds now, each if that is known. Of the program they
--- are all its streams and its clock, before and now.
-use Rattle.std.specs.Prelude.{◌≡◌, ◌≢◌, ◌≤◌, ◌⊎◌, ℕ, ◌==◌, if◌then◌else◌, List, [], Option, Some, None, Result, Ok, Err, IfErr}
+-- What the program does with its words. Read from the end. Of one tool, `input` is what the reader had and `left` what
+-- it has left; `old` and `new` are what the output held before and holds now, each if that is known. Of the program
+-- they are all its streams and its clock, before and now.
+use Rattle.std.specs.Prelude.{◌≡◌, ◌≢◌, ◌≤◌, ◌⊎◌, ℕ, ◌==◌, if◌then◌else◌}
+use Rattle.std.specs.Prelude.{List, [], Option, Some, None, Result, Ok, Err, IfErr}
 use Rattle.std.specs.List.{list_any}
 use Rattle.std.specs.Io.KnownBytes.{Keeps}
 use Rattle.clap.specs.Words.{Text, IsAmong}
@@ -191,9 +192,9 @@ abbrev pub IsServed : {C : Type 0} → (C → Option CivilTime → C → Type 0)
     List ℕ → ℕ → ℕ → State → Streams C → Ending → Streams C → Type 0
 IsServed tells address wait count device old result new =
     (((result ≡ Err Socket) ⊎ (result ≡ Err Memory)) × IsQuiet old new)
-    ⊎ ((port : UdpPort) × (served : Done) × (behind : UdpPort) × (after : State) × IsOpen address wait port
+    ⊎ ((port : UdpPort) × (served : Done) × (left : UdpPort) × (after : State) × IsOpen address wait port
     × AppendsPart old.errors new.errors (serving_line address)
-    × ServesDevice any_send any_receive tells count (server port device old.clock) served (server behind after new.clock)
+    × ServesDevice any_send any_receive tells count (server port device old.clock) served (server left after new.clock)
     × (result ≡ of_served served))
 
 -- a fifth of a second while a log has an interval, so that it takes its samples while nobody asks; else without limit

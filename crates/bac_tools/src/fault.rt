@@ -19,8 +19,8 @@ pub enum Fault {
     BadValue(Word),
     /// The configuration describes no device.
     NoDevice,
-    /// A script or a configuration is wrong, or a stream refused while it was played; and what is to
-    /// mend.
+    /// A script or a configuration is wrong, or a stream refused while it was played; and what is
+    /// to mend.
     Script(Refused),
     /// A socket couldn't be opened, or it failed.
     Socket,
