@@ -24,4 +24,6 @@ mod serving;
 #[cfg(test)]
 mod streams;
 #[cfg(test)]
+mod tell;
+#[cfg(test)]
 mod words;

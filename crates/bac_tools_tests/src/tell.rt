@@ -1,0 +1,133 @@
+//! What is told of a fault: its line, and a second one that says what to mend.
+
+use bac_device::{BuildFault, LineId, Misfit};
+use bac_link::ExchangeFault;
+use bac_script::{Flaw, LineKind, Reason, Refused, ReplayFault, Wanted};
+use bac_tools::{Fault, tell};
+use std::process::Abort;
+use std::test::Fail;
+
+/// Each row has a fault, its status and its text.
+fn compare(rt: &(impl Abort + AllocGlobal), rows: &[(Fault, u8, &str)]) -> Result<(), Fail> {
+    for (fault, status, text) in rows {
+        let mut errors = Vec::new(rt.alloc());
+        assert_eq!(rt; tell(rt.alloc(), *fault, &mut errors), *status);
+        assert_eq!(rt; errors.as_slice(), text.as_bytes());
+    }
+    Ok(())
+}
+
+/// A script whose line 7 is bad.
+fn bad_line(flaw: Flaw) -> Fault {
+    Fault::Script(Refused {
+        fault: ReplayFault::BadLine(7),
+        reason: Some(Reason::Line(flaw)),
+    })
+}
+
+/// A device that can't be built with this line.
+fn unbuilt(object_type: u16, instance: u32, fault: BuildFault, namesake: Option<LineId>) -> Fault {
+    Fault::Script(Refused {
+        fault: ReplayFault::Build(fault),
+        reason: Some(Reason::Device(Misfit {
+            line: LineId {
+                object_type,
+                instance,
+            },
+            fault,
+            namesake,
+        })),
+    })
+}
+
+#[test]
+fn a_bad_line_is_told_with_what_is_wrong(rt: HostRuntime) -> Result<(), Fail> {
+    compare(
+        &rt,
+        &[
+            (
+                bad_line(Flaw::Kind),
+                1,
+                "line 7: bad line\na line begins with device, binary, multistate, integer, log, rx, \
+                 clock, sample or walk\n",
+            ),
+            (
+                bad_line(Flaw::Count(LineKind::Log)),
+                1,
+                "line 7: bad line\nthe line is: log INSTANCE NAME KIND SOURCE CAPACITY INTERVAL \
+                 LOGGED\n",
+            ),
+            (
+                bad_line(Flaw::Word(4, Wanted::Short)),
+                1,
+                "line 7: bad line\nword 4: a number from 0 to 65535\n",
+            ),
+            (
+                bad_line(Flaw::Place),
+                1,
+                "line 7: bad line\nthe device's line comes first and stands once, then its \
+                 objects', then events\n",
+            ),
+        ],
+    )
+}
+
+#[test]
+fn a_device_that_is_not_built_is_told_with_its_line(rt: HostRuntime) -> Result<(), Fail> {
+    let pump = LineId {
+        object_type: 5,
+        instance: 1,
+    };
+    compare(
+        &rt,
+        &[
+            (
+                unbuilt(8, 4194303, BuildFault::BadInstance, None),
+                1,
+                "cannot build: bad instance\ndevice 4194303: an instance is a number from 0 to \
+                 4194302\n",
+            ),
+            (
+                unbuilt(19, 2, BuildFault::DuplicateName, Some(pump)),
+                1,
+                "cannot build: duplicate name\nmultistate 2: its name is that of binary 1\n",
+            ),
+            (
+                unbuilt(19, 2, BuildFault::BadDefault, None),
+                1,
+                "cannot build: bad default\nmultistate 2: DEFAULT is a number from 1 to STATES\n",
+            ),
+        ],
+    )
+}
+
+#[test]
+fn what_cannot_be_mended_is_one_line(rt: HostRuntime) -> Result<(), Fail> {
+    let full = Fault::Script(Refused {
+        fault: ReplayFault::Write,
+        reason: None,
+    });
+    let gone = Fault::Script(Refused {
+        fault: ReplayFault::Build(BuildFault::DuplicateId),
+        reason: None,
+    });
+    compare(
+        &rt,
+        &[
+            (full, 2, "write fault\n"),
+            (gone, 1, "cannot build: duplicate object\n"),
+        ],
+    )
+}
+
+#[test]
+fn an_answer_that_did_not_come_is_told_with_its_address(rt: HostRuntime) -> Result<(), Fail> {
+    let lost = Fault::Exchange {
+        address: [10, 0, 0, 1, 0xba, 0xc0],
+        fault: ExchangeFault::Lost,
+    };
+    compare(
+        &rt,
+        &[(lost, 2, "lost\nno answer came from 10.0.0.1:47808\n")],
+    )
+}
