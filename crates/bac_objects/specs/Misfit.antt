@@ -3,7 +3,8 @@ use Rattle.std.specs.Prelude.{◌≡◌, ◌⊎◌, ℕ, if◌then◌else◌, Li
 use Rattle.std.specs.List.{find}
 use Rattle.std.specs.Option.{option_map}
 use Rattle.std.specs.Str.{bytes_eq}
-use Rattle.bac_objects.specs.Build.{build_fault, device_fault, instance_of, kind_of, name_of, object_fault, objects_fault}
+use Rattle.bac_objects.specs.Build.{build_fault, device_fault, object_fault, objects_fault}
+use Rattle.bac_objects.specs.Build.{instance_of, kind_of, name_of}
 use Rattle.bac_objects.specs.declared.build.BuildFault.{BuildFault}
 use Rattle.bac_objects.specs.declared.build.BuildFault.TheVariants.{DuplicateName}
 use Rattle.bac_objects.specs.declared.build.Faulty.{Faulty}
@@ -55,7 +56,8 @@ IsMisfit device lines m = IsDeviceMisfit device m ⊎ IsObjectMisfit device line
 -- ---- what only private calls cite
 
 -- an object's line with a fault, after object lines that have none
-pub record IsFaulty (device : DeviceLine) (lines before : List ObjectLine) (line : ObjectLine) (fault : BuildFault) : Type 0 where
+pub record IsFaulty (device : DeviceLine) (lines before : List ObjectLine) (line : ObjectLine)
+    (fault : BuildFault) : Type 0 where
   pub after : List ObjectLine
   pub split : lines ≡ before ++ line ∷ after
   pub first : objects_fault device [] before ≡ None
