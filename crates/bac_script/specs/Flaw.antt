@@ -54,8 +54,8 @@ line_kind word =
     if bytes_eq word (codes "sample") then Some line.Sample else
     if bytes_eq word (codes "walk") then Some line.Walk else None
 
--- the first word, counted on from n, that isn't what it has to be, or that words are wanting or too many; a line without
--- such a word stands in the wrong place
+-- the first word, counted on from n, that isn't what it has to be, or that words are wanting or too many; a line
+-- without such a word stands in the wrong place
 abbrev pub flaw_from : LineKind → ℕ → List Wanted → List (List ℕ) → Flaw
 flaw_from kind n [] [] = flaw.Place
 flaw_from kind n [] (word ∷ words) = flaw.Count kind
