@@ -56,11 +56,12 @@ IsMisfit device lines m = IsDeviceMisfit device m ⊎ IsObjectMisfit device line
 -- ---- what only private calls cite
 
 -- an object's line with a fault, after object lines that have none
-pub record IsFaulty (d : DeviceLine) (lines before : List ObjectLine) (x : ObjectLine) (f : BuildFault) : Type 0 where
+pub record IsFaulty (device : DeviceLine) (lines before : List ObjectLine) (line : ObjectLine)
+    (fault : BuildFault) : Type 0 where
   pub after : List ObjectLine
-  pub split : lines ≡ before ++ x ∷ after
-  pub first : objects_fault d [] before ≡ None
-  pub refused : object_fault d before x ≡ Some f
+  pub split : lines ≡ before ++ line ∷ after
+  pub first : objects_fault device [] before ≡ None
+  pub refused : object_fault device before line ≡ Some fault
 
 -- the first object line with a fault, if one has
 abbrev pub IsFirstFaulty : DeviceLine → List ObjectLine → Option Faulty → Type 0

@@ -62,7 +62,7 @@ pub enum BuildFault {
 pub struct Misfit {
     pub line: LineId,
     pub fault: BuildFault,
-    /// The earlier line with the same name, if that is the fault: the device's, if it has that name,
+    /// The earlier line with the same name, if that is the fault: the device's, if it has the name,
     /// else the first object line that has it.
     pub namesake: Option<LineId>,
 }

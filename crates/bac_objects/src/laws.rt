@@ -31,12 +31,13 @@ pub fn lines_need_no_memory()
     ensures { (device : FirstLine) (lines : List LineOf) → build_fault device lines ≢ Some Memory }
 {}
 
-/// The fault of the line that is told as the first with one is the first fault of all the lines.
+/// The fault of the line that is to mend is the first fault of all the lines.
 pub fn misfits_have_the_first_fault()
     ensures { (device : FirstLine) (lines : List LineOf) (m : Misfit) → IsMisfit device lines m → build_fault device lines ≡ Some m.fault }
 {}
 
-/// A line that has the same name as another is told with the line that has it.
+/// If the fault of the line that is to mend is that a line before it has its name, that line is told
+/// too.
 pub fn duplicate_names_have_a_namesake()
     ensures { (device : FirstLine) (lines : List LineOf) (m : Misfit) → IsMisfit device lines m → m.fault ≡ DuplicateName → IsSome m.namesake }
 {}

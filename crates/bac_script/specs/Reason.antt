@@ -30,8 +30,8 @@ IsUnfit None fault reason = ⊥
 IsUnfit (Some plan) fault (Line flaw) = ⊥
 IsUnfit (Some plan) fault (Device m) = IsMisfit plan.0 plan.1 m × (m.fault ≡ fault)
 
--- What is to mend in a text that is refused for this fault: of a bad line what is wrong with it; of a device that can't
--- be built the line with which it can't, or nothing, if memory ran out
+-- What is to mend in a text that is refused for this fault: of a bad line what is wrong with it; of a device that
+-- can't be built the line with which it can't, or nothing, if memory ran out; of another fault nothing.
 abbrev pub IsReason : List ℕ → ReplayFault → Option Reason → Type 0
 IsReason text (BadLine number) said = said ≡ Some (Line (flaw_of (line_at number (lines text))))
 IsReason text (Build fault) said = MatchOption said (Unit {0}) (IsUnfit (described None (lines text)) fault)

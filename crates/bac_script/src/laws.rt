@@ -16,7 +16,7 @@ pub fn texts_are_joined()
         × ((play n s (before ++ after)).1 ≡ (play (n + length before) t after).1) }
 {}
 
-/// Nothing is wrong with a text but its place if and only if it is a line of a script: what is told
+/// A text is a line of a script if and only if nothing is wrong with it but its place: what is told
 /// of a bad line agrees with what the lines of a script are.
 pub fn lines_in_the_wrong_place_are_lines()
     ensures { (text : List ℕ) → (flaw_of text ≡ Place) ↔ IsSome (line_in text) }

@@ -16,6 +16,8 @@ mod queries;
 #[cfg(test)]
 mod query_callers;
 #[cfg(test)]
+mod reasons;
+#[cfg(test)]
 mod refusing;
 #[cfg(test)]
 mod routes;

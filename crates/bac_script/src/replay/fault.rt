@@ -91,8 +91,8 @@ pub enum Reason {
 #[derive(Clone, Copy, Debug, PartialEq, Eq)]
 pub struct Refused {
     pub fault: ReplayFault,
-    /// Of a bad line always, and of a device that can't be built, if there is memory to look its
-    /// line up; else nothing.
+    /// Of a bad line it is always there; of a device that can't be built, if there is memory to look
+    /// for the line; of another fault there is none.
     pub reason: Option<Reason>,
 }
 

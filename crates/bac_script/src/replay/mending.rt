@@ -9,8 +9,8 @@ use crate::replay::fault::{Reason, Refused, ReplayFault};
 use bac_device::{BuildFault, Misfit, misfit};
 use std::alloc::Global;
 
-/// The line with which the device that a script describes can't be built, if it can't; `None` if
-/// memory runs out too.
+/// The line with which the device that a script describes can't be built; `None` if it can be, or if
+/// memory runs out.
 fn misfit_in(alloc: Global, script: &[u8]) -> Option<Misfit>
     ensures { IfSome result (IsUnfitLine (described None (lines script.now))) }
 {
