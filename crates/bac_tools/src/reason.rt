@@ -42,7 +42,7 @@ fn told_of<'a>(wanted: Wanted) -> &'a str
     }
 }
 
-/// Appends a text, and another behind it.
+/// Appends a text, and another after it.
 fn push_both(text: &mut Vec<u8>, first: &str, second: &str) -> Result<(), AllocError>
     ensures { OnOk result (text.new.items ≡ text.old.items ++ (first.now ++ second.now)) }
 {
