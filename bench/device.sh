@@ -83,7 +83,7 @@ if command -v cc > /dev/null; then
             print "log 1 trend binary 1 65535 0 0"
         }' > "$script"
         port=$((20000 + RANDOM))
-        "$program" serve "127.0.0.1:$port" < "$script" &
+        "$program" serve "127.0.0.1:$port" < "$script" 2> "$room/served" &
         server=$!
         for ((try = 0; try < 40; try++)); do
             if "$program" wi "127.0.0.1:$port" --timeout=100 > "$output" 2>&1; then break; fi

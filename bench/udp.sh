@@ -25,7 +25,7 @@ served=127.0.0.1:$port
 bare=$((20000 + RANDOM))
 printf '%s\n' 'device 123 plant 0 1476 2024-05-06T07:08:09.10' 'binary 1 pump 0' \
     "log 1 trend binary 1 $records 0 0" > "$room/configuration"
-"$program" serve "$served" < "$room/configuration" &
+"$program" serve "$served" < "$room/configuration" 2> "$room/served" &
 servers=$!
 # A question by number has 24 octets; 65,535 records of a log's status come in replies of 1,470 and so.
 asked=24
