@@ -162,8 +162,8 @@ fn explain<O: Write, E: Write>(
 }
 
 /// The program `bac`: does what its words ask for, the first of which is its name, and answers the
-/// exit status. Results and help go to the output, faults and that a server
-/// is up to the errors, each with one write.
+/// exit status. Results and help go to the output; faults, and the line of a server that is up, go
+/// to the errors. Each is one write.
 pub fn run<R: Net, I: Read, O: Write, E: Write, C: Clock>(
     rt: &R,
     alloc: Global,
