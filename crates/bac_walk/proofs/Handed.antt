@@ -33,7 +33,7 @@ abbrev pub calls_of : Option GapOf → List Numbered → List Call
 calls_of gap [] = []
 calls_of gap (x ∷ xs) = record { gap = gap; record_put = x } ∷ calls_of None xs
 
-length-calls : (gap : Option GapOf) (xs : List Numbered) → length (calls_of gap xs) ≡ length xs
+pub length-calls : (gap : Option GapOf) (xs : List Numbered) → length (calls_of gap xs) ≡ length xs
 length-calls gap [] = refl
 length-calls gap (x ∷ xs) = ap suc (length-calls None xs)
 
@@ -41,7 +41,7 @@ gaps-none : (xs : List Numbered) → gaps (calls_of None xs) ≡ 0
 gaps-none [] = refl
 gaps-none (x ∷ xs) = omega (arith, gaps-none xs)
 
-gaps-one : (gap : Option GapOf) (xs : List Numbered) → gaps (calls_of gap xs) ≤ 1
+pub gaps-one : (gap : Option GapOf) (xs : List Numbered) → gaps (calls_of gap xs) ≤ 1
 gaps-one gap [] = omega arith
 gaps-one None (x ∷ xs) = omega (arith, gaps-none xs)
 gaps-one (Some g) (x ∷ xs) = omega (arith, gaps-none xs)
@@ -50,12 +50,12 @@ items-none : (xs : List Numbered) → put_items (calls_of None xs) ≡ map item_
 items-none [] = refl
 items-none (x ∷ xs) = ap (λ l. item_of x ∷ l) (items-none xs)
 
-items-calls : (gap : Option GapOf) (xs : List Numbered) → 0 < length xs → put_items (calls_of gap xs) ≡ gap_items gap ++ map item_of xs
+pub items-calls : (gap : Option GapOf) (xs : List Numbered) → 0 < length xs → put_items (calls_of gap xs) ≡ gap_items gap ++ map item_of xs
 items-calls gap [] some = absurd (omega arith)
 items-calls gap (x ∷ xs) some = ap (λ l. gap_items gap ++ item_of x ∷ l) (items-none xs)
 
 -- all records of a batch were put
-put_whole : {S : Type 0} (puts : S → Option GapOf → Numbered → Bool → S → Type 0) (old : S) (gap : Option GapOf) (xs : List Numbered) (new : S) →
+pub put_whole : {S : Type 0} (puts : S → Option GapOf → Numbered → Bool → S → Type 0) (old : S) (gap : Option GapOf) (xs : List Numbered) (new : S) →
     PutAll puts old gap xs None new → Takes puts old (calls_of gap xs) false new
 put_whole puts old gap [] new put = (put.0, refl)
 put_whole puts old gap (x ∷ xs) new put =
@@ -65,15 +65,15 @@ put_whole puts old gap (x ∷ xs) new put =
     ]
 
 -- the records of a batch up to one
-record UpTo {S : Type 0} (puts : S → Option GapOf → Numbered → Bool → S → Type 0) (old : S) (gap : Option GapOf) (xs : List Numbered) (n : ℕ) (new : S) : Type 0 where
-  before : List Numbered
-  last : Numbered
-  after : List Numbered
-  is : xs ≡ before ++ last ∷ after
-  shown : last.number ≡ n
-  takes : Takes puts old (calls_of gap (before ++ last ∷ [])) true new
+pub record UpTo {S : Type 0} (puts : S → Option GapOf → Numbered → Bool → S → Type 0) (old : S) (gap : Option GapOf) (xs : List Numbered) (n : ℕ) (new : S) : Type 0 where
+  pub before : List Numbered
+  pub last : Numbered
+  pub after : List Numbered
+  pub is : xs ≡ before ++ last ∷ after
+  pub shown : last.number ≡ n
+  pub takes : Takes puts old (calls_of gap (before ++ last ∷ [])) true new
 
-put_up_to : {S : Type 0} (puts : S → Option GapOf → Numbered → Bool → S → Type 0) (old : S) (gap : Option GapOf) (xs : List Numbered) (n : ℕ) (new : S) →
+pub put_up_to : {S : Type 0} (puts : S → Option GapOf → Numbered → Bool → S → Type 0) (old : S) (gap : Option GapOf) (xs : List Numbered) (n : ℕ) (new : S) →
     PutAll puts old gap xs (Some n) new → UpTo puts old gap xs n new
 put_up_to puts old gap [] n new put = absurd (let e = put.1 in cc)
 put_up_to puts old gap (x ∷ xs) n new put =
@@ -288,7 +288,7 @@ run_of_cut was is retries old new k e before after pre post run = (
       (c.cut, c.t, c.shown, c.run, subst P (sym c.count) whole.4, fresh)),
 )
 
-map-append : (xs ys : List Numbered) → map item_of (xs ++ ys) ≡ map item_of xs ++ map item_of ys
+pub map-append : (xs ys : List Numbered) → map item_of (xs ++ ys) ≡ map item_of xs ++ map item_of ys
 map-append [] ys = refl
 map-append (x ∷ xs) ys = ap (λ l. item_of x ∷ l) (map-append xs ys)
 

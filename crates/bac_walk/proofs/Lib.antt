@@ -26,3 +26,9 @@ pub mod Handed
 pub mod Runs
 pub mod Keeps
 pub mod Told
+pub mod Standard
+pub mod Came
+pub mod Brought
+pub mod Own
+pub mod Joined
+pub mod Counted

@@ -65,7 +65,7 @@ run_early was is retries old new before after i n ended xs not_limit le run = (
       (a.0, a.1, a.2, ended_early r H M before.fresh s i n retries old new xs a.1 ended a.0 not_limit le a.3, a.4, a.5)),
 )
 
-Takes-append : {S : Type 0} (puts : S → Option GapOf → Numbered → Bool → S → Type 0) (old mid new : S) (xs ys : List Call) (stopped : Bool) →
+pub Takes-append : {S : Type 0} (puts : S → Option GapOf → Numbered → Bool → S → Type 0) (old mid new : S) (xs ys : List Call) (stopped : Bool) →
     Takes puts old xs false mid → Takes puts mid ys stopped new → Takes puts old (xs ++ ys) stopped new
 Takes-append {S = S} puts old mid new [] ys stopped first rest = let P : S → Type 0 = λ z. Takes puts z ys stopped new in subst P first.0 rest
 Takes-append puts old mid new (x ∷ xs) ys stopped first rest =
@@ -74,13 +74,13 @@ Takes-append puts old mid new (x ∷ xs) ys stopped first rest =
       | inr more ↦ inr (more.0, more.1, Takes-append puts more.0 mid new xs ys stopped more.2 rest)
     ]
 
-put_items-append : (xs ys : List Call) → put_items (xs ++ ys) ≡ put_items xs ++ put_items ys
+pub put_items-append : (xs ys : List Call) → put_items (xs ++ ys) ≡ put_items xs ++ put_items ys
 put_items-append [] ys = refl
 put_items-append (x ∷ xs) ys =
     ap (λ l. gap_items x.gap ++ item_of x.record_put ∷ l) (put_items-append xs ys)
     ∙ sym (append_assoc (gap_items x.gap) (item_of x.record_put ∷ put_items xs) (put_items ys))
 
-gaps-append : (xs ys : List Call) → gaps (xs ++ ys) ≡ gaps xs + gaps ys
+pub gaps-append : (xs ys : List Call) → gaps (xs ++ ys) ≡ gaps xs + gaps ys
 gaps-append [] ys = omega arith
 gaps-append (x ∷ xs) ys = omega (arith, gaps-append xs ys)
 

@@ -1,5 +1,5 @@
 -- What a walk was told last.
-use Rattle.std.proofs.Common.{◌≡◌, ℕ, Bool, true, false, ◌||◌, ◌&&◌, ◌==◌, if◌then◌else◌, inl, inr, Option, Some, None, Result, Ok, Err, List, [], ◌∷◌, length, refl, sym, ap, subst}
+use Rattle.std.proofs.Common.{◌≡◌, ℕ, Bool, true, false, ◌||◌, ◌&&◌, ◌==◌, if◌then◌else◌, inr, Option, Some, None, Result, Ok, Err, List, [], ◌∷◌, length, refl, sym, ap, subst}
 use Rattle.bac_link.specs.declared.exchanges.ExchangeFault.{ExchangeFault}
 use Rattle.bac_link.specs.declared.link.Lost.{Lost as Loss}
 use Rattle.bac_link.specs.declared.request.Request.{Request}
@@ -28,7 +28,7 @@ use Rattle.bac_walk.specs.Heard.{AckParameters}
 use Rattle.bac_walk.specs.Outcomes.{why_of}
 use Rattle.bac_walk.specs.Place.{WalkPlace}
 use Rattle.bac_walk.specs.Replied.{heard_in, progress_of}
-use Rattle.bac_walk.specs.Told.{HasAsked, IsFault, ToldFault, ToldUp, ToldTurn, Told, ended_of}
+use Rattle.bac_walk.specs.Told.{HasAsked, ToldFault, ToldUp, ToldTurn, Told, ended_of}
 use Rattle.bac_walk.specs.Walks.{asks_oldest_now, is_past, fits, question_of, verdict, NextAct, Refuse, Ask, End, Bring, IsTaken, IsTakenFrom}
 
 abbrev pub Asking : Type 0 → Type 1
@@ -42,7 +42,7 @@ stays_by w es Ask after taken = absurd taken
 stays_by w es End after taken = taken
 stays_by w es (Bring f) after taken = absurd taken
 
-up_here : (w : WalkPlace) (heard : Option AckParameters) (after : WalkPlace) → IsTakenFrom w heard (Ok IsUp) after → after ≡ w
+pub up_here : (w : WalkPlace) (heard : Option AckParameters) (after : WalkPlace) → IsTakenFrom w heard (Ok IsUp) after → after ≡ w
 up_here w None after taken = absurd taken
 up_here w (Some h) after taken = stays_by w h.entries (verdict w h.first h.count h.entries) after taken
 
@@ -52,7 +52,7 @@ refused_by w es Ask bad after taken = absurd taken
 refused_by w es End bad after taken = absurd taken
 refused_by w es (Bring f) bad after taken = absurd taken
 
-refused_here : (w : WalkPlace) (heard : Option AckParameters) (bad : NotTaken) (after : WalkPlace) → IsTakenFrom w heard (Err bad) after → after ≡ w
+pub refused_here : (w : WalkPlace) (heard : Option AckParameters) (bad : NotTaken) (after : WalkPlace) → IsTakenFrom w heard (Err bad) after → after ≡ w
 refused_here w None bad after taken = taken
 refused_here w (Some h) bad after taken = refused_by w h.entries (verdict w h.first h.count h.entries) bad after taken
 
@@ -71,7 +71,7 @@ asks_by w (Some f) count (e ∷ es) after taken = some (is_past w f) ((count == 
     some false true h = absurd h
     some false false h = absurd h
 
-asks_here : (w : WalkPlace) (heard : Option AckParameters) (after : WalkPlace) → IsTakenFrom w heard (Ok AskOldest) after → (asks_oldest_now w ≡ false) × (after.asks_oldest ≡ true)
+pub asks_here : (w : WalkPlace) (heard : Option AckParameters) (after : WalkPlace) → IsTakenFrom w heard (Ok AskOldest) after → (asks_oldest_now w ≡ false) × (after.asks_oldest ≡ true)
 asks_here w None after taken = absurd taken
 asks_here w (Some h) after taken = asks_by w h.first h.count h.entries after taken
 

@@ -51,7 +51,7 @@ gapped H m s es false is near some are =
     subst P same (records_batch H m (max s m.oldest) es some are, Covers-numbered (max s m.oldest) es)
 
 -- the gap that a walk reports
-gap_same : (w : WalkPlace) (s : ℕ) (m : Moment) (lt : Bool) → nat_lt s m.oldest ≡ lt → m.oldest < s + 4294967295 → w.next ≡ sequence_number s → w.fresh ≡ false →
+pub gap_same : (w : WalkPlace) (s : ℕ) (m : Moment) (lt : Bool) → nat_lt s m.oldest ≡ lt → m.oldest < s + 4294967295 → w.next ≡ sequence_number s → w.fresh ≡ false →
     gap_of w (sequence_number (max s m.oldest)) ≡ (if lt then Gap (sequence_number s) (sequence_number m.oldest) ∷ [] else [])
 gap_same w s m true is near next old =
     let lt : s < m.oldest = ltb-true s m.oldest is in
@@ -126,21 +126,21 @@ entries_count H m f (suc c) s within low high =
       length-drop (f - (H.logged + 1)) H.entries,
     )
 
-or_right : (a b : Bool) → (a || b) ≡ false → b ≡ false
+pub or_right : (a b : Bool) → (a || b) ≡ false → b ≡ false
 or_right true b h = absurd (cc)
 or_right false b h = h
 
-both_true : (a b c : Bool) → (a && b && c) ≡ true → (b ≡ true) × (c ≡ true)
+pub both_true : (a b c : Bool) → (a && b && c) ≡ true → (b ≡ true) × (c ≡ true)
 both_true true true true h = (refl, refl)
 both_true true true false h = absurd (cc)
 both_true true false c h = absurd (cc)
 both_true false b c h = absurd (cc)
 
-last_false : (a b c : Bool) → (a && b && c) ≡ false → a ≡ true → b ≡ true → c ≡ false
+pub last_false : (a b c : Bool) → (a && b && c) ≡ false → a ≡ true → b ≡ true → c ≡ false
 last_false a b true h g k = cc
 last_false a b false h g k = refl
 
-not_true : (b : Bool) → not b ≡ true → b ≡ false
+pub not_true : (b : Bool) → not b ≡ true → b ≡ false
 not_true true h = absurd (cc)
 not_true false h = refl
 
@@ -152,15 +152,15 @@ count_same : (r : ℕ) (H : History) (m : Moment) (b : Bool) (u : ℕ) → u ≤
 count_same r H m true u le same = count_at r H (max u m.oldest) m.oldest _ (asked_count FromOldest m) (omega arith) (omega arith)
 count_same r H m false u le same = let e : u ≡ m.oldest = same refl in count_at r H (max u m.oldest) m.oldest _ (asked_count FromOldest m) (omega arith) (omega (arith, e))
 
-not_false : (b : Bool) → not b ≡ false → b ≡ true
+pub not_false : (b : Bool) → not b ≡ false → b ≡ true
 not_false true h = refl
 not_false false h = absurd (cc)
 
-or_second : (a b : Bool) → a ≡ false → (a || b) ≡ b
+pub or_second : (a b : Bool) → a ≡ false → (a || b) ≡ b
 or_second true b h = absurd (cc)
 or_second false b h = refl
 
-or_left : (a b : Bool) → (a || b) ≡ false → a ≡ false
+pub or_left : (a b : Bool) → (a || b) ≡ false → a ≡ false
 or_left true b h = h
 or_left false b h = refl
 

@@ -19,3 +19,5 @@ pub mod Handing
 pub mod Kept
 pub mod Told
 pub mod Runs
+pub mod Standard
+pub mod Came

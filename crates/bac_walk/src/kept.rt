@@ -12,6 +12,7 @@ ghost use Rattle.bac_walk.specs.Kept.{IsKept};
 ghost use Rattle.bac_walk.specs.Outcomes.{IsRunOf};
 ghost use Rattle.bac_walk.specs.Rests.{rest, Rests, Misses};
 ghost use Rattle.bac_walk.specs.Told.{Told, ended_of};
+ghost use Rattle.bac_walk.specs.Came.{Came, Brought};
 
 use crate::batch::{Gap, Numbered};
 use crate::outcome::{Ended, Outcome, Why};
@@ -78,6 +79,10 @@ pub fn collect<L: LogLink>(
     // fault, or that there is no more.
     ensures limit { result.why ≡ Why.StepLimit → steps ≤ length result.items.items }
     ensures told { Told L.asks (towards transactions.old.route) transactions.old.retries (ended_of result.why) walk.new link.new }
+    // Over any link: what came, and that the items are those of these replies.
+    ensures brought { (n : ℕ) × (ended : EndedOf) × IsRunOf result.why steps n ended
+        × ((came : List Came) × Brought L.asks (towards transactions.old.route) transactions.old.retries link.old walk.old n came
+        result.items.items ended walk.new link.new) }
     // Over an honest link it delivers the records from its number on that the log holds when each
     // is reached, each once, in rising order, with one exact gap for what is gone. The number is
     // that of ordinal s, and wherever the walk comes it is less than half of the count away from

@@ -2,6 +2,7 @@
 ghost use Rattle.std.specs.Prelude.{ℕ, List};
 ghost use Rattle.bac_wire.specs.Primitive.{Id};
 ghost use Rattle.bac_link.specs.Delivery.{History, Moment};
+ghost use Rattle.bac_walk.specs.Came.{BroughtIsDelivered, CameIsDelivered, LostIsAsked, NothingCame, OwnIsSaid, SaidIsTaken};
 ghost use Rattle.bac_walk.specs.Near.{WindowsAreNear};
 ghost use Rattle.bac_walk.specs.Rests.{RestsAll, RestResumes};
 ghost use Rattle.bac_walk.specs.Runs.{CollectedIsDelivered, RunsDeliver, RunsJoin};
@@ -41,4 +42,35 @@ pub fn runs_deliver<L: LogLink>()
 /// together one run of as many steps, which brought what both brought.
 pub fn runs_join<L: LogLink>()
     ensures { RunsJoin (λ link id r M H. L.is_honest link id r M H) }
+{}
+
+/// A reply of our own device is one by the standard.
+pub fn own_is_said()
+    ensures { OwnIsSaid }
+{}
+
+/// A walk near its log takes every reply by the standard.
+pub fn said_is_taken()
+    ensures { SaidIsTaken }
+{}
+
+/// Over every link, whoever answers: if the replies that came say what one log holds, what they
+/// brought is delivered.
+pub fn came_is_delivered<L: LogLink>()
+    ensures { CameIsDelivered L.asks }
+{}
+
+/// The same of a run as `collect` and `deliver` tell it, with its items and its end.
+pub fn brought_is_delivered<L: LogLink>()
+    ensures { BroughtIsDelivered L.asks }
+{}
+
+/// A run that is lost asked its last question once, and as often again as the retries say.
+pub fn lost_is_asked<L: LogLink>()
+    ensures { LostIsAsked L.asks }
+{}
+
+/// Over a link that brings no datagram nothing is delivered.
+pub fn nothing_came<L: LogLink>()
+    ensures { NothingCame L.asks }
 {}

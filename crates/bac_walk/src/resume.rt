@@ -3,6 +3,9 @@
 ghost use Rattle.std.specs.Prelude.{false, ◌≡◌, ◌+◌, ◌<◌, ◌≤◌, ◌++◌, ℕ, List, length};
 ghost use Rattle.bac_log.specs.TrendLog.{sequence_number};
 ghost use Rattle.bac_link.specs.Delivery.{History, Moment, DeliversTo};
+ghost use Rattle.bac_link.specs.Path.{towards};
+ghost use Rattle.bac_walk.specs.Came.{BroughtInto};
+ghost use Rattle.bac_walk.specs.Place.{WalkPlace, walk_at};
 ghost use Rattle.bac_walk.specs.Near.{AreInWindow};
 ghost use Rattle.bac_walk.specs.Sinks.{Call, Takes, put_items, is_stopped};
 
@@ -30,6 +33,11 @@ pub fn stop_and_resume<L: LogLink, S: Sink, R: Sink>(
         walk.old.fresh ≡ false → L.is_honest link.old walk.old.log r M H → walk.old.next ≡ sequence_number s →
         AreInWindow low M → low ≤ s → s < low + 2147483648 →
         (a : ℕ) × (t : ℕ) × (walk.new.next ≡ sequence_number t) × DeliversTo H s (put_items first ++ put_items second) t M a) }
+    // Over any link: what came to the first walk, and to the second, which began at the number, and
+    // on the link, where the first ended.
+    ensures brought { (here : WalkPlace) × (half : L)
+        × BroughtInto L.asks (towards transactions.old.route) transactions.old.retries S.puts link.old sink.old walk.old steps result.0 here sink.new half
+        × BroughtInto L.asks (towards transactions.old.route) transactions.old.retries R.puts half rest.old (walk_at here.log here.next) more result.1 walk.new rest.new link.new }
 {
     let first = deliver(link, transactions, walk, steps, sink);
     let Some(resumed) = Walk::from_number(walk.log(), walk.next_number()) else {

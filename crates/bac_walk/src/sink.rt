@@ -13,6 +13,7 @@ ghost use Rattle.bac_walk.specs.Replied.{step_of};
 ghost use Rattle.bac_walk.specs.Spelled.{IsWhole, records_from};
 ghost use Rattle.bac_walk.specs.Collects.{FoundEnd, MissingEnd};
 ghost use Rattle.bac_walk.specs.Told.{Told};
+ghost use Rattle.bac_walk.specs.Came.{BroughtInto};
 
 use crate::batch::{Gap, Numbered};
 use crate::outcome::{Ended, WalkFault};
@@ -55,6 +56,8 @@ pub fn deliver<L: LogLink, S: Sink>(
         × (link.new ≡ link.old) × (transactions.new ≡ transactions.old) }
     // Over any link, the last exchange told the fault, or that there is no more.
     ensures told { Told L.asks (towards transactions.old.route) transactions.old.retries result walk.new link.new }
+    // Over any link: what came, and that what is put is what these replies brought.
+    ensures brought { BroughtInto L.asks (towards transactions.old.route) transactions.old.retries S.puts link.old sink.old walk.old steps result walk.new sink.new link.new }
     // Over an honest link it delivers the records from its number on that the log holds when each
     // is reached, each once, in rising order, with one exact gap for what is gone.
     ensures headline { (calls : List Call) × Takes S.puts sink.old calls (is_stopped result) sink.new
@@ -97,6 +100,7 @@ fn deliver_step<L: LogLink, S: Sink>(
     ensures begun { transactions.new.begun ≤ transactions.old.begun + 2 }
     ensures log { walk.new.log ≡ walk.old.log }
     ensures told { Told L.asks (towards transactions.old.route) transactions.old.retries result walk.new link.new }
+    ensures brought { BroughtInto L.asks (towards transactions.old.route) transactions.old.retries S.puts link.old sink.old walk.old 1 result walk.new sink.new link.new }
     ensures delivers { Delivery S.puts sink.old sink.new
         (λ r M H. L.is_honest link.old walk.old.log r M H) (λ r M H. L.is_honest link.new walk.old.log r M H)
         transactions.old.retries (L.failures link.old) (L.failures link.new) walk.old walk.new 1 result }

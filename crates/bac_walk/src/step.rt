@@ -12,6 +12,7 @@ ghost use Rattle.bac_log.specs.TrendLog.{sequence_number};
 ghost use Rattle.bac_walk.specs.Replied.{IsSame, heard_in, progress_of, step_of};
 ghost use Rattle.bac_walk.specs.Spelled.{data_held, records_from};
 ghost use Rattle.bac_walk.specs.Told.{Told, ToldTurn};
+ghost use Rattle.bac_walk.specs.Came.{Came, CameTurn, Brought};
 ghost use Rattle.bac_walk.specs.Walks.{IsTakenFrom};
 
 use crate::batch::Batch;
@@ -66,6 +67,7 @@ impl Walk {
         ensures lacking { L.lacks link.old self.old.log →
             MissingTurn (progress_of result) × L.lacks link.new self.old.log × (L.is_sure link.old (towards transactions.old.route) → FoundTurn (progress_of result)) }
         ensures told { ToldTurn L.asks (towards transactions.old.route) transactions.old.retries self.old (progress_of result) self.new link.new }
+        ensures came { CameTurn L.asks (towards transactions.old.route) transactions.old.retries link.old self.old (progress_of result) self.new link.new }
         ensures goes { (s : ℕ) → Goes self.old.fresh self.old.next s (turn_items (progress_of result)) self.new.fresh self.new.next }
         ensures honest { (r : ℕ) (M : List Moment) (H : History) (s : ℕ) →
             L.is_honest link.old self.old.log r M H → self.old.next ≡ sequence_number s → (self.old.fresh ≡ false → IsNear s (now M)) →
@@ -115,6 +117,9 @@ impl Walk {
         // Over any link, the last exchange told why no batch came, and the items cover all from the
         // walk's number up to the new one.
         ensures told { Told L.asks (towards transactions.old.route) transactions.old.retries (step_ended result) self.new link.new }
+        // Over any link: what came, and that the step is what these replies make.
+        ensures brought { (came : List Came) × Brought L.asks (towards transactions.old.route) transactions.old.retries link.old self.old 1 came
+            (step_items result) (step_ended result) self.new link.new }
         ensures goes { (s : ℕ) → Goes self.old.fresh self.old.next s (step_items result) self.new.fresh self.new.next }
         // Over an honest link it delivers the next records that the log holds, with the gap before
         // them.
@@ -155,6 +160,8 @@ impl Walk {
         ensures lacking { L.lacks link.old self.old.log → MissingStep (step_of result) × L.lacks link.new self.old.log }
         ensures refused { L.lacks link.old self.old.log → L.is_sure link.old (towards transactions.old.route) → FoundStep (step_of result) }
         ensures told { Told L.asks (towards transactions.old.route) transactions.old.retries (step_ended (step_of result)) self.new link.new }
+        ensures brought { (came : List Came) × Brought L.asks (towards transactions.old.route) transactions.old.retries link.old self.old 1 came
+            (step_items (step_of result)) (step_ended (step_of result)) self.new link.new }
         ensures goes { (s : ℕ) → Goes self.old.fresh self.old.next s (step_items (step_of result)) self.new.fresh self.new.next }
         ensures honest { (r : ℕ) (M : List Moment) (H : History) (s : ℕ) →
             L.is_honest link.old self.old.log r M H → self.old.next ≡ sequence_number s → (self.old.fresh ≡ false → IsNearStep s M) →

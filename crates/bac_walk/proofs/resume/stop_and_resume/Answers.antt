@@ -1,6 +1,9 @@
-use Rattle.std.proofs.Common.{◌+◌, ℕ, sym, ap, ◌∙◌, subst}
+use Rattle.std.proofs.Common.{◌≡◌, ◌+◌, ℕ, sym, ap, ◌∙◌, subst}
 use Rattle.bac_wire.specs.Primitive.{Id}
-use Rattle.bac_walk.specs.Place.{WalkPlace}
+use Rattle.bac_walk.specs.Place.{WalkPlace, walk_at}
+use Rattle.bac_link.specs.Path.{towards}
+use Rattle.bac_walk.specs.Came.{BroughtInto}
+use Rattle.bac_walk.proofs.Joined.{into_same}
 use Rattle.bac_link.specs.Laws.{after_answers}
 use Rattle.bac_link.specs.Delivery.{DeliversTo}
 use Rattle.bac_walk.specs.Near.{AreInWindow}
@@ -13,7 +16,19 @@ use Rattle.bac_walk.proofs.resume.stop_and_resume.Goals as goal
 pub returns : goal.returns
 returns g c =
     let x = c.deliver-first.ensures.delivers in
-    let y = c.deliver-second.ensures.delivers in record {
+    let y = c.deliver-second.ensures.delivers in
+    let to : c.in-Some.resumed ≡ walk_at c.deliver-first.new.walk.log c.deliver-first.new.walk.next =
+    (c.in-Some.ensures {u = tt}).some ∙ ap (λ (o : Id). walk_at o c.next_number.result) c.log.ensures.log ∙ ap (λ (n : ℕ). walk_at c.deliver-first.new.walk.log n) c.next_number.ensures.next in
+    let B : WalkPlace → Type 0 = λ w. BroughtInto g.L.LogLink.asks (towards c.args.transactions.now.route) c.args.transactions.now.retries g.R.Sink.puts
+    c.deliver-first.new.link c.args.rest.now w c.args.more c.deliver-second.result c.deliver-second.new.walk c.deliver-second.new.sink c.deliver-second.new.link in record {
+      brought = (
+        c.deliver-first.new.walk,
+        c.deliver-first.new.link,
+        c.deliver-first.ensures.brought,
+        subst B to (into_same g.L.LogLink.asks (towards c.args.transactions.now.route) (towards c.deliver-first.new.transactions.route) c.args.transactions.now.retries c.deliver-first.new.transactions.retries
+            g.R.Sink.puts c.deliver-first.new.link c.deliver-second.new.link c.args.rest.now c.deliver-second.new.sink c.in-Some.resumed c.deliver-second.new.walk c.args.more c.deliver-second.result
+            (ap towards c.deliver-first.ensures.route) c.deliver-first.ensures.retries c.deliver-second.ensures.brought),
+      );
       resumed = (
         x.0,
         y.0,

@@ -9,6 +9,8 @@ use Rattle.bac_walk.specs.Collects.{MissingEnd}
 use Rattle.bac_walk.proofs.Near.{fewer_steps, next_step}
 use Rattle.bac_walk.proofs.Runs.{no_delivery, join_delivers, delivers_early, headline_of}
 use Rattle.bac_walk.proofs.Told.{told_same}
+use Rattle.bac_walk.proofs.Joined.{no_into, into_joins, into_early, into_same}
+use Rattle.bac_walk.specs.Came.{BroughtInto}
 use Rattle.bac_link.specs.Path.{towards}
 use Rattle.bac_walk.proofs.sink.deliver.Goals as goal
 
@@ -31,6 +33,7 @@ loop-done-init g c = record {
   none = λ h. (refl, refl, refl, refl, refl);
   delivers = no_delivery g.S.Sink.puts c.args.sink.now (λ r M H. g.L.LogLink.is_honest c.args.link.now c.args.walk.now.log r M H)
       c.args.transactions.now.retries (g.L.LogLink.failures c.args.link.now) c.args.walk.now;
+  brought = no_into g.L.LogLink.asks (towards c.args.transactions.now.route) c.args.transactions.now.retries g.S.Sink.puts c.args.link.now c.args.sink.now c.args.walk.now;
 }
 
 pub returns-in_default : goal.returns-in_default
@@ -58,6 +61,14 @@ returns-in_default g c =
     c.loop-done.invariant.delivers step c.loop-done.invariant.never_falls) in
     record {
       none = λ h. absurd (omega (arith, h));
+      brought = into_early g.L.LogLink.asks (towards c.args.transactions.now.route) c.args.transactions.now.retries g.S.Sink.puts c.args.link.now c.deliver_step.new.link
+          c.args.sink.now c.deliver_step.new.sink c.args.walk.now c.deliver_step.new.walk (c.loop-done.done + 1) c.args.steps c.deliver_step.result not_limit (omega arith)
+          (into_joins g.L.LogLink.asks (towards c.args.transactions.now.route) c.args.transactions.now.retries g.S.Sink.puts c.args.link.now c.loop-done.link c.deliver_step.new.link
+          c.args.sink.now c.loop-done.sink c.deliver_step.new.sink c.args.walk.now c.loop-done.walk c.deliver_step.new.walk c.loop-done.done 1 c.deliver_step.result
+          c.loop-done.invariant.brought
+          (into_same g.L.LogLink.asks (towards c.args.transactions.now.route) (towards c.loop-done.transactions.route) c.args.transactions.now.retries c.loop-done.transactions.retries
+          g.S.Sink.puts c.loop-done.link c.deliver_step.new.link c.loop-done.sink c.deliver_step.new.sink c.loop-done.walk c.deliver_step.new.walk 1 c.deliver_step.result
+          (ap towards c.loop-done.invariant.route) c.loop-done.invariant.retries c.deliver_step.ensures.brought));
       told = told_same g.L.LogLink.asks (towards c.args.transactions.now.route) (towards c.loop-done.transactions.route) c.args.transactions.now.retries c.loop-done.transactions.retries
           c.deliver_step.result c.deliver_step.new.walk c.deliver_step.new.link (ap towards c.loop-done.invariant.route) c.loop-done.invariant.retries c.deliver_step.ensures.told;
       headline = (
@@ -127,6 +138,15 @@ loop-done-preserved g c =
           (g.L.LogLink.failures c.args.link.now) (g.L.LogLink.failures c.loop-done.link) (g.L.LogLink.failures c.deliver_step.new.link)
           c.args.walk.now c.loop-done.walk c.deliver_step.new.walk c.loop-done.done StepLimit
           c.loop-done.invariant.delivers step c.loop-done.invariant.never_falls;
+      brought =
+          let B : Ended → Type 0 = λ e. BroughtInto g.L.LogLink.asks (towards c.args.transactions.now.route) c.args.transactions.now.retries g.S.Sink.puts c.loop-done.link c.loop-done.sink
+          c.loop-done.walk 1 e c.deliver_step.new.walk c.deliver_step.new.sink c.deliver_step.new.link in
+          into_joins g.L.LogLink.asks (towards c.args.transactions.now.route) c.args.transactions.now.retries g.S.Sink.puts c.args.link.now c.loop-done.link c.deliver_step.new.link
+          c.args.sink.now c.loop-done.sink c.deliver_step.new.sink c.args.walk.now c.loop-done.walk c.deliver_step.new.walk c.loop-done.done 1 StepLimit
+          c.loop-done.invariant.brought
+          (subst B c.in-StepLimit.is (into_same g.L.LogLink.asks (towards c.args.transactions.now.route) (towards c.loop-done.transactions.route) c.args.transactions.now.retries c.loop-done.transactions.retries
+          g.S.Sink.puts c.loop-done.link c.deliver_step.new.link c.loop-done.sink c.deliver_step.new.sink c.loop-done.walk c.deliver_step.new.walk 1 c.deliver_step.result
+          (ap towards c.loop-done.invariant.route) c.loop-done.invariant.retries c.deliver_step.ensures.brought));
     }
 
 pub returns-clause-delivers : goal.returns-clause-delivers
@@ -147,3 +167,10 @@ returns-clause-headline g c =
       headline_of (λ r M H. g.L.LogLink.is_honest c.args.link.now c.args.walk.now.log r M H) (λ r M H. g.L.LogLink.is_honest c.loop-done.link c.args.walk.now.log r M H)
           c.args.transactions.now.retries (g.L.LogLink.failures c.args.link.now) (g.L.LogLink.failures c.loop-done.link) c.args.walk.now c.loop-done.walk c.args.steps StepLimit (put_items d.0) d.4,
     )
+
+pub returns-clause-brought : goal.returns-clause-brought
+returns-clause-brought g c =
+    let all : c.loop-done.done ≡ c.args.steps = omega arith in
+    let P : ℕ → Type 0 = λ n. BroughtInto g.L.LogLink.asks (towards c.args.transactions.now.route) c.args.transactions.now.retries g.S.Sink.puts c.args.link.now c.args.sink.now
+    c.args.walk.now n StepLimit c.loop-done.walk c.loop-done.sink c.loop-done.link in
+    subst P all c.loop-done.invariant.brought

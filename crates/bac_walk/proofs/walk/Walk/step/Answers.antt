@@ -9,6 +9,7 @@ use Rattle.bac_walk.proofs.Runs.{collected_delivers, start_old}
 use Rattle.bac_walk.proofs.Sames.{same_step}
 use Rattle.bac_link.specs.Path.{towards}
 use Rattle.bac_walk.specs.Told.{Told}
+use Rattle.bac_walk.specs.Came.{Came, Brought}
 use Rattle.bac_walk.proofs.walk.Walk.step.Goals as goal
 
 pub returns-clause-fault : goal.returns-clause-fault
@@ -66,3 +67,12 @@ returns-clause-headline g c r M H s honest next near =
           (step_items c.decoded.result) run.1 (step_ended c.decoded.result) run.0 run.3,
       run.4,
     )
+
+pub returns-clause-brought : goal.returns-clause-brought
+returns-clause-brought g c =
+    let same = same_step (step_of c.reply.result) c.decoded.result c.decoded.ensures in
+    let P : List Item → Type 0 = λ l. (came : List Came) × Brought g.L.LogLink.asks (towards c.args.transactions.now.route) c.args.transactions.now.retries
+    c.args.link.now c.args.self.now 1 came l (step_ended (step_of c.reply.result)) c.reply.new.self c.reply.new.link in
+    let Q : Ended → Type 0 = λ e. (came : List Came) × Brought g.L.LogLink.asks (towards c.args.transactions.now.route) c.args.transactions.now.retries
+    c.args.link.now c.args.self.now 1 came (step_items c.decoded.result) e c.reply.new.self c.reply.new.link in
+    subst Q same.ended (subst P same.items c.reply.ensures.brought)

@@ -1,0 +1,256 @@
+-- What came over a link is delivered.
+use Rattle.std.proofs.Common.{◌≡◌, ℕ, zero, suc, ◌+◌, ◌<◌, ◌≤◌, ◌⊎◌, ◌||◌, inl, inr, Bool, true, false, Result, Ok, Err, List, [], ◌∷◌, length, drop, ◌++◌, refl, sym, ap, subst, ◌∙◌, arith, append_assoc}
+use Rattle.bac_link.proofs.Delivers.{resumed}
+use Rattle.bac_link.specs.declared.item.Item.TheVariants.{Logged}
+use Rattle.bac_walk.specs.Ordinals.{number_after}
+use Rattle.bac_walk.specs.declared.outcome.Ended.{Ended}
+use Rattle.bac_walk.specs.declared.outcome.Ended.TheVariants.{CaughtUp as IsUp, StepLimit, Stopped, Fault}
+use Rattle.bac_walk.proofs.Shown.{after-number}
+use Rattle.bac_link.specs.Laws.{moment_at}
+use Rattle.bac_link.specs.declared.item.Item.{Item}
+use Rattle.bac_link.specs.declared.link.Lost.{Lost as Loss}
+use Rattle.bac_link.specs.Delivery.{History, Moment, Brings, Leads, DeliversTo, now, later, items_of}
+use Rattle.bac_link.specs.Path.{Path}
+use Rattle.bac_log.specs.TrendLog.{sequence_number}
+use Rattle.bac_walk.specs.Came.{Came, Comes, AreSaidAt, AreOf, NeverGoesBack, EndsBy, EndsEmpty, BroughtIsDelivered, CameIsDelivered, SaidIsTaken, answers_of, asked_by, restarted}
+use Rattle.bac_walk.specs.Collects.{batches, turn_items, IsCaughtUp}
+use Rattle.bac_walk.specs.Delivers.{NoneFrom}
+use Rattle.bac_walk.specs.Near.{IsInWindow, AreInWindow}
+use Rattle.bac_walk.specs.Place.{WalkPlace}
+use Rattle.bac_walk.specs.Replied.{heard_in}
+use Rattle.bac_walk.specs.Standard.{HoldsNumber, IsSaidAt}
+use Rattle.bac_walk.specs.Turns.{base}
+use Rattle.bac_walk.specs.Walks.{asks_oldest_now}
+use Rattle.bac_walk.specs.declared.outcome.Progress.{Progress}
+use Rattle.bac_walk.specs.declared.outcome.Progress.TheVariants.{Batch as BatchOf, AskOldest, CaughtUp}
+use Rattle.bac_walk.proofs.Brought.{full_batch}
+use Rattle.bac_walk.proofs.Standard.{Means, said_means}
+use Rattle.bac_walk.proofs.Turns.{or_left}
+
+abbrev pub Asking : Type 0 → Type 1
+Asking S = S → List ℕ → Result (List ℕ) Loss → S → Type 0
+
+window_now : (low : ℕ) (M : List Moment) → 0 < length M → AreInWindow low M → IsInWindow low (now M)
+window_now low [] some window = absurd (omega arith)
+window_now low (m ∷ M) some window = window.0
+
+window_later : (low : ℕ) (M : List Moment) → AreInWindow low M → AreInWindow low (later M)
+window_later low [] window = window
+window_later low (m ∷ []) window = window
+window_later low (m ∷ n ∷ M) window = window.1
+
+some_later : (M : List Moment) → 0 < length M → 0 < length (later M)
+some_later [] some = some
+some_later (m ∷ []) some = some
+some_later (m ∷ n ∷ M) some = omega arith
+
+rises_now : (M : List Moment) → 0 < length M → NeverGoesBack M → (now M).oldest ≤ (now (later M)).oldest
+rises_now [] some back = absurd (omega arith)
+rises_now (m ∷ []) some back = omega arith
+rises_now (m ∷ n ∷ M) some back = back.0
+
+back_later : (M : List Moment) → NeverGoesBack M → NeverGoesBack (later M)
+back_later [] back = back
+back_later (m ∷ []) back = back
+back_later (m ∷ n ∷ M) back = back.2
+
+-- at one of these answers nothing was held from t on
+abbrev Up : List Moment → Bool → ℕ → List (List Item) → Type 0
+Up M fresh t answers =
+    (i : ℕ) × (i < length answers) × (batches (drop i answers) ≡ 0) × NoneFrom t (moment_at M i)
+    × (fresh ≡ true → batches answers ≡ 0 → (moment_at M i).newest < (moment_at M i).oldest)
+
+-- or at any earlier moment at which the walk's number wasn't held
+abbrev UpBefore : ℕ → List Moment → WalkPlace → ℕ → List (List Item) → Type 0
+UpBefore low M w t answers =
+    (w.asks_oldest ≡ true) × (w.fresh ≡ false) × (batches answers ≡ 0)
+    × ((m : Moment) → (HoldsNumber m w.next → ⊥) → m.oldest ≤ (now M).oldest → NoneFrom t m)
+
+-- what the walk delivers from where it is
+abbrev Delivers : ℕ → History → List Moment → ℕ → WalkPlace → WalkPlace → List Came → Type 0
+Delivers low H M s w after came =
+    (b : ℕ) × (t : ℕ) × (w.fresh ≡ false → b ≡ s) × (after.next ≡ sequence_number t) × Leads H M b (answers_of came) t
+    × (EndsEmpty came → Up M w.fresh t (answers_of came) ⊎ UpBefore low M w t (answers_of came))
+
+base_of : (w : WalkPlace) (s : ℕ) (m : Moment) → w.fresh ≡ false → base w s m ≡ s
+base_of w s m old = rw old refl
+
+or_true : (a b : Bool) → (a || b) ≡ true → a ≡ false → b ≡ true
+or_true true b h f = absurd (cc)
+or_true false b h f = h
+
+empty_none : (t : ℕ) (m : Moment) → m.newest < m.oldest → NoneFrom t m
+empty_none t m none = λ k low held. omega (arith, none, held.0, held.1)
+
+some_batch : (xs : List Item) (answers : List (List Item)) → 0 < length xs → batches (xs ∷ answers) ≡ suc (batches answers)
+some_batch [] answers some = absurd (omega arith)
+some_batch (x ∷ xs) answers some = refl
+
+later_up : (M : List Moment) (fresh : Bool) (t : ℕ) (items : List Item) (answers : List (List Item)) (was : Bool) →
+    (was ≡ true → batches (items ∷ answers) ≡ 0 → (fresh ≡ true) × (batches answers ≡ 0)) → Up (later M) fresh t answers → Up M was t (items ∷ answers)
+later_up M fresh t items answers was same up =
+    (suc up.0, omega (arith, up.1), up.2, up.3, λ f b. let o = same f b in up.4 o.0 o.1)
+
+empty_tail : (c d : Came) (came : List Came) → EndsEmpty (c ∷ d ∷ came) → EndsEmpty (d ∷ came)
+empty_tail c d came ends = ends
+
+-- a reply, and those after it
+with_rest : (H : History) (M : List Moment) (low s : ℕ) (w next after : WalkPlace) (p : Progress) (c : Came) (came : List Came) →
+    0 < length M → NeverGoesBack M → IsInWindow low (now M) →
+    Means H (now M) low s w p next → c.items ≡ turn_items (Ok p) → c.place ≡ w → w.next ≡ sequence_number s → (w.fresh ≡ false → (low ≤ s) × (s < low + 2147483648)) →
+    (came ≡ [] → after ≡ next) →
+    ((u : ℕ) → next.next ≡ sequence_number u → (next.fresh ≡ false → (low ≤ u) × (u < low + 2147483648)) → Delivers low H (later M) u next after came) →
+    Delivers low H M s w after (c ∷ came)
+with_rest H M low s w next after (BatchOf b) c came some back window means is place here at last rest =
+    let u = means.0 in
+    let fresh : next.fresh ≡ false = ap (λ (v : WalkPlace). v.fresh) means.2 in
+    let asks : next.asks_oldest ≡ false = ap (λ (v : WalkPlace). v.asks_oldest) means.2 in
+    let more = rest u (ap (λ (v : WalkPlace). v.next) means.2) (λ f. (means.3, means.4)) in
+    let P : List Item → Type 0 = λ xs. Brings H (now M) (base w s (now M)) xs u in
+    let Q : ℕ → Type 0 = λ n. Leads H (later M) n (answers_of came) more.1 in
+    let full : 0 < length c.items = omega (arith, ap length is, full_batch b) in
+    (base w s (now M), more.1, base_of w s (now M), more.3, (u, subst P (sym is) means.1, subst Q (more.2 fresh) more.4), up full asks came more.5)
+  where
+    up : 0 < length c.items → next.asks_oldest ≡ false → (came : List Came) → {t : ℕ} →
+        (EndsEmpty came → Up (later M) next.fresh t (answers_of came) ⊎ UpBefore low (later M) next t (answers_of came)) →
+        EndsEmpty (c ∷ came) → Up M w.fresh t (answers_of (c ∷ came)) ⊎ UpBefore low M w t (answers_of (c ∷ came))
+    up full asks [] more ends = absurd (omega (arith, full, ap length ends.0))
+    up full asks (d ∷ came) {t = t} more ends =
+        elim (more ends) [
+          | inl found ↦ inl (later_up M next.fresh t c.items (answers_of (d ∷ came)) w.fresh (λ f b. absurd (omega (arith, b, some_batch c.items (answers_of (d ∷ came)) full))) found)
+          | inr before ↦ absurd (let e = sym asks ∙ before.0 in cc)
+        ]
+with_rest H M low s w next after AskOldest c came some back window means is place here at last rest =
+    let fresh : next.fresh ≡ w.fresh = ap (λ (v : WalkPlace). v.fresh) means.2 in
+    let same_next : next.next ≡ w.next = ap (λ (v : WalkPlace). v.next) means.2 in
+    let more = rest s (same_next ∙ here) (λ f. at (sym fresh ∙ f)) in
+    let P : List Item → Type 0 = λ xs. Brings H (now M) more.0 xs more.0 in
+    (more.0, more.1, (λ f. more.2 (fresh ∙ f)), more.3, (more.0, subst P (sym is) refl, more.4), up same_next fresh came more.5)
+  where
+    old : w.fresh ≡ false
+    old = or_left w.fresh w.asks_oldest means.0
+
+    up : next.next ≡ w.next → next.fresh ≡ w.fresh → (came : List Came) → {t : ℕ} →
+        (EndsEmpty came → Up (later M) next.fresh t (answers_of came) ⊎ UpBefore low (later M) next t (answers_of came)) →
+        EndsEmpty (c ∷ came) → Up M w.fresh t (answers_of (c ∷ came)) ⊎ UpBefore low M w t (answers_of (c ∷ came))
+    up same_next fresh [] more ends =
+        let N : WalkPlace → Type 0 = λ v. asks_oldest_now v ≡ true in
+        absurd (let e = sym means.0 ∙ subst N place ends.1 in cc)
+    up same_next fresh (d ∷ came) {t = t} more ends =
+        elim (more ends) [
+          | inl found ↦ inl (later_up M next.fresh t c.items (answers_of (d ∷ came)) w.fresh (λ f b. absurd (let e = sym old ∙ f in cc)) found)
+          | inr before ↦
+              let N : ℕ → Type 0 = λ n. HoldsNumber (now M) n → ⊥ in
+              let B : List Item → Type 0 = λ xs. batches (xs ∷ answers_of (d ∷ came)) ≡ 0 in
+              inl (
+                zero,
+                omega arith,
+                subst B (sym is) before.2,
+                before.3 (now M) (subst N (sym same_next) means.1) (rises_now M some back),
+                λ f b. absurd (let e = sym old ∙ f in cc),
+              )
+        ]
+with_rest H M low s w next after CaughtUp c came some back window means is place here at last rest =
+    let fresh : next.fresh ≡ w.fresh = ap (λ (v : WalkPlace). v.fresh) means.2 in
+    let same_next : next.next ≡ w.next = ap (λ (v : WalkPlace). v.next) means.2 in
+    let more = rest s (same_next ∙ here) (λ f. at (sym fresh ∙ f)) in
+    let P : List Item → Type 0 = λ xs. Brings H (now M) more.0 xs more.0 in
+    (more.0, more.1, (λ f. more.2 (fresh ∙ f)), more.3, (more.0, subst P (sym is) refl, more.4), up came more)
+  where
+    B : List (List Item) → List Item → Type 0
+    B answers xs = batches (xs ∷ answers) ≡ 0
+
+    up : (came : List Came) → (more : Delivers low H (later M) s next after came) →
+        EndsEmpty (c ∷ came) → Up M w.fresh more.1 (answers_of (c ∷ came)) ⊎ UpBefore low M w more.1 (answers_of (c ∷ came))
+    up [] more ends =
+        let none : batches (c.items ∷ []) ≡ 0 = subst (B []) (sym is) refl in
+        elim means.1 [
+          | inl empty ↦ inl (zero, omega arith, none, empty_none more.1 (now M) empty, λ f b. empty)
+          | inr past ↦
+              let asks : w.asks_oldest ≡ true = or_true w.fresh w.asks_oldest means.0 past.0 in
+              let fresh : next.fresh ≡ false = ap (λ (v : WalkPlace). v.fresh) means.2 ∙ past.0 in
+              let t_is : more.1 ≡ s = more.4 ∙ more.2 fresh in
+              inr (asks, past.0, none, λ m gone le k low held. gone (s, (omega (arith, le, past.1), omega (arith, t_is, low, held.1)), here))
+        ]
+    up (d ∷ came) more ends =
+        let fresh : next.fresh ≡ w.fresh = ap (λ (v : WalkPlace). v.fresh) means.2 in
+        elim (more.5 ends) [
+          | inl found ↦ inl (later_up M next.fresh more.1 c.items (answers_of (d ∷ came)) w.fresh (λ f b. (fresh ∙ f, subst (B (answers_of (d ∷ came))) is b)) found)
+          | inr before ↦
+              let N : WalkPlace → Type 0 = λ v. UpBefore low (later M) v more.1 (answers_of (d ∷ came)) in
+              let was = subst N means.2 before in
+              inr (was.0, was.1, subst (B (answers_of (d ∷ came))) (sym is) was.2, λ m gone le. was.3 m gone (omega (arith, le, rises_now M some back)))
+        ]
+
+came_leads : {S : Type 0} (asks : Asking S) (path : Path) (retries : ℕ) (came : List Came) (old new : S) (w after : WalkPlace)
+    (H : History) (M : List Moment) (low s : ℕ) →
+    Comes asks path retries old w came after new → AreSaidAt H M came → w.next ≡ sequence_number s →
+    0 < length M → NeverGoesBack M → AreInWindow low M → (w.fresh ≡ false → (low ≤ s) × (s < low + 2147483648)) →
+    Delivers low H M s w after came
+came_leads asks path retries [] old new w after H M low s comes said here some back window at =
+    (s, s, (λ f. refl), ap (λ (v : WalkPlace). v.next) comes.0 ∙ here, refl, λ ends. absurd ends)
+came_leads asks path retries (c ∷ came) old new w after H M low s (mid, next, p, place, asked, taken, is, rest) said here some back window at =
+    let P : WalkPlace → Type 0 = λ v. IsSaidAt (now M) H v.log (asked_by v) c.datagram in
+    let says = subst P place said.0 in
+    let means = said_means H (now M) low s w (heard_in w.log c.datagram) says.heard (Ok p) next says.reads (window_now low M some window) here at says.counts says.says taken in
+    with_rest H M low s w next after p c came some back (window_now low M some window) means is place here at (after_is came rest)
+    (λ u shown in_window. came_leads asks path retries came mid new next after H (later M) low u rest said.1 shown (some_later M some) (back_later M back) (window_later low M window) in_window)
+  where
+    after_is : (came : List Came) → Comes asks path retries mid next came after new → came ≡ [] → after ≡ next
+    after_is [] rest none = rest.0
+    after_is (d ∷ came) rest none = absurd (cc)
+
+length_answers : (came : List Came) → length (answers_of came) ≡ length came
+length_answers [] = refl
+length_answers (c ∷ came) = omega (arith, length_answers came)
+
+pub came_delivers : {S : Type 0} (asks : Asking S) → CameIsDelivered asks
+came_delivers asks = λ path retries old new w after came H M low s comes said here some back window at.
+    let d = came_leads asks path retries came old new w after H M low s comes said here some back window at in (
+      d.0,
+      d.1,
+      d.2,
+      d.3,
+      (answers_of came, length_answers came, refl, d.4),
+      λ asks_number ends. elim (d.5 ends) [ inl found ↦ found | inr before ↦ absurd (let e = sym asks_number ∙ before.0 in cc) ],
+    )
+
+pub said_taken : SaidIsTaken
+said_taken = λ m H low s w after datagram bad says here window at taken.
+    said_means H m low s w (heard_in w.log datagram) says.heard (Err bad) after says.reads window here at says.counts says.says taken
+
+-- a run that brought this, from ordinal s
+abbrev Ran : WalkPlace → WalkPlace → ℕ → List Came → List Item → Ended → History → List Moment → Type 0
+Ran w after s came items ended H M =
+    (b : ℕ) × (a : ℕ) × (t : ℕ) × (w.fresh ≡ false → b ≡ s) × (after.next ≡ sequence_number t)
+    × DeliversTo H b items t M a × (ended ≡ IsUp → IsCaughtUp w.fresh t M (answers_of came))
+
+abbrev CameTo : WalkPlace → WalkPlace → ℕ → List Came → History → List Moment → Type 0
+CameTo w here s came H M =
+    (b : ℕ) × (t : ℕ) × (w.fresh ≡ false → b ≡ s) × (here.next ≡ sequence_number t)
+    × DeliversTo H b (items_of (answers_of came)) t M (length came)
+    × (false ≡ false → EndsEmpty came → IsCaughtUp w.fresh t M (answers_of came))
+
+whole_run : (w here after : WalkPlace) (s : ℕ) (came : List Came) (items : List Item) (ended : Ended) (H : History) (M : List Moment) →
+    CameTo w here s came H M → restarted after ≡ restarted here → items ≡ items_of (answers_of came) → (ended ≡ IsUp → EndsEmpty came) → Ran w after s came items ended H M
+whole_run w here after s came items ended H M d place is up =
+    let P : List Item → Type 0 = λ l. DeliversTo H d.0 l d.1 M (length came) in
+    (d.0, length came, d.1, d.2, ap (λ (v : WalkPlace). v.next) place ∙ d.3, subst P (sym is) d.4, λ e. d.5 refl (up e))
+
+run_ended : {S : Type 0} (asks : Asking S) (path : Path) (retries : ℕ) (new mid : S) (w here after : WalkPlace) (s steps : ℕ) (came : List Came) (items : List Item) (ended : Ended) (H : History) (M : List Moment) →
+    CameTo w here s came H M → EndsBy asks path retries steps came here mid ended after new → AreOf ended came items after → Ran w after s came items ended H M
+run_ended asks path retries new mid w here after s steps came items IsUp H M d ends are = whole_run w here after s came items IsUp H M d ends.2 are (λ e. ends.0)
+run_ended asks path retries new mid w here after s steps came items StepLimit H M d ends are = whole_run w here after s came items StepLimit H M d ends.2 are (λ e. absurd (cc))
+run_ended asks path retries new mid w here after s steps came items (Fault f) H M d ends are = whole_run w here after s came items (Fault f) H M d ends.2 are (λ e. absurd (cc))
+run_ended asks path retries new mid w here after s steps came items Stopped H M d ends (before, k, e, dropped, cut, all, next) =
+    let whole : items_of (answers_of came) ≡ before ++ Logged k e ∷ dropped =
+    sym all ∙ ap (λ l. l ++ dropped) cut ∙ append_assoc before (Logged k e ∷ []) dropped in
+    let P : List Item → Type 0 = λ l. DeliversTo H d.0 l d.1 M (length came) in
+    let r = resumed H d.0 d.1 (length came) k e M before dropped (subst P whole d.4) in
+    let Q : List Item → Type 0 = λ l. DeliversTo H d.0 l (r.0 + 1) M (r.1 + 1) in
+    (d.0, r.1 + 1, r.0 + 1, d.2, next ∙ ap (λ n. number_after n 1) r.2 ∙ after-number r.0 1, subst Q (sym cut) r.6, λ e. absurd (cc))
+
+pub brought_delivers : {S : Type 0} (asks : Asking S) → BroughtIsDelivered asks
+brought_delivers asks = λ path retries old new w after steps came items ended H M low s run said here some back window at.
+    run_ended asks path retries new run.1 w run.0 after s steps came items ended H M
+    (came_delivers asks path retries old run.1 (restarted w) run.0 came H M low s run.2 said here some back window at) run.3 run.4
