@@ -5,11 +5,11 @@ use Rattle.std.proofs.lemmas.List.{length-append}
 use Rattle.std.specs.Str.{bytes_eq}
 use Rattle.std.proofs.lemmas.Slice.Eq.{bytes_eq-Decides}
 use Rattle.bac_apdu.specs.Apdu.{Apdu, Confirmed, Complex, Error, IsApdu, apdu_at, apdu_octets}
-use Rattle.bac_apdu.specs.Frame.{frame_octets}
+use Rattle.bac_apdu.specs.Frame.{frame_octets, unicast_head}
 use Rattle.bac_apdu.specs.Npdu.{Header, Place, control_of, header_octets, hops_octets, place_octets, HasHops, IsHeader, IsPlace}
 use Rattle.bac_apdu.specs.Route.{IsWay}
 use Rattle.bac_apdu.proofs.Heads.{frame_again, header_again, message_again}
-use Rattle.bac_link.specs.Datagrams.{carried_in, message_in, path_in, apdu_in, asked_id, answer_in, same_id, same_path, answers_to}
+use Rattle.bac_link.specs.Datagrams.{carried_in, message_in, apdu_in, asked_id, answer_in, same_id, answers_to}
 use Rattle.bac_link.specs.Path.{Path, AreWays, back, path_of, same_place, towards}
 use Rattle.bac_link.specs.Requests.{asking, hops_to, service_of, parameters_of, request_apdu, request_octets}
 use Rattle.bac_link.specs.Transactions.{is_awaited}
@@ -64,12 +64,21 @@ length-to_place place hops way =
       length-append (place_octets None) (hops_octets place hops),
     )
 
--- the frame of an APDU of 1476 octets fits
-pub frame_fits : (place : Option Place) (hops : ℕ) (old apdu : List ℕ) → IsWay place → old ≡ [] → length apdu ≤ 1476 → 1501 < length old + length (frame_octets (header_octets (to_place place hops) ++ apdu)) → ⊥
-frame_fits place hops old apdu way none small large =
-    let h : List ℕ = header_octets (to_place place hops) in
-    let zero : length old ≡ 0 = ap (λ (l : List ℕ). length l) none in
-    omega (arith, length-frame_octets (h ++ apdu), length-append h apdu, length-to_place place hops way, zero, large)
+-- the heads of a frame leave room for an APDU of 1476 octets
+pub heads_fit : (place : Option Place) (hops : ℕ) → IsWay place → length (unicast_head 0 ++ header_octets (to_place place hops)) ≤ 25
+heads_fit place hops way =
+    omega (arith, length-append (unicast_head 0) (header_octets (to_place place hops)), length-to_place place hops way)
+
+-- so what was begun in an empty datagram is short
+pub begun_short : (place : Option Place) (hops : ℕ) (old new : List ℕ) → IsWay place → old ≡ [] → new ≡ old ++ (unicast_head 0 ++ header_octets (to_place place hops)) → length new ≤ 25
+begun_short place hops old new way none is =
+    let heads : List ℕ = unicast_head 0 ++ header_octets (to_place place hops) in
+    omega (arith, ap (λ (l : List ℕ). length l) is, length-append old heads, ap (λ (l : List ℕ). length l) none, heads_fit place hops way)
+
+-- the invoke ID has one octet, whatever it is
+pub same_size : (invoke : ℕ) (r : Request) → length (request_apdu invoke r) ≡ length (request_apdu 0 r)
+unfolding request_apdu
+same_size invoke r = refl
 
 -- ---- what is read back
 

@@ -1,5 +1,5 @@
 -- What an exchange makes of what it heard.
-use Rattle.std.proofs.Common.{◌≡◌, ℕ, ◌+◌, ◌<◌, ◌≤◌, true, List, length, Option, None, ap, arith}
+use Rattle.std.proofs.Common.{◌≡◌, ℕ, ◌+◌, ◌≤◌, true, List, length, Option, None, ap, arith}
 use Rattle.std.specs.Option.{option_map}
 use Rattle.bac_apdu.specs.Npdu.{Place}
 use Rattle.bac_link.specs.Path.{Path, towards}
@@ -10,7 +10,6 @@ use Rattle.bac_log.specs.Ack.{log_buffer, read_range_service}
 use Rattle.bac_log.specs.TrendLog.{Log}
 use Rattle.bac_link.specs.declared.exchanges.Refusal.TheVariants as refusal
 use Rattle.bac_link.specs.declared.exchanges.Verdict.TheVariants.{Ack, Refused}
-use Rattle.bac_link.specs.declared.request.Request.{Request}
 use Rattle.bac_link.specs.Datagrams.{answers_to, apdu_in}
 use Rattle.bac_link.specs.Exchanges.{verdict_of}
 use Rattle.bac_link.specs.Links.{HasReply, IsUnknown, IsQuestion, question, reply_parameters, RisesBy}

@@ -3,7 +3,7 @@ use Rattle.std.specs.Prelude.{ℕ, Bool, false, ◌&&◌, ◌==◌, List, Option
 use Rattle.std.specs.Option.{option_map}
 use Rattle.bac_wire.specs.OptionChain.{◌>>=◌}
 use Rattle.bac_apdu.specs.Frame.{Frame, Unicast, Broadcast, Forwarded, Function, frame_at}
-use Rattle.bac_apdu.specs.Npdu.{Header, header_at}
+use Rattle.bac_apdu.specs.Npdu.{header_at}
 use Rattle.bac_apdu.specs.Apdu.{Apdu, apdu_at}
 use Rattle.bac_apdu.specs.Apdu as apdu
 use Rattle.bac_link.specs.Path.{Path, path_of, comes_back}

@@ -1,6 +1,6 @@
 -- By which other networks a message goes (clause 6.2.2): the place behind a router that it is for (DNET and DADR), and
 -- the place behind a router that it is from (SNET and SADR).
-use Rattle.std.specs.Prelude.{ℕ, Bool, true, false, not, ◌&&◌, ◌==◌, Option, Some, None}
+use Rattle.std.specs.Prelude.{Bool, true, false, not, ◌&&◌, ◌==◌, Option, Some, None}
 use Rattle.std.specs.Str.{bytes_eq}
 use Rattle.bac_apdu.specs.Npdu.{Header, Place, is_there}
 use Rattle.bac_apdu.specs.Route.{IsWay}

@@ -160,13 +160,13 @@ pub fn exchange<L: LogLink>(
     ensures kept { (id : Id) (extent : AnyExtent) →
         L.is_sure link.old (towards transactions.old.route) → AsksFor id extent request.now → L.keeps link.old link.new }
 {
-    let Ok(datagram) = transactions.begin(request) else {
+    let mut datagram = Datagram::new();
+    let Ok(()) = transactions.pass(request, &mut datagram) else {
         return Err(ExchangeFault::TooLong);
     };
     let tries = u16::from(transactions.retries()) + 1;
     for tried in 0..tries {
         if let Some(reply) = heard(link, datagram.octets()) {
-            transactions.close();
             return match judge(request, reply.octets()) {
                 Verdict::Ack => Ok(reply),
                 Verdict::Refused(refusal) => Err(ExchangeFault::Refused(refusal)),
@@ -174,6 +174,5 @@ pub fn exchange<L: LogLink>(
             };
         }
     }
-    transactions.close();
     Err(ExchangeFault::Lost)
 }

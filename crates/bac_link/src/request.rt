@@ -1,7 +1,8 @@
 //! Confirmed requests as datagrams.
 
-ghost use Rattle.std.specs.Prelude.{◌≡◌, ◌≤◌, ◌↔◌, length, IfOk, IsErr};
+ghost use Rattle.std.specs.Prelude.{◌≡◌, ◌↔◌, OnOk, IsErr};
 ghost use Rattle.bac_wire.specs.Datagram.{Writes};
+ghost use Rattle.bac_apdu.specs.Adding.{Adds};
 ghost use Rattle.bac_apdu.specs.Npdu.{maybe_place_of};
 ghost use Rattle.bac_apdu.specs.Route.{IsWay};
 ghost use Rattle.bac_link.specs.Path.{towards};
@@ -9,7 +10,7 @@ ghost use Rattle.bac_link.specs.Requests.{service_of, parameters_of, has_result 
 
 use bac_apdu::choice::{READ_PROPERTY, READ_RANGE, WRITE_PROPERTY};
 use bac_apdu::{
-    Apdu, Far, Npdu, ReadProperty, ReadRange, WriteProperty, write_apdu, write_datagram,
+    Apdu, Far, Npdu, ReadProperty, ReadRange, WriteProperty, begin_datagram, end_datagram, write_apdu,
 };
 use bac_wire::{Datagram, Full};
 
@@ -59,29 +60,23 @@ impl<'a> Request<'a> {
     }
 }
 
-#[tactic(auto, unfolding(crate::specs::Requests::request_apdu))]
-fn apdu_of(invoke: u8, request: &Request) -> Result<Datagram, Full>
+/// Appends the APDU of a request.
+#[tactic(auto, unfolding(crate::specs::Requests::request_apdu, bac_apdu::specs::Apdu::apdu_octets))]
+fn add_apdu(out: &mut Datagram, invoke: u8, request: &Request) -> Result<(), Full>
     requires { IsSendable request.now }
-    ensures ok { IfOk result (λ d. (d ≡ request_apdu invoke request.now) × (length d ≤ 1476)) }
-    ensures full { IsErr result ↔ IsTooLong request.now }
+    ensures { Adds out.old (request_apdu invoke request.now) result out.new }
 {
-    let mut parameters = Datagram::new();
-    request.write(&mut parameters)?;
-    let mut apdu = Datagram::new();
     write_apdu(
-        &mut apdu,
+        out,
         &Apdu::Confirmed {
             segmented: false,
             max_response: MAX_APDU as u16,
             invoke,
             service: request.service(),
-            parameters: parameters.octets(),
+            parameters: &[],
         },
     )?;
-    if apdu.octets().len() > MAX_APDU {
-        return Err(Full);
-    }
-    Ok(apdu)
+    request.write(out)
 }
 
 /// How many routers a request may pass (clause 6.2.3).
@@ -97,20 +92,20 @@ fn hops_to(dest: Option<Far>) -> u8
     }
 }
 
-/// The datagram that carries the request to one device: on this network, or at a place behind a
-/// router.
-#[tactic(auto, unfolding(crate::specs::Requests::request_octets, bac_apdu::specs::Frame::frame_octets))]
-pub(crate) fn datagram_of(
+/// Writes the datagram that carries the request to one device, in place of what `out` holds: on this
+/// network, or at a place behind a router. Nothing else is cleared or moved for it.
+#[tactic(auto, unfolding(crate::specs::Requests::request_octets))]
+pub(crate) fn write_request(
+    out: &mut Datagram,
     invoke: u8,
     dest: Option<Far>,
     request: &Request,
-) -> Result<Datagram, Full>
+) -> Result<(), Full>
     requires sendable { IsSendable request.now }
     requires way { IsWay (maybe_place_of dest) }
-    ensures ok { IfOk result (λ d. d ≡ request_octets (towards (maybe_place_of dest.entry)) invoke request.now) }
+    ensures ok { OnOk result (out.new ≡ request_octets (towards (maybe_place_of dest.entry)) invoke request.now) }
     ensures full { IsErr result ↔ IsTooLong request.now }
 {
-    let apdu = apdu_of(invoke, request)?;
     let npdu = Npdu {
         network: false,
         reply: true,
@@ -119,9 +114,16 @@ pub(crate) fn datagram_of(
         source: None,
         hops: hops_to(dest),
     };
-    let mut datagram = Datagram::new();
-    match write_datagram(&mut datagram, &npdu, apdu.octets()) {
-        Ok(()) => Ok(datagram),
+    out.cut(0);
+    match begin_datagram(out, &npdu) {
+        Ok(()) => {}
         Err(_) => unreachable!(),
     }
+    let heads = out.octets().len();
+    add_apdu(out, invoke, request)?;
+    if out.octets().len() - heads > MAX_APDU {
+        return Err(Full);
+    }
+    end_datagram(out, 0);
+    Ok(())
 }

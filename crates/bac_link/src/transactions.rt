@@ -1,6 +1,6 @@
 //! One transaction at a time (clause 5.4.4).
 
-ghost use Rattle.std.specs.Prelude.{◌≡◌, ◌↔◌, Some, None, IfOk, IsErr, OnErr};
+ghost use Rattle.std.specs.Prelude.{◌≡◌, ◌↔◌, Some, None, IfOk, IsErr, OnOk, OnErr};
 ghost use Rattle.bac_apdu.specs.Npdu.{maybe_place_of};
 ghost use Rattle.bac_apdu.specs.Route.{IsWay};
 ghost use Rattle.bac_link.specs.Path.{towards};
@@ -8,7 +8,7 @@ ghost use Rattle.bac_link.specs.Requests.{request_octets, next_invoke, IsSendabl
 ghost use Rattle.bac_link.specs.Transactions.{begun_with, closed, is_awaited as is_awaited_by, Receives, TimesOut};
 
 use crate::answer::{Answer, answer_in, answers};
-use crate::request::{Request, datagram_of};
+use crate::request::{Request, write_request};
 use bac_apdu::{Far, Route};
 use bac_wire::{Datagram, Full};
 
@@ -97,15 +97,32 @@ impl Transactions {
         ensures full { IsErr result ↔ IsTooLong request.now }
         ensures err { OnErr result (self.new ≡ self.old) }
     {
-        let invoke = self.invoke.wrapping_add(1);
-        let datagram = datagram_of(invoke, self.dest(), request)?;
-        self.invoke = invoke;
-        self.begun = self.begun.saturating_add(1);
+        let mut datagram = Datagram::new();
+        self.pass(request, &mut datagram)?;
         self.pending = Some(Pending {
             request: datagram.copy(),
             repeats: 0,
         });
         Ok(datagram)
+    }
+
+    /// Counts a request as begun and nothing as open, and writes its datagram in place of what `out`
+    /// holds: what `begin` and `close` do, without a copy of the datagram. After `Full` it isn't said
+    /// what `out` holds.
+    pub(crate) fn pass(&mut self, request: &Request, out: &mut Datagram) -> Result<(), Full>
+        requires { IsSendable request.now }
+        ensures datagram { OnOk result (out.new ≡ request_octets (towards self.old.route) (next_invoke self.old.invoke) request.now) }
+        ensures way { IsWay self.old.route }
+        ensures passed { OnOk result (self.new ≡ closed (begun_with request.now self.old)) }
+        ensures full { IsErr result ↔ IsTooLong request.now }
+        ensures err { OnErr result (self.new ≡ self.old) }
+    {
+        let invoke = self.invoke.wrapping_add(1);
+        write_request(out, invoke, self.dest(), request)?;
+        self.invoke = invoke;
+        self.begun = self.begun.saturating_add(1);
+        self.pending = None;
+        Ok(())
     }
 
     /// Takes a datagram that came: the answer to the open request, which closes it, or `Ignored`,
@@ -156,12 +173,5 @@ impl Transactions {
         ensures { result ≡ self.now.retries }
     {
         self.retries
-    }
-
-    /// Nothing is open any more.
-    pub(crate) fn close(&mut self)
-        ensures { self.new ≡ closed self.old }
-    {
-        self.pending = None;
     }
 }

@@ -81,7 +81,7 @@ loop-tried-preserved g c =
 pub returns-clause-honest : goal.returns-clause-honest
 returns-clause-honest g c = λ id r M H extent h asks.
     let i = c.loop-tried.invariant.honest id r M H extent h asks in
-    let kept = ap (λ (t : Transactions). t.retries) (c.in-Ok.ensures {u = tt}).opened in (
+    let kept = ap (λ (t : Transactions). t.retries) (c.in-Ok.ensures {u = tt}).passed in (
       (omega (arith, i.0, c.loop-tried.auto.tried-end, c.loop-tried-test.false, c.from-tries.ensures, c.retries.ensures, kept), i.1),
       λ s. omega (arith, i.2 s, c.loop-tried.auto.tried-end, c.loop-tried-test.false),
     )
@@ -89,7 +89,7 @@ returns-clause-honest g c = λ id r M H extent h asks.
 pub returns-clause-lacking : goal.returns-clause-lacking
 returns-clause-lacking g c = λ id extent h asks.
     let i = c.loop-tried.invariant.lacking id extent h asks in
-    let kept = ap (λ (t : Transactions). t.retries) (c.in-Ok.ensures {u = tt}).opened in (
+    let kept = ap (λ (t : Transactions). t.retries) (c.in-Ok.ensures {u = tt}).passed in (
       omega (arith, i.0, c.loop-tried.auto.tried-end, c.loop-tried-test.false, c.from-tries.ensures, c.retries.ensures, kept),
       i.1,
       λ s. omega (arith, i.2 s, c.loop-tried.auto.tried-end, c.loop-tried-test.false),
@@ -99,7 +99,7 @@ pub returns-in-Ack-clause-exchanges : goal.returns-in-Ack-clause-exchanges
 returns-in-Ack-clause-exchanges g c =
     let n = next_invoke c.args.transactions.now.invoke in
     let path = towards c.args.transactions.now.route in
-    let kept = ap (λ (t : Transactions). t.retries) (c.in-Ok.ensures {u = tt}).opened in
+    let kept = ap (λ (t : Transactions). t.retries) (c.in-Ok.ensures {u = tt}).passed in
     let sent : c.octets.result.now ≡ request_octets path n c.args.request.now = c.octets.ensures.value ∙ (c.in-Ok.ensures {u = tt}).datagram in
     let few : c.loop-tried.tried ≤ c.args.transactions.now.retries = omega (arith, c.loop-tried-test.true, c.from-tries.ensures, c.retries.ensures, kept) in
     let heard = c.in-Some.ensures {u = tt} in
@@ -111,7 +111,7 @@ pub returns-in-Refused-clause-exchanges : goal.returns-in-Refused-clause-exchang
 returns-in-Refused-clause-exchanges g c =
     let n = next_invoke c.args.transactions.now.invoke in
     let path = towards c.args.transactions.now.route in
-    let kept = ap (λ (t : Transactions). t.retries) (c.in-Ok.ensures {u = tt}).opened in
+    let kept = ap (λ (t : Transactions). t.retries) (c.in-Ok.ensures {u = tt}).passed in
     let sent : c.octets.result.now ≡ request_octets path n c.args.request.now = c.octets.ensures.value ∙ (c.in-Ok.ensures {u = tt}).datagram in
     let few : c.loop-tried.tried ≤ c.args.transactions.now.retries = omega (arith, c.loop-tried-test.true, c.from-tries.ensures, c.retries.ensures, kept) in
     let heard = c.in-Some.ensures {u = tt} in (
@@ -125,7 +125,7 @@ pub returns-in-BadReply-clause-exchanges : goal.returns-in-BadReply-clause-excha
 returns-in-BadReply-clause-exchanges g c =
     let n = next_invoke c.args.transactions.now.invoke in
     let path = towards c.args.transactions.now.route in
-    let kept = ap (λ (t : Transactions). t.retries) (c.in-Ok.ensures {u = tt}).opened in
+    let kept = ap (λ (t : Transactions). t.retries) (c.in-Ok.ensures {u = tt}).passed in
     let sent : c.octets.result.now ≡ request_octets path n c.args.request.now = c.octets.ensures.value ∙ (c.in-Ok.ensures {u = tt}).datagram in
     let few : c.loop-tried.tried ≤ c.args.transactions.now.retries = omega (arith, c.loop-tried-test.true, c.from-tries.ensures, c.retries.ensures, kept) in
     let heard = c.in-Some.ensures {u = tt} in (
@@ -137,7 +137,7 @@ returns-in-BadReply-clause-exchanges g c =
 
 pub returns-clause-exchanges : goal.returns-clause-exchanges
 returns-clause-exchanges g c =
-    let kept = ap (λ (t : Transactions). t.retries) (c.in-Ok.ensures {u = tt}).opened in
+    let kept = ap (λ (t : Transactions). t.retries) (c.in-Ok.ensures {u = tt}).passed in
     let all : c.loop-tried.tried ≡ c.args.transactions.now.retries + 1 =
     omega (arith, c.loop-tried.auto.tried-end, c.loop-tried-test.false, c.from-tries.ensures, c.retries.ensures, kept) in
     let P : ℕ → Type 0 = λ k. Unanswered g.L.LogLink.asks (request_octets (towards c.args.transactions.now.route) (next_invoke c.args.transactions.now.invoke) c.args.request.now) k c.args.link.now c.loop-tried.link in

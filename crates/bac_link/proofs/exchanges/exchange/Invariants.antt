@@ -6,13 +6,13 @@ use Rattle.bac_link.specs.Exchanges.{Unanswered}
 use Rattle.bac_link.specs.Links.{AsksFor, RisesBy}
 use Rattle.bac_link.specs.Path.{Path, towards}
 use Rattle.bac_link.specs.Requests.{next_invoke, request_octets}
-use Rattle.bac_link.specs.Transactions.{begun_with}
+use Rattle.bac_link.specs.Transactions.{begun_with, closed}
 use Rattle.bac_link.proofs.exchanges.exchange.Given as goal
 
 -- each try so far was lost and counted, and the link is where it was
 abbrev pub invariant-loop-tried : goal.invariant-loop-tried
 invariant-loop-tried g l = record {
-  begun : l.transactions ≡ begun_with l.fn.request l.fn.transactions;
+  begun : l.transactions ≡ closed (begun_with l.fn.request l.fn.transactions);
   unanswered : Unanswered g.L.LogLink.asks (request_octets (towards l.fn.transactions.route) (next_invoke l.fn.transactions.invoke) l.fn.request) l.tried l.fn.link l.link;
   never_falls : g.L.LogLink.failures l.fn.link ≤ g.L.LogLink.failures l.link;
   sure : (path : Path) → g.L.LogLink.is_sure l.fn.link path → g.L.LogLink.is_sure l.link path;
