@@ -1,12 +1,25 @@
-//! The client of a device: requests, links, ports and the walk of a trend log.
+//! The client of a device: the walk of a trend log, single requests, links and ports.
 //!
-//! This crate is the door: it has no code of its own, and re-exports what a tool needs. Requests,
-//! transactions and links are of bac_link, the walk of bac_walk, ports and links over them of
+//!     let port = UdpPort::open(rt, [0; 6], 3000).ok()?; // any port of this machine, 3 s a wait
+//!     let mut link = UdpLink::new(port, [192, 168, 1, 20, 0xba, 0xc0]); // the device, port 47808
+//!     let mut transactions = Transactions::new(3); // asked once, and three times more
+//!     let mut walk = Walk::from_number(ObjectId::new(20, 1)?, 5)?; // Trend Log 1, from number 5
+//!     let outcome = collect(alloc, &mut link, &mut transactions, &mut walk, 1000);
+//!     for item in outcome.items.iter() {
+//!         match *item {
+//!             Item::Gap { first, before } => {} // these are gone, up to the one before `before`
+//!             Item::Logged { number, entry } => {} // its value is entry.datum
+//!         }
+//!     }
+//!     // outcome.next is where the next walk begins, outcome.why is why this one ended
+//!
+//! This crate is the door: it has no code of its own, and re-exports what a tool needs. The walk is
+//! of bac_walk, requests, transactions and links of bac_link, ports and links over them of
 //! bac_ports, links in memory of bac_direct, and a network that repeats and reorders of bac_world.
-//! What their calls take and answer comes with them: identifiers, moments, datagrams and log entries.
+//! What their calls take and answer comes with them.
 #![tactic(auto)]
 
-pub use bac_apdu::{ReadProperty, Route, WriteProperty};
+pub use bac_apdu::{Apdu, Extent, ReadProperty, ReadRange, Route, WriteProperty};
 pub use bac_direct::{
     DirectLink, LinkEvent, RoutedLink, questions_are_the_devices, replies_are_the_devices,
 };
@@ -15,12 +28,12 @@ pub use bac_link::{
     Transactions, Verdict, answers, can_be_joined, can_be_resumed, delivers_each_once, exchange,
     judge, read_datagram,
 };
-pub use bac_log::Entry;
+pub use bac_log::{Datum, Entry};
 pub use bac_ports::{Heard, Port, SocketFault, UdpLink, UdpPort};
 pub use bac_walk::{
     BadReply, Batch, Ended, Gap, Numbered, Outcome, Progress, Sink, Step, Walk, WalkFault, Why,
     collect, collected_is_delivered, deliver, rest_resumes, rests_all, runs_deliver, runs_join,
     stop_and_resume, windows_are_near,
 };
-pub use bac_wire::{Datagram, ObjectId, Stamp, Value};
+pub use bac_wire::{Datagram, Date4, Full, ObjectId, Stamp, Time4, Value};
 pub use bac_world::{Memory, Packet, Side, World, WorldEvent, windows_stay_near, withstands_all};

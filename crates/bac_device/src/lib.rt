@@ -1,5 +1,15 @@
 //! A BACnet/IP device: it is built of lines, and answers datagrams.
 //!
+//!     let mut device = Device::build(alloc, &line, &lines).ok()?; // a DeviceLine, ObjectLines
+//!     let Heard { from, datagram } = port.receive().ok()?; // a port, as bac_client has them
+//!     let _ = device.advance(now); // each log that is due takes a sample
+//!     let mut reply = Datagram::new();
+//!     match device.answer_into(datagram?.octets(), &mut reply) {
+//!         Some(Receiver::Sender) => port.send(reply.octets(), from).ok()?,
+//!         Some(Receiver::Address(to)) => port.send(reply.octets(), to).ok()?, // Forwarded-NPDU
+//!         None => {} // it isn't answered
+//!     }
+//!
 //! [`Device::build`] makes a device of a [`DeviceLine`] and [`ObjectLine`]s, or tells the first
 //! fault ([`BuildFault`]). [`Device::handle`] takes a datagram and gives the [`Reply`], if there is
 //! one; [`Device::answer_into`] writes the same reply into a datagram of the caller.

@@ -24,7 +24,7 @@ pub use bac_script::{
     read_configuration_explained, run_replay, run_replay_explained,
 };
 pub use bac_serve::{Clock, SystemClock, serve, serve_one};
-pub use bac_words::{Addresses, Asked, Given, Job, Word, WordsFault, read_words};
+pub use bac_words::{Addresses, Asked, Given, Job, Name, Word, WordsFault, read_words};
 pub use fault::Fault;
 pub use program::run;
 pub use telling::tell;
