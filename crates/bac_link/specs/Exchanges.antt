@@ -91,15 +91,34 @@ Leaves r old (Ok datagram) new = new ≡ closed (begun_with r old)
 
 -- ---- over an honest link
 
--- the reply of the next moment, or Lost if the count of failures rose by more than the retries, and nothing else
-abbrev pub IsExchanged : (List Moment → Type 0) →
-    ℕ → List Moment → History → Id → Extent → Path → ℕ → ℕ → ℕ → Result (List ℕ) ExchangeFault → Type 0
-IsExchanged stays r M H id extent path retries old new (Ok datagram) =
-    ((invoke : ℕ) × IsReply r (now M) H id extent path invoke datagram) × stays (later M)
-IsExchanged stays r M H id extent path retries old new (Err fault.Lost) = RisesBy (retries + 1) old new × stays M
-IsExchanged stays r M H id extent path retries old new (Err (fault.Refused refusal)) = ⊥
-IsExchanged stays r M H id extent path retries old new (Err fault.BadReply) = ⊥
-IsExchanged stays r M H id extent path retries old new (Err fault.TooLong) = ⊥
+-- A question of a link that is honest: its replies have at most so many octets, and are given at these moments of a log
+-- with this history; the log, what is asked of it, and by which way.
+pub record HonestQuestion : Type 0 where
+  pub reply_size : ℕ
+  pub moments : List Moment
+  pub history : History
+  pub log : Id
+  pub extent : Extent
+  pub path : Path
+
+-- how many asks had failed before a call, and after it
+pub record Failures : Type 0 where
+  pub before : ℕ
+  pub after : ℕ
+
+-- a datagram is the reply of the next moment to it, under this invoke ID
+abbrev pub IsNextReply : HonestQuestion → ℕ → List ℕ → Type 0
+IsNextReply q invoke datagram = IsReply q.reply_size (now q.moments) q.history q.log q.extent q.path invoke datagram
+
+-- that reply, or Lost if the count of failures rose by more than the retries, and nothing else
+abbrev pub IsExchanged : (List Moment → Type 0) → HonestQuestion → ℕ → Failures → Result (List ℕ) ExchangeFault → Type 0
+IsExchanged stays q retries failures (Ok datagram) =
+    ((invoke : ℕ) × IsNextReply q invoke datagram) × stays (later q.moments)
+IsExchanged stays q retries failures (Err fault.Lost) =
+    RisesBy (retries + 1) failures.before failures.after × stays q.moments
+IsExchanged stays q retries failures (Err (fault.Refused refusal)) = ⊥
+IsExchanged stays q retries failures (Err fault.BadReply) = ⊥
+IsExchanged stays q retries failures (Err fault.TooLong) = ⊥
 
 -- over a link that lacks the log: it is refused as unknown, or Lost likewise
 abbrev pub IsExchangedOfNone : ℕ → ℕ → ℕ → Result (List ℕ) ExchangeFault → Type 0
@@ -129,11 +148,9 @@ IsTried {S = S} asks octets old None new =
     (answer : Result (List ℕ) Loss) × asks old octets answer new × IsNoAnswer octets answer
 
 -- over an honest link: the reply of the next moment, or a failure
-abbrev pub IsHeard : (List Moment → Type 0) →
-    ℕ → List Moment → History → Id → Extent → Path → ℕ → ℕ → ℕ → Option (List ℕ) → Type 0
-IsHeard stays r M H id extent path invoke old new (Some datagram) =
-    IsReply r (now M) H id extent path invoke datagram × stays (later M)
-IsHeard stays r M H id extent path invoke old new None = RisesBy 1 old new × stays M
+abbrev pub IsHeard : (List Moment → Type 0) → HonestQuestion → ℕ → Failures → Option (List ℕ) → Type 0
+IsHeard stays q invoke failures (Some datagram) = IsNextReply q invoke datagram × stays (later q.moments)
+IsHeard stays q invoke failures None = RisesBy 1 failures.before failures.after × stays q.moments
 
 -- over a link that lacks the log
 abbrev pub IsHeardOfNone : Path → ℕ → ℕ → ℕ → Option (List ℕ) → Type 0

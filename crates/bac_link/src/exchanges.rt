@@ -104,7 +104,9 @@ fn heard<L: LogLink>(link: &mut L, request: &[u8]) -> Option<Datagram>
     ensures tried { IsTried L.asks request.now link.old result link.new }
     ensures honest { (id : Id) (r : ℕ) (M : List Moment) (H : History) (extent : AnyExtent) (place : Option Place) (invoke : ℕ) →
         L.is_honest link.old id r M H → IsQuestion id extent (towards place) invoke request.now →
-        IsHeard (λ N. L.is_honest link.new id r N H) r M H id extent (towards place) invoke (L.failures link.old) (L.failures link.new) result
+        IsHeard (λ N. L.is_honest link.new id r N H)
+        (record { reply_size = r; moments = M; history = H; log = id; extent = extent; path = towards place }) invoke
+        (record { before = L.failures link.old; after = L.failures link.new }) result
         × (L.is_sure link.old (towards place) → IsSome result) }
     ensures lacking { (id : Id) (extent : AnyExtent) (place : Option Place) (invoke : ℕ) →
         L.lacks link.old id → IsQuestion id extent (towards place) invoke request.now →
@@ -147,8 +149,9 @@ pub fn exchange<L: LogLink>(
     // Over an honest link: the reply of the next moment, or Lost after more failures than retries.
     ensures honest { (id : Id) (r : ℕ) (M : List Moment) (H : History) (extent : AnyExtent) →
         L.is_honest link.old id r M H → AsksFor id extent request.now →
-        IsExchanged (λ N. L.is_honest link.new id r N H) r M H id extent (towards transactions.old.route)
-        transactions.old.retries (L.failures link.old) (L.failures link.new) result
+        IsExchanged (λ N. L.is_honest link.new id r N H)
+        (record { reply_size = r; moments = M; history = H; log = id; extent = extent; path = towards transactions.old.route })
+        transactions.old.retries (record { before = L.failures link.old; after = L.failures link.new }) result
         × (L.is_sure link.old (towards transactions.old.route) → IsNotLost result) }
     // Over a link without the log: the Error that says so, or Lost likewise.
     ensures lacking { (id : Id) (extent : AnyExtent) →
