@@ -40,12 +40,6 @@ same_object a b e = cc
 same_enumerated : (a b : ℕ) → Value (Enumerated a) ≡ Value (Enumerated b) → a ≡ b
 same_enumerated a b e = cc
 
-same_unsigned : (a b : ℕ) → Value (Unsigned a) ≡ Value (Unsigned b) → a ≡ b
-same_unsigned a b e = cc
-
-same_signed : (a b : ℤ) → Value (Signed a) ≡ Value (Signed b) → a ≡ b
-same_signed a b e = cc
-
 same_value : (a b : Primitive) → Value a ≡ Value b → a ≡ b
 same_value a b e = cc
 

@@ -36,14 +36,6 @@ greatest_some : (passes : ℕ → Bool) (most : ℕ) → passes 1 ≡ true → 0
 greatest_some passes zero e = rw e (omega arith)
 greatest_some passes (suc n) e = some_at (passes (suc (suc n))) (suc n) (greatest passes (suc n)) (greatest_some passes n e)
 
-greatest_within : (passes : ℕ → Bool) (most : ℕ) → greatest passes most ≤ most
-greatest_within passes zero = omega arith
-greatest_within passes (suc n) = at (passes (suc n)) (greatest_within passes n)
-  where
-    at : (b : Bool) → greatest passes n ≤ n → cond b (suc n) (greatest passes n) ≤ suc n
-    at true le = omega arith
-    at false le = omega (arith, le)
-
 -- ---- the records selected
 
 first_kept : (b : Bool) (test : HeldEntry → Bool) (first : ℕ) (e : Entry) (es : List Entry) (r : HeldEntry) (rs : List HeldEntry) → IsLoggable e

@@ -68,9 +68,6 @@ same_id a b e =
     let instance : a.instance ≡ b.instance = grind (arith, nat_tests) in
     ap (λ (n : ℕ). let x : Id = record { kind = n; instance = a.instance } in x) kind ∙ ap (λ (n : ℕ). let x : Id = record { kind = b.kind; instance = n } in x) instance
 
-id_same : (a : Id) → is_id a a ≡ true
-id_same a = grind (arith, nat_tests)
-
 pub apart : (a b k : Id) → is_id a b ≡ false → is_id b k ≡ true → is_id a k ≡ false
 apart a b k e h = let same : b ≡ k = same_id b k h in rw (← same) e
 

@@ -132,21 +132,11 @@ short_enough limit invoke m le = ap (λ (b : Bool). datagram_octets (cond b (abo
 
 -- ---- refusals of functions
 
-pub nak_is : (code : ℕ) → code < 256 → result_octets code ≡ nak_octets code
-nak_is code lt =
-    let high : code / 256 % 256 ≡ 0 = omega (arith, lt) in
-    let low : code % 256 ≡ code = omega (arith, lt) in
-    ap (λ (n : ℕ). 129 ∷ 0 ∷ 0 ∷ 6 ∷ n ∷ code % 256 ∷ []) high ∙ ap (λ (n : ℕ). 129 ∷ 0 ∷ 0 ∷ 6 ∷ 0 ∷ n ∷ []) low
-
 -- ---- replies
 
 abbrev said_to : Option Place → Option Apdu → List ℕ
 said_to place None = []
 said_to place (Some m) = datagram_to place m
-
-pub sent_octets : (to : Return) (said : Option Apdu) → reply_octets (option_map (reply to) said) ≡ said_to to.place said
-sent_octets to None = refl
-sent_octets to (Some m) = refl
 
 pub sent_to : (to : Return) (said : Option Apdu) → is_some said ≡ true → receiver_of (option_map (reply to) said) ≡ Some to.to
 sent_to to None e = absurd cc

@@ -181,10 +181,3 @@ sent_back d to to_all npdu heard out new e le some is back =
     let short : IsShort m.0 = subst (λ (o : Option Apdu). AreShort o) m.1 (said_short d heard.to_all heard.apdu le) in
     back m.0 short (is ∙ ap (λ (o : Option Apdu). said_octets o) m.1)
     ∙ sym (ap (λ (h : Option ReceivedApdu). reply_octets (answer_npdu d to h).0) e ∙ ap (λ (o : Option Apdu). reply_octets (option_map (reply (record { to = to; place = heard.source })) o)) m.1)
-
-pub none_back : (d : State) (to : Receiver) (to_all : Bool) (npdu : List ℕ) (heard : ReceivedApdu) (out : List ℕ) → heard_at to_all npdu ≡ Some heard
-    → is_some (answer_apdu d heard.to_all heard.apdu).0 ≡ false → out ≡ said_octets (answer_apdu d heard.to_all heard.apdu).0 → out ≡ reply_octets (answer_npdu d to (heard_at to_all npdu)).0
-none_back d to to_all npdu heard out e none is =
-    let n = none_of (answer_apdu d heard.to_all heard.apdu).0 none in
-    is ∙ ap (λ (o : Option Apdu). said_octets o) n
-    ∙ sym (ap (λ (h : Option ReceivedApdu). reply_octets (answer_npdu d to h).0) e ∙ ap (λ (o : Option Apdu). reply_octets (option_map (reply (record { to = to; place = heard.source })) o)) n)

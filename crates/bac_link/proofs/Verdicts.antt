@@ -41,9 +41,5 @@ pub honest_verdict : (r : ℕ) (log : Log) (id : Id) (extent : Extent) (path : P
     HasReply r log id extent path invoke datagram → verdict_of (question id extent) (apdu_in datagram) ≡ Ack
 honest_verdict r log id extent path invoke datagram h = ap (λ m. verdict_of (question id extent) (option_map (λ message. message.1) m)) h
 
-pub unknown_verdict : (id : Id) (extent : Extent) (path : Path) (invoke : ℕ) (datagram : List ℕ) →
-    IsUnknown path invoke datagram → verdict_of (question id extent) (apdu_in datagram) ≡ Refused (refusal.Error 1 31)
-unknown_verdict id extent path invoke datagram h = ap (λ m. verdict_of (question id extent) (option_map (λ message. message.1) m)) h
-
 pub rises_more : (k a b c : ℕ) → RisesBy k a b → RisesBy 1 b c → RisesBy (k + 1) a c
 rises_more k a b c p q = omega (arith, p, q)

@@ -45,9 +45,6 @@ done all out e fits = sym (all_fit all out (sym (append-nil out) ∙ e) fits)
 pub start : (all : List Primitive) (out : List ℕ) → out ≡ [] → out ++ values_octets all ≡ values_octets all
 start all out e = ap (λ (l : List ℕ). l ++ values_octets all) e
 
-pub start_short : (out : List ℕ) → out ≡ [] → length out < 1502
-start_short out e = omega (arith, ap (λ (l : List ℕ). length l) e)
-
 -- the same over the rest of a list
 
 module _ {X : Type 0} (f : X → Primitive) where

@@ -39,11 +39,6 @@ Follows-all H capacity m (c ∷ cs) few s =
       rises = record { oldest = omega (arith, one.rises.oldest, rest.rises.oldest); newest = omega (arith, one.rises.newest, rest.rises.newest) };
     }
 
-changed_all-append : (capacity : ℕ) (m : Moment) (xs ys : List Change) →
-    changed_all capacity m (xs ++ ys) ≡ changed_all capacity (changed_all capacity m xs) ys
-changed_all-append capacity m [] ys = refl
-changed_all-append capacity m (x ∷ xs) ys = changed_all-append capacity (changed capacity m x) xs ys
-
 pub Sound-now : (r : ℕ) (M : List Moment) (H : History) → AreServed r M H → Sound H (now M)
 Sound-now r [] H s = absurd (omega (arith, s.some))
 Sound-now r (m ∷ M) H s =

@@ -49,13 +49,6 @@ IsPaced-append why M s ((x ∷ b) ∷ xs) ys whole first rest =
     (let P : ℕ → Type 0 = λ n. IsPaced why (after_answers (length xs) (later M)) n ys in
     subst P (end_of-append s (x ∷ b) (items_of xs)) rest)
 
-IsPaced-whole : (why : Ended) (M : List Moment) (s : ℕ) (xs : List (List Item)) → IsWhole xs → IsPaced StepLimit M s xs → IsPaced why M s xs
-IsPaced-whole why M s [] whole h = tt
-IsPaced-whole why M s ([] ∷ []) whole h = absurd whole
-IsPaced-whole why M s ([] ∷ [] ∷ xs) whole h = absurd whole
-IsPaced-whole why M s ([] ∷ (x ∷ b) ∷ xs) whole h = (h.0, IsPaced-whole why (later (later M)) (end_of s (x ∷ b)) xs whole h.1)
-IsPaced-whole why M s ((x ∷ b) ∷ xs) whole h = IsPaced-whole why (later M) (end_of s (x ∷ b)) xs whole h
-
 -- the whole of a reply is of it in any run
 whole_of : (why : Ended) (xs ys : List Item) → xs ≡ ys → IsOfReply why xs ys
 whole_of CaughtUp xs ys is = is

@@ -111,11 +111,6 @@ rest_near r H m fresh s steps served near = λ i retries old new t items answers
 
 -- ---- a window
 
-some_later : (M : List Moment) → 0 < length M → 0 < length (later M)
-some_later [] some = some
-some_later (m ∷ []) some = omega arith
-some_later (m ∷ n ∷ M) some = omega arith
-
 -- moments of one log, all in the window
 pub record Windowed (H : History) (low : ℕ) (M : List Moment) : Type 0 where
   pub some : 0 < length M

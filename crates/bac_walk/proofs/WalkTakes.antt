@@ -18,9 +18,6 @@ use Rattle.bac_walk.specs.Replies.{fitting}
 pub fits_few : (w : WalkPlace) (f n : ℕ) → fits w f n ≡ true → n ≤ 100
 fits_few w f n e = leb-true n 100 (and_parts (nat_le n 100) _ e).0
 
-pub kept_whole : (kept es : List Entry) → kept ≡ take 100 es → length es ≤ 100 → kept ≡ es
-kept_whole kept es is few = is ∙ take_all 100 es few
-
 pub verdict-bring : (w : WalkPlace) (f count : ℕ) (es : List Entry) → 0 < length es → is_past w f ≡ false → count ≡ length es →
     fits w f (length es) ≡ true → verdict w (Some f) count es ≡ Bring f
 verdict-bring w f count [] some current same fitting = absurd (omega arith)
@@ -51,11 +48,6 @@ asked_verdict w es (Bring f) AskOldest after taken asks = absurd taken
 asked_verdict w es v (BatchOf b) after taken asks = absurd (cc)
 asked_verdict w es v CaughtUp after taken asks = absurd (cc)
 
-pub asked_next : (w : WalkPlace) (heard : Option AckParameters) (p : Progress) (after : WalkPlace) → IsTakenFrom w heard (Ok p) after →
-    asks_next (Ok p) ≡ true → after.next ≡ w.next
-asked_next w None p after taken asks = absurd taken
-asked_next w (Some h) p after taken asks = asked_verdict w h.entries (verdict w h.first h.count h.entries) p after taken asks
-
 -- the log stays
 log_of : (w : WalkPlace) (es : List Entry) (v : NextAct) (p : Progress) (after : WalkPlace) → IsTaken w es v (Ok p) after → after.log ≡ w.log
 log_of w es Refuse p after taken = absurd taken
@@ -68,7 +60,3 @@ log_of w es End (BatchOf b) after taken = absurd taken
 log_of w es (Bring f) AskOldest after taken = absurd taken
 log_of w es (Bring f) CaughtUp after taken = absurd taken
 log_of w es (Bring f) (BatchOf b) after taken = ap (λ (u : WalkPlace). u.log) taken.1
-
-pub log_kept : (w : WalkPlace) (heard : Option AckParameters) (p : Progress) (after : WalkPlace) → IsTakenFrom w heard (Ok p) after → after.log ≡ w.log
-log_kept w None p after taken = absurd taken
-log_kept w (Some h) p after taken = log_of w h.entries (verdict w h.first h.count h.entries) p after taken
