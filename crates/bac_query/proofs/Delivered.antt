@@ -56,7 +56,7 @@ not_stopped (Fault e) on = refl
 -- ---- what was written
 
 -- a front part of a text is one of a longer text, and stands after what was written before
-behind_first : (old mid new : Held) (text more : List ℕ) → Appends old mid text → AppendsPart mid new more → AppendsPart old new (text ++ more)
+pub behind_first : (old mid new : Held) (text more : List ℕ) → Appends old mid text → AppendsPart mid new more → AppendsPart old new (text ++ more)
 behind_first old mid new text more first (written, rest, split, appended) =
     (text ++ written, rest, ap (λ t. text ++ t) split ∙ sym (append_assoc text written rest), Appends-trans old mid new text written first appended)
 
@@ -64,7 +64,7 @@ part_of_longer : (old new : Held) (text more : List ℕ) → AppendsPart old new
 part_of_longer old new text more (written, rest, split, appended) =
     (written, rest ++ more, ap (λ t. t ++ more) split ∙ append_assoc written rest more, appended)
 
-kept_behind : (old mid new : Held) (text : List ℕ) → Appends old mid text → Keeps mid new → Appends old new text
+pub kept_behind : (old mid new : Held) (text : List ℕ) → Appends old mid text → Keeps mid new → Appends old new text
 kept_behind None mid new text first kept = tt
 kept_behind (Some xs) None new text first kept = absurd first
 kept_behind (Some xs) (Some ys) None text first kept = absurd kept

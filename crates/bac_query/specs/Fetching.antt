@@ -1,18 +1,23 @@
 -- What fetching the records of a trend log prints, over any link and any writer.
-use Rattle.std.specs.Prelude.{◌≡◌, ℕ, false, ◌*◌, ◌≤◌, ◌⊎◌, List, ◌++◌, length, Result, Ok, Err}
+use Rattle.std.specs.Prelude.{◌≡◌, ℕ, false, ◌+◌, ◌*◌, ◌<◌, ◌≤◌, ◌⊎◌, List, ◌++◌, length, Result, Ok, Err}
 use Rattle.std.specs.Io.KnownBytes.{Appends, Keeps}
 use Rattle.bac_log.specs.TrendLog.{sequence_number}
 use Rattle.bac_link.specs.Delivery.{History, Moment, DeliversTo}
+use Rattle.bac_link.specs.Path.{Path}
 use Rattle.bac_link.specs.declared.item.Item.{Item}
+use Rattle.bac_link.specs.declared.link.Lost.{Lost}
 use Rattle.bac_report.specs.Ends.{end_line}
 use Rattle.bac_report.specs.Items.{items_text}
-use Rattle.bac_walk.specs.Near.{StaysNear}
+use Rattle.bac_walk.specs.Came.{Came, Brought, AreSaidAt, NeverGoesBack, answers_of}
+use Rattle.bac_walk.specs.Collects.{IsCaughtUp}
+use Rattle.bac_walk.specs.Near.{AreInWindow, StaysNear}
 use Rattle.bac_walk.specs.Place.{WalkPlace}
 use Rattle.bac_walk.specs.Outcomes.{IsRunOf}
 use Rattle.bac_walk.specs.Sinks.{IsRun}
 use Rattle.bac_walk.specs.declared.outcome.Ended.{Ended}
-use Rattle.bac_walk.specs.declared.outcome.Ended.TheVariants.{StepLimit}
+use Rattle.bac_walk.specs.declared.outcome.Ended.TheVariants.{CaughtUp, StepLimit, Stopped}
 use Rattle.bac_walk.specs.declared.outcome.Why.{Why}
+use Rattle.bac_walk.specs.declared.outcome.Why.TheVariants as why
 use Rattle.bac_print.specs.Output.{AppendsPart}
 use Rattle.bac_query.specs.Reading.{Held}
 use Rattle.bac_query.specs.declared.fault.QueryFault.{QueryFault}
@@ -76,3 +81,53 @@ abbrev pub IsFetched : (ℕ → List Moment → History → Type 0) →
 IsFetched was retries old new before after n ended items =
     IsRun was (λ r M H. Unit {0}) retries old new before after n ended items
     × (length items ≤ 101 * n) × (ended ≡ StepLimit → n ≤ length items)
+
+-- ---- what came over the link
+
+-- The link after a run that left the walk here and ended for this. It is as the run left it; but if there was no memory
+-- for the lines of a reply, that reply came too, and the link is one step further than the lines.
+abbrev pub IsLeft : {S : Type 0} → (S → List ℕ → Result (List ℕ) Lost → S → Type 0) →
+    Path → ℕ → S → WalkPlace → S → Why → Type 0
+IsLeft asks path retries mid here new why.CaughtUp = new ≡ mid
+IsLeft asks path retries mid here new why.StepLimit = new ≡ mid
+IsLeft asks path retries mid here new (why.Fault fault) = new ≡ mid
+IsLeft asks path retries mid here new why.Memory =
+    (came : List Came) × (items : List Item) × (after : WalkPlace)
+    × Brought asks path retries mid here 1 came items Stopped after new
+
+-- What is told and printed of a run of n steps with these items: their lines and the end line, which says how that run
+-- ended. If a write was refused, it was that of lines of the items, or of the end line; if there was no memory for the
+-- end line, the lines of the items are there. The link was left for the reason that the end line gives, or as after
+-- whole steps.
+abbrev pub TellsRun : (Why → Type 0) → List Item → ℕ → ℕ → Ended → WalkPlace → Fetching → Held → Held → Type 0
+TellsRun left items steps n ended after (Ok fetched) old new =
+    IsEnd steps n ended after fetched.why fetched.next × left fetched.why
+    × Appends old new (items_text items ++ end_line fetched.why fetched.next)
+TellsRun left items steps n ended after (Err Write) old new =
+    ((n ≤ steps) × left why.StepLimit × AppendsPart old new (items_text items))
+    ⊎ ((cause : Why) × (next : ℕ) × IsEnd steps n ended after cause next × left cause
+    × AppendsPart old new (items_text items ++ end_line cause next))
+TellsRun left items steps n ended after (Err Memory) old new =
+    (cause : Why) × (next : ℕ) × IsEnd steps n ended after cause next × left cause × Appends old new (items_text items)
+TellsRun left items steps n ended after (Err (Exchange fault)) old new = ⊥
+
+-- If the replies that came say what one log holds at these moments, in order, and the log never goes back, all within
+-- half of the count, then the items are what it held from the walk's number on, or from its oldest record on.
+abbrev pub IsHeadline : WalkPlace → List Came → List Item → Ended → WalkPlace → Type 0
+IsHeadline walk came items ended after =
+    (H : History) (M : List Moment) (low s : ℕ) → AreSaidAt H M came → walk.next ≡ sequence_number s →
+    0 < length M → NeverGoesBack M → AreInWindow low M →
+    (walk.fresh ≡ false → (low ≤ s) × (s < low + 2147483648)) →
+    (b : ℕ) × (a : ℕ) × (t : ℕ) × (walk.fresh ≡ false → b ≡ s) × (after.next ≡ sequence_number t)
+    × DeliversTo H b items t M a × (ended ≡ CaughtUp → IsCaughtUp walk.fresh t M (answers_of came))
+
+-- Fetching from a place on, over any link: replies came, one after the other, from this link on; what is printed are the
+-- lines of the items that they brought, and the end of their run; and if they say what one log holds, those are the
+-- headline's.
+abbrev pub FetchesOver : {S : Type 0} → (S → List ℕ → Result (List ℕ) Lost → S → Type 0) →
+    Path → ℕ → S → WalkPlace → ℕ → Fetching → S → Held → Held → Type 0
+FetchesOver {S = S} asks path retries link walk steps result left old new =
+    (came : List Came) × (items : List Item) × (n : ℕ) × (ended : Ended) × (after : WalkPlace) × (mid : S)
+    × Brought asks path retries link walk n came items ended after mid
+    × TellsRun (λ cause. IsLeft asks path retries mid after left cause) items steps n ended after result old new
+    × IsHeadline walk came items ended after

@@ -7,10 +7,11 @@ ghost use Rattle.bac_report.specs.Ends.{end_line};
 ghost use Rattle.bac_report.specs.Items.{items_text};
 ghost use Rattle.bac_link.specs.Path.{towards};
 ghost use Rattle.bac_walk.specs.Place.{WalkPlace};
+ghost use Rattle.bac_walk.specs.Came.{Brought, Came};
 ghost use Rattle.bac_walk.specs.Sinks.{IsRun};
 ghost use Rattle.bac_walk.specs.Told.{Told};
 ghost use Rattle.bac_walk.specs.declared.outcome.Ended.{Ended as EndedOf};
-ghost use Rattle.bac_query.specs.Fetching.{Delivers, EndsAs, IsFetched, PrintsEnd, PrintsItems};
+ghost use Rattle.bac_query.specs.Fetching.{Delivers, EndsAs, FetchesOver, IsFetched, PrintsEnd, PrintsItems};
 ghost use Rattle.bac_query.specs.Reading.{Prints};
 
 use crate::fault::QueryFault;
@@ -44,11 +45,15 @@ pub fn fetch_log<L: LogLink, W: Write>(
 ) -> Result<Fetched, QueryFault>
     // What is printed are the lines of items, and the line that says how their run ended: so many
     // steps, or what the last exchange told. Over an honest link the items are what the log holds.
-    ensures { (items : List Item) × PrintsItems items result (W.contents out.old) (W.contents out.new)
+    ensures printed { (items : List Item) × PrintsItems items result (W.contents out.old) (W.contents out.new)
         × Delivers (λ r M H. L.is_honest link.old walk.log r M H) walk steps items result
         × ((n : ℕ) × (ended : EndedOf) × (after : WalkPlace) × EndsAs items steps n ended after result (W.contents out.old) (W.contents out.new)
         × IsFetched (λ r M H. L.is_honest link.old walk.log r M H) transactions.old.retries (L.failures link.old) (L.failures link.new) walk after n ended items
         × Told L.asks (towards transactions.old.route) transactions.old.retries ended after link.new) }
+    // Over any link, whoever answers, they are the lines of what the replies brought that came over
+    // it from here on; and if these say what one log holds, of what it held.
+    ensures came { FetchesOver L.asks (towards transactions.old.route) transactions.old.retries
+        link.old walk steps result link.new (W.contents out.old) (W.contents out.new) }
 {
     let mut lines = Lines {
         text: Vec::new(alloc),
@@ -83,6 +88,9 @@ fn deliver_lines<L: LogLink>(
         × IsRun (λ r M H. L.is_honest link.old walk.old.log r M H) (λ r M H. L.is_honest link.new walk.old.log r M H)
         transactions.old.retries (L.failures link.old) (L.failures link.new) walk.old walk.new 1 result items
         × (length items ≤ 101) × (result ≡ Ended.StepLimit → 1 ≤ length items) }
+    ensures came { (items : List Item) × (result ≢ Ended.Stopped → lines.new.text.items ≡ items_text items)
+        × ((came : List Came) × Brought L.asks (towards transactions.old.route) transactions.old.retries
+        link.old walk.old 1 came items result walk.new link.new) }
 {
     lines.text.clear();
     deliver(link, transactions, walk, 1, lines)

@@ -21,3 +21,14 @@ returns-clause-step g c =
       omega (arith, put_length d.0, d.2, d.3),
       λ limit. omega (arith, put_length d.0, d.5 limit),
     )
+
+pub returns-clause-came : goal.returns-clause-came
+returns-clause-came g c =
+    let b = c.deliver.ensures.brought in
+    let sink : Lines = record { text = c.clear.new.self } in
+    let P : Bool → Type 0 = λ x. Takes (λ s gap item taken t. Puts text_of s gap item taken t) sink b.0 x c.deliver.new.sink in (
+      put_items b.0,
+      λ on. all_put text_of sink b.0 c.deliver.new.sink (subst P (not_stopped c.deliver.result on) b.1)
+          ∙ ap (λ l. l ++ items_text (put_items b.0)) c.clear.ensures.items,
+      b.4,
+    )

@@ -8,21 +8,28 @@ use Rattle.bac_walk.specs.declared.outcome.Ended.{Ended}
 use Rattle.bac_walk.specs.declared.outcome.Ended.TheVariants.{StepLimit}
 use Rattle.bac_walk.specs.declared.outcome.Why.TheVariants as why
 use Rattle.bac_link.specs.Path.{towards}
+use Rattle.bac_walk.specs.Came.{Came, Brought}
 use Rattle.bac_walk.specs.Outcomes.{why_of}
+use Rattle.bac_walk.specs.declared.outcome.Why.{Why}
+use Rattle.bac_walk.proofs.Joined.{brought_early, brought_joins, no_brought}
 use Rattle.bac_walk.proofs.Runs.{ends_run, goes_on, no_run, not_limit}
 use Rattle.bac_walk.proofs.Told.{told_same}
-use Rattle.bac_query.specs.Fetching.{EndsAs, Fetching, NextIs, PrintsItems}
+use Rattle.bac_query.specs.Fetching.{EndsAs, Fetching, IsLeft, NextIs, PrintsItems, TellsRun}
 use Rattle.bac_query.proofs.Delivered.{delivered, ended_by, ends_as, ends_refused, fetched, more_lines, next_is, not_stopped, refused_by, run_on, run_whole}
+use Rattle.bac_query.proofs.CameOver.{brought_same, fetches_over, left_whole, tells_end, tells_refused}
 use Rattle.bac_query.proofs.fetching.fetch_log.Goals as goal
 
 pub loop-done-init : goal.loop-done-init
 loop-done-init g c =
     let was : ℕ → List Moment → History → Type 0 = λ r M H. g.L.LogLink.is_honest c.args.link.now c.args.walk.log r M H in
-    ([], refl, refl, omega arith, Appends-nil _, no_run was c.args.transactions.now.retries (g.L.LogLink.failures c.args.link.now) c.args.walk, refl, omega arith, omega arith)
+    record {
+      printed = ([], refl, refl, omega arith, Appends-nil _, no_run was c.args.transactions.now.retries (g.L.LogLink.failures c.args.link.now) c.args.walk, refl, omega arith, omega arith);
+      came = ([], Appends-nil _, no_brought g.L.LogLink.asks (towards c.args.transactions.now.route) c.args.transactions.now.retries c.args.link.now c.args.walk);
+    }
 
-pub returns-in-Stopped : goal.returns-in-Stopped
-returns-in-Stopped g c =
-    let v = c.loop-done.invariant in
+pub returns-in-Stopped-clause-printed : goal.returns-in-Stopped-clause-printed
+returns-in-Stopped-clause-printed g c =
+    let v = c.loop-done.invariant.printed in
     let was : ℕ → List Moment → History → Type 0 = λ r M H. g.L.LogLink.is_honest c.args.link.now c.args.walk.log r M H in
     let is : ℕ → List Moment → History → Type 0 = λ r M H. g.L.LogLink.is_honest c.loop-done.link c.args.walk.log r M H in (
       v.0,
@@ -41,9 +48,9 @@ returns-in-Stopped g c =
       ),
     )
 
-pub returns-in_err-print : goal.returns-in_err-print
-returns-in_err-print g c =
-    let v = c.loop-done.invariant in
+pub returns-in_err-print-clause-printed : goal.returns-in_err-print-clause-printed
+returns-in_err-print-clause-printed g c =
+    let v = c.loop-done.invariant.printed in
     let step = c.deliver_lines.ensures.step in
     let was : Id → ℕ → List Moment → History → Type 0 = λ id r M H. g.L.LogLink.is_honest c.args.link.now id r M H in
     let mid : Id → ℕ → List Moment → History → Type 0 = λ id r M H. g.L.LogLink.is_honest c.loop-done.link id r M H in
@@ -75,9 +82,9 @@ returns-in_err-print g c =
       ),
     )
 
-pub returns-in-Some : goal.returns-in-Some
-returns-in-Some g c =
-    let v = c.loop-done.invariant in
+pub returns-in-Some-clause-printed : goal.returns-in-Some-clause-printed
+returns-in-Some-clause-printed g c =
+    let v = c.loop-done.invariant.printed in
     let step = c.deliver_lines.ensures.step in
     let was : Id → ℕ → List Moment → History → Type 0 = λ id r M H. g.L.LogLink.is_honest c.args.link.now id r M H in
     let mid : Id → ℕ → List Moment → History → Type 0 = λ id r M H. g.L.LogLink.is_honest c.loop-done.link id r M H in
@@ -110,7 +117,7 @@ returns-in-Some g c =
 
 pub loop-done-preserved : goal.loop-done-preserved
 loop-done-preserved g c =
-    let v = c.loop-done.invariant in
+    let v = c.loop-done.invariant.printed in
     let step = c.deliver_lines.ensures.step in
     let was : Id → ℕ → List Moment → History → Type 0 = λ id r M H. g.L.LogLink.is_honest c.args.link.now id r M H in
     let mid : Id → ℕ → List Moment → History → Type 0 = λ id r M H. g.L.LogLink.is_honest c.loop-done.link id r M H in
@@ -121,21 +128,37 @@ loop-done-preserved g c =
     c.args.walk c.loop-done.walk c.deliver_lines.new.walk c.loop-done.done c.deliver_lines.result v.0 step.0 v.1 v.2 v.3 v.5 step.2 in
     let limit = goes_on c.deliver_lines.result (sym c.why.ensures ∙ c.in_default-why.is) in
     let P : Ended → Type 0 = λ e. IsRun (was c.args.walk.log) (is c.args.walk.log) c.args.transactions.now.retries
-    (g.L.LogLink.failures c.args.link.now) (g.L.LogLink.failures c.deliver_lines.new.link) c.args.walk c.deliver_lines.new.walk (c.loop-done.done + 1) e (v.0 ++ step.0) in (
-      v.0 ++ step.0,
-      c.deliver_lines.ensures.log ∙ v.1,
-      c.deliver_lines.ensures.retries ∙ v.2,
-      omega (arith, v.3, c.deliver_lines.ensures.never_falls),
-      more_lines v.0 step.0 c.deref.result.now _ _ _ same v.4 c.in_ok-print.ensures,
-      subst P limit run,
-      c.deliver_lines.ensures.route ∙ v.6,
-      omega (arith, length-append v.0 step.0, v.7, step.3),
-      omega (arith, length-append v.0 step.0, v.8, step.4 limit),
-    )
+    (g.L.LogLink.failures c.args.link.now) (g.L.LogLink.failures c.deliver_lines.new.link) c.args.walk c.deliver_lines.new.walk (c.loop-done.done + 1) e (v.0 ++ step.0) in
+    let w = c.loop-done.invariant.came in
+    let bring = c.deliver_lines.ensures.came in
+    let joined = brought_joins g.L.LogLink.asks (towards c.args.transactions.now.route) c.args.transactions.now.retries c.args.link.now c.loop-done.link c.deliver_lines.new.link
+    c.args.walk c.loop-done.walk c.deliver_lines.new.walk c.loop-done.done 1 w.0 bring.0 c.deliver_lines.result w.2
+    (brought_same g.L.LogLink.asks (towards c.args.transactions.now.route) (towards c.loop-done.transactions.route) c.args.transactions.now.retries c.loop-done.transactions.retries
+    c.loop-done.link c.deliver_lines.new.link c.loop-done.walk c.deliver_lines.new.walk 1 bring.0 c.deliver_lines.result (ap towards v.6) v.2 bring.2) in
+    let B : Ended → Type 0 = λ e. (came : List Came) × Brought g.L.LogLink.asks (towards c.args.transactions.now.route) c.args.transactions.now.retries
+    c.args.link.now c.args.walk (c.loop-done.done + 1) came (w.0 ++ bring.0) e c.deliver_lines.new.walk c.deliver_lines.new.link in
+    record {
+      printed = (
+        v.0 ++ step.0,
+        c.deliver_lines.ensures.log ∙ v.1,
+        c.deliver_lines.ensures.retries ∙ v.2,
+        omega (arith, v.3, c.deliver_lines.ensures.never_falls),
+        more_lines v.0 step.0 c.deref.result.now _ _ _ same v.4 c.in_ok-print.ensures,
+        subst P limit run,
+        c.deliver_lines.ensures.route ∙ v.6,
+        omega (arith, length-append v.0 step.0, v.7, step.3),
+        omega (arith, length-append v.0 step.0, v.8, step.4 limit),
+      );
+      came = (
+        w.0 ++ bring.0,
+        more_lines w.0 bring.0 c.deref.result.now _ _ _ (c.deref.ensures.value ∙ bring.1 c.in_default.not-Stopped) w.1 c.in_ok-print.ensures,
+        subst B limit joined,
+      );
+    }
 
-pub returns : goal.returns
-returns g c =
-    let v = c.loop-done.invariant in
+pub returns-clause-printed : goal.returns-clause-printed
+returns-clause-printed g c =
+    let v = c.loop-done.invariant.printed in
     let was : ℕ → List Moment → History → Type 0 = λ r M H. g.L.LogLink.is_honest c.args.link.now c.args.walk.log r M H in
     let is : ℕ → List Moment → History → Type 0 = λ r M H. g.L.LogLink.is_honest c.loop-done.link c.args.walk.log r M H in (
       v.0,
@@ -153,3 +176,66 @@ returns g c =
         tt,
       ),
     )
+
+-- ---- what came
+
+pub returns-in-Stopped-clause-came : goal.returns-in-Stopped-clause-came
+returns-in-Stopped-clause-came g c =
+    let v = c.loop-done.invariant.printed in
+    let w = c.loop-done.invariant.came in
+    let bring = c.deliver_lines.ensures.came in
+    let one = brought_same g.L.LogLink.asks (towards c.args.transactions.now.route) (towards c.loop-done.transactions.route) c.args.transactions.now.retries c.loop-done.transactions.retries
+    c.loop-done.link c.deliver_lines.new.link c.loop-done.walk c.deliver_lines.new.walk 1 bring.0 c.deliver_lines.result (ap towards v.6) v.2 bring.2 in
+    let B : Ended → Type 0 = λ e. Brought g.L.LogLink.asks (towards c.args.transactions.now.route) c.args.transactions.now.retries c.loop-done.link c.loop-done.walk 1 one.0 bring.0 e c.deliver_lines.new.walk c.deliver_lines.new.link in
+    fetches_over g.L.LogLink.asks (towards c.args.transactions.now.route) c.args.transactions.now.retries c.args.link.now c.loop-done.link c.deliver_lines.new.link c.args.walk c.loop-done.walk
+    c.args.steps c.loop-done.done w.0 StepLimit c.end.result (g.W.Write.contents c.args.out.now) (g.W.Write.contents c.end.new.out) w.2
+    (tells_end (λ cause. IsLeft g.L.LogLink.asks (towards c.args.transactions.now.route) c.args.transactions.now.retries c.loop-done.link c.loop-done.walk c.deliver_lines.new.link cause)
+    w.0 c.args.steps c.loop-done.done StepLimit c.loop-done.walk why.Memory c.next_number-before.result c.end.result _ _ _ (omega arith, refl) c.next_number-before.ensures.next
+    (one.0, bring.0, c.deliver_lines.new.walk, subst B c.in-Stopped.is one.1) w.1 c.end.ensures)
+
+pub returns-in_err-print-clause-came : goal.returns-in_err-print-clause-came
+returns-in_err-print-clause-came g c =
+    let v = c.loop-done.invariant.printed in
+    let w = c.loop-done.invariant.came in
+    let bring = c.deliver_lines.ensures.came in
+    let joined = brought_joins g.L.LogLink.asks (towards c.args.transactions.now.route) c.args.transactions.now.retries c.args.link.now c.loop-done.link c.deliver_lines.new.link
+    c.args.walk c.loop-done.walk c.deliver_lines.new.walk c.loop-done.done 1 w.0 bring.0 c.deliver_lines.result w.2
+    (brought_same g.L.LogLink.asks (towards c.args.transactions.now.route) (towards c.loop-done.transactions.route) c.args.transactions.now.retries c.loop-done.transactions.retries
+    c.loop-done.link c.deliver_lines.new.link c.loop-done.walk c.deliver_lines.new.walk 1 bring.0 c.deliver_lines.result (ap towards v.6) v.2 bring.2) in
+    let e : c.from_residual.result ≡ Err c.in_err-print.field-0.0 = search rules in
+    let left : Why → Type 0 = λ cause. IsLeft g.L.LogLink.asks (towards c.args.transactions.now.route) c.args.transactions.now.retries c.deliver_lines.new.link c.deliver_lines.new.walk c.deliver_lines.new.link cause in
+    let T : Fetching → Type 0 = λ r. TellsRun left (w.0 ++ bring.0) c.args.steps (c.loop-done.done + 1) c.deliver_lines.result c.deliver_lines.new.walk r
+    (g.W.Write.contents c.args.out.now) (g.W.Write.contents c.print.new.out) in
+    fetches_over g.L.LogLink.asks (towards c.args.transactions.now.route) c.args.transactions.now.retries c.args.link.now c.deliver_lines.new.link c.deliver_lines.new.link c.args.walk c.deliver_lines.new.walk
+    c.args.steps (c.loop-done.done + 1) (w.0 ++ bring.0) c.deliver_lines.result c.from_residual.result (g.W.Write.contents c.args.out.now) (g.W.Write.contents c.print.new.out) joined
+    (subst T (sym e) (tells_refused left w.0 bring.0 c.deref.result.now c.args.steps (c.loop-done.done + 1) c.deliver_lines.result c.deliver_lines.new.walk c.in_err-print.field-0.0
+    _ _ _ (omega arith) refl (c.deref.ensures.value ∙ bring.1 c.in_default.not-Stopped) w.1 c.in_err-print.ensures))
+
+pub returns-in-Some-clause-came : goal.returns-in-Some-clause-came
+returns-in-Some-clause-came g c =
+    let v = c.loop-done.invariant.printed in
+    let w = c.loop-done.invariant.came in
+    let bring = c.deliver_lines.ensures.came in
+    let joined = brought_joins g.L.LogLink.asks (towards c.args.transactions.now.route) c.args.transactions.now.retries c.args.link.now c.loop-done.link c.deliver_lines.new.link
+    c.args.walk c.loop-done.walk c.deliver_lines.new.walk c.loop-done.done 1 w.0 bring.0 c.deliver_lines.result w.2
+    (brought_same g.L.LogLink.asks (towards c.args.transactions.now.route) (towards c.loop-done.transactions.route) c.args.transactions.now.retries c.loop-done.transactions.retries
+    c.loop-done.link c.deliver_lines.new.link c.loop-done.walk c.deliver_lines.new.walk 1 bring.0 c.deliver_lines.result (ap towards v.6) v.2 bring.2) in
+    let some : why_of c.deliver_lines.result ≡ Some c.in-Some.why = sym c.why.ensures ∙ c.in-Some.is in
+    let on = not_stopped c.deliver_lines.result c.in_default.not-Stopped in
+    fetches_over g.L.LogLink.asks (towards c.args.transactions.now.route) c.args.transactions.now.retries c.args.link.now c.deliver_lines.new.link c.deliver_lines.new.link c.args.walk c.deliver_lines.new.walk
+    c.args.steps c.args.steps (w.0 ++ bring.0) c.deliver_lines.result c.end-in-Some.result (g.W.Write.contents c.args.out.now) (g.W.Write.contents c.end-in-Some.new.out)
+    (brought_early g.L.LogLink.asks (towards c.args.transactions.now.route) c.args.transactions.now.retries c.args.link.now c.deliver_lines.new.link c.args.walk c.deliver_lines.new.walk (c.loop-done.done + 1) c.args.steps
+    (w.0 ++ bring.0) c.deliver_lines.result (not_limit c.deliver_lines.result c.in-Some.why some) (omega arith) joined)
+    (tells_end (λ cause. IsLeft g.L.LogLink.asks (towards c.args.transactions.now.route) c.args.transactions.now.retries c.deliver_lines.new.link c.deliver_lines.new.walk c.deliver_lines.new.link cause)
+    (w.0 ++ bring.0) c.args.steps c.args.steps c.deliver_lines.result c.deliver_lines.new.walk c.in-Some.why c.next_number.result c.end-in-Some.result _ _ _
+    (ends_run c.deliver_lines.result c.in-Some.why c.args.steps on some) c.next_number.ensures.next
+    (left_whole g.L.LogLink.asks (towards c.args.transactions.now.route) c.args.transactions.now.retries c.deliver_lines.new.link c.deliver_lines.new.walk c.deliver_lines.result c.in-Some.why on some)
+    (more_lines w.0 bring.0 c.deref.result.now _ _ _ (c.deref.ensures.value ∙ bring.1 c.in_default.not-Stopped) w.1 c.in_ok-print.ensures) c.end-in-Some.ensures)
+
+pub returns-clause-came : goal.returns-clause-came
+returns-clause-came g c =
+    let w = c.loop-done.invariant.came in
+    fetches_over g.L.LogLink.asks (towards c.args.transactions.now.route) c.args.transactions.now.retries c.args.link.now c.loop-done.link c.loop-done.link c.args.walk c.loop-done.walk
+    c.args.steps c.loop-done.done w.0 StepLimit c.end-2.result (g.W.Write.contents c.args.out.now) (g.W.Write.contents c.end-2.new.out) w.2
+    (tells_end (λ cause. IsLeft g.L.LogLink.asks (towards c.args.transactions.now.route) c.args.transactions.now.retries c.loop-done.link c.loop-done.walk c.loop-done.link cause)
+    w.0 c.args.steps c.loop-done.done StepLimit c.loop-done.walk why.StepLimit c.next_number-2.result c.end-2.result _ _ _ (omega arith, refl) c.next_number-2.ensures.next refl w.1 c.end-2.ensures)

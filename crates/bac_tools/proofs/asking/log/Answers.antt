@@ -3,7 +3,7 @@ use Rattle.bac_tools.proofs.asking.log.Goals as goal
 
 pub returns-in-Ok : goal.returns-in-Ok
 returns-in-Ok g c =
-    let (items, prints, delivers, run) = c.fetch_log.ensures in
+    let (items, prints, delivers, run) = c.fetch_log.ensures.printed in
     inr (
       c.in_ok-link.field-0,
       items,
