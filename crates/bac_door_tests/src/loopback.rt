@@ -43,6 +43,8 @@ impl Port for Served {
 
     ghost receives = { λ old answer new. Unit {0} };
 
+    ghost receives_within = { λ old wait answer new. Unit {0} };
+
     fn send(&mut self, octets: &[u8], to: [u8; 6]) -> Result<(), SocketFault> {
         self.client.send(octets, to)?;
         self.serve()
@@ -50,6 +52,10 @@ impl Port for Served {
 
     fn receive(&mut self) -> Result<Heard, SocketFault> {
         self.client.receive()
+    }
+
+    fn receive_within(&mut self, wait_ms: u32) -> Result<Heard, SocketFault> {
+        self.client.receive_within(wait_ms)
     }
 }
 

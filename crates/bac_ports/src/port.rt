@@ -35,11 +35,20 @@ pub trait Port {
     /// What a receive is: the port before it, the answer, the port after it.
     ghost receives: { Self → Receiving → Self → Type 0 };
 
+    /// What a receive with a wait of its own is: the port before it, the wait in milliseconds, the
+    /// answer, the port after it.
+    ghost receives_within: { Self → ℕ → Receiving → Self → Type 0 };
+
     /// Sends octets to an address, as one datagram.
     fn send(&mut self, octets: &[u8], to: [u8; 6]) -> Result<(), SocketFault>
         ensures { sends self.old octets.now to result self.new };
 
-    /// Waits for the next datagram, from anyone.
+    /// Waits for the next datagram, from anyone, as long as the port waits.
     fn receive(&mut self) -> Result<Heard, SocketFault>
         ensures { receives self.old result self.new };
+
+    /// Waits so many milliseconds at most for the next datagram, from anyone; with 0 it takes one
+    /// that is already there.
+    fn receive_within(&mut self, wait_ms: u32) -> Result<Heard, SocketFault>
+        ensures { receives_within self.old wait_ms result self.new };
 }

@@ -21,6 +21,8 @@ pub struct UdpPort {
     opened_at: [u8; 6],
     /// How many milliseconds a receive waits at most; without limit at 0.
     wait: u32,
+    /// How many the socket waits now, which a receive with a wait of its own has changed.
+    set_to: u32,
     buffer: [u8; BUFFER],
 }
 
@@ -35,6 +37,7 @@ impl UdpPort {
                 socket,
                 opened_at: local,
                 wait: timeout_ms,
+                set_to: timeout_ms,
                 buffer: [0; BUFFER],
             }),
             Err(_) => Err(SocketFault::Failed),
@@ -48,14 +51,57 @@ impl UdpPort {
             Err(_) => None,
         }
     }
+
+    /// Has the socket wait so many milliseconds from now on, without limit at 0.
+    fn set_wait(&mut self, wait_ms: u32) -> io::Result<()> {
+        if wait_ms != self.set_to {
+            self.socket.set_read_timeout(waiting(wait_ms))?;
+            self.set_to = wait_ms;
+        }
+        Ok(())
+    }
+
+    /// Takes the next datagram.
+    fn take(&mut self) -> Result<Heard, SocketFault> {
+        // A signal ends a wait, as one that stopped the program and let it go on: it waits anew.
+        for _ in 0..u64::MAX {
+            match self.socket.recv_from(&mut self.buffer) {
+                Ok((len, sender)) => return heard(&self.buffer[..len], sender),
+                Err(error) => match error.kind() {
+                    ErrorKind::Interrupted => {}
+                    ErrorKind::WouldBlock => return Err(SocketFault::Timeout),
+                    _ => return Err(SocketFault::Failed),
+                },
+            }
+        }
+        Err(SocketFault::Failed)
+    }
+
+    /// Takes a datagram that is already there.
+    fn take_waiting(&mut self) -> Result<Heard, SocketFault> {
+        if self.socket.set_nonblocking(true).is_err() {
+            return Err(SocketFault::Failed);
+        }
+        let taken = self.take();
+        match self.socket.set_nonblocking(false) {
+            Ok(()) => taken,
+            Err(_) => Err(SocketFault::Failed),
+        }
+    }
 }
 
 fn socket_at<R: Net>(rt: &R, local: [u8; 6], timeout_ms: u32) -> io::Result<UdpSocket> {
     let socket = UdpSocket::bind(rt, address_of(local))?;
-    if timeout_ms != 0 {
-        socket.set_read_timeout(Some(Duration::from_millis(u64::from(timeout_ms))))?;
-    }
+    socket.set_read_timeout(waiting(timeout_ms))?;
     Ok(socket)
+}
+
+/// So many milliseconds, and no limit at 0.
+fn waiting(wait_ms: u32) -> Option<Duration> {
+    match wait_ms {
+        0 => None,
+        _ => Some(Duration::from_millis(u64::from(wait_ms))),
+    }
 }
 
 fn address_of(address: [u8; 6]) -> SocketAddrV4 {
@@ -89,6 +135,8 @@ impl Port for UdpPort {
 
     ghost receives = { λ old answer new. Unit {0} };
 
+    ghost receives_within = { λ old wait answer new. Unit {0} };
+
     fn send(&mut self, octets: &[u8], to: [u8; 6]) -> Result<(), SocketFault> {
         match self.socket.send_to(octets, address_of(to)) {
             Ok(sent) if sent == octets.len() => Ok(()),
@@ -97,17 +145,19 @@ impl Port for UdpPort {
     }
 
     fn receive(&mut self) -> Result<Heard, SocketFault> {
-        // A signal ends a wait, as one that stopped the program and let it go on: it waits anew.
-        for _ in 0..u64::MAX {
-            match self.socket.recv_from(&mut self.buffer) {
-                Ok((len, sender)) => return heard(&self.buffer[..len], sender),
-                Err(error) => match error.kind() {
-                    ErrorKind::Interrupted => {}
-                    ErrorKind::WouldBlock => return Err(SocketFault::Timeout),
-                    _ => return Err(SocketFault::Failed),
-                },
-            }
+        match self.set_wait(self.wait) {
+            Ok(()) => self.take(),
+            Err(_) => Err(SocketFault::Failed),
         }
-        Err(SocketFault::Failed)
+    }
+
+    fn receive_within(&mut self, wait_ms: u32) -> Result<Heard, SocketFault> {
+        if wait_ms == 0 {
+            return self.take_waiting();
+        }
+        match self.set_wait(wait_ms) {
+            Ok(()) => self.take(),
+            Err(_) => Err(SocketFault::Failed),
+        }
     }
 }

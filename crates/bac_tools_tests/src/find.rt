@@ -94,6 +94,8 @@ impl Port for Station {
 
     ghost receives = { λ old answer new. Unit {0} };
 
+    ghost receives_within = { λ old wait answer new. Unit {0} };
+
     fn send(&mut self, octets: &[u8], to: [u8; 6]) -> Result<(), SocketFault> {
         if let Some(place) = self.to.get_mut(self.sends) {
             *place = to;
@@ -115,6 +117,11 @@ impl Port for Station {
             from: FIRST,
             datagram: None,
         })
+    }
+
+    // Nothing is there before a whole wait.
+    fn receive_within(&mut self, _wait_ms: u32) -> Result<Heard, SocketFault> {
+        Err(SocketFault::Timeout)
     }
 }
 

@@ -43,6 +43,8 @@ impl Port for MemoryPort<'_> {
 
     ghost receives = { λ old answer new. Unit {0} };
 
+    ghost receives_within = { λ old wait answer new. Unit {0} };
+
     fn send(&mut self, octets: &[u8], to: [u8; 6]) -> Result<(), SocketFault> {
         self.sends = self.sends.saturating_add(1);
         if self.refuses {
@@ -67,6 +69,11 @@ impl Port for MemoryPort<'_> {
             Some(Coming::Nothing) => Err(SocketFault::Timeout),
             None => Err(SocketFault::Failed),
         }
+    }
+
+    // Nothing is there before a whole wait.
+    fn receive_within(&mut self, _wait_ms: u32) -> Result<Heard, SocketFault> {
+        Err(SocketFault::Timeout)
     }
 }
 
