@@ -54,7 +54,7 @@ fn push_enumerated(text: &mut Vec<u8>, n: u32) -> Result<(), AllocError>
 
 /// Appends what was logged.
 #[tactic(auto, unfolding(crate::specs::Entries::datum_text))]
-fn push_datum(text: &mut Vec<u8>, datum: &Datum) -> Result<(), AllocError>
+pub fn push_datum(text: &mut Vec<u8>, datum: &Datum) -> Result<(), AllocError>
     ensures { OnOk result (text.new.items ≡ text.old.items ++ datum_text datum.now) }
 {
     match *datum {
@@ -75,9 +75,9 @@ fn push_datum(text: &mut Vec<u8>, datum: &Datum) -> Result<(), AllocError>
     }
 }
 
-/// Appends the status flags.
+/// Appends the four status flags, or `-` if there are none.
 #[tactic(auto, unfolding(crate::specs::Entries::flags_text))]
-fn push_flags(text: &mut Vec<u8>, flags: Option<u8>) -> Result<(), AllocError>
+pub fn push_flags(text: &mut Vec<u8>, flags: Option<u8>) -> Result<(), AllocError>
     ensures { OnOk result (text.new.items ≡ text.old.items ++ flags_text flags) }
 {
     match flags {

@@ -14,7 +14,8 @@ mod output;
 mod values;
 
 pub use addresses::push_address;
-pub use entries::{push_entry, push_gap, push_record};
+pub use entries::{push_datum, push_entry, push_flags, push_gap, push_record};
+pub use moments::push_moment;
 pub use numbers::{push_hex, push_number, push_signed};
 pub use output::{WriteRefused, write_text};
 pub use values::push_value;

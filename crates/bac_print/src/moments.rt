@@ -78,7 +78,7 @@ pub(crate) fn push_time(text: &mut Vec<u8>, time: Time4) -> Result<(), AllocErro
 }
 
 /// Appends `YYYY-MM-DDTHH:MM:SS.hh`.
-pub(crate) fn push_moment(text: &mut Vec<u8>, date: Date4, time: Time4) -> Result<(), AllocError>
+pub fn push_moment(text: &mut Vec<u8>, date: Date4, time: Time4) -> Result<(), AllocError>
     ensures { OnOk result (text.new.items ≡ text.old.items ++ (day_text (date_octets date) ++ (84 ∷ time_text (time_octets time)))) }
 {
     push_day(text, date)?;
