@@ -239,6 +239,7 @@ counted ./loopback.sh
 counted ./router.sh
 counted ./edges.sh
 counted ./keeping.sh
+counted ./helpers.sh
 # A device among strangers.
 counted ./hostile.sh
 # Memory, streams and sockets that are refused.
