@@ -1,0 +1,2 @@
+mod SchemaLemmas
+mod RowsLemmas
