@@ -1,7 +1,8 @@
 #!/usr/bin/env bash
 # What the gate costs: for each crate the processor seconds of its check from nothing, of its tests
 # and of its must-fail edits, and the peak of memory of one process; then the longest chain of
-# crates, for which the gate waits however many processors there are.
+# crates, for which the gate waits however many processors there are, and the ten functions whose
+# proofs take longest.
 #
 #     bench/gate.sh [CRATE..]
 #
@@ -15,7 +16,7 @@ trap 'rm -rf "$room"' EXIT
 git clone -q . "$room/clone"
 
 python3 - "$room" "$@" <<'PYTHON'
-import glob, os, re, subprocess, sys
+import collections, glob, os, re, subprocess, sys, time
 
 room, names = sys.argv[1], sys.argv[2:]
 top = f"{room}/clone"
@@ -62,6 +63,25 @@ def has_tests(folder):
     return any("#[test]" in open(file).read() for file in files)
 
 
+def by_function(name, begun):
+    """Seconds of each function of a crate since then. The prover has one job and writes a module
+    once it is checked, so a module took the time since the one before it."""
+    files = glob.glob(f"{top}/crates/{name}/out/incremental/*/*.oantt")
+    written = sorted((os.path.getmtime(file), os.path.basename(file)) for file in files)
+    written = [(at, file) for at, file in written if begun < at]
+    stated = re.compile(f"Rattle-{name}-proofs[.](.*)[.]Statement[.]oantt")
+    functions = {found[1] for file in files if (found := stated.match(os.path.basename(file)))}
+    module = re.compile(f"Rattle[-.]{name}[-.](?:proofs|specs[.]contracts)[.](.*)[.]oantt")
+    seconds = collections.Counter()
+    for (before, _), (at, file) in zip(written, written[1:]):
+        words = found[1].split(".") if (found := module.match(file)) else []
+        fronts = [".".join(words[:length]) for length in range(len(words), 0, -1)]
+        function = next((front for front in fronts if front in functions), None)
+        if function:
+            seconds[f"{name} {function}"] += at - before
+    return seconds
+
+
 def measured(name):
     """Check, tests and edits of a crate, the number of its edits, and its peak."""
     folder = f"{top}/crates/{name}"
@@ -70,7 +90,11 @@ def measured(name):
     steps = [(["rt", "check" if program else "lib", "--jobs", "1"], folder)]
     steps.append((["rt", "check", "--test", "--jobs", "1"], folder) if has_tests(folder) else None)
     steps.append((["rt", "must-fail", name], top) if edits else None)
-    taken = [run(*step) if step else (0, 0) for step in steps]
+    taken = []
+    for step in steps:
+        begun = time.time()
+        taken.append(run(*step) if step else (0, 0))
+        dear.update(by_function(name, begun))
     return [seconds for seconds, _ in taken], edits, max(peak for _, peak in taken)
 
 
@@ -81,7 +105,7 @@ if unknown:
 order = in_order(uses, names or list(uses))
 print("| Crate | Check, s | Tests, s | Edits, s | Edits | Peak, GB |", flush=True)
 print("|---|---|---|---|---|---|", flush=True)
-sums, chain, peak, count = [0, 0, 0], {}, 0, 0
+sums, chain, peak, count, dear = [0, 0, 0], {}, 0, 0, collections.Counter()
 for name in order:
     seconds, edits, most = measured(name)
     check, tests, tried = seconds
@@ -97,4 +121,7 @@ print(f"| all | {check:.0f} | {tests:.0f} | {tried:.0f} | {count} | {peak:.1f} |
 print(f"\n{sum(sums) / 60:.0f} processor minutes in all, on {os.cpu_count()} processors.")
 seconds, crates_of = max(chain.values())
 print(f"The longest chain: {' '.join(crates_of)}, {seconds / 60:.0f} processor minutes of checks.")
+print("\n| Function | Seconds |\n|---|---|")
+for function, seconds in dear.most_common(10):
+    print(f"| `{function}` | {seconds:.0f} |")
 PYTHON
