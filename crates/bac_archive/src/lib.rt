@@ -8,6 +8,7 @@
 mod creation;
 mod row;
 mod rows;
+mod shape;
 
 pub use creation::create;
 pub use row::Row;
