@@ -1,7 +1,7 @@
 //! Whether a schema is an archive's.
 
 ghost use Rattle.std.specs.Prelude.{◌≡◌, ◌↔◌, [], ◌∷◌, IsTrue, None, codes, false};
-ghost use Rattle.bac_archive.specs.Schema.{archive_schema, archive, logs, items, column as column_of, plain_table, plain_view, log_index, archive_tables, archive_views, records_text, gaps_text};
+ghost use Rattle.bac_archive.specs.Schema.{archive_schema, no_schema, archive, logs, items, column as column_of, plain_table, plain_view, log_index, archive_tables, archive_views, records_text, gaps_text};
 ghost use Rattle.sqlite_value.specs.Keys.{plain};
 
 use crate::creation::{GAPS, RECORDS};
@@ -220,10 +220,17 @@ fn are_views(views: &[View]) -> bool
 
 /// Whether a schema is an archive's: its tables, its index and its views, and no more.
 #[tactic(auto, using(crate::proofs::SchemaLemmas::parts_are))]
-pub fn is_archive(schema: &Schema) -> bool
+pub(crate) fn is_archive(schema: &Schema) -> bool
     ensures { IsTrue result ↔ (schema.now ≡ archive_schema) }
 {
     are_tables(schema.tables.as_slice())
         && are_indexes(schema.indexes.as_slice())
         && are_views(schema.views.as_slice())
+}
+
+/// Whether a schema has nothing.
+pub(crate) fn is_nothing(schema: &Schema) -> bool
+    ensures { IsTrue result ↔ (schema.now ≡ no_schema) }
+{
+    schema.tables.is_empty() && schema.indexes.is_empty() && schema.views.is_empty()
 }

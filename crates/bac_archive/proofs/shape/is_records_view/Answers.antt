@@ -1,4 +1,3 @@
-use Rattle.std.proofs.Common.{◌≡◌}
 use Rattle.bac_archive.proofs.shape.is_records_view.Goals as goal
 
 pub returns : goal.returns
