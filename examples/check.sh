@@ -240,6 +240,7 @@ counted ./rows.sh
 # The tools over sockets of this machine: with a socket that says what a file says, and with a server.
 counted ./talk.py
 counted ./loopback.sh
+counted ./stations.sh
 # A device behind a router.
 counted ./router.sh
 counted ./edges.sh
