@@ -8,7 +8,7 @@ use Rattle.bac_ports.specs.declared.udp_port.UdpPort.{UdpPort}
 use Rattle.bac_query.specs.Reading.{Held}
 use Rattle.bac_tools.specs.Ending.{Ending, IsClosed}
 use Rattle.bac_tools.specs.Faults.{of_find}
-use Rattle.bac_tools.specs.Sockets.{IsOpen, any_receive, any_send, own_address}
+use Rattle.bac_tools.specs.Sockets.{IsOpen, any_receive, any_receive_within, any_send, own_address}
 
 -- the limits of the instances that are to answer; the lowest alone is both
 abbrev pub limits_of : Option ℕ → Option ℕ → Option (ℕ × ℕ)
@@ -24,11 +24,11 @@ abbrev pub of_found : Found → Ending
 of_found (Ok done) = Ok 0
 of_found (Err fault) = Err (of_find fault)
 
--- the request goes to each address from a socket as the words say, and lines are printed of at most 4096 datagrams that
--- come
+-- the request goes to each address by turns from a socket as the words say, and lines are printed of at most 4096
+-- datagrams that come
 abbrev pub Searches : Search → List (List ℕ) → Option (List ℕ) → ℕ → Held → Held → Ending → Type 0
 Searches search addresses local timeout old new result =
     IsClosed old new result
     ⊎ ((port : UdpPort) × (found : Found) × (after : UdpPort) × IsOpen (own_address local) timeout port
-    × Finds any_send any_receive 4096 search addresses (console port old) found (console after new)
+    × Finds any_send any_receive any_receive_within 4096 search addresses (console port old) found (console after new)
     × (result ≡ of_found found))

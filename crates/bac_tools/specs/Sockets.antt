@@ -28,6 +28,10 @@ any_send before octets to answer behind = Unit {0}
 abbrev pub any_receive : UdpPort → Receiving → UdpPort → Type 0
 any_receive before answer behind = Unit {0}
 
+-- the same of a receive with a wait of its own
+abbrev pub any_receive_within : UdpPort → ℕ → Receiving → UdpPort → Type 0
+any_receive_within before wait answer behind = Unit {0}
+
 -- an ask over a socket: the request is sent once to the peer, and at most 16 datagrams are taken, up to the first one
 -- that comes from the peer and answers it
 abbrev pub socket_asks : UdpLink UdpPort → List ℕ → Result (List ℕ) Lost → UdpLink UdpPort → Type 0
