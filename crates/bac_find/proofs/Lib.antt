@@ -1,3 +1,4 @@
 pub mod Requests
 pub mod Turns
 pub mod Pieces
+pub mod Told

@@ -2,8 +2,10 @@
 -- known, stand before the answer as they were, and after it as they are afterwards.
 use Rattle.std.specs.Prelude.{◌≡◌, ℕ, Bool, true, false, List, [], ◌∷◌, Option}
 use Rattle.std.specs.Prelude.{Some, None, Ok, Err}
-use Rattle.bac_find.specs.Hearing.{Found, Held, Hears, Left, ReceivesBy, Standing, Stays, given_up, pending_with, refused_by}
+use Rattle.bac_find.specs.Hearing.{Found, Held, Hears, Left, ReceivesBy, Standing, Stays, given_up, pending_with}
+use Rattle.bac_find.specs.Hearing.{refused_by}
 use Rattle.bac_find.specs.Requests.{who_is_octets}
+use Rattle.bac_find.specs.Turns.{Tells}
 use Rattle.bac_find.specs.declared.search.Search.{Search}
 use Rattle.bac_find.specs.declared.fault.FindFault.TheVariants.{Refused, NoAnswer}
 use Rattle.bac_ports.specs.Port.{Receiving, Sending}
@@ -78,10 +80,14 @@ console port held = record { port = port; held = held }
 abbrev pub unasked : Held → Standing
 unasked held = record { held = held; pending = []; taken = false; refused = None }
 
--- the request goes to each address by turns, and so many datagrams are received at most
+-- The request goes to each address by turns, and so many datagrams are received at most. Beside what is done in which
+-- order it says what that comes to.
 abbrev pub Finds : {P : Type 0} → (P → List ℕ → List ℕ → Sending → P → Type 0) → (P → Receiving → P → Type 0)
     → (P → ℕ → Receiving → P → Type 0) → ℕ → Search → List (List ℕ) → Console P → Found → Console P → Type 0
 Finds sends receives within limit search addresses old result new =
     (sought : Left) × (then : Standing)
-    × Seeks sends receives within (who_is_octets search) addresses limit old.port (unasked old.held) sought new.port then
+    × Seeks sends receives within (who_is_octets search) addresses limit
+    old.port (unasked old.held) sought new.port then
+    × Tells sends receives within (who_is_octets search) addresses limit
+    old.port (unasked old.held) sought new.port then
     × (new.held ≡ then.held) × (result ≡ told_of sought then.refused then.taken)

@@ -2,4 +2,5 @@ pub mod Announcements
 pub mod Lines
 pub mod Requests
 pub mod Hearing
+pub mod Turns
 pub mod Finding
