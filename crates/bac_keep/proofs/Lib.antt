@@ -1,1 +1,2 @@
 mod Taken
+mod KeptLemmas

@@ -3,11 +3,13 @@
 
 mod datum;
 mod keep;
+mod laws;
 mod place;
 mod rows;
 mod sink;
 mod texts;
 
 pub use keep::{NotKept, keep_step};
+pub use laws::{begins_empty, others_stay, runs_are_kept};
 pub use place::Place;
 pub use sink::Refusal;
