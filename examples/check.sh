@@ -8,6 +8,9 @@
 set -u
 cd "$(dirname "$0")"
 program=$(realpath -- "${1:-../crates/bac/out/bac}")
+# All of it: the scripts that it runs have limits of their own.
+limit=7200
+. ./limited.sh
 room=$(mktemp -d)
 trap 'rm -rf "$room"' EXIT
 passed=0
@@ -17,6 +20,7 @@ failed=0
 # $room/out and $room/err, with what is wanted; OUTPUT is a file, and without one nothing is printed.
 ended() {
     local status=$?
+    row "$1"
     printf '%s' "$3" > "$room/want"
     if [ "$status" -eq "$2" ] && cmp -s "$room/err" "$room/want" && cmp -s "$room/out" "${4:-/dev/null}"; then
         passed=$((passed + 1))
@@ -225,10 +229,12 @@ ended 'help on a full disk' 2 $'write fault\n'
 # counted SCRIPT [PROGRAM]: runs a script with a count of its own, of this program or another.
 counted() {
     local status more fewer
-    "$1" "${2:-$program}" > "$room/counted"
+    row "$1"
+    timeout --kill-after=10 1800 "$1" "${2:-$program}" > "$room/counted"
     status=$?
     read -r more fewer <<< "$(tail -n 1 "$room/counted" | sed -nE 's/^([0-9]+) passed, ([0-9]+) failed$/\1 \2/p')"
     sed '$d' "$room/counted"
+    [ "$status" -ne 124 ] || echo "$1: no end within 1800 s"
     passed=$((passed + ${more:-0}))
     # A script that ends badly without a count of its failures has failed.
     [ "$status" -eq 0 ] || [ "${fewer:-0}" -gt 0 ] || fewer=1

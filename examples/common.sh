@@ -1,6 +1,8 @@
 # What the scripts of this folder share that serve a device on the loopback interface: sourced with
 # the program in $program. It counts in `passed` and `failed`, keeps files in $room, and ends its
-# servers by their own numbers.
+# servers by their own numbers. Such a script runs under a limit of time.
+
+. ./limited.sh
 
 room=$(mktemp -d)
 server=
@@ -10,6 +12,7 @@ failed=0
 
 # is NAME GOT WANTED
 is() {
+    row "$1"
     if [ "$2" = "$3" ]; then
         passed=$((passed + 1))
     else

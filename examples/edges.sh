@@ -1,6 +1,7 @@
 #!/usr/bin/env bash
 # What no contract sees of the program: how long it waits, the machine's clock, ports as octets,
-# signals, a log that fills while nobody asks, and the sizes of answers.
+# signals, a log that fills while nobody asks, clap's text, and the sizes of answers. The waits to the
+# millisecond, each look at the clock and many signals are in faults.py.
 #
 #     examples/edges.sh [PROGRAM]
 #
@@ -48,6 +49,31 @@ for port in 43981 47808; do
     wait "$server"
     is "a server at port $port" "$? $(cat "$room/served")" "0 serving ${at%:*}:$port"
     server=
+done
+
+# --local is the address and the port that a device sees, for each tool that asks.
+cat > "$room/seen.py" <<'P'
+import socket, subprocess, sys
+me = socket.socket(socket.AF_INET, socket.SOCK_DGRAM)
+me.bind(("127.0.0.1", 0))
+me.settimeout(10)
+at, own = "127.0.0.1:%d" % me.getsockname()[1], "127.77.3.9:43981"
+for words in ["rp AT 8 123 77 --retries=0", "wp AT 5 1 85 8 0 --retries=0", "log AT 1 1 --retries=0", "wi AT"]:
+    run = [sys.argv[1], *words.replace("AT", at).split(), "--timeout=20", "--local=" + own]
+    subprocess.run(run, stdout=subprocess.DEVNULL, stderr=subprocess.DEVNULL)
+    print(words[:3].strip(), "%s:%d" % me.recvfrom(2000)[1])
+P
+python3 "$room/seen.py" "$program" > "$room/out" 2>&1
+is 'the address and port of --local' "$(tr '\n' ' ' < "$room/out")" \
+    'rp 127.77.3.9:43981 wp 127.77.3.9:43981 log 127.77.3.9:43981 wi 127.77.3.9:43981 '
+
+# ---- clap's text is told once
+
+for words in '' 'rp' 'Replay' 'replay again' 'wi 127.0.0.1 --retries=1' 'serve 127.0.0.1 --count=1 --count=1'; do
+    # shellcheck disable=SC2086 # they are words
+    bac $words
+    is "told once: bac $words" "$(grep -c '^Usage: bac' "$room/err") $(grep -c '^error: ' "$room/err") $(wc -c < "$room/out") $status" \
+        '1 1 0 1'
 done
 
 # ---- the machine's clock, and a log that fills while nobody asks
@@ -125,6 +151,36 @@ print(octets.hex(), sender == at)
 P
 python3 "$room/strange.py" "$port" > "$room/out" 2>&1
 is 'a server goes on behind datagrams that are none' "$(cat "$room/out")" '810a001401001000c40200007b2205c491032100 True'
+
+# Each low and each high octet of a port is answered. Low ports may be for the system alone.
+cat > "$room/answered.py" <<'P'
+import socket, sys
+at, silent = ("127.0.0.1", int(sys.argv[1])), []
+for port in [*range(44032, 44288), *range(1066, 65536, 256)]:
+    me = socket.socket(socket.AF_INET, socket.SOCK_DGRAM)
+    me.bind(("127.77.4.9", port))
+    me.settimeout(2)
+    me.sendto(bytes.fromhex("810b000c 0120ffff00ff 1008"), at)
+    try:
+        me.recvfrom(2000)
+    except OSError:
+        silent.append(port)
+    me.close()
+print("silent:", silent)
+P
+python3 "$room/answered.py" "$port" > "$room/out" 2>&1
+is 'a server answers at each port' "$(cat "$room/out")" 'silent: []'
+unserved
+
+# An answer of 12 octets, and of five for each of 292 objects, goes over a socket too.
+{
+    echo 'device 123 plant 0 1476 2024-05-06T07:08:09.10'
+    for ((i = 1; i < 292; i++)); do echo "integer $i n$i 0"; done
+} > "$room/many.conf"
+served "$room/many.conf"
+bac rp "$at" 8 123 76
+{ echo 'object(8,123)'; for ((i = 1; i < 292; i++)); do echo "object(45,$i)"; done; } > "$room/want"
+is 'an answer of 1472 octets is sent' "$status $(cmp "$room/out" "$room/want" 2>&1)" '0 '
 unserved
 
 # ---- sizes of answers

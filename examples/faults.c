@@ -7,15 +7,21 @@
 //     ERROR  the errno of a refusal; 0 lets sendto send all, and say that it took an octet less
 //     SHORT  where it is set, reads and writes of the standard streams move one octet each
 //
-// For each refusal an octet is written to the file descriptor TOLD.
+// For each refusal an octet is written to the file descriptor TOLD. Where WAITS is set, it is a file
+// descriptor to which each receive writes a line: how many microseconds the socket was last told to
+// wait, 0 being without limit. Where STEP is set, the machine's clock stands at 2024-05-06T07:08:09
+// UTC, and goes on by so many hundredths of a second before each look at it.
 #define _GNU_SOURCE
 #include <dlfcn.h>
 #include <errno.h>
+#include <stdio.h>
 #include <stdlib.h>
 #include <string.h>
 #include <sys/socket.h>
 #include <sys/syscall.h>
+#include <sys/time.h>
 #include <sys/types.h>
+#include <time.h>
 #include <unistd.h>
 
 static long number(const char *name) {
@@ -69,7 +75,11 @@ int bind(int file, const struct sockaddr *at, socklen_t size) {
     return refuses("bind") ? -1 : NEXT(bind)(file, at, size);
 }
 
+// What the socket was last told to wait.
+static struct timeval waits;
+
 int setsockopt(int file, int level, int name, const void *value, socklen_t size) {
+    if (level == SOL_SOCKET && name == SO_RCVTIMEO && size == sizeof waits) memcpy(&waits, value, size);
     return refuses("setsockopt") ? -1 : NEXT(setsockopt)(file, level, name, value, size);
 }
 
@@ -82,5 +92,15 @@ ssize_t sendto(int file, const void *octets, size_t size, int flags, const struc
 
 ssize_t recvfrom(int file, void *octets, size_t size, int flags, struct sockaddr *from,
                  socklen_t *length) {
+    if (getenv("WAITS")) dprintf((int)number("WAITS"), "%lld\n", (long long)waits.tv_sec * 1000000 + waits.tv_usec);
     return refuses("recvfrom") ? -1 : NEXT(recvfrom)(file, octets, size, flags, from, length);
+}
+
+int clock_gettime(clockid_t clock, struct timespec *now) {
+    static long looks;
+    if (clock != CLOCK_REALTIME || !getenv("STEP")) return (int)syscall(SYS_clock_gettime, clock, now);
+    looks++;
+    now->tv_sec = 1714979289 + looks * number("STEP") / 100;
+    now->tv_nsec = looks * number("STEP") % 100 * 10000000;
+    return 0;
 }

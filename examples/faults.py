@@ -1,5 +1,6 @@
 #!/usr/bin/env python3
-"""Refuses memory, reads, writes and sockets to the built programs, one call after the other.
+"""Refuses memory, reads, writes and sockets to the built programs, one call after the other; sees how
+long their receives wait, and sets the clock that they look at.
 
     examples/faults.py PROGRAM [VECTORS]
 
@@ -410,9 +411,60 @@ def sockets_refused(program, at):
                 raise Wrong(f"{ended.refused} {call} refused, and 4 are wanted")
     # A send that took fewer octets than it was given has failed, whatever is answered to it.
     Ended(*asked, CALL="sendto", AT=1, MANY=EVERY, ERROR=0).must(2, b"", lost)
-    # A receive that a signal interrupts is made again: nothing is asked anew.
+    # A receive that a signal interrupts is made again, however many do: nothing is asked anew.
     once = (program, [*asked[1], "--retries=0"])
-    Ended(*once, CALL="recvfrom", AT=1, MANY=3, ERROR=errno.EINTR).must(0, whole, b"")
+    for many in (1, 2, 3, 4, 5, 6, 300):
+        Ended(*once, CALL="recvfrom", AT=1, MANY=many, ERROR=errno.EINTR).must(0, whole, b"")
+    return "done"
+
+
+def waits(program, configuration):
+    """Each receive waits as long as the words say, to the microsecond. None is waited for: the system says at once
+    that nothing came."""
+
+    def waited(words, given, refusal, wanted):
+        reads, writes = os.pipe()
+        env = {"LD_PRELOAD": LIBRARY, "TOLD": "2", "WAITS": str(writes), "CALL": "recvfrom", "AT": "1"}
+        subprocess.run(
+            [program, *words],
+            input=given,
+            capture_output=True,
+            env={**env, "MANY": str(EVERY), "ERROR": str(refusal)},
+            pass_fds=[writes],
+            timeout=60,
+        )
+        os.close(writes)
+        with open(reads) as told:
+            found = [int(line) for line in told]
+        if found != wanted:
+            raise Wrong(f"{words}: receives that wait {found} microseconds, and {wanted} are wanted")
+
+    at = "127.77.77.77:9"
+    for timeout in (1, 7, 99, 101, 150, 200, 999, 1001, 2999, 30001, 59999, 60000):
+        option, wanted = f"--timeout={timeout}", timeout * 1000
+        for tool in (["rp", at, "8", "123", "77"], ["wp", at, "5", "1", "85", "8", "0"], ["log", at, "1", "1"]):
+            waited([*tool, option, "--retries=1"], b"", errno.EAGAIN, [wanted] * 2)
+        waited(["wi", at, option], b"", errno.EAGAIN, [wanted])
+    waited(["rp", at, "8", "123", "77"], b"", errno.EAGAIN, [3_000_000] * 4)
+    waited(["wi", at], b"", errno.EAGAIN, [3_000_000])
+    served = ["serve", "127.77.77.77:47817", "--count=1"]
+    waited(served, text_of("plant.conf"), errno.EIO, [200_000])
+    waited(served, configuration, errno.EIO, [0])
+    return "done"
+
+
+def looks_at_the_clock(program, configuration):
+    """A device's time is the clock's when it was looked at last, to a hundredth: one look for each datagram."""
+    with Server(program, configuration, STEP=123) as server:
+        found = [Ended(program, ["rp", server.at, "8", "123", "57"]).output.decode() for _ in range(12)]
+    moments = []
+    for line in found:
+        hours, minutes, seconds = line.removeprefix("time(").removesuffix(")\n").split(":")
+        moments.append(round(100 * (3600 * int(hours) + 60 * int(minutes) + float(seconds))))
+    begin = 100 * (3600 * 7 + 60 * 8 + 9)
+    wanted = [moments[0] + 123 * turn for turn in range(12)]
+    if moments != wanted or (moments[0] - begin) % 123 or moments[0] <= begin:
+        raise Wrong(f"the device says {found}")
     return "done"
 
 
@@ -493,6 +545,8 @@ def main(program, vectors=os.path.join(FOLDER, "../crates/bac_vectors/out/bac_ve
             ("a configuration", configuration_refused, program),
             ("sockets", sockets_refused, program, server.at),
             ("the socket of a server", server_refused, program, configuration),
+            ("waits", waits, program, configuration),
+            ("looks at the clock", looks_at_the_clock, program, configuration),
             ("memory of a server that serves", served_without_memory, program, configuration),
             ("memory of trend logs", rows_without_memory, vectors),
         ]

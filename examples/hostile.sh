@@ -8,6 +8,7 @@
 set -u
 cd "$(dirname "$0")"
 program=$(realpath -- "${1:-../crates/bac/out/bac}")
+limit=1200
 . ./common.sh
 
 # ---- line feeds

@@ -117,19 +117,26 @@ is 'a program that is killed' "$? $(cmp "$file" "$room/before" && echo same)" '1
 printf '#!/bin/sh\nexit 0\n' > "$room/broken/bac"
 BAC=$room/broken/bac ./keep.sh "$at" 2 "$file" > /dev/null 2>&1
 is 'a program that writes nothing' "$(cmp "$file" "$room/before" && echo same)" same
-# keep.sh itself is killed, while the program waits.
-printf '#!/bin/sh\n[ "$1" = rp ] && exec %s "$@"\nexec sleep 1\n' "$program" > "$room/broken/bac"
+# keep.sh itself is killed, while the program waits: until it is told to end, however busy the machine is.
+printf '#!/bin/sh\n[ "$1" = rp ] && exec %s "$@"\necho $$ > %s/waits\nexec sleep 60\n' "$program" "$room" > "$room/broken/bac"
 BAC=$room/broken/bac ./keep.sh "$at" 2 "$file" > /dev/null 2>&1 9>&- &
 keeper=$!
-sleep 0.4
+for try in {1..300}; do
+    [ ! -s "$room/waits" ] || break
+    sleep 0.1
+done
 kill -KILL "$keeper"
 wait "$keeper" 2> /dev/null
 is 'keep.sh is killed' "$(cmp "$file" "$room/before" && cd "$room" && echo records*)" records
 # The program of the killed run still has the lock; the next run says so.
 kept 2 "$file"
 is 'another run is at work' "$status" 8
-sleep 1
-kept 2 "$file"
+kill "$(cat "$room/waits")"
+for try in {1..300}; do
+    kept 2 "$file"
+    [ "$status" -eq 8 ] || break
+    sleep 0.1
+done
 is 'after kills and failures' "$status" 0
 once 13
 # Lost after the next record: the record is kept, and the status and the text say why.

@@ -156,8 +156,8 @@ done
 is 'a full disk' "$? $(cat "$room/err")" '2 write fault'
 "$program" rp "$at" 8 123 77 >&- 2> "$room/err"
 is 'no output' "$? $(cat "$room/err")" '2 write fault'
-exec 3> >(exit 0)
-wait $!
+mkfifo "$room/pipe"
+exec 4<> "$room/pipe" 3> "$room/pipe" 4<&-
 "$program" log "$at" 1 oldest >&3 2> "$room/err"
 is 'a pipe that nobody reads' "$? $(cat "$room/err")" '2 write fault'
 exec 3>&-

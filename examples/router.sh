@@ -8,6 +8,7 @@
 set -u
 cd "$(dirname "$0")"
 program=$(realpath -- "${1:-../crates/bac/out/bac}")
+. ./limited.sh
 room=$(mktemp -d)
 server=
 router=
@@ -17,6 +18,7 @@ passed=0
 failed=0
 
 is() {
+    row "$1"
     if [ "$2" = "$3" ]; then
         passed=$((passed + 1))
     else

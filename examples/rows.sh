@@ -8,6 +8,7 @@
 set -u
 cd "$(dirname "$0")"
 program=$(realpath -- "${1:-../crates/bac/out/bac}")
+. ./limited.sh
 room=$(mktemp -d)
 trap 'rm -rf "$room"' EXIT
 passed=0
@@ -15,6 +16,7 @@ failed=0
 
 # is NAME GOT WANTED
 is() {
+    row "$1"
     if [ "$2" = "$3" ]; then
         passed=$((passed + 1))
     else

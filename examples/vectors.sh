@@ -9,6 +9,7 @@
 set -u
 cd "$(dirname "$0")"
 program=$(realpath -m -- "${1:-../crates/bac_vectors/out/bac_vectors}")
+. ./limited.sh
 room=$(mktemp -d)
 trap 'rm -rf "$room"' EXIT
 passed=0
@@ -21,6 +22,7 @@ if [ ! -x "$program" ]; then
 fi
 
 for file in vectors/*.vectors; do
+    row "$file"
     grep -v -e '^#' -e '^$' "$file" > "$room/rows"
     sed 's/ -> .*//' "$room/rows" > "$room/calls"
     sed -n 's/^.* -> //p' "$room/rows" > "$room/want"

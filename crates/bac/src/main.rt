@@ -1,8 +1,8 @@
-//! The program `bac`: its words, its standard streams and the machine's clock. What it does with
-//! them is in the crate bac_tools.
+//! The program `bac`: its words, its standard streams, the machine's sockets and its clock. What
+//! it does with them is in the crate bac_tools.
 #![tactic(auto)]
 
-use bac_tools::{Fault, SystemClock, UntilRefused, run, tell};
+use bac_tools::{Fault, SystemClock, UdpSockets, UntilRefused, run, tell};
 use std::env::Args;
 use std::io::{BufWriter, ErrorKind};
 use std::process::ExitCode;
@@ -34,7 +34,7 @@ fn started(rt: &HostRuntime) -> Result<u8, Fault> {
         return Err(Fault::Memory);
     };
     Ok(run(
-        rt,
+        &mut UdpSockets::new(rt),
         rt.alloc(),
         &words,
         &mut rt.reader(),

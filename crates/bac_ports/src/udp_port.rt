@@ -1,7 +1,5 @@
 //! A port over a socket of the system.
 
-ghost use Rattle.std.specs.Prelude.{◌≡◌, IfOk};
-
 use crate::port::{Heard, Port, SocketFault};
 use bac_wire::Datagram;
 use std::io;
@@ -17,8 +15,6 @@ const BUFFER: usize = 1502;
 #[derive(Debug, Drop)]
 pub struct UdpPort {
     socket: UdpSocket,
-    /// The address at which it was opened.
-    opened_at: [u8; 6],
     /// How many milliseconds a receive waits at most; without limit at 0.
     wait: u32,
     /// How many the socket waits now, which a receive with a wait of its own has changed.
@@ -29,13 +25,10 @@ pub struct UdpPort {
 impl UdpPort {
     /// A socket at an address of this machine; port 0 is any free one. A receive waits at most so
     /// many milliseconds, and without limit at 0.
-    pub fn open<R: Net>(rt: &R, local: [u8; 6], timeout_ms: u32) -> Result<UdpPort, SocketFault>
-        ensures { IfOk result (λ port. (port.opened_at ≡ local) × (port.wait ≡ timeout_ms)) }
-    {
+    pub fn open<R: Net>(rt: &R, local: [u8; 6], timeout_ms: u32) -> Result<UdpPort, SocketFault> {
         match socket_at(rt, local, timeout_ms) {
             Ok(socket) => Ok(UdpPort {
                 socket,
-                opened_at: local,
                 wait: timeout_ms,
                 set_to: timeout_ms,
                 buffer: [0; BUFFER],

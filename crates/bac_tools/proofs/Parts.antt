@@ -1,8 +1,17 @@
--- A text of which a front part was written, and the word that is wrong.
+-- A text of which a front part was written, the word that is wrong, and a server that isn't up.
 use Rattle.std.proofs.Common.{◌≡◌, ℕ, List, [], ◌++◌, ◌⊎◌, inl, inr, Option, Result, Ok, Err, OnOk, OnErr, if◌then◌else◌, sym, ap, append-nil, append_assoc, ◌∙◌}
 use Rattle.std.specs.Result.{is_ok}
 use Rattle.std.specs.Io.KnownBytes.{Appends}
 use Rattle.bac_print.specs.Output.{AppendsPart}
+use Rattle.bac_objects.specs.State.{State}
+use Rattle.bac_ports.specs.declared.port.SocketFault.{SocketFault}
+use Rattle.bac_tools.specs.Ending.{Ending}
+use Rattle.bac_tools.specs.Run.{IsServed}
+use Rattle.bac_tools.specs.Sockets.{SocketRules}
+use Rattle.bac_tools.specs.Streams.{Streams}
+use Rattle.bac_tools.specs.declared.fault.Fault.{Fault}
+use Rattle.bac_tools.specs.declared.fault.Fault.TheVariants.{Memory, Socket}
+use Rattle.bac_wire.specs.Stamp.{CivilTime}
 use Rattle.bac_words.specs.declared.job.Job.{Job}
 use Rattle.bac_words.specs.declared.word.Word.{Word}
 
@@ -34,8 +43,14 @@ pub grown : {E : Type 0} (r : Result (Unit {0}) E) (old text new : List ℕ) →
 grown (Ok done) old text new e = e
 grown (Err fault) old text new e = tt
 
--- an answer that is one of two faults
-pub either_fault : {T F : Type 0} (r : Result T F) (fault a b : F) → r ≡ Err fault → (fault ≡ a) ⊎ (fault ≡ b)
-    → (r ≡ Err a) ⊎ (r ≡ Err b)
-either_fault r fault a b said (inl p) = inl (said ∙ ap Err p)
-either_fault r fault a b said (inr q) = inr (said ∙ ap Err q)
+-- a server without a socket, or without memory for its line
+pub unserved : {S P C : Type 0} (rules : SocketRules S P) (tells : C → Option CivilTime → C → Type 0) (address : List ℕ)
+    (wait count : ℕ) (device : State) (old new : Streams S C) (result : Ending) (fault : Fault) → result ≡ Err fault
+    → new.errors ≡ old.errors → new.clock ≡ old.clock
+    → ((fault ≡ Memory) × (new.sockets ≡ old.sockets))
+    ⊎ ((fault ≡ Socket) × ((why : SocketFault) × rules.opens old.sockets address wait (Err why) new.sockets))
+    → IsServed rules tells address wait count device old result new
+unserved rules tells address wait count device old new result fault said errors clock (inl (p, sockets)) =
+    inl (said ∙ ap Err p, ((errors, clock), sockets))
+unserved rules tells address wait count device old new result fault said errors clock (inr (p, (why, opens))) =
+    inr (Err why, opens, (said ∙ ap Err p, (errors, clock)))

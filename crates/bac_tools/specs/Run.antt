@@ -1,6 +1,6 @@
 -- What the program does with its words. Read from the end. Of one tool, `input` is what the reader had and `left` what
 -- it has left; `old` and `new` are what the output held before and holds now, each if that is known. Of the program
--- they are all its streams and its clock, before and now.
+-- they are all its streams, its sockets and its clock, before and now.
 use Rattle.std.specs.Prelude.{◌≡◌, ◌≢◌, ◌≤◌, ◌⊎◌, ℕ, ◌==◌, if◌then◌else◌}
 use Rattle.std.specs.Prelude.{List, [], Option, Some, None, Result, Ok, Err, IfErr}
 use Rattle.std.specs.List.{list_any}
@@ -22,21 +22,20 @@ use Rattle.bac_objects.specs.State.{State}
 use Rattle.bac_objects.specs.declared.build.Misfit.{Misfit}
 use Rattle.bac_objects.specs.declared.lines.DeviceLine.{DeviceLine}
 use Rattle.bac_objects.specs.declared.lines.ObjectLine.{ObjectLine}
+use Rattle.bac_ports.specs.Port.{Opening}
 use Rattle.bac_ports.specs.declared.udp_link.UdpLink.{UdpLink}
-use Rattle.bac_ports.specs.declared.udp_port.UdpPort.{UdpPort}
 use Rattle.bac_print.specs.Output.{AppendsPart}
-use Rattle.bac_query.specs.Fetching.{EndsAs, Fetching, IsFetched, PrintsItems}
+use Rattle.bac_query.specs.Fetching.{EndsAs, FetchesOver, Fetching, IsFetched, PrintsItems}
 use Rattle.bac_query.specs.Reading.{Answer, Held, ReadsOver, next_way}
 use Rattle.bac_query.specs.Writing.{WritesOver}
-use Rattle.bac_tools.specs.Ending.{Ending, IsClosed}
+use Rattle.bac_tools.specs.Ending.{Ending}
 use Rattle.bac_tools.specs.Faults.{of_query}
 use Rattle.bac_tools.specs.Finding.{Searches, search_of}
 use Rattle.bac_tools.specs.Given.{value_of}
-use Rattle.bac_tools.specs.Sockets.{IsAsking, IsOpen, any_receive, any_send, socket_asks}
+use Rattle.bac_tools.specs.Sockets.{Opens, Outside, SocketRules, link_over, own_address, socket_asks, transactions_with}
 use Rattle.bac_tools.specs.Status.{exit_status, walk_status}
-use Rattle.bac_tools.specs.Streams.{Streams, IsQuiet, with_errors}
+use Rattle.bac_tools.specs.Streams.{Streams, IsIdle, IsQuiet, IsUnopened, outside_of, with_errors}
 use Rattle.bac_tools.specs.Texts.{serving_line, told_text}
-use Rattle.bac_tools.specs.declared.asking.Asking.{Asking}
 use Rattle.bac_tools.specs.declared.fault.Fault.{Fault}
 use Rattle.bac_tools.specs.declared.fault.Fault.TheVariants.{BadValue, NoDevice, Script, Socket, Memory}
 use Rattle.bac_script.specs.Configuration.{Configures}
@@ -86,45 +85,74 @@ abbrev pub of_fetching : List ℕ → Fetching → Ending
 of_fetching address (Ok fetched) = Ok (walk_status fetched.why)
 of_fetching address (Err fault) = Err (of_query address fault)
 
--- ReadProperty: an exchange over the link and with the transactions that the words say, and the values of its ACK
-abbrev pub Reads : Asked → ReadProperty → Held → Held → Ending → Type 0
-Reads asked question old new result =
-    IsClosed old new result
-    ⊎ ((with : Asking) × (answer : Answer) × (left : UdpLink UdpPort) × IsAsking asked with
-    × ReadsOver socket_asks (next_way with.transactions) question with.link answer left old new
-    × (result ≡ of_answer asked.address answer))
+-- ReadProperty: over this socket an exchange with the device and the transactions that the words say, and the values of
+-- its ACK
+abbrev pub ReadsFrom : {S P : Type 0} → SocketRules S P → Asked → ReadProperty → P → Held → Ending → Held → Type 0
+ReadsFrom {P = P} rules asked question port old result new =
+    (answer : Answer) × (left : UdpLink P)
+    × ReadsOver (socket_asks rules) (next_way (transactions_with asked)) question
+    (link_over asked.address port) answer left old new
+    × (result ≡ of_answer asked.address answer)
 
 -- WriteProperty, likewise
-abbrev pub Writes : Asked → Request → Held → Held → Ending → Type 0
-Writes asked question old new result =
-    IsClosed old new result
-    ⊎ ((with : Asking) × (answer : Answer) × (left : UdpLink UdpPort) × IsAsking asked with
-    × WritesOver socket_asks (next_way with.transactions) question with.link answer left old new
-    × (result ≡ of_answer asked.address answer))
+abbrev pub WritesTo : {S P : Type 0} → SocketRules S P → Asked → Request → P → Held → Ending → Held → Type 0
+WritesTo {P = P} rules asked question port old result new =
+    (answer : Answer) × (left : UdpLink P)
+    × WritesOver (socket_asks rules) (next_way (transactions_with asked)) question
+    (link_over asked.address port) answer left old new
+    × (result ≡ of_answer asked.address answer)
 
 -- no socket is honest
 abbrev pub no_honest : ℕ → List Moment → History → Type 0
 no_honest r M H = ⊥
 
--- The lines of the items of a run of this walk, at most so many steps, and the line of its end: why it ended, which the
--- last exchange over the link told, and the number that comes next.
-abbrev pub Fetches : Asked → WalkPlace → ℕ → Held → Held → Ending → Type 0
-Fetches asked walk steps old new result =
-    IsClosed old new result
-    ⊎ ((with : Asking) × (items : List Item) × (fetching : Fetching) × (left : UdpLink UdpPort) × IsAsking asked with
-    × PrintsItems items fetching old new
+-- The items are those of a run of this walk, at most so many steps, and each step brought at most 100 records and one
+-- gap; the last exchange over the link told why it ended.
+abbrev pub FetchesRun : {S P : Type 0} → SocketRules S P →
+    Asked → WalkPlace → ℕ → UdpLink P → Fetching → UdpLink P → Held → Held → Type 0
+FetchesRun rules asked walk steps link fetching left old new =
+    (items : List Item) × PrintsItems items fetching old new
     × ((n : ℕ) × (ended : Ended) × (after : WalkPlace) × EndsAs items steps n ended after fetching old new
-    × IsFetched no_honest with.transactions.retries with.link.failures left.failures walk after n ended items
-    × Told socket_asks (towards with.transactions.route) with.transactions.retries ended after left)
-    × (result ≡ of_fetching asked.address fetching))
+    × IsFetched no_honest asked.retries link.failures left.failures walk after n ended items
+    × Told (socket_asks rules) (towards asked.route) asked.retries ended after left)
+
+-- A log is fetched over this socket: replies came, one after the other; what is printed are the lines of the items that
+-- they brought, and the end of their run; and if they say what one log holds, those are what it held.
+abbrev pub FetchesFrom : {S P : Type 0} → SocketRules S P →
+    Asked → WalkPlace → ℕ → P → Held → Ending → Held → Type 0
+FetchesFrom {P = P} rules asked walk steps port old result new =
+    (fetching : Fetching) × (left : UdpLink P)
+    × FetchesOver (socket_asks rules) (towards asked.route) asked.retries
+    (link_over asked.address port) walk steps fetching left old new
+    × FetchesRun rules asked walk steps (link_over asked.address port) fetching left old new
+    × (result ≡ of_fetching asked.address fetching)
+
+-- over a socket that is opened as the words say
+abbrev pub Reads : {S P : Type 0} → SocketRules S P → Asked → ReadProperty → Outside S → Ending → Outside S → Type 0
+Reads rules asked question old result new =
+    Opens rules (own_address asked.local) asked.timeout old result new
+    (λ port. ReadsFrom rules asked question port old.output result new.output)
+
+-- likewise
+abbrev pub Writes : {S P : Type 0} → SocketRules S P → Asked → Request → Outside S → Ending → Outside S → Type 0
+Writes rules asked question old result new =
+    Opens rules (own_address asked.local) asked.timeout old result new
+    (λ port. WritesTo rules asked question port old.output result new.output)
+
+-- likewise
+abbrev pub Fetches : {S P : Type 0} → SocketRules S P → Asked → WalkPlace → ℕ → Outside S → Ending → Outside S → Type 0
+Fetches rules asked walk steps old result new =
+    Opens rules (own_address asked.local) asked.timeout old result new
+    (λ port. FetchesFrom rules asked walk steps port old.output result new.output)
 
 -- an object type or an instance that no identifier has (clause 20.2.14)
 abbrev pub IsOutside : ℕ → ℕ → Type 0
 IsOutside object_type instance = (1024 ≤ object_type) ⊎ (4194304 ≤ instance)
 
 -- nothing is asked, since a word's value is none
-abbrev pub IsUnasked : Word → Held → Held → Ending → Type 0
-IsUnasked word old new result = (result ≡ Err (BadValue word)) × Keeps old new
+abbrev pub IsUnasked : {S : Type 0} → Word → Outside S → Ending → Outside S → Type 0
+IsUnasked word old result new =
+    (result ≡ Err (BadValue word)) × Keeps old.output new.output × (new.sockets ≡ old.sockets)
 
 -- no trend log has this instance, or no record this number
 abbrev pub IsNoWalk : ℕ → Option ℕ → Fault → Type 0
@@ -186,54 +214,68 @@ abbrev pub of_served : Done → Ending
 of_served (Ok done) = Ok 0
 of_served (Err fault) = Err Socket
 
--- The device is served for so many datagrams at a socket with this address and wait, and a line on the errors says so.
--- Without a socket for it, or without memory for that line, nothing is told.
-abbrev pub IsServed : {C : Type 0} → (C → Option CivilTime → C → Type 0) →
-    List ℕ → ℕ → ℕ → State → Streams C → Ending → Streams C → Type 0
-IsServed tells address wait count device old result new =
-    (((result ≡ Err Socket) ⊎ (result ≡ Err Memory)) × IsQuiet old new)
-    ⊎ ((port : UdpPort) × (served : Done) × (left : UdpPort) × (after : State) × IsOpen address wait port
-    × AppendsPart old.errors new.errors (serving_line address)
-    × ServesDevice any_send any_receive tells count (server port device old.clock) served (server left after new.clock)
-    × (result ≡ of_served served))
+-- The device is served for so many datagrams over this socket, and a line on the errors says so.
+abbrev pub IsServedOver : {S P C : Type 0} → SocketRules S P → (C → Option CivilTime → C → Type 0) →
+    List ℕ → ℕ → State → P → Streams S C → Ending → Streams S C → Type 0
+IsServedOver {P = P} rules tells address count device port old result new =
+    (served : Done) × (left : P) × (after : State) × AppendsPart old.errors new.errors (serving_line address)
+    × ServesDevice rules.sends rules.receives tells count
+    (server port device old.clock) served (server left after new.clock)
+    × (result ≡ of_served served)
+
+-- over the socket that was opened this is done; without one nothing is
+abbrev pub IsUp : {P : Type 0} → Opening P → Ending → Type 0 → (P → Type 0) → Type 0
+IsUp (Err fault) result quiet done = (result ≡ Err Socket) × quiet
+IsUp (Ok port) result quiet done = done port
+
+-- One socket is opened with this address and wait. Without memory for the line that says so, none is.
+abbrev pub IsServed : {S P C : Type 0} → SocketRules S P → (C → Option CivilTime → C → Type 0) →
+    List ℕ → ℕ → ℕ → State → Streams S C → Ending → Streams S C → Type 0
+IsServed {P = P} rules tells address wait count device old result new =
+    ((result ≡ Err Memory) × IsIdle old new)
+    ⊎ ((opened : Opening P) × rules.opens old.sockets address wait opened new.sockets
+    × IsUp opened result (IsQuiet old new) (λ port. IsServedOver rules tells address count device port old result new))
 
 -- a fifth of a second while a log has an interval, so that it takes its samples while nobody asks; else without limit
 abbrev pub wait_of : List ObjectLine → ℕ
 wait_of lines = if list_any has_interval lines then 200 else 0
 
 -- the faults of the configuration, of the build and of the socket, in this order
-abbrev pub Serves : {C : Type 0} → (C → Option CivilTime → C → Type 0) →
-    List ℕ → ℕ → Streams C → Ending → Streams C → Type 0
-Serves tells address count old result new =
-    ((fault : Fault) × IsConfigured old.input new.input (Err fault) × (result ≡ Err fault) × IsQuiet old new)
+abbrev pub Serves : {S P C : Type 0} → SocketRules S P → (C → Option CivilTime → C → Type 0) →
+    List ℕ → ℕ → Streams S C → Ending → Streams S C → Type 0
+Serves rules tells address count old result new =
+    ((fault : Fault) × IsConfigured old.input new.input (Err fault) × (result ≡ Err fault) × IsIdle old new)
     ⊎ ((c : Configuration) × IsConfigured old.input new.input (Ok c)
-    × (((fault : Fault) × IsUnbuilt c.device c.objects.items fault × (result ≡ Err fault) × IsQuiet old new)
+    × (((fault : Fault) × IsUnbuilt c.device c.objects.items fault × (result ≡ Err fault) × IsIdle old new)
     ⊎ ((build_fault c.device c.objects.items ≡ None)
-    × IsServed tells address (wait_of c.objects.items) count (built c.device c.objects.items) old result new)))
+    × IsServed rules tells address (wait_of c.objects.items) count (built c.device c.objects.items) old result new)))
 
 -- ---- any job
 
 -- The tool of a job, before its fault is told. Only `serve` looks at the clock, and tells that it is up.
-abbrev pub Works : {C : Type 0} → (C → Option CivilTime → C → Type 0) → Job → Streams C → Ending → Streams C → Type 0
-Works tells job.Replay old result new =
-    Plays old.input new.input old.output new.output result × IsQuiet old new
-Works tells (job.Rp asked object_type instance property index) old result new =
-    ((IsOutside object_type instance × IsUnasked Instance old.output new.output result)
-    ⊎ Reads asked (question object_type instance property index) old.output new.output result)
+abbrev pub Works : {S P C : Type 0} → SocketRules S P → (C → Option CivilTime → C → Type 0) →
+    Job → Streams S C → Ending → Streams S C → Type 0
+Works rules tells job.Replay old result new =
+    Plays old.input new.input old.output new.output result × IsIdle old new
+Works rules tells (job.Rp asked object_type instance property index) old result new =
+    ((IsOutside object_type instance × IsUnasked Instance (outside_of old) result (outside_of new))
+    ⊎ Reads rules asked (question object_type instance property index) (outside_of old) result (outside_of new))
     × IsQuiet old new
-Works tells (job.Wp asked object_type instance property priority given index) old result new =
-    ((IsOutside object_type instance × IsUnasked Instance old.output new.output result)
+Works rules tells (job.Wp asked object_type instance property priority given index) old result new =
+    ((IsOutside object_type instance × IsUnasked Instance (outside_of old) result (outside_of new))
     ⊎ ((w : WriteProperty) × (write_of_code w ≡ setting object_type instance property priority given index)
-    × Writes asked (request.WriteProperty w) old.output new.output result))
+    × Writes rules asked (request.WriteProperty w) (outside_of old) result (outside_of new)))
     × IsQuiet old new
-Works tells (job.Log asked instance from steps) old result new =
+Works rules tells (job.Log asked instance from steps) old result new =
     (((fault : Fault) × (IsNoWalk instance from fault × (result ≡ Err fault))
-    × Keeps old.output new.output) ⊎ Fetches asked (walk_from instance from) steps old.output new.output result)
+    × Keeps old.output new.output × IsUnopened old new)
+    ⊎ Fetches rules asked (walk_from instance from) steps (outside_of old) result (outside_of new))
     × IsQuiet old new
-Works tells (job.Serve address count) old result new =
-    Serves tells address count old result new × Keeps old.output new.output
-Works tells (job.Wi addresses min max dnet local timeout) old result new =
-    Searches (search_of min max dnet) addresses local timeout old.output new.output result × IsQuiet old new
+Works rules tells (job.Serve address count) old result new =
+    Serves rules tells address count old result new × Keeps old.output new.output
+Works rules tells (job.Wi addresses min max dnet local timeout) old result new =
+    Searches rules (search_of min max dnet) addresses local timeout (outside_of old) result (outside_of new)
+    × IsQuiet old new
 
 -- ---- the status
 
@@ -250,10 +292,12 @@ Ends (Err fault) old new status = IsTold fault old new status
 
 -- What the words ask for is done, which leaves this on the errors, and then its fault is told; or nothing is done, as
 -- there is no memory for the words.
-abbrev pub Runs : {C : Type 0} → (C → Option CivilTime → C → Type 0) → Job → Streams C → ℕ → Streams C → Type 0
-Runs tells asked old status new =
-    (IsTold Memory old.errors new.errors status × Keeps old.output new.output × (new.clock ≡ old.clock))
-    ⊎ ((result : Ending) × (said : Held) × Works tells asked old result (with_errors said new)
+abbrev pub Runs : {S P C : Type 0} → SocketRules S P → (C → Option CivilTime → C → Type 0) →
+    Job → Streams S C → ℕ → Streams S C → Type 0
+Runs rules tells asked old status new =
+    (IsTold Memory old.errors new.errors status × Keeps old.output new.output
+    × (new.clock ≡ old.clock) × IsUnopened old new)
+    ⊎ ((result : Ending) × (said : Held) × Works rules tells asked old result (with_errors said new)
     × Ends result said new.errors status)
 
 -- words that ask for a job

@@ -1,31 +1,30 @@
 //! The tools that ask one device.
 
-ghost use Rattle.std.specs.Prelude.{◌≡◌, None, IfOk, IfErr};
+ghost use Rattle.std.specs.Prelude.{◌≡◌, None, Ok, Err, IfOk, IfErr};
 ghost use Rattle.bac_link.specs.Requests.{IsSendable};
 ghost use Rattle.bac_wire.specs.View.{view, IsWellFormed};
 ghost use Rattle.bac_tools.specs.Given.{value_of};
 ghost use Rattle.bac_tools.specs.Run.{Fetches, Reads, Writes};
-ghost use Rattle.bac_tools.specs.Sockets.{IsAsking};
+ghost use Rattle.bac_tools.specs.Sockets.{link_over, outside, own_address, socket_rules, transactions_with};
 
 use crate::fault::{Fault, walk_status};
 use bac_apdu::{ReadProperty, Route};
 use bac_link::{Request, Transactions};
-use bac_ports::{UdpLink, UdpPort};
+use bac_ports::{SocketFault, Sockets, UdpLink};
 use bac_query::{fetch_log, read_property, write_property};
 use bac_walk::Walk;
 use bac_wire::Value;
 use bac_words::{Asked, Given};
 use std::alloc::Global;
 use std::io::Write;
-use std::net::Net;
 
 /// Any address of this machine, and any free port.
 pub(crate) const ANY: [u8; 6] = [0; 6];
 
 /// A link to the device that is asked, and transactions with it.
 #[derive(Debug, Drop)]
-pub(crate) struct Asking {
-    link: UdpLink<UdpPort>,
+pub(crate) struct Asking<P> {
+    link: UdpLink<P>,
     transactions: Transactions,
 }
 
@@ -40,9 +39,12 @@ fn transactions_by(retries: u8, route: Option<Route>) -> Transactions
 }
 
 /// Opens a socket to ask the device that the words name, as they say.
-fn connect<R: Net>(rt: &R, asked: Asked) -> Result<Asking, Fault>
-    ensures ok { IfOk result (λ asking. IsAsking asked asking) }
-    ensures err { IfErr result (λ fault. fault ≡ Fault.Socket) }
+fn connect<S: Sockets>(sockets: &mut S, asked: Asked) -> Result<Asking<S::Socket>, Fault>
+    ensures ok { IfOk result (λ asking. S.opens sockets.old (own_address asked.local) asked.timeout (Ok asking.link.port) sockets.new
+        × (asking.link ≡ link_over asked.address asking.link.port)
+        × (asking.transactions ≡ transactions_with asked)) }
+    ensures err { IfErr result (λ fault. (fault ≡ Fault.Socket)
+        × ((why : SocketFault) × S.opens sockets.old (own_address asked.local) asked.timeout (Err why) sockets.new)) }
 {
     let Asked {
         address,
@@ -51,7 +53,7 @@ fn connect<R: Net>(rt: &R, asked: Asked) -> Result<Asking, Fault>
         retries,
         route,
     } = asked;
-    match UdpPort::open(rt, local.unwrap_or(ANY), timeout) {
+    match sockets.open(local.unwrap_or(ANY), timeout) {
         Ok(port) => Ok(Asking {
             link: UdpLink::new(port, address),
             transactions: transactions_by(retries, route),
@@ -61,20 +63,21 @@ fn connect<R: Net>(rt: &R, asked: Asked) -> Result<Asking, Fault>
 }
 
 /// Reads a property, and prints its values.
-pub(crate) fn rp<R: Net, O: Write>(
-    rt: &R,
+pub(crate) fn rp<S: Sockets, O: Write>(
+    sockets: &mut S,
     alloc: Global,
     asked: Asked,
     question: ReadProperty,
     output: &mut O,
 ) -> Result<u8, Fault>
-    ensures { Reads asked question (O.contents output.old) (O.contents output.new) result }
+    ensures { Reads (socket_rules S.opens S.Socket.sends S.Socket.receives S.Socket.receives_within) asked question
+        (outside sockets.old (O.contents output.old)) result (outside sockets.new (O.contents output.new)) }
 {
     let address = asked.address;
     let Asking {
         mut link,
         mut transactions,
-    } = connect(rt, asked)?;
+    } = connect(sockets, asked)?;
     match read_property(alloc, &mut link, &mut transactions, question, output) {
         Ok(()) => Ok(0),
         Err(fault) => Err(Fault::of_query(address, fault)),
@@ -82,20 +85,21 @@ pub(crate) fn rp<R: Net, O: Write>(
 }
 
 /// Writes a property, and prints that it was done.
-pub(crate) fn wp<R: Net, O: Write>(
-    rt: &R,
+pub(crate) fn wp<S: Sockets, O: Write>(
+    sockets: &mut S,
     asked: Asked,
     question: &Request,
     output: &mut O,
 ) -> Result<u8, Fault>
     requires { IsSendable question.now }
-    ensures { Writes asked question.now (O.contents output.old) (O.contents output.new) result }
+    ensures { Writes (socket_rules S.opens S.Socket.sends S.Socket.receives S.Socket.receives_within) asked question.now
+        (outside sockets.old (O.contents output.old)) result (outside sockets.new (O.contents output.new)) }
 {
     let address = asked.address;
     let Asking {
         mut link,
         mut transactions,
-    } = connect(rt, asked)?;
+    } = connect(sockets, asked)?;
     match write_property(&mut link, &mut transactions, question, output) {
         Ok(()) => Ok(0),
         Err(fault) => Err(Fault::of_query(address, fault)),
@@ -103,21 +107,22 @@ pub(crate) fn wp<R: Net, O: Write>(
 }
 
 /// Walks a log, and prints what it brings.
-pub(crate) fn log<R: Net, O: Write>(
-    rt: &R,
+pub(crate) fn log<S: Sockets, O: Write>(
+    sockets: &mut S,
     alloc: Global,
     asked: Asked,
     walk: Walk,
     steps: u32,
     output: &mut O,
 ) -> Result<u8, Fault>
-    ensures { Fetches asked walk steps (O.contents output.old) (O.contents output.new) result }
+    ensures { Fetches (socket_rules S.opens S.Socket.sends S.Socket.receives S.Socket.receives_within) asked walk steps
+        (outside sockets.old (O.contents output.old)) result (outside sockets.new (O.contents output.new)) }
 {
     let address = asked.address;
     let Asking {
         mut link,
         mut transactions,
-    } = connect(rt, asked)?;
+    } = connect(sockets, asked)?;
     match fetch_log(alloc, &mut link, &mut transactions, walk, steps, output) {
         Ok(fetched) => Ok(walk_status(fetched.why)),
         Err(fault) => Err(Fault::of_query(address, fault)),

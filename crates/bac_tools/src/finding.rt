@@ -3,15 +3,15 @@
 ghost use Rattle.std.specs.Prelude.{◌≡◌};
 ghost use Rattle.bac_tools.specs.Faults.{of_find};
 ghost use Rattle.bac_tools.specs.Finding.{limits_of, Searches};
+ghost use Rattle.bac_tools.specs.Sockets.{outside, socket_rules};
 
 use crate::asking::ANY;
 use crate::fault::Fault;
 use bac_find::{FindFault, Search, find_devices};
-use bac_ports::UdpPort;
+use bac_ports::Sockets;
 use bac_words::Addresses;
 use std::alloc::Global;
 use std::io::Write;
-use std::net::Net;
 
 /// The limits of the instances that are to answer; the lowest alone is both.
 pub(crate) fn limits(min: Option<u32>, max: Option<u32>) -> Option<(u32, u32)>
@@ -35,8 +35,8 @@ fn of_find(fault: FindFault) -> Fault
 }
 
 /// Asks each address who is there, and prints each device that announces itself.
-pub(crate) fn wi<R: Net, O: Write>(
-    rt: &R,
+pub(crate) fn wi<S: Sockets, O: Write>(
+    sockets: &mut S,
     alloc: Global,
     addresses: &Addresses,
     search: &Search,
@@ -44,9 +44,10 @@ pub(crate) fn wi<R: Net, O: Write>(
     timeout: u32,
     output: &mut O,
 ) -> Result<u8, Fault>
-    ensures { Searches search.now addresses.now local timeout (O.contents output.old) (O.contents output.new) result }
+    ensures { Searches (socket_rules S.opens S.Socket.sends S.Socket.receives S.Socket.receives_within) search.now addresses.now local timeout
+        (outside sockets.old (O.contents output.old)) result (outside sockets.new (O.contents output.new)) }
 {
-    let Ok(mut port) = UdpPort::open(rt, local.unwrap_or(ANY), timeout) else {
+    let Ok(mut port) = sockets.open(local.unwrap_or(ANY), timeout) else {
         return Err(Fault::Socket);
     };
     match find_devices(alloc, &mut port, addresses.as_slice(), search, output) {

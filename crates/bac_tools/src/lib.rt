@@ -1,9 +1,9 @@
-//! What the program `bac` does: the tool that its words name, over streams and a clock that the
-//! caller hands in, and over sockets.
+//! What the program `bac` does: the tool that its words name, over streams, sockets and a clock
+//! that the caller hands in.
 //!
-//! [`run`] reads the words, does what they ask for and answers the exit status. What it leaves on
-//! its output is stated tool by tool in specs/Run, and the status of each end in specs/Status.
-//! Nothing is said of sockets: what comes from one may come from anyone.
+//! [`run`] reads the words, does what they ask for and answers the exit status. What it asks over
+//! the socket that it opens, and what it leaves on its output of what came, is stated tool by tool
+//! in specs/Run, and the status of each end in specs/Status. What comes may come from anyone.
 //!
 //! The crate is the door of the program: scripts (bac_script), words (bac_words) and serving
 //! (bac_serve) are reached from here.
@@ -19,6 +19,7 @@ mod serving;
 mod telling;
 mod until_refused;
 
+pub use bac_ports::{Heard, Port, SocketFault, Sockets, UdpPort, UdpSockets};
 pub use bac_script::{
     Configuration, Flaw, LIMIT, LineKind, Reason, Refused, ReplayFault, Wanted, read_configuration,
     read_configuration_explained, run_replay, run_replay_explained,

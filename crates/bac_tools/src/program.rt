@@ -5,6 +5,7 @@ ghost use Rattle.std.specs.Io.KnownBytes.{Keeps};
 ghost use Rattle.std.specs.String.{string_bytes};
 ghost use Rattle.clap.specs.Values.{kind_of};
 ghost use Rattle.bac_tools.specs.Run.{AreMistaken, AreWrong, AskFor, Ends, IsMistake, IsNoWalk, IsOutside, IsTold, Runs, Works, priority_of, walk_from};
+ghost use Rattle.bac_tools.specs.Sockets.{socket_rules};
 ghost use Rattle.bac_tools.specs.Streams.{streams};
 ghost use Rattle.bac_words.specs.declared.job.Job.{Job as AnyJob};
 ghost use Rattle.bac_words.specs.declared.word.Word.{Word as AnyWord};
@@ -19,6 +20,7 @@ use bac_apdu::object_type::TREND_LOG;
 use bac_apdu::{ReadProperty, WhoIs, WriteProperty};
 use bac_find::Search;
 use bac_link::Request;
+use bac_ports::Sockets;
 use bac_print::write_text;
 use bac_serve::Clock;
 use bac_walk::Walk;
@@ -26,7 +28,6 @@ use bac_wire::ObjectId;
 use bac_words::{Job, Word, WordsFault, read_words};
 use std::alloc::Global;
 use std::io::{Read, Write};
-use std::net::Net;
 
 /// The object of a question.
 fn object(object_type: u16, instance: u32) -> Result<ObjectId, Fault>
@@ -64,8 +65,8 @@ fn priority(number: u8) -> Option<u8>
 
 /// Does what a job asks for; answers the exit status. Of the errors, a server tells there that it is
 /// up.
-fn work<R: Net, I: Read, O: Write, E: Write, C: Clock>(
-    rt: &R,
+fn work<S: Sockets, I: Read, O: Write, E: Write, C: Clock>(
+    sockets: &mut S,
     alloc: Global,
     job: Job,
     input: &mut I,
@@ -73,9 +74,9 @@ fn work<R: Net, I: Read, O: Write, E: Write, C: Clock>(
     errors: &mut E,
     clock: &mut C,
 ) -> Result<u8, Fault>
-    ensures { Works C.tells job
-        (streams (I.remaining input.old) (O.contents output.old) (E.contents errors.old) clock.old) result
-        (streams (I.remaining input.new) (O.contents output.new) (E.contents errors.new) clock.new) }
+    ensures { Works (socket_rules S.opens S.Socket.sends S.Socket.receives S.Socket.receives_within) C.tells job
+        (streams (I.remaining input.old) (O.contents output.old) (E.contents errors.old) sockets.old clock.old) result
+        (streams (I.remaining input.new) (O.contents output.new) (E.contents errors.new) sockets.new clock.new) }
 {
     match job {
         Job::Replay => replay(alloc, input, output),
@@ -93,7 +94,7 @@ fn work<R: Net, I: Read, O: Write, E: Write, C: Clock>(
                     limits: limits(min, max),
                 },
             };
-            wi(rt, alloc, &addresses, &search, local, timeout, output)
+            wi(sockets, alloc, &addresses, &search, local, timeout, output)
         }
         Job::Rp {
             asked,
@@ -107,7 +108,7 @@ fn work<R: Net, I: Read, O: Write, E: Write, C: Clock>(
                 property,
                 index,
             };
-            rp(rt, alloc, asked, question, output)
+            rp(sockets, alloc, asked, question, output)
         }
         Job::Wp {
             asked,
@@ -125,15 +126,17 @@ fn work<R: Net, I: Read, O: Write, E: Write, C: Clock>(
                 value: value_of(&given),
                 priority: priority(number),
             });
-            wp(rt, asked, &question, output)
+            wp(sockets, asked, &question, output)
         }
         Job::Log {
             asked,
             instance,
             from,
             steps,
-        } => log(rt, alloc, asked, walk(instance, from)?, steps, output),
-        Job::Serve { address, count } => serve(rt, alloc, address, count, input, errors, clock),
+        } => log(sockets, alloc, asked, walk(instance, from)?, steps, output),
+        Job::Serve { address, count } => serve(
+            sockets, alloc, address, count, input, errors, clock,
+        ),
     }
 }
 
@@ -164,8 +167,8 @@ fn explain<O: Write, E: Write>(
 /// The program `bac`: does what its words ask for, the first of which is its name, and answers the
 /// exit status. Results and help go to the output; faults, and the line of a server that is up, go
 /// to the errors. Each is one write.
-pub fn run<R: Net, I: Read, O: Write, E: Write, C: Clock>(
-    rt: &R,
+pub fn run<S: Sockets, I: Read, O: Write, E: Write, C: Clock>(
+    sockets: &mut S,
     alloc: Global,
     words: &[String],
     input: &mut I,
@@ -175,9 +178,9 @@ pub fn run<R: Net, I: Read, O: Write, E: Write, C: Clock>(
 ) -> u8
     // The tool that the words name does what they say.
     ensures done { (job : AnyJob) → AskFor (map string_bytes words.now) job →
-        Runs C.tells job
-        (streams (I.remaining input.old) (O.contents output.old) (E.contents errors.old) clock.old) result
-        (streams (I.remaining input.new) (O.contents output.new) (E.contents errors.new) clock.new) }
+        Runs (socket_rules S.opens S.Socket.sends S.Socket.receives S.Socket.receives_within) C.tells job
+        (streams (I.remaining input.old) (O.contents output.old) (E.contents errors.old) sockets.old clock.old) result
+        (streams (I.remaining input.new) (O.contents output.new) (E.contents errors.new) sockets.new clock.new) }
     // Words that are wrong leave the output as it is.
     ensures bad_value { (word : AnyWord) → AreWrong (map string_bytes words.now) word →
         Keeps (O.contents output.old) (O.contents output.new)
@@ -192,7 +195,7 @@ pub fn run<R: Net, I: Read, O: Write, E: Write, C: Clock>(
         Err(WordsFault::BadValue(word)) => return tell(alloc, Fault::BadValue(word), errors),
         Err(WordsFault::Memory) => return tell(alloc, Fault::Memory, errors),
     };
-    match work(rt, alloc, job, input, output, errors, clock) {
+    match work(sockets, alloc, job, input, output, errors, clock) {
         Ok(status) => status,
         Err(fault) => tell(alloc, fault, errors),
     }

@@ -4,19 +4,18 @@ ghost use Rattle.std.specs.Prelude.{◌≡◌, ◌⊎◌, Ok, Err, Some, None, I
 ghost use Rattle.bac_objects.specs.Build.{build_fault, built as built_of};
 ghost use Rattle.bac_print.specs.Output.{AppendsPart};
 ghost use Rattle.bac_tools.specs.Run.{IsConfigured, IsUnbuilt, Serves};
-ghost use Rattle.bac_tools.specs.Sockets.{IsOpen};
+ghost use Rattle.bac_tools.specs.Sockets.{socket_rules};
 ghost use Rattle.bac_tools.specs.Streams.{streams};
 ghost use Rattle.bac_tools.specs.Texts.{serving_line};
 
 use crate::fault::Fault;
 use crate::telling::{announcement, say};
 use bac_device::{Device, misfit};
-use bac_ports::UdpPort;
+use bac_ports::{SocketFault, Sockets};
 use bac_script::{Configuration, Reason, Refused, ReplayFault, read_configuration_explained};
 use bac_serve::{Clock, idle_wait};
 use std::alloc::Global;
 use std::io::{Read, Write};
-use std::net::Net;
 
 /// Reads the configuration to its end.
 fn configured<I: Read>(alloc: Global, input: &mut I) -> Result<Configuration, Fault>
@@ -55,22 +54,24 @@ fn built(alloc: Global, configuration: &Configuration) -> Result<Device, Fault>
 }
 
 /// The socket of a server at an address; each receive waits so long at most. That it is up is told.
-fn open_socket<R: Net, E: Write>(
-    rt: &R,
+fn open_socket<S: Sockets, E: Write>(
+    sockets: &mut S,
     alloc: Global,
     address: [u8; 6],
     wait: u32,
     errors: &mut E,
-) -> Result<UdpPort, Fault>
-    ensures ok { IfOk result (λ port. IsOpen address wait port
+) -> Result<S::Socket, Fault>
+    ensures ok { IfOk result (λ port. S.opens sockets.old address wait (Ok port) sockets.new
         × AppendsPart (E.contents errors.old) (E.contents errors.new) (serving_line address)) }
-    ensures err { IfErr result (λ fault. ((fault ≡ Fault.Socket) ⊎ (fault ≡ Fault.Memory)) × (errors.new ≡ errors.old)) }
+    ensures err { IfErr result (λ fault. (errors.new ≡ errors.old)
+        × (((fault ≡ Fault.Memory) × (sockets.new ≡ sockets.old))
+        ⊎ ((fault ≡ Fault.Socket) × ((why : SocketFault) × S.opens sockets.old address wait (Err why) sockets.new)))) }
 {
     // The memory for the line comes first: a socket that is open is told.
     let Ok(line) = announcement(alloc, address) else {
         return Err(Fault::Memory);
     };
-    let Ok(port) = UdpPort::open(rt, address, wait) else {
+    let Ok(port) = sockets.open(address, wait) else {
         return Err(Fault::Socket);
     };
     say(&line, errors);
@@ -78,8 +79,8 @@ fn open_socket<R: Net, E: Write>(
 }
 
 /// Is the device that the input describes, until so many datagrams have come.
-pub(crate) fn serve<R: Net, I: Read, E: Write, C: Clock>(
-    rt: &R,
+pub(crate) fn serve<S: Sockets, I: Read, E: Write, C: Clock>(
+    sockets: &mut S,
     alloc: Global,
     address: [u8; 6],
     count: u32,
@@ -87,14 +88,14 @@ pub(crate) fn serve<R: Net, I: Read, E: Write, C: Clock>(
     errors: &mut E,
     clock: &mut C,
 ) -> Result<u8, Fault>
-    ensures { Serves C.tells address count
-        (streams (I.remaining input.old) None (E.contents errors.old) clock.old) result
-        (streams (I.remaining input.new) None (E.contents errors.new) clock.new) }
+    ensures { Serves (socket_rules S.opens S.Socket.sends S.Socket.receives S.Socket.receives_within) C.tells address count
+        (streams (I.remaining input.old) None (E.contents errors.old) sockets.old clock.old) result
+        (streams (I.remaining input.new) None (E.contents errors.new) sockets.new clock.new) }
 {
     let configuration = configured(alloc, input)?;
     let mut device = built(alloc, &configuration)?;
     let wait = idle_wait(&configuration.objects);
-    let mut port = open_socket(rt, alloc, address, wait, errors)?;
+    let mut port = open_socket(sockets, alloc, address, wait, errors)?;
     match bac_serve::serve(&mut port, &mut device, clock, count) {
         Ok(()) => Ok(0),
         Err(_) => Err(Fault::Socket),

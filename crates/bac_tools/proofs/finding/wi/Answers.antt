@@ -1,26 +1,18 @@
-use Rattle.std.proofs.Common.{Err, ap, inr, refl}
+use Rattle.std.proofs.Common.{Err, Ok, ap, refl}
 use Rattle.bac_tools.proofs.finding.wi.Goals as goal
 
 pub returns : goal.returns
 returns g c =
-    let finds = rw c.as_slice.ensures at c.find_devices.ensures in
-    inr (
-      c.in-Ok.port,
-      c.find_devices.result,
-      c.find_devices.new.port,
-      rw c.unwrap_or.ensures at c.in-Ok.ensures,
-      finds,
-      rw c.in-Err.is (ap Err c.of_find.ensures),
+    let finds = rw c.as_slice.ensures at c.find_devices.ensures in (
+      Ok c.in-Ok.port,
+      rw (c.unwrap_or.ensures, c.in-Ok.is) at c.open.ensures,
+      (c.find_devices.result, c.find_devices.new.port, finds, rw c.in-Err.is (ap Err c.of_find.ensures)),
     )
 
 pub returns-in-Ok-find_devices : goal.returns-in-Ok-find_devices
 returns-in-Ok-find_devices g c =
-    let finds = rw c.as_slice.ensures at c.find_devices.ensures in
-    inr (
-      c.in-Ok.port,
-      c.find_devices.result,
-      c.find_devices.new.port,
-      rw c.unwrap_or.ensures at c.in-Ok.ensures,
-      finds,
-      rw c.in-Ok-find_devices.is refl,
+    let finds = rw c.as_slice.ensures at c.find_devices.ensures in (
+      Ok c.in-Ok.port,
+      rw (c.unwrap_or.ensures, c.in-Ok.is) at c.open.ensures,
+      (c.find_devices.result, c.find_devices.new.port, finds, rw c.in-Ok-find_devices.is refl),
     )

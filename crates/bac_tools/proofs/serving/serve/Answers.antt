@@ -1,8 +1,9 @@
-use Rattle.std.proofs.Common.{ap, inl, inr, refl, ◌∙◌}
+use Rattle.std.proofs.Common.{None, Ok, ap, inl, inr, refl, ◌∙◌}
 use Rattle.std.proofs.lemmas.Result.{err_from_is_err_and}
-use Rattle.bac_tools.proofs.Parts.{either_fault}
+use Rattle.bac_tools.proofs.Parts.{unserved}
 use Rattle.bac_tools.specs.Run.{wait_of}
-use Rattle.bac_tools.specs.declared.fault.Fault.TheVariants.{Socket, Memory}
+use Rattle.bac_tools.specs.Sockets.{socket_rules}
+use Rattle.bac_tools.specs.Streams.{streams}
 use Rattle.bac_tools.proofs.serving.serve.Goals as goal
 
 pub returns-in_err-device : goal.returns-in_err-device
@@ -11,21 +12,23 @@ returns-in_err-device g c =
     inr (
       c.in_ok-configuration.configuration,
       c.in_ok-configuration.ensures,
-      inl (c.in_err-device.field-0.0, c.in_err-device.ensures.err, rw (p.1, p.2) refl, (refl, refl)),
+      inl (c.in_err-device.field-0.0, c.in_err-device.ensures.err, rw (p.1, p.2) refl, ((refl, refl), refl)),
     )
 
 pub returns-in_err-port : goal.returns-in_err-port
 returns-in_err-port g c =
     let p = err_from_is_err_and c.from_residual-in_err-port.result c.from_residual-in_err-port.ensures.1 in
+    let down = rw (c.idle_wait-wait.ensures ∙ ap wait_of c.deref.ensures.value) at c.in_err-port.ensures.err in
     inr (
       c.in_ok-configuration.configuration,
       c.in_ok-configuration.ensures,
       inr (
         c.in_ok-device.ensures.ok.0,
-        inl (
-          either_fault c.from_residual-in_err-port.result c.in_err-port.field-0.0 Socket Memory (rw (p.1, p.2) refl) c.in_err-port.ensures.err.0,
-          (ap g.E.Write.contents c.in_err-port.ensures.err.1, refl),
-        ),
+        unserved (socket_rules g.S.Sockets.opens g.S.Socket.Port.sends g.S.Socket.Port.receives g.S.Socket.Port.receives_within) g.C.Clock.tells
+            c.args.address (wait_of c.in_ok-configuration.configuration.objects.items) c.args.count _ (streams None None _ _ _)
+            (streams None None _ _ _)
+            c.from_residual-in_err-port.result c.in_err-port.field-0.0 (rw (p.1, p.2) refl)
+            (ap g.E.Write.contents down.0) refl down.1,
       ),
     )
 
@@ -38,7 +41,11 @@ returns-in-Ok g c =
       c.in_ok-configuration.ensures,
       inr (
         c.in_ok-device.ensures.ok.0,
-        inr (c.in_ok-port.port, c.serve.result, c.serve.new.port, c.serve.new.device, up.0, up.1, serves, rw c.in-Ok.is refl),
+        inr (
+          Ok c.in_ok-port.port,
+          up.0,
+          (c.serve.result, c.serve.new.port, c.serve.new.device, up.1, serves, rw c.in-Ok.is refl),
+        ),
       ),
     )
 
@@ -51,6 +58,10 @@ returns g c =
       c.in_ok-configuration.ensures,
       inr (
         c.in_ok-device.ensures.ok.0,
-        inr (c.in_ok-port.port, c.serve.result, c.serve.new.port, c.serve.new.device, up.0, up.1, serves, rw c.in-Err.is refl),
+        inr (
+          Ok c.in_ok-port.port,
+          up.0,
+          (c.serve.result, c.serve.new.port, c.serve.new.device, up.1, serves, rw c.in-Err.is refl),
+        ),
       ),
     )

@@ -1,0 +1,28 @@
+use Rattle.std.proofs.Common.{Err, Ok, ap, refl}
+use Rattle.bac_tools.proofs.asking.rp.Goals as goal
+
+pub returns-in-Ok : goal.returns-in-Ok
+returns-in-Ok g c =
+    let (opened, linked, begun) = c.in_ok-link.ensures.ok in (
+      Ok c.in_ok-link.field-0.link.port,
+      opened,
+      (
+        c.read_property.result,
+        c.read_property.new.link,
+        rw (linked, begun) at c.read_property.ensures.asked,
+        rw c.in-Ok.is refl,
+      ),
+    )
+
+pub returns : goal.returns
+returns g c =
+    let (opened, linked, begun) = c.in_ok-link.ensures.ok in (
+      Ok c.in_ok-link.field-0.link.port,
+      opened,
+      (
+        c.read_property.result,
+        c.read_property.new.link,
+        rw (linked, begun) at c.read_property.ensures.asked,
+        rw c.in-Err.is (ap Err c.of_query.ensures),
+      ),
+    )
