@@ -112,7 +112,7 @@ bac serve 127.0.0.1 --count=1 --count=1
 mistaken 'an option twice'
 
 bac --version
-printf 'bac unreleased\n' > "$room/version"
+printf 'bac 0.1.0, ANSI/ASHRAE 135, Protocol_Revision 12\n' > "$room/version"
 ended 'the version, whole' 0 '' "$room/version"
 # Help compared whole: of the program, and of each tool.
 bac --help
@@ -127,6 +127,11 @@ for tool in wi rp wp log serve replay; do
     bac help "$tool"
     ended "help of $tool by its word" 0 '' "$tool.help"
 done
+# No line of help is wider than a terminal of 80 columns.
+for help in bac.help {wi,rp,wp,log,serve,replay}.help; do
+    awk -v help="$help" 'length($0) > 80 { print help ": " $0 }' "$help"
+done > "$room/out" 2> "$room/err"
+ended 'help of 80 columns' 0 ''
 
 # Values that a word or an option can't have: the second line tells which.
 wrong() {
@@ -241,6 +246,7 @@ counted ./rows.sh
 # The tools over sockets of this machine: with a socket that says what a file says, and with a server.
 counted ./talk.py
 counted ./loopback.sh
+counted ./stations.sh
 # A device behind a router.
 counted ./router.sh
 counted ./edges.sh

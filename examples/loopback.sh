@@ -134,6 +134,22 @@ bac log "$at" 2 oldest
 is 'from the oldest there is no gap' "$(cut -d ' ' -f 1,3- "$room/out" | head -n 1) $(tail -n 1 "$room/out") $(wc -l < "$room/out")" \
     '21 status(010) - caught up, next 22 2'
 
+# ---- a device of another make: records of each kind, in encodings of its own (trend.py)
+
+for seed in {1..10}; do
+    coproc python3 ./trend.py "$room/held" "$seed"
+    stranger=$COPROC_PID input=${COPROC[1]}
+    read -r other <&"${COPROC[0]}"
+    bac log "$other" 7 oldest --timeout=1000
+    is "each record of another device, seed $seed" "$said" "$(cat "$room/held"; echo 'caught up, next 350')||0"
+    bac log "$other" 7 4294967290 --timeout=1000
+    is "its records across the last number, seed $seed" "$said" "$(tail -n 355 "$room/held"; echo 'caught up, next 350')||0"
+    bac log "$other" 7 4294966940 --timeout=1000
+    is "its gap and its records, seed $seed" "$said" "$(echo 'gap 4294966940 4294966944'; cat "$room/held"; echo 'caught up, next 350')||0"
+    exec {input}>&-
+    wait "$stranger"
+done
+
 # ---- outputs that refuse
 
 "$program" log "$at" 1 oldest > /dev/full 2> "$room/err"

@@ -1,2 +1,4 @@
 mod SchemaLemmas
 mod RowsLemmas
+mod QueryLemmas
+mod SpanLemmas

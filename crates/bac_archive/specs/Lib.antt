@@ -1,2 +1,3 @@
 pub mod Schema
 pub mod Rows
+pub mod Archive

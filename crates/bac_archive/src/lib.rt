@@ -6,9 +6,12 @@
 #![tactic(auto)]
 
 mod creation;
+mod opening;
 mod row;
 mod rows;
+mod shape;
 
 pub use creation::create;
+pub use opening::{Refused, open};
 pub use row::Row;
 pub use rows::{append, leaves_the_last_commit};

@@ -13,3 +13,5 @@ pub mod Questions
 pub mod Fits
 pub mod Unaborted
 pub mod Runs
+pub mod WaysBack
+pub mod Samples

@@ -1,5 +1,5 @@
 -- Replies fit a datagram.
-use Rattle.std.proofs.Common.{◌≡◌, ℕ, ◌+◌, ◌*◌, ◌^◌, ◌<◌, ◌≤◌, ◌/◌, ◌%◌, Bool, true, false, cond, nat_lt, List, [], ◌∷◌, ◌++◌, length, Option, Some, None, Result, Ok, Err, refl, ap, sym, ◌∙◌, arith, length-append}
+use Rattle.std.proofs.Common.{◌≡◌, ℕ, ◌+◌, ◌*◌, ◌^◌, ◌<◌, ◌≤◌, Bool, true, false, cond, nat_lt, List, [], ◌∷◌, ◌++◌, length, Option, Some, None, Result, Ok, Err, refl, ap, sym, ◌∙◌, arith, length-append}
 use Rattle.std.specs.Int.{w32, w64, to_be_bytes}
 use Rattle.std.specs.Result.{IsOk}
 use Rattle.bac_wire.specs.Primitive.{Id, Unsigned, Enumerated, Object}
@@ -11,11 +11,10 @@ use Rattle.bac_apdu.specs.FormCanon.{canon_form}
 use Rattle.std.specs.Prelude.{is_some}
 use Rattle.std.specs.Option.{option_map}
 use Rattle.std.proofs.lemmas.Bool.Decides.{nat_tests}
-use Rattle.bac_apdu.specs.Frame.{result_octets, unicast_head}
+use Rattle.bac_apdu.specs.Frame.{unicast_head}
 use Rattle.bac_apdu.specs.Service.IAm.{i_am, i_am_parameters}
 use Rattle.bac_apdu.specs.Npdu.{Place, place_octets, header_octets}
 use Rattle.bac_apdu.specs.declared.service.i_am.IAm.{IAm}
-use Rattle.bac_device.specs.Receiving.{nak_octets}
 use Rattle.bac_device.specs.Reply.{Return, abort, begun, datagram_octets, datagram_to, limited, plain, receiver_of, reply, reply_octets}
 use Rattle.bac_device.specs.declared.reply.Receiver.{Receiver}
 use Rattle.bac_device.specs.declared.reply.Reply.{Reply}

@@ -7,3 +7,4 @@ pub mod History
 pub mod Laws
 pub mod Logs
 pub mod Run
+pub mod Ways

@@ -1,25 +1,30 @@
 -- What each call makes of a device's trend logs (clause 12.25).
-use Rattle.std.specs.Prelude.{◌≡◌, ◌≢◌, ℕ, ◌⊎◌, min, Bool, true, false, List, ◌++◌, Option, None, Some, Result, Ok, Err}
+use Rattle.std.specs.Prelude.{◌≡◌, ◌≢◌, ℕ, ◌==◌, ◌&&◌, ◌⊎◌, min, Bool, true, false, if◌then◌else◌, List, ◌++◌}
+use Rattle.std.specs.Prelude.{Option, None, Some, Result, Ok, Err}
 use Rattle.std.specs.Map.{keys_of}
-use Rattle.bac_wire.specs.Stamp.{CivilTime}
+use Rattle.bac_wire.specs.Stamp.{CivilTime, ticks_of}
 use Rattle.bac_apdu.specs.Apdu.{Apdu, Confirmed, Abort, apdu_octets}
 use Rattle.bac_apdu.specs.FormCanon.{canon_form}
 use Rattle.bac_apdu.specs.Frame.{frame_at, frame_octets}
 use Rattle.bac_apdu.specs.Npdu.{Header, Place, header_octets}
 use Rattle.bac_apdu.specs.Service.ReadRange.{read_range, range_parameters, read_range_at}
+use Rattle.bac_apdu.specs.Service.WriteProperty.{PropertyWrite}
 use Rattle.bac_apdu.specs.declared.reason.Reason.{Reason}
 use Rattle.bac_apdu.specs.declared.service.extent.Extent.{Extent}
 use Rattle.bac_apdu.specs.declared.service.read_range.ReadRange.{ReadRange}
 use Rattle.bac_log.specs.Ack.{log_buffer, read_range_service}
-use Rattle.bac_log.specs.TrendLog.{Log, newest, last_ordinal, logs, purges, enables}
+use Rattle.bac_log.specs.TrendLog.{Log, newest, sequence_number, last_ordinal, logs, purges, enables}
 use Rattle.bac_log.specs.declared.entry.Entry.{Entry}
 use Rattle.bac_objects.specs.Records.{records_of}
-use Rattle.bac_objects.specs.Sampling.{log_id, log_of}
+use Rattle.bac_objects.specs.Sampling.{is_due, log_id, log_of, object_at, sample_of, sampled, ticked}
 use Rattle.bac_objects.specs.Sound.{HasLogs, IsSound}
 use Rattle.bac_objects.specs.State.{State}
 use Rattle.bac_objects.specs.declared.fault.Fault.{Fault}
+use Rattle.bac_objects.specs.declared.object.Body.TheVariants as body
+use Rattle.bac_objects.specs.declared.object.Logger.{Logger}
+use Rattle.bac_objects.specs.declared.object.Object as object
 use Rattle.bac_device.specs.Answer.{answer, records_ack}
-use Rattle.bac_device.specs.History.{heard_in, told_in}
+use Rattle.bac_device.specs.History.{heard_in, told_in, write_asked}
 use Rattle.bac_device.specs.Reply.{error, reject, reply}
 use Rattle.bac_device.specs.declared.reply.Receiver.{Receiver}
 use Rattle.bac_device.specs.declared.reply.Reply.{Reply}
@@ -44,6 +49,40 @@ pub record Keeps (d new : State) : Type 0 where
       (after : Log) × (log_of new n ≡ Some after) × StepsTo log after
   pub lacks : (n : ℕ) → log_of d n ≡ None → log_of new n ≡ None
   pub has : HasLogs d → HasLogs new
+
+-- ---- which entry a step appends
+
+-- the log after a sample on demand, of its source at the device's clock
+abbrev pub after_sample : State → Logger → Log
+after_sample d l = logs (sample_of d d.clock l.source) l.log
+
+-- a sample that is taken is that entry, its number is told, and every other log stays
+abbrev pub SamplesAppend : Type 0
+SamplesAppend =
+    (d : State) (n : ℕ) (o : object.Object) (l : Logger) (said : ℕ × State) → object_at d n ≡ Some o
+    → o.body ≡ body.Log l → sampled d n ≡ Ok said
+    → (log_of said.1 n ≡ Some (after_sample d l)) × (said.0 ≡ sequence_number (newest (after_sample d l)))
+    × ((m : ℕ) → m ≢ n → log_of said.1 m ≡ log_of d m)
+
+-- The log as the clock goes to a moment: due, enabled and with a number left, it takes one sample of its source as it
+-- was.
+abbrev pub after_tick : State → CivilTime → Logger → Log
+after_tick d stamp l =
+    if is_due (ticks_of d.origin) (ticks_of d.clock) (ticks_of stamp) l.interval && l.log.enabled
+    then (if newest l.log == last_ordinal then l.log else logs (sample_of d stamp l.source) l.log) else l.log
+
+-- as the clock goes on each log is that
+abbrev pub TicksAppend : Type 0
+TicksAppend =
+    (d : State) (stamp : CivilTime) (n : ℕ) (o : object.Object) (l : Logger) → object_at d n ≡ Some o
+    → o.body ≡ body.Log l → log_of (ticked d stamp) n ≡ Some (after_tick d stamp l)
+
+-- a datagram that isn't a WriteProperty to a log leaves its records
+abbrev pub OtherWritesLeaveLogs : Type 0
+OtherWritesLeaveLogs =
+    (d : State) (datagram : List ℕ) (n : ℕ)
+    → ((w : PropertyWrite) → write_asked datagram ≡ Some w → w.object ≢ log_id n)
+    → log_of (answer d datagram).1 n ≡ log_of d n
 
 -- ---- questions
 

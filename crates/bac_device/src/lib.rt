@@ -32,6 +32,7 @@ mod receiving;
 mod reply;
 mod run;
 mod service;
+mod ways;
 
 pub use bac_objects::{
     BuildFault, DeviceLine, LineId, Misfit, Name, ObjectLine, SampleFault, misfit,
@@ -43,8 +44,12 @@ pub use laws::{
     runs_are_joined, writes_are_answered,
 };
 pub use logs::{
-    built_devices_have_logs, logs_move_by_steps, questions_are_answered,
-    questions_for_no_log_are_refused, read_ranges_are_not_aborted, records_fit,
+    built_devices_have_logs, logs_move_by_steps, other_writes_leave_logs, questions_are_answered,
+    questions_for_no_log_are_refused, read_ranges_are_not_aborted, records_fit, samples_append,
+    ticks_append,
 };
 pub use reply::{Receiver, Reply};
 pub use run::{Event, Outcome};
+pub use ways::{
+    replies_go_back, routed_headers_are_short, ways_change_nothing, what_is_not_heard_is_dropped,
+};

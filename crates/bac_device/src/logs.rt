@@ -16,7 +16,8 @@ ghost use Rattle.bac_objects.specs.declared.fault.Fault.TheVariants as Fault;
 ghost use Rattle.bac_objects.specs.declared.lines.DeviceLine.{DeviceLine};
 ghost use Rattle.bac_objects.specs.declared.lines.ObjectLine.{ObjectLine};
 ghost use Rattle.bac_device.specs.Answer.{answer, records_ack, records_said};
-ghost use Rattle.bac_device.specs.Logs.{Keeps, RangesAreAnswered, RangesAreNotAborted, question_octets};
+ghost use Rattle.bac_device.specs.Logs.{Keeps, OtherWritesLeaveLogs, SamplesAppend, TicksAppend};
+ghost use Rattle.bac_device.specs.Logs.{RangesAreAnswered, RangesAreNotAborted, question_octets};
 ghost use Rattle.bac_device.specs.Reply.{error, reply};
 ghost use Rattle.bac_device.specs.declared.reply.Receiver.TheVariants as Receiver;
 
@@ -26,6 +27,23 @@ pub fn logs_move_by_steps()
     ensures answer { (d : State) (datagram : List ℕ) → Keeps d (answer d datagram).1 }
     ensures sample { (d : State) (instance : ℕ) (said : ℕ × State) → sampled d instance ≡ Ok said → Keeps d said.1 }
     ensures advance { (d : State) (stamp : CivilTime) → Keeps d (ticked d stamp) }
+{}
+
+/// A sample on demand appends what the log's source shows at the device's clock, and leaves every
+/// other log.
+pub fn samples_append()
+    ensures { SamplesAppend }
+{}
+
+/// As the clock goes on, each log that is due and enabled appends what its source showed before,
+/// while sequence numbers are left; every other log stays.
+pub fn ticks_append()
+    ensures { TicksAppend }
+{}
+
+/// A datagram that is no WriteProperty to a log leaves its records as they are.
+pub fn other_writes_leave_logs()
+    ensures { OtherWritesLeaveLogs }
 {}
 
 /// In a device that was built of lines each object of the type Trend Log has records.

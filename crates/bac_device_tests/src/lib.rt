@@ -1,11 +1,10 @@
-//! Tests of a device by its public calls: replies and their receivers, its clock, its trend logs,
-//! and callers that see public contracts alone. Datagrams and their answers are scripts in
-//! examples/.
+//! What no script can show of a device, and callers that see public contracts alone. Datagrams and
+//! their answers, samples and the clock are scripts in examples/.
 #![tactic(auto)]
 
 #[cfg(test)]
 mod commanding;
 #[cfg(test)]
-mod device;
+mod names;
 #[cfg(test)]
-mod trend_logs;
+mod runs;

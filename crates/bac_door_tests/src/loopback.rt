@@ -63,16 +63,20 @@ fn name(alloc: Global, text: &str) -> Result<Name, Fail> {
     Ok(Name::of(String::from_str(alloc, text)?))
 }
 
-/// A device with a log of three records of an integer value, of which the log keeps two.
-fn device(alloc: Global) -> Result<Device, Fail> {
-    let line = DeviceLine {
+fn line(alloc: Global) -> Result<DeviceLine, Fail> {
+    Ok(DeviceLine {
         instance: 123,
         name: name(alloc, "plant")?,
         vendor: 0,
         reply_size: 1476,
         clock: Stamp::new(2024, 5, 6, 7, 8, 9, 10).ok_or("no such moment")?,
-    };
-    let lines = [
+    })
+}
+
+/// A log of an integer value that keeps two records.
+fn lines(alloc: Global) -> Result<[ObjectLine; 2], Fail> {
+    let source = ObjectId::new(45, 1).ok_or("no such identifier")?;
+    Ok([
         ObjectLine::Integer {
             instance: 1,
             name: name(alloc, "level")?,
@@ -81,13 +85,17 @@ fn device(alloc: Global) -> Result<Device, Fail> {
         ObjectLine::Log {
             instance: 1,
             name: name(alloc, "trend")?,
-            source: ObjectId::new(45, 1).ok_or("no such identifier")?,
+            source,
             capacity: 2,
             interval: 0,
             logged: 0,
         },
-    ];
-    let mut device = Device::build(alloc, &line, &lines)?;
+    ])
+}
+
+/// A device with that log, in which three records were logged.
+fn device(alloc: Global) -> Result<Device, Fail> {
+    let mut device = Device::build(alloc, &line(alloc)?, &lines(alloc)?)?;
     for _ in 0..3 {
         device.sample(1).ok().ok_or("no sample")?;
     }
@@ -129,16 +137,5 @@ fn a_log_is_walked_over_loopback(rt: HostRuntime) -> Result<(), Fail> {
             ]
         )
     );
-    Ok(())
-}
-
-#[test]
-fn a_device_that_never_answers_is_lost(rt: HostRuntime) -> Result<(), Fail> {
-    let log = ObjectId::new(20, 1).ok_or("no such identifier")?;
-    let (port, at) = over_loopback(&rt, 4)?;
-    let outcome = fetch(rt.alloc(), port, at, log, 1, 10).ok_or("no walk")?;
-    assert!(rt; matches!(outcome.why, Why::Fault(bac_client::WalkFault::Lost)));
-    assert_eq!(rt; outcome.next, 1);
-    assert!(rt; outcome.items.is_empty());
     Ok(())
 }

@@ -1,12 +1,16 @@
--- How datagrams are received and shown, one after the other. What that comes to is in Finding.
-use Rattle.std.specs.Prelude.{◌≡◌, ℕ, zero, suc, ◌||◌, Bool, true, false, if◌then◌else◌, Option, Some, None, Result, Ok}
-use Rattle.std.specs.Prelude.{Err, List}
+-- How datagrams are received and shown, one after the other: one wait, up to the time in which nothing comes.
+use Rattle.std.specs.Prelude.{◌≡◌, ℕ, ◌≤◌, ◌<◌, ◌⊎◌, nat_lt, not, zero, suc, ◌||◌, Bool, true, false}
+use Rattle.std.specs.Prelude.{if◌then◌else◌, Option, Some, None, Result, Ok, Err, List, [], ◌∷◌, ◌++◌, length}
+use Rattle.std.specs.List.{filter}
+use Rattle.std.specs.Str.{bytes_eq}
 use Rattle.std.specs.Io.KnownBytes.{Appends, Keeps}
 use Rattle.bac_find.specs.Announcements.{Announcement, announced}
 use Rattle.bac_find.specs.Lines.{device_line}
 use Rattle.bac_find.specs.declared.fault.FindFault.{FindFault}
 use Rattle.bac_find.specs.declared.fault.FindFault.TheVariants.{Socket, Refused, NoAnswer, Write, Memory}
-use Rattle.bac_ports.specs.Port.{Receiving}
+use Rattle.bac_find.specs.declared.seeking.Seeking.{Seeking}
+use Rattle.bac_ports.specs.Port.{Receiving, Sending}
+use Rattle.bac_ports.specs.declared.port.Heard.{Heard}
 use Rattle.bac_ports.specs.declared.port.SocketFault.TheVariants.{Timeout, Failed}
 pub use Rattle.bac_print.specs.Output.{Held}
 use Rattle.bac_print.specs.Output.{AppendsPart}
@@ -14,6 +18,43 @@ use Rattle.bac_print.specs.Output.{AppendsPart}
 -- what finding devices answers
 abbrev pub Found : Type 0
 Found = Result (Unit {0}) FindFault
+
+-- what a part of it answers: how many datagrams may come still
+abbrev pub Left : Type 0
+Left = Result ℕ FindFault
+
+-- ---- how far a search is
+
+-- what the writer holds if that is known, which addresses are pending, whether an I-Am came, and the first address to
+-- which a send was refused. Pending is an address that was asked and has not answered, unless it was given up.
+pub record Standing : Type 0 where
+  pub held : Held
+  pub pending : List (List ℕ)
+  pub taken : Bool
+  pub refused : Option (List ℕ)
+
+-- as the code holds it
+abbrev pub standing : Held → Seeking → Standing
+standing held seeking =
+    record { held = held; pending = seeking.pending.items; taken = seeking.taken; refused = seeking.refused }
+
+-- one address more is pending; no more than 100 are
+abbrev pub pending_with : List (List ℕ) → List ℕ → List (List ℕ)
+pending_with pending address = if nat_lt (length pending) 100 then pending ++ address ∷ [] else pending
+
+-- a datagram came from this address
+abbrev pub pending_without : List (List ℕ) → List ℕ → List (List ℕ)
+pending_without pending address = filter (λ asked. not (bytes_eq asked address)) pending
+
+-- where 100 are pending, they count as silent
+abbrev pub given_up : List (List ℕ) → List (List ℕ)
+given_up pending = if nat_lt (length pending) 100 then pending else []
+
+-- the first address to which a send was refused, when one more was made
+abbrev pub refused_by : Option (List ℕ) → Sending → List ℕ → Option (List ℕ)
+refused_by (Some before) sent address = Some before
+refused_by None (Ok done) address = None
+refused_by None (Err fault) address = Some address
 
 -- ---- one datagram
 
@@ -28,30 +69,49 @@ Shows (Some said) (Err Socket) held after = ⊥
 Shows (Some said) (Err (Refused address)) held after = ⊥
 Shows (Some said) (Err NoAnswer) held after = ⊥
 
--- a fault is the end; else there is more to be done, and it is known whether an I-Am was taken so far
-abbrev pub IsShown : {P : Type 0} → Result Bool FindFault →
-    Bool → P → Held → Found → P → Held → (Bool → Type 0) → Type 0
-IsShown (Err fault) taken port held result new after more = (result ≡ Err fault) × (new ≡ port) × (after ≡ held)
-IsShown (Ok shown) taken port held result new after more = more (taken || shown)
+-- whether an I-Am came, this one shown or not
+abbrev pub taken_by : Bool → Result Bool FindFault → Bool
+taken_by taken (Ok shown) = taken || shown
+taken_by taken (Err fault) = taken
 
--- ---- all that is received
+-- it is shown, and its sender is pending no more
+abbrev pub Takes : Heard → Result Bool FindFault → Standing → Standing → Type 0
+Takes heard shown old new =
+    Shows (announced heard) shown old.held new.held × (new.pending ≡ pending_without old.pending heard.from)
+    × (new.taken ≡ taken_by old.taken shown) × (new.refused ≡ old.refused)
 
--- what is answered in the end
-abbrev pub ended : Bool → Found
-ended taken = if taken then Ok tt else Err NoAnswer
+-- ---- one wait
 
--- a wait in which nothing comes is the end, and so is a failure; what comes is shown
-abbrev pub IsHeard : {P : Type 0} → Receiving → Bool → P → Held → Found → P → Held → (Bool → Held → Type 0) → Type 0
-IsHeard (Err Timeout) taken port held result new after more = (result ≡ ended taken) × (new ≡ port) × (after ≡ held)
-IsHeard (Err Failed) taken port held result new after more = (result ≡ Err Socket) × (new ≡ port) × (after ≡ held)
-IsHeard (Ok heard) taken port held result new after more =
-    (shown : Result Bool FindFault) × (between : Held) × Shows (announced heard) shown held between
-    × IsShown shown taken port between result new after (λ now. more now between)
+-- A receive waits so many milliseconds, taking at 0 what is there; or, without a number, as long as the port waits.
+abbrev pub ReceivesBy : {P : Type 0} → (P → Receiving → P → Type 0) → (P → ℕ → Receiving → P → Type 0)
+    → Option ℕ → P → Receiving → P → Type 0
+ReceivesBy receives within None port heard new = receives port heard new
+ReceivesBy receives within (Some wait) port heard new = within port wait heard new
 
--- at most so many receives
-unfoldable pub Hears : {P : Type 0} → (P → Receiving → P → Type 0) → ℕ → Bool → P → Held → Found → P → Held → Type 0
-Hears receives zero taken port held result new after = (result ≡ ended taken) × (new ≡ port) × (after ≡ held)
-Hears {P = P} receives (suc limit) taken port held result new after =
-    (heard : Receiving) × (mid : P) × receives port heard mid
-    × IsHeard heard taken mid held result new after
-    (λ now between. Hears receives limit now mid between result new after)
+-- the search stays as it is, with this answer
+abbrev pub Stays : {P : Type 0} → Left → P → Standing → Left → P → Standing → Type 0
+Stays answer port old result after new = (result ≡ answer) × (after ≡ port) × (new ≡ old)
+
+-- a fault is the end; else there is more to be done
+abbrev pub IsShown : {P : Type 0} → Result Bool FindFault → P → Standing → Left → P → Standing → Type 0 → Type 0
+IsShown (Err fault) port old result after new more = Stays (Err fault) port old result after new
+IsShown (Ok shown) port old result after new more = more
+
+-- a wait in which nothing comes is over, and so is one that fails; what comes is shown
+abbrev pub IsHeard : {P : Type 0} → ℕ → Receiving → P → Standing → Left → P → Standing → (Standing → Type 0) → Type 0
+IsHeard limit (Err Timeout) port old result after new more = Stays (Ok limit) port old result after new
+IsHeard limit (Err Failed) port old result after new more = Stays (Err Socket) port old result after new
+IsHeard limit (Ok heard) port old result after new more =
+    (shown : Result Bool FindFault) × (mid : Standing) × Takes heard shown old mid
+    × IsShown shown port mid result after new (more mid)
+
+-- Datagrams are received as long as so many addresses are pending, and so many datagrams at most; what is answered is
+-- how many of them may come still.
+unfoldable pub Hears : {P : Type 0} → (P → Receiving → P → Type 0) → ℕ → ℕ → P → Standing → Left → P → Standing → Type 0
+Hears receive least zero port old result after new = Stays (Ok zero) port old result after new
+Hears {P = P} receive least (suc limit) port old result after new =
+    ((length old.pending < least) × Stays (Ok (suc limit)) port old result after new)
+    ⊎ ((least ≤ length old.pending)
+    × ((heard : Receiving) × (mid : P) × receive port heard mid
+    × IsHeard (suc limit) heard mid old result after new
+    (λ now. Hears receive least limit mid now result after new)))

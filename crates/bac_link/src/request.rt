@@ -10,7 +10,8 @@ ghost use Rattle.bac_link.specs.Requests.{service_of, parameters_of, has_result 
 
 use bac_apdu::choice::{READ_PROPERTY, READ_RANGE, WRITE_PROPERTY};
 use bac_apdu::{
-    Apdu, Far, Npdu, ReadProperty, ReadRange, WriteProperty, begin_datagram, end_datagram, write_apdu,
+    Apdu, Far, Npdu, ReadProperty, ReadRange, WriteProperty, begin_datagram, end_datagram,
+    write_apdu,
 };
 use bac_wire::{Datagram, Full};
 

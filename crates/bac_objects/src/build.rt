@@ -233,7 +233,7 @@ impl ObjectLine {
 }
 
 /// An object line with a fault, and the lines before it, which have none.
-#[derive(Clone, Copy, Debug)]
+#[derive(Clone, Copy)]
 pub(crate) struct Faulty<'a> {
     pub before: &'a [ObjectLine],
     pub line: &'a ObjectLine,

@@ -8,7 +8,7 @@ ghost use Rattle.bac_objects.specs.Properties.{slot_value, value_of};
 use bac_wire::Value;
 
 /// A value of a commandable object.
-#[derive(Clone, Copy, Debug, PartialEq, Eq)]
+#[derive(Clone, Copy)]
 pub enum Setting {
     Enumerated(u32),
     Unsigned(u32),
@@ -16,7 +16,7 @@ pub enum Setting {
 }
 
 /// Which values a commandable object takes.
-#[derive(Clone, Copy, Debug, PartialEq, Eq)]
+#[derive(Clone, Copy)]
 pub enum Range {
     /// 0 and 1.
     Binary,
@@ -27,7 +27,7 @@ pub enum Range {
 }
 
 /// A commandable object: its values by priority, the highest priority first.
-#[derive(Clone, Copy, Debug)]
+#[derive(Clone, Copy)]
 pub struct Command {
     pub range: Range,
     pub slots: [Option<Setting>; 16],

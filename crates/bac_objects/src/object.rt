@@ -6,7 +6,7 @@ use bac_log::TrendLog;
 use bac_wire::ObjectId;
 
 /// A Trend Log (clause 12.25): what it samples, and its records.
-#[derive(Debug, Drop)]
+#[derive(Drop)]
 pub struct Logger {
     /// The object whose Present_Value is sampled, which need not be there.
     pub source: ObjectId,
@@ -16,7 +16,7 @@ pub struct Logger {
 }
 
 /// What an object is.
-#[derive(Debug, Drop)]
+#[derive(Drop)]
 pub enum Body {
     /// A Binary Value (clause 12.8), a Multi-state Value (12.20) or an Integer Value (12.43).
     Command(Command),
@@ -25,7 +25,7 @@ pub enum Body {
 }
 
 /// An object, apart from its identifier.
-#[derive(Debug, Drop)]
+#[derive(Drop)]
 pub struct Object {
     pub name: Name,
     pub body: Body,

@@ -23,11 +23,12 @@ abbrev pub of_found : Found → Ending
 of_found (Ok done) = Ok 0
 of_found (Err fault) = Err (of_find fault)
 
--- over this socket the request goes to each address, and lines are printed of at most 4096 datagrams that come
+-- over this socket the request goes to each address by turns, and lines are printed of at most 4096 datagrams that come
 abbrev pub SearchesOver : {S P : Type 0} → SocketRules S P → Search → List (List ℕ) → P → Held → Ending → Held → Type 0
 SearchesOver {P = P} rules search addresses port old result new =
     (found : Found) × (after : P)
-    × Finds rules.sends rules.receives 4096 search addresses (console port old) found (console after new)
+    × Finds rules.sends rules.receives rules.receives_within 4096 search addresses
+    (console port old) found (console after new)
     × (result ≡ of_found found)
 
 -- a socket is opened as the words say, and over it devices are found

@@ -12,16 +12,19 @@ use Rattle.bac_words.specs.declared.job.Asked.{Asked}
 
 -- ---- sockets
 
--- what an open is, and a send and a receive of what was opened
+-- what an open is, and a send, a receive, and a receive with a wait of its own of what was opened
 pub record SocketRules (S P : Type 0) : Type 1 where
   pub opens : S → List ℕ → ℕ → Opening P → S → Type 0
   pub sends : P → List ℕ → List ℕ → Sending → P → Type 0
   pub receives : P → Receiving → P → Type 0
+  pub receives_within : P → ℕ → Receiving → P → Type 0
 
 -- the rules that are these
 abbrev pub socket_rules : {S P : Type 0} → (S → List ℕ → ℕ → Opening P → S → Type 0) →
-    (P → List ℕ → List ℕ → Sending → P → Type 0) → (P → Receiving → P → Type 0) → SocketRules S P
-socket_rules opens sends receives = record { opens = opens; sends = sends; receives = receives }
+    (P → List ℕ → List ℕ → Sending → P → Type 0) → (P → Receiving → P → Type 0) →
+    (P → ℕ → Receiving → P → Type 0) → SocketRules S P
+socket_rules opens sends receives within =
+    record { opens = opens; sends = sends; receives = receives; receives_within = within }
 
 -- sockets, and what an output holds
 pub record Outside (S : Type 0) : Type 0 where

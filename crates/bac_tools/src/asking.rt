@@ -70,7 +70,7 @@ pub(crate) fn rp<S: Sockets, O: Write>(
     question: ReadProperty,
     output: &mut O,
 ) -> Result<u8, Fault>
-    ensures { Reads (socket_rules S.opens S.Socket.sends S.Socket.receives) asked question
+    ensures { Reads (socket_rules S.opens S.Socket.sends S.Socket.receives S.Socket.receives_within) asked question
         (outside sockets.old (O.contents output.old)) result (outside sockets.new (O.contents output.new)) }
 {
     let address = asked.address;
@@ -92,7 +92,7 @@ pub(crate) fn wp<S: Sockets, O: Write>(
     output: &mut O,
 ) -> Result<u8, Fault>
     requires { IsSendable question.now }
-    ensures { Writes (socket_rules S.opens S.Socket.sends S.Socket.receives) asked question.now
+    ensures { Writes (socket_rules S.opens S.Socket.sends S.Socket.receives S.Socket.receives_within) asked question.now
         (outside sockets.old (O.contents output.old)) result (outside sockets.new (O.contents output.new)) }
 {
     let address = asked.address;
@@ -115,7 +115,7 @@ pub(crate) fn log<S: Sockets, O: Write>(
     steps: u32,
     output: &mut O,
 ) -> Result<u8, Fault>
-    ensures { Fetches (socket_rules S.opens S.Socket.sends S.Socket.receives) asked walk steps
+    ensures { Fetches (socket_rules S.opens S.Socket.sends S.Socket.receives S.Socket.receives_within) asked walk steps
         (outside sockets.old (O.contents output.old)) result (outside sockets.new (O.contents output.new)) }
 {
     let address = asked.address;

@@ -44,7 +44,7 @@ pub(crate) fn wi<S: Sockets, O: Write>(
     timeout: u32,
     output: &mut O,
 ) -> Result<u8, Fault>
-    ensures { Searches (socket_rules S.opens S.Socket.sends S.Socket.receives) search.now addresses.now local timeout
+    ensures { Searches (socket_rules S.opens S.Socket.sends S.Socket.receives S.Socket.receives_within) search.now addresses.now local timeout
         (outside sockets.old (O.contents output.old)) result (outside sockets.new (O.contents output.new)) }
 {
     let Ok(mut port) = sockets.open(local.unwrap_or(ANY), timeout) else {

@@ -74,7 +74,7 @@ fn work<S: Sockets, I: Read, O: Write, E: Write, C: Clock>(
     errors: &mut E,
     clock: &mut C,
 ) -> Result<u8, Fault>
-    ensures { Works (socket_rules S.opens S.Socket.sends S.Socket.receives) C.tells job
+    ensures { Works (socket_rules S.opens S.Socket.sends S.Socket.receives S.Socket.receives_within) C.tells job
         (streams (I.remaining input.old) (O.contents output.old) (E.contents errors.old) sockets.old clock.old) result
         (streams (I.remaining input.new) (O.contents output.new) (E.contents errors.new) sockets.new clock.new) }
 {
@@ -178,7 +178,7 @@ pub fn run<S: Sockets, I: Read, O: Write, E: Write, C: Clock>(
 ) -> u8
     // The tool that the words name does what they say.
     ensures done { (job : AnyJob) → AskFor (map string_bytes words.now) job →
-        Runs (socket_rules S.opens S.Socket.sends S.Socket.receives) C.tells job
+        Runs (socket_rules S.opens S.Socket.sends S.Socket.receives S.Socket.receives_within) C.tells job
         (streams (I.remaining input.old) (O.contents output.old) (E.contents errors.old) sockets.old clock.old) result
         (streams (I.remaining input.new) (O.contents output.new) (E.contents errors.new) sockets.new clock.new) }
     // Words that are wrong leave the output as it is.

@@ -88,7 +88,7 @@ pub(crate) fn serve<S: Sockets, I: Read, E: Write, C: Clock>(
     errors: &mut E,
     clock: &mut C,
 ) -> Result<u8, Fault>
-    ensures { Serves (socket_rules S.opens S.Socket.sends S.Socket.receives) C.tells address count
+    ensures { Serves (socket_rules S.opens S.Socket.sends S.Socket.receives S.Socket.receives_within) C.tells address count
         (streams (I.remaining input.old) None (E.contents errors.old) sockets.old clock.old) result
         (streams (I.remaining input.new) None (E.contents errors.new) sockets.new clock.new) }
 {

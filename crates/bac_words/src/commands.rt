@@ -17,18 +17,21 @@ macro_rules! with_numbers {
             "\n\n",
             "The numbers that are typed and printed:
 
-  TYPE      0, 1, 2 Analog Input, Output, Value; 3, 4, 5 Binary Input, Output, Value;
-            8 Device; 13, 14, 19 Multi-state Input, Output, Value; 20 Trend Log;
-            45 Integer Value
-  PROPERTY  28 Description; 75 Object_Identifier; 76 Object_List; 77 Object_Name;
-            79 Object_Type; 81 Out_Of_Service; 85 Present_Value; 87 Priority_Array;
-            104 Relinquish_Default; 111 Status_Flags; 117 Units; 131 Log_Buffer;
-            133 Enable; 134 Log_Interval; 141 Record_Count; 145 Total_Record_Count
-  error     1 31 unknown object; 2 32 unknown property; 2 42 invalid array index;
-            2 50 not an array; 2 27 read access denied; 2 40 write access denied;
+  TYPE      0, 1, 2 Analog Input, Output, Value; 3, 4, 5 Binary Input, Output,
+            Value; 8 Device; 13, 14, 19 Multi-state Input, Output, Value;
+            20 Trend Log; 45 Integer Value
+  PROPERTY  28 Description; 75 Object_Identifier; 76 Object_List;
+            77 Object_Name; 79 Object_Type; 81 Out_Of_Service;
+            85 Present_Value; 87 Priority_Array; 104 Relinquish_Default;
+            111 Status_Flags; 117 Units; 131 Log_Buffer; 133 Enable;
+            134 Log_Interval; 141 Record_Count; 145 Total_Record_Count
+  error     1 31 unknown object; 2 32 unknown property;
+            2 42 invalid array index; 2 50 not an array;
+            2 27 read access denied; 2 40 write access denied;
             2 9 invalid data type; 2 37 value out of range; 5 22 not a list
   reject    3 invalid data type; 4 invalid tag; 5 missing parameter;
-            6 parameter out of range; 7 too many arguments; 9 unrecognized service
+            6 parameter out of range; 7 too many arguments;
+            9 unrecognized service
   abort     4 segmentation not supported: too long for one datagram"
         )
     };
@@ -96,7 +99,7 @@ fn tool<'a>(alloc: Global, name: &'a str, about: &'a str, example: &'a str) -> C
 fn with_timeout<'a>(alloc: Global, command: Command<'a>) -> Result<Command<'a>, AllocError>
     ensures { IfOk result (Extends command.entry timeout_rules) }
 {
-    let help = "How long to wait for an answer, in milliseconds: 1 to 60000";
+    let help = "Wait for an answer: 1 to 60000 ms";
     let command = with(command, option_or(alloc, Word::Timeout, "MS", "3000", help))?;
     let help = "Our own address and port; any where it is left out";
     with(command, option(alloc, Word::Local, "ADDRESS", help))
@@ -105,10 +108,9 @@ fn with_timeout<'a>(alloc: Global, command: Command<'a>) -> Result<Command<'a>, 
 fn with_route<'a>(alloc: Global, command: Command<'a>) -> Result<Command<'a>, AllocError>
     ensures { IfOk result (Extends command.entry route_rules) }
 {
-    let help = "The network of a device behind a router: 1 to 65534, with --dadr";
+    let help = "A network behind a router, with --dadr: 1 to 65534";
     let command = with(command, option(alloc, Word::Dnet, "N", help))?;
-    let help =
-        "The device's address there: 2 to 30 hexadecimal digits, an even number, with --dnet";
+    let help = "The device's address there: 2 to 30 hex digits";
     with(command, option(alloc, Word::Dadr, "HEX", help))
 }
 
@@ -124,7 +126,7 @@ fn with_asking<'a>(alloc: Global, command: Command<'a>) -> Result<Command<'a>, A
 fn with_property<'a>(alloc: Global, command: Command<'a>) -> Result<Command<'a>, AllocError>
     ensures { IfOk result (Extends command.entry property_rules) }
 {
-    let help = "The device: A.B.C.D or A.B.C.D:PORT, port 47808 where none is given";
+    let help = "The device: A.B.C.D or A.B.C.D:PORT (port 47808)";
     let command = with(command, needed(alloc, Word::Address, help))?;
     let help = "The object's type, as a number: 0 to 1023";
     let command = with(command, needed(alloc, Word::ObjectType, help))?;
@@ -147,15 +149,15 @@ fn wi<'a>(alloc: Global) -> Result<Command<'a>, AllocError>
 {
     let about = "Find devices: send Who-Is to each address and print each I-Am";
     let example = "Example: bac wi 192.168.1.20 192.168.1.21:47809 --min=100 --max=199
-asks both stations, and only devices 100 to 199 answer. --min alone means both limits.";
+asks both stations, and only devices 100 to 199 answer. --min alone means both.";
     let command = tool(alloc, "wi", about, example);
-    let help = "The stations to ask: A.B.C.D or A.B.C.D:PORT, port 47808 where none is given";
+    let help = "The stations to ask: A.B.C.D or A.B.C.D:PORT (port 47808)";
     let command = with(command, needed_list(alloc, Word::Address, help))?;
     let help = "The lowest instance that is to answer: 0 to 4194303";
     let command = with(command, option(alloc, Word::Min, "N", help))?;
     let help = "The highest instance that is to answer: 0 to 4194303";
     let command = with(command, option(alloc, Word::Max, "N", help))?;
-    let help = "The network behind a router that is to answer: 1 to 65535, which is all networks";
+    let help = "A network behind a router: 1 to 65534; 65535 is all";
     let command = with(command, option(alloc, Word::Dnet, "N", help))?;
     with_timeout(alloc, command)
 }
@@ -181,17 +183,19 @@ fn wp<'a>(alloc: Global) -> Result<Command<'a>, AllocError>
     let example = with_numbers!(
         "Example: bac wp 192.168.1.20 5 1 85 8 9 --value=1
 writes Enumerated 1 at priority 8 to the present value of binary value 1;
-TAG 0 in place of 9 --value=1 relinquishes it. Write --value=-5 with its '='."
+TAG 0 in place of 9 --value=1 relinquishes it. Write --value=-5 with its '='.
+
+TAG is 0 Null, without a value; 1 Boolean, 0 or 1; 2 Unsigned; 3 Signed; 4 REAL,
+eight hexadecimal digits; 7 Character String, a text; 9 Enumerated."
     );
     let command = with_property(alloc, tool(alloc, "wp", about, example))?;
     let help = "The priority to write at: 1 to 16, or 0 for none";
     let command = with(command, needed(alloc, Word::Priority, help))?;
-    let help =
-        "The value's type: 0 Null, 1 Boolean, 2 Unsigned, 3 Signed, 4 REAL, 7 text, 9 Enumerated";
+    let help = "The value's type, as a number: the list is below";
     let command = with(command, needed(alloc, Word::Tag, help))?;
     let help = "An element of an array";
     let command = with(command, option(alloc, Word::Index, "N", help))?;
-    let help = "The value; none for TAG 0, 0 or 1 for TAG 1, eight hexadecimal digits for TAG 4";
+    let help = "The value, as its type wants it; none for TAG 0";
     let command = with(command, option(alloc, Word::Value, "V", help))?;
     with_asking(alloc, command)
 }
@@ -207,17 +211,17 @@ prints each record that trend log 1 holds, and at the end which number is next:
   42 2024-05-06T07:09:09.10 enum(1) 0000
   caught up, next 43
 
-bac log 192.168.1.20 1 43 then fetches what was logged since. Begin again at the
-number that was next after 'lost' or 'step limit', too: no record is lost or comes
-twice. A line 'gap 43 50' tells the numbers that the log no longer held.";
+bac log 192.168.1.20 1 43 then fetches what was logged since. Begin again at
+the number that was next after 'lost' or 'step limit', too: no record is lost or
+comes twice. A line 'gap 43 50' tells the numbers that the log no longer held.";
     let command = tool(alloc, "log", about, example);
-    let help = "The device: A.B.C.D or A.B.C.D:PORT, port 47808 where none is given";
+    let help = "The device: A.B.C.D or A.B.C.D:PORT (port 47808)";
     let command = with(command, needed(alloc, Word::Address, help))?;
     let help = "The trend log's instance: 0 to 4194303";
     let command = with(command, needed(alloc, Word::Instance, help))?;
     let help = "The number of the first record to fetch, from 1, or oldest";
     let command = with(command, needed(alloc, Word::From, help))?;
-    let help = "How many batches to fetch at most, each of up to 100 records";
+    let help = "Batches of up to 100 records to fetch";
     let command = with(command, option_or(alloc, Word::Steps, "N", "1000", help))?;
     with_asking(alloc, command)
 }
@@ -225,11 +229,11 @@ twice. A line 'gap 43 50' tells the numbers that the log no longer held.";
 fn serve<'a>(alloc: Global) -> Result<Command<'a>, AllocError>
     ensures { IfOk result (IsCommand serve_app) }
 {
-    let about = "Be the device that standard input describes, with the machine's clock in UTC";
+    let about = "Be the device that standard input describes, with a clock in UTC";
     let example = "Example: bac serve 127.0.0.1:47809 < room.device
-where room.device has configuration lines of a script: device, binary, log and so on.";
+where room.device has configuration lines of a script: device, binary, log ..";
     let command = tool(alloc, "serve", about, example);
-    let help = "Our own address: A.B.C.D or A.B.C.D:PORT, port 47808 where none is given";
+    let help = "Our own address: A.B.C.D or A.B.C.D:PORT (port 47808)";
     let command = with(command, needed(alloc, Word::Address, help))?;
     let help = "How many datagrams to serve";
     with(
@@ -244,15 +248,15 @@ fn top<'a>(alloc: Global) -> Command<'a>
 {
     Command::new(alloc, "bac")
         .about("Tools for BACnet/IP: find devices, read and write properties, fetch trend logs")
-        .version("unreleased")
+        .version("0.1.0, ANSI/ASHRAE 135, Protocol_Revision 12")
         .subcommand_required(true)
         .after_help(
             "Example: bac wi 192.168.1.20
 prints the device at that address; bac rp, bac wp and bac log then speak to it.
 bac help log, or bac log --help, tells what a tool takes, with an example.
 
-Status: 0 done, 1 usage, a bad value or a bad script, 2 no answer, or a read, write
-or socket fault, 3 refused by the device, 4 bad reply, 5 out of memory.",
+Status: 0 done, 1 usage, a bad value or a bad script, 2 no answer, or a read,
+write or socket fault, 3 refused by the device, 4 bad reply, 5 out of memory.",
         )
 }
 

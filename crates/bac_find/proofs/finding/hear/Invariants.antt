@@ -1,10 +1,10 @@
-use Rattle.std.proofs.Common.{◌-◌, false}
-use Rattle.bac_find.specs.Hearing.{Hears}
+use Rattle.std.proofs.Common.{◌-◌}
+use Rattle.bac_find.specs.Hearing.{Hears, ReceivesBy, standing}
 use Rattle.bac_find.proofs.finding.hear.Given as goal
 
 -- what the receives that are left lead to, all of them lead to
 abbrev pub invariant-loop-received : goal.invariant-loop-received
 invariant-loop-received g l =
-    (result : _) (new : _) (after : _) →
-    Hears g.P.Port.receives (l.limit - l.received) l.taken l.port (g.W.Write.contents l.out) result new after
-    → Hears g.P.Port.receives l.fn.limit false l.fn.port (g.W.Write.contents l.fn.out) result new after
+    (result : _) (after : _) (new : _) →
+    Hears (ReceivesBy g.P.Port.receives g.P.Port.receives_within l.fn.wait) l.fn.least (l.limit - l.received) l.port (standing (g.W.Write.contents l.out) l.seeking) result after new
+    → Hears (ReceivesBy g.P.Port.receives g.P.Port.receives_within l.fn.wait) l.fn.least l.fn.limit l.fn.port (standing (g.W.Write.contents l.fn.out) l.fn.seeking) result after new
