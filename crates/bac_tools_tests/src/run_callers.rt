@@ -26,7 +26,7 @@ pub fn logged<S: Sockets, I: Read, O: Write, E: Write, C: Clock>(
     ensures { (asked : AskedOf) (instance steps : ℕ) (from : Option ℕ) →
         AskFor (map string_bytes words.now) (Log asked instance from steps) → result ≡ 0 →
         (port : S.Socket) × S.opens sockets.old (own_address asked.local) asked.timeout (Ok port) sockets.new
-        × IsLogged (socket_rules S.opens S.Socket.sends S.Socket.receives) asked (walk_from instance from) port
+        × IsLogged (socket_rules S.opens S.Socket.sends S.Socket.receives S.Socket.receives_within) asked (walk_from instance from) port
         (O.contents output.old) (O.contents output.new) }
 {
     run(sockets, alloc, words, input, output, errors, clock)
