@@ -12,7 +12,7 @@ use Rattle.bac_words.specs.declared.job.Asked.{Asked}
 
 -- ---- sockets
 
--- what an open is, and a send, a receive and a receive with a wait of its own of what was opened
+-- what an open is, and a send, a receive, and a receive with a wait of its own of what was opened
 pub record SocketRules (S P : Type 0) : Type 1 where
   pub opens : S → List ℕ → ℕ → Opening P → S → Type 0
   pub sends : P → List ℕ → List ℕ → Sending → P → Type 0

@@ -24,7 +24,8 @@ returns-in_err-port g c =
       c.in_ok-configuration.ensures,
       inr (
         c.in_ok-device.ensures.ok.0,
-        unserved (socket_rules g.S.Sockets.opens g.S.Socket.Port.sends g.S.Socket.Port.receives g.S.Socket.Port.receives_within) g.C.Clock.tells
+        unserved (socket_rules g.S.Sockets.opens g.S.Socket.Port.sends g.S.Socket.Port.receives
+            g.S.Socket.Port.receives_within) g.C.Clock.tells
             c.args.address (wait_of c.in_ok-configuration.configuration.objects.items) c.args.count _ (streams None None _ _ _)
             (streams None None _ _ _)
             c.from_residual-in_err-port.result c.in_err-port.field-0.0 (rw (p.1, p.2) refl)
