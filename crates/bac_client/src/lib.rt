@@ -32,8 +32,9 @@ pub use bac_log::{Datum, Entry};
 pub use bac_ports::{Heard, Port, SocketFault, UdpLink, UdpPort};
 pub use bac_walk::{
     BadReply, Batch, Ended, Gap, Numbered, Outcome, Progress, Sink, Step, Walk, WalkFault, Why,
-    collect, collected_is_delivered, deliver, rest_resumes, rests_all, runs_deliver, runs_join,
-    stop_and_resume, windows_are_near,
+    brought_is_delivered, came_is_delivered, collect, collected_is_delivered, deliver,
+    lost_is_asked, nothing_came, own_is_said, rest_resumes, rests_all, runs_deliver, runs_join,
+    said_is_taken, stop_and_resume, windows_are_near,
 };
 pub use bac_wire::{Datagram, Date4, Full, ObjectId, Stamp, Time4, Value};
 pub use bac_world::{Memory, Packet, Side, World, WorldEvent, windows_stay_near, withstands_all};

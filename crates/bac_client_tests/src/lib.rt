@@ -9,6 +9,8 @@ mod direct_callers;
 #[cfg(test)]
 mod direct_link;
 #[cfg(test)]
+mod foreign_callers;
+#[cfg(test)]
 mod link;
 #[cfg(test)]
 mod link_callers;
