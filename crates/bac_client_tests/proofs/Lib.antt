@@ -1,4 +1,5 @@
 pub mod Held
 pub mod Day
 pub mod Again
-mod Foreign
+pub mod Foreign
+pub mod Spoken

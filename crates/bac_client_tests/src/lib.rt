@@ -17,6 +17,8 @@ mod link_callers;
 #[cfg(test)]
 mod routed_link;
 #[cfg(test)]
+mod spoken_callers;
+#[cfg(test)]
 mod walk;
 #[cfg(test)]
 mod walk_callers;
