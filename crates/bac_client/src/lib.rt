@@ -21,7 +21,8 @@
 
 pub use bac_apdu::{Apdu, Extent, ReadProperty, ReadRange, Route, WriteProperty};
 pub use bac_direct::{
-    DirectLink, LinkEvent, RoutedLink, questions_are_the_devices, replies_are_the_devices,
+    DirectLink, LinkEvent, RoutedLink, asks_tell_honestly, asks_through_routers_tell_honestly,
+    questions_are_the_devices, replies_are_the_devices,
 };
 pub use bac_link::{
     Answer, ExchangeFault, Item, LogLink, Lost, Pending, Received, Refusal, Request, Timeout,
@@ -32,8 +33,10 @@ pub use bac_log::{Datum, Entry};
 pub use bac_ports::{Heard, Port, SocketFault, UdpLink, UdpPort};
 pub use bac_walk::{
     BadReply, Batch, Ended, Gap, Numbered, Outcome, Progress, Sink, Step, Walk, WalkFault, Why,
-    collect, collected_is_delivered, deliver, rest_resumes, rests_all, runs_deliver, runs_join,
-    stop_and_resume, windows_are_near,
+    brought_is_delivered, came_is_delivered, collect, collected_is_delivered, deliver,
+    honest_speaks, lost_is_asked, moments_never_go_back, nothing_came, numbers_have_ordinals,
+    own_is_said, rest_resumes, rests_all, runs_deliver, runs_join, said_is_taken,
+    spoken_is_delivered, stop_and_resume, windows_are_near,
 };
 pub use bac_wire::{Datagram, Date4, Full, ObjectId, Stamp, Time4, Value};
 pub use bac_world::{Memory, Packet, Side, World, WorldEvent, windows_stay_near, withstands_all};

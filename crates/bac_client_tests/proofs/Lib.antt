@@ -1,3 +1,5 @@
 pub mod Held
 pub mod Day
 pub mod Again
+pub mod Foreign
+pub mod Spoken

@@ -9,11 +9,15 @@ mod direct_callers;
 #[cfg(test)]
 mod direct_link;
 #[cfg(test)]
+mod foreign_callers;
+#[cfg(test)]
 mod link;
 #[cfg(test)]
 mod link_callers;
 #[cfg(test)]
 mod routed_link;
+#[cfg(test)]
+mod spoken_callers;
 #[cfg(test)]
 mod walk;
 #[cfg(test)]

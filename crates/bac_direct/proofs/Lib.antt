@@ -7,3 +7,4 @@ pub mod Replies
 pub mod Asks
 pub mod Fitting
 pub mod Routing
+pub mod Routed

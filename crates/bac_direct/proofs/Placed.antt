@@ -1,7 +1,6 @@
 -- A log so many rounds of numbers further on gives the same replies.
-use Rattle.std.proofs.Common.{◌≡◌, ℕ, zero, suc, ◌+◌, ◌*◌, ◌-◌, ◌<◌, ◌≤◌, Bool, true, false, pos, negsuc, ℤ, List, [], ◌∷◌, ◌++◌, take, length, reverse, Option, Some, None, refl, sym, ap, ◌∙◌, arith, inl, inr}
+use Rattle.std.proofs.Common.{◌≡◌, ℕ, zero, suc, ◌+◌, ◌-◌, Bool, pos, negsuc, ℤ, List, [], ◌∷◌, ◌++◌, take, length, reverse, Option, Some, None, refl, sym, ap, ◌∙◌, arith, inl, inr}
 use Rattle.std.specs.Prelude.{◌==◌, ◌&&◌, ◌||◌, nat_le, nat_lt, filter, find, option_map, if◌then◌else◌}
-use Rattle.std.specs.List.{list_any}
 use Rattle.std.proofs.lemmas.Bool.{cases_Bool, cond-true, cond-false}
 use Rattle.std.proofs.lemmas.Bool.Decides.{nat_tests}
 use Rattle.std.proofs.lemmas.List.{reverse-append}
@@ -12,7 +11,7 @@ use Rattle.bac_apdu.specs.declared.service.extent.Extent.{Extent}
 use Rattle.bac_apdu.specs.declared.service.extent.Extent.TheVariants as extent
 use Rattle.bac_log.specs.Ack.{ack_length, ack_parameters}
 use Rattle.bac_log.specs.declared.entry.Entry.{Entry}
-use Rattle.bac_log.specs.Select.{HeldEntry, entries_in, first_newer, first_shown, greatest, has_ordinal, held, in_interval, in_interval_at, in_interval_round, is_asked, is_newer, is_older, last_older, numbered, packed, reply_length, reply_of, result_flags, selected, shows_number, time_reference}
+use Rattle.bac_log.specs.Select.{HeldEntry, entries_in, first_shown, greatest, has_ordinal, held, in_interval, in_interval_at, in_interval_round, is_asked, is_newer, is_older, numbered, packed, reply_length, reply_of, result_flags, selected, shows_number, time_reference}
 use Rattle.bac_log.specs.TrendLog.{Log, newest, sequence_number, oldest}
 use Rattle.bac_link.specs.Links.{reply_parameters}
 use Rattle.bac_direct.specs.Ahead.{turn}

@@ -1,11 +1,11 @@
 -- A link's questions are the device's: what the device makes of one.
-use Rattle.std.proofs.Common.{◌≡◌, refl, ap, ◌∙◌, arith, inr, ℕ, min, false, List, [], ◌∷◌, ◌++◌, length, Option, Some, None, Ok, sym, true, Bool, length-append, ◌+◌, ◌<◌}
+use Rattle.std.proofs.Common.{◌≡◌, refl, ap, ◌∙◌, arith, inr, ℕ, min, false, List, ◌++◌, length, Option, Some, None, Ok, sym, true, length-append, ◌+◌, ◌<◌}
 use Rattle.bac_wire.specs.Primitive.{Id, Object}
 use Rattle.bac_wire.specs.Canon.{IsValid}
 use Rattle.bac_apdu.specs.Apdu.{Apdu, Confirmed, apdu_octets}
 use Rattle.bac_apdu.specs.FormCanon.{canon_form}
 use Rattle.bac_apdu.specs.Frame.{Unicast, frame_at, frame_octets}
-use Rattle.bac_apdu.specs.Npdu.{IsHeader, Place, header_octets, is_there}
+use Rattle.bac_apdu.specs.Npdu.{Place, header_octets, is_there}
 use Rattle.bac_apdu.specs.Route.{IsWay}
 use Rattle.bac_apdu.specs.Service.Extent.{IsExtent}
 use Rattle.bac_apdu.specs.Service.ReadRange.{read_range, range_parameters, range_in, read_range_at}

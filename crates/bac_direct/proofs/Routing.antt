@@ -1,5 +1,5 @@
 -- What is handed on by a router is the question of a place near by, and what is handed back is its reply.
-use Rattle.std.proofs.Common.{◌≡◌, refl, ap, sym, subst, ◌∙◌, arith, inl, inr, ℕ, ◌+◌, ◌<◌, ◌≤◌, ◌/◌, ◌%◌, eqb, ◌==◌, if◌then◌else◌, nat_lt, Bool, true, false, not, ◌&&◌, cond, List, [], ◌∷◌, ◌++◌, length, Option, None, Some, length-append}
+use Rattle.std.proofs.Common.{◌≡◌, refl, ap, sym, subst, ◌∙◌, arith, inl, inr, ℕ, ◌+◌, ◌<◌, ◌≤◌, ◌/◌, ◌%◌, eqb, ◌==◌, if◌then◌else◌, nat_lt, Bool, true, false, not, ◌&&◌, List, [], ◌∷◌, ◌++◌, length, Option, None, Some, length-append}
 use Rattle.std.specs.Str.{bytes_eq}
 use Rattle.std.proofs.lemmas.Bool.{eqb-true, eq-eqb}
 use Rattle.std.proofs.lemmas.Bool.Decides.{nat_tests}
@@ -19,7 +19,7 @@ use Rattle.bac_link.specs.Datagrams.{carried_in, message_in, unicast_in}
 use Rattle.bac_link.specs.Links.{IsQuestion, question}
 use Rattle.bac_link.specs.Path.{Path, back, path_of, same_place, towards}
 use Rattle.bac_link.specs.Requests.{asking, request_apdu, request_octets}
-use Rattle.bac_link.proofs.Datagrams.{asking_valid, length-asking, length-hops, length-place, none_long, message_of, place_valid}
+use Rattle.bac_link.proofs.Datagrams.{asking_valid, length-asking, length-place, none_long, message_of, place_valid}
 use Rattle.bac_link.proofs.Verdicts.{question_short}
 use Rattle.bac_direct.specs.Routing.{handed, handed_on, is_for, whole}
 

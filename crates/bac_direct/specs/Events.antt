@@ -6,6 +6,7 @@ use Rattle.bac_wire.specs.OptionChain.{◌>>=◌}
 use Rattle.bac_apdu.specs.Frame.{Frame, Unicast, Broadcast, Forwarded, Function, frame_at}
 use Rattle.bac_apdu.specs.Npdu.{Header, header_at, is_there}
 use Rattle.bac_link.specs.declared.link.Lost.{Lost}
+use Rattle.bac_objects.specs.Sound.{IsSound}
 use Rattle.bac_objects.specs.State.{State}
 use Rattle.bac_device.specs.Answer.{answer}
 use Rattle.bac_device.specs.Run as run
@@ -84,8 +85,9 @@ failures_after failures None = one_more failures
 abbrev pub told : Played → List ℕ → Option Reply × State
 told p request = if p.lost then (None, p.device) else answer p.device request
 
--- an ask: the answer, the device after it, and the events that are left
+-- an ask: the answer, the device after it, and the events that are left; what the events lead to is a sound device
 abbrev pub IsAnswered : State → List LinkEvent → List ℕ → Result (List ℕ) Lost → State → List LinkEvent → Type 0
 IsAnswered device events request answered new left =
     let next = meets device events request in
     (result_ok answered ≡ datagram_in (told next request).0) × (new ≡ (told next request).1) × (left ≡ next.rest)
+    × IsSound next.device

@@ -5,7 +5,7 @@ ghost use Rattle.std.specs.Prelude.{false, ◌≡◌, ◌≤◌, ℕ, Option};
 ghost use Rattle.bac_wire.specs.Primitive.{Id};
 ghost use Rattle.bac_apdu.specs.Apdu.{Complex};
 ghost use Rattle.bac_apdu.specs.Npdu.{Place};
-ghost use Rattle.bac_apdu.specs.Route.{IsWay};
+ghost use Rattle.bac_apdu.specs.Route.{IsRoute, IsWay};
 ghost use Rattle.bac_apdu.specs.declared.service.extent.Extent.{Extent as AnyExtent};
 ghost use Rattle.bac_log.specs.Ack.{read_range_service};
 ghost use Rattle.bac_log.specs.TrendLog.{IsLog, Log};
@@ -16,6 +16,13 @@ ghost use Rattle.bac_device.specs.Reply.{datagram_to};
 ghost use Rattle.bac_link.specs.Links.{HasReply, question, reply_parameters};
 ghost use Rattle.bac_link.specs.Path.{back, towards};
 ghost use Rattle.bac_link.specs.Requests.{request_octets};
+ghost use Rattle.bac_direct.specs.Ahead.{IsAhead};
+ghost use Rattle.bac_direct.specs.Events.{IsAnswered};
+ghost use Rattle.bac_direct.specs.Routing.{handed_on, PassesOn};
+ghost use Rattle.bac_walk.specs.Spoken.{TellsHonestly};
+
+use crate::direct_link::DirectLink;
+use bac_link::LogLink;
 
 /// A link's question for the records of a Trend Log is the one that a device answers by that log.
 pub fn questions_are_the_devices()
@@ -31,4 +38,21 @@ pub fn replies_are_the_devices()
     ensures datagram { (source : Option Place) (limit invoke : ℕ) (id : Id) (extent : AnyExtent) (log : Log) →
         IsWay source → IsLog log → 44 ≤ limit → limit ≤ 1476 →
         HasReply limit log id extent (back (towards source)) invoke (datagram_to source (records_said limit invoke id extent log)) }
+{}
+
+/// What an ask of a link straight to a device is says already that the link is honest.
+pub fn asks_tell_honestly()
+    ensures { TellsHonestly
+        (λ (old : DirectLink) octets answer (new : DirectLink).
+        IsAnswered old.device.now old.events.now octets answer new.device.now new.events.now)
+        (λ (link : DirectLink) id r M H. IsAhead link.device.now link.events.now id r M H) }
+{}
+
+/// A router in front of a link doesn't hide that: what an ask through it is says that the link is
+/// honest, if the asks of the link behind it do.
+pub fn asks_through_routers_tell_honestly<L: LogLink>()
+    ensures { (far near : Place) → IsRoute far → IsRoute near →
+        TellsHonestly L.asks (λ link id r M H. L.is_honest link id r M H) →
+        TellsHonestly (λ old octets answer new. PassesOn L.asks far near (handed_on far near octets) old answer new)
+        (λ link id r M H. L.is_honest link id r M H) }
 {}

@@ -13,5 +13,8 @@ mod routed_link;
 
 pub use direct_link::DirectLink;
 pub use event::LinkEvent;
-pub use laws::{questions_are_the_devices, replies_are_the_devices};
+pub use laws::{
+    asks_tell_honestly, asks_through_routers_tell_honestly, questions_are_the_devices,
+    replies_are_the_devices,
+};
 pub use routed_link::RoutedLink;

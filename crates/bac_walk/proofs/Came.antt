@@ -30,16 +30,16 @@ use Rattle.bac_walk.proofs.Turns.{or_left}
 abbrev pub Asking : Type 0 → Type 1
 Asking S = S → List ℕ → Result (List ℕ) Loss → S → Type 0
 
-window_now : (low : ℕ) (M : List Moment) → 0 < length M → AreInWindow low M → IsInWindow low (now M)
+pub window_now : (low : ℕ) (M : List Moment) → 0 < length M → AreInWindow low M → IsInWindow low (now M)
 window_now low [] some window = absurd (omega arith)
 window_now low (m ∷ M) some window = window.0
 
-window_later : (low : ℕ) (M : List Moment) → AreInWindow low M → AreInWindow low (later M)
+pub window_later : (low : ℕ) (M : List Moment) → AreInWindow low M → AreInWindow low (later M)
 window_later low [] window = window
 window_later low (m ∷ []) window = window
 window_later low (m ∷ n ∷ M) window = window.1
 
-some_later : (M : List Moment) → 0 < length M → 0 < length (later M)
+pub some_later : (M : List Moment) → 0 < length M → 0 < length (later M)
 some_later [] some = some
 some_later (m ∷ []) some = some
 some_later (m ∷ n ∷ M) some = omega arith

@@ -1,5 +1,5 @@
 -- Facts of the moments of one log.
-use Rattle.std.proofs.Common.{◌≡◌, ℕ, ◌+◌, ◌≤◌, List, [], ◌∷◌, ◌++◌, length, refl, sym, subst, arith}
+use Rattle.std.proofs.Common.{ℕ, ◌+◌, ◌≤◌, List, [], ◌∷◌, length, sym, subst, arith}
 use Rattle.bac_link.specs.Moments.{AreMoments, AreServed, IsMoment, Change, Append, Purge, changed, changed_all}
 use Rattle.bac_link.specs.Delivery.{History, Moment, now, later}
 
@@ -12,9 +12,9 @@ pub record Rises (m n : Moment) : Type 0 where
 abbrev pub Sound : History → Moment → Type 0
 Sound H m = IsMoment H.logged m
 
-record Follows (H : History) (m n : Moment) : Type 0 where
-  sound : Sound H n
-  rises : Rises m n
+pub record Follows (H : History) (m n : Moment) : Type 0 where
+  pub sound : Sound H n
+  pub rises : Rises m n
 
 same : (H : History) (m : Moment) → Sound H m → Follows H m m
 same H m s = record { sound = s; rises = record { oldest = omega arith; newest = omega arith } }
@@ -29,7 +29,7 @@ Follows-changed H capacity m Purge few s = record {
   rises = record { oldest = omega (arith, s.close); newest = omega arith };
 }
 
-Follows-all : (H : History) (capacity : ℕ) (m : Moment) (cs : List Change) → capacity ≤ 65535 → Sound H m → Follows H m (changed_all capacity m cs)
+pub Follows-all : (H : History) (capacity : ℕ) (m : Moment) (cs : List Change) → capacity ≤ 65535 → Sound H m → Follows H m (changed_all capacity m cs)
 Follows-all H capacity m [] few s = same H m s
 Follows-all H capacity m (c ∷ cs) few s =
     let one = Follows-changed H capacity m c few s in

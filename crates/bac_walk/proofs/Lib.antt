@@ -32,3 +32,6 @@ pub mod Brought
 pub mod Own
 pub mod Joined
 pub mod Counted
+pub mod Spoken
+pub mod Honest
+pub mod Back

@@ -1,8 +1,7 @@
 -- An answer that a walk takes.
-use Rattle.std.proofs.Common.{◌≡◌, ℕ, true, false, None, ◌<◌, ◌≤◌, Option, Some, Ok, List, [], ◌∷◌, ◌++◌, length, map, take, refl, sym, ap, subst, ◌∙◌, arith}
+use Rattle.std.proofs.Common.{◌≡◌, ℕ, true, false, ◌<◌, ◌≤◌, Option, Some, Ok, List, [], ◌∷◌, ◌++◌, length, map, refl, sym, ap, subst, ◌∙◌, arith}
 use Rattle.std.specs.Prelude.{nat_le}
 use Rattle.std.proofs.lemmas.Bool.{leb-true, and_parts, eq-eqb}
-use Rattle.std.proofs.lemmas.List.{take_all}
 use Rattle.bac_log.specs.declared.entry.Entry.{Entry}
 use Rattle.bac_walk.specs.Heard.{AckParameters}
 use Rattle.bac_walk.specs.Ordinals.{number_after}

@@ -21,3 +21,4 @@ pub mod Told
 pub mod Runs
 pub mod Standard
 pub mod Came
+pub mod Spoken

@@ -1,11 +1,12 @@
 //! Laws of what a walk delivers: on lists alone, and of runs over any link.
-ghost use Rattle.std.specs.Prelude.{ℕ, List};
+ghost use Rattle.std.specs.Prelude.{◌≡◌, ℕ, List};
 ghost use Rattle.bac_wire.specs.Primitive.{Id};
 ghost use Rattle.bac_link.specs.Delivery.{History, Moment};
 ghost use Rattle.bac_walk.specs.Came.{BroughtIsDelivered, CameIsDelivered, LostIsAsked, NothingCame, OwnIsSaid, SaidIsTaken};
 ghost use Rattle.bac_walk.specs.Near.{WindowsAreNear};
 ghost use Rattle.bac_walk.specs.Rests.{RestsAll, RestResumes};
 ghost use Rattle.bac_walk.specs.Runs.{CollectedIsDelivered, RunsDeliver, RunsJoin};
+ghost use Rattle.bac_walk.specs.Spoken.{HonestSpeaks, MomentsNeverGoBack, NumbersHaveOrdinals, SpokenIsDelivered};
 
 use bac_link::LogLink;
 
@@ -73,4 +74,27 @@ pub fn lost_is_asked<L: LogLink>()
 /// Over a link that brings no datagram nothing is delivered.
 pub fn nothing_came<L: LogLink>()
     ensures { NothingCame L.asks }
+{}
+
+/// Over a link that speaks for the log of a walk, at the moments that any function tells of it, or
+/// at those at which it is honest: a run delivers what the log holds when each reply is given, and
+/// ends with no fault but a loss.
+pub fn spoken_is_delivered<L: LogLink>()
+    ensures told { (moments : L → List Moment) → SpokenIsDelivered L.asks (λ link M. moments link ≡ M) }
+    ensures honest { (log : Id) (r : ℕ) (H : History) → SpokenIsDelivered L.asks (λ link M. L.is_honest link log r M H) }
+{}
+
+/// A link whose honesty follows from what its asks are speaks for each log for which it is honest.
+pub fn honest_speaks<L: LogLink>()
+    ensures { HonestSpeaks L.asks (λ link id r M H. L.is_honest link id r M H) }
+{}
+
+/// The moments of an honest link never go back.
+pub fn moments_never_go_back()
+    ensures { MomentsNeverGoBack }
+{}
+
+/// Each number is that of an ordinal near a log, if enough was logged before what it holds.
+pub fn numbers_have_ordinals()
+    ensures { NumbersHaveOrdinals }
 {}

@@ -1,4 +1,4 @@
-use Rattle.std.proofs.Common.{◌≡◌, ℕ, Bool, false, sym, ap, subst, ◌∙◌}
+use Rattle.std.proofs.Common.{ℕ, Bool, false, sym, ap, subst, ◌∙◌}
 use Rattle.bac_wire.specs.Primitive.{Id}
 use Rattle.bac_link.specs.Delivery.{DeliversTo}
 use Rattle.bac_link.specs.Laws.{after_answers}

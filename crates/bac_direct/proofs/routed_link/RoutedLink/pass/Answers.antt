@@ -1,7 +1,5 @@
-use Rattle.std.proofs.Common.{◌≡◌, ℕ, List, Option, Some, Result, Ok, Err, false, refl, sym, ap, subst, ◌∙◌, arith}
-use Rattle.bac_wire.specs.Primitive.{Id}
+use Rattle.std.proofs.Common.{ℕ, List, Option, Some, Ok, Err, false, refl, sym, ap, subst, ◌∙◌}
 use Rattle.bac_apdu.specs.Apdu.{Complex, Error}
-use Rattle.bac_apdu.specs.declared.service.extent.Extent.{Extent}
 use Rattle.bac_log.specs.Ack.{read_range_service}
 use Rattle.bac_link.specs.Delivery.{now}
 use Rattle.bac_link.specs.Links.{IsQuestion, IsReply, IsUnknown, reply_parameters}

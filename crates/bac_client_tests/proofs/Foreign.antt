@@ -1,0 +1,255 @@
+-- What comes from the device that isn't ours.
+use Rattle.std.proofs.Common.{◌≡◌, ℕ, true, false, Option, Some, None, Result, Ok, List, [], ◌∷◌, ◌++◌, refl, sym, subst, ap, ◌∙◌, inl, arith}
+use Rattle.bac_wire.specs.Level.{token_at, close_at}
+use Rattle.bac_wire.specs.Reading.{number_at as wire_number_at, length_at, value_in, tagged_at, value_at, context_at, mark_at, contents_as}
+use Rattle.bac_wire.specs.Encoding.{context_octets, value_octets, open_octets, close_octets}
+use Rattle.bac_apdu.specs.Apdu.{segment_at, confirmed_at, complex_at, number_at, error_at, pair_at, unconfirmed_at, segment_ack_at, apdu_behind, apdu_at}
+use Rattle.bac_apdu.specs.FormReading.{row_at, optional_at, form_at}
+use Rattle.bac_apdu.specs.Frame.{body_at, frame_at, frame_octets}
+use Rattle.bac_apdu.specs.Npdu.{place_at, maybe_place_at, hops_at, header_at, place_octets}
+use Rattle.bac_apdu.specs.Octets.{word_at, octets_at}
+use Rattle.bac_apdu.specs.Service.ReadRangeAck.{read_range_ack_at}
+use Rattle.bac_log.specs.RecordReading.{date_at, time_at, behind_at, simple_at, choice_at, chosen_at, datum_at, flags_at, entry_at, entries_at}
+use Rattle.bac_log.specs.TrendLog.{sequence_number}
+use Rattle.bac_link.specs.Datagrams.{carried_in, message_in}
+use Rattle.bac_link.specs.Delivery.{DeliversTo, items_of}
+use Rattle.bac_link.specs.Links.{question}
+use Rattle.bac_link.specs.Path.{Path, towards}
+use Rattle.bac_link.specs.Requests.{parameters_of, request_apdu, request_octets}
+use Rattle.bac_link.specs.declared.item.Item.{Item}
+use Rattle.bac_link.specs.declared.item.Item.TheVariants.{Logged}
+use Rattle.bac_link.specs.declared.link.Lost.{Lost}
+use Rattle.bac_walk.specs.Came.{Asks, Came, Comes, Brought, BroughtIsDelivered, AreOf, AreSaidAt, EndsBy, EndsEmpty, answers_of, asked_by}
+use Rattle.bac_walk.specs.Collects.{turn_items}
+use Rattle.bac_walk.specs.Outcomes.{IsRunOf}
+use Rattle.bac_walk.specs.declared.outcome.Ended.{Ended}
+use Rattle.bac_walk.specs.declared.outcome.Ended.TheVariants.{CaughtUp as IsUp, StepLimit, Stopped, Fault}
+use Rattle.bac_walk.specs.declared.outcome.Why.{Why}
+use Rattle.bac_walk.specs.declared.outcome.Why.TheVariants as why
+use Rattle.bac_apdu.specs.Npdu.{Place}
+use Rattle.bac_walk.specs.Heard.{AckParameters, heard_at}
+use Rattle.bac_walk.specs.Place.{WalkPlace, walk_at}
+use Rattle.bac_walk.specs.Replied.{heard_in}
+use Rattle.bac_walk.specs.Standard.{FromNumber, FromOldest, IsSaidAt, HoldsNumber}
+use Rattle.bac_walk.specs.Walks.{question_of, IsTakenFrom}
+use Rattle.bac_walk.specs.declared.outcome.Progress.{Progress}
+use Rattle.bac_walk.specs.declared.outcome.Progress.TheVariants.{Batch as BatchOf, AskOldest, CaughtUp}
+use Rattle.bac_client_tests.specs.Foreign.{all_held, from_7, from_9, from_oldest, held, history, log, none_from_11, record_7, record_8, record_9, record_10, said_to, IsSaid}
+
+-- ---- what is read
+
+reads_7 : heard_in log from_7 ≡ Some (record { first = Some 7; count = 2; entries = record_7 ∷ record_8 ∷ [] })
+unfolding token_at close_at wire_number_at length_at value_in tagged_at value_at context_at mark_at contents_as segment_at confirmed_at complex_at number_at error_at pair_at unconfirmed_at segment_ack_at apdu_behind apdu_at row_at optional_at form_at body_at frame_at place_at maybe_place_at hops_at header_at word_at octets_at read_range_ack_at carried_in message_in date_at time_at behind_at simple_at choice_at chosen_at datum_at flags_at entry_at entries_at heard_at
+reads_7 = refl
+
+reads_9 : heard_in log from_9 ≡ Some (record { first = Some 9; count = 2; entries = record_9 ∷ record_10 ∷ [] })
+unfolding token_at close_at wire_number_at length_at value_in tagged_at value_at context_at mark_at contents_as segment_at confirmed_at complex_at number_at error_at pair_at unconfirmed_at segment_ack_at apdu_behind apdu_at row_at optional_at form_at body_at frame_at place_at maybe_place_at hops_at header_at word_at octets_at read_range_ack_at carried_in message_in date_at time_at behind_at simple_at choice_at chosen_at datum_at flags_at entry_at entries_at heard_at
+reads_9 = refl
+
+reads_11 : heard_in log none_from_11 ≡ Some (record { first = None; count = 0; entries = [] })
+unfolding token_at close_at wire_number_at length_at value_in tagged_at value_at context_at mark_at contents_as segment_at confirmed_at complex_at number_at error_at pair_at unconfirmed_at segment_ack_at apdu_behind apdu_at row_at optional_at form_at body_at frame_at place_at maybe_place_at hops_at header_at word_at octets_at read_range_ack_at carried_in message_in date_at time_at behind_at simple_at choice_at chosen_at datum_at flags_at entry_at entries_at heard_at
+reads_11 = refl
+
+reads_oldest : heard_in log from_oldest ≡ Some (record { first = Some 7; count = 2; entries = record_7 ∷ record_8 ∷ [] })
+unfolding token_at close_at wire_number_at length_at value_in tagged_at value_at context_at mark_at contents_as segment_at confirmed_at complex_at number_at error_at pair_at unconfirmed_at segment_ack_at apdu_behind apdu_at row_at optional_at form_at body_at frame_at place_at maybe_place_at hops_at header_at word_at octets_at read_range_ack_at carried_in message_in date_at time_at behind_at simple_at choice_at chosen_at datum_at flags_at entry_at entries_at heard_at
+reads_oldest = refl
+
+-- ---- what is said
+
+said_7 : IsSaidAt held history log (FromNumber 7) from_7
+said_7 = record {
+  heard = record { first = Some 7; count = 2; entries = record_7 ∷ record_8 ∷ [] };
+  reads = reads_7;
+  counts = refl;
+  says = (7, (refl, omega arith, ((omega arith, omega arith), (omega arith, refl), ((omega arith, omega arith), (omega arith, refl), tt))), inl refl);
+}
+
+said_9 : IsSaidAt held history log (FromNumber 9) from_9
+said_9 = record {
+  heard = record { first = Some 9; count = 2; entries = record_9 ∷ record_10 ∷ [] };
+  reads = reads_9;
+  counts = refl;
+  says = (9, (refl, omega arith, ((omega arith, omega arith), (omega arith, refl), ((omega arith, omega arith), (omega arith, refl), tt))), inl refl);
+}
+
+none_11 : HoldsNumber held 11 → ⊥
+none_11 holds = omega (arith, holds.1.0, holds.1.1, holds.2)
+
+said_11 : IsSaidAt held history log (FromNumber 11) none_from_11
+said_11 = record {
+  heard = record { first = None; count = 0; entries = [] };
+  reads = reads_11;
+  counts = refl;
+  says = none_11;
+}
+
+said_oldest : IsSaidAt held history log FromOldest from_oldest
+said_oldest = record {
+  heard = record { first = Some 7; count = 2; entries = record_7 ∷ record_8 ∷ [] };
+  reads = reads_oldest;
+  counts = refl;
+  says = (refl, omega arith, ((omega arith, omega arith), (omega arith, refl), ((omega arith, omega arith), (omega arith, refl), tt)));
+}
+
+-- ---- what is asked
+
+abbrev asked_for : ℕ → WalkPlace → List ℕ
+asked_for invoke w = request_octets (towards None) invoke (question w.log (question_of w))
+
+-- where the walk is after number 11, too, brought nothing
+abbrev at_oldest : WalkPlace
+at_oldest = record { log = log; next = 11; fresh = false; asks_oldest = true }
+
+asks_7 : (invoke : ℕ) → said_to (asked_for invoke (walk_at log 7)) ≡ Some from_7
+unfolding context_octets value_octets open_octets close_octets frame_octets place_octets parameters_of request_apdu request_octets
+asks_7 invoke = refl
+
+asks_9 : (invoke : ℕ) → said_to (asked_for invoke (walk_at log 9)) ≡ Some from_9
+unfolding context_octets value_octets open_octets close_octets frame_octets place_octets parameters_of request_apdu request_octets
+asks_9 invoke = refl
+
+asks_11 : (invoke : ℕ) → said_to (asked_for invoke (walk_at log 11)) ≡ Some none_from_11
+unfolding context_octets value_octets open_octets close_octets frame_octets place_octets parameters_of request_apdu request_octets
+asks_11 invoke = refl
+
+asks_for_oldest : (invoke : ℕ) → said_to (asked_for invoke at_oldest) ≡ Some from_oldest
+unfolding context_octets value_octets open_octets close_octets frame_octets place_octets parameters_of request_apdu request_octets
+asks_for_oldest invoke = refl
+
+-- ---- what comes
+
+-- an exchange that brought a datagram brought what the device answers to the question of a walk that is here
+one_answer : {S : Type 0} (retries : ℕ) (old : S) (w : WalkPlace) (datagram : List ℕ) (new : S) →
+    Asks (λ a octets answer b. IsSaid octets answer) (towards None) retries old w (Ok datagram) new →
+    (invoke : ℕ) × (said_to (asked_for invoke w) ≡ Some datagram)
+one_answer retries old w datagram new asks = (asks.0, asks.1.4)
+
+-- a reply that came where it was said
+said_here : (w : WalkPlace) (datagram : List ℕ) (c : Came) → IsSaidAt held history w.log (asked_by w) datagram → c.place ≡ w → datagram ≡ c.datagram →
+    IsSaidAt held history c.place.log (asked_by c.place) c.datagram
+said_here w datagram c said place is =
+    let P : WalkPlace → Type 0 = λ v. IsSaidAt held history v.log (asked_by v) c.datagram in
+    let Q : List ℕ → Type 0 = λ d. IsSaidAt held history w.log (asked_by w) d in subst P (sym place) (subst Q is said)
+
+same : (a b : List ℕ) → Some a ≡ Some b → a ≡ b
+same a b is = cc
+
+heard_as : (w : WalkPlace) (datagram came : List ℕ) (h : AckParameters) (p : Progress) (next : WalkPlace) → datagram ≡ came → heard_in w.log datagram ≡ Some h →
+    IsTakenFrom w (heard_in w.log came) (Ok p) next → IsTakenFrom w (Some h) (Ok p) next
+heard_as w datagram came h p next is reads taken =
+    let P : List ℕ → Type 0 = λ d. IsTakenFrom w (heard_in w.log d) (Ok p) next in
+    let Q : Option AckParameters → Type 0 = λ o. IsTakenFrom w o (Ok p) next in subst Q reads (subst P (sym is) taken)
+
+ends : (c : Came) (came : List Came) (x : Item) (xs more : List Item) → c.items ≡ x ∷ xs → (EndsEmpty came → items_of (answers_of came) ≡ more) →
+    EndsEmpty (c ∷ came) → items_of (answers_of (c ∷ came)) ≡ (x ∷ xs) ++ more
+ends c [] x xs more is rest empty = absurd (let e = sym is ∙ empty.0 in cc)
+ends c (d ∷ came) x xs more is rest empty =
+    ap (λ ys. ys ++ items_of (answers_of (d ∷ came))) is ∙ ap (λ ys. (x ∷ xs) ++ ys) (rest empty)
+
+taken_oldest : (p : Progress) (next : WalkPlace) → IsTakenFrom at_oldest (Some (record { first = Some 7; count = 2; entries = record_7 ∷ record_8 ∷ [] })) (Ok p) next →
+    (turn_items (Ok p) ≡ []) × (next ≡ at_oldest)
+taken_oldest CaughtUp next taken = (refl, taken)
+taken_oldest AskOldest next taken = absurd taken
+taken_oldest (BatchOf b) next taken = absurd taken
+
+taken_11 : (p : Progress) (next : WalkPlace) → IsTakenFrom (walk_at log 11) (Some (record { first = None; count = 0; entries = [] })) (Ok p) next →
+    (turn_items (Ok p) ≡ []) × (next ≡ at_oldest)
+taken_11 AskOldest next taken = (refl, taken)
+taken_11 CaughtUp next taken = absurd taken
+taken_11 (BatchOf b) next taken = absurd taken
+
+taken_9 : (p : Progress) (next : WalkPlace) → IsTakenFrom (walk_at log 9) (Some (record { first = Some 9; count = 2; entries = record_9 ∷ record_10 ∷ [] })) (Ok p) next →
+    (turn_items (Ok p) ≡ Logged 9 record_9 ∷ Logged 10 record_10 ∷ []) × (next ≡ walk_at log 11)
+taken_9 (BatchOf b) next taken = taken
+taken_9 AskOldest next taken = absurd taken
+taken_9 CaughtUp next taken = absurd taken
+
+taken_7 : (p : Progress) (next : WalkPlace) → IsTakenFrom (walk_at log 7) (Some (record { first = Some 7; count = 2; entries = record_7 ∷ record_8 ∷ [] })) (Ok p) next →
+    (turn_items (Ok p) ≡ Logged 7 record_7 ∷ Logged 8 record_8 ∷ []) × (next ≡ walk_at log 9)
+taken_7 (BatchOf b) next taken = taken
+taken_7 AskOldest next taken = absurd taken
+taken_7 CaughtUp next taken = absurd taken
+
+comes_oldest : {S : Type 0} (retries : ℕ) (came : List Came) (old : S) (w after : WalkPlace) (new : S) → w ≡ at_oldest →
+    Comes (λ a octets answer b. IsSaid octets answer) (towards None) retries old w came after new → AreSaidAt history (held ∷ []) came × (items_of (answers_of came) ≡ [])
+comes_oldest retries [] old w after new here comes = (tt, refl)
+comes_oldest retries (c ∷ came) old w after new here (mid, next, p, place, asked, taken, is, rest) =
+    let A : WalkPlace → Type 0 = λ v. Asks (λ a octets answer b. IsSaid octets answer) (towards None) retries old v (Ok c.datagram) mid in
+    let answer = one_answer retries old at_oldest c.datagram mid (subst A here asked) in
+    let d = same from_oldest c.datagram (sym (asks_for_oldest answer.0) ∙ answer.1) in
+    let T : WalkPlace → Type 0 = λ v. IsTakenFrom v (heard_in v.log c.datagram) (Ok p) next in
+    let brings = taken_oldest p next (heard_as at_oldest from_oldest c.datagram (record { first = Some 7; count = 2; entries = record_7 ∷ record_8 ∷ [] }) p next d reads_oldest (subst T here taken)) in
+    let more = comes_oldest retries came mid next after new brings.1 rest in
+    ((said_here at_oldest from_oldest c said_oldest (place ∙ here) d, more.0), ap (λ ys. ys ++ items_of (answers_of came)) (is ∙ brings.0) ∙ more.1)
+
+comes_11 : {S : Type 0} (retries : ℕ) (came : List Came) (old : S) (w after : WalkPlace) (new : S) → w ≡ walk_at log 11 →
+    Comes (λ a octets answer b. IsSaid octets answer) (towards None) retries old w came after new → AreSaidAt history (held ∷ []) came × (items_of (answers_of came) ≡ [])
+comes_11 retries [] old w after new here comes = (tt, refl)
+comes_11 retries (c ∷ came) old w after new here (mid, next, p, place, asked, taken, is, rest) =
+    let A : WalkPlace → Type 0 = λ v. Asks (λ a octets answer b. IsSaid octets answer) (towards None) retries old v (Ok c.datagram) mid in
+    let answer = one_answer retries old (walk_at log 11) c.datagram mid (subst A here asked) in
+    let d = same none_from_11 c.datagram (sym (asks_11 answer.0) ∙ answer.1) in
+    let T : WalkPlace → Type 0 = λ v. IsTakenFrom v (heard_in v.log c.datagram) (Ok p) next in
+    let brings = taken_11 p next (heard_as (walk_at log 11) none_from_11 c.datagram (record { first = None; count = 0; entries = [] }) p next d reads_11 (subst T here taken)) in
+    let more = comes_oldest retries came mid next after new brings.1 rest in
+    ((said_here (walk_at log 11) none_from_11 c said_11 (place ∙ here) d, more.0), ap (λ ys. ys ++ items_of (answers_of came)) (is ∙ brings.0) ∙ more.1)
+
+comes_9 : {S : Type 0} (retries : ℕ) (came : List Came) (old : S) (w after : WalkPlace) (new : S) → w ≡ walk_at log 9 →
+    Comes (λ a octets answer b. IsSaid octets answer) (towards None) retries old w came after new →
+    AreSaidAt history (held ∷ []) came × (EndsEmpty came → items_of (answers_of came) ≡ Logged 9 record_9 ∷ Logged 10 record_10 ∷ [])
+comes_9 retries [] old w after new here comes = (tt, λ empty. absurd empty)
+comes_9 retries (c ∷ came) old w after new here (mid, next, p, place, asked, taken, is, rest) =
+    let A : WalkPlace → Type 0 = λ v. Asks (λ a octets answer b. IsSaid octets answer) (towards None) retries old v (Ok c.datagram) mid in
+    let answer = one_answer retries old (walk_at log 9) c.datagram mid (subst A here asked) in
+    let d = same from_9 c.datagram (sym (asks_9 answer.0) ∙ answer.1) in
+    let T : WalkPlace → Type 0 = λ v. IsTakenFrom v (heard_in v.log c.datagram) (Ok p) next in
+    let brings = taken_9 p next (heard_as (walk_at log 9) from_9 c.datagram (record { first = Some 9; count = 2; entries = record_9 ∷ record_10 ∷ [] }) p next d reads_9 (subst T here taken)) in
+    let more = comes_11 retries came mid next after new brings.1 rest in
+    ((said_here (walk_at log 9) from_9 c said_9 (place ∙ here) d, more.0), ends c came (Logged 9 record_9) (Logged 10 record_10 ∷ []) [] (is ∙ brings.0) (λ empty. more.1))
+
+comes_7 : {S : Type 0} (retries : ℕ) (came : List Came) (old : S) (w after : WalkPlace) (new : S) → w ≡ walk_at log 7 →
+    Comes (λ a octets answer b. IsSaid octets answer) (towards None) retries old w came after new →
+    AreSaidAt history (held ∷ []) came × (EndsEmpty came → items_of (answers_of came) ≡ all_held)
+comes_7 retries [] old w after new here comes = (tt, λ empty. absurd empty)
+comes_7 retries (c ∷ came) old w after new here (mid, next, p, place, asked, taken, is, rest) =
+    let A : WalkPlace → Type 0 = λ v. Asks (λ a octets answer b. IsSaid octets answer) (towards None) retries old v (Ok c.datagram) mid in
+    let answer = one_answer retries old (walk_at log 7) c.datagram mid (subst A here asked) in
+    let d = same from_7 c.datagram (sym (asks_7 answer.0) ∙ answer.1) in
+    let T : WalkPlace → Type 0 = λ v. IsTakenFrom v (heard_in v.log c.datagram) (Ok p) next in
+    let brings = taken_7 p next (heard_as (walk_at log 7) from_7 c.datagram (record { first = Some 7; count = 2; entries = record_7 ∷ record_8 ∷ [] }) p next d reads_7 (subst T here taken)) in
+    let more = comes_9 retries came mid next after new brings.1 rest in (
+      (said_here (walk_at log 7) from_7 c said_7 (place ∙ here) d, more.0),
+      ends c came (Logged 7 record_7) (Logged 8 record_8 ∷ []) (Logged 9 record_9 ∷ Logged 10 record_10 ∷ []) (is ∙ brings.0) more.1,
+    )
+
+-- ---- a run
+
+ended_up : (w : Why) (steps n : ℕ) (ended : Ended) → IsRunOf w steps n ended → w ≡ why.CaughtUp → ended ≡ IsUp
+ended_up why.CaughtUp steps n ended run is = run.1
+ended_up why.StepLimit steps n ended run is = absurd (cc)
+ended_up (why.Fault f) steps n ended run is = absurd (cc)
+ended_up why.Memory steps n ended run is = absurd (cc)
+
+up : {S : Type 0} (asks : S → List ℕ → Result (List ℕ) Lost → S → Type 0) (path : Path) (retries steps : ℕ) (came : List Came) (here after : WalkPlace) (mid new : S)
+    (items : List Item) (ended : Ended) → ended ≡ IsUp → EndsBy asks path retries steps came here mid ended after new → AreOf ended came items after →
+    EndsEmpty came × (items ≡ items_of (answers_of came))
+up asks path retries steps came here after mid new items IsUp is ends are = (ends.0, are)
+up asks path retries steps came here after mid new items StepLimit is ends are = absurd (cc)
+up asks path retries steps came here after mid new items Stopped is ends are = absurd (cc)
+up asks path retries steps came here after mid new items (Fault f) is ends are = absurd (cc)
+
+pub all_delivered : {S : Type 0} (old new : S) (way : Option Place) (retries : ℕ) (w after : WalkPlace) (steps n : ℕ) (came : List Came) (items : List Item) (ended : Ended) (reason : Why) →
+    way ≡ None → w ≡ walk_at log 7 → BroughtIsDelivered {S = S} (λ a octets answer b. IsSaid octets answer) → IsRunOf reason steps n ended →
+    Brought (λ a octets answer b. IsSaid octets answer) (towards way) retries old w n came items ended after new →
+    ((count : ℕ) × (t : ℕ) × (after.next ≡ sequence_number t) × DeliversTo history 7 items t (held ∷ []) count) × (reason ≡ why.CaughtUp → items ≡ all_held)
+all_delivered old new way retries w after steps n came items ended reason near from law run ran =
+    let P : Option Place → WalkPlace → Type 0 = λ y v. Brought (λ a octets answer b. IsSaid octets answer) (towards y) retries old v n came items ended after new in
+    let B : Option Place → Type 0 = λ y. P y (walk_at log 7) in
+    let b : P None (walk_at log 7) = subst B near (subst (P way) from ran) in
+    let said = comes_7 retries came old (walk_at log 7) b.0 b.1 refl b.2 in
+    let d = law (towards None) retries old new (walk_at log 7) after n came items ended history (held ∷ []) 7 7 b said.0 refl (omega arith) tt
+    (record { oldest = omega arith; newest = omega arith }, tt) (λ f. (omega arith, omega arith)) in
+    let D : ℕ → Type 0 = λ x. DeliversTo history x items d.2 (held ∷ []) d.1 in (
+      (d.1, d.2, d.4, subst D (d.3 refl) d.5),
+      λ is. let e = up (λ a octets answer b. IsSaid octets answer) (towards None) retries n came b.0 after b.1 new items ended (ended_up reason steps n ended run is) b.3 b.4 in e.1 ∙ said.1 e.0,
+    )

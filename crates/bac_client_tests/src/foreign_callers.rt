@@ -1,0 +1,176 @@
+//! A device that isn't ours, with REAL records in a longer encoding, two a reply: that the headline
+//! of what came holds over it is proved from public contracts alone.
+
+ghost use Rattle.std.specs.Prelude.{ℕ, ◌≡◌, [], ◌∷◌, get_or, IfSome};
+ghost use Rattle.bac_log.specs.TrendLog.{sequence_number};
+ghost use Rattle.bac_link.specs.Delivery.{DeliversTo};
+ghost use Rattle.bac_walk.specs.declared.outcome.Why.TheVariants as why;
+ghost use Rattle.bac_client_tests.specs.Foreign.{all_held, held, history, log as log_one, said_to, IsSaid};
+
+use crate::direct_link::brought;
+use bac_link::{Item, LogLink, Lost, Transactions};
+use bac_log::{Datum, Entry};
+use bac_walk::{Outcome, Walk, Why, brought_is_delivered, collect};
+use bac_wire::{Datagram, Date4, ObjectId, Time4};
+use std::alloc::Global;
+use std::test::Fail;
+
+/// Records 7 and 8; count and number have more octets than they need.
+const FROM_7: [u8; 68] = [
+    0x81, 0x0a, 0x00, 0x44, 0x01, 0x00, 0x30, 0x01, 0x1a, 0x0c, 0x05, 0x00, 0x00, 0x01, 0x19, 0x83,
+    0x3a, 0x05, 0xc0, 0x4a, 0x00, 0x02, 0x5e, 0x0e, 0xa4, 0x7c, 0x05, 0x06, 0x01, 0xb4, 0x07, 0x00,
+    0x00, 0x00, 0x0f, 0x1e, 0x2c, 0x41, 0xc8, 0x00, 0x00, 0x1f, 0x0e, 0xa4, 0x7c, 0x05, 0x06, 0x01,
+    0xb4, 0x08, 0x00, 0x00, 0x00, 0x0f, 0x1e, 0x2c, 0x41, 0xcc, 0x00, 0x00, 0x1f, 0x2a, 0x04, 0x00,
+    0x5f, 0x6a, 0x00, 0x07,
+];
+
+/// Records 9 and 10, likewise.
+const FROM_9: [u8; 71] = [
+    0x81, 0x0a, 0x00, 0x47, 0x01, 0x00, 0x30, 0x02, 0x1a, 0x0c, 0x05, 0x00, 0x00, 0x01, 0x19, 0x83,
+    0x3a, 0x05, 0xc0, 0x4c, 0x00, 0x00, 0x00, 0x02, 0x5e, 0x0e, 0xa4, 0x7c, 0x05, 0x06, 0x01, 0xb4,
+    0x09, 0x00, 0x00, 0x00, 0x0f, 0x1e, 0x2c, 0x41, 0xd0, 0x00, 0x00, 0x1f, 0x2a, 0x04, 0x00, 0x0e,
+    0xa4, 0x7c, 0x05, 0x06, 0x01, 0xb4, 0x0a, 0x00, 0x00, 0x00, 0x0f, 0x1e, 0x2c, 0x41, 0xd4, 0x00,
+    0x00, 0x1f, 0x5f, 0x6b, 0x00, 0x00, 0x09,
+];
+
+/// No records.
+const NONE_FROM_11: [u8; 24] = [
+    0x81, 0x0a, 0x00, 0x18, 0x01, 0x00, 0x30, 0x03, 0x1a, 0x0c, 0x05, 0x00, 0x00, 0x01, 0x19, 0x83,
+    0x3a, 0x05, 0x00, 0x4a, 0x00, 0x00, 0x5e, 0x5f,
+];
+
+/// Records 7 and 8 again.
+const FROM_OLDEST: [u8; 69] = [
+    0x81, 0x0a, 0x00, 0x45, 0x01, 0x00, 0x30, 0x04, 0x1a, 0x0c, 0x05, 0x00, 0x00, 0x01, 0x19, 0x83,
+    0x3a, 0x05, 0xc0, 0x4b, 0x00, 0x00, 0x02, 0x5e, 0x0e, 0xa4, 0x7c, 0x05, 0x06, 0x01, 0xb4, 0x07,
+    0x00, 0x00, 0x00, 0x0f, 0x1e, 0x2c, 0x41, 0xc8, 0x00, 0x00, 0x1f, 0x0e, 0xa4, 0x7c, 0x05, 0x06,
+    0x01, 0xb4, 0x08, 0x00, 0x00, 0x00, 0x0f, 0x1e, 0x2c, 0x41, 0xcc, 0x00, 0x00, 0x1f, 0x2a, 0x04,
+    0x00, 0x5f, 0x6a, 0x00, 0x07,
+];
+
+/// A link to the device, which answers what it knows and loses all else.
+#[derive(Clone, Copy, Debug, Drop)]
+pub struct ForeignLink {
+    failures: u64,
+}
+
+/// The octet at a place, and 0 where there is none.
+fn octet_at(octets: &[u8], place: usize) -> u8
+    ensures { result ≡ get_or octets.now place 0 }
+{
+    match octets.get(place) {
+        Some(octet) => *octet,
+        None => 0,
+    }
+}
+
+/// What the device answers, if it does.
+fn reply_to(question: &[u8]) -> Option<Datagram>
+    ensures { result ≡ said_to question.now }
+{
+    let form = octet_at(question, 17);
+    let number = octet_at(question, 19);
+    if form == 0x7e {
+        return Datagram::of(&FROM_OLDEST);
+    }
+    match number {
+        7 => Datagram::of(&FROM_7),
+        9 => Datagram::of(&FROM_9),
+        11 => Datagram::of(&NONE_FROM_11),
+        _ => None,
+    }
+}
+
+/// It isn't claimed to be honest: what is proved over it follows from what it answers.
+impl LogLink for ForeignLink {
+    ghost failures = { λ link. link.failures };
+
+    ghost is_honest = { λ link id r M H. ⊥ };
+
+    ghost lacks = { λ link id. ⊥ };
+
+    ghost is_sure = { λ link path. ⊥ };
+
+    ghost keeps = { λ a b. Unit {0} };
+
+    ghost asks = { λ old octets answer new. IsSaid octets answer };
+
+    fn ask(&mut self, request: &[u8]) -> Result<Datagram, Lost> {
+        match reply_to(request) {
+            Some(reply) => Ok(reply),
+            None => {
+                self.failures = self.failures.saturating_add(1);
+                Err(Lost)
+            }
+        }
+    }
+
+    ghost serves = { λ link id r M H h. absurd h };
+
+    ghost keeps_itself = { λ link. tt };
+
+    ghost keeps_on = { λ a b c h k. tt };
+}
+
+/// Steps of a walk from number 7 on, however many and with however many retries, deliver the
+/// records from there on that the device holds. Caught up, they delivered all of them.
+pub fn records_of_another_device(
+    alloc: Global,
+    link: &mut ForeignLink,
+    log: ObjectId,
+    retries: u8,
+    steps: u32,
+) -> Option<Outcome>
+    ensures { IfSome result (λ outcome. log ≡ log_one →
+        ((count : ℕ) × (t : ℕ) × (outcome.next ≡ sequence_number t)
+        × DeliversTo history 7 outcome.items.items t (held ∷ []) count)
+        × (outcome.why ≡ why.CaughtUp → outcome.items.items ≡ all_held)) }
+{
+    // For the prover alone: the law that the contract follows from.
+    brought_is_delivered::<ForeignLink>();
+    let mut walk = Walk::from_number(log, 7)?;
+    let mut transactions = Transactions::new(retries);
+    Some(collect(alloc, link, &mut transactions, &mut walk, steps))
+}
+
+/// The record of this number, logged at the hour of that number.
+fn real(number: u8, octets: [u8; 4], flags: Option<u8>) -> Item {
+    let date = Date4 {
+        year: 124,
+        month: 5,
+        day: 6,
+        weekday: 1,
+    };
+    let time = Time4 {
+        hour: number,
+        minute: 0,
+        second: 0,
+        hundredth: 0,
+    };
+    let entry = Entry {
+        date,
+        time,
+        datum: Datum::Real4(octets),
+        flags,
+    };
+    Item::Logged {
+        number: u32::from(number),
+        entry,
+    }
+}
+
+#[test]
+fn another_device_is_walked(rt: HostRuntime) -> Result<(), Fail> {
+    let a = rt.alloc();
+    let log = ObjectId::new(20, 1).ok_or("no such identifier")?;
+    let mut link = ForeignLink { failures: 0 };
+    let outcome = records_of_another_device(a, &mut link, log, 0, 9).ok_or("no walk")?;
+    let items = [
+        real(7, [65, 200, 0, 0], None),
+        real(8, [65, 204, 0, 0], Some(0)),
+        real(9, [65, 208, 0, 0], Some(0)),
+        real(10, [65, 212, 0, 0], None),
+    ];
+    brought(&rt, &outcome, &items, 11, Why::CaughtUp);
+    Ok(())
+}

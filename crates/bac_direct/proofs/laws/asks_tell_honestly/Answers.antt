@@ -1,0 +1,6 @@
+use Rattle.bac_direct.proofs.Asks.{asked}
+use Rattle.bac_direct.proofs.laws.asks_tell_honestly.Goals as goal
+
+pub returns : goal.returns
+returns c = λ old new octets answer id r M H extent path invoke ahead asks is.
+    asked old.device.now new.device.now old.events.now new.events.now id r M H extent path invoke octets answer is.3 ahead asks is.0 is.1 is.2

@@ -1,0 +1,162 @@
+-- What comes over a link that speaks for a log.
+use Rattle.std.proofs.Common.{◌≡◌, ℕ, zero, suc, ◌+◌, ◌<◌, ◌≤◌, Bool, true, false, ◌==◌, if◌then◌else◌, Option, Some, None, Result, Ok, Err, List, [], ◌∷◌, length, refl, sym, ap, subst, ◌∙◌, inl, inr}
+use Rattle.bac_wire.specs.Primitive.{Id}
+use Rattle.bac_apdu.specs.Apdu.{Apdu, Confirmed, Unconfirmed, Simple, Complex, SegmentAck, Error, Reject, Abort}
+use Rattle.bac_apdu.specs.declared.service.extent.Extent.{Extent}
+use Rattle.bac_link.specs.declared.exchanges.ExchangeFault.{ExchangeFault}
+use Rattle.bac_link.specs.declared.link.Lost.{Lost as Loss}
+use Rattle.bac_link.specs.declared.exchanges.Verdict.{Verdict}
+use Rattle.bac_link.specs.declared.exchanges.Verdict.TheVariants as verdict
+use Rattle.bac_link.specs.Datagrams.{apdu_in}
+use Rattle.bac_link.specs.Delivery.{History, Moment, now, later}
+use Rattle.bac_link.specs.Exchanges.{Answers, IsNoAnswer, Unanswered, verdict_of}
+use Rattle.bac_link.specs.Laws.{after_answers}
+use Rattle.bac_link.specs.Links.{question}
+use Rattle.bac_link.specs.Path.{Path}
+use Rattle.bac_link.specs.Requests.{request_octets}
+use Rattle.bac_log.specs.TrendLog.{sequence_number}
+use Rattle.bac_walk.specs.Came.{Came, Asks, Comes, AreSaidAt, EndsBy, asked_by, restarted}
+use Rattle.bac_walk.specs.Heard.{AckParameters}
+use Rattle.bac_walk.specs.Near.{AreInWindow}
+use Rattle.bac_walk.specs.Place.{WalkPlace}
+use Rattle.bac_walk.specs.Replied.{heard_from, heard_in}
+use Rattle.bac_walk.specs.Spoken.{IsSaidOrLost, IsSpokenEnd, SpeaksFor, SpokenIsDelivered}
+use Rattle.bac_walk.specs.Standard.{IsSaidAt}
+use Rattle.bac_walk.specs.Takes.{parameters_in}
+use Rattle.bac_walk.specs.Walks.{question_of}
+use Rattle.bac_walk.specs.declared.outcome.Ended.{Ended}
+use Rattle.bac_walk.specs.declared.outcome.Ended.TheVariants.{CaughtUp as IsUp, StepLimit, Stopped, Fault}
+use Rattle.bac_walk.specs.declared.outcome.Progress.{Progress}
+use Rattle.bac_walk.specs.declared.outcome.Progress.TheVariants.{Batch as BatchOf, AskOldest, CaughtUp}
+use Rattle.bac_walk.specs.declared.outcome.WalkFault.TheVariants.{Lost, Refused, BadReply}
+use Rattle.bac_walk.proofs.Came.{Asking, brought_delivers, some_later, window_later, window_now}
+use Rattle.bac_walk.proofs.Standard.{Means, said_means}
+
+-- ---- what a reply by the standard is to its question
+
+acked : (log : Id) (extent : Extent) (invoke service : ℕ) (parameters : List ℕ) (b : Bool) → (service == 26) ≡ b → (h : AckParameters) →
+    heard_from log (if b then Some parameters else None) ≡ Some h → verdict_of (question log extent) (Some (Complex false invoke service parameters)) ≡ verdict.Ack
+acked log extent invoke service parameters true is h heard = rw is refl
+acked log extent invoke service parameters false is h heard = absurd (cc)
+
+is_ack : (log : Id) (extent : Extent) (o : Option Apdu) (h : AckParameters) → heard_from log (parameters_in o) ≡ Some h → verdict_of (question log extent) o ≡ verdict.Ack
+is_ack log extent None h heard = absurd (cc)
+is_ack log extent (Some (Confirmed segmented size invoke service parameters)) h heard = absurd (cc)
+is_ack log extent (Some (Unconfirmed service parameters)) h heard = absurd (cc)
+is_ack log extent (Some (Simple invoke service)) h heard = absurd (cc)
+is_ack log extent (Some (Complex true invoke service parameters)) h heard = absurd (cc)
+is_ack log extent (Some (Complex false invoke service parameters)) h heard = acked log extent invoke service parameters (service == 26) refl h heard
+is_ack log extent (Some (SegmentAck invoke)) h heard = absurd (cc)
+is_ack log extent (Some (Error invoke service class code)) h heard = absurd (cc)
+is_ack log extent (Some (Reject invoke reason)) h heard = absurd (cc)
+is_ack log extent (Some (Abort by_server invoke reason)) h heard = absurd (cc)
+
+-- ---- an exchange
+
+-- what holds where a walk is asked for
+record Here (low : ℕ) (log : Id) (M : List Moment) (w : WalkPlace) : Type 0 where
+  ordinal : ℕ
+  log_is : w.log ≡ log
+  next : w.next ≡ sequence_number ordinal
+  some : 0 < length M
+  window : AreInWindow low M
+  at : w.fresh ≡ false → (low ≤ ordinal) × (ordinal < low + 2147483648)
+
+abbrev asked_for : Path → ℕ → WalkPlace → List ℕ
+asked_for path invoke w = request_octets path invoke (question w.log (question_of w))
+
+unanswered : {S : Type 0} (asks : Asking S) (stands : S → List Moment → Type 0) (path : Path) (log : Id) (H : History) (low : ℕ) (M : List Moment) (w : WalkPlace) (invoke n : ℕ) (old mid : S) →
+    SpeaksFor asks path log H low stands → Here low log M w → stands old M → Unanswered asks (asked_for path invoke w) n old mid → stands mid M
+unanswered asks stands path log H low M w invoke zero old mid speaks here at none = subst (λ x. stands x M) (sym none) at
+unanswered asks stands path log H low M w invoke (suc n) old mid speaks here at (before, answer, first, asked, none) =
+    let at_before = unanswered asks stands path log H low M w invoke n old before speaks here at first in
+    last answer (speaks before mid M w here.ordinal invoke answer at_before here.log_is here.next here.some here.window here.at asked) none
+  where
+    last : (answer : Result (List ℕ) Loss) → IsSaidOrLost (λ N. stands mid N) M H w (asked_for path invoke w) answer → IsNoAnswer (asked_for path invoke w) answer → stands mid M
+    last (Ok datagram) said none = said.1 none
+    last (Err lost) said none = said
+
+answered : {S : Type 0} (asks : Asking S) (stands : S → List Moment → Type 0) (path : Path) (log : Id) (H : History) (low : ℕ) (M : List Moment) (w : WalkPlace) (invoke retries : ℕ) (v : Verdict) (old : S) (datagram : List ℕ) (new : S) →
+    SpeaksFor asks path log H low stands → Here low log M w → stands old M → Answers asks path invoke (question w.log (question_of w)) retries v old datagram new →
+    IsSaidAt (now M) H w.log (asked_by w) datagram × stands new (later M) × (v ≡ verdict.Ack)
+answered asks stands path log H low M w invoke retries v old datagram new speaks here at (tries, mid, few, first, asked, is) =
+    let at_mid = unanswered asks stands path log H low M w invoke tries old mid speaks here at first in
+    let said = (speaks mid new M w here.ordinal invoke (Ok datagram) at_mid here.log_is here.next here.some here.window here.at asked).0 is.0 in
+    (said.0, said.1, sym is.1 ∙ is_ack w.log (question_of w) (apdu_in datagram) said.0.heard said.0.reads)
+
+-- ---- replies
+
+after_reply : (H : History) (low : ℕ) (log : Id) (M : List Moment) (w next : WalkPlace) (p : Progress) → (here : Here low log M w) → Means H (now M) low here.ordinal w p next →
+    Here low log (later M) next
+after_reply H low log M w next (BatchOf b) here means = record {
+  ordinal = means.0;
+  log_is = ap (λ (v : WalkPlace). v.log) means.2 ∙ here.log_is;
+  next = ap (λ (v : WalkPlace). v.next) means.2;
+  some = some_later M here.some;
+  window = window_later low M here.window;
+  at = λ f. (means.3, means.4);
+}
+after_reply H low log M w next AskOldest here means = record {
+  ordinal = here.ordinal;
+  log_is = ap (λ (v : WalkPlace). v.log) means.2 ∙ here.log_is;
+  next = ap (λ (v : WalkPlace). v.next) means.2 ∙ here.next;
+  some = some_later M here.some;
+  window = window_later low M here.window;
+  at = λ f. here.at (sym (ap (λ (v : WalkPlace). v.fresh) means.2) ∙ f);
+}
+after_reply H low log M w next CaughtUp here means = record {
+  ordinal = here.ordinal;
+  log_is = ap (λ (v : WalkPlace). v.log) means.2 ∙ here.log_is;
+  next = ap (λ (v : WalkPlace). v.next) means.2 ∙ here.next;
+  some = some_later M here.some;
+  window = window_later low M here.window;
+  at = λ f. here.at (sym (ap (λ (v : WalkPlace). v.fresh) means.2) ∙ f);
+}
+
+spoken : {S : Type 0} (asks : Asking S) (stands : S → List Moment → Type 0) (path : Path) (retries : ℕ) (log : Id) (H : History) (low : ℕ) (came : List Came) (M : List Moment) (old new : S) (w after : WalkPlace) →
+    SpeaksFor asks path log H low stands → Here low log M w → stands old M → Comes asks path retries old w came after new →
+    AreSaidAt H M came × stands new (after_answers (length came) M) × Here low log (after_answers (length came) M) after
+spoken asks stands path retries log H low [] M old new w after speaks here at comes =
+    (tt, subst (λ x. stands x M) (sym comes.1) at, subst (λ v. Here low log M v) (sym comes.0) here)
+spoken asks stands path retries log H low (c ∷ came) M old new w after speaks here at (mid, next, p, place, asked, taken, is, rest) =
+    let said = answered asks stands path log H low M w asked.0 retries verdict.Ack old c.datagram mid speaks here at asked.1 in
+    let means = said_means H (now M) low here.ordinal w (heard_in w.log c.datagram) said.0.heard (Ok p) next said.0.reads (window_now low M here.some here.window) here.next here.at said.0.counts said.0.says taken in
+    let more = spoken asks stands path retries log H low came (later M) mid new next after speaks (after_reply H low log M w next p here means) said.1 rest in
+    let P : WalkPlace → Type 0 = λ v. IsSaidAt (now M) H v.log (asked_by v) c.datagram in
+    ((subst P (sym place) said.0, more.0), more.1, more.2)
+
+-- ---- a run
+
+ended_spoken : {S : Type 0} (asks : Asking S) (stands : S → List Moment → Type 0) (path : Path) (retries steps : ℕ) (log : Id) (H : History) (low : ℕ) (came : List Came) (M : List Moment) (here after : WalkPlace) (mid new : S) (ended : Ended) →
+    SpeaksFor asks path log H low stands → Here low log M here → stands mid M → EndsBy asks path retries steps came here mid ended after new → stands new M × IsSpokenEnd ended
+ended_spoken asks stands path retries steps log H low came M here after mid new IsUp speaks is at ends = (subst (λ x. stands x M) (sym ends.3) at, tt)
+ended_spoken asks stands path retries steps log H low came M here after mid new StepLimit speaks is at ends = (subst (λ x. stands x M) (sym ends.3) at, tt)
+ended_spoken asks stands path retries steps log H low came M here after mid new Stopped speaks is at ends = (subst (λ x. stands x M) (sym ends.3) at, tt)
+ended_spoken asks stands path retries steps log H low came M here after mid new (Fault Lost) speaks is at (few, (result, asked, lost), place) =
+    let P : Result (List ℕ) ExchangeFault → Type 0 = λ r. Asks asks path retries mid here r new in
+    let a = subst P lost asked in
+    (unanswered asks stands path log H low M here a.0 (retries + 1) mid new speaks is at a.1, tt)
+ended_spoken asks stands path retries steps log H low came M here after mid new (Fault (Refused refusal)) speaks is at (few, (result, asked, refused), place) =
+    let P : Result (List ℕ) ExchangeFault → Type 0 = λ r. Asks asks path retries mid here r new in
+    let a = subst P refused asked in
+    let said = answered asks stands path log H low M here a.0 retries (verdict.Refused refusal) mid a.1.0 new speaks is at a.1.1 in
+    absurd (let e = said.2 in cc)
+ended_spoken asks stands path retries steps log H low came M here after mid new (Fault BadReply) speaks is at (few, (result, asked, bad), place) =
+    let P : Result (List ℕ) ExchangeFault → Type 0 = λ r. Asks asks path retries mid here r new in
+    elim bad [
+      | inl unread ↦
+          let a = subst P unread asked in
+          let said = answered asks stands path log H low M here a.0 retries verdict.BadReply mid a.1.0 new speaks is at a.1.1 in
+          absurd (let e = said.2 in cc)
+      | inr (datagram, why, ok, taken) ↦
+          let a = subst P ok asked in
+          let said = answered asks stands path log H low M here a.0 retries verdict.Ack mid datagram new speaks is at a.1 in
+          absurd (said_means H (now M) low is.ordinal here (heard_in here.log datagram) said.0.heard (Err why) here said.0.reads (window_now low M is.some is.window) is.next is.at said.0.counts said.0.says taken)
+    ]
+
+pub spoken_delivers : {S : Type 0} (asks : Asking S) (stands : S → List Moment → Type 0) → SpokenIsDelivered asks stands
+spoken_delivers asks stands = λ path retries old new w after steps came items ended H M low s speaks at run next some back window in_window.
+    let here : Here low w.log M (restarted w) = record { ordinal = s; log_is = refl; next = next; some = some; window = window; at = in_window } in
+    let all = spoken asks stands path retries w.log H low came M old run.1 (restarted w) run.0 speaks here at run.2 in
+    let end = ended_spoken asks stands path retries steps w.log H low came (after_answers (length came) M) run.0 after run.1 new ended speaks all.2 all.1 run.3 in
+    (brought_delivers asks path retries old new w after steps came items ended H M low s run all.0 next some back window in_window, all.0, end.0, end.1)

@@ -1,0 +1,95 @@
+-- Links that answer the questions of a walk by the standard, whatever else is known of them.
+use Rattle.std.specs.Prelude.{◌≡◌, ℕ, ◌+◌, ◌<◌, ◌≤◌, true, false, Option, Result, Ok, Err, List, length}
+use Rattle.bac_wire.specs.Canon.{IsValid}
+use Rattle.bac_wire.specs.Primitive.{Id, Object}
+use Rattle.bac_apdu.specs.Npdu.{Place}
+use Rattle.bac_apdu.specs.Route.{IsWay}
+use Rattle.bac_apdu.specs.declared.service.extent.Extent.{Extent}
+use Rattle.bac_link.specs.declared.item.Item.{Item}
+use Rattle.bac_link.specs.declared.link.Lost.{Lost as Loss}
+use Rattle.bac_link.specs.Datagrams.{answers_to}
+use Rattle.bac_link.specs.Delivery.{History, Moment, DeliversTo, now, later}
+use Rattle.bac_link.specs.Laws.{after_answers}
+use Rattle.bac_link.specs.Links.{question, IsAsked, IsQuestion}
+use Rattle.bac_link.specs.Moments.{AreServed}
+use Rattle.bac_link.specs.Path.{Path, towards}
+use Rattle.bac_link.specs.Requests.{request_octets}
+use Rattle.bac_log.specs.TrendLog.{sequence_number}
+use Rattle.bac_walk.specs.declared.outcome.Ended.{Ended}
+use Rattle.bac_walk.specs.declared.outcome.Ended.TheVariants.{CaughtUp, StepLimit, Stopped, Fault}
+use Rattle.bac_walk.specs.declared.outcome.WalkFault.TheVariants.{Lost, Refused, BadReply}
+use Rattle.bac_walk.specs.Came.{Came, AreSaidAt, Brought, NeverGoesBack, answers_of, asked_by}
+use Rattle.bac_walk.specs.Collects.{IsCaughtUp}
+use Rattle.bac_walk.specs.Near.{AreInWindow, IsNear}
+use Rattle.bac_walk.specs.Place.{WalkPlace}
+use Rattle.bac_walk.specs.Standard.{IsSaidAt}
+use Rattle.bac_walk.specs.Walks.{question_of}
+
+-- What one ask of the question of a walk that is here brings: a datagram that answers it is a reply by the standard at
+-- the next moment, which is then used up. A loss, and a datagram that doesn't answer it, leave the moments.
+abbrev pub IsSaidOrLost : (List Moment → Type 0) →
+    List Moment → History → WalkPlace → List ℕ → Result (List ℕ) Loss → Type 0
+IsSaidOrLost stays M H w octets (Ok datagram) =
+    (answers_to octets datagram ≡ true → IsSaidAt (now M) H w.log (asked_by w) datagram × stays (later M))
+    × (answers_to octets datagram ≡ false → stays M)
+IsSaidOrLost stays M H w octets (Err lost) = stays M
+
+-- A link speaks for a log: wherever it stands at moments, each ask of a question of a walk of this log brings that, and
+-- what is left of the moments is where the link stands then. Moments and number lie in one window.
+abbrev pub SpeaksFor : {S : Type 0} → (S → List ℕ → Result (List ℕ) Loss → S → Type 0) →
+    Path → Id → History → ℕ → (S → List Moment → Type 0) → Type 0
+SpeaksFor {S = S} asks path log H low stands =
+    (old new : S) (M : List Moment) (w : WalkPlace) (s invoke : ℕ) (answer : Result (List ℕ) Loss) →
+    stands old M → w.log ≡ log → w.next ≡ sequence_number s → 0 < length M → AreInWindow low M →
+    (w.fresh ≡ false → (low ≤ s) × (s < low + 2147483648)) →
+    asks old (request_octets path invoke (question w.log (question_of w))) answer new →
+    IsSaidOrLost (λ N. stands new N) M H w (request_octets path invoke (question w.log (question_of w))) answer
+
+-- how a run over such a link ends: the device refuses nothing, and no reply is a bad one
+abbrev pub IsSpokenEnd : Ended → Type 0
+IsSpokenEnd CaughtUp = Unit {0}
+IsSpokenEnd StepLimit = Unit {0}
+IsSpokenEnd Stopped = Unit {0}
+IsSpokenEnd (Fault Lost) = Unit {0}
+IsSpokenEnd (Fault (Refused refusal)) = ⊥
+IsSpokenEnd (Fault BadReply) = ⊥
+
+-- Over a link that speaks for the log of a walk: what a run brought is delivered, the replies are by the standard, the
+-- link stands at the moments that they left, and if the run ended with a fault, that is a loss.
+abbrev pub SpokenIsDelivered : {S : Type 0} → (S → List ℕ → Result (List ℕ) Loss → S → Type 0) →
+    (S → List Moment → Type 0) → Type 0
+SpokenIsDelivered {S = S} asks stands =
+    (path : Path) (retries : ℕ) (old new : S) (w after : WalkPlace) (steps : ℕ) (came : List Came) (items : List Item)
+    (ended : Ended) (H : History) (M : List Moment) (low s : ℕ) →
+    SpeaksFor asks path w.log H low stands → stands old M → Brought asks path retries old w steps came items ended after new →
+    w.next ≡ sequence_number s → 0 < length M → NeverGoesBack M → AreInWindow low M →
+    (w.fresh ≡ false → (low ≤ s) × (s < low + 2147483648)) →
+    ((b : ℕ) × (a : ℕ) × (t : ℕ) × (w.fresh ≡ false → b ≡ s) × (after.next ≡ sequence_number t)
+    × DeliversTo H b items t M a × (ended ≡ CaughtUp → IsCaughtUp w.fresh t M (answers_of came)))
+    × AreSaidAt H M came × stands new (after_answers (length came) M) × IsSpokenEnd ended
+
+-- What an honest link's ask brings follows already from what the link says that an ask is.
+abbrev pub TellsHonestly : {S : Type 0} → (S → List ℕ → Result (List ℕ) Loss → S → Type 0) →
+    (S → Id → ℕ → List Moment → History → Type 0) → Type 0
+TellsHonestly {S = S} asks honest =
+    (old new : S) (octets : List ℕ) (answer : Result (List ℕ) Loss) (id : Id) (r : ℕ) (M : List Moment) (H : History)
+    (extent : Extent) (path : Path) (invoke : ℕ) → honest old id r M H → IsQuestion id extent path invoke octets →
+    asks old octets answer new → IsAsked (λ N. honest new id r N H) r M H id extent path invoke answer
+
+-- such a link speaks for each log for which it is honest, by every way that a request can go
+abbrev pub HonestSpeaks : {S : Type 0} → (S → List ℕ → Result (List ℕ) Loss → S → Type 0) →
+    (S → Id → ℕ → List Moment → History → Type 0) → Type 0
+HonestSpeaks {S = S} asks honest =
+    (place : Option Place) (log : Id) (r : ℕ) (H : History) (low : ℕ) → TellsHonestly asks honest → IsWay place →
+    IsValid (Object log) → SpeaksFor asks (towards place) log H low (λ link M. honest link log r M H)
+
+-- there is one moment at least of one log, and its moments never go back
+abbrev pub MomentsNeverGoBack : Type 0
+MomentsNeverGoBack = (r : ℕ) (M : List Moment) (H : History) → AreServed r M H → (0 < length M) × NeverGoesBack M
+
+-- each number is that of an ordinal near a moment, if half of the count was logged before its oldest entry: a history
+-- may be taken so many whole rounds of numbers further on
+abbrev pub NumbersHaveOrdinals : Type 0
+NumbersHaveOrdinals =
+    (n : ℕ) (m : Moment) → 0 < n → n ≤ 4294967295 → 2147483648 ≤ m.oldest →
+    (s : ℕ) × (n ≡ sequence_number s) × IsNear s m
