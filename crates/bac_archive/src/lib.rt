@@ -15,3 +15,4 @@ pub use creation::create;
 pub use opening::{Refused, open};
 pub use row::Row;
 pub use rows::{append, leaves_the_last_commit};
+pub use shape::is_archive;

@@ -220,7 +220,7 @@ fn are_views(views: &[View]) -> bool
 
 /// Whether a schema is an archive's: its tables, its index and its views, and no more.
 #[tactic(auto, using(crate::proofs::SchemaLemmas::parts_are))]
-pub(crate) fn is_archive(schema: &Schema) -> bool
+pub fn is_archive(schema: &Schema) -> bool
     ensures { IsTrue result ↔ (schema.now ≡ archive_schema) }
 {
     are_tables(schema.tables.as_slice())
