@@ -8,11 +8,18 @@ ghost use Rattle.bac_walk.specs.declared.outcome.WalkFault.{WalkFault as WalkFau
 ghost use Rattle.bac_walk.specs.declared.outcome.WalkFault.TheVariants as fault;
 ghost use Rattle.bac_walk.specs.Near.{AreInWindow};
 ghost use Rattle.bac_walk.specs.Spoken.{TellsHonestly};
+ghost use Rattle.bac_direct.specs.Ahead.{history_ahead, IsThere, moments_ahead, placed_all};
 
+use crate::direct_link::{brought, gap, plant, state};
+use bac_device::Device;
+use bac_direct::{DirectLink, LinkEvent, asks_tell_honestly};
 use bac_link::{LogLink, Transactions};
-use bac_walk::{Outcome, Walk, collect, honest_speaks, moments_never_go_back, spoken_is_delivered};
+use bac_walk::{
+    Outcome, Walk, Why, collect, honest_speaks, moments_never_go_back, spoken_is_delivered,
+};
 use bac_wire::ObjectId;
 use std::alloc::Global;
+use std::test::Fail;
 
 /// Over an honest link whose asks tell that, and whose moments lie within half of the count, the
 /// headline follows from what came: the records from the ordinal of number s on that the log holds
@@ -39,4 +46,47 @@ pub fn records_that_came<L: LogLink>(
     let mut walk = Walk::from_number(log, s)?;
     let mut transactions = Transactions::new(3);
     Some(collect(alloc, link, &mut transactions, &mut walk, steps))
+}
+
+/// So it does over a link straight to a device, whatever happens there between its answers.
+pub fn records_of_a_device(
+    alloc: Global,
+    device: &mut Device,
+    events: &[LinkEvent],
+    log: ObjectId,
+    s: u32,
+    steps: u32,
+) -> Option<Outcome>
+    ensures { IfSome result (λ outcome. (rounds k low : ℕ) → log.kind ≡ 20 → IsThere device.old log.instance → s ≡ sequence_number k →
+        AreInWindow low (placed_all rounds (moments_ahead device.old log.instance events.now)) → low ≤ k → k < low + 2147483648 →
+        ((count : ℕ) × (t : ℕ) × (outcome.next ≡ sequence_number t)
+        × DeliversTo (history_ahead rounds device.old log.instance events.now) k outcome.items.items t
+        (placed_all rounds (moments_ahead device.old log.instance events.now)) count)
+        × ((e : WalkFaultOf) → outcome.why ≡ why.Fault e → e ≡ fault.Lost)) }
+{
+    // For the prover alone: a law that the contract follows from.
+    asks_tell_honestly();
+    let mut link = DirectLink::new(device, events);
+    let outcome = records_that_came(alloc, &mut link, log, s, steps)?;
+    Some(outcome)
+}
+
+#[test]
+fn a_device_is_walked(rt: HostRuntime) -> Result<(), Fail> {
+    let a = rt.alloc();
+    let mut device = plant(a, 50, 3, 0, 6)?;
+    for number in 7..10u32 {
+        assert_eq!(rt; device.sample(1), Ok(number));
+    }
+    let log = ObjectId::new(20, 1).ok_or("no such identifier")?;
+    let events = [LinkEvent::Lose, LinkEvent::Answer];
+    let outcome = records_of_a_device(a, &mut device, &events, log, 6, 10).ok_or("no walk")?;
+    let items = [
+        gap(6, 7),
+        state(7, 8, 9, 0),
+        state(8, 8, 9, 0),
+        state(9, 8, 9, 0),
+    ];
+    brought(&rt, &outcome, &items, 10, Why::CaughtUp);
+    Ok(())
 }
