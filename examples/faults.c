@@ -8,12 +8,13 @@
 //     SHORT  where it is set, reads and writes of the standard streams move one octet each
 //
 // For each refusal an octet is written to the file descriptor TOLD. Where WAITS is set, it is a file
-// descriptor to which each receive writes a line: how many microseconds the socket was last told to
-// wait, 0 being without limit. Where STEP is set, the machine's clock stands at 2024-05-06T07:08:09
-// UTC, and goes on by so many hundredths of a second before each look at it.
+// descriptor to which each receive that waits writes a line: how many microseconds the socket was last
+// told to wait, 0 being without limit. Where STEP is set, the machine's clock stands at
+// 2024-05-06T07:08:09 UTC, and goes on by so many hundredths of a second before each look at it.
 #define _GNU_SOURCE
 #include <dlfcn.h>
 #include <errno.h>
+#include <fcntl.h>
 #include <stdio.h>
 #include <stdlib.h>
 #include <string.h>
@@ -92,7 +93,8 @@ ssize_t sendto(int file, const void *octets, size_t size, int flags, const struc
 
 ssize_t recvfrom(int file, void *octets, size_t size, int flags, struct sockaddr *from,
                  socklen_t *length) {
-    if (getenv("WAITS")) dprintf((int)number("WAITS"), "%lld\n", (long long)waits.tv_sec * 1000000 + waits.tv_usec);
+    if (getenv("WAITS") && !(fcntl(file, F_GETFL) & O_NONBLOCK))
+        dprintf((int)number("WAITS"), "%lld\n", (long long)waits.tv_sec * 1000000 + waits.tv_usec);
     return refuses("recvfrom") ? -1 : NEXT(recvfrom)(file, octets, size, flags, from, length);
 }
 
