@@ -22,6 +22,8 @@ mod refusing;
 #[cfg(test)]
 mod routes;
 #[cfg(test)]
+mod run_callers;
+#[cfg(test)]
 mod serving;
 #[cfg(test)]
 mod streams;
