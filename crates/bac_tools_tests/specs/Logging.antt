@@ -15,8 +15,8 @@ use Rattle.bac_walk.specs.declared.outcome.Ended.{Ended}
 use Rattle.bac_walk.specs.declared.outcome.Why.{Why}
 use Rattle.bac_words.specs.declared.job.Asked.{Asked}
 
--- Replies came over this socket, one after the other. The lines of the items that they brought are written, and the line
--- of the walk's end; and if the replies say what one log holds, the items are what it held.
+-- Replies came over this socket, one after the other. The lines of the items that they brought are written, and the
+-- line of the walk's end; and if the replies say what one log holds, the items are what it held.
 abbrev pub IsLogged : {S P : Type 0} → SocketRules S P → Asked → WalkPlace → P → Held → Held → Type 0
 IsLogged {P = P} rules asked walk port old new =
     (came : List Came) × (items : List Item) × (n : ℕ) × (ended : Ended) × (after : WalkPlace)
