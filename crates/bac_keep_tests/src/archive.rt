@@ -1,0 +1,119 @@
+//! Archives in memory: what is opened, what is refused, and what is kept.
+
+use bac_archive::{Refused, Row, append, is_archive, leaves_the_last_commit, open};
+use sqlite::types::FromSql;
+use sqlite::{Connection, Constraint, Error, ErrorCode, MemStore};
+use std::alloc::Global;
+use std::test::Fail;
+
+/// An archive in memory.
+pub(crate) fn archive(alloc: Global) -> Result<Connection<MemStore>, Fail> {
+    let mut conn = Connection::open_in_memory(alloc)?;
+    if open(&mut conn).is_err() {
+        return Err(Fail::from("no archive"));
+    }
+    Ok(conn)
+}
+
+/// The value in the first row of an answer.
+pub(crate) fn first<T: FromSql>(conn: &mut Connection<MemStore>, sql: &str) -> Result<T, Fail> {
+    match conn.query_row(sql, &[]) {
+        Ok(row) => match row.get(0) {
+            Ok(value) => Ok(value),
+            Err(_) => Err(Fail::from("another type")),
+        },
+        Err(_) => Err(Fail::from("no row")),
+    }
+}
+
+fn row(alloc: Global, id: i64) -> Result<Row, Fail> {
+    Ok(Row {
+        id,
+        last: None,
+        stamp: Some(Vec::from_slice(alloc, b"2024-05-06T07:08:09.10")?),
+        value: Some(1.5),
+        datum: Some(Vec::from_slice(alloc, b"real(3fc00000)")?),
+        flags: Some(Vec::from_slice(alloc, b"0000")?),
+    })
+}
+
+fn gap(id: i64, last: u32) -> Row {
+    Row {
+        id,
+        last: Some(last),
+        stamp: None,
+        value: None,
+        datum: None,
+        flags: None,
+    }
+}
+
+// `append`, where there is an archive.
+fn add(conn: &mut Connection<MemStore>, rows: &[Row]) -> Result<Result<(), Error>, Fail> {
+    if !is_archive(conn.schema()) {
+        return Err(Fail::from("no archive"));
+    }
+    Ok(append(conn, rows))
+}
+
+#[test]
+fn an_empty_database_becomes_an_archive_and_stays_one(rt: HostRuntime) -> Result<(), Fail> {
+    let mut conn = archive(rt.alloc())?;
+    assert!(rt; open(&mut conn) == Ok(()));
+    leaves_the_last_commit(&conn);
+    assert_eq!(rt; first::<i64>(&mut conn, "SELECT version FROM archive")?, 1);
+    assert_eq!(rt; first::<i64>(&mut conn, "SELECT count(*) FROM items")?, 0);
+    Ok(())
+}
+
+#[test]
+fn other_databases_are_refused(rt: HostRuntime) -> Result<(), Fail> {
+    let mut conn = Connection::open_in_memory(rt.alloc())?;
+    let _ = conn.execute_batch("CREATE TABLE note (id INTEGER PRIMARY KEY) STRICT")?;
+    assert!(rt; open(&mut conn) == Err(Refused::Foreign));
+    let mut more = archive(rt.alloc())?;
+    let _ = more.execute_batch("CREATE TABLE note (id INTEGER PRIMARY KEY) STRICT")?;
+    assert!(rt; open(&mut more) == Err(Refused::Foreign));
+    let mut later = archive(rt.alloc())?;
+    let _ = later.execute_batch("UPDATE archive SET version = 2")?;
+    assert!(rt; open(&mut later) == Err(Refused::Version));
+    let mut twice = archive(rt.alloc())?;
+    let _ = twice.execute_batch("INSERT INTO archive (version) VALUES (2)")?;
+    assert!(rt; open(&mut twice) == Err(Refused::Version));
+    Ok(())
+}
+
+#[test]
+fn items_over_one_another_are_refused(rt: HostRuntime) -> Result<(), Fail> {
+    let mut conn = archive(rt.alloc())?;
+    assert!(rt; add(&mut conn, &[gap(1, 4), row(rt.alloc(), 5)?])? == Ok(()));
+    assert!(rt; open(&mut conn) == Ok(()));
+    assert!(rt; add(&mut conn, &[row(rt.alloc(), 3)?])? == Ok(()));
+    assert!(rt; open(&mut conn) == Err(Refused::Overlap));
+    let mut back = archive(rt.alloc())?;
+    assert!(rt; add(&mut back, &[gap(7, 6)])? == Ok(()));
+    assert!(rt; open(&mut back) == Err(Refused::Overlap));
+    Ok(())
+}
+
+#[test]
+fn an_append_keeps_all_rows_or_none(rt: HostRuntime) -> Result<(), Fail> {
+    let mut conn = archive(rt.alloc())?;
+    let _ = conn.execute_batch(
+        "INSERT INTO logs (id, address, dnet, dadr, instance, name) VALUES (0, '192.0.2.1', 0, '', 1, 'T1')",
+    )?;
+    assert!(rt; add(&mut conn, &[row(rt.alloc(), 445)?, gap(446, 449)])? == Ok(()));
+    let taken = Error::SqliteFailure(ErrorCode::ConstraintViolation(Constraint::PrimaryKey));
+    assert!(rt; add(&mut conn, &[row(rt.alloc(), 450)?, row(rt.alloc(), 445)?])? == Err(taken));
+    assert_eq!(rt; first::<i64>(&mut conn, "SELECT count(*) FROM items")?, 2);
+    assert_eq!(rt; first::<i64>(&mut conn, "SELECT number FROM records")?, 445);
+    assert_eq!(rt;
+        first::<i64>(&mut conn, "SELECT last FROM gaps WHERE first = 446")?,
+        449
+    );
+    assert_eq!(rt;
+        first::<String>(&mut conn, "SELECT address FROM records")?.as_str(),
+        "192.0.2.1"
+    );
+    Ok(())
+}

@@ -1,0 +1,145 @@
+//! Walks over a link that answers from a list, kept in memory.
+
+use crate::archive::{archive, first};
+use bac_archive::{is_archive, open};
+use bac_keep::{NotKept, Place, Refusal, keep_step};
+use bac_link::Transactions;
+use bac_scripted_link::ScriptedLink;
+use bac_walk::{Ended, Walk};
+use bac_wire::ObjectId;
+use sqlite::{Connection, Constraint, Error, ErrorCode, MemStore};
+use std::alloc::Global;
+use std::test::Fail;
+
+/// An ACK with two records, 2024-05-06T07:08:09.10, Enumerated 0, flags 0000, the first of which
+/// has this number.
+fn two(invoke: u8, number: u8) -> [u8; 63] {
+    [
+        0x81, 0x0a, 0, 0x3f, 1, 0, 0x30, invoke, 0x1a, 0x0c, 5, 0, 0, 1, 0x19, 0x83, 0x3a, 5, 0xc0,
+        0x49, 2, 0x5e, 0x0e, 0xa4, 0x7c, 5, 6, 1, 0xb4, 7, 8, 9, 0x0a, 0x0f, 0x1e, 0x39, 0, 0x1f,
+        0x2a, 4, 0, 0x0e, 0xa4, 0x7c, 5, 6, 1, 0xb4, 7, 8, 9, 0x0a, 0x0f, 0x1e, 0x39, 0, 0x1f,
+        0x2a, 4, 0, 0x5f, 0x69, number,
+    ]
+}
+
+fn walk_from(s: u32) -> Result<Walk, Fail> {
+    let log = ObjectId::new(20, 1).ok_or("no such object")?;
+    Ok(Walk::from_number(log, s).ok_or("no walk")?)
+}
+
+// `keep_step`, where there is an archive.
+fn keep(
+    alloc: Global,
+    link: &mut ScriptedLink<'_>,
+    transactions: &mut Transactions,
+    walk: &mut Walk,
+    conn: &mut Connection<MemStore>,
+    place: Place,
+    free: &mut u64,
+) -> Result<Result<Ended, NotKept>, Fail> {
+    if !is_archive(conn.schema()) {
+        return Err(Fail::from("no archive"));
+    }
+    Ok(keep_step(alloc, link, transactions, walk, conn, place, free))
+}
+
+#[test]
+fn each_batch_is_kept_with_its_gap(rt: HostRuntime) -> Result<(), Fail> {
+    let mut conn = archive(rt.alloc())?;
+    let place = Place::new(3, 2).ok_or("no place")?;
+    let (one, next) = (two(1, 5), two(2, 7));
+    let replies: [&[u8]; 2] = [&one, &next];
+    let mut link = ScriptedLink::new(&replies);
+    let mut transactions = Transactions::new(0);
+    let mut walk = walk_from(5)?;
+    let mut free = 5;
+    let first_step = keep(
+        rt.alloc(),
+        &mut link,
+        &mut transactions,
+        &mut walk,
+        &mut conn,
+        place,
+        &mut free,
+    )?;
+    assert!(rt; first_step == Ok(Ended::StepLimit));
+    assert_eq!(rt; free, 7);
+    let second = keep(
+        rt.alloc(),
+        &mut link,
+        &mut transactions,
+        &mut walk,
+        &mut conn,
+        place,
+        &mut free,
+    )?;
+    assert!(rt; second == Ok(Ended::StepLimit));
+    assert_eq!(rt; walk.next_number(), 9);
+    assert_eq!(rt; first::<i64>(&mut conn, "SELECT count(*) FROM items")?, 4);
+    assert_eq!(rt;
+        first::<i64>(&mut conn, "SELECT id FROM items ORDER BY id DESC LIMIT 1")?,
+        place.key(8)
+    );
+    assert_eq!(rt;
+        first::<String>(&mut conn, "SELECT stamp FROM items")?.as_str(),
+        "2024-05-06T07:08:09.10"
+    );
+    assert_eq!(rt;
+        first::<String>(&mut conn, "SELECT datum FROM items")?.as_str(),
+        "enum(0)"
+    );
+    assert_eq!(rt;
+        first::<String>(&mut conn, "SELECT flags FROM items")?.as_str(),
+        "0000"
+    );
+    assert!(rt; open(&mut conn) == Ok(()));
+    Ok(())
+}
+
+#[test]
+fn a_number_that_is_kept_is_not_kept_again(rt: HostRuntime) -> Result<(), Fail> {
+    let mut conn = archive(rt.alloc())?;
+    let place = Place::new(0, 0).ok_or("no place")?;
+    let (one, again, back) = (two(1, 5), two(2, 5), two(3, 5));
+    let replies: [&[u8]; 3] = [&one, &again, &back];
+    let mut link = ScriptedLink::new(&replies);
+    let mut transactions = Transactions::new(0);
+    let mut free = 0;
+    let mut walk = walk_from(5)?;
+    let kept = keep(
+        rt.alloc(),
+        &mut link,
+        &mut transactions,
+        &mut walk,
+        &mut conn,
+        place,
+        &mut free,
+    )?;
+    assert!(rt; kept == Ok(Ended::StepLimit));
+    let mut same = walk_from(5)?;
+    let mut none = 0;
+    let twice = keep(
+        rt.alloc(),
+        &mut link,
+        &mut transactions,
+        &mut same,
+        &mut conn,
+        place,
+        &mut none,
+    )?;
+    let taken = Error::SqliteFailure(ErrorCode::ConstraintViolation(Constraint::PrimaryKey));
+    assert!(rt; twice == Err(NotKept::Database(taken)));
+    let mut lower = walk_from(5)?;
+    let round = keep(
+        rt.alloc(),
+        &mut link,
+        &mut transactions,
+        &mut lower,
+        &mut conn,
+        place,
+        &mut free,
+    )?;
+    assert!(rt; round == Err(NotKept::Refused(Refusal::Round)));
+    assert_eq!(rt; first::<i64>(&mut conn, "SELECT count(*) FROM items")?, 2);
+    Ok(())
+}

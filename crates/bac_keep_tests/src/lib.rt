@@ -1,0 +1,7 @@
+//! Tests of archives and of what is kept in them, by their public calls.
+#![tactic(auto)]
+
+#[cfg(test)]
+mod archive;
+#[cfg(test)]
+mod kept;
