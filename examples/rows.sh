@@ -37,6 +37,25 @@ played() {
     printf '%b' "$2" > "$room/want"
     is "$3" "$status $(cat "$room/err")" "$([ -n "$1" ] && echo 1 || echo 0) $(printf '%b' "$1")"
     cmp -s "$room/out" "$room/want" || is "the output of $3" "$(cat -v "$room/out")" "$(cat -v "$room/want")"
+    mended "$3"
+}
+
+# mended SCRIPT: where a range of numbers was told of a word of a bad line, the script with either end of it in
+# that word's place is refused for no such word, and its device can be built.
+mended() {
+    local line word ends end told
+    line=$(sed -n 's/^line \([0-9]*\): bad line$/\1/p' "$room/err")
+    word=$(sed -n 's/^word \([0-9]*\): .*/\1/p' "$room/err")
+    ends=$(sed -n -e 's/^word [0-9]*: .*from \([0-9-]*\) to \([0-9A-Z]*\).*/\1 \2/p' \
+        -e 's/^word [0-9]*: \([0-9]*\) or \([0-9]*\)$/\1 \2/p' "$room/err")
+    for end in $ends; do
+        # The states of a line are its own number.
+        [ "$end" != STATES ] || continue
+        told=$(printf '%b' "$1" | awk -F '[ ]' -v OFS=' ' -v line="$line" -v word="$word" -v end="$end" \
+            'NR == line { $word = end } { print }' | "$program" replay 2>&1 > "$room/out" \
+            | grep -e '^cannot build' -e "^word $word:")
+        is "$1 with $end as word $word" "$told" ''
+    done
 }
 
 # A row in which the optional lines stand, or don't.

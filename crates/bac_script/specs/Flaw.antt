@@ -14,10 +14,18 @@ use Rattle.bac_script.specs.declared.script.flaw.LineKind.TheVariants as line
 use Rattle.bac_script.specs.declared.script.flaw.Wanted.{Wanted}
 use Rattle.bac_script.specs.declared.script.flaw.Wanted.TheVariants as wanted
 
--- whether a word is what it has to be
+-- Whether a word is what it has to be to make a line. Of these numbers not all can be built (bac_objects); what is told
+-- of a word has the range of those that can.
 abbrev pub is_wanted : Wanted → List ℕ → Bool
 is_wanted wanted.Number word = is_some (below (2 ^ 32) (number_in word))
+is_wanted wanted.Object word = is_some (below (2 ^ 32) (number_in word))
+is_wanted wanted.Switch word = is_some (below (2 ^ 32) (number_in word))
+is_wanted wanted.States word = is_some (below (2 ^ 32) (number_in word))
+is_wanted wanted.State word = is_some (below (2 ^ 32) (number_in word))
+is_wanted wanted.Capacity word = is_some (below (2 ^ 32) (number_in word))
+is_wanted wanted.Interval word = is_some (below (2 ^ 32) (number_in word))
 is_wanted wanted.Short word = is_some (below (2 ^ 16) (number_in word))
+is_wanted wanted.Reply word = is_some (below (2 ^ 16) (number_in word))
 is_wanted wanted.Name word = is_some (text_in word)
 is_wanted wanted.Integer word = is_some (integer_in word)
 is_wanted wanted.Stamp word = is_some (stamp_in word)
@@ -28,14 +36,14 @@ is_wanted wanted.Start word = is_some (start_in word)
 
 -- what the words behind the first one have to be, by the kind of the line
 abbrev pub words_wanted : LineKind → List Wanted
-words_wanted line.Device = wanted.Number ∷ wanted.Name ∷ wanted.Short ∷ wanted.Short ∷ wanted.Stamp ∷ []
-words_wanted line.Binary = wanted.Number ∷ wanted.Name ∷ wanted.Number ∷ []
-words_wanted line.Multistate = wanted.Number ∷ wanted.Name ∷ wanted.Number ∷ wanted.Number ∷ []
-words_wanted line.Integer = wanted.Number ∷ wanted.Name ∷ wanted.Integer ∷ []
+words_wanted line.Device = wanted.Object ∷ wanted.Name ∷ wanted.Short ∷ wanted.Reply ∷ wanted.Stamp ∷ []
+words_wanted line.Binary = wanted.Object ∷ wanted.Name ∷ wanted.Switch ∷ []
+words_wanted line.Multistate = wanted.Object ∷ wanted.Name ∷ wanted.States ∷ wanted.State ∷ []
+words_wanted line.Integer = wanted.Object ∷ wanted.Name ∷ wanted.Integer ∷ []
 words_wanted line.Log =
-    wanted.Number
+    wanted.Object
     ∷ wanted.Name
-    ∷ wanted.Kind ∷ wanted.Instance ∷ wanted.Number ∷ wanted.Number ∷ wanted.Number ∷ []
+    ∷ wanted.Kind ∷ wanted.Instance ∷ wanted.Capacity ∷ wanted.Interval ∷ wanted.Number ∷ []
 words_wanted line.Rx = wanted.Digits ∷ []
 words_wanted line.Clock = wanted.Stamp ∷ []
 words_wanted line.Sample = wanted.Number ∷ []

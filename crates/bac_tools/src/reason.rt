@@ -32,6 +32,13 @@ fn told_of<'a>(wanted: Wanted) -> &'a str
     match wanted {
         Wanted::Number => "a number from 0 to 4294967295",
         Wanted::Short => "a number from 0 to 65535",
+        Wanted::Object => "a number from 0 to 4194302",
+        Wanted::Reply => "a number from 50 to 1476",
+        Wanted::Switch => "0 or 1",
+        Wanted::States => "a number from 1 to 65535",
+        Wanted::State => "a number from 1 to STATES",
+        Wanted::Capacity => "a number from 1 to 65535",
+        Wanted::Interval => "0, or a number from 100 to 4294967295",
         Wanted::Name => "a text in UTF-8, of one octet at least",
         Wanted::Integer => "an integer from -2147483648 to 2147483647",
         Wanted::Stamp => "a moment of the years 1990 to 2154, as YYYY-MM-DDTHH:MM:SS.hh",

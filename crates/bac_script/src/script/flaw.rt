@@ -43,6 +43,23 @@ pub enum Wanted {
     Number,
     /// A number of 16 bits.
     Short,
+    /// The instance of an object of the device: a number of 32 bits, of which 0 to 4194302 can be
+    /// built.
+    Object,
+    /// How many octets a reply has: a number of 16 bits, of which 50 to 1476 can be built.
+    Reply,
+    /// A default of a Binary Value: a number of 32 bits, of which 0 and 1 can be built.
+    Switch,
+    /// How many states a Multi-state Value has: a number of 32 bits, of which 1 to 65535 can be
+    /// built.
+    States,
+    /// A default of a Multi-state Value: a number of 32 bits, of which 1 to its states can be
+    /// built.
+    State,
+    /// How many records a log holds: a number of 32 bits, of which 1 to 65535 can be built.
+    Capacity,
+    /// Hundredths of a second: a number of 32 bits, of which 0, and 100 and more can be built.
+    Interval,
     /// A text in UTF-8.
     Name,
     /// An integer of 32 bits.
@@ -77,8 +94,9 @@ fn is_wanted(wanted: Wanted, word: &[u8]) -> bool
     ensures { result ≡ is_wanted wanted word.now }
 {
     match wanted {
-        Wanted::Number => u32_in(word).is_some(),
-        Wanted::Short => u16_in(word).is_some(),
+        Wanted::Number | Wanted::Object | Wanted::Switch | Wanted::States => u32_in(word).is_some(),
+        Wanted::State | Wanted::Capacity | Wanted::Interval => u32_in(word).is_some(),
+        Wanted::Short | Wanted::Reply => u16_in(word).is_some(),
         Wanted::Name => text_in(word).is_some(),
         Wanted::Integer => i32_in(word).is_some(),
         Wanted::Stamp => stamp_in(word).is_some(),
@@ -95,22 +113,22 @@ fn words_wanted<'a>(kind: LineKind) -> &'a [Wanted]
 {
     match kind {
         LineKind::Device => &[
-            Wanted::Number,
+            Wanted::Object,
             Wanted::Name,
             Wanted::Short,
-            Wanted::Short,
+            Wanted::Reply,
             Wanted::Stamp,
         ],
-        LineKind::Binary => &[Wanted::Number, Wanted::Name, Wanted::Number],
-        LineKind::Multistate => &[Wanted::Number, Wanted::Name, Wanted::Number, Wanted::Number],
-        LineKind::Integer => &[Wanted::Number, Wanted::Name, Wanted::Integer],
+        LineKind::Binary => &[Wanted::Object, Wanted::Name, Wanted::Switch],
+        LineKind::Multistate => &[Wanted::Object, Wanted::Name, Wanted::States, Wanted::State],
+        LineKind::Integer => &[Wanted::Object, Wanted::Name, Wanted::Integer],
         LineKind::Log => &[
-            Wanted::Number,
+            Wanted::Object,
             Wanted::Name,
             Wanted::Kind,
             Wanted::Instance,
-            Wanted::Number,
-            Wanted::Number,
+            Wanted::Capacity,
+            Wanted::Interval,
             Wanted::Number,
         ],
         LineKind::Rx => &[Wanted::Digits],
