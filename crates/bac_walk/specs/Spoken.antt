@@ -61,7 +61,8 @@ abbrev pub SpokenIsDelivered : {S : Type 0} → (S → List ℕ → Result (List
 SpokenIsDelivered {S = S} asks stands =
     (path : Path) (retries : ℕ) (old new : S) (w after : WalkPlace) (steps : ℕ) (came : List Came) (items : List Item)
     (ended : Ended) (H : History) (M : List Moment) (low s : ℕ) →
-    SpeaksFor asks path w.log H low stands → stands old M → Brought asks path retries old w steps came items ended after new →
+    SpeaksFor asks path w.log H low stands → stands old M →
+    Brought asks path retries old w steps came items ended after new →
     w.next ≡ sequence_number s → 0 < length M → NeverGoesBack M → AreInWindow low M →
     (w.fresh ≡ false → (low ≤ s) × (s < low + 2147483648)) →
     ((b : ℕ) × (a : ℕ) × (t : ℕ) × (w.fresh ≡ false → b ≡ s) × (after.next ≡ sequence_number t)
