@@ -11,6 +11,8 @@ mod direct_link;
 #[cfg(test)]
 mod foreign_callers;
 #[cfg(test)]
+mod full_log;
+#[cfg(test)]
 mod link;
 #[cfg(test)]
 mod link_callers;
