@@ -3,3 +3,4 @@ pub mod Day
 pub mod Again
 pub mod Foreign
 pub mod Spoken
+pub mod Loggable

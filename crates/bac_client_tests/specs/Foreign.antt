@@ -83,16 +83,19 @@ from_oldest =
     ∷ 0x01 ∷ 0xb4 ∷ 0x08 ∷ 0x00 ∷ 0x00 ∷ 0x00 ∷ 0x0f ∷ 0x1e ∷ 0x2c ∷ 0x41 ∷ 0xcc ∷ 0x00 ∷ 0x00 ∷ 0x1f ∷ 0x2a ∷ 0x04
     ∷ 0x00 ∷ 0x5f ∷ 0x6a ∷ 0x00 ∷ 0x07 ∷ []
 
--- what it answers a question of this form (0x6e by number, 0x7e by time) and number, if it answers
-abbrev pub said_for : ℕ → ℕ → Option (List ℕ)
-said_for form number =
+-- what it answers a question of this form (0x6e by number, 0x7e by time), if it answers: by number, one that has one octet
+-- (0x21) and is known
+abbrev pub said_for : ℕ → ℕ → ℕ → Option (List ℕ)
+said_for form size number =
     if form == 0x7e then Some from_oldest
-    else (if number == 7 then Some from_7
+    else (if size == 0x21
+    then (if number == 7 then Some from_7
     else (if number == 9 then Some from_9 else (if number == 11 then Some none_from_11 else None)))
+    else None)
 
--- the form of a question, and its number if that is below 256, stand at these places of its datagram
+-- the form of a question, the tag of its number with the length, and its first octet stand at these places
 abbrev pub said_to : List ℕ → Option (List ℕ)
-said_to question = said_for (get_or question 17 0) (get_or question 19 0)
+said_to question = said_for (get_or question 17 0) (get_or question 18 0) (get_or question 19 0)
 
 -- it answers so, or the ask is lost
 abbrev pub IsSaid : List ℕ → Result (List ℕ) Lost → Type 0

@@ -10,7 +10,7 @@ ghost use Rattle.bac_walk.specs.declared.outcome.Why.TheVariants as why;
 ghost use Rattle.bac_walk.specs.Near.{IsInWindow, IsNear};
 
 use bac_link::{LogLink, Transactions};
-use bac_walk::{Outcome, Walk, collect, rests_all, windows_are_near};
+use bac_walk::{Outcome, Walk, collect, rests_all};
 use bac_wire::ObjectId;
 use std::alloc::Global;
 
@@ -29,7 +29,6 @@ pub fn nothing_more<L: LogLink>(
         (both.1.why ≡ why.Memory) ⊎ ((both.1.items.items ≡ []) × (both.1.next ≡ both.0.next) × (both.1.why ≡ why.CaughtUp))) }
 {
     rests_all();
-    windows_are_near();
     let mut walk = Walk::from_number(log, s)?;
     let mut transactions = Transactions::new(0);
     let first = collect(alloc, link, &mut transactions, &mut walk, steps);

@@ -1,6 +1,6 @@
 //! What a user of walks over a device in memory needs, proved from public contracts alone.
 
-ghost use Rattle.std.specs.Prelude.{ℕ, ◌≡◌, ◌+◌, ◌<◌, ◌≤◌, ◌↔◌, List, Option, Some, None, length, IfSome, IsSome, ◌⊎◌};
+ghost use Rattle.std.specs.Prelude.{ℕ, ◌≡◌, ◌+◌, ◌<◌, ◌≤◌, ◌↔◌, List, [], Option, Some, None, length, IfSome, IsSome, ◌⊎◌};
 ghost use Rattle.bac_apdu.specs.Service.Extent.{IsExtent};
 ghost use Rattle.bac_apdu.specs.declared.service.extent.Extent.{Extent as AnyExtent};
 ghost use Rattle.bac_log.specs.TrendLog.{Log, sequence_number};
@@ -16,17 +16,18 @@ ghost use Rattle.bac_apdu.specs.Route.{IsWay};
 ghost use Rattle.bac_link.specs.Path.{back, towards};
 ghost use Rattle.bac_link.specs.Requests.{request_octets};
 ghost use Rattle.bac_walk.specs.Near.{AreInWindow, IsNear};
-ghost use Rattle.bac_walk.specs.Rests.{Misses};
+ghost use Rattle.bac_walk.specs.Rests.{Misses, rest_all};
 ghost use Rattle.bac_walk.specs.declared.outcome.Why.TheVariants as why;
-ghost use Rattle.bac_direct.specs.Ahead.{history_ahead, IsThere, log_with, moment_of, moments_ahead, placed_all};
+ghost use Rattle.bac_direct.specs.Ahead.{history_ahead, IsThere, log_with, moment_of, moments_ahead, placed, placed_all};
 ghost use Rattle.bac_client_tests.specs.Day.{day, day_moments, plant as plant_of};
 ghost use Rattle.bac_client_tests.specs.Held.{held_from};
 
 use crate::direct_link::{PURGE, absent, at, brought, gap, name, plant, purged, state};
+use crate::walk_callers;
 use bac_device::{Device, DeviceLine, Name, ObjectLine, questions_are_answered};
 use bac_direct::{DirectLink, LinkEvent, questions_are_the_devices, replies_are_the_devices};
 use bac_link::Transactions;
-use bac_walk::{Outcome, Walk, Why, collect, rests_all, windows_are_near};
+use bac_walk::{Outcome, Walk, Why, collect, numbers_have_ordinals, rests_all};
 use bac_wire::{Datagram, ObjectId};
 use std::alloc::Global;
 use std::test::Fail;
@@ -64,8 +65,6 @@ pub fn records_from(
         × DeliversTo (history_ahead rounds device.old log.instance events.now) k outcome.items.items t
         (placed_all rounds (moments_ahead device.old log.instance events.now)) count) }
 {
-    // For the prover alone: a law that the contract follows from.
-    windows_are_near();
     let Some(mut walk) = Walk::from_number(log, s) else {
         return None;
     };
@@ -101,6 +100,29 @@ pub fn all_records_from(
     let mut link = DirectLink::new(device, &[]);
     let mut transactions = Transactions::new(0);
     Some(collect(alloc, &mut link, &mut transactions, &mut walk, steps))
+}
+
+/// Whatever number isn't 0, a walk from there over a device to which nothing happens has a near
+/// ordinal, one round of numbers further on, and brings all that the log holds from it on, unless
+/// memory runs out.
+pub fn all_records_from_any_number(
+    alloc: Global,
+    device: &mut Device,
+    log: ObjectId,
+    s: u32,
+    steps: u32,
+) -> Option<Outcome>
+    ensures { IfSome result (λ outcome. 0 < s → log.kind ≡ 20 → IsThere device.old log.instance →
+        length (log_with device.old log.instance).entries < steps →
+        (k : ℕ) × (s ≡ sequence_number k) × IsNear k (placed 1 (moment_of (log_with device.old log.instance)))
+        × ((outcome.why ≡ why.Memory) ⊎ (outcome.items.items
+        ≡ (rest_all (history_ahead 1 device.old log.instance []) (placed 1 (moment_of (log_with device.old log.instance))) k).items))) }
+{
+    // For the prover alone: a law that the contract follows from.
+    numbers_have_ordinals();
+    let mut link = DirectLink::new(device, &[]);
+    let outcome = walk_callers::all_records_from(alloc, &mut link, log, s, steps)?;
+    Some(outcome)
 }
 
 /// A day at a device with one log of three records: appends that overwrite, a purge, and a loss,
@@ -190,5 +212,15 @@ fn a_log_at_rest_is_delivered(rt: HostRuntime) -> Result<(), Fail> {
     brought(&rt, &outcome, &items, 12, Why::CaughtUp);
     let outcome = all_records_from(a, &mut device, log, 11, 10).ok_or("no walk")?;
     brought(&rt, &outcome, &items[3..], 12, Why::CaughtUp);
+    // Number 4294967000 is that of an ordinal before all that the log holds.
+    let outcome = all_records_from_any_number(a, &mut device, log, 4_294_967_000, 10);
+    let outcome = outcome.ok_or("no walk")?;
+    let items = [
+        gap(4_294_967_000, 9),
+        state(9, 8, 9, 0),
+        state(10, 8, 9, 0),
+        state(11, 8, 9, 0),
+    ];
+    brought(&rt, &outcome, &items, 12, Why::CaughtUp);
     Ok(())
 }

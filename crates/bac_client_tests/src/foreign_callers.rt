@@ -68,12 +68,14 @@ fn octet_at(octets: &[u8], place: usize) -> u8
 fn reply_to(question: &[u8]) -> Option<Datagram>
     ensures { result ≡ said_to question.now }
 {
-    let form = octet_at(question, 17);
-    let number = octet_at(question, 19);
-    if form == 0x7e {
+    if octet_at(question, 17) == 0x7e {
         return Datagram::of(&FROM_OLDEST);
     }
-    match number {
+    // A number of one octet: of a longer one the first octet says nothing.
+    if octet_at(question, 18) != 0x21 {
+        return None;
+    }
+    match octet_at(question, 19) {
         7 => Datagram::of(&FROM_7),
         9 => Datagram::of(&FROM_9),
         11 => Datagram::of(&NONE_FROM_11),
@@ -106,6 +108,8 @@ impl LogLink for ForeignLink {
     }
 
     ghost serves = { λ link id r M H h. absurd h };
+
+    ghost tells_honestly = { λ old new octets answer id r M H extent path invoke h is asked. absurd h };
 
     ghost keeps_itself = { λ link. tt };
 

@@ -1,6 +1,6 @@
 //! What a user of transactions and links needs, proved from their public contracts alone.
 
-ghost use Rattle.std.specs.Prelude.{◌≡◌, ◌↔◌, ◌≤◌, ◌+◌, ℕ, pos, List, IfSome, IsNone, IsOkAnd, OnErr};
+ghost use Rattle.std.specs.Prelude.{◌≡◌, ◌≢◌, ◌↔◌, ◌≤◌, ◌+◌, ℕ, pos, List, IfSome, IsNone, IsOkAnd, OnErr};
 ghost use Rattle.bac_apdu.specs.declared.service.extent.Extent.TheVariants.{ByNumber as by_number};
 ghost use Rattle.bac_link.specs.Delivery.{History, Moment, now, later};
 ghost use Rattle.bac_link.specs.Links.{IsReply, RisesBy};
@@ -8,7 +8,9 @@ ghost use Rattle.bac_link.specs.Path.{towards};
 ghost use Rattle.bac_link.specs.Requests.{IsSendable, IsTooLong};
 
 use bac_apdu::{Extent, ReadRange};
-use bac_link::{ExchangeFault, LogLink, Request, Timeout, Transactions, exchange};
+use bac_link::{
+    ExchangeFault, LogLink, Request, Timeout, Transactions, answers_tell_requests_apart, exchange,
+};
 use bac_wire::{Datagram, ObjectId};
 
 /// A request that nobody answers is sent a second time if one retry is given: the same octets.
@@ -25,6 +27,29 @@ pub fn sent_twice(request: &Request) -> Option<(Datagram, Datagram)>
         Timeout::Resend(second) => Some((first, second)),
         Timeout::GaveUp => unreachable!(),
     }
+}
+
+/// Over any link, of two requests one after the other the second doesn't take the answer to the
+/// first, however often that comes.
+pub fn no_answer_is_taken_twice<L: LogLink>(
+    link: &mut L,
+    first: &Request,
+    second: &Request,
+) -> Option<(Datagram, Datagram)>
+    requires first { IsSendable first.now }
+    requires second { IsSendable second.now }
+    ensures { IfSome result (λ both. both.0 ≢ both.1) }
+{
+    // For the prover alone: a law that the contract follows from.
+    answers_tell_requests_apart();
+    let mut transactions = Transactions::new(3);
+    let Ok(early) = exchange(link, &mut transactions, first) else {
+        return None;
+    };
+    let Ok(late) = exchange(link, &mut transactions, second) else {
+        return None;
+    };
+    Some((early, late))
 }
 
 /// Over a sure link that is honest for a log, a question for its records from a number on brings

@@ -7,12 +7,11 @@ ghost use Rattle.bac_walk.specs.declared.outcome.Why.TheVariants as why;
 ghost use Rattle.bac_walk.specs.declared.outcome.WalkFault.{WalkFault as WalkFaultOf};
 ghost use Rattle.bac_walk.specs.declared.outcome.WalkFault.TheVariants as fault;
 ghost use Rattle.bac_walk.specs.Near.{AreInWindow};
-ghost use Rattle.bac_walk.specs.Spoken.{TellsHonestly};
 ghost use Rattle.bac_direct.specs.Ahead.{history_ahead, IsThere, moments_ahead, placed_all};
 
 use crate::direct_link::{brought, gap, plant, state};
 use bac_device::Device;
-use bac_direct::{DirectLink, LinkEvent, asks_tell_honestly};
+use bac_direct::{DirectLink, LinkEvent};
 use bac_link::{LogLink, Transactions};
 use bac_walk::{
     Outcome, Walk, Why, collect, honest_speaks, moments_never_go_back, spoken_is_delivered,
@@ -21,8 +20,8 @@ use bac_wire::ObjectId;
 use std::alloc::Global;
 use std::test::Fail;
 
-/// Over an honest link whose asks tell that, and whose moments lie within half of the count, the
-/// headline follows from what came: the records from the ordinal of number s on that the log holds
+/// Over an honest link whose moments lie within half of the count, the headline follows from what
+/// came: the records from the ordinal of number s on that the log holds
 /// when each is reached. The walk ends with no fault but a loss.
 pub fn records_that_came<L: LogLink>(
     alloc: Global,
@@ -32,7 +31,7 @@ pub fn records_that_came<L: LogLink>(
     steps: u32,
 ) -> Option<Outcome>
     ensures { IfSome result (λ outcome. (r : ℕ) (M : List Moment) (H : History) (k low : ℕ) →
-        TellsHonestly L.asks (λ link id r M H. L.is_honest link id r M H) → L.is_honest link.old log r M H → s ≡ sequence_number k →
+        L.is_honest link.old log r M H → s ≡ sequence_number k →
         AreInWindow low M → low ≤ k → k < low + 2147483648 →
         ((count : ℕ) × (t : ℕ) × (outcome.next ≡ sequence_number t) × DeliversTo H k outcome.items.items t M count)
         × ((e : WalkFaultOf) → outcome.why ≡ why.Fault e → e ≡ fault.Lost)) }
@@ -64,8 +63,6 @@ pub fn records_of_a_device(
         (placed_all rounds (moments_ahead device.old log.instance events.now)) count)
         × ((e : WalkFaultOf) → outcome.why ≡ why.Fault e → e ≡ fault.Lost)) }
 {
-    // For the prover alone: a law that the contract follows from.
-    asks_tell_honestly();
     let mut link = DirectLink::new(device, events);
     let outcome = records_that_came(alloc, &mut link, log, s, steps)?;
     Some(outcome)

@@ -1,24 +1,24 @@
 //! What a user of walks needs, proved from their public contracts alone.
 
-ghost use Rattle.std.specs.Prelude.{ℕ, ◌≡◌, ◌+◌, ◌-◌, ◌<◌, ◌≤◌, ◌⊎◌, false, max, List, [], ◌∷◌, None, IfSome, All};
-ghost use Rattle.bac_log.specs.Entry.{IsLoggable};
+ghost use Rattle.std.specs.Prelude.{ℕ, ◌≡◌, ◌+◌, ◌-◌, ◌<◌, ◌≤◌, ◌⊎◌, false, max, List, [], ◌∷◌, None, IfSome};
 ghost use Rattle.bac_log.specs.TrendLog.{sequence_number};
 ghost use Rattle.bac_link.specs.Delivery.{History, Moment, DeliversTo};
 ghost use Rattle.bac_link.specs.Laws.{after_answers};
-ghost use Rattle.bac_link.specs.Moments.{log_at};
 ghost use Rattle.bac_link.specs.Exchanges.{Unanswered};
 ghost use Rattle.bac_link.specs.Links.{question};
 ghost use Rattle.bac_link.specs.Path.{towards};
 ghost use Rattle.bac_link.specs.Requests.{request_octets};
 ghost use Rattle.bac_walk.specs.declared.outcome.Why.TheVariants as why;
+ghost use Rattle.bac_walk.specs.Collects.{MissingWhy};
 ghost use Rattle.bac_walk.specs.Near.{AreInWindow, IsNear};
 ghost use Rattle.bac_walk.specs.Rests.{Misses, rest_all};
 ghost use Rattle.bac_walk.specs.Told.{ToldFault};
 ghost use Rattle.bac_walk.specs.Walks.{question_of};
 ghost use Rattle.bac_walk.specs.declared.outcome.WalkFault.TheVariants as fault;
 
+use bac_direct::RoutedLink;
 use bac_link::{LogLink, Transactions};
-use bac_walk::{Outcome, Walk, collect, rests_all, windows_are_near};
+use bac_walk::{Outcome, Walk, collect, replies_are_loggable, rests_all};
 use bac_wire::ObjectId;
 use std::alloc::Global;
 
@@ -37,8 +37,6 @@ pub fn records_from<L: LogLink>(
         (count : ℕ) × (t : ℕ) × (outcome.next ≡ sequence_number t) × DeliversTo H k outcome.items.items t M count
         × L.is_honest link.new log r (after_answers count M) H) }
 {
-    // For the prover alone: a law that the contract follows from.
-    windows_are_near();
     let Some(mut walk) = Walk::from_number(log, s) else {
         return None;
     };
@@ -56,12 +54,15 @@ pub fn all_records_from<L: LogLink>(
     steps: u32,
 ) -> Option<Outcome>
     ensures { IfSome result (λ outcome. (r : ℕ) (m : Moment) (H : History) (k : ℕ) →
-        L.is_sure link.old (towards None) → L.is_honest link.old log r (m ∷ []) H → s ≡ sequence_number k → IsNear k m → All IsLoggable (log_at m H).entries →
+        L.is_sure link.old (towards None) → L.is_honest link.old log r (m ∷ []) H → s ≡ sequence_number k → IsNear k m →
         (m.newest + 1) - max k m.oldest < steps →
         (outcome.why ≡ why.Memory) ⊎ (outcome.items.items ≡ (rest_all H m k).items)) }
 {
-    // For the prover alone: a law that the contract follows from.
+    // For the prover alone, all four: laws, and numbers small enough for a request.
     rests_all();
+    replies_are_loggable::<L>();
+    let _kind = log.kind();
+    let _instance = log.instance();
     let Some(mut walk) = Walk::from_number(log, s) else {
         return None;
     };
@@ -130,4 +131,21 @@ pub fn missing_twice<L: LogLink>(
     let first = collect(alloc, link, &mut transactions, &mut walk, steps);
     let second = collect(alloc, link, &mut transactions, &mut again, steps);
     Some((first, second))
+}
+
+/// Through a router a walk of a log that the link behind it lacks brings nothing and stays where it
+/// is, whether questions are lost or not: it ends as lost or refused, or has no memory.
+pub fn nothing_through_a_router<L: LogLink>(
+    alloc: Global,
+    link: &mut RoutedLink<L>,
+    transactions: &mut Transactions,
+    log: ObjectId,
+    s: u32,
+    steps: u32,
+) -> Option<Outcome>
+    ensures { IfSome result (λ outcome. L.lacks link.old.inner log →
+        (outcome.items.items ≡ []) × (outcome.next ≡ s) × MissingWhy steps outcome.why) }
+{
+    let mut walk = Walk::from_number(log, s)?;
+    Some(collect(alloc, link, transactions, &mut walk, steps))
 }

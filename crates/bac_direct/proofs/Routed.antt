@@ -8,11 +8,10 @@ use Rattle.bac_apdu.specs.Route.{IsRoute}
 use Rattle.bac_apdu.specs.declared.service.extent.Extent.{Extent}
 use Rattle.bac_log.specs.Ack.{read_range_service}
 use Rattle.bac_link.specs.Delivery.{History, Moment, now}
-use Rattle.bac_link.specs.Links.{IsAsked, IsQuestion, IsReply, reply_parameters}
+use Rattle.bac_link.specs.Links.{IsAsked, IsQuestion, IsReply, TellsHonestly, reply_parameters}
 use Rattle.bac_link.specs.Moments.{AreServed, log_at}
 use Rattle.bac_link.specs.Path.{Path, back, towards}
 use Rattle.bac_link.specs.declared.link.Lost.{Lost}
-use Rattle.bac_walk.specs.Spoken.{TellsHonestly}
 use Rattle.bac_direct.specs.Routing.{handed_on, IsHandedBack, PassesOn}
 use Rattle.bac_direct.proofs.Routing.{fits_back, question_handed, reply_back}
 use Rattle.bac_direct.proofs.Fitting.{reply_small}

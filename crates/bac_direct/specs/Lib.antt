@@ -1,3 +1,4 @@
 pub mod Events
 pub mod Ahead
 pub mod Routing
+pub mod Telling

@@ -6,8 +6,12 @@ use Rattle.std.specs.Result.{result_ok}
 use Rattle.bac_wire.specs.OptionChain.{◌>>=◌}
 use Rattle.bac_apdu.specs.Frame.{frame_at, frame_octets}
 use Rattle.bac_apdu.specs.Npdu.{Header, Place, header_at, header_octets, is_there}
+use Rattle.bac_apdu.specs.Route.{IsRoute}
+use Rattle.bac_apdu.specs.declared.service.extent.Extent.{Extent}
+use Rattle.bac_wire.specs.Primitive.{Id}
 use Rattle.bac_link.specs.Datagrams.{unicast_in}
-use Rattle.bac_link.specs.Path.{same_place}
+use Rattle.bac_link.specs.Links.{IsQuestion}
+use Rattle.bac_link.specs.Path.{Path, back, same_place, towards}
 use Rattle.bac_link.specs.declared.link.Lost.{Lost}
 
 -- to this place, from the network on which the router hears it
@@ -41,3 +45,11 @@ abbrev pub PassesOn : {S : Type 0} → (S → List ℕ → Result (List ℕ) Los
 PassesOn {S = S} asks far near None old answer new = (result_ok answer ≡ None) × (new ≡ old)
 PassesOn {S = S} asks far near (Some request) old answer new =
     (reply : Result (List ℕ) Lost) × asks old request reply new × IsHandedBack far near reply answer
+
+-- A question has a DNET or an SNET, and never both: one that is handed on was for the far place, from no other network,
+-- and behind the router it is for no other network, from the near place.
+abbrev pub RoutersHandOnQuestions : Type 0
+RoutersHandOnQuestions =
+    (far near : Place) (path : Path) (id : Id) (extent : Extent) (invoke : ℕ) (octets inner : List ℕ) →
+    IsRoute near → IsQuestion id extent path invoke octets → handed_on far near octets ≡ Some inner →
+    (path ≡ towards (Some far)) × IsQuestion id extent (back (towards (Some near))) invoke inner

@@ -10,6 +10,7 @@ ghost use Rattle.bac_link.specs.Links.{IsAsked, IsAskedOfNone, IsQuestion, Rises
 ghost use Rattle.bac_link.specs.Path.{Path};
 ghost use Rattle.bac_direct.specs.Ahead.{history_ahead, IsAhead, IsThere, Lacks, LiesAhead, moments_ahead, placed_all};
 ghost use Rattle.bac_direct.specs.Events.{datagram_in, failures_after, goes_on, happens, IsAnswered, meets, played, told};
+ghost use Rattle.bac_direct.specs.Telling.{IsHonestAsk};
 ghost use Rattle.bac_objects.specs.Sound.{IsSound};
 
 use crate::event::LinkEvent;
@@ -154,9 +155,11 @@ impl<'a> LogLink for DirectLink<'a> {
 
     ghost keeps = { λ a b. (a.device.now ≡ b.device.now) × (a.device.ghost_name ≡ b.device.ghost_name) };
 
-    // The device's answer after the next events.
+    // The device's answer after the next events; so it is honest.
     ghost asks = { λ old octets answer new.
-        IsAnswered old.device.now old.events.now octets answer new.device.now new.events.now };
+        IsAnswered old.device.now old.events.now octets answer new.device.now new.events.now
+        × IsHonestAsk (λ id r M H. IsAhead old.device.now old.events.now id r M H)
+        (λ id r M H. IsAhead new.device.now new.events.now id r M H) octets answer };
 
     /// Plays events up to and with the next answer or loss, and lets the device answer. `Lost` if
     /// the answer is lost, and if the device doesn't answer the request: one failure more each. So
@@ -176,7 +179,9 @@ impl<'a> LogLink for DirectLink<'a> {
         ensures kept { (id : Id) (extent : AnyExtent) (path : Path) (invoke : ℕ) →
             (self.old.events.now ≡ []) × (path.dest ≡ None) → IsQuestion id extent path invoke request.now →
             (self.old.device.now ≡ self.new.device.now) × (self.old.device.ghost_name ≡ self.new.device.ghost_name) }
-        ensures asked { IsAnswered self.old.device.now self.old.events.now request.now result self.new.device.now self.new.events.now }
+        ensures asked { IsAnswered self.old.device.now self.old.events.now request.now result self.new.device.now self.new.events.now
+            × IsHonestAsk (λ id r M H. IsAhead self.old.device.now self.old.events.now id r M H)
+            (λ id r M H. IsAhead self.new.device.now self.new.events.now id r M H) request.now result }
         // What it makes of the device, and the answer, exactly.
         ensures reply { result_ok result ≡ datagram_in (told (meets self.old.device.now self.old.events.now request.now) request.now).0 }
         ensures device { self.new.device.now ≡ (told (meets self.old.device.now self.old.events.now request.now) request.now).1 }
@@ -194,6 +199,9 @@ impl<'a> LogLink for DirectLink<'a> {
     }
 
     ghost serves = { λ link id r M H h. h.1.served };
+
+    ghost tells_honestly = { λ old new octets answer id r M H extent path invoke ahead is told.
+        told.1 id r M H extent path invoke ahead is };
 
     ghost keeps_itself = { λ link. (refl, refl) };
 

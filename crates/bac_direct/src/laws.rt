@@ -13,13 +13,12 @@ ghost use Rattle.bac_objects.specs.Sampling.{log_id};
 ghost use Rattle.bac_device.specs.Answer.{records_ack, records_said};
 ghost use Rattle.bac_device.specs.Logs.{question_octets};
 ghost use Rattle.bac_device.specs.Reply.{datagram_to};
-ghost use Rattle.bac_link.specs.Links.{HasReply, question, reply_parameters};
+ghost use Rattle.bac_link.specs.Links.{HasReply, TellsHonestly, question, reply_parameters};
 ghost use Rattle.bac_link.specs.Path.{back, towards};
 ghost use Rattle.bac_link.specs.Requests.{request_octets};
 ghost use Rattle.bac_direct.specs.Ahead.{IsAhead};
 ghost use Rattle.bac_direct.specs.Events.{IsAnswered};
-ghost use Rattle.bac_direct.specs.Routing.{handed_on, PassesOn};
-ghost use Rattle.bac_walk.specs.Spoken.{TellsHonestly};
+ghost use Rattle.bac_direct.specs.Routing.{handed_on, PassesOn, RoutersHandOnQuestions};
 
 use crate::direct_link::DirectLink;
 use bac_link::LogLink;
@@ -40,19 +39,26 @@ pub fn replies_are_the_devices()
         HasReply limit log id extent (back (towards source)) invoke (datagram_to source (records_said limit invoke id extent log)) }
 {}
 
-/// What an ask of a link straight to a device is says already that the link is honest.
-pub fn asks_tell_honestly()
+/// What a device answers over a link straight to it, after the events before, says already that the
+/// link is honest.
+pub fn device_answers_tell_honestly()
     ensures { TellsHonestly
         (λ (old : DirectLink) octets answer (new : DirectLink).
         IsAnswered old.device.now old.events.now octets answer new.device.now new.events.now)
         (λ (link : DirectLink) id r M H. IsAhead link.device.now link.events.now id r M H) }
 {}
 
-/// A router in front of a link doesn't hide that: what an ask through it is says that the link is
-/// honest, if the asks of the link behind it do.
-pub fn asks_through_routers_tell_honestly<L: LogLink>()
+/// A router in front of a link doesn't hide that: what it passes on says that the link is honest, if
+/// the asks of the link behind it do.
+pub fn routed_asks_tell_honestly<L: LogLink>()
     ensures { (far near : Place) → IsRoute far → IsRoute near →
         TellsHonestly L.asks (λ link id r M H. L.is_honest link id r M H) →
         TellsHonestly (λ old octets answer new. PassesOn L.asks far near (handed_on far near octets) old answer new)
         (λ link id r M H. L.is_honest link id r M H) }
+{}
+
+/// A question has a DNET or an SNET, and never both: what a router hands on was for the place behind
+/// it, from no other network, and goes on as a question for no other network.
+pub fn routers_hand_on_questions()
+    ensures { RoutersHandOnQuestions }
 {}

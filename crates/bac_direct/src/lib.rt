@@ -14,7 +14,7 @@ mod routed_link;
 pub use direct_link::DirectLink;
 pub use event::LinkEvent;
 pub use laws::{
-    asks_tell_honestly, asks_through_routers_tell_honestly, questions_are_the_devices,
-    replies_are_the_devices,
+    device_answers_tell_honestly, questions_are_the_devices, replies_are_the_devices,
+    routed_asks_tell_honestly, routers_hand_on_questions,
 };
 pub use routed_link::RoutedLink;

@@ -10,6 +10,7 @@ ghost use Rattle.bac_link.specs.Links.{IsAsked, IsAskedOfNone, IsQuestion, Rises
 ghost use Rattle.bac_link.specs.Path.{Path};
 ghost use Rattle.bac_direct.specs.Events.{one_more};
 ghost use Rattle.bac_direct.specs.Routing.{handed_on, is_for, PassesOn};
+ghost use Rattle.bac_direct.specs.Telling.{IsHonestAsk};
 
 use bac_apdu::{Frame, Npdu, Route, read_frame, read_npdu, write_datagram};
 use bac_link::{LogLink, Lost};
@@ -81,8 +82,11 @@ impl<L: LogLink> LogLink for RoutedLink<L> {
 
     ghost keeps = { λ a b. L.keeps a.inner b.inner };
 
+    // What is passed on is asked behind it; so it is honest wherever that link is.
     ghost asks = { λ old octets answer new.
-        PassesOn L.asks old.far old.near (handed_on old.far old.near octets) old.inner answer new.inner };
+        PassesOn L.asks old.far old.near (handed_on old.far old.near octets) old.inner answer new.inner
+        × IsHonestAsk (λ id r M H. L.is_honest old.inner id r M H) (λ id r M H. L.is_honest new.inner id r M H)
+        octets answer };
 
     /// Asks the inner link with `near` as SNET and SADR in place of `far`, and gives its reply with
     /// `far` as SNET and SADR in place of its DNET and DADR. `Lost` if the request isn't for `far`
@@ -103,6 +107,8 @@ impl<L: LogLink> LogLink for RoutedLink<L> {
         ensures kept { (id : Id) (extent : AnyExtent) (path : Path) (invoke : ℕ) →
             ⊥ → IsQuestion id extent path invoke request.now → L.keeps self.old.inner self.new.inner }
         ensures passes { PassesOn L.asks self.old.far self.old.near (handed_on self.old.far self.old.near request.now) self.old.inner result self.new.inner }
+        ensures asked { PassesOn L.asks self.old.far self.old.near (handed_on self.old.far self.old.near request.now) self.old.inner result self.new.inner
+            × IsHonestAsk (λ id r M H. L.is_honest self.old.inner id r M H) (λ id r M H. L.is_honest self.new.inner id r M H) request.now result }
         // Its failures are its own, and its places stay.
         ensures failures { OnErr result (self.new.failures ≡ one_more self.old.failures) }
         ensures stays { OnOk result (self.new.failures ≡ self.old.failures) }
@@ -120,6 +126,9 @@ impl<L: LogLink> LogLink for RoutedLink<L> {
     }
 
     ghost serves = { λ link id r M H h. L.serves link.inner id r M H h };
+
+    ghost tells_honestly = { λ old new octets answer id r M H extent path invoke honest is passed.
+        passed.1 id r M H extent path invoke honest is };
 
     ghost keeps_itself = { λ link. L.keeps_itself link.inner };
 

@@ -2,3 +2,4 @@ pub mod Datagrams
 pub mod Delivers
 pub mod Verdicts
 pub mod Tries
+pub mod Client

@@ -8,3 +8,4 @@ pub mod Laws
 pub mod Moments
 pub mod Links
 pub mod Exchanges
+pub mod Client

@@ -72,3 +72,13 @@ IsAsked stays r M H id extent path invoke (Err lost) = stays M
 abbrev pub IsAskedOfNone : Path → ℕ → Result (List ℕ) Lost → Type 0
 IsAskedOfNone path invoke (Ok datagram) = IsUnknown path invoke datagram
 IsAskedOfNone path invoke (Err lost) = Unit {0}
+
+-- ---- what an ask is
+
+-- What an honest link's ask brings follows already from what the link says that an ask is.
+abbrev pub TellsHonestly : {S : Type 0} → (S → List ℕ → Result (List ℕ) Lost → S → Type 0) →
+    (S → Id → ℕ → List Moment → History → Type 0) → Type 0
+TellsHonestly {S = S} asks honest =
+    (old new : S) (octets : List ℕ) (answer : Result (List ℕ) Lost) (id : Id) (r : ℕ) (M : List Moment) (H : History)
+    (extent : Extent) (path : Path) (invoke : ℕ) → honest old id r M H → IsQuestion id extent path invoke octets →
+    asks old octets answer new → IsAsked (λ N. honest new id r N H) r M H id extent path invoke answer

@@ -21,7 +21,10 @@ mod transactions;
 pub use answer::{Answer, answers, read_datagram};
 pub use exchanges::{ExchangeFault, Refusal, Verdict, exchange, judge};
 pub use item::Item;
-pub use laws::{can_be_joined, can_be_resumed, delivers_each_once};
+pub use laws::{
+    answers_tell_requests_apart, asks_tell_honestly, calls_are_events, can_be_joined,
+    can_be_resumed, delivers_each_once,
+};
 pub use link::{LogLink, Lost};
 pub use request::Request;
 pub use transactions::{Pending, Received, Timeout, Transactions};

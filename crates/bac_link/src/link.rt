@@ -4,7 +4,7 @@ ghost use Rattle.std.specs.Prelude.{ℕ, ◌≤◌, List, Result, IsOk, OnErr};
 ghost use Rattle.bac_wire.specs.Primitive.{Id};
 ghost use Rattle.bac_apdu.specs.declared.service.extent.Extent.{Extent as AnyExtent};
 ghost use Rattle.bac_link.specs.Delivery.{History, Moment};
-ghost use Rattle.bac_link.specs.Links.{IsAsked, IsAskedOfNone, IsQuestion, RisesBy};
+ghost use Rattle.bac_link.specs.Links.{IsAsked, IsAskedOfNone, IsQuestion, RisesBy, TellsHonestly};
 ghost use Rattle.bac_link.specs.Moments.{AreServed};
 ghost use Rattle.bac_link.specs.Path.{Path};
 ghost use Rattle.bac_link.specs.declared.link.Lost.{Lost as LostOf};
@@ -69,6 +69,10 @@ pub trait LogLink {
     /// has their entries.
     ghost serves: { (link : Self) (id : Id) (r : ℕ) (M : List Moment) (H : History) →
         is_honest link id r M H → AreServed r M H };
+
+    /// What an ask is says already what an honest link brings.
+    ghost tells_honestly: { TellsHonestly (λ old octets answer new. asks old octets answer new)
+        (λ link id r M H. is_honest link id r M H) };
 
     /// What nothing happens to is kept.
     ghost keeps_itself: { (link : Self) → keeps link link };

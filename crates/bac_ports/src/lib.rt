@@ -7,11 +7,13 @@
 //! be honest for any log.
 #![tactic(auto)]
 
+mod laws;
 mod port;
 mod sockets;
 mod udp_link;
 mod udp_port;
 
+pub use laws::exchanges_are_runs;
 pub use port::{Heard, Port, SocketFault};
 pub use sockets::{Sockets, UdpSockets};
 pub use udp_link::{RECEIVES, UdpLink};

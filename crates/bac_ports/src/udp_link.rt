@@ -5,7 +5,7 @@ ghost use Rattle.std.proofs.Common.{◌∙◌};
 ghost use Rattle.bac_link.specs.Links.{RisesBy};
 ghost use Rattle.bac_ports.specs.Asking.{Asks, Awaits, fitting};
 
-use crate::port::{Heard, Port};
+use crate::port::{Heard, Port, SocketFault};
 use bac_link::{LogLink, Lost, answers};
 use bac_wire::Datagram;
 
@@ -37,6 +37,36 @@ impl<P: Port> UdpLink<P> {
             failures: 0,
         }
     }
+
+    /// The first half of an ask: sends a request to the peer, once, and waits for nothing.
+    pub fn send(&mut self, request: &[u8]) -> Result<(), SocketFault>
+        ensures sends { P.sends self.old.port request.now self.old.peer result self.new.port }
+        ensures peer { self.new.peer ≡ self.old.peer }
+        ensures never_falls { self.old.failures ≤ self.new.failures }
+        ensures fails { OnErr result (RisesBy 1 self.old.failures self.new.failures) }
+        ensures stays { OnOk result (self.new.failures ≡ self.old.failures) }
+    {
+        let sent = self.port.send(request, self.peer);
+        if sent.is_err() {
+            self.failures = self.failures.saturating_add(1);
+        }
+        sent
+    }
+
+    /// The other half: waits for the answer to a request that was sent.
+    pub fn hear(&mut self, request: &[u8]) -> Result<Datagram, Lost>
+        ensures awaits { Awaits P.receives self.old.peer request.now 16 self.old.port result self.new.port }
+        ensures peer { self.new.peer ≡ self.old.peer }
+        ensures never_falls { self.old.failures ≤ self.new.failures }
+        ensures fails { OnErr result (RisesBy 1 self.old.failures self.new.failures) }
+        ensures stays { OnOk result (self.new.failures ≡ self.old.failures) }
+    {
+        let answer = wait_for(&mut self.port, self.peer, request, RECEIVES);
+        if answer.is_err() {
+            self.failures = self.failures.saturating_add(1);
+        }
+        answer
+    }
 }
 
 impl<P: Port> LogLink for UdpLink<P> {
@@ -61,33 +91,19 @@ impl<P: Port> LogLink for UdpLink<P> {
         ensures peer { self.new.peer ≡ self.old.peer }
         ensures asks { Asks P.sends P.receives self.old.peer request.now 16 self.old.port result self.new.port }
     {
-        let answer = ask_peer(&mut self.port, self.peer, request, RECEIVES);
-        if answer.is_err() {
-            self.failures = self.failures.saturating_add(1);
+        match self.send(request) {
+            Ok(()) => self.hear(request),
+            Err(_) => Err(Lost),
         }
-        answer
     }
 
     ghost serves = { λ link id r M H h. absurd h };
 
+    ghost tells_honestly = { λ old new octets answer id r M H extent path invoke h is asked. absurd h };
+
     ghost keeps_itself = { λ link. refl };
 
     ghost keeps_on = { λ a b c h k. h ∙ k };
-}
-
-/// Sends the request to the peer, and waits for its answer.
-fn ask_peer<P: Port>(
-    port: &mut P,
-    peer: [u8; 6],
-    request: &[u8],
-    limit: u32,
-) -> Result<Datagram, Lost>
-    ensures { Asks P.sends P.receives peer request.now limit port.old result port.new }
-{
-    match port.send(request, peer) {
-        Ok(()) => wait_for(port, peer, request, limit),
-        Err(_) => Err(Lost),
-    }
 }
 
 #[tactic(auto, unfolding(crate::specs::Asking::Awaits))]

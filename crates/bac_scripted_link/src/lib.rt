@@ -56,6 +56,8 @@ impl LogLink for ScriptedLink<'_> {
 
     ghost serves = { λ link id r M H h. absurd h };
 
+    ghost tells_honestly = { λ old new octets answer id r M H extent path invoke h is asked. absurd h };
+
     ghost keeps_itself = { λ link. tt };
 
     ghost keeps_on = { λ a b c h k. tt };

@@ -24,7 +24,8 @@ use Rattle.bac_walk.specs.Walks.{asks_oldest_now}
 use Rattle.bac_walk.specs.declared.outcome.Progress.{Progress}
 use Rattle.bac_walk.specs.declared.outcome.Progress.TheVariants.{Batch as BatchOf, AskOldest, CaughtUp}
 use Rattle.bac_walk.proofs.Brought.{full_batch}
-use Rattle.bac_walk.proofs.Standard.{Means, said_means}
+use Rattle.bac_walk.specs.Meant.{Means}
+use Rattle.bac_walk.proofs.Standard.{said_means}
 use Rattle.bac_walk.proofs.Turns.{or_left}
 
 abbrev pub Asking : Type 0 → Type 1

@@ -6,7 +6,7 @@ use Rattle.bac_apdu.specs.Npdu.{Place}
 use Rattle.bac_apdu.specs.declared.service.extent.Extent.{Extent}
 use Rattle.bac_link.specs.declared.link.Lost.{Lost as Loss}
 use Rattle.bac_link.specs.Delivery.{History, Moment, now}
-use Rattle.bac_link.specs.Links.{question, IsAsked, IsQuestion, IsReply}
+use Rattle.bac_link.specs.Links.{question, IsAsked, IsQuestion, IsReply, TellsHonestly}
 use Rattle.bac_link.specs.Moments.{AreServed, log_at}
 use Rattle.bac_link.specs.Path.{towards}
 use Rattle.bac_link.specs.Requests.{request_octets}
@@ -57,8 +57,8 @@ said_by r M H log place low s w invoke datagram served valid log_is next window 
     subst R (sym log_is) (subst Q (asks_same w s next) said)
 
 pub honest_speaks : {S : Type 0} (asks : Asking S) (honest : S → Id → ℕ → List Moment → History → Type 0) →
-    ((link : S) (id : Id) (r : ℕ) (M : List Moment) (H : History) → honest link id r M H → AreServed r M H) → HonestSpeaks asks honest
-honest_speaks {S = S} asks honest serves = λ place log r H low tells way valid old new M w s invoke answer stands log_is next some window at asked.
+    ((link : S) (id : Id) (r : ℕ) (M : List Moment) (H : History) → honest link id r M H → AreServed r M H) → TellsHonestly asks honest → HonestSpeaks asks honest
+honest_speaks {S = S} asks honest serves tells = λ place log r H low way valid old new M w s invoke answer stands log_is next some window at asked.
     let octets : List ℕ = request_octets (towards place) invoke (question w.log (question_of w)) in
     let is : IsQuestion log (question_of w) (towards place) invoke octets =
     (ap (λ i. request_octets (towards place) invoke (question i (question_of w))) log_is, ranged_of w (omega (arith, next)), valid, (way, tt)) in

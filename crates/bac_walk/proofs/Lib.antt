@@ -35,3 +35,5 @@ pub mod Counted
 pub mod Spoken
 pub mod Honest
 pub mod Back
+pub mod Window
+pub mod Loggable

@@ -56,7 +56,7 @@ first_held H m s u (Gap f b ∷ items) some are = absurd are
 first_held H m s u (Logged k e ∷ items) some are = are.1
 
 -- a batch brings a walk into what is held, or right after it
-brings_end : (H : History) (m : Moment) (s u : ℕ) (x : Item) (items : List Item) → Brings H m s (x ∷ items) u → (m.oldest ≤ u) × (u ≤ m.newest + 1)
+pub brings_end : (H : History) (m : Moment) (s u : ℕ) (x : Item) (items : List Item) → Brings H m s (x ∷ items) u → (m.oldest ≤ u) × (u ≤ m.newest + 1)
 brings_end H m s u (Gap f b) items brings =
     let first = first_held H m m.oldest u items brings.3 brings.4 in
     held_end H m m.oldest u items brings.4 (omega (arith, first.1))

@@ -30,7 +30,8 @@ use Rattle.bac_walk.specs.declared.outcome.Progress.{Progress}
 use Rattle.bac_walk.specs.declared.outcome.Progress.TheVariants.{Batch as BatchOf, AskOldest, CaughtUp}
 use Rattle.bac_walk.specs.declared.outcome.WalkFault.TheVariants.{Lost, Refused, BadReply}
 use Rattle.bac_walk.proofs.Came.{Asking, brought_delivers, some_later, window_later, window_now}
-use Rattle.bac_walk.proofs.Standard.{Means, said_means}
+use Rattle.bac_walk.specs.Meant.{Means}
+use Rattle.bac_walk.proofs.Standard.{said_means}
 
 -- ---- what a reply by the standard is to its question
 

@@ -8,6 +8,7 @@ use Rattle.bac_log.specs.declared.entry.Entry.{Entry}
 use Rattle.bac_log.specs.TrendLog.{sequence_number}
 use Rattle.bac_walk.specs.Came.{asked_by}
 use Rattle.bac_walk.specs.Heard.{AckParameters}
+use Rattle.bac_walk.specs.Meant.{MeansOf}
 use Rattle.bac_walk.specs.Near.{IsInWindow}
 use Rattle.bac_walk.specs.Ordinals.{distance, number_after, is_ahead}
 use Rattle.bac_walk.specs.Place.{WalkPlace}
@@ -60,22 +61,6 @@ gapped H m s es false is some are =
     subst P same (plain H m (max s m.oldest) es some are)
 
 -- ---- one reply
-
--- what a walk that is at ordinal s makes of it
-abbrev pub Means : History → Moment → ℕ → ℕ → WalkPlace → Progress → WalkPlace → Type 0
-Means H m low s w (BatchOf b) after =
-    (u : ℕ) × Brings H m (base w s m) (items_in b) u
-    × (after ≡ record { log = w.log; next = sequence_number u; fresh = false; asks_oldest = false })
-    × (low ≤ u) × (u < low + 2147483648)
-Means H m low s w AskOldest after =
-    (asks_oldest_now w ≡ false) × (HoldsNumber m w.next → ⊥) × (after ≡ record w { asks_oldest = true })
-Means H m low s w CaughtUp after =
-    (asks_oldest_now w ≡ true) × ((m.newest < m.oldest) ⊎ ((w.fresh ≡ false) × (m.oldest < s))) × (after ≡ w)
-
--- and that it can be taken
-abbrev pub MeansOf : History → Moment → ℕ → ℕ → WalkPlace → Result Progress BadReply → WalkPlace → Type 0
-MeansOf H m low s w (Ok p) after = Means H m low s w p after
-MeansOf H m low s w (Err e) after = ⊥
 
 bring : (H : History) (m : Moment) (low s u : ℕ) (w : WalkPlace) (es : List Entry) (p : Result Progress BadReply) (after : WalkPlace) →
     IsInWindow low m → base w s m ≡ u → IsTaken w es (Bring (sequence_number (max u m.oldest))) p after →

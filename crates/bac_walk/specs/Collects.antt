@@ -11,6 +11,9 @@ use Rattle.bac_walk.specs.declared.outcome.WalkFault.TheVariants.{Lost, Refused,
 use Rattle.bac_link.specs.declared.exchanges.Refusal.TheVariants as said
 use Rattle.bac_walk.specs.declared.outcome.Ended.{Ended}
 use Rattle.bac_walk.specs.declared.outcome.Ended.TheVariants.{CaughtUp, StepLimit, Stopped, Fault}
+use Rattle.bac_walk.specs.declared.outcome.Why.{Why}
+use Rattle.bac_walk.specs.declared.outcome.Why.TheVariants.{CaughtUp as WasUp, StepLimit as WasLimit, Fault as WasFault}
+use Rattle.bac_walk.specs.declared.outcome.Why.TheVariants.{Memory}
 use Rattle.bac_link.specs.Delivery.{History, Moment, now, later, items_of}
 use Rattle.bac_link.specs.Laws.{moment_at}
 use Rattle.bac_walk.specs.Turns.{Covers, NoneOfHundred, whole_reply}
@@ -199,3 +202,10 @@ MissingEnd steps CaughtUp = ⊥
 MissingEnd steps StepLimit = steps ≡ 0
 MissingEnd steps Stopped = ⊥
 MissingEnd steps (Fault e) = (0 < steps) × IsMissing e
+
+-- why a run that keeps its items ends over a log that the device doesn't have
+abbrev pub MissingWhy : ℕ → Why → Type 0
+MissingWhy steps WasUp = ⊥
+MissingWhy steps WasLimit = steps ≡ 0
+MissingWhy steps (WasFault e) = (0 < steps) × IsMissing e
+MissingWhy steps Memory = Unit {0}

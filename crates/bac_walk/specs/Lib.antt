@@ -22,3 +22,4 @@ pub mod Runs
 pub mod Standard
 pub mod Came
 pub mod Spoken
+pub mod Meant

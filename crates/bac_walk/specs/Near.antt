@@ -1,7 +1,7 @@
 -- How near a walk is to its log. Numbers come round, so they tell ordinals apart within half of the count only.
 use Rattle.std.specs.Prelude.{◌≡◌, ℕ, Bool, false, ◌+◌, ◌<◌, ◌≤◌, List, [], ◌∷◌, length}
 use Rattle.bac_link.specs.declared.item.Item.{Item}
-use Rattle.bac_link.specs.Delivery.{History, Moment, now, later}
+use Rattle.bac_link.specs.Delivery.{History, Moment, DeliversTo, now, later}
 use Rattle.bac_link.specs.Laws.{after_answers}
 use Rattle.bac_link.specs.Moments.{AreServed}
 use Rattle.bac_walk.specs.declared.outcome.Ended.TheVariants.{StepLimit}
@@ -41,3 +41,10 @@ abbrev pub WindowsAreNear : Type 0
 WindowsAreNear =
     (r : ℕ) (H : History) (M : List Moment) (low s steps : ℕ) (fresh : Bool) → AreServed r M H → AreInWindow low M →
     (fresh ≡ false → (low ≤ s) × (s < low + 2147483648)) → StaysNear r H M fresh s steps
+
+-- what is delivered at moments in a window, from an ordinal in it on, ends in it, and so do the moments that are left
+abbrev pub StaysInWindow : Type 0
+StaysInWindow =
+    (H : History) (M : List Moment) (low s t count : ℕ) (items : List Item) → 0 < length M → AreInWindow low M →
+    low ≤ s → s < low + 2147483648 → DeliversTo H s items t M count →
+    (low ≤ t) × (t < low + 2147483648) × AreInWindow low (after_answers count M)

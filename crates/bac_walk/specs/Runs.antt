@@ -7,7 +7,7 @@ use Rattle.bac_walk.specs.declared.outcome.Ended.{Ended}
 use Rattle.bac_walk.specs.declared.outcome.Ended.TheVariants.{StepLimit}
 use Rattle.bac_walk.specs.Place.{WalkPlace}
 use Rattle.bac_walk.specs.Collects.{start_of, Collected}
-use Rattle.bac_walk.specs.Sinks.{IsDelivered, IsRun}
+use Rattle.bac_walk.specs.Sinks.{IsDeliveredNear, IsRun}
 
 -- what the answers of a run brought is delivered from the ordinal where it began: for a walk from the oldest entry, the
 -- oldest of its first batch's moment
@@ -23,7 +23,7 @@ abbrev pub RunsDeliver : {L : Type 0} → (L → Id → ℕ → List Moment → 
 RunsDeliver {L = L} honest =
     (link left : L) (log : Id) (retries old new : ℕ) (before after : WalkPlace) (steps : ℕ) (ended : Ended)
     (items : List Item) → IsRun (honest link log) (honest left log) retries old new before after steps ended items →
-    IsDelivered (honest link log) (honest left log) before after steps items
+    IsDeliveredNear (honest link log) (honest left log) before after steps items
 
 -- A run whose steps were all whole, and one from where it ended, are together one run of as many steps: what both
 -- brought, ended as the second.

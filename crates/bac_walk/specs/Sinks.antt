@@ -1,5 +1,5 @@
 -- Records that are put into a sink one after the other.
-use Rattle.std.specs.Prelude.{◌≡◌, ℕ, ◌+◌, ◌*◌, ◌≤◌, Bool, true, false, ◌⊎◌, Option, Some, None, List, [], ◌∷◌, ◌++◌}
+use Rattle.std.specs.Prelude.{◌≡◌, ℕ, ◌+◌, ◌*◌, ◌<◌, ◌≤◌, Bool, true, false, ◌⊎◌, Option, Some, None, List, [], ◌∷◌, ◌++◌}
 use Rattle.std.specs.Prelude.{length}
 use Rattle.bac_link.specs.declared.item.Item.{Item}
 use Rattle.bac_walk.specs.declared.batch.Gap.{Gap as GapOf}
@@ -10,7 +10,7 @@ use Rattle.bac_walk.specs.declared.outcome.Ended.TheVariants.{CaughtUp, StepLimi
 use Rattle.bac_log.specs.TrendLog.{sequence_number}
 use Rattle.bac_link.specs.Delivery.{History, Moment, DeliversTo}
 use Rattle.bac_link.specs.Laws.{after_answers}
-use Rattle.bac_walk.specs.Near.{StaysNear}
+use Rattle.bac_walk.specs.Near.{AreInWindow, StaysNear}
 use Rattle.bac_walk.specs.Walks.{gap_items, item_of}
 use Rattle.bac_walk.specs.Collects.{Goes, Collected, IsFreshAfter}
 
@@ -78,11 +78,21 @@ Delivery {S = S} puts sink left was is retries old new before after steps ended 
     × IsRun was is retries old new before after steps ended (put_items calls)
     × (ended ≡ StepLimit → steps ≤ length calls)
 
--- Over a link that was honest, wherever the walk stays near: from the ordinal of its number on, or from that of the
--- oldest record if it begins there, so many answers deliver the items, and the link is honest still.
+-- Over a link that was honest, at moments within half of the count: from the ordinal of its number on, or from that of
+-- the oldest record if it begins there, so many answers deliver the items, and the link is honest still.
 abbrev pub IsDelivered : (ℕ → List Moment → History → Type 0) →
+    (ℕ → List Moment → History → Type 0) → WalkPlace → WalkPlace → List Item → Type 0
+IsDelivered was is before after items =
+    (r : ℕ) (M : List Moment) (H : History) (s low : ℕ) →
+    was r M H → before.next ≡ sequence_number s → AreInWindow low M →
+    (before.fresh ≡ false → (low ≤ s) × (s < low + 2147483648)) →
+    (b : ℕ) × (a : ℕ) × (t : ℕ) × (before.fresh ≡ false → b ≡ s) × (after.next ≡ sequence_number t)
+    × DeliversTo H b items t M a × is r (after_answers a M) H
+
+-- the same wherever the walk stays near, in so many steps
+abbrev pub IsDeliveredNear : (ℕ → List Moment → History → Type 0) →
     (ℕ → List Moment → History → Type 0) → WalkPlace → WalkPlace → ℕ → List Item → Type 0
-IsDelivered was is before after steps items =
+IsDeliveredNear was is before after steps items =
     (r : ℕ) (M : List Moment) (H : History) (s : ℕ) →
     was r M H → before.next ≡ sequence_number s → StaysNear r H M before.fresh s steps →
     (b : ℕ) × (a : ℕ) × (t : ℕ) × (before.fresh ≡ false → b ≡ s) × (after.next ≡ sequence_number t)

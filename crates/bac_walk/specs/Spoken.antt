@@ -1,24 +1,24 @@
 -- Links that answer the questions of a walk by the standard, whatever else is known of them.
-use Rattle.std.specs.Prelude.{◌≡◌, ℕ, ◌+◌, ◌<◌, ◌≤◌, true, false, Option, Result, Ok, Err, List, length}
+use Rattle.std.specs.Prelude.{◌≡◌, ℕ, ◌+◌, ◌<◌, ◌≤◌, true, false, Option, Result, Ok, Err, List, ◌∷◌, length, All}
 use Rattle.bac_wire.specs.Canon.{IsValid}
 use Rattle.bac_wire.specs.Primitive.{Id, Object}
 use Rattle.bac_apdu.specs.Npdu.{Place}
 use Rattle.bac_apdu.specs.Route.{IsWay}
-use Rattle.bac_apdu.specs.declared.service.extent.Extent.{Extent}
 use Rattle.bac_link.specs.declared.item.Item.{Item}
 use Rattle.bac_link.specs.declared.link.Lost.{Lost as Loss}
 use Rattle.bac_link.specs.Datagrams.{answers_to}
 use Rattle.bac_link.specs.Delivery.{History, Moment, DeliversTo, now, later}
 use Rattle.bac_link.specs.Laws.{after_answers}
-use Rattle.bac_link.specs.Links.{question, IsAsked, IsQuestion}
-use Rattle.bac_link.specs.Moments.{AreServed}
+use Rattle.bac_link.specs.Links.{question}
+use Rattle.bac_link.specs.Moments.{AreServed, log_at}
 use Rattle.bac_link.specs.Path.{Path, towards}
 use Rattle.bac_link.specs.Requests.{request_octets}
+use Rattle.bac_log.specs.Entry.{IsLoggable}
 use Rattle.bac_log.specs.TrendLog.{sequence_number}
 use Rattle.bac_walk.specs.declared.outcome.Ended.{Ended}
 use Rattle.bac_walk.specs.declared.outcome.Ended.TheVariants.{CaughtUp, StepLimit, Stopped, Fault}
 use Rattle.bac_walk.specs.declared.outcome.WalkFault.TheVariants.{Lost, Refused, BadReply}
-use Rattle.bac_walk.specs.Came.{Came, AreSaidAt, Brought, NeverGoesBack, answers_of, asked_by}
+use Rattle.bac_walk.specs.Came.{Came, Comes, AreSaidAt, Brought, NeverGoesBack, answers_of, asked_by}
 use Rattle.bac_walk.specs.Collects.{IsCaughtUp}
 use Rattle.bac_walk.specs.Near.{AreInWindow, IsNear}
 use Rattle.bac_walk.specs.Place.{WalkPlace}
@@ -69,20 +69,22 @@ SpokenIsDelivered {S = S} asks stands =
     × DeliversTo H b items t M a × (ended ≡ CaughtUp → IsCaughtUp w.fresh t M (answers_of came)))
     × AreSaidAt H M came × stands new (after_answers (length came) M) × IsSpokenEnd ended
 
--- What an honest link's ask brings follows already from what the link says that an ask is.
-abbrev pub TellsHonestly : {S : Type 0} → (S → List ℕ → Result (List ℕ) Loss → S → Type 0) →
-    (S → Id → ℕ → List Moment → History → Type 0) → Type 0
-TellsHonestly {S = S} asks honest =
-    (old new : S) (octets : List ℕ) (answer : Result (List ℕ) Loss) (id : Id) (r : ℕ) (M : List Moment) (H : History)
-    (extent : Extent) (path : Path) (invoke : ℕ) → honest old id r M H → IsQuestion id extent path invoke octets →
-    asks old octets answer new → IsAsked (λ N. honest new id r N H) r M H id extent path invoke answer
-
--- such a link speaks for each log for which it is honest, by every way that a request can go
+-- a link speaks for each log for which it is honest, by every way that a request can go
 abbrev pub HonestSpeaks : {S : Type 0} → (S → List ℕ → Result (List ℕ) Loss → S → Type 0) →
     (S → Id → ℕ → List Moment → History → Type 0) → Type 0
 HonestSpeaks {S = S} asks honest =
-    (place : Option Place) (log : Id) (r : ℕ) (H : History) (low : ℕ) → TellsHonestly asks honest → IsWay place →
+    (place : Option Place) (log : Id) (r : ℕ) (H : History) (low : ℕ) → IsWay place →
     IsValid (Object log) → SpeaksFor asks (towards place) log H low (λ link M. honest link log r M H)
+
+-- Where a reply came to a walk over an honest link, all that the log holds at the next moment is loggable: so whether it is
+-- needn't be asked of who begins the walk.
+abbrev pub RepliesAreLoggable : {S : Type 0} → (S → List ℕ → Result (List ℕ) Loss → S → Type 0) →
+    (S → Id → ℕ → List Moment → History → Type 0) → Type 0
+RepliesAreLoggable {S = S} asks honest =
+    (place : Option Place) (retries : ℕ) (old new : S) (w after : WalkPlace) (c : Came) (came : List Came)
+    (r s : ℕ) (M : List Moment) (H : History) → honest old w.log r M H → IsWay place → IsValid (Object w.log) →
+    w.next ≡ sequence_number s → Comes asks (towards place) retries old w (c ∷ came) after new →
+    All IsLoggable (log_at (now M) H).entries
 
 -- there is one moment at least of one log, and its moments never go back
 abbrev pub MomentsNeverGoBack : Type 0

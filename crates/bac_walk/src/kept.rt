@@ -1,13 +1,14 @@
 //! Walks whose items are kept.
 
-ghost use Rattle.std.specs.Prelude.{true, false, [], ◌∷◌, ◌≡◌, ℕ, ◌+◌, ◌*◌, ◌≤◌, List, length, vec_capacity};
+ghost use Rattle.std.specs.Prelude.{true, false, [], ◌∷◌, ◌≡◌, ℕ, ◌+◌, ◌*◌, ◌<◌, ◌≤◌, List, length, vec_capacity};
 ghost use Rattle.bac_log.specs.TrendLog.{sequence_number};
 ghost use Rattle.bac_link.specs.Delivery.{History, Moment, DeliversTo};
 ghost use Rattle.bac_link.specs.Path.{towards};
 ghost use Rattle.bac_link.specs.Laws.{after_answers};
 ghost use Rattle.bac_walk.specs.declared.outcome.Ended.{Ended as EndedOf};
-ghost use Rattle.bac_walk.specs.Near.{IsNear, StaysNear};
+ghost use Rattle.bac_walk.specs.Near.{AreInWindow, IsNear, StaysNear};
 ghost use Rattle.bac_walk.specs.Sinks.{IsRun};
+ghost use Rattle.bac_walk.specs.Collects.{MissingWhy};
 ghost use Rattle.bac_walk.specs.Kept.{IsKept};
 ghost use Rattle.bac_walk.specs.Outcomes.{IsRunOf};
 ghost use Rattle.bac_walk.specs.Rests.{rest, Rests, Misses};
@@ -85,9 +86,15 @@ pub fn collect<L: LogLink>(
         result.items.items ended walk.new link.new) }
     // Over an honest link it delivers the records from its number on that the log holds when each
     // is reached, each once, in rising order, with one exact gap for what is gone. The number is
-    // that of ordinal s, and wherever the walk comes it is less than half of the count away from
-    // the oldest record held.
-    ensures headline { (r : ℕ) (M : List Moment) (H : History) (s : ℕ) →
+    // that of ordinal s; it and all moments lie within half of the count from one ordinal on.
+    ensures headline { (r : ℕ) (M : List Moment) (H : History) (s low : ℕ) →
+        L.is_honest link.old walk.old.log r M H → walk.old.next ≡ sequence_number s →
+        AreInWindow low M → (walk.old.fresh ≡ false → (low ≤ s) × (s < low + 2147483648)) →
+        (b : ℕ) × (a : ℕ) × (t : ℕ) × (walk.old.fresh ≡ false → b ≡ s) × (walk.new.next ≡ sequence_number t)
+        × DeliversTo H b result.items.items t M a × L.is_honest link.new walk.old.log r (after_answers a M) H }
+    // So it does if the walk is near its log wherever these steps bring it: less than half of the
+    // count away from the oldest record held.
+    ensures near { (r : ℕ) (M : List Moment) (H : History) (s : ℕ) →
         L.is_honest link.old walk.old.log r M H → walk.old.next ≡ sequence_number s →
         StaysNear r H M walk.old.fresh s steps →
         (b : ℕ) × (a : ℕ) × (t : ℕ) × (walk.old.fresh ≡ false → b ≡ s) × (walk.new.next ≡ sequence_number t)
@@ -106,6 +113,9 @@ pub fn collect<L: LogLink>(
         Rests (rest r H m walk.old.fresh s steps) steps result.items.items result.next result.why }
     ensures missing { L.lacks link.old walk.old.log → L.is_sure link.old (towards transactions.old.route) →
         Misses steps walk.old.next result.items.items result.next result.why }
+    // Whether it loses questions or not, nothing comes of a log that the link lacks.
+    ensures unknown { L.lacks link.old walk.old.log →
+        (result.items.items ≡ []) × (result.next ≡ walk.old.next) × MissingWhy steps result.why }
     ensures lacking { L.lacks link.old walk.old.log → L.lacks link.new walk.old.log }
     ensures sure { L.is_sure link.old (towards transactions.old.route) → L.is_sure link.new (towards transactions.new.route) }
     // Asking over such a link changes nothing.

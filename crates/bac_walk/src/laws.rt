@@ -3,10 +3,11 @@ ghost use Rattle.std.specs.Prelude.{◌≡◌, ℕ, List};
 ghost use Rattle.bac_wire.specs.Primitive.{Id};
 ghost use Rattle.bac_link.specs.Delivery.{History, Moment};
 ghost use Rattle.bac_walk.specs.Came.{BroughtIsDelivered, CameIsDelivered, LostIsAsked, NothingCame, OwnIsSaid, SaidIsTaken};
-ghost use Rattle.bac_walk.specs.Near.{WindowsAreNear};
+ghost use Rattle.bac_walk.specs.Meant.{SaidMeans};
+ghost use Rattle.bac_walk.specs.Near.{StaysInWindow, WindowsAreNear};
 ghost use Rattle.bac_walk.specs.Rests.{RestsAll, RestResumes};
 ghost use Rattle.bac_walk.specs.Runs.{CollectedIsDelivered, RunsDeliver, RunsJoin};
-ghost use Rattle.bac_walk.specs.Spoken.{HonestSpeaks, MomentsNeverGoBack, NumbersHaveOrdinals, SpokenIsDelivered};
+ghost use Rattle.bac_walk.specs.Spoken.{HonestSpeaks, MomentsNeverGoBack, NumbersHaveOrdinals, RepliesAreLoggable, SpokenIsDelivered};
 
 use bac_link::LogLink;
 
@@ -26,6 +27,12 @@ pub fn rest_resumes()
 /// does the ordinal where it begins, unless that is the oldest record.
 pub fn windows_are_near()
     ensures { WindowsAreNear }
+{}
+
+/// What is delivered at moments within half of the count from one ordinal on, from an ordinal there,
+/// ends there, as do the moments that are left: a run stays in its window.
+pub fn runs_stay_in_their_window()
+    ensures { StaysInWindow }
 {}
 
 /// What the answers of a run brought is delivered, from the ordinal where the run began: for a walk
@@ -53,6 +60,12 @@ pub fn own_is_said()
 /// A walk near its log takes every reply by the standard.
 pub fn said_is_taken()
     ensures { SaidIsTaken }
+{}
+
+/// What a reply by the standard means to a walk that asked for it: records from its place on, or
+/// that none of its number is held, or that there is no more.
+pub fn said_means()
+    ensures { SaidMeans }
 {}
 
 /// Over every link, whoever answers: if the replies that came say what one log holds, what they
@@ -84,9 +97,14 @@ pub fn spoken_is_delivered<L: LogLink>()
     ensures honest { (log : Id) (r : ℕ) (H : History) → SpokenIsDelivered L.asks (λ link M. L.is_honest link log r M H) }
 {}
 
-/// A link whose honesty follows from what its asks are speaks for each log for which it is honest.
+/// A link speaks for each log for which it is honest.
 pub fn honest_speaks<L: LogLink>()
     ensures { HonestSpeaks L.asks (λ link id r M H. L.is_honest link id r M H) }
+{}
+
+/// Over an honest link that brought a reply, all that its log holds at the next moment is loggable.
+pub fn replies_are_loggable<L: LogLink>()
+    ensures { RepliesAreLoggable L.asks (λ link id r M H. L.is_honest link id r M H) }
 {}
 
 /// The moments of an honest link never go back.

@@ -7,7 +7,7 @@ ghost use Rattle.bac_link.specs.Path.{towards};
 ghost use Rattle.bac_walk.specs.declared.batch.Gap.{Gap as GapOf};
 ghost use Rattle.bac_walk.specs.declared.batch.Numbered.{Numbered as NumberedOf};
 ghost use Rattle.bac_walk.specs.Near.{StaysNear};
-ghost use Rattle.bac_walk.specs.Sinks.{Call, PutAll, Delivery, IsDelivered, Takes, is_stopped, put_items};
+ghost use Rattle.bac_walk.specs.Sinks.{Call, PutAll, Delivery, IsDelivered, IsDeliveredNear, Takes, is_stopped, put_items};
 ghost use Rattle.bac_walk.specs.Handing.{HandedOn};
 ghost use Rattle.bac_walk.specs.Replied.{step_of};
 ghost use Rattle.bac_walk.specs.Spelled.{IsWhole, records_from};
@@ -62,6 +62,10 @@ pub fn deliver<L: LogLink, S: Sink>(
     // is reached, each once, in rising order, with one exact gap for what is gone.
     ensures headline { (calls : List Call) × Takes S.puts sink.old calls (is_stopped result) sink.new
         × IsDelivered (λ r M H. L.is_honest link.old walk.old.log r M H) (λ r M H. L.is_honest link.new walk.old.log r M H)
+        walk.old walk.new (put_items calls) }
+    // So it does if the walk is near its log wherever these steps bring it.
+    ensures near { (calls : List Call) × Takes S.puts sink.old calls (is_stopped result) sink.new
+        × IsDeliveredNear (λ r M H. L.is_honest link.old walk.old.log r M H) (λ r M H. L.is_honest link.new walk.old.log r M H)
         walk.old walk.new steps (put_items calls) }
     // It is a run of so many steps, with all that its answers brought and how it ended.
     ensures delivers { Delivery S.puts sink.old sink.new

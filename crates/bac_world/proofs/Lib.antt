@@ -8,3 +8,4 @@ pub mod Done
 pub mod Keeps
 pub mod Withstands
 pub mod Played
+pub mod Machine

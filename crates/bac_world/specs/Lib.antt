@@ -1,3 +1,4 @@
 pub mod Network
 pub mod Runs
 pub mod Views
+pub mod Machine

@@ -1,5 +1,6 @@
 //! Laws of a walk over a network. Each function does nothing: what it ensures is the law.
 
+ghost use Rattle.bac_world.specs.Machine.{RunsTheClient};
 ghost use Rattle.bac_world.specs.Runs.{WindowsStayNear, Withstands};
 
 /// Whatever a network keeps, repeats or reorders, a walk over it delivers what the log held when it
@@ -12,4 +13,10 @@ pub fn withstands_all()
 /// ordinal on, as does the ordinal where it begins, unless that is the oldest record.
 pub fn windows_stay_near()
     ensures { WindowsStayNear }
+{}
+
+/// The client of a network runs the events that an exchange over a port runs, over the packets that
+/// come to it: where its transactions are, and what was sent to the device, is what these events say.
+pub fn worlds_run_the_client()
+    ensures { RunsTheClient }
 {}

@@ -15,6 +15,6 @@ mod packet;
 mod world;
 
 pub use event::WorldEvent;
-pub use laws::{windows_stay_near, withstands_all};
+pub use laws::{windows_stay_near, withstands_all, worlds_run_the_client};
 pub use packet::{Packet, Side};
 pub use world::{Memory, World};

@@ -24,8 +24,7 @@ returns g c = λ r m H k low sure honest here near window above below loggable e
     let at = ap (λ (w : WalkPlace). w.next) is ∙ here in
     let whole = c.rests_all.ensures r H m k n served loggable near enough in
     let end = after_all H m k low (nat_lt m.newest (max k m.oldest)) refl near window in
-    let stays = c.windows_are_near.ensures r H (m ∷ []) low k n c.in_ok-walk.walk.fresh served (window, tt) (λ old. (above, below)) in
-    let later = c.collect-first.ensures.headline r (m ∷ []) H k there at stays in
+    let later = c.collect-first.ensures.headline r (m ∷ []) H k low there at (window, tt) (λ old. (above, below)) in
     let M : List Moment → Type 0 = λ l. g.L.LogLink.is_honest c.collect-first.new.link c.in_ok-walk.walk.log r l H in
     let N : Id → Type 0 = λ i. g.L.LogLink.is_honest c.collect-first.new.link i r (m ∷ []) H in
     let is_more = (c.in_ok-more.ensures {u = tt}).some in

@@ -1,8 +1,7 @@
-use Rattle.std.proofs.Common.{◌≡◌, ℕ, Bool, false, refl, sym, ap, subst, ◌∙◌}
+use Rattle.std.proofs.Common.{◌≡◌, ℕ, refl, sym, ap, subst, ◌∙◌}
 use Rattle.bac_wire.specs.Primitive.{Id}
 use Rattle.bac_objects.specs.Sampling.{log_id}
 use Rattle.bac_link.specs.Delivery.{DeliversTo}
-use Rattle.bac_walk.specs.Near.{StaysNear}
 use Rattle.bac_walk.specs.Place.{WalkPlace}
 use Rattle.bac_direct.specs.Ahead.{IsAhead, history_ahead, moments_ahead, placed_all}
 use Rattle.bac_client_tests.proofs.direct_callers.records_from.Goals as goal
@@ -21,8 +20,6 @@ returns-clause-delivers c = λ rounds k low there here window above below.
     let log = ap (λ (w : WalkPlace). w.log) is in
     let K : Id → Type 0 = λ i. IsAhead c.new-link.result.device.now c.new-link.result.events.now i r M H in
     let ahead = c.new-link.ensures.honest n rounds there in
-    let near = c.windows_are_near.ensures r H M low k c.args.steps false ahead.served window (λ old. (above, below)) in
-    let F : Bool → Type 0 = λ f. StaysNear r H M f k c.args.steps in
-    let a = c.collect.ensures.headline r M H k (subst K (sym (log ∙ id)) (rounds, ahead)) (ap (λ (w : WalkPlace). w.next) is ∙ here) (subst F (sym (ap (λ (w : WalkPlace). w.fresh) is)) near) in
+    let a = c.collect.ensures.headline r M H k low (subst K (sym (log ∙ id)) (rounds, ahead)) (ap (λ (w : WalkPlace). w.next) is ∙ here) window (λ old. (above, below)) in
     let P : ℕ → Type 0 = λ j. DeliversTo H j c.collect.result.items.items a.2 M a.1 in
     (a.1, a.2, c.collect.ensures.next ∙ a.4, subst P (a.3 (ap (λ (w : WalkPlace). w.fresh) is)) a.5)

@@ -1,8 +1,7 @@
-use Rattle.std.proofs.Common.{ℕ, Bool, false, sym, ap, subst, ◌∙◌}
+use Rattle.std.proofs.Common.{ℕ, sym, ap, subst, ◌∙◌}
 use Rattle.bac_wire.specs.Primitive.{Id}
 use Rattle.bac_link.specs.Delivery.{DeliversTo}
 use Rattle.bac_link.specs.Laws.{after_answers}
-use Rattle.bac_walk.specs.Near.{StaysNear}
 use Rattle.bac_walk.specs.Place.{WalkPlace}
 use Rattle.bac_client_tests.proofs.walk_callers.records_from.Goals as goal
 
@@ -11,9 +10,7 @@ returns g c = λ r M H k low honest here window above below.
     let is = (c.in-Some.ensures {u = tt}).some in
     let log = ap (λ (w : WalkPlace). w.log) is in
     let K : Id → Type 0 = λ n. g.L.LogLink.is_honest c.args.link.now n r M H in
-    let near = c.windows_are_near.ensures r H M low k c.args.steps false (g.met.L.LogLink.serves c.args.link.now c.args.log r M H honest) window (λ old. (above, below)) in
-    let F : Bool → Type 0 = λ f. StaysNear r H M f k c.args.steps in
-    let a = c.collect.ensures.headline r M H k (subst K (sym log) honest) (ap (λ (w : WalkPlace). w.next) is ∙ here) (subst F (sym (ap (λ (w : WalkPlace). w.fresh) is)) near) in
+    let a = c.collect.ensures.headline r M H k low (subst K (sym log) honest) (ap (λ (w : WalkPlace). w.next) is ∙ here) window (λ old. (above, below)) in
     let P : ℕ → Type 0 = λ n. DeliversTo H n c.collect.result.items.items a.2 M a.1 in
     let Q : Id → Type 0 = λ n. g.L.LogLink.is_honest c.collect.new.link n r (after_answers a.1 M) H in
     (a.1, a.2, c.collect.ensures.next ∙ a.4, subst P (a.3 (ap (λ (w : WalkPlace). w.fresh) is)) a.5, subst Q log a.6)

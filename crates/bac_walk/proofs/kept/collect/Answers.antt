@@ -1,19 +1,20 @@
-use Rattle.std.proofs.Common.{◌≡◌, ◌≤◌, ◌+◌, ◌++◌, ℕ, List, [], ◌∷◌, length, vec_capacity, Some, inr, refl, sym, ap, subst, ◌∙◌, arith, rules, length-append}
+use Rattle.std.specs.Prelude.{IfSome}
+use Rattle.std.proofs.Common.{◌≡◌, ◌<◌, ◌≤◌, ◌+◌, Option, ◌++◌, ℕ, List, [], ◌∷◌, length, vec_capacity, Some, inr, refl, sym, ap, subst, ◌∙◌, arith, rules, length-append}
 use Rattle.bac_wire.specs.Primitive.{Id}
 use Rattle.bac_link.specs.declared.item.Item.{Item}
 use Rattle.bac_walk.specs.declared.kept.Kept.{Kept}
 use Rattle.bac_walk.specs.declared.outcome.Ended.{Ended}
-use Rattle.bac_walk.specs.declared.outcome.Ended.TheVariants.{StepLimit}
+use Rattle.bac_walk.specs.declared.outcome.Ended.TheVariants.{CaughtUp, StepLimit, Stopped, Fault}
 use Rattle.bac_walk.specs.declared.outcome.Why.{Why}
 use Rattle.bac_walk.specs.declared.outcome.Why.TheVariants.{StepLimit as WasLimit}
 use Rattle.bac_link.specs.Delivery.{History, Moment}
 use Rattle.bac_link.specs.Laws.{after_answers}
 use Rattle.bac_walk.specs.Sinks.{gaps, put_items, is_stopped, IsRun}
-use Rattle.bac_walk.specs.Outcomes.{IsRunOf}
+use Rattle.bac_walk.specs.Outcomes.{IsRunOf, why_of}
 use Rattle.bac_walk.specs.Rests.{rest, Rests}
-use Rattle.bac_walk.specs.Collects.{MissingEnd}
+use Rattle.bac_walk.specs.Collects.{MissingEnd, MissingWhy}
 use Rattle.bac_walk.proofs.Runs.{headline_of, join_run, no_run, run_early, ends_run, not_limit, not_stopped, goes_on, why_limit}
-use Rattle.bac_walk.proofs.Near.{fewer_steps, next_step, rest_near}
+use Rattle.bac_walk.proofs.Near.{fewer_steps, next_step, rest_near, windows_near}
 use Rattle.bac_walk.proofs.Keeps.{kept_all, put_length}
 use Rattle.bac_walk.proofs.Told.{told_same, told_why}
 use Rattle.bac_walk.proofs.Joined.{no_brought, brought_joins, brought_early, into_same}
@@ -228,24 +229,24 @@ returns-clause-resting g c r m H s sure honest next near =
     let R : ℕ → Type 0 = λ n. Rests (rest r H m c.args.walk.now.fresh s n) c.args.steps c.loop-done.kept.items.items c.next_number-2.result WasLimit in
     subst R all (inr (rests.0, c.next_number-2.ensures.next ∙ rests.1, subst E rests.2 (refl, refl)))
 
-pub returns-then-not-make_room-clause-headline : goal.returns-then-not-make_room-clause-headline
+pub returns-then-not-make_room-clause-near : goal.returns-then-not-make_room-clause-near
 unfolding returns-then-not-make_room-clause-delivers
-returns-then-not-make_room-clause-headline g c r M H s honest next near =
+returns-then-not-make_room-clause-near g c r M H s honest next near =
     let d = returns-then-not-make_room-clause-delivers g c in
     headline_of (λ r M H. g.L.LogLink.is_honest c.args.link.now c.args.walk.now.log r M H) (λ r M H. g.L.LogLink.is_honest c.loop-done.link c.args.walk.now.log r M H)
     c.args.transactions.now.retries (g.L.LogLink.failures c.args.link.now) (g.L.LogLink.failures c.loop-done.link) c.args.walk.now c.loop-done.walk d.0 d.1 c.make_room.new.kept.items.items d.3 r M H s honest next
     (fewer_steps r H M c.args.walk.now.fresh s c.loop-done.done c.args.steps (omega arith) near)
 
-pub returns-in-Some-clause-headline : goal.returns-in-Some-clause-headline
+pub returns-in-Some-clause-near : goal.returns-in-Some-clause-near
 unfolding returns-in-Some-clause-delivers
-returns-in-Some-clause-headline g c r M H s honest next near =
+returns-in-Some-clause-near g c r M H s honest next near =
     let d = returns-in-Some-clause-delivers g c in
     headline_of (λ r M H. g.L.LogLink.is_honest c.args.link.now c.args.walk.now.log r M H) (λ r M H. g.L.LogLink.is_honest c.deliver-ended.new.link c.args.walk.now.log r M H)
     c.args.transactions.now.retries (g.L.LogLink.failures c.args.link.now) (g.L.LogLink.failures c.deliver-ended.new.link) c.args.walk.now c.deliver-ended.new.walk d.0 d.1 c.deliver-ended.new.sink.items.items d.3 r M H s honest next near
 
-pub returns-clause-headline : goal.returns-clause-headline
+pub returns-clause-near : goal.returns-clause-near
 unfolding returns-clause-delivers
-returns-clause-headline g c r M H s honest next near =
+returns-clause-near g c r M H s honest next near =
     let d = returns-clause-delivers g c in
     headline_of (λ r M H. g.L.LogLink.is_honest c.args.link.now c.args.walk.now.log r M H) (λ r M H. g.L.LogLink.is_honest c.loop-done.link c.args.walk.now.log r M H)
     c.args.transactions.now.retries (g.L.LogLink.failures c.args.link.now) (g.L.LogLink.failures c.loop-done.link) c.args.walk.now c.loop-done.walk d.0 d.1 c.loop-done.kept.items.items d.3 r M H s honest next
@@ -316,3 +317,47 @@ pub returns-clause-brought : goal.returns-clause-brought
 returns-clause-brought g c =
     let all : c.loop-done.done ≡ c.args.steps = omega arith in
     (c.loop-done.done, StepLimit, (all, refl), c.loop-done.invariant.brought)
+
+pub returns-then-not-make_room-clause-headline : goal.returns-then-not-make_room-clause-headline
+returns-then-not-make_room-clause-headline g c r M H s low honest next window at =
+    returns-then-not-make_room-clause-near g c r M H s honest next
+    (windows_near r H M low s c.args.steps c.args.walk.now.fresh (g.met.L.LogLink.serves c.args.link.now c.args.walk.now.log r M H honest) window at)
+
+pub returns-in-Some-clause-headline : goal.returns-in-Some-clause-headline
+returns-in-Some-clause-headline g c r M H s low honest next window at =
+    returns-in-Some-clause-near g c r M H s honest next
+    (windows_near r H M low s c.args.steps c.args.walk.now.fresh (g.met.L.LogLink.serves c.args.link.now c.args.walk.now.log r M H honest) window at)
+
+pub returns-clause-headline : goal.returns-clause-headline
+returns-clause-headline g c r M H s low honest next window at =
+    returns-clause-near g c r M H s honest next
+    (windows_near r H M low s c.args.steps c.args.walk.now.fresh (g.met.L.LogLink.serves c.args.link.now c.args.walk.now.log r M H honest) window at)
+
+missing_why : (steps : ℕ) (ended : Ended) (why : Why) → 0 < steps → why_of ended ≡ Some why → MissingEnd 1 ended → MissingWhy steps why
+missing_why steps CaughtUp why some is gone = absurd gone
+missing_why steps StepLimit why some is gone = absurd (omega (arith, gone))
+missing_why steps Stopped why some is gone = absurd gone
+missing_why steps (Fault e) why some is gone =
+    let P : Option Why → Type 0 = λ o. IfSome o (λ y. MissingWhy steps y) in subst P is (some, gone.1)
+
+pub returns-then-not-make_room-clause-unknown : goal.returns-then-not-make_room-clause-unknown
+returns-then-not-make_room-clause-unknown g c lacks =
+    let same = c.loop-done.invariant.none (c.loop-done.invariant.missing lacks).1 in
+    (c.make_room.ensures.items ∙ same.0, c.next_number.ensures.next ∙ same.1, tt)
+
+pub returns-in-Some-clause-unknown : goal.returns-in-Some-clause-unknown
+returns-in-Some-clause-unknown g c lacks =
+    let K : Id → Type 0 = λ n. g.L.LogLink.lacks c.loop-done.link n in
+    let here = c.loop-done.invariant.missing lacks in
+    let same = c.loop-done.invariant.none here.1 in
+    let gone = c.deliver-ended.ensures.lacking (subst K (sym c.loop-done.invariant.log) here.0) in (
+      ap (λ (k : Kept). k.items.items) gone.1 ∙ c.make_room.ensures.items ∙ same.0,
+      c.next_number-in-Some.ensures.next ∙ gone.2 ∙ same.1,
+      missing_why c.args.steps c.deliver-ended.result c.in-Some.why (omega arith) (sym c.why.ensures ∙ c.in-Some.is) gone.0,
+    )
+
+pub returns-clause-unknown : goal.returns-clause-unknown
+returns-clause-unknown g c lacks =
+    let here = c.loop-done.invariant.missing lacks in
+    let same = c.loop-done.invariant.none here.1 in
+    (same.0, c.next_number-2.ensures.next ∙ same.1, omega (arith, here.1))

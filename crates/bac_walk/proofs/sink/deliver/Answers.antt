@@ -9,6 +9,7 @@ use Rattle.bac_walk.specs.Collects.{MissingEnd}
 use Rattle.bac_walk.proofs.Near.{fewer_steps, next_step}
 use Rattle.bac_walk.proofs.Runs.{no_delivery, join_delivers, delivers_early, headline_of}
 use Rattle.bac_walk.proofs.Told.{told_same}
+use Rattle.bac_walk.proofs.Window.{in_window_of}
 use Rattle.bac_walk.proofs.Joined.{no_into, into_joins, into_early, into_same}
 use Rattle.bac_walk.specs.Came.{BroughtInto}
 use Rattle.bac_link.specs.Path.{towards}
@@ -71,11 +72,19 @@ returns-in_default g c =
           (ap towards c.loop-done.invariant.route) c.loop-done.invariant.retries c.deliver_step.ensures.brought));
       told = told_same g.L.LogLink.asks (towards c.args.transactions.now.route) (towards c.loop-done.transactions.route) c.args.transactions.now.retries c.loop-done.transactions.retries
           c.deliver_step.result c.deliver_step.new.walk c.deliver_step.new.link (ap towards c.loop-done.invariant.route) c.loop-done.invariant.retries c.deliver_step.ensures.told;
-      headline = (
+      near = (
         delivers.0,
         delivers.1,
         headline_of was is c.args.transactions.now.retries (g.L.LogLink.failures c.args.link.now) (g.L.LogLink.failures c.deliver_step.new.link)
             c.args.walk.now c.deliver_step.new.walk c.args.steps c.deliver_step.result (put_items delivers.0) delivers.4,
+      );
+      headline = (
+        delivers.0,
+        delivers.1,
+        in_window_of was is c.args.walk.now c.deliver_step.new.walk c.args.steps (put_items delivers.0)
+            (λ r M H honest. g.met.L.LogLink.serves c.args.link.now c.args.walk.now.log r M H honest)
+            (headline_of was is c.args.transactions.now.retries (g.L.LogLink.failures c.args.link.now) (g.L.LogLink.failures c.deliver_step.new.link)
+            c.args.walk.now c.deliver_step.new.walk c.args.steps c.deliver_step.result (put_items delivers.0) delivers.4),
       );
       never_falls = omega (arith, c.loop-done.invariant.never_falls, c.deliver_step.ensures.never_falls);
       retries = c.deliver_step.ensures.retries ∙ c.loop-done.invariant.retries;
@@ -158,14 +167,28 @@ returns-clause-delivers g c =
     c.args.walk.now c.loop-done.walk n StepLimit in
     subst P all c.loop-done.invariant.delivers
 
-pub returns-clause-headline : goal.returns-clause-headline
+pub returns-clause-near : goal.returns-clause-near
 unfolding returns-clause-delivers
-returns-clause-headline g c =
+returns-clause-near g c =
     let d = returns-clause-delivers g c in (
       d.0,
       d.1,
       headline_of (λ r M H. g.L.LogLink.is_honest c.args.link.now c.args.walk.now.log r M H) (λ r M H. g.L.LogLink.is_honest c.loop-done.link c.args.walk.now.log r M H)
           c.args.transactions.now.retries (g.L.LogLink.failures c.args.link.now) (g.L.LogLink.failures c.loop-done.link) c.args.walk.now c.loop-done.walk c.args.steps StepLimit (put_items d.0) d.4,
+    )
+
+pub returns-clause-headline : goal.returns-clause-headline
+unfolding returns-clause-delivers
+returns-clause-headline g c =
+    let d = returns-clause-delivers g c in
+    let was : ℕ → List Moment → History → Type 0 = λ r M H. g.L.LogLink.is_honest c.args.link.now c.args.walk.now.log r M H in
+    let is : ℕ → List Moment → History → Type 0 = λ r M H. g.L.LogLink.is_honest c.loop-done.link c.args.walk.now.log r M H in (
+      d.0,
+      d.1,
+      in_window_of was is c.args.walk.now c.loop-done.walk c.args.steps (put_items d.0)
+          (λ r M H honest. g.met.L.LogLink.serves c.args.link.now c.args.walk.now.log r M H honest)
+          (headline_of was is c.args.transactions.now.retries (g.L.LogLink.failures c.args.link.now) (g.L.LogLink.failures c.loop-done.link)
+          c.args.walk.now c.loop-done.walk c.args.steps StepLimit (put_items d.0) d.4),
     )
 
 pub returns-clause-brought : goal.returns-clause-brought

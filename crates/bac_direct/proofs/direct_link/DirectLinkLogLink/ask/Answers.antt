@@ -41,3 +41,19 @@ returns-in-None-clause-kept c = λ id extent path invoke none asks. (
 pub returns-in-None-clause-answered : goal.returns-in-None-clause-answered
 returns-in-None-clause-answered c = λ id extent path invoke none asks.
     never_lost c.args.self.now.device.now c.args.self.now.events.now id extent path invoke c.args.request.now (Err lost) none.0 none.1 asks c.in-None.ensures.reply
+
+pub returns-in-Some-clause-asked : goal.returns-in-Some-clause-asked
+returns-in-Some-clause-asked c = (
+  (c.in-Some.ensures.reply, c.tell.ensures.device, c.tell.ensures.events, c.tell.ensures.sound),
+  λ id r M H extent path invoke ahead asks.
+      asked c.args.self.now.device.now c.tell.new.self.device.now c.args.self.now.events.now c.tell.new.self.events.now id r M H extent path invoke c.args.request.now
+      (Ok c.in-Some.datagram) c.tell.ensures.sound ahead asks c.in-Some.ensures.reply c.tell.ensures.device c.tell.ensures.events,
+)
+
+pub returns-in-None-clause-asked : goal.returns-in-None-clause-asked
+returns-in-None-clause-asked c = (
+  (c.in-None.ensures.reply, c.tell.ensures.device, c.tell.ensures.events, c.tell.ensures.sound),
+  λ id r M H extent path invoke ahead asks.
+      asked c.args.self.now.device.now c.tell.new.self.device.now c.args.self.now.events.now c.tell.new.self.events.now id r M H extent path invoke c.args.request.now
+      (Err lost) c.tell.ensures.sound ahead asks c.in-None.ensures.reply c.tell.ensures.device c.tell.ensures.events,
+)

@@ -1,5 +1,5 @@
 use Rattle.bac_direct.proofs.Routed.{tells_routed}
-use Rattle.bac_direct.proofs.laws.asks_through_routers_tell_honestly.Goals as goal
+use Rattle.bac_direct.proofs.laws.routed_asks_tell_honestly.Goals as goal
 
 pub returns : goal.returns
 returns g c = λ far near far_is near_is tells.
