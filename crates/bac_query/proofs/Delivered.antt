@@ -60,7 +60,7 @@ pub behind_first : (old mid new : Held) (text more : List ℕ) → Appends old m
 behind_first old mid new text more first (written, rest, split, appended) =
     (text ++ written, rest, ap (λ t. text ++ t) split ∙ sym (append_assoc text written rest), Appends-trans old mid new text written first appended)
 
-part_of_longer : (old new : Held) (text more : List ℕ) → AppendsPart old new text → AppendsPart old new (text ++ more)
+pub part_of_longer : (old new : Held) (text more : List ℕ) → AppendsPart old new text → AppendsPart old new (text ++ more)
 part_of_longer old new text more (written, rest, split, appended) =
     (written, rest ++ more, ap (λ t. t ++ more) split ∙ append_assoc written rest more, appended)
 

@@ -1,3 +1,6 @@
 pub mod Lines
 pub mod Delivered
 pub mod CameOver
+pub mod Maps
+pub mod Pending
+pub mod RunsAhead

@@ -2,3 +2,4 @@ pub mod Values
 pub mod Reading
 pub mod Fetching
 pub mod Writing
+pub mod Ahead

@@ -97,7 +97,12 @@ fn deliver_lines<L: LogLink>(
 }
 
 /// Prints the line of a walk's end.
-fn end<W: Write>(lines: &mut Lines, why: Why, next: u32, out: &mut W) -> Result<Fetched, QueryFault>
+pub(crate) fn end<W: Write>(
+    lines: &mut Lines,
+    why: Why,
+    next: u32,
+    out: &mut W,
+) -> Result<Fetched, QueryFault>
     ensures { PrintsEnd why next result (W.contents out.old) (W.contents out.new) }
 {
     lines.text.clear();

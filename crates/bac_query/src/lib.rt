@@ -5,8 +5,10 @@
 //! front part of it if a write was refused, and nothing else.
 #![tactic(auto)]
 
+mod ahead;
 mod fault;
 mod fetching;
+mod fetching_ahead;
 mod reading;
 mod record_lines;
 mod values;
@@ -14,6 +16,7 @@ mod writing;
 
 pub use fault::QueryFault;
 pub use fetching::{Fetched, fetch_log};
+pub use fetching_ahead::fetch_log_ahead;
 pub use reading::read_property;
 pub use values::push_values;
 pub use writing::write_property;

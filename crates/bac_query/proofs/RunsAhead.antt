@@ -1,0 +1,293 @@
+-- Runs over a link whose lines are printed later, and how they end.
+use Rattle.std.proofs.Common.{Bool, true, Option, Result, [], ◌∷◌, append_assoc, append-nil, ◌≡◌, ◌≢◌, ◌+◌, ◌<◌, ◌≤◌, ℕ, false, inl, inr, Some, Ok, Err, List, ◌++◌, length, refl, sym, subst, ◌∙◌, ap, arith, length-append}
+use Rattle.std.specs.Io.KnownBytes.{Appends}
+use Rattle.std.proofs.KnownBytes.{Appends-kept, Appends-trans, Keeps-refl}
+use Rattle.bac_link.specs.Path.{Path}
+use Rattle.bac_link.specs.declared.item.Item.{Item}
+use Rattle.bac_print.specs.Output.{AppendsPart}
+use Rattle.bac_report.specs.Ends.{end_line}
+use Rattle.bac_report.specs.Items.{items_text}
+use Rattle.bac_link.specs.declared.link.Lost.{Lost as Loss}
+use Rattle.bac_walk.specs.Came.{Came, Brought, BroughtInto}
+use Rattle.bac_walk.specs.Walks.{gap_items, item_of}
+use Rattle.bac_walk.specs.declared.batch.Gap.{Gap as GapOf}
+use Rattle.bac_walk.specs.declared.batch.Numbered.{Numbered}
+use Rattle.bac_walk.specs.Outcomes.{IsRunOf, why_of}
+use Rattle.bac_walk.specs.Place.{WalkPlace}
+use Rattle.bac_walk.specs.Sinks.{Call, Delivery, Takes, is_stopped, put_items}
+use Rattle.bac_walk.specs.Told.{Told}
+use Rattle.bac_walk.specs.declared.outcome.Ended.{Ended}
+use Rattle.bac_walk.specs.declared.outcome.Ended.TheVariants.{CaughtUp, StepLimit, Stopped, Fault}
+use Rattle.bac_walk.specs.declared.outcome.Why.{Why}
+use Rattle.bac_walk.specs.declared.outcome.Why.TheVariants as why
+use Rattle.bac_walk.proofs.Came.{brought_delivers}
+use Rattle.bac_walk.proofs.Joined.{brought_early, brought_joins, no_brought}
+use Rattle.bac_walk.proofs.Runs.{join_runs, no_run, run_early}
+use Rattle.bac_walk.proofs.Keeps.{put_length}
+use Rattle.bac_walk.proofs.Told.{Asking}
+use Rattle.bac_query.proofs.Maps.{Maps, brought_keeps, brought_maps, told_maps}
+use Rattle.bac_query.proofs.Pending.{prints_goes, prints_itself}
+use Rattle.bac_query.specs.Ahead.{FetchesAhead, IsLeftAhead, IsRunOver, Pending, PrintsLast, PrintsLeft, PrintsOn, PrintsRun, never}
+use Rattle.bac_query.specs.Fetching.{EndsAs, Fetching, PrintsEnd, PrintsItems, TellsRun}
+use Rattle.bac_query.specs.Reading.{Held}
+use Rattle.bac_query.specs.declared.fault.QueryFault.{QueryFault}
+use Rattle.bac_query.specs.declared.fault.QueryFault.TheVariants.{Exchange, Write, Memory}
+use Rattle.bac_query.proofs.CameOver.{tells_end}
+use Rattle.bac_query.proofs.Delivered.{behind_first, items_text-append, not_stopped, part_of_longer}
+
+-- ---- runs
+
+pub none_over : {S : Type 0} (asks : Asking S) (path : Path) (retries : ℕ) (link : S) (w : WalkPlace) → IsRunOver asks path retries link w 0 [] StepLimit w link
+none_over asks path retries link w =
+    (no_brought asks path retries link w, ([], λ on. refl, no_run never retries 0 w, omega arith, λ e. omega arith), tt)
+
+pub limit_on : StepLimit ≢ Stopped
+limit_on e = cc
+
+pub over_joins : {S : Type 0} (asks : Asking S) (path : Path) (retries : ℕ) (link half new : S) (w mid after : WalkPlace) (n k : ℕ) (xs ys : List Item) (ended : Ended) →
+    IsRunOver asks path retries link w n xs StepLimit mid half → IsRunOver asks path retries half mid k ys ended after new →
+    IsRunOver asks path retries link w (n + k) (xs ++ ys) ended after new
+over_joins asks path retries link half new w mid after n k xs ys ended (brought, (us, same, run, few, many), told) (more, (vs, as_well, goes, less, enough), last) =
+    let joined = length-append us vs in (
+      brought_joins asks path retries link half new w mid after n k xs ys ended brought more,
+      (
+        us ++ vs,
+        λ on. ap (λ l. l ++ vs) (same limit_on) ∙ ap (λ l. xs ++ l) (as_well on),
+        join_runs never never never retries 0 0 0 w mid after n k ended us vs run goes (omega arith),
+        omega (arith, joined, few, less),
+        λ limit. omega (arith, joined, many refl, enough limit),
+      ),
+      last,
+    )
+
+pub over_early : {S : Type 0} (asks : Asking S) (path : Path) (retries : ℕ) (link new : S) (w after : WalkPlace) (n steps : ℕ) (xs : List Item) (ended : Ended) → ended ≢ StepLimit → n ≤ steps →
+    IsRunOver asks path retries link w n xs ended after new → IsRunOver asks path retries link w steps xs ended after new
+over_early asks path retries link new w after n steps xs ended other le (brought, (us, same, run, few, many), told) = (
+  brought_early asks path retries link new w after n steps xs ended other le brought,
+  (
+    us,
+    same,
+    run_early never never retries 0 0 w after n steps ended us other le run,
+    omega (arith, le, few),
+    λ limit. absurd (other limit),
+  ),
+  told,
+)
+
+-- with as many retries and by the same networks
+pub over_same : {S : Type 0} (asks : Asking S) (path way : Path) (retries tries : ℕ) (link new : S) (w after : WalkPlace) (n : ℕ) (xs : List Item) (ended : Ended) → way ≡ path → tries ≡ retries →
+    IsRunOver asks way tries link w n xs ended after new → IsRunOver asks path retries link w n xs ended after new
+over_same asks path way retries tries link new w after n xs ended same_path same_retries run =
+    let P : Path → Type 0 = λ q. IsRunOver asks q tries link w n xs ended after new in
+    let Q : ℕ → Type 0 = λ k. IsRunOver asks path k link w n xs ended after new in
+    subst Q same_retries (subst P same_path run)
+
+-- ---- what is told of them
+
+tells_items : (left : Why → Type 0) (items : List Item) (steps n : ℕ) (ended : Ended) (after : WalkPlace) (result : Fetching) (old new : Held) →
+    TellsRun left items steps n ended after result old new → PrintsItems items result old new
+tells_items left items steps n ended after (Ok done) old new (is, here, all) = all
+tells_items left items steps n ended after (Err Write) old new (inl (le, here, part)) =
+    (why.CaughtUp, 0, part_of_longer old new (items_text items) (end_line why.CaughtUp 0) part)
+tells_items left items steps n ended after (Err Write) old new (inr (cause, next, is, here, part)) = (cause, next, part)
+tells_items left items steps n ended after (Err Memory) old new (cause, next, is, here, all) = all
+tells_items left items steps n ended after (Err (Exchange fault)) old new none = absurd none
+
+tells_ends : (left : Why → Type 0) (items : List Item) (steps n : ℕ) (ended : Ended) (after : WalkPlace) (result : Fetching) (old new : Held) → n ≤ steps →
+    TellsRun left items steps n ended after result old new → EndsAs items steps n ended after result old new
+tells_ends left items steps n ended after (Ok done) old new few (is, here, all) = is
+tells_ends left items steps n ended after (Err Write) old new few (inl (le, here, part)) = (few, inl part)
+tells_ends left items steps n ended after (Err Write) old new few (inr (cause, next, is, here, part)) = (few, inr (cause, next, is, part))
+tells_ends left items steps n ended after (Err Memory) old new few (cause, next, is, here, all) = (cause, next, is)
+tells_ends left items steps n ended after (Err (Exchange fault)) old new few none = absurd none
+
+-- both that a caller learns
+abbrev pub Learns : {S : Type 0} → Asking S → Path → ℕ → S → WalkPlace → ℕ → Fetching → ℕ → ℕ → S → Held → Held → Type 0
+Learns {S = S} asks path retries link walk steps result failures more left old new =
+    FetchesAhead asks path retries link walk steps result left old new
+    × PrintsRun asks path retries walk steps result failures more left old new
+
+learns_both : {S : Type 0} (asks : Asking S) (path : Path) (retries : ℕ) (link mid left : S) (walk after : WalkPlace) (steps n : ℕ) (items : List Item) (ended : Ended) (result : Fetching) (failures more : ℕ) (old new : Held) →
+    n ≤ steps → (run : IsRunOver asks path retries link walk n items ended after mid) → Told asks path retries ended after left →
+    TellsRun (λ cause. IsLeftAhead asks path retries mid after left cause) items steps n ended after result old new →
+    TellsRun (λ cause. IsLeftAhead asks path retries mid after left cause) run.1.0 steps n ended after result old new →
+    Learns asks path retries link walk steps result failures more left old new
+learns_both asks path retries link mid left walk after steps n items ended result failures more old new few (brought, (us, same, run, less, many), last) told tells covers =
+    let here : Why → Type 0 = λ cause. IsLeftAhead asks path retries mid after left cause in (
+      (
+        brought.0,
+        items,
+        n,
+        ended,
+        after,
+        mid,
+        brought.1,
+        tells,
+        λ H M low s said at some back window place.
+            brought_delivers asks path retries link mid walk after n brought.0 items ended H M low s brought.1 said at some back window place,
+      ),
+      (
+        us,
+        tells_items here us steps n ended after result old new covers,
+        (
+          n,
+          ended,
+          after,
+          tells_ends here us steps n ended after result old new few covers,
+          ((run.0, λ r M H s honest. absurd honest), less, many),
+          told,
+        ),
+      ),
+    )
+
+learns : {S : Type 0} (asks : Asking S) (path : Path) (retries : ℕ) (link mid left : S) (walk after : WalkPlace) (steps n : ℕ) (items : List Item) (ended : Ended) (result : Fetching) (failures more : ℕ) (old new : Held) →
+    n ≤ steps → ended ≢ Stopped → IsRunOver asks path retries link walk n items ended after mid → Told asks path retries ended after left →
+    TellsRun (λ cause. IsLeftAhead asks path retries mid after left cause) items steps n ended after result old new →
+    Learns asks path retries link walk steps result failures more left old new
+learns asks path retries link mid left walk after steps n items ended result failures more old new few on run told tells =
+    let P : List Item → Type 0 = λ l. TellsRun (λ cause. IsLeftAhead asks path retries mid after left cause) l steps n ended after result old new in
+    learns_both asks path retries link mid left walk after steps n items ended result failures more old new few run told tells (subst P (sym (run.1.1 on)) tells)
+
+-- ---- how they end
+
+-- All lines were printed; what came after them wasn't, since there was no memory for it.
+pub without_lines : {S : Type 0} (asks : Asking S) (path : Path) (retries : ℕ) (link mid new : S) (walk w after : WalkPlace) (steps n j : ℕ) (items more : List Item) (ended : Ended) (next : ℕ)
+    (result : Fetching) (failures over : ℕ) (old half out : Held) →
+    IsRunOver asks path retries link walk n items StepLimit w mid → n < steps → next ≡ w.next → IsRunOver asks path retries mid w j more ended after new → j ≤ 2 →
+    Appends old half (items_text items) → PrintsEnd why.Memory next result half out →
+    Learns asks path retries link walk steps result failures over new old out
+without_lines asks path retries link mid new walk w after steps n j items more ended next result failures over old half out run few at last two printed end =
+    learns asks path retries link mid new walk w steps n items StepLimit result failures over old out (omega (arith, few)) limit_on run tt
+    (tells_end (λ cause. IsLeftAhead asks path retries mid w new cause) items steps n StepLimit w why.Memory next result old half out (few, refl) at
+    (j, last.0.0, more, ended, after, two, last.0.1) printed end)
+
+-- the lines were printed, and those of more items
+pub more_printed : (items more : List Item) (old mid new : Held) → Appends old mid (items_text items) → Appends mid new (items_text more) → Appends old new (items_text (items ++ more))
+more_printed items more old mid new first last =
+    let P : List ℕ → Type 0 = λ t. Appends old new t in
+    subst P (sym (items_text-append items more)) (Appends-trans old mid new (items_text items) (items_text more) first last)
+
+-- or a front part of those
+pub part_printed : (items more : List Item) (old mid new : Held) → Appends old mid (items_text items) → AppendsPart mid new (items_text more) → AppendsPart old new (items_text (items ++ more))
+part_printed items more old mid new first last =
+    let P : List ℕ → Type 0 = λ t. AppendsPart old new t in
+    subst P (sym (items_text-append items more)) (behind_first old mid new (items_text items) (items_text more) first last)
+
+-- of whole steps, with more that came
+pub part_longer : (items more : List Item) (old new : Held) → AppendsPart old new (items_text items) → AppendsPart old new (items_text (items ++ more))
+part_longer items more old new part =
+    let P : List ℕ → Type 0 = λ t. AppendsPart old new t in
+    subst P (sym (items_text-append items more)) (part_of_longer old new (items_text items) (items_text more) part)
+
+-- a write of lines was refused, and one step more came
+pub refused_lines : {S : Type 0} (asks : Asking S) (path : Path) (retries : ℕ) (link mid new : S) (walk w after : WalkPlace) (steps n j : ℕ) (items last : List Item) (ended : Ended)
+    (result : Fetching) (failures over : ℕ) (old out : Held) →
+    IsRunOver asks path retries link walk n items StepLimit w mid → IsRunOver asks path retries mid w j last ended after new → n + j ≤ steps → result ≡ Err Write →
+    AppendsPart old out (items_text items) → Learns asks path retries link walk steps result failures over new old out
+unfolding over_joins
+refused_lines asks path retries link mid new walk w after steps n j items last ended result failures over old out first rest few is part =
+    let P : Fetching → Type 0 = λ r. Learns asks path retries link walk steps r failures over new old out in
+    let all = over_joins asks path retries link mid new walk w after n j items last ended first rest in
+    let Q : List Item → Type 0 = λ l. AppendsPart old out (items_text (l ++ rest.1.0)) in
+    subst P (sym is) (learns_both asks path retries link new new walk after steps (n + j) (items ++ last) ended (Err Write) failures over old out few all all.2
+    (inl (few, refl, part_longer items last old out part)) (inl (few, refl, subst Q (sym (first.1.1 limit_on)) (part_longer items rest.1.0 old out part))))
+
+-- a step failed beside which lines were to be printed
+pub fails : {S : Type 0} (asks : Asking S) (path : Path) (retries : ℕ) (link mid half new : S) (walk w here after : WalkPlace) (steps n k : ℕ) (items left last : List Item) (ended : Ended) (told : ℕ) (fault : QueryFault)
+    (failures over : ℕ) (old now out : Held) →
+    IsRunOver asks path retries link walk n items StepLimit w mid → IsRunOver asks path retries mid w k left StepLimit here half → IsRunOver asks path retries half here 1 last ended after new →
+    n + k < steps → k ≤ 1 → told ≡ w.next → Appends old now (items_text items) → PrintsLeft {A = Ended} left (Err fault) now out →
+    Learns asks path retries link walk steps (Err fault) failures over new old out
+fails asks path retries link mid half new walk w here after steps n k items left last ended told Write failures over old now out first second third few one at printed part =
+    refused_lines asks path retries link half new walk here after steps (n + k) 1 (items ++ left) last ended (Err Write) failures over old out
+    (over_joins asks path retries link mid half walk w here n k items left StepLimit first second) third (omega (arith, few)) refl (part_printed items left old now out printed part)
+fails asks path retries link mid half new walk w here after steps n k items left last ended told Memory failures over old now out first second third few one at printed (some, kept) =
+    without_lines asks path retries link mid new walk w after steps n (k + 1) items (left ++ last) ended told (Err Memory) failures over old out out first (omega (arith, few)) at
+    (over_joins asks path retries mid half new w here after k 1 left last ended second third) (omega (arith, one)) (Appends-kept old now out (items_text items) printed kept) (Keeps-refl out)
+fails asks path retries link mid half new walk w here after steps n k items left last ended told (Exchange fault) failures over old now out first second third few one at printed none = absurd none
+
+-- a run that isn't stopped left the link as it is
+pub whole_ahead : {S : Type 0} (asks : Asking S) (path : Path) (retries : ℕ) (mid : S) (here : WalkPlace) (ended : Ended) (cause : Why) → is_stopped ended ≡ false → why_of ended ≡ Some cause →
+    IsLeftAhead asks path retries mid here mid cause
+whole_ahead asks path retries mid here ended why.CaughtUp on is = refl
+whole_ahead asks path retries mid here ended why.StepLimit on is = refl
+whole_ahead asks path retries mid here ended (why.Fault fault) on is = refl
+whole_ahead asks path retries mid here CaughtUp why.Memory on is = absurd (cc)
+whole_ahead asks path retries mid here StepLimit why.Memory on is = absurd (cc)
+whole_ahead asks path retries mid here Stopped why.Memory on is = absurd (cc)
+whole_ahead asks path retries mid here (Fault e) why.Memory on is = absurd (cc)
+
+-- the lines of the last step are printed, and the end line, as far as there is memory and no write is refused
+pub finishes : {S : Type 0} (asks : Asking S) (path : Path) (retries : ℕ) (link mid new : S) (walk w after : WalkPlace) (steps n j whole : ℕ) (items last : List Item) (ended : Ended) (cause : Why) (next told : ℕ)
+    (result : Fetching) (failures over : ℕ) (old half out : Held) →
+    IsRunOver asks path retries link walk n items StepLimit w mid → IsRunOver asks path retries mid w j last ended after new → ended ≢ Stopped →
+    IsRunOver asks path retries link walk whole (items ++ last) ended after new → whole ≤ steps → IsRunOf cause steps whole ended → IsLeftAhead asks path retries new after new cause →
+    n + j ≤ steps → j ≤ 1 → next ≡ after.next → told ≡ w.next → Appends old half (items_text items) → PrintsLast last cause next told result half out →
+    Learns asks path retries link walk steps result failures over new old out
+finishes asks path retries link mid new walk w after steps n j whole items last ended cause next told result failures over old half out first rest on all few ends left sum one at before printed (inl (now, more, end)) =
+    learns asks path retries link new new walk after steps whole (items ++ last) ended result failures over old out few on all all.2
+    (tells_end (λ c. IsLeftAhead asks path retries new after new c) (items ++ last) steps whole ended after cause next result old now out ends at left
+    (more_printed items last old half now printed more) end)
+finishes asks path retries link mid new walk w after steps n j whole items last ended cause next told result failures over old half out first rest on all few ends left sum one at before printed (inr (inl (now, some, kept, end))) =
+    let same = ap length (rest.1.1 on) in
+    without_lines asks path retries link mid new walk w after steps n j items last ended told result failures over old now out first (omega (arith, some, same, rest.1.3, sum)) before rest (omega (arith, one))
+    (Appends-kept old half now (items_text items) printed kept) end
+finishes asks path retries link mid new walk w after steps n j whole items last ended cause next told result failures over old half out first rest on all few ends left sum one at before printed (inr (inr (is, part))) =
+    let P : Fetching → Type 0 = λ r. Learns asks path retries link walk steps r failures over new old out in
+    subst P (sym is) (learns asks path retries link new new walk after steps whole (items ++ last) ended (Err Write) failures over old out few on all all.2
+    (inl (few, refl, part_printed items last old half out printed part)))
+
+-- ---- one step
+
+-- what a sink that keeps items states of a put
+abbrev pub Fills : {K : Type 0} → (K → List Item) → K → Option GapOf → Numbered → Bool → K → Type 0
+Fills items old gap item taken new = taken ≡ true → items new ≡ items old ++ (gap_items gap ++ item_of item ∷ [])
+
+all_filled : {K : Type 0} (items : K → List Item) (old : K) (calls : List Call) (new : K) →
+    Takes (λ s gap item taken t. Fills items s gap item taken t) old calls false new → items new ≡ items old ++ put_items calls
+all_filled items old [] new taken = ap items taken.0 ∙ sym (append-nil (items old))
+all_filled items old (c ∷ calls) new (inl last) = absurd (let e = last.2 in cc)
+all_filled items old (c ∷ calls) new (inr (mid, put, rest)) =
+    let here = gap_items c.gap ++ item_of c.record_put ∷ [] in
+    all_filled items mid calls new rest
+    ∙ ap (λ l. l ++ put_items calls) (put refl)
+    ∙ append_assoc (items old) here (put_items calls)
+    ∙ ap (λ l. items old ++ l) (append_assoc (gap_items c.gap) (item_of c.record_put ∷ []) (put_items calls))
+
+filled_whole : {K : Type 0} (items : K → List Item) (old : K) (calls : List Call) (new : K) (ended : Ended) → items old ≡ [] →
+    Takes (λ s gap item taken t. Fills items s gap item taken t) old calls (is_stopped ended) new → ended ≢ Stopped → items new ≡ put_items calls
+filled_whole items old calls new ended none taken on =
+    let P : Bool → Type 0 = λ b. Takes (λ s gap item t u. Fills items s gap item t u) old calls b new in
+    all_filled items old calls new (subst P (not_stopped ended on) taken) ∙ ap (λ l. l ++ put_items calls) none
+
+-- what a step into such a sink brought, seen over the link below
+pub over_step : {S T K : Type 0} (f : S → T) (asks : Asking S) (other : Asking T) → Maps f asks other → (items : K → List Item) (path : Path) (retries failures more : ℕ)
+    (old new : S) (sink left : K) (w after : WalkPlace) (ended : Ended) → items sink ≡ [] →
+    BroughtInto asks path retries (λ s gap item taken t. Fills items s gap item taken t) old sink w 1 ended after left new →
+    Delivery (λ s gap item taken t. Fills items s gap item taken t) sink left never never retries failures more w after 1 ended → Told asks path retries ended after new →
+    (brought : List Item) × (ended ≢ Stopped → items left ≡ brought) × IsRunOver other path retries (f old) w 1 brought ended after (f new)
+over_step f asks other maps items path retries failures more old new sink left w after ended none (calls, taken, few, gap, brought) (again, as_well, less, gaps, run, enough) told = (
+  put_items calls,
+  filled_whole items sink calls left ended none taken,
+  (
+    brought_maps f asks other maps path retries old w 1 (put_items calls) ended after new brought,
+    (
+      put_items again,
+      λ on. sym (filled_whole items sink again left ended none as_well on) ∙ filled_whole items sink calls left ended none taken on,
+      (run.0, λ r M H s honest. absurd honest),
+      omega (arith, put_length again, less, gaps),
+      λ limit. omega (arith, put_length again, enough limit),
+    ),
+    told_maps f asks other maps path retries ended after new told,
+  ),
+)
+
+-- what is printed beside a run
+pub beside : {S A B : Type 0} (asks : Asking S) (pend : S → Pending) (link : S → A) (out : S → B) →
+    ((a b : S) (octets : List ℕ) (answer : Result (List ℕ) Loss) → asks a octets answer b → PrintsOn (pend a) (pend b) × (link b ≡ link a) × (out b ≡ out a)) →
+    (path : Path) (retries : ℕ) (old : S) (before : WalkPlace) (steps : ℕ) (came : List Came) (items : List Item) (ended : Ended) (after : WalkPlace) (new : S) →
+    Brought asks path retries old before steps came items ended after new → PrintsOn (pend old) (pend new) × (link new ≡ link old) × (out new ≡ out old)
+beside {S = S} asks pend link out each path retries old before steps came items ended after new brought =
+    let R : S → S → Type 0 = λ a b. PrintsOn (pend a) (pend b) × (link b ≡ link a) × (out b ≡ out a) in
+    brought_keeps R asks (λ a. (prints_itself (pend a), refl, refl))
+    (λ a b c h k. (prints_goes (pend a) (pend b) (pend c) h.0 k.0, k.1 ∙ h.1, k.2 ∙ h.2)) each path retries old before steps came items ended after new brought

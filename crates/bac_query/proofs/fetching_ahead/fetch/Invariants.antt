@@ -1,0 +1,24 @@
+use Rattle.std.proofs.Common.{◌≡◌, ◌+◌, ◌≤◌, ℕ, false, List}
+use Rattle.std.specs.Io.KnownBytes.{Appends}
+use Rattle.bac_link.specs.declared.item.Item.{Item}
+use Rattle.bac_link.specs.Path.{towards}
+use Rattle.bac_report.specs.Items.{items_text}
+use Rattle.bac_walk.specs.Place.{WalkPlace}
+use Rattle.bac_walk.specs.declared.outcome.Ended.TheVariants.{StepLimit}
+use Rattle.bac_query.specs.Ahead.{IsRunOver, port_asks}
+use Rattle.bac_query.proofs.fetching_ahead.fetch.Given as goal
+
+-- so far it was a run of so many steps, and the lines of all were written but for those of the last step, which are left
+abbrev pub invariant-loop-done : goal.invariant-loop-done
+invariant-loop-done g l = record {
+  well : l.ahead.is_refused ≡ false;
+  same_link : l.ahead.link.ghost_name ≡ l.fn.ahead.link.ghost_name;
+  same_out : l.ahead.out.ghost_name ≡ l.fn.ahead.out.ghost_name;
+  retries : l.transactions.retries ≡ l.fn.transactions.retries;
+  route : l.transactions.route ≡ l.fn.transactions.route;
+  so_far : (items : List Item) × (n : ℕ) × (k : ℕ) × (mid : _) × (w : WalkPlace)
+      × IsRunOver (port_asks g.P.Port.sends g.P.Port.receives) (towards l.fn.transactions.route) l.fn.transactions.retries l.fn.ahead.link.now l.fn.walk n items StepLimit w mid
+      × IsRunOver (port_asks g.P.Port.sends g.P.Port.receives) (towards l.fn.transactions.route) l.fn.transactions.retries mid w k l.ahead.left.now.items StepLimit l.walk l.ahead.link.now
+      × (n + k ≡ l.done) × (k ≤ 1) × (l.told ≡ w.next)
+      × Appends (g.W.Write.contents l.fn.ahead.out.now) (g.W.Write.contents l.ahead.out.now) (items_text items);
+}

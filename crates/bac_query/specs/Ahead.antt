@@ -1,0 +1,123 @@
+-- What is printed while an answer is waited for, and what fetching a log so prints. Read from the end.
+use Rattle.std.specs.Prelude.{◌≡◌, ◌≢◌, ℕ, ◌*◌, ◌<◌, ◌≤◌, Bool, true, false, ◌⊎◌, List, [], length, Result, Ok, Err}
+use Rattle.std.specs.Io.KnownBytes.{Appends, Keeps}
+use Rattle.bac_link.specs.Delivery.{History, Moment}
+use Rattle.bac_link.specs.Path.{Path}
+use Rattle.bac_link.specs.declared.item.Item.{Item}
+use Rattle.bac_link.specs.declared.link.Lost.{Lost}
+use Rattle.bac_ports.specs.Asking.{Asks}
+use Rattle.bac_ports.specs.Port.{Receiving, Sending}
+use Rattle.bac_ports.specs.declared.udp_link.UdpLink.{UdpLink}
+use Rattle.bac_print.specs.Output.{AppendsPart}
+use Rattle.bac_report.specs.Items.{items_text}
+use Rattle.bac_walk.specs.Came.{Came, Brought}
+use Rattle.bac_walk.specs.Place.{WalkPlace}
+use Rattle.bac_walk.specs.Sinks.{IsRun}
+use Rattle.bac_walk.specs.Told.{Told}
+use Rattle.bac_walk.specs.declared.outcome.Ended.{Ended}
+use Rattle.bac_walk.specs.declared.outcome.Ended.TheVariants.{StepLimit, Stopped}
+use Rattle.bac_walk.specs.declared.outcome.Why.{Why}
+use Rattle.bac_walk.specs.declared.outcome.Why.TheVariants as why
+use Rattle.bac_query.specs.Fetching.{EndsAs, Fetching, IsFetched, IsHeadline, PrintsEnd, PrintsItems, TellsRun}
+use Rattle.bac_query.specs.Reading.{Held}
+use Rattle.bac_query.specs.declared.fault.QueryFault.{QueryFault}
+use Rattle.bac_query.specs.declared.fault.QueryFault.TheVariants.{Exchange, Write, Memory}
+
+-- ---- beside one exchange
+
+-- what is left to be printed, and what the output holds; or a write was refused
+pub record Pending : Type 0 where
+  pub is_refused : Bool
+  pub left : List Item
+  pub held : Held
+
+-- the three together
+abbrev pub pending : Bool → List Item → Held → Pending
+pending refused left held = record { is_refused = refused; left = left; held = held }
+
+-- a write of the lines that were left was refused; or they were written; or none of them yet
+abbrev pub PrintsTo : Bool → List Item → Held → List Item → Held → Type 0
+PrintsTo true left old rest new = AppendsPart old new (items_text left)
+PrintsTo false left old rest new =
+    ((rest ≡ left) × Keeps old new) ⊎ ((rest ≡ []) × Appends old new (items_text left))
+
+-- once a write was refused nothing more is written
+abbrev pub PrintsFrom : Bool → List Item → Held → Pending → Type 0
+PrintsFrom true left old new = (new.is_refused ≡ true) × (new.left ≡ left) × Keeps old new.held
+PrintsFrom false left old new = PrintsTo new.is_refused left old new.left new.held
+
+-- what was left is printed, once, as far as no write is refused; or it is left still
+abbrev pub PrintsOn : Pending → Pending → Type 0
+PrintsOn old new = PrintsFrom old.is_refused old.left old.held new
+
+-- an ask over a port: the request is sent once to the peer, and at most 16 datagrams are taken, up to the first one
+-- that comes from the peer and answers it
+abbrev pub port_asks : {P : Type 0} → (P → List ℕ → List ℕ → Sending → P → Type 0) → (P → Receiving → P → Type 0) →
+    UdpLink P → List ℕ → Result (List ℕ) Lost → UdpLink P → Type 0
+port_asks sends receives old octets answer new =
+    Asks sends receives old.peer octets 16 old.port answer new.port × (new.peer ≡ old.peer)
+
+-- the lines that were left were written; or a write was refused; or there was no memory for them
+abbrev pub PrintsLeft : {A : Type 0} → List Item → Result A QueryFault → Held → Held → Type 0
+PrintsLeft left (Ok done) old new = Appends old new (items_text left)
+PrintsLeft left (Err Write) old new = AppendsPart old new (items_text left)
+PrintsLeft left (Err Memory) old new = (0 < length left) × Keeps old new
+PrintsLeft left (Err (Exchange fault)) old new = ⊥
+
+-- ---- a run
+
+-- of a link that is claimed to be honest for no log
+abbrev pub never : ℕ → List Moment → History → Type 0
+never r M H = ⊥
+
+-- A run of at most so many steps: what it brought; and that its items, all of them if it wasn't stopped, cover all
+-- between the places, and how many they are; and what it was told last.
+abbrev pub IsRunOver : {S : Type 0} → (S → List ℕ → Result (List ℕ) Lost → S → Type 0) →
+    Path → ℕ → S → WalkPlace → ℕ → List Item → Ended → WalkPlace → S → Type 0
+IsRunOver {S = S} asks path retries old before n items ended after new =
+    ((came : List Came) × Brought asks path retries old before n came items ended after new)
+    × ((covered : List Item) × (ended ≢ Stopped → covered ≡ items)
+    × IsRun never never retries 0 0 before after n ended covered
+    × (length covered ≤ 101 * n) × (ended ≡ StepLimit → n ≤ length covered))
+    × Told asks path retries ended after new
+
+-- The lines that were left, and then the end line; or without memory for those lines the end line that says so, and
+-- told is the number before them; or a write of them was refused.
+abbrev pub PrintsLast : List Item → Why → ℕ → ℕ → Fetching → Held → Held → Type 0
+PrintsLast left cause next told result old new =
+    ((mid : Held) × Appends old mid (items_text left) × PrintsEnd cause next result mid new)
+    ⊎ (((mid : Held) × (0 < length left) × Keeps old mid × PrintsEnd why.Memory told result mid new)
+    ⊎ ((result ≡ Err Write) × AppendsPart old new (items_text left)))
+
+-- The link after a run that left the walk here and ended for this. It is as the run left it; but if there was no memory
+-- for the lines of a reply, that reply came too, and the one after it, if there was memory for its records: the link is
+-- at most two steps further than the lines.
+abbrev pub IsLeftAhead : {S : Type 0} → (S → List ℕ → Result (List ℕ) Lost → S → Type 0) →
+    Path → ℕ → S → WalkPlace → S → Why → Type 0
+IsLeftAhead asks path retries mid here new why.CaughtUp = new ≡ mid
+IsLeftAhead asks path retries mid here new why.StepLimit = new ≡ mid
+IsLeftAhead asks path retries mid here new (why.Fault fault) = new ≡ mid
+IsLeftAhead asks path retries mid here new why.Memory =
+    (steps : ℕ) × (came : List Came) × (items : List Item) × (ended : Ended) × (after : WalkPlace) × (steps ≤ 2)
+    × Brought asks path retries mid here steps came items ended after new
+
+-- Fetching from a place on, over any link, each question asked before the lines of the reply before it are printed:
+-- replies came, one after the other, from this link on; what is printed are the lines of the items that they brought,
+-- and the end of their run; and if they say what one log holds, those are the headline's.
+abbrev pub FetchesAhead : {S : Type 0} → (S → List ℕ → Result (List ℕ) Lost → S → Type 0) →
+    Path → ℕ → S → WalkPlace → ℕ → Fetching → S → Held → Held → Type 0
+FetchesAhead {S = S} asks path retries link walk steps result left old new =
+    (came : List Came) × (items : List Item) × (n : ℕ) × (ended : Ended) × (after : WalkPlace) × (mid : S)
+    × Brought asks path retries link walk n came items ended after mid
+    × TellsRun (λ cause. IsLeftAhead asks path retries mid after left cause) items steps n ended after result old new
+    × IsHeadline walk came items ended after
+
+-- The items are those of a run of this walk, at most so many steps, over a link that nobody claims to be honest; the
+-- last exchange over the link told why it ended.
+abbrev pub PrintsRun : {S : Type 0} → (S → List ℕ → Result (List ℕ) Lost → S → Type 0) →
+    Path → ℕ → WalkPlace → ℕ → Fetching → ℕ → ℕ → S → Held → Held → Type 0
+PrintsRun {S = S} asks path retries walk steps result failures more left old new =
+    (items : List Item) × PrintsItems items result old new
+    × ((n : ℕ) × (ended : Ended) × (after : WalkPlace) × EndsAs items steps n ended after result old new
+    × IsFetched never retries failures more walk after n ended items
+    × Told asks path retries ended after left)

@@ -1,0 +1,136 @@
+//! Fetching the records of a trend log, whose lines are printed while the next answer is waited for.
+
+ghost use Rattle.std.specs.Prelude.{◌≡◌, ◌≢◌, [], false, List, IfOk, OnOk};
+ghost use Rattle.bac_link.specs.Path.{towards};
+ghost use Rattle.bac_link.specs.declared.item.Item.{Item as ItemOf};
+ghost use Rattle.bac_walk.specs.declared.outcome.Ended.{Ended as EndedOf};
+ghost use Rattle.bac_query.specs.Ahead.{FetchesAhead, IsRunOver, PrintsLeft, PrintsOn, PrintsRun, pending, port_asks};
+
+use crate::ahead::{Ahead, Reply};
+use crate::fault::QueryFault;
+use crate::fetching::Fetched;
+use crate::record_lines::Lines;
+use bac_link::Transactions;
+use bac_ports::{Port, UdpLink};
+use bac_walk::{Ended, Walk, Why, deliver};
+use std::alloc::Global;
+use std::io::Write;
+
+/// What [`fetch_log`](crate::fetch_log) does, over a port: the lines of a reply are made and
+/// written once the next question is sent, while its answer is on its way. If a write is refused,
+/// the records of the reply after it have come too; if there is no memory for the lines of a reply,
+/// the next number is the one before it.
+pub fn fetch_log_ahead<P: Port, W: Write>(
+    alloc: Global,
+    link: &mut UdpLink<P>,
+    transactions: &mut Transactions,
+    walk: Walk,
+    steps: u32,
+    out: &mut W,
+) -> Result<Fetched, QueryFault>
+    // What is printed are the lines of items, and the line that says how their run ended: so many
+    // steps, or what the last exchange told.
+    ensures printed { PrintsRun (port_asks P.sends P.receives) (towards transactions.old.route) transactions.old.retries
+        walk steps result link.old.failures link.new.failures link.new (W.contents out.old) (W.contents out.new) }
+    // Over any port, whoever answers, they are the lines of what the replies brought that came over
+    // it from here on; and if these say what one log holds, of what it held.
+    ensures came { FetchesAhead (port_asks P.sends P.receives) (towards transactions.old.route) transactions.old.retries
+        link.old walk steps result link.new (W.contents out.old) (W.contents out.new) }
+{
+    let mut left = Vec::new(alloc);
+    let mut lines = Lines {
+        text: Vec::new(alloc),
+    };
+    let mut ahead = Ahead::new(link, out, &mut left, &mut lines);
+    fetch(alloc, &mut ahead, transactions, walk, steps)
+}
+
+fn fetch<P: Port, W: Write>(
+    alloc: Global,
+    ahead: &mut Ahead<'_, P, W>,
+    transactions: &mut Transactions,
+    mut walk: Walk,
+    steps: u32,
+) -> Result<Fetched, QueryFault>
+    requires well { ahead.old.is_refused ≡ false }
+    requires none { ahead.old.left.now.items ≡ [] }
+    ensures printed { PrintsRun (port_asks P.sends P.receives) (towards transactions.old.route) transactions.old.retries
+        walk steps result ahead.old.link.now.failures ahead.new.link.now.failures ahead.new.link.now
+        (W.contents ahead.old.out.now) (W.contents ahead.new.out.now) }
+    ensures came { FetchesAhead (port_asks P.sends P.receives) (towards transactions.old.route) transactions.old.retries
+        ahead.old.link.now walk steps result ahead.new.link.now (W.contents ahead.old.out.now) (W.contents ahead.new.out.now) }
+    ensures same_link { ahead.new.link.ghost_name ≡ ahead.old.link.ghost_name }
+    ensures same_out { ahead.new.out.ghost_name ≡ ahead.old.out.ghost_name }
+{
+    let mut reply = Reply {
+        items: Vec::new(alloc),
+    };
+    // The number before the items that are left.
+    let mut told = walk.next_number();
+    for done in 0..steps {
+        let before = walk.next_number();
+        let ended = match turn(ahead, transactions, &mut walk, &mut reply) {
+            Ok(ended) => ended,
+            Err(QueryFault::Memory) => return ahead.end(Why::Memory, told),
+            Err(fault) => return Err(fault),
+        };
+        let why = match ended {
+            Ended::Stopped => return ahead.end(Why::Memory, before),
+            ended => ended.why(),
+        };
+        if let Some(why) = why {
+            return ahead.finish(why, walk.next_number(), before);
+        }
+        told = before;
+    }
+    ahead.finish(Why::StepLimit, walk.next_number(), told)
+}
+
+/// One step of a walk. Beside it the lines of what was left are printed, and then what the step
+/// brought is left.
+fn turn<P: Port, W: Write>(
+    ahead: &mut Ahead<'_, P, W>,
+    transactions: &mut Transactions,
+    walk: &mut Walk,
+    reply: &mut Reply,
+) -> Result<Ended, QueryFault>
+    requires { ahead.old.is_refused ≡ false }
+    ensures ran { (ended : EndedOf) × (items : List ItemOf) × IfOk result (λ is. (is ≡ ended) × (ended ≢ Ended.Stopped → ahead.new.left.now.items ≡ items))
+        × IsRunOver (port_asks P.sends P.receives) (towards transactions.old.route) transactions.old.retries
+        ahead.old.link.now walk.old 1 items ended walk.new ahead.new.link.now }
+    ensures prints { PrintsLeft ahead.old.left.now.items result (W.contents ahead.old.out.now) (W.contents ahead.new.out.now) }
+    ensures well { OnOk result (ahead.new.is_refused ≡ false) }
+    ensures retries { transactions.new.retries ≡ transactions.old.retries }
+    ensures route { transactions.new.route ≡ transactions.old.route }
+    ensures same_link { ahead.new.link.ghost_name ≡ ahead.old.link.ghost_name }
+    ensures same_out { ahead.new.out.ghost_name ≡ ahead.old.out.ghost_name }
+{
+    let ended = step(ahead, transactions, walk, reply);
+    match ahead.print_left() {
+        Ok(()) => {
+            std::mem::swap(&mut *ahead.left, &mut reply.items);
+            Ok(ended)
+        }
+        Err(fault) => Err(fault),
+    }
+}
+
+/// One step of a walk, and what it brought.
+fn step<P: Port, W: Write>(
+    ahead: &mut Ahead<'_, P, W>,
+    transactions: &mut Transactions,
+    walk: &mut Walk,
+    reply: &mut Reply,
+) -> Ended
+    ensures ran { (items : List ItemOf) × (result ≢ Ended.Stopped → reply.new.items.items ≡ items)
+        × IsRunOver (port_asks P.sends P.receives) (towards transactions.old.route) transactions.old.retries
+        ahead.old.link.now walk.old 1 items result walk.new ahead.new.link.now }
+    ensures beside { PrintsOn (pending ahead.old.is_refused ahead.old.left.now.items (W.contents ahead.old.out.now))
+        (pending ahead.new.is_refused ahead.new.left.now.items (W.contents ahead.new.out.now))
+        × (ahead.new.link.ghost_name ≡ ahead.old.link.ghost_name) × (ahead.new.out.ghost_name ≡ ahead.old.out.ghost_name) }
+    ensures retries { transactions.new.retries ≡ transactions.old.retries }
+    ensures route { transactions.new.route ≡ transactions.old.route }
+{
+    reply.items.clear();
+    deliver(ahead, transactions, walk, 1, reply)
+}
