@@ -1,3 +1,6 @@
 pub mod Items
 pub mod Sinks
 pub mod Kept
+pub mod Runs
+pub mod Gathers
+pub mod Resumption

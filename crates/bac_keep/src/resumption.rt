@@ -1,0 +1,170 @@
+//! Where a walk goes on that keeps a log.
+
+ghost use Rattle.std.specs.Prelude.{◌≡◌, ◌≤◌, ◌<◌, false, Result, IfOk};
+ghost use Rattle.bac_link.specs.Path.{towards};
+ghost use Rattle.bac_walk.specs.Ordinals.{is_ahead, number_after};
+ghost use Rattle.bac_walk.specs.Place.{walk_at, walk_from_oldest};
+ghost use Rattle.bac_walk.specs.declared.outcome.Step.{Step as StepOf};
+ghost use Rattle.bac_walk.specs.declared.outcome.WalkFault.{WalkFault as FaultOf};
+ghost use Rattle.bac_keep.specs.Resumption.{AsksOldest, CameTo, IsTold, IsToldBy, IsToldLast, IsWhere, goes_on, is_before, is_dated};
+
+use crate::texts::{datum_of, stamp_of};
+use bac_link::{LogLink, Transactions};
+use bac_walk::{Batch, Numbered, Step, Walk, WalkFault};
+use bac_wire::ObjectId;
+use std::alloc::{AllocError, Global};
+
+/// The record that was kept last of a log, by the texts of its row.
+#[derive(Clone, Copy, Debug)]
+pub struct LastRecord<'a> {
+    /// Its sequence number.
+    pub number: u32,
+    pub stamp: &'a [u8],
+    pub datum: &'a [u8],
+}
+
+/// Where a walk goes on that keeps a log.
+#[derive(Drop)]
+pub enum Resume {
+    /// Behind the record that was kept last.
+    GoOn(Walk),
+    /// At the oldest record: the device began its log anew.
+    BeganAnew(Walk),
+    /// The device wasn't heard, or refused.
+    Fault(WalkFault),
+}
+
+/// Where a walk goes on that keeps a log: asks for the record that was kept last, by its number. If
+/// the device holds it as it is kept, the walk goes on behind it, and at the oldest if the device
+/// holds another one under that number. If the device holds later ones alone, the walk goes on too,
+/// and tells the gap; but if the oldest of them is dated before the one that was kept, or if all
+/// that is held lies before it in numbers, the device began its log anew. A log without records
+/// tells nothing: the walk goes on.
+pub fn resume_from<L: LogLink>(
+    alloc: Global,
+    link: &mut L,
+    transactions: &mut Transactions,
+    log: ObjectId,
+    last: LastRecord<'_>,
+) -> Result<Resume, AllocError>
+    requires { log.kind ≡ 20 }
+    ensures never_falls { L.failures link.old ≤ L.failures link.new }
+    ensures retries { transactions.new.retries ≡ transactions.old.retries }
+    ensures route { transactions.new.route ≡ transactions.old.route }
+    // No record has the number 0.
+    ensures none { last.entry.number ≡ 0 → IfOk result (λ told. IsWhere log (record { number = last.entry.number; stamp = last.entry.stamp.now; datum = last.entry.datum.now }) false told) }
+    // The answers came over the link, and it is what they say.
+    ensures told { 0 < last.entry.number → IfOk result (λ told. (answer : Result StepOf FaultOf) × (oldest : Result StepOf FaultOf) × (half : L)
+        × IsTold log (record { number = last.entry.number; stamp = last.entry.stamp.now; datum = last.entry.datum.now }) answer oldest told
+        × CameTo L.asks (towards transactions.old.route) transactions.old.retries link.old (walk_at log last.entry.number) answer half
+        × (AsksOldest answer → CameTo L.asks (towards transactions.old.route) transactions.old.retries half (walk_from_oldest log) oldest link.new)) }
+{
+    let Some(mut walk) = Walk::from_number(log, last.number) else {
+        return Ok(Resume::BeganAnew(oldest_of(log)));
+    };
+    match walk.step(link, transactions) {
+        Ok(Step::Batch(batch)) => told_by(alloc, log, last, &batch),
+        Ok(Step::CaughtUp) => told_last(alloc, link, transactions, log, last),
+        Err(fault) => Ok(Resume::Fault(fault)),
+    }
+}
+
+// What the oldest records say, if none is held from the last one on.
+fn told_last<L: LogLink>(
+    alloc: Global,
+    link: &mut L,
+    transactions: &mut Transactions,
+    log: ObjectId,
+    last: LastRecord<'_>,
+) -> Result<Resume, AllocError>
+    requires { log.kind ≡ 20 }
+    ensures never_falls { L.failures link.old ≤ L.failures link.new }
+    ensures retries { transactions.new.retries ≡ transactions.old.retries }
+    ensures route { transactions.new.route ≡ transactions.old.route }
+    ensures told { IfOk result (λ told. (oldest : Result StepOf FaultOf)
+        × IsToldLast log (record { number = last.entry.number; stamp = last.entry.stamp.now; datum = last.entry.datum.now }) oldest told
+        × CameTo L.asks (towards transactions.old.route) transactions.old.retries link.old (walk_from_oldest log) oldest link.new) }
+{
+    let mut walk = oldest_of(log);
+    match walk.step(link, transactions) {
+        Ok(Step::Batch(batch)) => told_by(alloc, log, last, &batch),
+        Ok(Step::CaughtUp) => Ok(Resume::GoOn(walk_behind(log, last.number))),
+        Err(fault) => Ok(Resume::Fault(fault)),
+    }
+}
+
+// What the first record of a batch says.
+fn told_by(
+    alloc: Global,
+    log: ObjectId,
+    last: LastRecord<'_>,
+    batch: &Batch,
+) -> Result<Resume, AllocError>
+    requires { log.kind ≡ 20 }
+    ensures { IfOk result (λ told. IsToldBy log (record { number = last.entry.number; stamp = last.entry.stamp.now; datum = last.entry.datum.now }) batch.now.entries.items told) }
+{
+    let [held, ..] = batch.entries.as_slice() else {
+        unreachable!()
+    };
+    if goes_on(alloc, last, held)? {
+        Ok(Resume::GoOn(walk_behind(log, last.number)))
+    } else {
+        Ok(Resume::BeganAnew(oldest_of(log)))
+    }
+}
+
+// A walk from the oldest record on.
+fn oldest_of(log: ObjectId) -> Walk
+    requires { log.kind ≡ 20 }
+    ensures { result ≡ walk_from_oldest log }
+{
+    let Some(walk) = Walk::oldest(log) else {
+        unreachable!()
+    };
+    walk
+}
+
+// A walk from the number behind this one on.
+fn walk_behind(log: ObjectId, number: u32) -> Walk
+    requires { log.kind ≡ 20 }
+    ensures { result ≡ walk_at log (number_after number 1) }
+{
+    let next = if number == 4294967295 { 1 } else { number + 1 };
+    let Some(walk) = Walk::from_number(log, next) else {
+        unreachable!()
+    };
+    walk
+}
+
+// Whether a log goes on of which a record was kept last, by one that the device holds.
+fn goes_on(alloc: Global, last: LastRecord<'_>, held: &Numbered) -> Result<bool, AllocError>
+    ensures { IfOk result (λ does. does ≡ goes_on (record { number = last.entry.number; stamp = last.entry.stamp.now; datum = last.entry.datum.now }) held.now) }
+{
+    let stamp = stamp_of(alloc, &held.entry)?;
+    if held.number != last.number {
+        return Ok(is_ahead(last.number, held.number) && !is_before(stamp.as_slice(), last.stamp));
+    }
+    let datum = datum_of(alloc, &held.entry.datum)?;
+    Ok(stamp.as_slice() == last.stamp && datum.as_slice() == last.datum)
+}
+
+// Whether a number is another one or lies behind it: half of the numbers do.
+fn is_ahead(number: u32, held: u32) -> bool
+    ensures { result ≡ is_ahead number held }
+{
+    (u64::from(held) + 4294967295 - u64::from(number)) % 4294967295 < 2147483648
+}
+
+// Whether a date and time lies before another, both with each part.
+fn is_before(stamp: &[u8], other: &[u8]) -> bool
+    ensures { result ≡ is_before stamp.now other.now }
+{
+    is_dated(stamp) && is_dated(other) && stamp.cmp(other).is_lt()
+}
+
+// Whether a date and time has each part.
+fn is_dated(text: &[u8]) -> bool
+    ensures { result ≡ is_dated text.now }
+{
+    !text.contains(&b'*')
+}
