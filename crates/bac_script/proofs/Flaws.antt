@@ -3,12 +3,12 @@ use Rattle.std.proofs.Common.{◌≡◌, ◌<◌, ◌≤◌, ◌-◌, cond, true
 use Rattle.std.proofs.lemmas.List.{drop_all, length-drop}
 use Rattle.std.specs.Prelude.{nat_le}
 use Rattle.std.specs.Str.Lines.{strip_carriage_return, lines}
-use Rattle.bac_script.specs.Flaw.{flaw_from, line_at}
+use Rattle.bac_script.specs.Flaw.{blank_at, flaw_from, line_at}
 use Rattle.bac_script.specs.Script.Lines.{parts}
 use Rattle.bac_script.proofs.ConfigurationLemmas.{lines-first, lines-none, lines-one}
 use Rattle.std.proofs.lemmas.Bool.Decides.{nat_tests}
 use Rattle.bac_script.specs.Script.Words.{is_space, words_of}
-use Rattle.bac_script.specs.declared.script.flaw.Flaw.TheVariants.{Count}
+use Rattle.bac_script.specs.declared.script.flaw.Flaw.TheVariants.{Blanks, Count}
 use Rattle.bac_script.specs.declared.script.flaw.LineKind.{LineKind}
 use Rattle.bac_script.specs.declared.script.flaw.Wanted.{Wanted}
 use Rattle.bac_script.proofs.Splits.{IsCons, slice_split-IsCons}
@@ -27,13 +27,17 @@ none_left kind n (w ∷ more) h = refl
 pub flaw-none_left : (kind : LineKind) (n i : ℕ) (all : List Wanted) → i < length all → flaw_from kind n (drop i all) [] ≡ Count kind
 flaw-none_left kind n i all h = none_left kind n (drop i all) (omega (arith, length-drop i all, h))
 
--- no word is wanted, and some are left
-some_left : (kind : LineKind) (n : ℕ) (words : List (List ℕ)) → IsCons words → flaw_from kind n [] words ≡ Count kind
-some_left kind n words (y, ys, e) = ap (flaw_from kind n []) e
+-- no word is wanted
+pub flaw-past : (kind : LineKind) (n i : ℕ) (all : List Wanted) (words : List (List ℕ)) → length all ≤ i → flaw_from kind n (drop i all) words ≡ flaw_from kind n [] words
+flaw-past kind n i all words h = ap (λ rest. flaw_from kind n rest words) (drop_all i all h)
 
-pub flaw-some_left : (kind : LineKind) (n i : ℕ) (all : List Wanted) (text : List ℕ) → length all ≤ i → flaw_from kind n (drop i all) (words_of text) ≡ Count kind
-flaw-some_left kind n i all text h =
-    ap (λ rest. flaw_from kind n rest (words_of text)) (drop_all i all h) ∙ some_left kind n (words_of text) (slice_split-IsCons is_space text)
+-- ---- an empty word
+
+blank_before : (n : ℕ) (words : List (List ℕ)) → IsCons words → blank_at n words ≡ Blanks n
+blank_before n words (y, ys, e) = ap (blank_at n) e
+
+pub blank_at-words : (n : ℕ) (text : List ℕ) → blank_at n (words_of text) ≡ Blanks n
+blank_at-words n text = blank_before n (words_of text) (slice_split-IsCons is_space text)
 
 -- ---- the line with a number
 

@@ -9,5 +9,6 @@ pub mod Outcomes
 pub mod ConfigurationLemmas
 pub mod NeverMemory
 pub mod Flaws
+pub mod Numbers
 pub mod Unbuilt
 pub mod Places

@@ -5,7 +5,7 @@ use Rattle.std.specs.Option.{IsSome}
 use Rattle.std.specs.Str.{bytes_eq}
 use Rattle.bac_wire.specs.OptionChain.{◌>>=◌}
 use Rattle.bac_wire.specs.Primitive.{Id}
-use Rattle.bac_script.specs.Flaw.{flaw_from, flaw_of, flaw_of_kind, flaw_of_words, is_wanted, line_kind, words_wanted}
+use Rattle.bac_script.specs.Flaw.{blank_at, extra_word, flaw_from, flaw_of, flaw_of_kind, flaw_of_words, is_long, is_wanted, line_kind, no_kind, words_wanted, wrong_word}
 use Rattle.bac_script.specs.Script.Line.{ScriptLine, binary_line, clock_line, device_line, integer_line, kind_in, kinds, line_in, log_line, multistate_line, object_id, rx_line, said, said_by, sample_line, source_in, start_in, walk_line, walked_log}
 use Rattle.bac_script.specs.Script.Hexadecimal.{octets_in}
 use Rattle.bac_script.specs.Script.Number.{below, integer_in, number_in}
@@ -18,10 +18,8 @@ use Rattle.bac_script.specs.declared.script.flaw.LineKind.TheVariants as line
 use Rattle.bac_script.specs.declared.script.flaw.Wanted.{Wanted}
 
 abbrev is_place : Flaw → Bool
-is_place flaw.Kind = false
-is_place (flaw.Count kind) = false
-is_place (flaw.Word n wanted) = false
-is_place flaw.Place = true
+is_place (flaw.Place kind) = true
+is_place other = false
 
 -- there are as many words as are wanted, and each is what it has to be
 abbrev fit : List Wanted → List (List ℕ) → Bool
@@ -30,16 +28,37 @@ fit [] (word ∷ words) = false
 fit (wanted ∷ more) [] = false
 fit (wanted ∷ more) (word ∷ words) = is_wanted wanted word && fit more words
 
-one_fits : (b : Bool) (x : Flaw) (n : ℕ) (wanted : Wanted) (c : Bool) → is_place x ≡ c → is_place (if b then x else flaw.Word n wanted) ≡ (b && c)
-one_fits true x n wanted c h = h
-one_fits false x n wanted c h = refl
+blank_never : (n : ℕ) (words : List (List ℕ)) → is_place (blank_at n words) ≡ false
+blank_never n [] = refl
+blank_never n (word ∷ words) = refl
+
+long_never : (b : Bool) (n : ℕ) (wanted : Wanted) → is_place (if b then flaw.Long n wanted else flaw.Word n wanted) ≡ false
+long_never true n wanted = refl
+long_never false n wanted = refl
+
+wrong_never : (n : ℕ) (wanted : Wanted) (word : List ℕ) (words : List (List ℕ)) → is_place (wrong_word n wanted word words) ≡ false
+wrong_never n wanted [] words = blank_never n words
+wrong_never n wanted (c ∷ cs) words = long_never (is_long wanted (c ∷ cs)) n wanted
+
+extra_never : (kind : LineKind) (n : ℕ) (word : List ℕ) (words : List (List ℕ)) → is_place (extra_word kind n word words) ≡ false
+extra_never kind n [] words = blank_never n words
+extra_never kind n (c ∷ cs) words = refl
+
+kind_never : (word : List ℕ) (words : List (List ℕ)) → is_place (no_kind word words) ≡ false
+kind_never [] words = blank_never 1 words
+kind_never (c ∷ cs) words = refl
+
+one_fits : (b : Bool) (x : Flaw) (n : ℕ) (wanted : Wanted) (word : List ℕ) (words : List (List ℕ)) (c : Bool) → is_place x ≡ c
+    → is_place (if b then x else wrong_word n wanted word words) ≡ (b && c)
+one_fits true x n wanted word words c h = h
+one_fits false x n wanted word words c h = wrong_never n wanted word words
 
 placed : (kind : LineKind) (n : ℕ) (all : List Wanted) (words : List (List ℕ)) → is_place (flaw_from kind n all words) ≡ fit all words
 placed kind n [] [] = refl
-placed kind n [] (word ∷ words) = refl
+placed kind n [] (word ∷ words) = extra_never kind n word words
 placed kind n (wanted ∷ more) [] = refl
 placed kind n (wanted ∷ more) (word ∷ words) =
-    one_fits (is_wanted wanted word) (flaw_from kind (n + 1) more words) n wanted (fit more words) (placed kind (n + 1) more words)
+    one_fits (is_wanted wanted word) (flaw_from kind (n + 1) more words) n wanted word words (fit more words) (placed kind (n + 1) more words)
 
 -- ---- more words, or fewer
 
@@ -166,22 +185,23 @@ walk_fits (a ∷ b ∷ c ∷ d ∷ more) = differ (words_wanted line.Walk) (a �
 
 -- ---- any line
 
-pick : (b : Bool) (x y : Option ScriptLine) (kind : LineKind) (other : Option LineKind) (words : List (List ℕ)) → is_some x ≡ fit (words_wanted kind) words
-    → is_some y ≡ is_place (flaw_of_kind other words) → is_some (if b then x else y) ≡ is_place (flaw_of_kind (if b then Some kind else other) words)
-pick true x y kind other words own more = own ∙ sym (placed kind 2 (words_wanted kind) words)
-pick false x y kind other words own more = more
+pick : (b : Bool) (x y : Option ScriptLine) (kind : LineKind) (other : Option LineKind) (first : List ℕ) (words : List (List ℕ))
+    → is_some x ≡ fit (words_wanted kind) words → is_some y ≡ is_place (flaw_of_kind other first words)
+    → is_some (if b then x else y) ≡ is_place (flaw_of_kind (if b then Some kind else other) first words)
+pick true x y kind other first words own more = own ∙ sym (placed kind 2 (words_wanted kind) words)
+pick false x y kind other first words own more = more
 
-by_kind : (word : List ℕ) (words : List (List ℕ)) → is_some (said_by kinds word words) ≡ is_place (flaw_of_kind (line_kind word) words)
+by_kind : (word : List ℕ) (words : List (List ℕ)) → is_some (said_by kinds word words) ≡ is_place (flaw_of_kind (line_kind word) word words)
 by_kind word words =
-    pick (bytes_eq word (codes "device")) _ _ line.Device _ words (device_fits words)
-    (pick (bytes_eq word (codes "binary")) _ _ line.Binary _ words (binary_fits words)
-    (pick (bytes_eq word (codes "multistate")) _ _ line.Multistate _ words (multistate_fits words)
-    (pick (bytes_eq word (codes "integer")) _ _ line.Integer _ words (integer_fits words)
-    (pick (bytes_eq word (codes "log")) _ _ line.Log _ words (log_fits words)
-    (pick (bytes_eq word (codes "rx")) _ _ line.Rx _ words (rx_fits words)
-    (pick (bytes_eq word (codes "clock")) _ _ line.Clock _ words (clock_fits words)
-    (pick (bytes_eq word (codes "sample")) _ _ line.Sample _ words (sample_fits words)
-    (pick (bytes_eq word (codes "walk")) _ None line.Walk None words (walk_fits words) refl))))))))
+    pick (bytes_eq word (codes "device")) _ _ line.Device _ word words (device_fits words)
+    (pick (bytes_eq word (codes "binary")) _ _ line.Binary _ word words (binary_fits words)
+    (pick (bytes_eq word (codes "multistate")) _ _ line.Multistate _ word words (multistate_fits words)
+    (pick (bytes_eq word (codes "integer")) _ _ line.Integer _ word words (integer_fits words)
+    (pick (bytes_eq word (codes "log")) _ _ line.Log _ word words (log_fits words)
+    (pick (bytes_eq word (codes "rx")) _ _ line.Rx _ word words (rx_fits words)
+    (pick (bytes_eq word (codes "clock")) _ _ line.Clock _ word words (clock_fits words)
+    (pick (bytes_eq word (codes "sample")) _ _ line.Sample _ word words (sample_fits words)
+    (pick (bytes_eq word (codes "walk")) _ None line.Walk None word words (walk_fits words) (sym (kind_never word words))))))))))
 
 by_words : (words : List (List ℕ)) → is_some (said words) ≡ is_place (flaw_of_words words)
 by_words [] = refl
@@ -191,11 +211,16 @@ by_text : (text : List ℕ) → is_some (line_in text) ≡ is_place (flaw_of tex
 unfolding line_in flaw_of
 by_text text = by_words (words_of text)
 
-is_its_place : (f : Flaw) → is_place f ≡ true → f ≡ flaw.Place
+is_its_place : (f : Flaw) → is_place f ≡ true → (kind : LineKind) × (f ≡ flaw.Place kind)
 is_its_place flaw.Kind h = absurd cc
+is_its_place flaw.Described h = absurd cc
 is_its_place (flaw.Count kind) h = absurd cc
 is_its_place (flaw.Word n wanted) h = absurd cc
-is_its_place flaw.Place h = refl
+is_its_place (flaw.Long n wanted) h = absurd cc
+is_its_place flaw.Blank h = absurd cc
+is_its_place (flaw.Blanks n) h = absurd cc
+is_its_place (flaw.Place kind) h = (kind, refl)
+is_its_place flaw.Event h = absurd cc
 
-pub place_of_line : (text : List ℕ) → (flaw_of text ≡ flaw.Place) ↔ IsSome (line_in text)
-place_of_line text = (λ e. by_text text ∙ ap is_place e, λ s. is_its_place (flaw_of text) (sym (by_text text) ∙ s))
+pub place_of_line : (text : List ℕ) → ((kind : LineKind) × (flaw_of text ≡ flaw.Place kind)) ↔ IsSome (line_in text)
+place_of_line text = (λ e. by_text text ∙ ap is_place e.1, λ s. is_its_place (flaw_of text) (sym (by_text text) ∙ s))

@@ -15,7 +15,6 @@ use Rattle.bac_script.specs.Script.Line.{ScriptEvent, ScriptLine, Device, Object
 use Rattle.bac_script.specs.Script.Lines.{ended_lines, open_line}
 use Rattle.bac_script.specs.Session.{SessionState, Step, Empty, Described, Running, end_fault, first_event, happens, on_read, running, step}
 use Rattle.bac_script.specs.Stops.{ScriptStops, Stops}
-use Rattle.bac_script.specs.declared.replay.fault.Reason.TheVariants as reason
 use Rattle.bac_script.specs.declared.replay.fault.ReplayFault.{ReplayFault}
 use Rattle.bac_script.specs.declared.replay.fault.ReplayFault.TheVariants.{BadLine, Build, Read, TooLong, Write, Memory}
 use Rattle.bac_script.proofs.LineLemmas.{ended_lines-longer, lines-parts}
@@ -183,7 +182,7 @@ front_lines limit text =
 
 -- ---- its line
 
-pub unfit : (plan : Plan) (f : BuildFault) (m : Misfit) → IsUnfitLine plan m → IsUnbuilt plan f → IsUnfit plan f (reason.Device m)
+pub unfit : (plan : Plan) (f : BuildFault) (m : Misfit) → IsUnfitLine plan m → IsUnbuilt plan f → IsUnfit plan f m
 unfit None f m line unbuilt = line
 unfit (Some plan) f m line unbuilt = (line.0, let same : m.fault ≡ f = told (build_fault plan.0 plan.1) line.1 unbuilt in same)
   where

@@ -4,7 +4,7 @@ ghost use Rattle.std.specs.Prelude.{◌≡◌, ◌+◌, ◌<◌, ◌≤◌, leng
 ghost use Rattle.std.specs.Io.KnownBytes.{Consumes, IsAtEnd};
 ghost use Rattle.std.specs.Str.Lines.{lines};
 ghost use Rattle.bac_script.specs.Configuration.{AddsLine, Configures, Describes, IsAdded, kept_plan, plan_of, with_line, with_text};
-ghost use Rattle.bac_script.specs.Reason.{IsExplained, described, without_reason};
+ghost use Rattle.bac_script.specs.Reason.{IsExplainedThere, described, without_reason};
 ghost use Rattle.bac_script.specs.Input.{ConsumesUpTo};
 ghost use Rattle.bac_script.specs.Script.Line.{Device, Object};
 
@@ -189,7 +189,7 @@ fn explained_within<R: Read>(
 ) -> Result<Option<Configuration>, Refused>
     requires { limit ≤ LIMIT }
     ensures configures { Configures limit (R.remaining reader.old) (R.remaining reader.new) (without_reason result) }
-    ensures explained { IfErr result (IsExplained (R.remaining reader.old) (R.remaining reader.new)) }
+    ensures explained { IfErr result (IsExplainedThere (R.remaining reader.old) (R.remaining reader.new)) }
     ensures read { ConsumesUpTo (limit + 1) (R.remaining reader.old) (R.remaining reader.new) }
     ensures whole { OnOk result (IsAtEnd (R.remaining reader.new)) }
 {
@@ -202,7 +202,7 @@ fn explained_within<R: Read>(
     let (filled, read) = configuration_in(alloc, limit, &mut buffer, reader);
     match read {
         Ok(configuration) => Ok(configuration),
-        Err(fault) => Err(Refused::of(&buffer[..filled], fault)),
+        Err(fault) => Err(Refused::of_configuration(&buffer[..filled], fault)),
     }
 }
 
@@ -213,7 +213,7 @@ pub fn read_configuration_explained<R: Read>(
     reader: &mut R,
 ) -> Result<Option<Configuration>, Refused>
     ensures configures { Configures LIMIT (R.remaining reader.old) (R.remaining reader.new) (without_reason result) }
-    ensures explained { IfErr result (IsExplained (R.remaining reader.old) (R.remaining reader.new)) }
+    ensures explained { IfErr result (IsExplainedThere (R.remaining reader.old) (R.remaining reader.new)) }
     ensures read { ConsumesUpTo (LIMIT + 1) (R.remaining reader.old) (R.remaining reader.new) }
     ensures whole { OnOk result (IsAtEnd (R.remaining reader.new)) }
 {

@@ -7,6 +7,7 @@ ghost use Rattle.bac_script.specs.Replay.{play};
 ghost use Rattle.bac_script.specs.Script.Line.{line_in};
 ghost use Rattle.bac_script.specs.Session.{SessionState};
 ghost use Rattle.bac_script.specs.declared.script.flaw.Flaw.TheVariants.{Place};
+ghost use Rattle.bac_script.specs.declared.script.flaw.LineKind.{LineKind};
 
 /// After lines without a fault the rest is played from what they have made, with its own numbers:
 /// the text of all is the text of those lines and then that of the rest, and it ends as the rest does.
@@ -19,5 +20,6 @@ pub fn texts_are_joined()
 /// A text is a line of a script if and only if nothing is wrong with it but its place: what is told
 /// of a bad line agrees with what the lines of a script are.
 pub fn lines_in_the_wrong_place_are_lines()
-    ensures { (text : List ℕ) → (flaw_of text ≡ Place) ↔ IsSome (line_in text) }
+    ensures { (text : List ℕ) →
+        ((kind : LineKind) × (flaw_of text ≡ Place kind)) ↔ IsSome (line_in text) }
 {}

@@ -11,7 +11,7 @@ use Rattle.bac_words.specs.declared.job.Job.TheVariants.{Replay, Wi, Rp, Wp, Log
 use Rattle.bac_words.specs.declared.job.Asked.{Asked}
 use Rattle.bac_words.specs.declared.job.Given.{Given}
 use Rattle.bac_words.specs.Numbers.{number_in}
-use Rattle.bac_words.specs.Rows.{text_at, number_at, maybe_number_at, address_at, local_at, addresses_at, route_at}
+use Rattle.bac_words.specs.Rows.{text_at, number_at, maybe_number_at, address_at, local_at, stations_at, route_at}
 use Rattle.bac_words.specs.Given.{is_tag, given_in}
 use Rattle.bac_words.specs.Steps.{◌>>=◌}
 
@@ -33,14 +33,14 @@ max_beside min max = Ok max
 -- bac wi
 unfoldable pub wi_at : List Row → Result Job Word
 wi_at rows = do
-  addresses ← addresses_at rows
+  stations ← stations_at rows
   min ← maybe_number_at Min 0 4194303 rows
   highest ← maybe_number_at Max 0 4194303 rows
   max ← max_beside min highest
   dnet ← maybe_number_at Dnet 1 65535 rows
   local ← local_at rows
   timeout ← number_at Timeout 1 60000 rows
-  Ok (Wi addresses min max dnet local timeout)
+  Ok (Wi stations min max dnet local timeout)
 
 -- bac rp
 unfoldable pub rp_at : List Row → Result Job Word

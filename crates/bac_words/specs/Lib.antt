@@ -7,5 +7,6 @@ pub mod Given
 pub mod Steps
 pub mod Rows
 pub mod Jobs
+pub mod Listing
 pub mod Outcome
 pub mod Lines

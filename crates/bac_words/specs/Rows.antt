@@ -1,11 +1,14 @@
 -- What the rows of a tool's matches say of a word or an option.
-use Rattle.std.specs.Prelude.{ℕ, List, [], ◌∷◌, length, nat_le, ◌&&◌, if◌then◌else◌, Option, None, Some, Result, Ok}
-use Rattle.std.specs.Prelude.{Err, option_and_then, unwrap_or}
+use Rattle.std.specs.Prelude.{ℕ, Bool, false, List, [], ◌∷◌, length, nat_le, ◌&&◌, if◌then◌else◌, Option, None, Some}
+use Rattle.std.specs.Prelude.{Result, Ok, Err, option_and_then, unwrap_or, codes}
+use Rattle.std.specs.Str.{bytes_eq}
 use Rattle.std.specs.Option.{ok_or}
 use Rattle.std.specs.Result.{result_ok}
 use Rattle.hex.specs.Hex.{decode_of}
 use Rattle.bac_apdu.specs.Npdu.{Place}
 use Rattle.clap.specs.Words.{Row, Text, first_of, all_of}
+use Rattle.bac_words.specs.declared.job.Stations.{Stations}
+use Rattle.bac_words.specs.declared.job.Stations.TheVariants.{Listed, Input}
 use Rattle.bac_words.specs.declared.word.Word.{Word}
 use Rattle.bac_words.specs.declared.word.Word.TheVariants.{Address, Local, Dnet, Dadr}
 use Rattle.bac_words.specs.Names.{name_of}
@@ -46,9 +49,21 @@ addresses_in (text ∷ texts) = do
   addresses ← addresses_in texts
   Ok (address ∷ addresses)
 
--- the addresses of a list of them
-abbrev pub addresses_at : List Row → Result (List (List ℕ)) Word
-addresses_at rows = addresses_in (unwrap_or (all_of (name_of Address) rows) [])
+-- the one text is - (45), which stands for the lines of standard input
+abbrev pub is_input : List Text → Bool
+is_input [] = false
+is_input (text ∷ []) = bytes_eq text (codes "-")
+is_input (text ∷ other ∷ more) = false
+
+-- the lines of standard input, or the addresses of these texts
+abbrev pub stations_in : List Text → Result Stations Word
+stations_in texts =
+    if is_input texts then Ok Input else
+    addresses_in texts >>= λ addresses. Ok (Listed addresses)
+
+-- the stations of a list of them
+abbrev pub stations_at : List Row → Result Stations Word
+stations_at rows = stations_in (unwrap_or (all_of (name_of Address) rows) [])
 
 -- an address on a network behind a router: 1 to 15 octets, in two hexadecimal digits each
 unfoldable pub mac_in : List ℕ → Option (List ℕ)

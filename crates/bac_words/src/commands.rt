@@ -149,7 +149,8 @@ fn wi<'a>(alloc: Global) -> Result<Command<'a>, AllocError>
 {
     let about = "Find devices: send Who-Is to each address and print each I-Am";
     let example = "Example: bac wi 192.168.1.20 192.168.1.21:47809 --min=100 --max=199
-asks both stations, and only devices 100 to 199 answer. --min alone means both.";
+asks both stations, and only devices 100 to 199 answer. --min alone means both.
+bac wi - < stations asks those of a file: at most 4096, an address a line.";
     let command = tool(alloc, "wi", about, example);
     let help = "The stations to ask: A.B.C.D or A.B.C.D:PORT (port 47808)";
     let command = with(command, needed_list(alloc, Word::Address, help))?;

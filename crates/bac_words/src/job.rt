@@ -34,6 +34,15 @@ pub enum Given {
     Enumerated(u32),
 }
 
+/// The stations that `bac wi` asks.
+#[derive(Debug, Drop)]
+pub enum Stations {
+    /// Those of the words.
+    Listed(Addresses),
+    /// Those of the lines of standard input.
+    Input,
+}
+
 /// A tool with its words and options; an option that wasn't given has its default, or is absent.
 #[derive(Debug, Drop)]
 pub enum Job {
@@ -42,7 +51,7 @@ pub enum Job {
     /// `bac wi`: Who-Is (clause 16.10), to the devices of a network behind a router if one is
     /// named; 65535 is all networks.
     Wi {
-        addresses: Addresses,
+        stations: Stations,
         min: Option<u32>,
         max: Option<u32>,
         dnet: Option<u16>,

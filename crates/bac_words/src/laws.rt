@@ -6,13 +6,15 @@ ghost use Rattle.clap.specs.declared.error.kind.ErrorKind.TheVariants.{MissingRe
 ghost use Rattle.bac_words.specs.declared.word.Word.TheVariants.{Address, From, Max, Retries, Dnet, Dadr};
 ghost use Rattle.bac_words.specs.declared.job.Job.TheVariants.{Replay, Wi, Rp, Wp, Log, Serve};
 ghost use Rattle.bac_words.specs.declared.job.Given.TheVariants.{Null, Signed};
+ghost use Rattle.bac_words.specs.declared.job.Stations.TheVariants.{Input, Listed};
 ghost use Rattle.bac_words.specs.Lines.{Says, Mistakes, station, by_default, by_way};
 
 /// A line of each tool, and the job that it asks for.
 pub fn lines_say_jobs()
     ensures replay { Says (codes "bac replay") (Ok Replay) }
     ensures wi { Says (codes "bac wi 10.0.0.1 10.0.0.2:258 --min=5 --timeout=60000")
-        (Ok (Wi (station ∷ (10 ∷ 0 ∷ 0 ∷ 2 ∷ 1 ∷ 2 ∷ []) ∷ []) (Some 5) None None None 60000)) }
+        (Ok (Wi (Listed (station ∷ (10 ∷ 0 ∷ 0 ∷ 2 ∷ 1 ∷ 2 ∷ []) ∷ [])) (Some 5) None None None 60000)) }
+    ensures input { Says (codes "bac wi - --timeout=500") (Ok (Wi Input None None None None 500)) }
     ensures rp { Says (codes "bac rp 10.0.0.1 8 123 77") (Ok (Rp by_default 8 123 77 None)) }
     ensures wp { Says (codes "bac wp 10.0.0.1 45 1 85 16 3 --value=-5")
         (Ok (Wp by_default 45 1 85 16 (Signed (negsuc 4)) None)) }
@@ -22,13 +24,14 @@ pub fn lines_say_jobs()
     ensures number { Says (codes "bac log 10.0.0.1 7 43") (Ok (Log by_default 7 (Some 43) 1000)) }
     ensures serve { Says (codes "bac serve 10.0.0.1") (Ok (Serve station 4294967295)) }
     ensures network { Says (codes "bac wi 10.0.0.1 --dnet=65535")
-        (Ok (Wi (station ∷ []) None None (Some 65535) None 3000)) }
+        (Ok (Wi (Listed (station ∷ [])) None None (Some 65535) None 3000)) }
     ensures router { Says (codes "bac rp 10.0.0.1 8 123 77 --dnet=7 --dadr=0A01")
         (Ok (Rp (by_way 7 (10 ∷ 1 ∷ [])) 8 123 77 None)) }
 {}
 
 /// Lines with a bad value, and the word that has it.
 pub fn lines_say_bad_values()
+    ensures input { Says (codes "bac wi - 10.0.0.1") (Err Address) }
     ensures host { Says (codes "bac rp 10.0.0.256 8 123 77") (Err Address) }
     ensures port { Says (codes "bac rp 10.0.0.1:0 8 123 77") (Err Address) }
     ensures retries { Says (codes "bac rp 10.0.0.1 8 123 77 --retries=11") (Err Retries) }

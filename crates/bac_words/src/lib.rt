@@ -9,6 +9,7 @@ mod fault;
 mod given;
 mod job;
 mod laws;
+mod listing;
 mod name;
 mod numbers;
 mod read;
@@ -19,8 +20,9 @@ mod word;
 
 pub use addresses::Addresses;
 pub use fault::WordsFault;
-pub use job::{Asked, Given, Job};
+pub use job::{Asked, Given, Job, Stations};
 pub use laws::{lines_are_mistakes, lines_say_bad_values, lines_say_jobs};
+pub use listing::{ListFault, MOST_LISTED, read_addresses};
 pub use name::Name;
 pub use read::read_words;
 pub use word::Word;

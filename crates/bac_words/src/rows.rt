@@ -3,11 +3,12 @@
 ghost use Rattle.std.specs.Prelude.{◌≡◌, map, option_map};
 ghost use Rattle.clap.specs.Words.{rows_of, found_of};
 ghost use Rattle.bac_words.specs.Steps.{Makes};
-ghost use Rattle.bac_words.specs.Rows.{text_at, number_at, maybe_number_at, address_at, local_at, addresses_in, addresses_at};
+ghost use Rattle.bac_words.specs.Rows.{text_at, number_at, maybe_number_at, address_at, local_at, addresses_in, is_input, stations_in, stations_at};
 
 use crate::address::address;
 use crate::addresses::Addresses;
 use crate::fault::WordsFault;
+use crate::job::Stations;
 use crate::numbers::{number, octet, short};
 use crate::word::Word;
 use clap::ArgMatches;
@@ -118,11 +119,32 @@ fn addresses_in(alloc: Global, texts: &[&str]) -> Result<Addresses, WordsFault>
     Ok(Addresses::of(list))
 }
 
-pub(crate) fn addresses_at(alloc: Global, matches: &ArgMatches) -> Result<Addresses, WordsFault>
-    ensures { Makes (addresses_at (rows_of (found_of matches.now))) result }
+/// The one text is `-`, which stands for the lines of standard input.
+fn is_input(texts: &[&str]) -> bool
+    ensures { result ≡ is_input (map (λ text. text.now) texts.now) }
+{
+    match texts {
+        [text] => text.as_bytes() == b"-".as_slice(),
+        _ => false,
+    }
+}
+
+/// The stations that these texts say.
+fn stations_in(alloc: Global, texts: &[&str]) -> Result<Stations, WordsFault>
+    ensures { Makes (stations_in (map (λ text. text.now) texts.now)) result }
+{
+    if is_input(texts) {
+        return Ok(Stations::Input);
+    }
+    let addresses = addresses_in(alloc, texts)?;
+    Ok(Stations::Listed(addresses))
+}
+
+pub(crate) fn stations_at(alloc: Global, matches: &ArgMatches) -> Result<Stations, WordsFault>
+    ensures { Makes (stations_at (rows_of (found_of matches.now))) result }
 {
     match matches.get_raw(Word::Address.name()) {
-        Some(texts) => addresses_in(alloc, texts),
-        None => addresses_in(alloc, &[]),
+        Some(texts) => stations_in(alloc, texts),
+        None => stations_in(alloc, &[]),
     }
 }

@@ -11,8 +11,8 @@ use crate::job::{Asked, Given, Job};
 use crate::numbers::number;
 use crate::route::route_at;
 use crate::rows::{
-    address_at, addresses_at, local_at, maybe_number_at, maybe_short_at, number_at, octet_at,
-    short_at, text,
+    address_at, local_at, maybe_number_at, maybe_short_at, number_at, octet_at, short_at,
+    stations_at, text,
 };
 use crate::word::Word;
 use clap::ArgMatches;
@@ -55,7 +55,7 @@ fn max_beside(min: Option<u32>, max: Option<u32>) -> Result<Option<u32>, Word>
 pub(crate) fn wi(alloc: Global, matches: &ArgMatches) -> Result<Job, WordsFault>
     ensures { Makes (wi_at (rows_of (found_of matches.now))) result }
 {
-    let addresses = addresses_at(alloc, matches)?;
+    let stations = stations_at(alloc, matches)?;
     let min = maybe_number_at(matches, Word::Min, MAX_INSTANCE)?;
     let highest = maybe_number_at(matches, Word::Max, MAX_INSTANCE)?;
     let max = max_beside(min, highest)?;
@@ -63,7 +63,7 @@ pub(crate) fn wi(alloc: Global, matches: &ArgMatches) -> Result<Job, WordsFault>
     let local = local_at(matches)?;
     let timeout = number_at(matches, Word::Timeout, 1, 60000)?;
     Ok(Job::Wi {
-        addresses,
+        stations,
         min,
         max,
         dnet,

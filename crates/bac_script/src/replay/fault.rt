@@ -3,9 +3,9 @@
 ghost use Rattle.std.specs.Prelude.{◌≡◌, None};
 ghost use Rattle.std.specs.Str.Lines.{lines};
 ghost use Rattle.bac_script.specs.Fault.{line_fault, replay_fault, told};
-ghost use Rattle.bac_script.specs.Reason.{IsReason};
+ghost use Rattle.bac_script.specs.Reason.{IsReason, IsReasonThere};
 
-use crate::script::flaw::{Flaw, flaw_of, line_at};
+use crate::script::flaw::{Flaw, flaw_of, flaw_there, line_at};
 use bac_device::{BuildFault, Misfit};
 use thiserror::Error;
 
@@ -84,7 +84,18 @@ pub enum Reason {
     /// What is wrong with the bad line.
     Line(Flaw),
     /// The line with which the device can't be built.
-    Device(Misfit),
+    Device(UnfitLine),
+}
+
+/// A line with which a device can't be built, and where it stands: lines by their numbers, counted
+/// from 1.
+#[derive(Clone, Copy, Debug, PartialEq, Eq)]
+pub struct UnfitLine {
+    pub misfit: Misfit,
+    /// The line itself.
+    pub number: Option<usize>,
+    /// The line that has its type and instance, or its name, if that is the fault.
+    pub rival: Option<usize>,
 }
 
 /// A script or a configuration that is refused: why, and what is to mend in it.
@@ -97,13 +108,25 @@ pub struct Refused {
 }
 
 impl Refused {
-    /// A fault of a text that was read, of which a bad line alone is explained.
+    /// A fault of a script that was read, of which a bad line alone is explained.
     pub(crate) fn of(text: &[u8], fault: ReplayFault) -> Refused
         ensures fault { result.fault ≡ fault }
         ensures reason { IsReason text.now fault result.reason }
     {
         let reason = match fault {
             ReplayFault::BadLine(number) => Some(Reason::Line(flaw_of(line_at(text, number)))),
+            _ => None,
+        };
+        Refused { fault, reason }
+    }
+
+    /// The same of a configuration.
+    pub(crate) fn of_configuration(text: &[u8], fault: ReplayFault) -> Refused
+        ensures fault { result.fault ≡ fault }
+        ensures reason { IsReasonThere text.now fault result.reason }
+    {
+        let reason = match fault {
+            ReplayFault::BadLine(number) => Some(Reason::Line(flaw_there(line_at(text, number)))),
             _ => None,
         };
         Refused { fault, reason }

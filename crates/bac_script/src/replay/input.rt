@@ -7,7 +7,7 @@ use std::io::{ErrorKind, Read, Result};
 
 /// Why `fill` stopped.
 #[derive(Clone, Copy, Debug, PartialEq, Eq)]
-pub(crate) enum Ending {
+pub enum Ending {
     /// The reader has no more octets.
     End,
     /// The buffer is full.
@@ -36,7 +36,7 @@ fn read_again<R: Read>(reader: &mut R, buffer: &mut [u8]) -> Result<usize>
 
 /// Reads into the buffer from its start, until the reader's end, the buffer's end or the first
 /// refused read. The first part of the answer says how many octets came.
-pub(crate) fn fill<R: Read>(reader: &mut R, buffer: &mut [u8]) -> (usize, Ending)
+pub fn fill<R: Read>(reader: &mut R, buffer: &mut [u8]) -> (usize, Ending)
     ensures within { result.0 ≤ length buffer.old }
     ensures consumed { Consumes (R.remaining reader.old) (R.remaining reader.new) (take result.0 buffer.new) }
     ensures at_end { result.1 ≡ Ending.End → IsAtEnd (R.remaining reader.new) }

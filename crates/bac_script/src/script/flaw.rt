@@ -1,9 +1,11 @@
 //! What is wrong with a bad line.
 
-ghost use Rattle.std.specs.Prelude.{◌≡◌, ◌∷◌};
+ghost use Rattle.std.specs.Prelude.{◌≡◌, ◌∷◌, []};
+ghost use Rattle.std.specs.Char.{is_ascii_digit};
+ghost use Rattle.std.specs.List.{list_all};
 ghost use Rattle.std.specs.Option.{option_map};
 ghost use Rattle.std.specs.Str.Lines.{lines};
-ghost use Rattle.bac_script.specs.Flaw.{flaw_from, flaw_of, is_wanted, line_at, line_kind, words_left, words_wanted};
+ghost use Rattle.bac_script.specs.Flaw.{blank_at, flaw_from, flaw_of, flaw_there, is_long, is_number, is_wanted, kind_of_words, line_at, line_kind, no_kind, words_left, words_wanted, wrong_word};
 ghost use Rattle.bac_script.specs.Script.Words.{words_of};
 
 use crate::script::hexadecimal::{LONGEST, octets_in};
@@ -48,8 +50,9 @@ pub enum Wanted {
     Object,
     /// How many octets a reply has: a number of 16 bits, of which 50 to 1476 can be built.
     Reply,
-    /// A default of a Binary Value: a number of 32 bits, of which 0 and 1 can be built.
-    Switch,
+    /// A default of a Binary Value, a BACnetBinaryPV: a number of 32 bits, of which 0 and 1 can be
+    /// built.
+    Binary,
     /// How many states a Multi-state Value has: a number of 32 bits, of which 1 to 65535 can be
     /// built.
     States,
@@ -76,17 +79,27 @@ pub enum Wanted {
     Start,
 }
 
-/// What is wrong with a bad line.
+/// What is wrong with a bad line. Words are counted from 1.
 #[derive(Clone, Copy, Debug, PartialEq, Eq)]
 pub enum Flaw {
     /// Its first word is no kind of line.
     Kind,
+    /// The same in a configuration, which has no events.
+    Described,
     /// A line of its kind has more words, or fewer.
     Count(LineKind),
-    /// This word, counted from 1, isn't what it has to be.
+    /// This word isn't what it has to be.
     Word(usize, Wanted),
+    /// This word is a number, as it has to be, but of more than ten digits.
+    Long(usize, Wanted),
+    /// A blank ends it.
+    Blank,
+    /// One blank too many stands before this word.
+    Blanks(usize),
     /// It is a line, and stands in the wrong place.
-    Place,
+    Place(LineKind),
+    /// It is an event's, and a configuration has none.
+    Event,
 }
 
 /// Whether a word is what it has to be.
@@ -94,7 +107,7 @@ fn is_wanted(wanted: Wanted, word: &[u8]) -> bool
     ensures { result ≡ is_wanted wanted word.now }
 {
     match wanted {
-        Wanted::Number | Wanted::Object | Wanted::Switch | Wanted::States => u32_in(word).is_some(),
+        Wanted::Number | Wanted::Object | Wanted::Binary | Wanted::States => u32_in(word).is_some(),
         Wanted::State | Wanted::Capacity | Wanted::Interval => u32_in(word).is_some(),
         Wanted::Short | Wanted::Reply => u16_in(word).is_some(),
         Wanted::Name => text_in(word).is_some(),
@@ -119,7 +132,7 @@ fn words_wanted<'a>(kind: LineKind) -> &'a [Wanted]
             Wanted::Reply,
             Wanted::Stamp,
         ],
-        LineKind::Binary => &[Wanted::Object, Wanted::Name, Wanted::Switch],
+        LineKind::Binary => &[Wanted::Object, Wanted::Name, Wanted::Binary],
         LineKind::Multistate => &[Wanted::Object, Wanted::Name, Wanted::States, Wanted::State],
         LineKind::Integer => &[Wanted::Object, Wanted::Name, Wanted::Integer],
         LineKind::Log => &[
@@ -173,12 +186,88 @@ fn line_kind(word: &[u8]) -> Option<LineKind>
 }
 
 /// The first word, and what follows it, if anything does.
-fn first_word(text: &[u8]) -> (&[u8], Option<&[u8]>)
+pub(crate) fn first_word(text: &[u8]) -> (&[u8], Option<&[u8]>)
     ensures { words_of text.now ≡ result.0.now ∷ words_left (option_map (λ rest. rest.now) result.1) }
 {
     match split_word(text) {
         Some((word, rest)) => (word, Some(rest)),
         None => (text, None),
+    }
+}
+
+/// Whether a number is wanted, which has at most ten digits.
+fn is_number(wanted: Wanted) -> bool
+    ensures { result ≡ is_number wanted }
+{
+    !matches!(
+        wanted,
+        Wanted::Name | Wanted::Stamp | Wanted::Kind | Wanted::Digits
+    )
+}
+
+/// Whether all are decimal digits.
+fn are_digits(word: &[u8]) -> bool
+    ensures { result ≡ list_all is_ascii_digit word.now }
+{
+    for c in word {
+        if !c.is_ascii_digit() {
+            return false;
+        }
+    }
+    true
+}
+
+/// Whether a number is wanted, and the word is one of more than ten digits.
+fn is_long(wanted: Wanted, word: &[u8]) -> bool
+    ensures { result ≡ is_long wanted word.now }
+{
+    is_number(wanted) && word.len() > 10 && are_digits(word)
+}
+
+/// The word with this number is empty.
+fn blank_at(place: usize, more: Option<&[u8]>) -> Flaw
+    ensures { result ≡ blank_at place (words_left (option_map (λ rest. rest.now) more.entry)) }
+{
+    match more {
+        Some(_) => Flaw::Blanks(place),
+        None => Flaw::Blank,
+    }
+}
+
+/// The word with this number isn't what it has to be.
+fn wrong_word(place: usize, wanted: Wanted, word: &[u8], more: Option<&[u8]>) -> Flaw
+    ensures { result ≡ wrong_word place wanted word.now (words_left (option_map (λ rest. rest.now) more.entry)) }
+{
+    if word.is_empty() {
+        return blank_at(place, more);
+    }
+    if is_long(wanted, word) {
+        Flaw::Long(place, wanted)
+    } else {
+        Flaw::Word(place, wanted)
+    }
+}
+
+/// The word with this number is one too many.
+fn extra_word(kind: LineKind, place: usize, text: &[u8]) -> Flaw
+    ensures { result ≡ flaw_from kind place [] (words_of text.now) }
+{
+    let (word, more) = first_word(text);
+    if word.is_empty() {
+        blank_at(place, more)
+    } else {
+        Flaw::Count(kind)
+    }
+}
+
+/// The first word says no kind of line.
+fn no_kind(word: &[u8], more: Option<&[u8]>) -> Flaw
+    ensures { result ≡ no_kind word.now (words_left (option_map (λ rest. rest.now) more.entry)) }
+{
+    if word.is_empty() {
+        blank_at(1, more)
+    } else {
+        Flaw::Kind
     }
 }
 
@@ -194,14 +283,14 @@ fn flaw_of_words(kind: LineKind, words: Option<&[u8]>) -> Flaw
         };
         let (word, more) = first_word(text);
         if !is_wanted(*wanted, word) {
-            return Flaw::Word(place, *wanted);
+            return wrong_word(place, *wanted, word, more);
         }
         rest = more;
         place += 1;
     }
     match rest {
-        Some(_) => Flaw::Count(kind),
-        None => Flaw::Place,
+        Some(text) => extra_word(kind, place, text),
+        None => Flaw::Place(kind),
     }
 }
 
@@ -213,7 +302,29 @@ pub(crate) fn flaw_of(text: &[u8]) -> Flaw
     let (word, words) = first_word(text);
     match line_kind(word) {
         Some(kind) => flaw_of_words(kind, words),
-        None => Flaw::Kind,
+        None => no_kind(word, words),
+    }
+}
+
+/// The kind of a line, which its first word says.
+fn kind_of_line(text: &[u8]) -> Option<LineKind>
+    ensures { result ≡ kind_of_words (words_of text.now) }
+{
+    let (word, _) = first_word(text);
+    line_kind(word)
+}
+
+/// What is wrong with a bad line of a configuration.
+#[tactic(auto, unfolding(crate::specs::Flaw::flaw_there))]
+pub(crate) fn flaw_there(text: &[u8]) -> Flaw
+    ensures { result ≡ flaw_there text.now }
+{
+    let flaw = flaw_of(text);
+    match kind_of_line(text) {
+        Some(LineKind::Rx | LineKind::Clock | LineKind::Sample | LineKind::Walk) => Flaw::Event,
+        Some(_) => flaw,
+        None if flaw == Flaw::Kind => Flaw::Described,
+        None => flaw,
     }
 }
 

@@ -1,7 +1,8 @@
 use Rattle.std.proofs.Common.{ap, sym, ◌∙◌, ◌<◌, ◌≤◌, drop, length, subst}
 use Rattle.std.specs.Option.{option_map}
 use Rattle.bac_script.specs.Flaw.{flaw_from, words_left, words_wanted}
-use Rattle.bac_script.proofs.Flaws.{flaw-none_left, flaw-some_left}
+use Rattle.bac_script.specs.Script.Words.{words_of}
+use Rattle.bac_script.proofs.Flaws.{flaw-none_left, flaw-past}
 use Rattle.bac_script.proofs.script.flaw.flaw_of_words.Goals as goal
 
 pub returns-in_default : goal.returns-in_default
@@ -16,6 +17,7 @@ pub returns-in-Some-rest : goal.returns-in-Some-rest
 returns-in-Some-rest c =
     let all = words_wanted c.args.kind in
     let past : length all ≤ c.loop-wanted.wanted-index = subst (λ l. length l ≤ c.loop-wanted.wanted-index) c.words_wanted-wanted-items.ensures c.loop-wanted-test.false in
-    sym (c.loop-wanted.invariant.0
+    c.extra_word.ensures
+    ∙ sym (c.loop-wanted.invariant.0
     ∙ ap (λ rest. flaw_from c.args.kind c.loop-wanted.place (drop c.loop-wanted.wanted-index all) (words_left (option_map (λ text. text.now) rest))) c.in-Some-rest.is
-    ∙ flaw-some_left c.args.kind c.loop-wanted.place c.loop-wanted.wanted-index all c.in-Some-rest.field-0.now past)
+    ∙ flaw-past c.args.kind c.loop-wanted.place c.loop-wanted.wanted-index all (words_of c.in-Some-rest.text.now) past)
