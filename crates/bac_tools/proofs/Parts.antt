@@ -6,7 +6,7 @@ use Rattle.bac_print.specs.Output.{AppendsPart}
 use Rattle.bac_objects.specs.State.{State}
 use Rattle.bac_ports.specs.declared.port.SocketFault.{SocketFault}
 use Rattle.bac_tools.specs.Ending.{Ending}
-use Rattle.bac_tools.specs.Run.{IsServed}
+use Rattle.bac_tools.specs.Serving.{IsServed}
 use Rattle.bac_tools.specs.Sockets.{SocketRules}
 use Rattle.bac_tools.specs.Streams.{Streams}
 use Rattle.bac_tools.specs.declared.fault.Fault.{Fault}

@@ -13,10 +13,10 @@ of_query address (query.Exchange fault) = Exchange address fault
 of_query address query.Write = Write
 of_query address query.Memory = Memory
 
--- a fault of wi
-abbrev pub of_find : FindFault → Fault
-of_find find.Socket = Socket
-of_find (find.Refused address) = Refused address
-of_find find.NoAnswer = NoAnswer
-of_find find.Write = Write
-of_find find.Memory = Memory
+-- a fault of wi, which asked so many addresses
+abbrev pub of_find : ℕ → FindFault → Fault
+of_find asked find.Socket = Socket
+of_find asked (find.Refused address) = Refused address
+of_find asked find.NoAnswer = NoAnswer asked
+of_find asked find.Write = Write
+of_find asked find.Memory = Memory

@@ -1,13 +1,21 @@
 -- What finding devices leaves on the output.
-use Rattle.std.specs.Prelude.{◌≡◌, ℕ, List, Option, None, Some, Ok, Err}
+use Rattle.std.specs.Prelude.{◌≡◌, ◌<◌, ◌≤◌, ◌==◌, ℕ, List, [], length, Option, None, Some, Result, Ok, Err}
+use Rattle.std.specs.Io.KnownBytes.{Consumes, IsAtEnd}
+use Rattle.std.specs.List.{slice_split}
 use Rattle.std.specs.Option.{unwrap_or}
-use Rattle.bac_find.specs.Finding.{Finds, console}
+use Rattle.bac_find.specs.Finding.{Finds as FindsDevices, console}
 use Rattle.bac_find.specs.Hearing.{Found}
 use Rattle.bac_find.specs.declared.search.Search.{Search}
 use Rattle.bac_query.specs.Reading.{Held}
 use Rattle.bac_tools.specs.Ending.{Ending}
 use Rattle.bac_tools.specs.Faults.{of_find}
 use Rattle.bac_tools.specs.Sockets.{Opens, Outside, SocketRules, own_address}
+use Rattle.bac_tools.specs.declared.fault.Fault.TheVariants.{List as ListOf}
+use Rattle.bac_words.specs.Listing.{Lists, listed}
+use Rattle.bac_words.specs.declared.job.Stations.{Stations}
+use Rattle.bac_words.specs.declared.job.Stations.TheVariants.{Listed, Input}
+use Rattle.bac_words.specs.declared.listing.ListFault.{ListFault}
+use Rattle.bac_words.specs.declared.listing.ListFault.TheVariants.{TooLong, Read, Memory}
 
 -- the limits of the instances that are to answer; the lowest alone is both
 abbrev pub limits_of : Option ℕ → Option ℕ → Option (ℕ × ℕ)
@@ -18,18 +26,18 @@ limits_of (Some min) max = Some (min, unwrap_or max min)
 abbrev pub search_of : Option ℕ → Option ℕ → Option ℕ → Search
 search_of min max dnet = record { network = dnet; who_is = record { limits = limits_of min max } }
 
--- done, or a fault of finding devices
-abbrev pub of_found : Found → Ending
-of_found (Ok done) = Ok 0
-of_found (Err fault) = Err (of_find fault)
+-- done, or a fault of finding devices, of which so many were asked
+abbrev pub of_found : ℕ → Found → Ending
+of_found asked (Ok done) = Ok 0
+of_found asked (Err fault) = Err (of_find asked fault)
 
 -- over this socket the request goes to each address by turns, and lines are printed of at most 4096 datagrams that come
 abbrev pub SearchesOver : {S P : Type 0} → SocketRules S P → Search → List (List ℕ) → P → Held → Ending → Held → Type 0
 SearchesOver {P = P} rules search addresses port old result new =
     (found : Found) × (after : P)
-    × Finds rules.sends rules.receives rules.receives_within 4096 search addresses
+    × FindsDevices rules.sends rules.receives rules.receives_within 4096 search addresses
     (console port old) found (console after new)
-    × (result ≡ of_found found)
+    × (result ≡ of_found (length addresses) found)
 
 -- a socket is opened as the words say, and over it devices are found
 abbrev pub Searches : {S P : Type 0} → SocketRules S P →
@@ -37,3 +45,33 @@ abbrev pub Searches : {S P : Type 0} → SocketRules S P →
 Searches rules search addresses local timeout old result new =
     Opens rules (own_address local) timeout old result new
     (λ port. SearchesOver rules search addresses port old.output result new.output)
+
+-- ---- stations that standard input lists
+
+-- What was read, up to one octet more than a list may have: it is too long, or it couldn't be read to its end, or all
+-- of it is the list (10 ends a line).
+abbrev pub IsListIn : ℕ → List ℕ → Held → Result (List (List ℕ)) ListFault → Type 0
+IsListIn limit read left (Err TooLong) = limit < length read
+IsListIn limit read left (Err Read) = length read ≤ limit
+IsListIn limit read left (Err Memory) = Unit {0}
+IsListIn limit read left list = IsAtEnd left × Lists (listed [] 1 (slice_split (λ c. c == 10) read)) list
+
+-- the addresses that the input lists in at most so many octets; `left` is what it has left
+abbrev pub IsListWithin : ℕ → Held → Held → Result (List (List ℕ)) ListFault → Type 0
+IsListWithin limit input left list = (read : List ℕ) × Consumes input left read × IsListIn limit read left list
+
+-- over one socket these are asked; without a list nothing is done
+abbrev pub SearchesListed : {S P : Type 0} → SocketRules S P → Search → Result (List (List ℕ)) ListFault →
+    Option (List ℕ) → ℕ → Outside S → Ending → Outside S → Type 0
+SearchesListed rules search (Err fault) local timeout old result new = (result ≡ Err (ListOf fault)) × (new ≡ old)
+SearchesListed rules search (Ok addresses) local timeout old result new =
+    Searches rules search addresses local timeout old result new
+
+-- the stations of the words are asked, or those of the input, which is read to its end first
+abbrev pub Finds : {S P : Type 0} → SocketRules S P → Search → Stations → Option (List ℕ) → ℕ →
+    Held → Held → Outside S → Ending → Outside S → Type 0
+Finds rules search (Listed addresses) local timeout input left old result new =
+    (left ≡ input) × Searches rules search addresses local timeout old result new
+Finds rules search Input local timeout input left old result new =
+    (list : Result (List (List ℕ)) ListFault) × IsListWithin 1048576 input left list
+    × SearchesListed rules search list local timeout old result new

@@ -5,6 +5,9 @@ pub mod Reasons
 pub mod Texts
 pub mod Sockets
 pub mod Given
+pub mod Playing
+pub mod Asking
 pub mod Finding
 pub mod Streams
+pub mod Serving
 pub mod Run

@@ -1,5 +1,6 @@
 -- What the tools open, and how they ask over it.
 use Rattle.std.specs.Prelude.{◌≡◌, ℕ, List, [], ◌∷◌, Option, None, Result, Ok, Err}
+use Rattle.std.specs.Io.KnownBytes.{Keeps}
 use Rattle.std.specs.Option.{unwrap_or}
 use Rattle.bac_link.specs.declared.link.Lost.{Lost}
 use Rattle.bac_link.specs.declared.transactions.Transactions.{Transactions}
@@ -7,7 +8,8 @@ use Rattle.bac_ports.specs.Asking.{Asks}
 use Rattle.bac_ports.specs.Port.{Opening, Receiving, Sending}
 use Rattle.bac_ports.specs.declared.udp_link.UdpLink.{UdpLink}
 use Rattle.bac_print.specs.Output.{Held}
-use Rattle.bac_tools.specs.Ending.{Ending, IsClosed}
+use Rattle.bac_tools.specs.Ending.{Ending}
+use Rattle.bac_tools.specs.declared.fault.Fault.TheVariants.{Socket}
 use Rattle.bac_words.specs.declared.job.Asked.{Asked}
 
 -- ---- sockets
@@ -39,17 +41,18 @@ outside sockets output = record { sockets = sockets; output = output }
 abbrev pub own_address : Option (List ℕ) → List ℕ
 own_address local = unwrap_or local (0 ∷ 0 ∷ 0 ∷ 0 ∷ 0 ∷ 0 ∷ [])
 
--- over the socket that was opened this is done; without one nothing is printed
-abbrev pub IsDoneOver : {P : Type 0} → Opening P → Held → Ending → Held → (P → Type 0) → Type 0
-IsDoneOver (Err fault) old result new done = IsClosed old new result
-IsDoneOver (Ok port) old result new done = done port
+-- over the socket that was opened this is done; without one that is the fault, and it stays quiet
+abbrev pub IsDoneOver : {P : Type 0} → Opening P → Ending → Type 0 → (P → Type 0) → Type 0
+IsDoneOver (Err fault) result quiet done = (result ≡ Err Socket) × quiet
+IsDoneOver (Ok port) result quiet done = done port
 
--- one socket is opened at this address, whose receives wait so many milliseconds, and over it this is done
+-- One socket is opened at this address, whose receives wait so many milliseconds, and over it this is done. Without one
+-- nothing is printed.
 abbrev pub Opens : {S P : Type 0} → SocketRules S P →
     List ℕ → ℕ → Outside S → Ending → Outside S → (P → Type 0) → Type 0
 Opens {P = P} rules address wait old result new done =
     (opened : Opening P) × rules.opens old.sockets address wait opened new.sockets
-    × IsDoneOver opened old.output result new.output done
+    × IsDoneOver opened result (Keeps old.output new.output) done
 
 -- ---- asking one device
 

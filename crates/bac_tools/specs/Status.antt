@@ -5,9 +5,11 @@ use Rattle.bac_link.specs.declared.exchanges.ExchangeFault.{ExchangeFault}
 use Rattle.bac_link.specs.declared.exchanges.ExchangeFault.TheVariants as exchange
 use Rattle.bac_tools.specs.declared.fault.Fault.{Fault}
 use Rattle.bac_tools.specs.declared.fault.Fault.TheVariants.{NotText, BadValue, NoDevice, Script, Socket, Refused}
-use Rattle.bac_tools.specs.declared.fault.Fault.TheVariants.{NoAnswer, Exchange, Write, Memory}
+use Rattle.bac_tools.specs.declared.fault.Fault.TheVariants.{NoAnswer, List, Exchange, Write, Memory}
 use Rattle.bac_script.specs.declared.replay.fault.ReplayFault.{ReplayFault}
 use Rattle.bac_script.specs.declared.replay.fault.ReplayFault.TheVariants as replay
+use Rattle.bac_words.specs.declared.listing.ListFault.{ListFault}
+use Rattle.bac_words.specs.declared.listing.ListFault.TheVariants as list
 use Rattle.bac_walk.specs.declared.outcome.WalkFault.TheVariants as walk
 use Rattle.bac_walk.specs.declared.outcome.Why.{Why}
 use Rattle.bac_walk.specs.declared.outcome.Why.TheVariants as why
@@ -28,6 +30,15 @@ exchange_status exchange.Lost = 2
 exchange_status (exchange.Refused refusal) = 3
 exchange_status exchange.BadReply = 4
 
+-- of a list of addresses that isn't read
+abbrev pub list_status : ListFault → ℕ
+list_status (list.BadLine number) = 1
+list_status (list.TooMany number) = 1
+list_status list.Empty = 1
+list_status list.TooLong = 1
+list_status list.Read = 2
+list_status list.Memory = 5
+
 -- of any fault
 abbrev pub exit_status : Fault → ℕ
 exit_status NotText = 1
@@ -36,7 +47,8 @@ exit_status NoDevice = 1
 exit_status (Script refused) = script_status refused.fault
 exit_status Socket = 2
 exit_status (Refused address) = 2
-exit_status NoAnswer = 2
+exit_status (NoAnswer asked) = 2
+exit_status (List fault) = list_status fault
 exit_status (Exchange address fault) = exchange_status fault
 exit_status Write = 2
 exit_status Memory = 5

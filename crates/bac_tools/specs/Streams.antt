@@ -28,10 +28,10 @@ outside_of all = outside all.sockets all.output
 abbrev pub IsQuiet : {S C : Type 0} → Streams S C → Streams S C → Type 0
 IsQuiet old new = (new.errors ≡ old.errors) × (new.clock ≡ old.clock)
 
--- no socket is opened
-abbrev pub IsUnopened : {S C : Type 0} → Streams S C → Streams S C → Type 0
-IsUnopened old new = new.sockets ≡ old.sockets
-
 -- nothing is told or opened, and the clock isn't looked at
 abbrev pub IsIdle : {S C : Type 0} → Streams S C → Streams S C → Type 0
-IsIdle old new = IsQuiet old new × IsUnopened old new
+IsIdle old new = IsQuiet old new × (new.sockets ≡ old.sockets)
+
+-- nothing is read or opened, and the clock isn't looked at
+abbrev pub IsUntouched : {S C : Type 0} → Streams S C → Streams S C → Type 0
+IsUntouched old new = (new.input ≡ old.input) × (new.sockets ≡ old.sockets) × (new.clock ≡ old.clock)

@@ -9,10 +9,10 @@ use Rattle.bac_report.specs.Ends.{refusal_text}
 use Rattle.bac_script.specs.declared.replay.fault.Refused.{Refused as Refusal}
 use Rattle.bac_script.specs.declared.replay.fault.ReplayFault.{ReplayFault}
 use Rattle.bac_script.specs.declared.replay.fault.ReplayFault.TheVariants as script
-use Rattle.bac_tools.specs.Reasons.{second_line}
+use Rattle.bac_tools.specs.Reasons.{list_text, second_line, unanswered_text}
 use Rattle.bac_tools.specs.declared.fault.Fault.{Fault}
 use Rattle.bac_tools.specs.declared.fault.Fault.TheVariants.{NotText, BadValue, NoDevice, Script, Socket, Refused}
-use Rattle.bac_tools.specs.declared.fault.Fault.TheVariants.{NoAnswer, Exchange, Write, Memory}
+use Rattle.bac_tools.specs.declared.fault.Fault.TheVariants.{NoAnswer, List as ListOf, Exchange, Write, Memory}
 use Rattle.bac_words.specs.Names.{name_of, is_option}
 use Rattle.bac_words.specs.declared.word.Word.{Word}
 use Rattle.bac_words.specs.declared.word.Word.TheVariants as word
@@ -108,7 +108,8 @@ fault_text NoDevice = bad_value ++ codes "no device line"
 fault_text (Script refused) = refusal_lines refused
 fault_text Socket = codes "socket fault"
 fault_text (Refused address) = refused_text address
-fault_text NoAnswer = codes "no answer"
+fault_text (NoAnswer asked) = unanswered_text asked
+fault_text (ListOf fault) = list_text fault
 fault_text (Exchange address fault) = exchange_text address fault
 fault_text Write = codes "write fault"
 fault_text Memory = codes "out of memory"

@@ -4,14 +4,14 @@ ghost use Rattle.std.specs.Prelude.{◌≡◌, None, Ok, Err, IfOk, IfErr};
 ghost use Rattle.bac_link.specs.Requests.{IsSendable};
 ghost use Rattle.bac_wire.specs.View.{view, IsWellFormed};
 ghost use Rattle.bac_tools.specs.Given.{value_of};
-ghost use Rattle.bac_tools.specs.Run.{Fetches, Reads, Writes};
+ghost use Rattle.bac_tools.specs.Asking.{Fetches, Reads, Writes};
 ghost use Rattle.bac_tools.specs.Sockets.{link_over, outside, own_address, socket_rules, transactions_with};
 
 use crate::fault::{Fault, walk_status};
 use bac_apdu::{ReadProperty, Route};
 use bac_link::{Request, Transactions};
 use bac_ports::{SocketFault, Sockets, UdpLink};
-use bac_query::{fetch_log, read_property, write_property};
+use bac_query::{fetch_log_ahead, read_property, write_property};
 use bac_walk::Walk;
 use bac_wire::Value;
 use bac_words::{Asked, Given};
@@ -123,7 +123,7 @@ pub(crate) fn log<S: Sockets, O: Write>(
         mut link,
         mut transactions,
     } = connect(sockets, asked)?;
-    match fetch_log(alloc, &mut link, &mut transactions, walk, steps, output) {
+    match fetch_log_ahead(alloc, &mut link, &mut transactions, walk, steps, output) {
         Ok(fetched) => Ok(walk_status(fetched.why)),
         Err(fault) => Err(Fault::of_query(address, fault)),
     }

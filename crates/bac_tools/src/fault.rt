@@ -2,13 +2,13 @@
 
 ghost use Rattle.std.specs.Prelude.{◌≡◌};
 ghost use Rattle.bac_tools.specs.Faults.{of_query};
-ghost use Rattle.bac_tools.specs.Status.{exit_status, exchange_status, script_status, walk_status};
+ghost use Rattle.bac_tools.specs.Status.{exit_status, exchange_status, list_status, script_status, walk_status};
 
 use bac_link::ExchangeFault;
 use bac_query::QueryFault;
 use bac_script::{Refused, ReplayFault};
 use bac_walk::{WalkFault, Why};
-use bac_words::Word;
+use bac_words::{ListFault, Word};
 
 /// Why a tool ends without what it was asked for.
 #[derive(Clone, Copy, Debug, PartialEq, Eq)]
@@ -26,8 +26,10 @@ pub enum Fault {
     Socket,
     /// No request could be sent to this address.
     Refused([u8; 6]),
-    /// No device announced itself.
-    NoAnswer,
+    /// No device announced itself, of so many addresses that were asked.
+    NoAnswer(usize),
+    /// The addresses to ask couldn't be read from the input.
+    List(ListFault),
     /// The answer from this address didn't come, or isn't the ACK that belongs to the request.
     Exchange {
         address: [u8; 6],
@@ -60,6 +62,16 @@ fn exchange_status(fault: ExchangeFault) -> u8
     }
 }
 
+fn list_status(fault: ListFault) -> u8
+    ensures { result ≡ list_status fault }
+{
+    match fault {
+        ListFault::BadLine(_) | ListFault::TooMany(_) | ListFault::Empty | ListFault::TooLong => 1,
+        ListFault::Read => 2,
+        ListFault::Memory => 5,
+    }
+}
+
 impl Fault {
     /// The program's exit status.
     pub fn status(self) -> u8
@@ -68,7 +80,8 @@ impl Fault {
         match self {
             Fault::NotText | Fault::BadValue(_) | Fault::NoDevice => 1,
             Fault::Script(refused) => script_status(refused.fault),
-            Fault::Socket | Fault::Refused(_) | Fault::NoAnswer | Fault::Write => 2,
+            Fault::Socket | Fault::Refused(_) | Fault::NoAnswer(_) | Fault::Write => 2,
+            Fault::List(fault) => list_status(fault),
             Fault::Exchange { fault, .. } => exchange_status(fault),
             Fault::Memory => 5,
         }

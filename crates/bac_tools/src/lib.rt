@@ -21,11 +21,13 @@ mod until_refused;
 
 pub use bac_ports::{Heard, Port, SocketFault, Sockets, UdpPort, UdpSockets};
 pub use bac_script::{
-    Configuration, Flaw, LIMIT, LineKind, Reason, Refused, ReplayFault, Wanted, read_configuration,
-    read_configuration_explained, run_replay, run_replay_explained,
+    Configuration, Flaw, LIMIT, LineKind, Reason, Refused, ReplayFault, UnfitLine, Wanted,
+    read_configuration, read_configuration_explained, run_replay, run_replay_explained,
 };
 pub use bac_serve::{Clock, SystemClock, serve, serve_one};
-pub use bac_words::{Addresses, Asked, Given, Job, Name, Word, WordsFault, read_words};
+pub use bac_words::{
+    Addresses, Asked, Given, Job, ListFault, Name, Stations, Word, WordsFault, read_words,
+};
 pub use fault::Fault;
 pub use program::run;
 pub use telling::tell;

@@ -1,7 +1,7 @@
 //! The tool that plays a script.
 
 ghost use Rattle.std.specs.Prelude.{◌≡◌};
-ghost use Rattle.bac_tools.specs.Run.{Plays};
+ghost use Rattle.bac_tools.specs.Playing.{Plays};
 
 use crate::fault::Fault;
 use bac_script::{Refused, ReplayFault, run_replay_explained};

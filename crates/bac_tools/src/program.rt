@@ -1,12 +1,14 @@
 //! The whole program.
 
-ghost use Rattle.std.specs.Prelude.{◌≡◌, ◌⊎◌, ◌≤◌, map, IfOk, IfErr};
-ghost use Rattle.std.specs.Io.KnownBytes.{Keeps};
+ghost use Rattle.std.specs.Prelude.{◌≡◌, ◌⊎◌, map, [], None, IfOk, IfErr, OnOk, OnErr};
+ghost use Rattle.std.specs.Io.KnownBytes.{Appends};
 ghost use Rattle.std.specs.String.{string_bytes};
 ghost use Rattle.clap.specs.Values.{kind_of};
-ghost use Rattle.bac_tools.specs.Run.{AreMistaken, AreWrong, AskFor, Ends, IsMistake, IsNoWalk, IsOutside, IsTold, Runs, Works, priority_of, walk_from};
+ghost use Rattle.bac_print.specs.Output.{AppendsPart};
+ghost use Rattle.bac_tools.specs.Run.{AnswersWords, AreWrong, AskFor, Explains, IsNoWalk, IsOutside, OnlyTells, Runs, Works, priority_of, walk_from};
 ghost use Rattle.bac_tools.specs.Sockets.{socket_rules};
 ghost use Rattle.bac_tools.specs.Streams.{streams};
+ghost use Rattle.bac_words.specs.Outcome.{mistakes_of};
 ghost use Rattle.bac_words.specs.declared.job.Job.{Job as AnyJob};
 ghost use Rattle.bac_words.specs.declared.word.Word.{Word as AnyWord};
 
@@ -15,13 +17,13 @@ use crate::fault::Fault;
 use crate::finding::{limits, wi};
 use crate::playing::replay;
 use crate::serving::serve;
-use crate::telling::tell;
+use crate::telling::{say, tell};
 use bac_apdu::object_type::TREND_LOG;
 use bac_apdu::{ReadProperty, WhoIs, WriteProperty};
 use bac_find::Search;
 use bac_link::Request;
 use bac_ports::Sockets;
-use bac_print::write_text;
+use bac_print::{WriteRefused, write_text};
 use bac_serve::Clock;
 use bac_walk::Walk;
 use bac_wire::ObjectId;
@@ -81,7 +83,7 @@ fn work<S: Sockets, I: Read, O: Write, E: Write, C: Clock>(
     match job {
         Job::Replay => replay(alloc, input, output),
         Job::Wi {
-            addresses,
+            stations,
             min,
             max,
             dnet,
@@ -94,7 +96,9 @@ fn work<S: Sockets, I: Read, O: Write, E: Write, C: Clock>(
                     limits: limits(min, max),
                 },
             };
-            wi(sockets, alloc, &addresses, &search, local, timeout, output)
+            wi(
+                sockets, alloc, &stations, &search, local, timeout, input, output,
+            )
         }
         Job::Rp {
             asked,
@@ -140,6 +144,17 @@ fn work<S: Sockets, I: Read, O: Write, E: Write, C: Clock>(
     }
 }
 
+/// Writes a text, and flushes the output.
+fn show<O: Write>(text: &[u8], output: &mut O) -> Result<(), WriteRefused>
+    ensures ok { OnOk result (Appends (O.contents output.old) (O.contents output.new) text.now) }
+    ensures err { OnErr result (AppendsPart (O.contents output.old) (O.contents output.new) text.now) }
+{
+    if write_text(output, text).is_err() || output.flush().is_err() {
+        return Err(WriteRefused);
+    }
+    Ok(())
+}
+
 /// What `clap` says of the words: help and the version on the output, mistakes on the errors.
 fn explain<O: Write, E: Write>(
     alloc: Global,
@@ -147,18 +162,19 @@ fn explain<O: Write, E: Write>(
     output: &mut O,
     errors: &mut E,
 ) -> u8
-    ensures { IsMistake (kind_of error.now) →
-        Keeps (O.contents output.old) (O.contents output.new)
-        × ((result ≡ 1) ⊎ IsTold Fault.Memory (E.contents errors.old) (E.contents errors.new) result) }
+    ensures { OnlyTells Fault.Memory (streams None (O.contents output.old) (E.contents errors.old) (tt {0}) (tt {0})) result
+        (streams None (O.contents output.new) (E.contents errors.new) (tt {0}) (tt {0}))
+        ⊎ Explains (kind_of error.now) (streams None (O.contents output.old) (E.contents errors.old) (tt {0}) (tt {0})) result
+        (streams None (O.contents output.new) (E.contents errors.new) (tt {0}) (tt {0})) }
 {
     let Ok(text) = format!(in alloc; "{error}") else {
         return tell(alloc, Fault::Memory, errors);
     };
     if error.use_stderr() {
-        let _ = write_text(errors, text.as_bytes());
+        say(text.as_bytes(), errors);
         return 1;
     }
-    if write_text(output, text.as_bytes()).is_err() || output.flush().is_err() {
+    if show(text.as_bytes(), output).is_err() {
         return tell(alloc, Fault::Write, errors);
     }
     0
@@ -181,13 +197,16 @@ pub fn run<S: Sockets, I: Read, O: Write, E: Write, C: Clock>(
         Runs (socket_rules S.opens S.Socket.sends S.Socket.receives S.Socket.receives_within) C.tells job
         (streams (I.remaining input.old) (O.contents output.old) (E.contents errors.old) sockets.old clock.old) result
         (streams (I.remaining input.new) (O.contents output.new) (E.contents errors.new) sockets.new clock.new) }
-    // Words that are wrong leave the output as it is.
+    // Of words with a wrong value this is told, and nothing else is done.
     ensures bad_value { (word : AnyWord) → AreWrong (map string_bytes words.now) word →
-        Keeps (O.contents output.old) (O.contents output.new)
-        × IsTold (Fault.BadValue word) (E.contents errors.old) (E.contents errors.new) result }
-    ensures mistake { AreMistaken (map string_bytes words.now) →
-        Keeps (O.contents output.old) (O.contents output.new)
-        × ((result ≡ 1) ⊎ IsTold Fault.Memory (E.contents errors.old) (E.contents errors.new) result) }
+        OnlyTells (Fault.BadValue word)
+        (streams (I.remaining input.old) (O.contents output.old) (E.contents errors.old) sockets.old clock.old) result
+        (streams (I.remaining input.new) (O.contents output.new) (E.contents errors.new) sockets.new clock.new) }
+    // Words that ask for help or the version have it on the output, those with a mistake on the
+    // errors, and nothing else is done.
+    ensures explained { (mistakes_of (map string_bytes words.now) ≡ [] → ⊥) → AnswersWords (map string_bytes words.now)
+        (streams (I.remaining input.old) (O.contents output.old) (E.contents errors.old) sockets.old clock.old) result
+        (streams (I.remaining input.new) (O.contents output.new) (E.contents errors.new) sockets.new clock.new) }
 {
     let job = match read_words(alloc, words) {
         Ok(job) => job,

@@ -1,11 +1,12 @@
 //! What is told of a script or a configuration that isn't right: what to mend.
 
-ghost use Rattle.std.specs.Prelude.{◌≡◌, ◌++◌, OnOk};
-ghost use Rattle.bac_tools.specs.Reasons.{default_text, first_word, fitting_text, flaw_text, form_text, line_text, misfit_text, namesake_text, reason_text, second_line, wanted_text};
+ghost use Rattle.std.specs.Prelude.{◌≡◌, ◌++◌, codes, decimal, OnOk};
+ghost use Rattle.bac_tools.specs.Reasons.{blanks_text, default_text, first_word, fitting_text, flaw_text, form_text, in_line, line_text, list_text, listed_badly, misfit_text, namesake_text, number_text, place_text, reason_text, second_line, some_line, unanswered_text, unbuilt_line, wanted_text, word_flaw};
 
 use bac_device::{BuildFault, LineId, Misfit};
 use bac_print::push_number;
-use bac_script::{Flaw, LineKind, Reason, Wanted};
+use bac_script::{Flaw, LineKind, Reason, UnfitLine, Wanted};
+use bac_words::ListFault;
 use std::alloc::AllocError;
 
 /// The words of a line.
@@ -34,7 +35,7 @@ fn told_of<'a>(wanted: Wanted) -> &'a str
         Wanted::Short => "a number from 0 to 65535",
         Wanted::Object => "a number from 0 to 4194302",
         Wanted::Reply => "a number from 50 to 1476",
-        Wanted::Switch => "0 or 1",
+        Wanted::Binary => "0 or 1",
         Wanted::States => "a number from 1 to 65535",
         Wanted::State => "a number from 1 to STATES",
         Wanted::Capacity => "a number from 1 to 65535",
@@ -57,15 +58,54 @@ fn push_both(text: &mut Vec<u8>, first: &str, second: &str) -> Result<(), AllocE
     text.extend_from_slice(second.as_bytes())
 }
 
-/// Appends which word is wrong, and what it has to be.
-#[tactic(auto, unfolding(crate::specs::Reasons::flaw_text))]
-fn push_word(text: &mut Vec<u8>, number: usize, wanted: Wanted) -> Result<(), AllocError>
-    ensures { OnOk result (text.new.items ≡ text.old.items ++ flaw_text (Flaw.Word number wanted)) }
+/// What a line is whose place is wrong.
+fn place_of<'a>(kind: LineKind) -> &'a str
+    ensures { result.now ≡ place_text kind }
 {
-    text.extend_from_slice(b"word ")?;
-    push_number(text, number as u64)?;
-    text.extend_from_slice(b": ")?;
-    text.extend_from_slice(told_of(wanted).as_bytes())
+    match kind {
+        LineKind::Device => "a device line stands before it",
+        LineKind::Rx | LineKind::Clock | LineKind::Sample | LineKind::Walk => {
+            "no device line stands before it"
+        }
+        LineKind::Binary | LineKind::Multistate | LineKind::Integer | LineKind::Log => {
+            "it stands behind the device line, and before the first event"
+        }
+    }
+}
+
+/// Appends a text, and a number after it.
+fn push_numbered(text: &mut Vec<u8>, said: &str, number: usize) -> Result<(), AllocError>
+    ensures { OnOk result (text.new.items ≡ text.old.items ++ (said.now ++ decimal number)) }
+{
+    text.extend_from_slice(said.as_bytes())?;
+    push_number(text, number as u64)
+}
+
+/// Appends which word is wrong, and what it has to be.
+fn push_word(text: &mut Vec<u8>, number: usize, wanted: Wanted) -> Result<(), AllocError>
+    ensures { OnOk result (text.new.items ≡ text.old.items ++ word_flaw number wanted) }
+{
+    push_numbered(text, "word ", number)?;
+    push_both(text, ": ", told_of(wanted))
+}
+
+/// Appends before which word there is a blank too many.
+fn push_blanks(text: &mut Vec<u8>, number: usize) -> Result<(), AllocError>
+    ensures { OnOk result (text.new.items ≡ text.old.items ++ blanks_text number) }
+{
+    if number <= 1 {
+        text.extend_from_slice(b"the line begins with a blank")
+    } else {
+        push_numbered(text, "two blanks before word ", number)
+    }
+}
+
+/// Appends which word is a number that is too long.
+fn push_long(text: &mut Vec<u8>, number: usize, wanted: Wanted) -> Result<(), AllocError>
+    ensures { OnOk result (text.new.items ≡ text.old.items ++ (word_flaw number wanted ++ codes ", of at most 10 digits")) }
+{
+    push_word(text, number, wanted)?;
+    text.extend_from_slice(b", of at most 10 digits")
 }
 
 /// Appends what is wrong with a bad line.
@@ -77,10 +117,17 @@ fn push_flaw(text: &mut Vec<u8>, flaw: Flaw) -> Result<(), AllocError>
         Flaw::Kind => text.extend_from_slice(
             b"a line begins with device, binary, multistate, integer, log, rx, clock, sample or walk",
         ),
+        Flaw::Described => text.extend_from_slice(
+            b"a line begins with device, binary, multistate, integer or log",
+        ),
         Flaw::Count(kind) => push_both(text, "the line is: ", form_of(kind)),
         Flaw::Word(number, wanted) => push_word(text, number, wanted),
-        Flaw::Place => text.extend_from_slice(
-            b"the device's line comes first and stands once, then its objects', then events",
+        Flaw::Long(number, wanted) => push_long(text, number, wanted),
+        Flaw::Blank => text.extend_from_slice(b"the line ends with a blank"),
+        Flaw::Blanks(number) => push_blanks(text, number),
+        Flaw::Place(kind) => text.extend_from_slice(place_of(kind).as_bytes()),
+        Flaw::Event => text.extend_from_slice(
+            b"a configuration has no events: rx, clock, sample and walk are for bac replay",
         ),
     }
 }
@@ -109,12 +156,39 @@ fn push_line(text: &mut Vec<u8>, line: LineId) -> Result<(), AllocError>
     push_number(text, line.instance as u64)
 }
 
-/// Appends which line has the same name.
-fn push_namesake(text: &mut Vec<u8>, namesake: Option<LineId>) -> Result<(), AllocError>
-    ensures { OnOk result (text.new.items ≡ text.old.items ++ namesake_text namesake) }
+/// Appends where a line is, if that is known.
+fn push_place(text: &mut Vec<u8>, number: Option<usize>) -> Result<(), AllocError>
+    ensures { OnOk result (text.new.items ≡ text.old.items ++ in_line number) }
+{
+    match number {
+        Some(number) => push_numbered(text, " in line ", number),
+        None => Ok(()),
+    }
+}
+
+/// Appends which line has the same name, and where.
+fn push_namesake(
+    text: &mut Vec<u8>,
+    namesake: Option<LineId>,
+    number: Option<usize>,
+) -> Result<(), AllocError>
+    ensures { OnOk result (text.new.items ≡ text.old.items ++ namesake_text namesake number) }
 {
     match namesake {
-        Some(line) => push_line(text, line),
+        Some(line) => {
+            push_line(text, line)?;
+            push_place(text, number)
+        }
+        None => text.extend_from_slice(b"another line"),
+    }
+}
+
+/// Appends a line by its number, if that is known.
+fn push_some_line(text: &mut Vec<u8>, number: Option<usize>) -> Result<(), AllocError>
+    ensures { OnOk result (text.new.items ≡ text.old.items ++ some_line number) }
+{
+    match number {
+        Some(number) => push_numbered(text, "line ", number),
         None => text.extend_from_slice(b"another line"),
     }
 }
@@ -136,19 +210,21 @@ fn push_fitting(
     fault: BuildFault,
     object_type: u16,
     namesake: Option<LineId>,
+    rival: Option<usize>,
 ) -> Result<(), AllocError>
-    ensures { OnOk result (text.new.items ≡ text.old.items ++ fitting_text fault object_type namesake) }
+    ensures { OnOk result (text.new.items ≡ text.old.items ++ fitting_text fault object_type namesake rival) }
 {
     match fault {
         BuildFault::DuplicateName => {
             text.extend_from_slice(b"its name is that of ")?;
-            push_namesake(text, namesake)
+            push_namesake(text, namesake, rival)
         }
         BuildFault::BadInstance => {
             text.extend_from_slice(b"an instance is a number from 0 to 4194302")
         }
         BuildFault::DuplicateId => {
-            text.extend_from_slice(b"another line has this type and instance")
+            push_some_line(text, rival)?;
+            text.extend_from_slice(b" has this type and instance")
         }
         BuildFault::BadName => {
             text.extend_from_slice(b"a name has 1 to 64 octets and no control character")
@@ -164,10 +240,21 @@ fn push_fitting(
     }
 }
 
+/// Appends the number of a line, if that is known.
+fn push_line_number(text: &mut Vec<u8>, number: Option<usize>) -> Result<(), AllocError>
+    ensures { OnOk result (text.new.items ≡ text.old.items ++ number_text number) }
+{
+    let Some(number) = number else {
+        return Ok(());
+    };
+    push_numbered(text, "line ", number)?;
+    text.extend_from_slice(b": ")
+}
+
 /// Appends which line a device can't be built with, and what it has to be.
 #[tactic(auto, unfolding(crate::specs::Reasons::misfit_text))]
-fn push_misfit(text: &mut Vec<u8>, misfit: Misfit) -> Result<(), AllocError>
-    ensures { OnOk result (text.new.items ≡ text.old.items ++ misfit_text misfit) }
+fn push_misfit(text: &mut Vec<u8>, misfit: Misfit, rival: Option<usize>) -> Result<(), AllocError>
+    ensures { OnOk result (text.new.items ≡ text.old.items ++ misfit_text misfit rival) }
 {
     let Misfit {
         line,
@@ -176,7 +263,16 @@ fn push_misfit(text: &mut Vec<u8>, misfit: Misfit) -> Result<(), AllocError>
     } = misfit;
     push_line(text, line)?;
     text.extend_from_slice(b": ")?;
-    push_fitting(text, fault, line.object_type, namesake)
+    push_fitting(text, fault, line.object_type, namesake, rival)
+}
+
+/// Appends the same, and where it stands.
+#[tactic(auto, unfolding(crate::specs::Reasons::unbuilt_line))]
+fn push_unbuilt(text: &mut Vec<u8>, unbuilt: UnfitLine) -> Result<(), AllocError>
+    ensures { OnOk result (text.new.items ≡ text.old.items ++ unbuilt_line unbuilt) }
+{
+    push_line_number(text, unbuilt.number)?;
+    push_misfit(text, unbuilt.misfit, unbuilt.rival)
 }
 
 /// Appends what is to mend.
@@ -186,7 +282,7 @@ fn push_reason(text: &mut Vec<u8>, reason: Reason) -> Result<(), AllocError>
 {
     match reason {
         Reason::Line(flaw) => push_flaw(text, flaw),
-        Reason::Device(misfit) => push_misfit(text, misfit),
+        Reason::Device(unbuilt) => push_unbuilt(text, unbuilt),
     }
 }
 
@@ -199,4 +295,43 @@ pub(crate) fn push_second_line(text: &mut Vec<u8>, reason: Option<Reason>) -> Re
     };
     text.push(b'\n')?;
     push_reason(text, reason)
+}
+
+/// Appends that nobody answered, of so many addresses.
+pub(crate) fn push_unanswered(text: &mut Vec<u8>, asked: usize) -> Result<(), AllocError>
+    ensures { OnOk result (text.new.items ≡ text.old.items ++ unanswered_text asked) }
+{
+    text.extend_from_slice(b"no answer\n")?;
+    push_numbered(text, "addresses asked: ", asked)
+}
+
+/// Appends that a line of a list of addresses is bad, and why.
+fn push_listed_badly(text: &mut Vec<u8>, number: usize, said: &str) -> Result<(), AllocError>
+    ensures { OnOk result (text.new.items ≡ text.old.items ++ listed_badly number said.now) }
+{
+    push_numbered(text, "line ", number)?;
+    push_both(text, ": bad line\n", said)
+}
+
+/// Appends why a list of addresses isn't read.
+#[tactic(auto, unfolding(crate::specs::Reasons::list_text))]
+pub(crate) fn push_list(text: &mut Vec<u8>, fault: ListFault) -> Result<(), AllocError>
+    ensures { OnOk result (text.new.items ≡ text.old.items ++ list_text fault) }
+{
+    match fault {
+        ListFault::BadLine(number) => push_listed_badly(
+            text,
+            number,
+            "a line is A.B.C.D or A.B.C.D:PORT, A to D from 0 to 255, PORT from 1 to 65535",
+        ),
+        ListFault::TooMany(number) => {
+            push_listed_badly(text, number, "a list has at most 4096 addresses")
+        }
+        ListFault::Empty => text.extend_from_slice(b"bad value\nno address"),
+        ListFault::TooLong => {
+            text.extend_from_slice(b"bad value\na list has at most 1048576 octets")
+        }
+        ListFault::Read => text.extend_from_slice(b"read fault"),
+        ListFault::Memory => text.extend_from_slice(b"out of memory"),
+    }
 }

@@ -3,7 +3,7 @@
 ghost use Rattle.std.specs.Prelude.{◌≡◌, ◌⊎◌, Ok, Err, Some, None, IfOk, IfErr};
 ghost use Rattle.bac_objects.specs.Build.{build_fault, built as built_of};
 ghost use Rattle.bac_print.specs.Output.{AppendsPart};
-ghost use Rattle.bac_tools.specs.Run.{IsConfigured, IsUnbuilt, Serves};
+ghost use Rattle.bac_tools.specs.Serving.{IsConfigured, IsUnbuilt, Serves};
 ghost use Rattle.bac_tools.specs.Sockets.{socket_rules};
 ghost use Rattle.bac_tools.specs.Streams.{streams};
 ghost use Rattle.bac_tools.specs.Texts.{serving_line};
@@ -12,7 +12,9 @@ use crate::fault::Fault;
 use crate::telling::{announcement, say};
 use bac_device::{Device, misfit};
 use bac_ports::{SocketFault, Sockets};
-use bac_script::{Configuration, Reason, Refused, ReplayFault, read_configuration_explained};
+use bac_script::{
+    Configuration, Reason, Refused, ReplayFault, UnfitLine, read_configuration_explained,
+};
 use bac_serve::{Clock, idle_wait};
 use std::alloc::Global;
 use std::io::{Read, Write};
@@ -35,7 +37,11 @@ fn unfit(alloc: Global, configuration: &Configuration) -> Fault
     match misfit(alloc, &configuration.device, &configuration.objects) {
         Some(misfit) => Fault::Script(Refused {
             fault: ReplayFault::Build(misfit.fault),
-            reason: Some(Reason::Device(misfit)),
+            reason: Some(Reason::Device(UnfitLine {
+                misfit,
+                number: None,
+                rival: None,
+            })),
         }),
         None => Fault::Memory,
     }

@@ -6,7 +6,7 @@ ghost use Rattle.bac_tools.specs.Run.{IsTold};
 ghost use Rattle.bac_tools.specs.Texts.{build_text, exchange_text, fault_text, of_address, range_text, refusal_lines, script_text, serving_line, told_text, unbuilt_text, word_text, wrong_text};
 
 use crate::fault::Fault;
-use crate::reason::push_second_line;
+use crate::reason::{push_list, push_second_line, push_unanswered};
 use bac_device::BuildFault;
 use bac_link::ExchangeFault;
 use bac_print::{push_address, push_number, write_text};
@@ -164,7 +164,8 @@ fn push_fault(text: &mut Vec<u8>, fault: Fault) -> Result<(), AllocError>
             "nothing was sent to ",
             address,
         ),
-        Fault::NoAnswer => text.extend_from_slice(b"no answer"),
+        Fault::NoAnswer(asked) => push_unanswered(text, asked),
+        Fault::List(fault) => push_list(text, fault),
         Fault::Exchange { address, fault } => push_exchange(text, address, fault),
         Fault::Write => text.extend_from_slice(b"write fault"),
         Fault::Memory => text.extend_from_slice(b"out of memory"),

@@ -1,1 +1,4 @@
+mod AtRest
 mod Logged
+mod Silence
+mod Unfound

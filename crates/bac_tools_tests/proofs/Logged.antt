@@ -1,21 +1,44 @@
--- A tool that ended with status 0 told no fault; so `bac log` printed what came over its socket.
-use Rattle.std.proofs.Common.{◌≡◌, ◌⊎◌, ◌∙◌, inl, inr, ℕ, List, Option, Result, Ok, Err, sym, arith}
+-- What `run` says of `bac log`: with status 0 no fault was told, so what came over the socket is printed; if the log
+-- doesn't change, all of it; and whatever is refused, a front part of it.
+use Rattle.std.proofs.Common.{◌≡◌, ◌⊎◌, ◌∙◌, inl, inr, ℕ, ◌+◌, ◌-◌, ◌<◌, ◌≤◌, max, List, [], ◌∷◌, ◌++◌, Option, Some, Result, Ok, Err, false, refl, sym, ap, subst, append-nil, append_assoc, Bool, length, arith}
+use Rattle.std.specs.Io.KnownBytes.{Appends, Keeps}
+use Rattle.bac_link.specs.Delivery.{History, Moment, DeliversTo, Brings, items_of, now}
+use Rattle.bac_link.specs.Path.{Path, towards}
 use Rattle.bac_link.specs.declared.exchanges.ExchangeFault.{ExchangeFault}
 use Rattle.bac_link.specs.declared.exchanges.ExchangeFault.TheVariants as exchange
-use Rattle.bac_ports.specs.Port.{Opening}
-use Rattle.bac_print.specs.Output.{Held}
+use Rattle.bac_link.specs.declared.item.Item.{Item}
+use Rattle.bac_link.specs.declared.link.Lost.{Lost as Loss}
+use Rattle.bac_log.specs.TrendLog.{sequence_number}
+use Rattle.bac_ports.specs.declared.udp_link.UdpLink.{UdpLink}
+use Rattle.bac_print.specs.Output.{AppendsPart, Held}
+use Rattle.bac_query.specs.Ahead.{FetchesAhead}
+use Rattle.bac_query.specs.Fetching.{Fetching, IsEnd, TellsRun}
+use Rattle.bac_query.specs.declared.fault.QueryFault.TheVariants as query
+use Rattle.bac_report.specs.Ends.{end_line}
+use Rattle.bac_report.specs.Items.{items_text}
 use Rattle.bac_script.specs.declared.replay.fault.ReplayFault.{ReplayFault}
 use Rattle.bac_script.specs.declared.replay.fault.ReplayFault.TheVariants as replay
-use Rattle.bac_tools.specs.Ending.{Ending}
-use Rattle.bac_tools.specs.Run.{Fetches, FetchesFrom, IsTold, Runs, walk_from}
-use Rattle.bac_tools.specs.Sockets.{IsDoneOver, Outside, SocketRules, own_address}
-use Rattle.bac_tools.specs.Status.{exchange_status, exit_status, script_status}
+use Rattle.bac_tools.specs.Asking.{Fetches, of_fetching}
+use Rattle.bac_tools.specs.Run.{IsTold, Runs, walk_from}
+use Rattle.bac_tools.specs.Sockets.{Outside, SocketRules, link_over, own_address, socket_asks}
+use Rattle.bac_tools.specs.Status.{exchange_status, exit_status, list_status, script_status, walk_status}
 use Rattle.bac_tools.specs.Streams.{Streams}
 use Rattle.bac_tools.specs.declared.fault.Fault.{Fault}
 use Rattle.bac_tools.specs.declared.fault.Fault.TheVariants.{NotText, BadValue, NoDevice, Script, Socket, Refused}
-use Rattle.bac_tools.specs.declared.fault.Fault.TheVariants.{NoAnswer, Exchange, Write, Memory}
-use Rattle.bac_tools_tests.specs.Logging.{IsLogged}
+use Rattle.bac_tools.specs.declared.fault.Fault.TheVariants.{NoAnswer, List as ListOf, Exchange, Write, Memory}
+use Rattle.bac_tools_tests.proofs.AtRest.{after_one, few_batches, few_lines, leads_bring}
+use Rattle.bac_tools_tests.specs.Logging.{IsCut, IsLogged, IsLoggedAtRest, PrintsAll}
+use Rattle.bac_walk.specs.Came.{AreOf, Brought, Came, EndsBy, answers_of}
+use Rattle.bac_walk.specs.Collects.{IsCaughtUp, batches}
+use Rattle.bac_walk.specs.Delivers.{NoneFrom}
 use Rattle.bac_walk.specs.Place.{WalkPlace}
+use Rattle.bac_walk.specs.declared.outcome.Ended.{Ended}
+use Rattle.bac_walk.specs.declared.outcome.Ended.TheVariants as ended
+use Rattle.bac_walk.specs.declared.outcome.WalkFault.TheVariants as walk
+use Rattle.bac_words.specs.declared.listing.ListFault.{ListFault}
+use Rattle.bac_words.specs.declared.listing.ListFault.TheVariants as list
+use Rattle.bac_walk.specs.declared.outcome.Why.{Why}
+use Rattle.bac_walk.specs.declared.outcome.Why.TheVariants as why
 use Rattle.bac_wire.specs.Stamp.{CivilTime}
 use Rattle.bac_words.specs.declared.job.Asked.{Asked}
 use Rattle.bac_words.specs.declared.job.Job.TheVariants.{Log}
@@ -35,6 +58,14 @@ no_exchange exchange.Lost e = omega (arith, e)
 no_exchange (exchange.Refused refusal) e = omega (arith, e)
 no_exchange exchange.BadReply e = omega (arith, e)
 
+no_list : (fault : ListFault) → list_status fault ≡ 0 → ⊥
+no_list (list.BadLine number) e = omega (arith, e)
+no_list (list.TooMany number) e = omega (arith, e)
+no_list list.Empty e = omega (arith, e)
+no_list list.TooLong e = omega (arith, e)
+no_list list.Read e = omega (arith, e)
+no_list list.Memory e = omega (arith, e)
+
 no_fault : (fault : Fault) → exit_status fault ≡ 0 → ⊥
 no_fault NotText e = omega (arith, e)
 no_fault (BadValue word) e = omega (arith, e)
@@ -42,31 +73,136 @@ no_fault NoDevice e = omega (arith, e)
 no_fault (Script refused) e = no_script refused.fault e
 no_fault Socket e = omega (arith, e)
 no_fault (Refused address) e = omega (arith, e)
-no_fault NoAnswer e = omega (arith, e)
+no_fault (NoAnswer asked) e = omega (arith, e)
+no_fault (ListOf fault) e = no_list fault e
 no_fault (Exchange address fault) e = no_exchange fault e
 no_fault Write e = omega (arith, e)
 no_fault Memory e = omega (arith, e)
 
-not_told : (fault : Fault) (old new : Held) (status : ℕ) → IsTold fault old new status → status ≡ 0 → ⊥
+pub not_told : (fault : Fault) (old new : Held) (status : ℕ) → IsTold fault old new status → status ≡ 0 → ⊥
 not_told fault old new status (inl (is, text)) zero = no_fault fault (sym is ∙ zero)
 not_told fault old new status (inr (is, text)) zero = no_fault Memory (sym is ∙ zero)
 
--- what was fetched over a socket
-fetched : {S P : Type 0} (rules : SocketRules S P) (asked : Asked) (walk : WalkPlace) (steps : ℕ) (port : P) (old new : Held)
-    (done : ℕ) → FetchesFrom rules asked walk steps port old (Ok done) new → IsLogged rules asked walk port old new
-fetched rules asked walk steps port old new done (Err fault, left, over, run, is) = absurd (let e = is in cc)
-fetched rules asked walk steps port old new done (Ok said, left, over, run, is) =
-    let (came, items, n, ended, after, mid, brought, tells, headline) = over in
-    (came, items, n, ended, after, mid, said.why, said.next, brought, tells.2, headline)
+-- what is told of a walk over a link
+abbrev pub Over : {P : Type 0} → (UdpLink P → List ℕ → Result (List ℕ) Loss → UdpLink P → Type 0) → Asked → WalkPlace → ℕ →
+    UdpLink P → Fetching → UdpLink P → Held → Held → Type 0
+Over asks asked walk steps link fetching left old new =
+    FetchesAhead asks (towards asked.route) asked.retries link walk steps fetching left old new
 
--- and the socket that was opened for it
-over_socket : {S P : Type 0} (rules : SocketRules S P) (asked : Asked) (walk : WalkPlace) (steps : ℕ) (old new : Outside S)
-    (done : ℕ) → Fetches rules asked walk steps old (Ok done) new →
-    (port : P) × rules.opens old.sockets (own_address asked.local) asked.timeout (Ok port) new.sockets
-    × IsLogged rules asked walk port old.output new.output
-over_socket rules asked walk steps old new done (Err fault, opens, closed) = absurd (let e = closed.0 in cc)
-over_socket rules asked walk steps old new done (Ok port, opens, from) =
-    (port, opens, fetched rules asked walk steps port old.output new.output done from)
+-- ---- with status 0
+
+fetched : {S P : Type 0} (rules : SocketRules S P) (asked : Asked) (walk : WalkPlace) (steps : ℕ) (port : P) (old new : Held)
+    (done : ℕ) (fetching : Fetching) (left : UdpLink P) →
+    Over (socket_asks rules) asked walk steps (link_over asked.address port) fetching left old new →
+    Ok done ≡ of_fetching asked.address fetching → IsLogged rules asked walk port old new
+fetched rules asked walk steps port old new done (Err fault) left over is = absurd (cc)
+fetched rules asked walk steps port old new done (Ok said) left over is =
+    let (came, items, n, ended, after, mid, brought, tells, headline) = over in
+    (came, items, n, ended, after, (mid, brought), (said.why, said.next, tells.2), headline)
+
+-- ---- at rest
+
+-- a run that ended since there were so many steps
+all_steps : {S : Type 0} (asks : S → List ℕ → Result (List ℕ) Loss → S → Type 0) (path : Path) (retries n : ℕ)
+    (came : List Came) (here : WalkPlace) (mid : S) (e : Ended) (items : List Item) (after : WalkPlace) (new : S) →
+    e ≡ ended.StepLimit → EndsBy asks path retries n came here mid e after new → AreOf e came items after →
+    (batches (answers_of came) ≡ n) × (items ≡ items_of (answers_of came))
+all_steps asks path retries n came here mid ended.CaughtUp items after new is ends are = absurd (cc)
+all_steps asks path retries n came here mid ended.StepLimit items after new is ends are = (ends.1, are)
+all_steps asks path retries n came here mid ended.Stopped items after new is ends are = absurd (cc)
+all_steps asks path retries n came here mid (ended.Fault fault) items after new is ends are = absurd (cc)
+
+-- has as many lines at least
+so_many : {S : Type 0} (asks : S → List ℕ → Result (List ℕ) Loss → S → Type 0) (path : Path) (retries n : ℕ)
+    (came : List Came) (old : S) (walk : WalkPlace) (e : Ended) (items : List Item) (after : WalkPlace) (new : S) →
+    e ≡ ended.StepLimit → Brought asks path retries old walk n came items e after new → n ≤ length items
+so_many asks path retries n came old walk e items after new is (here, mid, comes, ends, are) =
+    let all = all_steps asks path retries n came here mid e items after new is ends are in
+    omega (arith, all.0, ap length all.1, few_batches (answers_of came))
+
+-- no line is left
+none_left : (fresh : Bool) (m : Moment) (t : ℕ) (answers : List (List Item)) → IsCaughtUp fresh t (m ∷ []) answers → NoneFrom t m
+none_left fresh m t answers up =
+    let P : List Moment → Type 0 = λ M. NoneFrom t (now M) in
+    subst P (after_one up.0 m) up.3
+
+-- what a walk of a log that doesn't change leaves, if its status is 0
+all_printed : (H : History) (m : Moment) (s t steps n count : ℕ) (items : List Item) (answers : List (List Item)) (fresh : Bool)
+    (e : Ended) (after : WalkPlace) (w : Why) (next : ℕ) (old new : Held) → walk_status w ≡ 0 →
+    IsEnd steps n e after w next → Appends old new (items_text items ++ end_line w next) →
+    DeliversTo H s items t (m ∷ []) count → after.next ≡ sequence_number t →
+    (e ≡ ended.CaughtUp → IsCaughtUp fresh t (m ∷ []) answers) → (e ≡ ended.StepLimit → n ≤ length items) →
+    ((m.newest + 1) - max s m.oldest) + 1 < steps → PrintsAll H m s old new
+all_printed H m s t steps n count items answers fresh e after why.CaughtUp next old new zero end prints delivers place up limit enough =
+    let P : List Item → Type 0 = λ l. Brings H m s l t in
+    let Q : ℕ → Type 0 = λ k. Appends old new (items_text items ++ end_line why.CaughtUp k) in (
+      items,
+      t,
+      subst P delivers.2 (leads_bring H m s delivers.0 t delivers.3),
+      none_left fresh m t answers (up end.0.1),
+      subst Q (end.1 ∙ place) prints,
+    )
+all_printed H m s t steps n count items answers fresh e after why.StepLimit next old new zero end prints delivers place up limit enough =
+    let P : List Item → Type 0 = λ l. Brings H m s l t in
+    let brings = subst P delivers.2 (leads_bring H m s delivers.0 t delivers.3) in
+    absurd (omega (arith, limit end.0.1, end.0.0, few_lines H m s items t brings, enough))
+all_printed H m s t steps n count items answers fresh e after (why.Fault walk.Lost) next old new zero end prints delivers place up limit enough =
+    absurd (omega (arith, zero))
+all_printed H m s t steps n count items answers fresh e after (why.Fault (walk.Refused refusal)) next old new zero end prints delivers place up limit enough =
+    absurd (omega (arith, zero))
+all_printed H m s t steps n count items answers fresh e after (why.Fault walk.BadReply) next old new zero end prints delivers place up limit enough =
+    absurd (omega (arith, zero))
+all_printed H m s t steps n count items answers fresh e after why.Memory next old new zero end prints delivers place up limit enough =
+    absurd (omega (arith, zero))
+
+rested : {S P : Type 0} (rules : SocketRules S P) (asked : Asked) (walk : WalkPlace) (steps : ℕ) (port : P) (old new : Held)
+    (done : ℕ) (fetching : Fetching) (left : UdpLink P) → done ≡ 0 → walk.fresh ≡ false →
+    Over (socket_asks rules) asked walk steps (link_over asked.address port) fetching left old new →
+    Ok done ≡ of_fetching asked.address fetching → IsLoggedAtRest rules asked walk steps port old new
+rested rules asked walk steps port old new done (Err fault) left zero fresh over is = absurd (cc)
+rested rules asked walk steps port old new done (Ok said) left zero fresh over is =
+    let (came, items, n, ended, after, mid, brought, tells, headline) = over in
+    let status : walk_status said.why ≡ 0 = (let e : done ≡ walk_status said.why = cc in sym e ∙ zero) in (
+      came,
+      items,
+      n,
+      ended,
+      after,
+      (mid, brought),
+      λ H m low s at number window low_s s_high enough.
+          (let (b, a, t, begins, place, delivers, up) = headline H (m ∷ []) low s at number (omega arith) tt (window, tt) (λ old. (low_s, s_high)) in
+          let P : ℕ → Type 0 = λ k. DeliversTo H k items t (m ∷ []) a in
+          all_printed H m s t steps n a items (answers_of came) walk.fresh ended after said.why said.next old new status tells.0 tells.2
+          (subst P (begins fresh) delivers) place up
+          (λ limit. so_many (socket_asks rules) (towards asked.route) asked.retries n came (link_over asked.address port) walk ended items after mid limit brought)
+          enough),
+    )
+
+-- ---- whatever is refused
+
+-- a front part of a text is one of a longer text
+longer : (old new : Held) (text more : List ℕ) → AppendsPart old new text → AppendsPart old new (text ++ more)
+longer old new text more (written, rest, is, appends) =
+    (written, rest ++ more, ap (λ l. l ++ more) is ∙ append_assoc written rest more, appends)
+
+-- the whole is one too
+whole : (old new : Held) (text : List ℕ) → Appends old new text → AppendsPart old new text
+whole old new text appends = (text, [], sym (append-nil text), appends)
+
+pub cut_over : {P : Type 0} (asks : UdpLink P → List ℕ → Result (List ℕ) Loss → UdpLink P → Type 0) (left : Why → Type 0)
+    (items : List Item) (steps n : ℕ) (e : Ended) (after : WalkPlace) (fetching : Fetching) (old new : Held) →
+    TellsRun left items steps n e after fetching old new →
+    (w : Why) × (next : ℕ) × AppendsPart old new (items_text items ++ end_line w next)
+cut_over asks left items steps n e after (Ok fetched) old new tells =
+    (fetched.why, fetched.next, whole old new _ tells.2)
+cut_over asks left items steps n e after (Err query.Write) old new (inl tells) =
+    (why.StepLimit, 0, longer old new (items_text items) (end_line why.StepLimit 0) tells.2)
+cut_over asks left items steps n e after (Err query.Write) old new (inr tells) = (tells.0, tells.1, tells.4)
+cut_over asks left items steps n e after (Err query.Memory) old new tells =
+    (tells.0, tells.1, longer old new (items_text items) (end_line tells.0 tells.1) (whole old new (items_text items) tells.4))
+cut_over asks left items steps n e after (Err (query.Exchange fault)) old new tells = absurd tells
+
+-- ---- over a socket
 
 pub logged : {S P C : Type 0} (rules : SocketRules S P) (tells : C → Option CivilTime → C → Type 0) (asked : Asked)
     (instance steps : ℕ) (from : Option ℕ) (old new : Streams S C) (status : ℕ) →
@@ -79,5 +215,41 @@ logged rules tells asked instance steps from old new status (inr (Err fault, sai
     absurd (not_told fault said new.errors status ends zero)
 logged rules tells asked instance steps from old new status (inr (Ok done, said, (inl unasked, quiet), ends)) zero =
     absurd (let e = unasked.1.1 in cc)
-logged rules tells asked instance steps from old new status (inr (Ok done, said, (inr fetches, quiet), ends)) zero =
-    over_socket rules asked (walk_from instance from) steps _ _ done fetches
+logged rules tells asked instance steps from old new status (inr (Ok done, said, (inr (Err fault, opens, closed), quiet), ends)) zero =
+    absurd (let e = closed.0 in cc)
+logged rules tells asked instance steps from old new status (inr (Ok done, said, (inr (Ok port, opens, (fetching, left, over, is)), quiet), ends)) zero =
+    (port, opens, fetched rules asked (walk_from instance from) steps port old.output new.output done fetching left over.0 is)
+
+pub logged_at_rest : {S P C : Type 0} (rules : SocketRules S P) (tells : C → Option CivilTime → C → Type 0) (asked : Asked)
+    (instance steps number : ℕ) (old new : Streams S C) (status : ℕ) →
+    Runs rules tells (Log asked instance (Some number) steps) old status new → status ≡ 0 →
+    (port : P) × rules.opens old.sockets (own_address asked.local) asked.timeout (Ok port) new.sockets
+    × IsLoggedAtRest rules asked (walk_from instance (Some number)) steps port old.output new.output
+logged_at_rest rules tells asked instance steps number old new status (inl told) zero =
+    absurd (not_told Memory old.errors new.errors status told.0 zero)
+logged_at_rest rules tells asked instance steps number old new status (inr (Err fault, said, works, ends)) zero =
+    absurd (not_told fault said new.errors status ends zero)
+logged_at_rest rules tells asked instance steps number old new status (inr (Ok done, said, (inl unasked, quiet), ends)) zero =
+    absurd (let e = unasked.1.1 in cc)
+logged_at_rest rules tells asked instance steps number old new status (inr (Ok done, said, (inr (Err fault, opens, closed), quiet), ends)) zero =
+    absurd (let e = closed.0 in cc)
+logged_at_rest rules tells asked instance steps number old new status (inr (Ok done, said, (inr (Ok port, opens, (fetching, left, over, is)), quiet), ends)) zero =
+    (port, opens, rested rules asked (walk_from instance (Some number)) steps port old.output new.output done fetching left (sym ends.0 ∙ zero) refl over.0 is)
+
+pub printed_in_order : {S P C : Type 0} (rules : SocketRules S P) (tells : C → Option CivilTime → C → Type 0) (asked : Asked)
+    (instance steps : ℕ) (from : Option ℕ) (old new : Streams S C) (status : ℕ) →
+    Runs rules tells (Log asked instance from steps) old status new →
+    Keeps old.output new.output
+    ⊎ ((port : P) × rules.opens old.sockets (own_address asked.local) asked.timeout (Ok port) new.sockets
+    × IsCut rules asked (walk_from instance from) port old.output new.output)
+printed_in_order rules tells asked instance steps from old new status (inl told) = inl told.1
+printed_in_order rules tells asked instance steps from old new status (inr (result, said, (inl unasked, quiet), ends)) = inl unasked.2
+printed_in_order rules tells asked instance steps from old new status (inr (result, said, (inr (Err fault, opens, closed), quiet), ends)) =
+    inl closed.1
+printed_in_order rules tells asked instance steps from old new status (inr (result, said, (inr (Ok port, opens, (fetching, left, over, is)), quiet), ends)) =
+    let (came, items, n, ended, after, mid, brought, printed, headline) = over.0 in
+    inr (
+      port,
+      opens,
+      (came, items, n, ended, after, (mid, brought), cut_over (socket_asks rules) _ items steps n ended after fetching old.output new.output printed),
+    )

@@ -1,1 +1,2 @@
 pub mod Logging
+pub mod Silence

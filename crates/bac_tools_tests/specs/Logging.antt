@@ -1,27 +1,69 @@
--- What `bac log` prints when all is well.
-use Rattle.std.specs.Prelude.{ℕ, List, ◌++◌}
+-- What `bac log` prints.
+use Rattle.std.specs.Prelude.{◌≡◌, ℕ, ◌+◌, ◌-◌, ◌<◌, ◌≤◌, List, [], ◌∷◌, ◌++◌, max}
 use Rattle.std.specs.Io.KnownBytes.{Appends}
+use Rattle.bac_link.specs.Delivery.{History, Moment, Brings}
 use Rattle.bac_link.specs.Path.{towards}
 use Rattle.bac_link.specs.declared.item.Item.{Item}
+use Rattle.bac_log.specs.TrendLog.{sequence_number}
 use Rattle.bac_ports.specs.declared.udp_link.UdpLink.{UdpLink}
-use Rattle.bac_print.specs.Output.{Held}
+use Rattle.bac_print.specs.Output.{AppendsPart, Held}
 use Rattle.bac_query.specs.Fetching.{IsHeadline}
 use Rattle.bac_report.specs.Ends.{end_line}
 use Rattle.bac_report.specs.Items.{items_text}
 use Rattle.bac_tools.specs.Sockets.{SocketRules, link_over, socket_asks}
-use Rattle.bac_walk.specs.Came.{Brought, Came}
+use Rattle.bac_walk.specs.Came.{AreSaidAt, Brought, Came}
+use Rattle.bac_walk.specs.Delivers.{NoneFrom}
+use Rattle.bac_walk.specs.Near.{IsInWindow}
 use Rattle.bac_walk.specs.Place.{WalkPlace}
 use Rattle.bac_walk.specs.declared.outcome.Ended.{Ended}
 use Rattle.bac_walk.specs.declared.outcome.Why.{Why}
+use Rattle.bac_walk.specs.declared.outcome.Why.TheVariants.{CaughtUp}
 use Rattle.bac_words.specs.declared.job.Asked.{Asked}
+
+-- over this socket replies came, one after the other, to a run of so many steps of a walk, which brought these items
+abbrev pub CameOver : {S P : Type 0} → SocketRules S P → Asked → WalkPlace → P → List Came → List Item → ℕ → Ended →
+    WalkPlace → Type 0
+CameOver {P = P} rules asked walk port came items n ended after =
+    (mid : UdpLink P)
+    × Brought (socket_asks rules) (towards asked.route) asked.retries
+    (link_over asked.address port) walk n came items ended after mid
+
+-- ---- when all is well
 
 -- Replies came over this socket, one after the other. The lines of the items that they brought are written, and the
 -- line of the walk's end; and if the replies say what one log holds, the items are what it held.
 abbrev pub IsLogged : {S P : Type 0} → SocketRules S P → Asked → WalkPlace → P → Held → Held → Type 0
-IsLogged {P = P} rules asked walk port old new =
+IsLogged rules asked walk port old new =
     (came : List Came) × (items : List Item) × (n : ℕ) × (ended : Ended) × (after : WalkPlace)
-    × (mid : UdpLink P) × (why : Why) × (next : ℕ)
-    × Brought (socket_asks rules) (towards asked.route) asked.retries
-    (link_over asked.address port) walk n came items ended after mid
-    × Appends old new (items_text items ++ end_line why next)
+    × CameOver rules asked walk port came items n ended after
+    × ((why : Why) × (next : ℕ) × Appends old new (items_text items ++ end_line why next))
     × IsHeadline walk came items ended after
+
+-- ---- at rest
+
+-- A log's lines from ordinal s on are printed, up to the last that it holds: each once, with its number, after one gap if
+-- some are gone; and the line that says that there are no more.
+abbrev pub PrintsAll : History → Moment → ℕ → Held → Held → Type 0
+PrintsAll H m s old new =
+    (items : List Item) × (t : ℕ) × Brings H m s items t × NoneFrom t m
+    × Appends old new (items_text items ++ end_line CaughtUp (sequence_number t))
+
+-- Replies came over this socket. If they say what a log holds that doesn't change, and there were more steps than it has
+-- lines from the walk's number on, all of them are printed.
+abbrev pub IsLoggedAtRest : {S P : Type 0} → SocketRules S P → Asked → WalkPlace → ℕ → P → Held → Held → Type 0
+IsLoggedAtRest rules asked walk steps port old new =
+    (came : List Came) × (items : List Item) × (n : ℕ) × (ended : Ended) × (after : WalkPlace)
+    × CameOver rules asked walk port came items n ended after
+    × ((H : History) (m : Moment) (low s : ℕ) → AreSaidAt H (m ∷ []) came → walk.next ≡ sequence_number s →
+    IsInWindow low m → low ≤ s → s < low + 2147483648 → ((m.newest + 1) - max s m.oldest) + 1 < steps →
+    PrintsAll H m s old new)
+
+-- ---- whatever the output refuses
+
+-- What the output holds now ends in a front part of what the replies brought that came over this socket: nothing of it is
+-- left out, and nothing else stands behind it.
+abbrev pub IsCut : {S P : Type 0} → SocketRules S P → Asked → WalkPlace → P → Held → Held → Type 0
+IsCut rules asked walk port old new =
+    (came : List Came) × (items : List Item) × (n : ℕ) × (ended : Ended) × (after : WalkPlace)
+    × CameOver rules asked walk port came items n ended after
+    × ((why : Why) × (next : ℕ) × AppendsPart old new (items_text items ++ end_line why next))

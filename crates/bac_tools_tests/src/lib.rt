@@ -26,6 +26,8 @@ mod run_callers;
 #[cfg(test)]
 mod serving;
 #[cfg(test)]
+mod silence_callers;
+#[cfg(test)]
 mod streams;
 #[cfg(test)]
 mod tell;

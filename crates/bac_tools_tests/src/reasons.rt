@@ -1,7 +1,9 @@
 //! What is told to mend in a script that is refused.
 
 use bac_device::{BuildFault, LineId, Misfit};
-use bac_script::{Flaw, LineKind, Reason, Refused, ReplayFault, Wanted, run_replay_explained};
+use bac_script::{
+    Flaw, LineKind, Reason, Refused, ReplayFault, UnfitLine, Wanted, run_replay_explained,
+};
 use std::alloc::Global;
 use std::test::Fail;
 
@@ -32,12 +34,15 @@ fn a_bad_line_is_told_with_its_flaw(rt: HostRuntime) -> Result<(), Fail> {
     assert_eq!(rt; refused(a, b"binary 1 fan\n")?, bad(count));
     let word = Flaw::Word(4, Wanted::Integer);
     assert_eq!(rt; refused(a, b"integer 1 fan 2147483648\n")?, bad(word));
-    assert_eq!(rt; refused(a, DEVICE)?, bad(Flaw::Place));
+    assert_eq!(rt; refused(a, DEVICE)?, bad(Flaw::Place(LineKind::Device)));
+    assert_eq!(rt; refused(a, b"sample 1 \n")?, bad(Flaw::Blank));
+    let long = Flaw::Long(2, Wanted::Number);
+    assert_eq!(rt; refused(a, b"sample 00000000001\n")?, bad(long));
     Ok(())
 }
 
 /// The line of an integer with the name of the line that is named here.
-fn second(namesake: LineId) -> Refused {
+fn second(namesake: LineId, rival: usize) -> Refused {
     let misfit = Misfit {
         line: LineId {
             object_type: 45,
@@ -48,7 +53,11 @@ fn second(namesake: LineId) -> Refused {
     };
     Refused {
         fault: ReplayFault::Build(BuildFault::DuplicateName),
-        reason: Some(Reason::Device(misfit)),
+        reason: Some(Reason::Device(UnfitLine {
+            misfit,
+            number: Some(3),
+            rival: Some(rival),
+        })),
     }
 }
 
@@ -61,13 +70,13 @@ fn a_duplicate_name_is_told_with_its_namesake(rt: HostRuntime) -> Result<(), Fai
     };
     // At the first event, which is never reached.
     let lines = b"binary 1 fan 0\ninteger 2 fan 7\nsample 3\nbad\n";
-    assert_eq!(rt; refused(a, lines)?, second(fan));
+    assert_eq!(rt; refused(a, lines)?, second(fan, 2));
     // At the end; the device's own name is the first.
     let device = LineId {
         object_type: 8,
         instance: 123,
     };
     let lines = b"binary 1 fan 0\ninteger 2 plant 7\n";
-    assert_eq!(rt; refused(a, lines)?, second(device));
+    assert_eq!(rt; refused(a, lines)?, second(device, 1));
     Ok(())
 }

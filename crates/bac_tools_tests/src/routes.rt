@@ -39,12 +39,12 @@ fn a_network_to_look_on_is_named(rt: HostRuntime) -> Result<(), Fail> {
         &[
             (
                 "wi 10.0.0.1 --dnet=1",
-                "Wi { addresses: Addresses { list: [[10, 0, 0, 1, 186, 192]] }, min: None, \
+                "Wi { stations: Listed(Addresses { list: [[10, 0, 0, 1, 186, 192]] }), min: None, \
                  max: None, dnet: Some(1), local: None, timeout: 3000 }",
             ),
             (
                 "wi 10.0.0.1 --dnet=65535",
-                "Wi { addresses: Addresses { list: [[10, 0, 0, 1, 186, 192]] }, min: None, \
+                "Wi { stations: Listed(Addresses { list: [[10, 0, 0, 1, 186, 192]] }), min: None, \
                  max: None, dnet: Some(65535), local: None, timeout: 3000 }",
             ),
         ],

@@ -1,13 +1,15 @@
 //! What a user of the program needs, proved from its public contract alone.
 
-ghost use Rattle.std.specs.Prelude.{◌≡◌, ℕ, map, Option, Ok};
+ghost use Rattle.std.specs.Prelude.{◌≡◌, ◌⊎◌, ℕ, map, Option, Some, Ok};
+ghost use Rattle.std.specs.Io.KnownBytes.{Keeps};
 ghost use Rattle.std.specs.String.{string_bytes};
 ghost use Rattle.bac_tools.specs.Run.{AskFor, walk_from};
 ghost use Rattle.bac_tools.specs.Sockets.{own_address, socket_rules};
-ghost use Rattle.bac_tools_tests.specs.Logging.{IsLogged};
+ghost use Rattle.bac_tools_tests.specs.Logging.{IsCut, IsLogged, IsLoggedAtRest};
 ghost use Rattle.bac_words.specs.declared.job.Asked.{Asked as AskedOf};
 ghost use Rattle.bac_words.specs.declared.job.Job.TheVariants.{Log};
 
+use crate::streams::Short;
 use bac_tools::{Clock, Sockets, run};
 use std::alloc::Global;
 use std::io::{Read, Write};
@@ -30,4 +32,66 @@ pub fn logged<S: Sockets, I: Read, O: Write, E: Write, C: Clock>(
         (O.contents output.old) (O.contents output.new) }
 {
     run(sockets, alloc, words, input, output, errors, clock)
+}
+
+/// Over a log that doesn't change, with status 0 and steps enough, what is printed are exactly the
+/// records from a number on that the log holds, and that there are no more.
+pub fn logged_at_rest<S: Sockets, I: Read, O: Write, E: Write, C: Clock>(
+    sockets: &mut S,
+    alloc: Global,
+    words: &[String],
+    input: &mut I,
+    output: &mut O,
+    errors: &mut E,
+    clock: &mut C,
+) -> u8
+    ensures { (asked : AskedOf) (instance steps number : ℕ) →
+        AskFor (map string_bytes words.now) (Log asked instance (Some number) steps) → result ≡ 0 →
+        (port : S.Socket) × S.opens sockets.old (own_address asked.local) asked.timeout (Ok port) sockets.new
+        × IsLoggedAtRest (socket_rules S.opens S.Socket.sends S.Socket.receives S.Socket.receives_within) asked
+        (walk_from instance (Some number)) steps port (O.contents output.old) (O.contents output.new) }
+{
+    run(sockets, alloc, words, input, output, errors, clock)
+}
+
+/// Whatever the output refuses, and however the walk ends: what is printed is a front part of what
+/// came, in its order. Nothing is written behind what was refused.
+pub fn printed_in_order<S: Sockets, I: Read, O: Write, E: Write, C: Clock>(
+    sockets: &mut S,
+    alloc: Global,
+    words: &[String],
+    input: &mut I,
+    output: &mut O,
+    errors: &mut E,
+    clock: &mut C,
+) -> u8
+    ensures { (asked : AskedOf) (instance steps : ℕ) (from : Option ℕ) →
+        AskFor (map string_bytes words.now) (Log asked instance from steps) →
+        Keeps (O.contents output.old) (O.contents output.new)
+        ⊎ ((port : S.Socket) × S.opens sockets.old (own_address asked.local) asked.timeout (Ok port) sockets.new
+        × IsCut (socket_rules S.opens S.Socket.sends S.Socket.receives S.Socket.receives_within) asked (walk_from instance from) port
+        (O.contents output.old) (O.contents output.new)) }
+{
+    run(sockets, alloc, words, input, output, errors, clock)
+}
+
+/// The same of a writer that refuses at a given octet: what it was given up to there is a front
+/// part of what came, and it is given nothing else.
+pub fn printed_until_refused<S: Sockets, I: Read, E: Write, C: Clock>(
+    sockets: &mut S,
+    alloc: Global,
+    words: &[String],
+    input: &mut I,
+    output: &mut Short,
+    errors: &mut E,
+    clock: &mut C,
+) -> u8
+    ensures { (asked : AskedOf) (instance steps : ℕ) (from : Option ℕ) →
+        AskFor (map string_bytes words.now) (Log asked instance from steps) →
+        (output.new.text.items ≡ output.old.text.items)
+        ⊎ ((port : S.Socket) × S.opens sockets.old (own_address asked.local) asked.timeout (Ok port) sockets.new
+        × IsCut (socket_rules S.opens S.Socket.sends S.Socket.receives S.Socket.receives_within) asked (walk_from instance from) port
+        (Some output.old.text.items) (Some output.new.text.items)) }
+{
+    printed_in_order(sockets, alloc, words, input, output, errors, clock)
 }

@@ -37,8 +37,8 @@ impl Read for Failing<'_> {
 
 /// A writer over memory that takes so many octets, and then refuses.
 #[derive(Drop)]
-struct Short {
-    text: Vec<u8>,
+pub struct Short {
+    pub text: Vec<u8>,
     room: usize,
 }
 

@@ -2,8 +2,9 @@
 
 use bac_device::{BuildFault, LineId, Misfit};
 use bac_link::ExchangeFault;
-use bac_script::{Flaw, LineKind, Reason, Refused, ReplayFault, Wanted};
+use bac_script::{Flaw, LineKind, Reason, Refused, ReplayFault, UnfitLine, Wanted};
 use bac_tools::{Fault, tell};
+use bac_words::ListFault;
 use std::process::Abort;
 use std::test::Fail;
 
@@ -29,13 +30,17 @@ fn bad_line(flaw: Flaw) -> Fault {
 fn unbuilt(object_type: u16, instance: u32, fault: BuildFault, namesake: Option<LineId>) -> Fault {
     Fault::Script(Refused {
         fault: ReplayFault::Build(fault),
-        reason: Some(Reason::Device(Misfit {
-            line: LineId {
-                object_type,
-                instance,
+        reason: Some(Reason::Device(UnfitLine {
+            misfit: Misfit {
+                line: LineId {
+                    object_type,
+                    instance,
+                },
+                fault,
+                namesake,
             },
-            fault,
-            namesake,
+            number: Some(3),
+            rival: Some(2),
         })),
     })
 }
@@ -63,10 +68,24 @@ fn a_bad_line_is_told_with_what_is_wrong(rt: HostRuntime) -> Result<(), Fail> {
                 "line 7: bad line\nword 4: a number from 0 to 65535\n",
             ),
             (
-                bad_line(Flaw::Place),
+                bad_line(Flaw::Place(LineKind::Device)),
                 1,
-                "line 7: bad line\nthe device's line comes first and stands once, then its \
-                 objects', then events\n",
+                "line 7: bad line\na device line stands before it\n",
+            ),
+            (
+                bad_line(Flaw::Place(LineKind::Walk)),
+                1,
+                "line 7: bad line\nno device line stands before it\n",
+            ),
+            (
+                bad_line(Flaw::Long(2, Wanted::Reply)),
+                1,
+                "line 7: bad line\nword 2: a number from 50 to 1476, of at most 10 digits\n",
+            ),
+            (
+                bad_line(Flaw::Blanks(3)),
+                1,
+                "line 7: bad line\ntwo blanks before word 3\n",
             ),
         ],
     )
@@ -84,19 +103,38 @@ fn a_device_that_is_not_built_is_told_with_its_line(rt: HostRuntime) -> Result<(
             (
                 unbuilt(8, 4194303, BuildFault::BadInstance, None),
                 1,
-                "cannot build: bad instance\ndevice 4194303: an instance is a number from 0 to \
-                 4194302\n",
+                "cannot build: bad instance\nline 3: device 4194303: an instance is a number from \
+                 0 to 4194302\n",
             ),
             (
                 unbuilt(19, 2, BuildFault::DuplicateName, Some(pump)),
                 1,
-                "cannot build: duplicate name\nmultistate 2: its name is that of binary 1\n",
+                "cannot build: duplicate name\nline 3: multistate 2: its name is that of binary 1 in \
+                 line 2\n",
             ),
             (
                 unbuilt(19, 2, BuildFault::BadDefault, None),
                 1,
-                "cannot build: bad default\nmultistate 2: DEFAULT is a number from 1 to STATES\n",
+                "cannot build: bad default\nline 3: multistate 2: DEFAULT is a number from 1 to STATES\n",
             ),
+        ],
+    )
+}
+
+#[test]
+fn addresses_that_nobody_answers_are_counted(rt: HostRuntime) -> Result<(), Fail> {
+    compare(
+        &rt,
+        &[
+            (Fault::NoAnswer(900), 2, "no answer\naddresses asked: 900\n"),
+            (
+                Fault::List(ListFault::BadLine(3)),
+                1,
+                "line 3: bad line\na line is A.B.C.D or A.B.C.D:PORT, A to D from 0 to 255, PORT \
+                 from 1 to 65535\n",
+            ),
+            (Fault::List(ListFault::Empty), 1, "bad value\nno address\n"),
+            (Fault::List(ListFault::Read), 2, "read fault\n"),
         ],
     )
 }

@@ -1,7 +1,7 @@
 //! Jobs that words come to: each tool with its defaults, and with the ends of each range. What no
 //! tool takes is in examples/words.rows.
 
-use bac_words::{Given, Job, Word, WordsFault, read_words};
+use bac_words::{Given, Job, ListFault, Stations, Word, WordsFault, read_addresses, read_words};
 use std::alloc::Global;
 use std::process::Abort;
 use std::test::Fail;
@@ -42,7 +42,7 @@ fn each_tool_with_its_defaults(rt: HostRuntime) -> Result<(), Fail> {
             ("replay", "Replay"),
             (
                 "wi 10.0.0.1",
-                "Wi { addresses: Addresses { list: [[10, 0, 0, 1, 186, 192]] }, min: None, \
+                "Wi { stations: Listed(Addresses { list: [[10, 0, 0, 1, 186, 192]] }), min: None, \
                  max: None, dnet: None, local: None, timeout: 3000 }",
             ),
             (
@@ -76,7 +76,7 @@ fn each_tool_with_the_least_values(rt: HostRuntime) -> Result<(), Fail> {
         &[
             (
                 "wi 0.0.0.0:1 --min=0 --max=0 --local=0.0.0.0:1 --timeout=1",
-                "Wi { addresses: Addresses { list: [[0, 0, 0, 0, 0, 1]] }, min: Some(0), \
+                "Wi { stations: Listed(Addresses { list: [[0, 0, 0, 0, 0, 1]] }), min: Some(0), \
                  max: Some(0), dnet: None, local: Some([0, 0, 0, 0, 0, 1]), timeout: 1 }",
             ),
             (
@@ -114,8 +114,8 @@ fn each_tool_with_the_greatest_values(rt: HostRuntime) -> Result<(), Fail> {
             (
                 "wi 255.255.255.255:65535 10.0.0.2 --min=4194303 --max=4194303 \
                  --local=255.255.255.255:65535 --timeout=60000",
-                "Wi { addresses: Addresses { list: [[255, 255, 255, 255, 255, 255], \
-                 [10, 0, 0, 2, 186, 192]] }, min: Some(4194303), max: Some(4194303), dnet: None, \
+                "Wi { stations: Listed(Addresses { list: [[255, 255, 255, 255, 255, 255], \
+                 [10, 0, 0, 2, 186, 192]] }), min: Some(4194303), max: Some(4194303), dnet: None, \
                  local: Some([255, 255, 255, 255, 255, 255]), timeout: 60000 }",
             ),
             (
@@ -189,9 +189,38 @@ fn a_text_has_at_most_1400_octets(rt: HostRuntime) -> Result<(), Fail> {
 }
 
 #[test]
+fn addresses_of_standard_input(rt: HostRuntime) -> Result<(), Fail> {
+    let words = words_of(rt.alloc(), "wi - --dnet=7", ' ')?;
+    let Ok(
+        Job::Wi {
+            stations: Stations::Input,
+            dnet: Some(7),
+            ..
+        },
+    ) = read_words(rt.alloc(), words.as_slice())
+    else {
+        return Err("the addresses of standard input".into());
+    };
+    let list = read_addresses(rt.alloc(), b"# two\r\n10.0.0.2:1\r\n\n10.0.0.1:258").ok();
+    let wanted: [[u8; 6]; 2] = [[10, 0, 0, 2, 0, 1], [10, 0, 0, 1, 1, 2]];
+    assert_eq!(rt; list.ok_or("a list")?.as_slice(), wanted.as_slice());
+    let bad = read_addresses(rt.alloc(), b"10.0.0.2\n\n10.0.0\n").err();
+    assert_eq!(rt; bad, Some(ListFault::BadLine(3)));
+    let none = read_addresses(rt.alloc(), b"\n").err();
+    assert_eq!(rt; none, Some(ListFault::Empty));
+    Ok(())
+}
+
+#[test]
 fn addresses_are_shown_in_their_order(rt: HostRuntime) -> Result<(), Fail> {
     let words = words_of(rt.alloc(), "wi 10.0.0.2:1 10.0.0.1:258", ' ')?;
-    let Ok(Job::Wi { addresses, .. }) = read_words(rt.alloc(), words.as_slice()) else {
+    let Ok(
+        Job::Wi {
+            stations: Stations::Listed(addresses),
+            ..
+        },
+    ) = read_words(rt.alloc(), words.as_slice())
+    else {
         return Err("two addresses".into());
     };
     let wanted: [[u8; 6]; 2] = [[10, 0, 0, 2, 0, 1], [10, 0, 0, 1, 1, 2]];

@@ -1,17 +1,22 @@
 use Rattle.std.proofs.Common.{Err, Ok, ap}
+use Rattle.bac_tools.specs.Sockets.{socket_rules}
+use Rattle.bac_tools.proofs.Fetched.{run_of}
 use Rattle.bac_tools.proofs.asking.log.Goals as goal
 
 pub returns-in-Ok : goal.returns-in-Ok
 returns-in-Ok g c =
     let (opened, linked, begun) = c.in_ok-link.ensures.ok in
-    let (items, prints, delivers, run) = c.fetch_log.ensures.printed in (
+    let (items, prints, run) = c.fetch_log_ahead.ensures.printed in (
       Ok c.in_ok-link.field-0.link.port,
       opened,
       (
-        c.fetch_log.result,
-        c.fetch_log.new.link,
-        rw (linked, begun) at c.fetch_log.ensures.came,
-        (items, prints, rw (linked, begun) at run),
+        c.fetch_log_ahead.result,
+        c.fetch_log_ahead.new.link,
+        (
+          rw (linked, begun) at c.fetch_log_ahead.ensures.came,
+          run_of (socket_rules g.S.Sockets.opens g.S.Socket.Port.sends g.S.Socket.Port.receives g.S.Socket.Port.receives_within)
+              c.args.asked c.args.walk _ _ _ _ _ _ c.fetch_log_ahead.new.link _ _ items prints (rw (linked, begun) at run),
+        ),
         rw c.in-Ok.is (ap Ok c.walk_status.ensures),
       ),
     )
@@ -19,14 +24,17 @@ returns-in-Ok g c =
 pub returns : goal.returns
 returns g c =
     let (opened, linked, begun) = c.in_ok-link.ensures.ok in
-    let (items, prints, delivers, run) = c.fetch_log.ensures.printed in (
+    let (items, prints, run) = c.fetch_log_ahead.ensures.printed in (
       Ok c.in_ok-link.field-0.link.port,
       opened,
       (
-        c.fetch_log.result,
-        c.fetch_log.new.link,
-        rw (linked, begun) at c.fetch_log.ensures.came,
-        (items, prints, rw (linked, begun) at run),
+        c.fetch_log_ahead.result,
+        c.fetch_log_ahead.new.link,
+        (
+          rw (linked, begun) at c.fetch_log_ahead.ensures.came,
+          run_of (socket_rules g.S.Sockets.opens g.S.Socket.Port.sends g.S.Socket.Port.receives g.S.Socket.Port.receives_within)
+              c.args.asked c.args.walk _ _ _ _ _ _ c.fetch_log_ahead.new.link _ _ items prints (rw (linked, begun) at run),
+        ),
         rw c.in-Err.is (ap Err c.of_query.ensures),
       ),
     )

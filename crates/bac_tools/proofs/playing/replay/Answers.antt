@@ -1,5 +1,5 @@
 use Rattle.std.proofs.Common.{ap, refl, sym, Err, None}
-use Rattle.bac_tools.specs.Run.{of_replay}
+use Rattle.bac_tools.specs.Playing.{of_replay}
 use Rattle.bac_script.proofs.EndLemmas.{Replays-kept, Replays-unwritten}
 use Rattle.bac_script.specs.Reason.{without_reason}
 use Rattle.bac_script.specs.declared.replay.fault.ReplayFault.TheVariants.{Write}

@@ -1,7 +1,7 @@
 use Rattle.std.proofs.Common.{None, Ok, ap, inl, inr, refl, ◌∙◌}
 use Rattle.std.proofs.lemmas.Result.{err_from_is_err_and}
 use Rattle.bac_tools.proofs.Parts.{unserved}
-use Rattle.bac_tools.specs.Run.{wait_of}
+use Rattle.bac_tools.specs.Serving.{wait_of}
 use Rattle.bac_tools.specs.Sockets.{socket_rules}
 use Rattle.bac_tools.specs.Streams.{streams}
 use Rattle.bac_tools.proofs.serving.serve.Goals as goal

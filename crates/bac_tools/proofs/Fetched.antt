@@ -1,0 +1,36 @@
+-- What `fetch_log` says of the run that it fetched.
+use Rattle.std.proofs.Common.{◌≡◌, ℕ, ◌+◌, ◌*◌, ◌≤◌, ◌⊎◌, List, length, Result, Ok, Err, inl, inr}
+use Rattle.bac_link.specs.Delivery.{History, Moment}
+use Rattle.bac_link.specs.Path.{towards}
+use Rattle.bac_link.specs.declared.item.Item.{Item}
+use Rattle.bac_ports.specs.declared.udp_link.UdpLink.{UdpLink}
+use Rattle.bac_print.specs.Output.{Held}
+use Rattle.bac_query.specs.Fetching.{EndsAs, Fetching, IsFetched, PrintsItems, TellsRun}
+use Rattle.bac_query.specs.declared.fault.QueryFault.TheVariants.{Exchange, Write, Memory}
+use Rattle.bac_tools.specs.Asking.{FetchesRun}
+use Rattle.bac_tools.specs.Sockets.{SocketRules, socket_asks}
+use Rattle.bac_walk.specs.Place.{WalkPlace}
+use Rattle.bac_walk.specs.Told.{Told}
+use Rattle.bac_walk.specs.declared.outcome.Ended.{Ended}
+use Rattle.bac_walk.specs.declared.outcome.Why.{Why}
+use Rattle.bac_words.specs.declared.job.Asked.{Asked}
+
+-- what is printed, and how the run ended, in one
+tells : (items : List Item) (steps n : ℕ) (ended : Ended) (after : WalkPlace) (fetching : Fetching) (old new : Held) →
+    PrintsItems items fetching old new → EndsAs items steps n ended after fetching old new →
+    TellsRun (λ cause. Unit {0}) items steps n ended after fetching old new
+tells items steps n ended after (Ok fetched) old new prints ends = (ends, tt, prints)
+tells items steps n ended after (Err Write) old new prints (few, inl part) = inl (few, tt, part)
+tells items steps n ended after (Err Write) old new prints (few, inr (why, next, end, part)) = inr (why, next, end, tt, part)
+tells items steps n ended after (Err Memory) old new prints (why, next, end) = (why, next, end, tt, prints)
+tells items steps n ended after (Err (Exchange fault)) old new prints ends = absurd ends
+
+pub run_of : {S P : Type 0} (rules : SocketRules S P) (asked : Asked) (walk : WalkPlace) (steps retries failed fails : ℕ)
+    (was : ℕ → List Moment → History → Type 0) (fetching : Fetching) (left : UdpLink P) (old new : Held) (items : List Item) →
+    PrintsItems items fetching old new →
+    ((n : ℕ) × (ended : Ended) × (after : WalkPlace) × EndsAs items steps n ended after fetching old new
+    × IsFetched was retries failed fails walk after n ended items
+    × Told (socket_asks rules) (towards asked.route) asked.retries ended after left) →
+    FetchesRun rules asked walk steps fetching left old new
+run_of rules asked walk steps retries failed fails was fetching left old new items prints (n, ended, after, ends, fetched, told) =
+    (items, n, ended, after, tells items steps n ended after fetching old new prints ends, fetched.0.0, fetched.1, fetched.2, told)

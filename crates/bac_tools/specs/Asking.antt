@@ -1,0 +1,84 @@
+-- What `bac rp`, `wp` and `log` do: one socket, and over it what they ask one device for. Read from the end.
+use Rattle.std.specs.Prelude.{◌≡◌, ℕ, ◌+◌, ◌*◌, ◌≤◌, List, length, Ok, Err}
+use Rattle.bac_apdu.specs.declared.service.read_property.ReadProperty.{ReadProperty}
+use Rattle.bac_link.specs.Path.{towards}
+use Rattle.bac_link.specs.declared.item.Item.{Item}
+use Rattle.bac_link.specs.declared.request.Request.{Request}
+use Rattle.bac_ports.specs.declared.udp_link.UdpLink.{UdpLink}
+use Rattle.bac_print.specs.Output.{Held}
+use Rattle.bac_query.specs.Ahead.{FetchesAhead}
+use Rattle.bac_query.specs.Fetching.{Fetching, TellsRun}
+use Rattle.bac_query.specs.Reading.{Answer, ReadsOver, next_way}
+use Rattle.bac_query.specs.Writing.{WritesOver}
+use Rattle.bac_tools.specs.Ending.{Ending}
+use Rattle.bac_tools.specs.Faults.{of_query}
+use Rattle.bac_tools.specs.Sockets.{Opens, Outside, SocketRules, link_over, own_address, socket_asks, transactions_with}
+use Rattle.bac_tools.specs.Status.{walk_status}
+use Rattle.bac_walk.specs.Collects.{Goes}
+use Rattle.bac_walk.specs.Place.{WalkPlace}
+use Rattle.bac_walk.specs.Told.{Told}
+use Rattle.bac_walk.specs.declared.outcome.Ended.{Ended}
+use Rattle.bac_walk.specs.declared.outcome.Ended.TheVariants.{StepLimit}
+use Rattle.bac_words.specs.declared.job.Asked.{Asked}
+
+-- ---- any of the three
+
+-- What is done over a link: the link before it, what it answers, the link after it, and what the output held before and
+-- holds now.
+abbrev pub OverLink : Type 0 → Type 0 → Type 1
+OverLink P A = UdpLink P → A → UdpLink P → Held → Held → Type 0
+
+-- a socket is opened as the words say, this is done over a link to the device that they name, and its answer is the end
+abbrev pub AsksDevice : {S P A : Type 0} → SocketRules S P → Asked → OverLink P A → (A → Ending) →
+    Outside S → Ending → Outside S → Type 0
+AsksDevice {P = P} {A = A} rules asked does ends old result new =
+    Opens rules (own_address asked.local) asked.timeout old result new
+    (λ port. (answer : A) × (left : UdpLink P)
+    × does (link_over asked.address port) answer left old.output new.output × (result ≡ ends answer))
+
+-- ---- bac rp and wp
+
+-- done, or a fault of the query to this address
+abbrev pub of_answer : List ℕ → Answer → Ending
+of_answer address (Ok done) = Ok 0
+of_answer address (Err fault) = Err (of_query address fault)
+
+-- ReadProperty: an exchange with the device, and the values of its ACK
+abbrev pub Reads : {S P : Type 0} → SocketRules S P → Asked → ReadProperty → Outside S → Ending → Outside S → Type 0
+Reads rules asked question old result new =
+    AsksDevice rules asked (ReadsOver (socket_asks rules) (next_way (transactions_with asked)) question)
+    (of_answer asked.address) old result new
+
+-- WriteProperty, likewise
+abbrev pub Writes : {S P : Type 0} → SocketRules S P → Asked → Request → Outside S → Ending → Outside S → Type 0
+Writes rules asked question old result new =
+    AsksDevice rules asked (WritesOver (socket_asks rules) (next_way (transactions_with asked)) question)
+    (of_answer asked.address) old result new
+
+-- ---- bac log
+
+-- the line of a walk's end is printed, whatever it says
+abbrev pub of_fetching : List ℕ → Fetching → Ending
+of_fetching address (Ok fetched) = Ok (walk_status fetched.why)
+of_fetching address (Err fault) = Err (of_query address fault)
+
+-- The items cover the numbers from the walk's on up to the next one. Each step brought at most 100 records and one gap,
+-- and a record at least if the run ended since there were so many; the last exchange told why it ended.
+abbrev pub FetchesRun : {S P : Type 0} → SocketRules S P →
+    Asked → WalkPlace → ℕ → Fetching → UdpLink P → Held → Held → Type 0
+FetchesRun rules asked walk steps fetching left old new =
+    (items : List Item) × (n : ℕ) × (ended : Ended) × (after : WalkPlace)
+    × TellsRun (λ cause. Unit {0}) items steps n ended after fetching old new
+    × ((s : ℕ) → Goes walk.fresh walk.next s items after.fresh after.next)
+    × (length items ≤ 101 * n) × (ended ≡ StepLimit → n ≤ length items)
+    × Told (socket_asks rules) (towards asked.route) asked.retries ended after left
+
+-- A log is fetched: replies came, one after the other; what is printed are the lines of the items that they brought, and
+-- the end of their run; and if they say what one log holds, those are what it held.
+abbrev pub Fetches : {S P : Type 0} → SocketRules S P → Asked → WalkPlace → ℕ → Outside S → Ending → Outside S → Type 0
+Fetches rules asked walk steps old result new =
+    AsksDevice rules asked
+    (λ link fetching left had has.
+    FetchesAhead (socket_asks rules) (towards asked.route) asked.retries link walk steps fetching left had has
+    × FetchesRun rules asked walk steps fetching left had has)
+    (of_fetching asked.address) old result new

@@ -1,0 +1,91 @@
+-- What `bac serve` does. Read from the end.
+use Rattle.std.specs.Prelude.{◌≡◌, ◌⊎◌, ℕ, if◌then◌else◌, List, Option, Some, None, Result, Ok, Err}
+use Rattle.std.specs.List.{list_any}
+use Rattle.bac_objects.specs.Build.{build_fault, built}
+use Rattle.bac_objects.specs.Misfit.{IsMisfit}
+use Rattle.bac_objects.specs.State.{State}
+use Rattle.bac_objects.specs.declared.build.Misfit.{Misfit}
+use Rattle.bac_objects.specs.declared.lines.DeviceLine.{DeviceLine}
+use Rattle.bac_objects.specs.declared.lines.ObjectLine.{ObjectLine}
+use Rattle.bac_ports.specs.Port.{Opening}
+use Rattle.bac_print.specs.Output.{AppendsPart, Held}
+use Rattle.bac_script.specs.Configuration.{Configures}
+use Rattle.bac_script.specs.Reason.{IsExplainedThere}
+use Rattle.bac_script.specs.declared.configuration.Configuration.{Configuration}
+use Rattle.bac_script.specs.declared.replay.fault.Reason.TheVariants.{Device}
+use Rattle.bac_script.specs.declared.replay.fault.Refused.{Refused}
+use Rattle.bac_script.specs.declared.replay.fault.ReplayFault.TheVariants.{Build}
+use Rattle.bac_script.specs.declared.replay.fault.UnfitLine.{UnfitLine}
+use Rattle.bac_serve.specs.Serving.{Done, Serves as ServesDevice, server}
+use Rattle.bac_serve.specs.Waiting.{has_interval}
+use Rattle.bac_tools.specs.Ending.{Ending}
+use Rattle.bac_tools.specs.Sockets.{IsDoneOver, SocketRules}
+use Rattle.bac_tools.specs.Streams.{Streams, IsIdle, IsQuiet}
+use Rattle.bac_tools.specs.Texts.{serving_line}
+use Rattle.bac_tools.specs.declared.fault.Fault.{Fault}
+use Rattle.bac_tools.specs.declared.fault.Fault.TheVariants.{NoDevice, Script, Socket, Memory}
+use Rattle.bac_wire.specs.Stamp.{CivilTime}
+
+-- ---- the configuration
+
+-- the input is a configuration of at most 1,048,576 octets, which describes a device; or it isn't, and what is to mend
+abbrev pub IsConfigured : Held → Held → Result Configuration Fault → Type 0
+IsConfigured input left (Ok c) = Configures 1048576 input left (Ok (Some c))
+IsConfigured input left (Err NoDevice) = Configures 1048576 input left (Ok None)
+IsConfigured input left (Err (Script refused)) =
+    Configures 1048576 input left (Err refused.fault) × IsExplainedThere input left refused
+IsConfigured input left (Err other) = ⊥
+
+-- the line, of which it isn't known where it stands
+abbrev pub unplaced : Misfit → UnfitLine
+unplaced misfit = record { misfit = misfit; number = None; rival = None }
+
+-- the refusal of a configuration with this line
+abbrev pub refused_with : Misfit → Refused
+refused_with misfit = record { fault = Build misfit.fault; reason = Some (Device (unplaced misfit)) }
+
+-- the device can't be built with one of the lines, the first that has a fault; or there is no memory for it
+abbrev pub IsUnbuilt : DeviceLine → List ObjectLine → Fault → Type 0
+IsUnbuilt device lines fault =
+    ((build_fault device lines ≡ None) × (fault ≡ Memory))
+    ⊎ ((misfit : Misfit) × IsMisfit device lines misfit × (build_fault device lines ≡ Some misfit.fault)
+    × (fault ≡ Script (refused_with misfit)))
+
+-- ---- the server
+
+-- how serving ends: done, or the socket failed
+abbrev pub of_served : Done → Ending
+of_served (Ok done) = Ok 0
+of_served (Err fault) = Err Socket
+
+-- The device is served for so many datagrams over this socket, and a line on the errors says so.
+abbrev pub IsServedOver : {S P C : Type 0} → SocketRules S P → (C → Option CivilTime → C → Type 0) →
+    List ℕ → ℕ → State → P → Streams S C → Ending → Streams S C → Type 0
+IsServedOver {P = P} rules tells address count device port old result new =
+    (served : Done) × (left : P) × (after : State) × AppendsPart old.errors new.errors (serving_line address)
+    × ServesDevice rules.sends rules.receives tells count
+    (server port device old.clock) served (server left after new.clock)
+    × (result ≡ of_served served)
+
+-- One socket is opened with this address and wait. Without memory for the line that says so, none is.
+abbrev pub IsServed : {S P C : Type 0} → SocketRules S P → (C → Option CivilTime → C → Type 0) →
+    List ℕ → ℕ → ℕ → State → Streams S C → Ending → Streams S C → Type 0
+IsServed {P = P} rules tells address wait count device old result new =
+    ((result ≡ Err Memory) × IsIdle old new)
+    ⊎ ((opened : Opening P) × rules.opens old.sockets address wait opened new.sockets
+    × IsDoneOver opened result (IsQuiet old new)
+    (λ port. IsServedOver rules tells address count device port old result new))
+
+-- a fifth of a second while a log has an interval, so that it takes its samples while nobody asks; else without limit
+abbrev pub wait_of : List ObjectLine → ℕ
+wait_of lines = if list_any has_interval lines then 200 else 0
+
+-- the faults of the configuration, of the build and of the socket, in this order
+abbrev pub Serves : {S P C : Type 0} → SocketRules S P → (C → Option CivilTime → C → Type 0) →
+    List ℕ → ℕ → Streams S C → Ending → Streams S C → Type 0
+Serves rules tells address count old result new =
+    ((fault : Fault) × IsConfigured old.input new.input (Err fault) × (result ≡ Err fault) × IsIdle old new)
+    ⊎ ((c : Configuration) × IsConfigured old.input new.input (Ok c)
+    × (((fault : Fault) × IsUnbuilt c.device c.objects.items fault × (result ≡ Err fault) × IsIdle old new)
+    ⊎ ((build_fault c.device c.objects.items ≡ None)
+    × IsServed rules tells address (wait_of c.objects.items) count (built c.device c.objects.items) old result new)))

@@ -1,0 +1,326 @@
+-- Over sockets where no datagram comes none is answered; a lost answer was asked for; and a server ends with a socket
+-- fault only if a socket failed.
+use Rattle.std.proofs.Common.{◌≡◌, ◌⊎◌, ◌∙◌, inl, inr, lit<, ℕ, zero, suc, ◌+◌, ◌<◌, ◌≤◌, List, [], ◌∷◌, ◌++◌, Option, Some, None, Result, Ok, Err, refl, sym, ap, subst, append-nil, length, arith}
+use Rattle.std.specs.Io.KnownBytes.{Appends, Keeps}
+use Rattle.bac_link.specs.Exchanges.{Exchanges, Unanswered}
+use Rattle.bac_link.specs.Path.{Path, towards}
+use Rattle.bac_link.specs.Requests.{next_invoke, request_octets}
+use Rattle.bac_link.specs.declared.exchanges.ExchangeFault.{ExchangeFault}
+use Rattle.bac_link.specs.declared.exchanges.ExchangeFault.TheVariants as exchange
+use Rattle.bac_link.specs.declared.item.Item.{Item}
+use Rattle.bac_link.specs.declared.link.Lost.{Lost as Loss}
+use Rattle.bac_link.specs.declared.request.Request.{Request}
+use Rattle.bac_link.specs.declared.request.Request.TheVariants as request
+use Rattle.bac_apdu.specs.declared.service.read_property.ReadProperty.{ReadProperty}
+use Rattle.bac_link.specs.Datagrams.{apdu_in}
+use Rattle.bac_objects.specs.State.{State}
+use Rattle.bac_ports.specs.Asking.{Awaits}
+use Rattle.bac_ports.specs.Port.{Receiving, Sending}
+use Rattle.bac_ports.specs.declared.port.Heard.{Heard}
+use Rattle.bac_ports.specs.declared.port.SocketFault.{SocketFault}
+use Rattle.bac_ports.specs.declared.udp_link.UdpLink.{UdpLink}
+use Rattle.bac_print.specs.Output.{AppendsPart, Held}
+use Rattle.bac_query.specs.Ahead.{FetchesAhead}
+use Rattle.bac_query.specs.Fetching.{Fetching, IsEnd}
+use Rattle.bac_query.specs.Reading.{Answer, PrintsValues, Way, values_in}
+use Rattle.bac_query.specs.declared.fault.QueryFault.{QueryFault}
+use Rattle.bac_query.specs.declared.fault.QueryFault.TheVariants as query
+use Rattle.bac_report.specs.Ends.{end_line}
+use Rattle.bac_report.specs.Items.{items_text}
+use Rattle.bac_serve.specs.Serving.{Done, Server, Serves as ServesDevice, ServesNext}
+use Rattle.bac_tools.specs.Asking.{AsksDevice, Fetches, OverLink, Reads, Writes, of_answer, of_fetching}
+use Rattle.bac_tools.specs.Ending.{Ending}
+use Rattle.bac_tools.specs.Run.{Ends, Runs, Works, question, walk_from}
+use Rattle.bac_tools.specs.Serving.{IsConfigured, IsServed, IsServedOver, IsUnbuilt, Serves}
+use Rattle.bac_tools.specs.Sockets.{Outside, SocketRules, link_over, own_address, socket_asks}
+use Rattle.bac_tools.specs.Status.{walk_status}
+use Rattle.bac_tools.specs.Streams.{Streams}
+use Rattle.bac_tools.specs.declared.fault.Fault.{Fault}
+use Rattle.bac_tools.specs.declared.fault.Fault.TheVariants as fault
+use Rattle.bac_tools_tests.proofs.Logged.{cut_over, not_told}
+use Rattle.bac_tools_tests.specs.Silence.{IsSilent, LostWasAsked, NeverFails, ServersStay}
+use Rattle.bac_walk.specs.Came.{AreOf, Brought, Came, Comes, EndsBy, answers_of}
+use Rattle.bac_walk.specs.Place.{WalkPlace}
+use Rattle.bac_walk.specs.declared.outcome.Ended.{Ended}
+use Rattle.bac_walk.specs.declared.outcome.Ended.TheVariants as ended
+use Rattle.bac_walk.specs.declared.outcome.WalkFault.TheVariants as walk
+use Rattle.bac_walk.specs.declared.outcome.Why.{Why}
+use Rattle.bac_walk.specs.declared.outcome.Why.TheVariants as why
+use Rattle.bac_wire.specs.Stamp.{CivilTime}
+use Rattle.bac_words.specs.declared.job.Asked.{Asked}
+use Rattle.bac_words.specs.declared.job.Given.{Given}
+use Rattle.bac_words.specs.declared.job.Job.TheVariants.{Log, Rp, Serve, Wp}
+
+-- ---- no answer over a silent socket
+
+none_awaited : {P : Type 0} (receives : P → Receiving → P → Type 0) → IsSilent receives →
+    (peer request : List ℕ) (n : ℕ) (port : P) (datagram : List ℕ) (new : P) →
+    Awaits receives peer request n port (Ok datagram) new → ⊥
+unfolding Awaits
+none_awaited receives silent peer request zero port datagram new awaits = awaits.0
+none_awaited receives silent peer request (suc n) port datagram new (Ok heard, mid, came, rest) = silent port mid heard came
+none_awaited receives silent peer request (suc n) port datagram new (Err why, mid, came, rest) = rest.0
+
+none_asked : {S P : Type 0} (rules : SocketRules S P) → IsSilent rules.receives → (old : UdpLink P) (octets datagram : List ℕ)
+    (new : UdpLink P) → socket_asks rules old octets (Ok datagram) new → ⊥
+none_asked rules silent old octets datagram new ((Err why, mid, sent, rest), peer) = rest.0
+none_asked rules silent old octets datagram new ((Ok done, mid, sent, rest), peer) =
+    none_awaited rules.receives silent old.peer octets 16 mid datagram new.port rest
+
+none_exchanged : {S P : Type 0} (rules : SocketRules S P) → IsSilent rules.receives → (path : Path) (invoke : ℕ) (r : Request)
+    (retries : ℕ) (old : UdpLink P) (datagram : List ℕ) (new : UdpLink P) →
+    Exchanges (socket_asks rules) path invoke r retries old (Ok datagram) new → ⊥
+none_exchanged rules silent path invoke r retries old datagram new answers =
+    none_asked rules silent answers.1 (request_octets path invoke r) datagram new answers.4
+
+-- ---- rp and wp
+
+-- a query that was done, or not
+query_end : (address : List ℕ) (answer : Answer) (why : QueryFault) (result : Ending) (done : ℕ) → answer ≡ Err why →
+    result ≡ of_answer address answer → result ≡ Ok done → ⊥
+query_end address answer why result done told is good = let e = sym good ∙ is ∙ ap (of_answer address) told in cc
+
+no_values : {S P : Type 0} (rules : SocketRules S P) → IsSilent rules.receives → (asked : Asked) (question : ReadProperty)
+    (old : Outside S) (result : Ending) (new : Outside S) → Reads rules asked question old result new →
+    ((done : ℕ) → result ≡ Ok done → ⊥) × Keeps old.output new.output
+no_values rules silent asked question old result new (Err why, opens, (is, keeps)) =
+    (λ done good. (let e = sym good ∙ is in cc), keeps)
+no_values rules silent asked question old result new (Ok port, opens, (answer, left, (Ok datagram, exchanged, prints), is)) =
+    absurd (none_exchanged rules silent (towards asked.route) (next_invoke 0) (request.ReadProperty question) asked.retries (link_over asked.address port) datagram left exchanged)
+no_values rules silent asked question old result new (Ok port, opens, (answer, left, (Err why, exchanged, (told, keeps)), is)) =
+    (λ done good. query_end asked.address answer (query.Exchange why) result done told is good, keeps)
+
+not_written : {S P : Type 0} (rules : SocketRules S P) → IsSilent rules.receives → (asked : Asked) (question : Request)
+    (old : Outside S) (result : Ending) (new : Outside S) → Writes rules asked question old result new →
+    ((done : ℕ) → result ≡ Ok done → ⊥) × Keeps old.output new.output
+not_written rules silent asked question old result new (Err why, opens, (is, keeps)) =
+    (λ done good. (let e = sym good ∙ is in cc), keeps)
+not_written rules silent asked question old result new (Ok port, opens, (answer, left, (Ok datagram, exchanged, prints), is)) =
+    absurd (none_exchanged rules silent (towards asked.route) (next_invoke 0) question asked.retries (link_over asked.address port) datagram left exchanged)
+not_written rules silent asked question old result new (Ok port, opens, (answer, left, (Err why, exchanged, (told, keeps)), is)) =
+    (λ done good. query_end asked.address answer (query.Exchange why) result done told is good, keeps)
+
+pub no_rp : {S P C : Type 0} (rules : SocketRules S P) (tells : C → Option CivilTime → C → Type 0) (asked : Asked)
+    (object_type instance property : ℕ) (index : Option ℕ) (old new : Streams S C) (status : ℕ) →
+    Runs rules tells (Rp asked object_type instance property index) old status new → IsSilent rules.receives →
+    (status ≡ 0 → ⊥) × Keeps old.output new.output
+no_rp rules tells asked object_type instance property index old new status (inl told) silent =
+    (λ none. not_told fault.Memory old.errors new.errors status told.0 none, told.1)
+no_rp rules tells asked object_type instance property index old new status (inr (Err why, said, (inl unasked, quiet), ends)) silent =
+    (λ none. not_told why said new.errors status ends none, unasked.1.1)
+no_rp rules tells asked object_type instance property index old new status (inr (Err why, said, (inr reads, quiet), ends)) silent =
+    (λ none. not_told why said new.errors status ends none, (no_values rules silent asked _ _ _ _ reads).1)
+no_rp rules tells asked object_type instance property index old new status (inr (Ok done, said, (inl unasked, quiet), ends)) silent =
+    absurd (let e = unasked.1.0 in cc)
+no_rp rules tells asked object_type instance property index old new status (inr (Ok done, said, (inr reads, quiet), ends)) silent =
+    absurd ((no_values rules silent asked _ _ _ _ reads).0 done refl)
+
+pub no_wp : {S P C : Type 0} (rules : SocketRules S P) (tells : C → Option CivilTime → C → Type 0) (asked : Asked)
+    (object_type instance property priority : ℕ) (given : Given) (index : Option ℕ) (old new : Streams S C) (status : ℕ) →
+    Runs rules tells (Wp asked object_type instance property priority given index) old status new → IsSilent rules.receives →
+    (status ≡ 0 → ⊥) × Keeps old.output new.output
+no_wp rules tells asked object_type instance property priority given index old new status (inl told) silent =
+    (λ none. not_told fault.Memory old.errors new.errors status told.0 none, told.1)
+no_wp rules tells asked object_type instance property priority given index old new status (inr (Err why, said, (inl unasked, quiet), ends)) silent =
+    (λ none. not_told why said new.errors status ends none, unasked.1.1)
+no_wp rules tells asked object_type instance property priority given index old new status (inr (Err why, said, (inr (w, is, writes), quiet), ends)) silent =
+    (λ none. not_told why said new.errors status ends none, (not_written rules silent asked _ _ _ _ writes).1)
+no_wp rules tells asked object_type instance property priority given index old new status (inr (Ok done, said, (inl unasked, quiet), ends)) silent =
+    absurd (let e = unasked.1.0 in cc)
+no_wp rules tells asked object_type instance property priority given index old new status (inr (Ok done, said, (inr (w, is, writes), quiet), ends)) silent =
+    absurd ((not_written rules silent asked _ _ _ _ writes).0 done refl)
+
+-- ---- log
+
+-- no reply came, so there are no items
+no_reply : {S P : Type 0} (rules : SocketRules S P) → IsSilent rules.receives → (path : Path) (retries n : ℕ) (old : UdpLink P)
+    (w : WalkPlace) (came : List Came) (items : List Item) (e : Ended) (after : WalkPlace) (new : UdpLink P) →
+    Brought (socket_asks rules) path retries old w n came items e after new → (came ≡ []) × (items ≡ [])
+no_reply rules silent path retries n old w (c ∷ came) items e after new (here, mid, comes, ends, are) =
+    absurd (none_exchanged rules silent path comes.4.0 _ retries old c.datagram comes.0 comes.4.1)
+no_reply rules silent path retries n old w [] items ended.CaughtUp after new (here, mid, comes, ends, are) = (refl, are)
+no_reply rules silent path retries n old w [] items ended.StepLimit after new (here, mid, comes, ends, are) = (refl, are)
+no_reply rules silent path retries n old w [] items ended.Stopped after new (here, mid, comes, ends, are) =
+    absurd (omega (arith, ends.1))
+no_reply rules silent path retries n old w [] items (ended.Fault said) after new (here, mid, comes, ends, are) = (refl, are)
+
+-- a run with no reply doesn't end well, unless it has no steps
+no_end : {S P : Type 0} (rules : SocketRules S P) → IsSilent rules.receives → (path : Path) (retries n steps : ℕ) (old : UdpLink P)
+    (w : WalkPlace) (came : List Came) (items : List Item) (e : Ended) (after : WalkPlace) (new : UdpLink P) (cause : Why)
+    (next : ℕ) → Brought (socket_asks rules) path retries old w n came items e after new → IsEnd steps n e after cause next →
+    0 < steps → walk_status cause ≡ 0 → ⊥
+no_end rules silent path retries n steps old w (c ∷ came) items e after new cause next (here, mid, comes, ends, are) end some none =
+    none_exchanged rules silent path comes.4.0 _ retries old c.datagram comes.0 comes.4.1
+no_end rules silent path retries n steps old w [] items ended.CaughtUp after new cause next (here, mid, comes, ends, are) end some none =
+    absurd ends.0
+no_end rules silent path retries n steps old w [] items ended.StepLimit after new why.CaughtUp next (here, mid, comes, ends, are) end some none =
+    absurd (let e = end.0.1 in cc)
+no_end rules silent path retries n steps old w [] items ended.StepLimit after new why.StepLimit next (here, mid, comes, ends, are) end some none =
+    omega (arith, some, ends.1, end.0.0)
+no_end rules silent path retries n steps old w [] items ended.StepLimit after new (why.Fault walk.Lost) next (here, mid, comes, ends, are) end some none =
+    omega (arith, none)
+no_end rules silent path retries n steps old w [] items ended.StepLimit after new (why.Fault (walk.Refused refusal)) next (here, mid, comes, ends, are) end some none =
+    omega (arith, none)
+no_end rules silent path retries n steps old w [] items ended.StepLimit after new (why.Fault walk.BadReply) next (here, mid, comes, ends, are) end some none =
+    omega (arith, none)
+no_end rules silent path retries n steps old w [] items ended.StepLimit after new why.Memory next (here, mid, comes, ends, are) end some none =
+    omega (arith, none)
+no_end rules silent path retries n steps old w [] items ended.Stopped after new cause next (here, mid, comes, ends, are) end some none =
+    omega (arith, ends.1)
+no_end rules silent path retries n steps old w [] items (ended.Fault said) after new why.CaughtUp next (here, mid, comes, ends, are) end some none =
+    absurd (let e = end.0.1 in cc)
+no_end rules silent path retries n steps old w [] items (ended.Fault said) after new why.StepLimit next (here, mid, comes, ends, are) end some none =
+    absurd (let e = end.0.1 in cc)
+no_end rules silent path retries n steps old w [] items (ended.Fault said) after new (why.Fault walk.Lost) next (here, mid, comes, ends, are) end some none =
+    omega (arith, none)
+no_end rules silent path retries n steps old w [] items (ended.Fault said) after new (why.Fault (walk.Refused refusal)) next (here, mid, comes, ends, are) end some none =
+    omega (arith, none)
+no_end rules silent path retries n steps old w [] items (ended.Fault said) after new (why.Fault walk.BadReply) next (here, mid, comes, ends, are) end some none =
+    omega (arith, none)
+no_end rules silent path retries n steps old w [] items (ended.Fault said) after new why.Memory next (here, mid, comes, ends, are) end some none =
+    omega (arith, none)
+
+-- what is printed is at most an end line
+end_alone : (items : List Item) (old new : Held) → items ≡ [] →
+    (w : Why) × (next : ℕ) × AppendsPart old new (items_text items ++ end_line w next) →
+    (w : Why) × (next : ℕ) × AppendsPart old new (end_line w next)
+end_alone items old new none printed =
+    let P : List Item → Type 0 = λ l. AppendsPart old new (items_text l ++ end_line printed.0 printed.1) in
+    (printed.0, printed.1, subst P none printed.2)
+
+-- nothing is printed at all
+nothing : (old new : Held) → Keeps old new → (w : Why) × (next : ℕ) × AppendsPart old new (end_line w next)
+nothing None new keeps = (why.CaughtUp, 0, ([], end_line why.CaughtUp 0, refl, tt))
+nothing (Some xs) None keeps = absurd keeps
+nothing (Some xs) (Some ys) keeps = (why.CaughtUp, 0, ([], end_line why.CaughtUp 0, refl, keeps ∙ sym (append-nil xs)))
+
+no_status : {S P : Type 0} (rules : SocketRules S P) → IsSilent rules.receives → (asked : Asked) (w : WalkPlace) (steps : ℕ)
+    (link : UdpLink P) (fetching : Fetching) (left : UdpLink P) (old new : Held) (done : ℕ) →
+    FetchesAhead (socket_asks rules) (towards asked.route) asked.retries link w steps fetching left old new →
+    Ok done ≡ of_fetching asked.address fetching → 0 < steps → done ≡ 0 → ⊥
+no_status rules silent asked w steps link (Err why) left old new done over is some none = absurd (cc)
+no_status rules silent asked w steps link (Ok fetched) left old new done over is some none =
+    let (came, items, n, ended, after, mid, brought, tells, headline) = over in
+    let e : done ≡ walk_status fetched.why = cc in
+    no_end rules silent (towards asked.route) asked.retries n steps link w came items ended after mid fetched.why fetched.next brought tells.0 some (sym e ∙ none)
+
+pub no_log : {S P C : Type 0} (rules : SocketRules S P) (tells : C → Option CivilTime → C → Type 0) (asked : Asked)
+    (instance steps : ℕ) (from : Option ℕ) (old new : Streams S C) (status : ℕ) →
+    Runs rules tells (Log asked instance from steps) old status new → IsSilent rules.receives →
+    (0 < steps → status ≡ 0 → ⊥) × ((w : Why) × (next : ℕ) × AppendsPart old.output new.output (end_line w next))
+no_log rules tells asked instance steps from old new status (inl told) silent =
+    (λ some none. not_told fault.Memory old.errors new.errors status told.0 none, nothing old.output new.output told.1)
+no_log rules tells asked instance steps from old new status (inr (result, said, (inl unasked, quiet), ends)) silent =
+    (λ some none. bad result unasked.1.1 ends none, nothing old.output new.output unasked.2)
+  where
+    bad : (r : Ending) → r ≡ Err unasked.0 → Ends r said new.errors status → status ≡ 0 → ⊥
+    bad (Ok done) is ends none = absurd (cc)
+    bad (Err why) is ends none = not_told why said new.errors status ends none
+no_log rules tells asked instance steps from old new status (inr (Err why, said, (inr (Err shut, opens, closed), quiet), ends)) silent =
+    (λ some none. not_told why said new.errors status ends none, nothing old.output new.output closed.1)
+no_log rules tells asked instance steps from old new status (inr (Ok done, said, (inr (Err shut, opens, closed), quiet), ends)) silent =
+    absurd (let e = closed.0 in cc)
+no_log rules tells asked instance steps from old new status (inr (Err why, said, (inr (Ok port, opens, (fetching, left, over, is)), quiet), ends)) silent =
+    let (came, items, n, ended, after, mid, brought, printed, headline) = over.0 in
+    let none = no_reply rules silent (towards asked.route) asked.retries n (link_over asked.address port) (walk_from instance from) came items ended after mid brought in (
+      λ some zero. not_told why said new.errors status ends zero,
+      end_alone items old.output new.output none.1 (cut_over (socket_asks rules) _ items steps n ended after fetching old.output new.output printed),
+    )
+no_log rules tells asked instance steps from old new status (inr (Ok done, said, (inr (Ok port, opens, (fetching, left, over, is)), quiet), ends)) silent =
+    let (came, items, n, ended, after, mid, brought, printed, headline) = over.0 in
+    let none = no_reply rules silent (towards asked.route) asked.retries n (link_over asked.address port) (walk_from instance from) came items ended after mid brought in (
+      λ some zero. no_status rules silent asked (walk_from instance from) steps (link_over asked.address port) fetching left old.output new.output done over.0 is some (sym ends.0 ∙ zero),
+      end_alone items old.output new.output none.1 (cut_over (socket_asks rules) _ items steps n ended after fetching old.output new.output printed),
+    )
+
+-- ---- a lost answer
+
+same_fault : (address : List ℕ) (answer : Answer) (why : ExchangeFault) → answer ≡ Err (query.Exchange why) →
+    Err (fault.Exchange address exchange.Lost) ≡ of_answer address answer → why ≡ exchange.Lost
+same_fault address answer why told is = let e = is ∙ ap (of_answer address) told in cc
+
+-- an ACK isn't told as lost
+not_lost : (address : List ℕ) (values : Option (List ℕ)) (answer : Answer) (old new : Held) → PrintsValues values answer old new →
+    Err (fault.Exchange address exchange.Lost) ≡ of_answer address answer → ⊥
+not_lost address None answer old new prints is =
+    let e = same_fault address answer exchange.BadReply prints.0 is in cc
+not_lost address (Some values) (Ok done) old new prints is = absurd (cc)
+not_lost address (Some values) (Err query.Write) old new prints is = absurd (cc)
+not_lost address (Some values) (Err query.Memory) old new prints is = absurd (cc)
+not_lost address (Some values) (Err (query.Exchange why)) old new prints is = prints
+
+pub lost : {S P C : Type 0} (rules : SocketRules S P) (tells : C → Option CivilTime → C → Type 0) → LostWasAsked rules tells
+lost rules tells = λ asked object_type instance property index old new works. by asked object_type instance property index old new works
+  where
+    by : (asked : Asked) (object_type instance property : ℕ) (index : Option ℕ) (old new : Streams _ _) →
+        Works rules tells (Rp asked object_type instance property index) old (Err (fault.Exchange asked.address exchange.Lost)) new →
+        (port : _) × (left : UdpLink _)
+        × rules.opens old.sockets (own_address asked.local) asked.timeout (Ok port) new.sockets
+        × Unanswered (socket_asks rules)
+        (request_octets (towards asked.route) (next_invoke 0) (request.ReadProperty (question object_type instance property index)))
+        (asked.retries + 1) (link_over asked.address port) left
+    by asked object_type instance property index old new (inl unasked, quiet) = absurd (let e = unasked.1.0 in cc)
+    by asked object_type instance property index old new (inr (Err shut, opens, closed), quiet) = absurd (let e = closed.0 in cc)
+    by asked object_type instance property index old new (inr (Ok port, opens, (answer, left, (Ok datagram, exchanged, prints), is)), quiet) =
+        absurd (not_lost asked.address (values_in (apdu_in datagram)) answer _ _ prints is)
+    by asked object_type instance property index old new (inr (Ok port, opens, (answer, left, (Err why, exchanged, told), is)), quiet) =
+        let P : ExchangeFault → Type 0 = λ f. Exchanges (socket_asks rules) (towards asked.route) (next_invoke 0) (request.ReadProperty (question object_type instance property index)) asked.retries (link_over asked.address port) (Err f) left in
+        (port, left, opens, subst P (same_fault asked.address answer why told.0 is) exchanged)
+
+-- ---- a server
+
+next_stays : {P C : Type 0} (sends : P → List ℕ → List ℕ → Sending → P → Type 0) (receives : P → Receiving → P → Type 0)
+    (tells : C → Option CivilTime → C → Type 0) → ((old new : P) (why : SocketFault) → receives old (Err why) new → ⊥) →
+    (waits : ℕ) (old : Server P C) (why : SocketFault) (new : Server P C) → 0 < waits →
+    ServesNext sends receives tells waits old (Err why) new → ⊥
+unfolding ServesNext
+next_stays sends receives tells sure zero old why new some serves = omega (arith, some)
+next_stays sends receives tells sure (suc waits) old why new some (Err shut, mid, came, rest) = sure old.port mid shut came
+next_stays sends receives tells sure (suc waits) old why new some (Ok heard, mid, came, rest) = absurd (let e = rest.0 in cc)
+
+device_stays : {P C : Type 0} (sends : P → List ℕ → List ℕ → Sending → P → Type 0) (receives : P → Receiving → P → Type 0)
+    (tells : C → Option CivilTime → C → Type 0) → ((old new : P) (why : SocketFault) → receives old (Err why) new → ⊥) →
+    (count : ℕ) (old : Server P C) (why : SocketFault) (new : Server P C) →
+    ServesDevice sends receives tells count old (Err why) new → ⊥
+unfolding ServesDevice
+device_stays sends receives tells sure zero old why new serves = absurd (let e = serves.0 in cc)
+device_stays sends receives tells sure (suc count) old why new (Err shut, mid, next, rest) =
+    next_stays sends receives tells sure 18446744073709551615 old shut mid (lit< tt) next
+device_stays sends receives tells sure (suc count) old why new (Ok done, mid, next, rest) =
+    device_stays sends receives tells sure count mid why new rest
+
+-- the faults of a configuration and of a build aren't the socket's
+configured_not : (input left : Held) (why : Fault) → IsConfigured input left (Err why) → why ≡ fault.Socket → ⊥
+configured_not input left fault.NoDevice is e = absurd (cc)
+configured_not input left (fault.Script refused) is e = absurd (cc)
+configured_not input left fault.Socket is e = is
+configured_not input left fault.NotText is e = absurd (cc)
+configured_not input left (fault.BadValue word) is e = absurd (cc)
+configured_not input left (fault.Refused address) is e = absurd (cc)
+configured_not input left (fault.NoAnswer asked) is e = absurd (cc)
+configured_not input left (fault.List said) is e = absurd (cc)
+configured_not input left (fault.Exchange address said) is e = absurd (cc)
+configured_not input left fault.Write is e = absurd (cc)
+configured_not input left fault.Memory is e = absurd (cc)
+
+over_stays : {S P C : Type 0} (rules : SocketRules S P) (tells : C → Option CivilTime → C → Type 0) → NeverFails rules →
+    (address : List ℕ) (count : ℕ) (device : State) (port : P) (old new : Streams S C) →
+    IsServedOver rules tells address count device port old (Err fault.Socket) new → ⊥
+over_stays rules tells sure address count device port old new (Ok done, left, after, told, serves, is) = absurd (cc)
+over_stays rules tells sure address count device port old new (Err why, left, after, told, serves, is) =
+    device_stays rules.sends rules.receives tells sure.1 count _ why _ serves
+
+pub stays : {S P C : Type 0} (rules : SocketRules S P) (tells : C → Option CivilTime → C → Type 0) (address : List ℕ) (count : ℕ)
+    (old new : Streams S C) → NeverFails rules → Works rules tells (Serve address count) old (Err fault.Socket) new → ⊥
+stays rules tells address count old new sure (inl (why, configured, is, idle), keeps) =
+    configured_not old.input new.input why configured (let e : why ≡ fault.Socket = cc in e)
+stays rules tells address count old new sure (inr (c, configured, inl (why, inl unbuilt, is, idle)), keeps) =
+    let e = unbuilt.1 in absurd (cc)
+stays rules tells address count old new sure (inr (c, configured, inl (why, inr unbuilt, is, idle)), keeps) =
+    let e = unbuilt.3 in absurd (cc)
+stays rules tells address count old new sure (inr (c, configured, inr (built, inl memory)), keeps) =
+    let e = memory.0 in absurd (cc)
+stays rules tells address count old new sure (inr (c, configured, inr (built, inr (Err why, opens, closed))), keeps) =
+    sure.0 old.sockets new.sockets address _ why opens
+stays rules tells address count old new sure (inr (c, configured, inr (built, inr (Ok port, opens, served))), keeps) =
+    over_stays rules tells sure address count _ port old new served
