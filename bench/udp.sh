@@ -3,8 +3,10 @@
 # interface, and beside it, in the same run, bare round trips in C of as many datagrams of the same
 # sizes, and, where there is a rustc, a client written by hand in plain Rust that prints the same
 # (bench/udp/hand.rs; `bac serve` answers both). A round of the one, then a round of the others; the
-# best and the median of each, and their ratios. Then the start of the program beside that of `true`.
-# It needs a C compiler.
+# best and the median of each, and their ratios. Then the same of logs of as many REALs and as many
+# numbers of one octet, with status flags, which a server in C answers with replies as large. Where
+# there is a valgrind, the instructions of `bac log` for each record of the three logs. Then the start
+# of the program beside that of `true`. It needs a C compiler.
 set -eu
 cd "$(dirname "$0")/.."
 program=$(realpath -- "${1:-crates/bac/out/bac}")
@@ -51,13 +53,29 @@ timed() {
     "$@" > "$room/part"
     echo $(($(date +%s%N) - start)) >> "$file"
 }
+declare -A served_at
+for kind in real number; do
+    served_at[$kind]=$((20000 + RANDOM))
+    "$room/udp" log "${served_at[$kind]}" 1476 "$records" "$kind" &
+    servers="$servers $!"
+    "$program" log "127.0.0.1:${served_at[$kind]}" 1 1 --steps=100000 > "$room/whole-$kind"
+    [ "$(wc -l < "$room/whole-$kind")" -eq $((records + 1)) ]
+done
 for ((n = 0; n < rounds; n++)); do
     timed "$room/walks" "$program" log "$served" 1 1 --steps=100000
     cmp "$room/part" "$room/whole"
     "$room/udp" ping "$bare" "$asked" "$reply" "$trips" >> "$room/trips"
-    [ -n "$hand" ] || continue
-    timed "$room/hands" "$hand" "$port" 1
-    cmp "$room/part" "$room/whole"
+    if [ -n "$hand" ]; then
+        timed "$room/hands" "$hand" "$port" 1
+        cmp "$room/part" "$room/whole"
+    fi
+    for kind in real number; do
+        timed "$room/walks-$kind" "$program" log "127.0.0.1:${served_at[$kind]}" 1 1 --steps=100000
+        cmp "$room/part" "$room/whole-$kind"
+        [ -n "$hand" ] || continue
+        timed "$room/hands-$kind" "$hand" "${served_at[$kind]}" 1
+        cmp "$room/part" "$room/whole-$kind"
+    done
 done
 # nth NAME PLACE: so many milliseconds in that place of the sorted rounds, the best being at 1
 nth() { sort -n "$room/$1" | sed -n "$2p" | awk '{ printf "%.2f", $1 / 1e6 }'; }
@@ -78,6 +96,32 @@ awk -v records="$records" -v walk="$(nth walks 1)" -v walks="$(nth walks $middle
 }'
 row trips bare round trips
 [ -z "$hand" ] || row hands a client written by hand that prints the same
+for kind in real number; do
+    awk -v kind="$kind" -v best="$(nth "walks-$kind" 1)" -v median="$(nth "walks-$kind" $middle)" 'BEGIN {
+        printf "%-44s %6.2f / %6.2f ms\n", "bac log of " kind "s, as many", best, median
+    }'
+    [ -n "$hand" ] || continue
+    awk -v walk="$(nth "walks-$kind" 1)" -v walks="$(nth "walks-$kind" $middle)" \
+        -v best="$(nth "hands-$kind" 1)" -v median="$(nth "hands-$kind" $middle)" 'BEGIN {
+        printf "%-44s %6.2f / %6.2f ms; bac log goes at %.2f / %.2f of its speed\n",
+            "  the client written by hand", best, median, best / walk, median / walks
+    }'
+done
+
+# instructions WORDS..: those of the program with these words
+instructions() {
+    valgrind --tool=callgrind --callgrind-out-file=/dev/null "$program" "$@" 2>&1 > /dev/null \
+        | sed -n 's/.*Collected : //p'
+}
+if command -v valgrind > /dev/null; then
+    none=$(instructions --version)
+    for kind in "$port state" "${served_at[real]} real" "${served_at[number]} number"; do
+        awk -v kind="${kind#* }" -v all="$(instructions log "127.0.0.1:${kind% *}" 1 1 --steps=100000)" \
+            -v none="$none" -v records="$records" 'BEGIN {
+            printf "instructions of the client for each %s: %.0f\n", kind, (all - none) / records
+        }'
+    done
+fi
 
 least() { if [ "$1" -eq 0 ] || [ "$2" -lt "$1" ]; then echo "$2"; else echo "$1"; fi; }
 starts() {

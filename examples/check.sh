@@ -39,7 +39,7 @@ done
 
 # What was answered before a fault stays printed.
 hex='word 2: 2 to 3002 hexadecimal digits, an even number'
-place="the device's line comes first and stands once, then its objects', then events"
+event='a configuration has no events: rx, clock, sample and walk are for bac replay'
 device='device 123 plant 0 1476 2024-05-06T07:08:09.10'
 who_is='rx 810b000c0120ffff00ff1008'
 printf 'tx 810a001401001000c40200007b2205c491032100\n' > "$room/answer"
@@ -47,11 +47,11 @@ printf '%s\n' "$device" "$who_is" 'rx 8' "$who_is" > "$room/bad"
 bac replay < "$room/bad"
 ended 'a bad line' 1 $'line 3: bad line\n'"$hex"$'\n' "$room/answer"
 bac replay <<< "${device/123/4194303}"
-ended 'an instance that no device has' 1 $'cannot build: bad instance\ndevice 4194303: an instance is a number from 0 to 4194302\n'
+ended 'an instance that no device has' 1 $'cannot build: bad instance\nline 1: device 4194303: an instance is a number from 0 to 4194302\n'
 bac replay <<< "${device/plant/$'\x7f'}"
-ended 'a name with a control character' 1 $'cannot build: bad name\ndevice 123: a name has 1 to 64 octets and no control character\n'
+ended 'a name with a control character' 1 $'cannot build: bad name\nline 1: device 123: a name has 1 to 64 octets and no control character\n'
 bac replay <<< "${device/1476/49}"
-ended 'a reply of 49 octets' 1 $'cannot build: bad reply size\ndevice 123: REPLY is a number from 50 to 1476\n'
+ended 'a reply of 49 octets' 1 $'cannot build: bad reply size\nline 1: device 123: REPLY is a number from 50 to 1476\n'
 
 # Objects and the clock.
 objects=$'binary 1 pump 0\nmultistate 1 mode 3 3'
@@ -61,7 +61,7 @@ bac replay < "$room/objects"
 ended 'objects and a clock' 0 '' "$room/clocked"
 printf '%s\n' "$device" 'binary 1 pump 0' 'binary 2 pump 0' "$who_is" > "$room/named"
 bac replay < "$room/named"
-ended 'two objects of one name' 1 $'cannot build: duplicate name\nbinary 2: its name is that of binary 1\n'
+ended 'two objects of one name' 1 $'cannot build: duplicate name\nline 3: binary 2: its name is that of binary 1 in line 2\n'
 
 # The longest script, and one octet more: empty lines fill it.
 { printf '%s\n' "$device" "$who_is"; yes ''; } 2> /dev/null | head -c 1048577 > "$room/longer"
@@ -166,19 +166,59 @@ wrong 'all networks' '--dnet: a number from 1 to 65534, beside --dadr; for bac w
 bac rp 127.0.0.1 8 123 $'\xff'
 wrong 'a word that is no text' "a word isn't UTF-8"
 
+# Addresses that standard input lists: none, a bad one (lines count with comments and empty ones), one more than a list
+# may have, more octets, a folder; `-` stands alone.
+address='a line is A.B.C.D or A.B.C.D:PORT, A to D from 0 to 255, PORT from 1 to 65535'
+bac wi - < /dev/null
+wrong 'no address in a list' 'no address'
+printf '# stations\n\n\r\n' > "$room/list"
+bac wi - < "$room/list"
+wrong 'nothing but comments in a list' 'no address'
+printf '# stations\n\n127.0.0.1:1\r\n127.0.0.1:0\n' > "$room/list"
+bac wi - < "$room/list"
+ended 'a bad address in a list' 1 $'line 4: bad line\n'"$address"$'\n'
+printf '127.0.0.1:1 \n' > "$room/list"
+bac wi - < "$room/list"
+ended 'a blank behind an address' 1 $'line 1: bad line\n'"$address"$'\n'
+printf '127.0.0.1:1\n\xff\n' > "$room/list"
+bac wi - < "$room/list"
+ended 'no text in a list' 1 $'line 2: bad line\n'"$address"$'\n'
+{ printf '\n'; yes 127.0.0.1:1; } 2> /dev/null | head -n 4098 > "$room/list"
+bac wi - < "$room/list"
+ended '4,097 addresses in a list' 1 $'line 4098: bad line\na list has at most 4096 addresses\n'
+head -c 1048577 /dev/zero | tr '\0' '#' > "$room/list"
+bac wi - < "$room/list"
+wrong 'a list of 1,048,577 octets' 'a list has at most 1048576 octets'
+bac wi - < .
+ended 'a folder as a list' 2 $'read fault\n'
+bac wi - 127.0.0.1 < /dev/null
+wrong 'a list and an address' 'ADDRESS: A.B.C.D or A.B.C.D:PORT, each of A to D from 0 to 255, PORT from 1 to 65535'
+
 # Configurations that are none.
 bac serve 127.0.0.1 < /dev/null
 wrong 'no device line' 'no device line'
 bac serve 127.0.0.1 < who-is.script
-ended 'an event in a configuration' 1 $'line 21: bad line\n'"$place"$'\n'
+ended 'an event in a configuration' 1 $'line 21: bad line\n'"$event"$'\n'
 bac serve 127.0.0.1 < "$room/named"
-ended 'an event behind two objects of one name' 1 $'line 4: bad line\n'"$place"$'\n'
+ended 'an event behind two objects of one name' 1 $'line 4: bad line\n'"$event"$'\n'
 head -n 3 "$room/named" > "$room/configuration"
 bac serve 127.0.0.1 < "$room/configuration"
 ended 'a configuration with two objects of one name' 1 $'cannot build: duplicate name\nbinary 2: its name is that of binary 1\n'
 printf '%s\n' "$device" 'sample 1' > "$room/configuration"
 bac serve 127.0.0.1:47813 --count=0 < "$room/configuration"
-ended 'a sample in a configuration' 1 $'line 2: bad line\n'"$place"$'\n'
+ended 'a sample in a configuration' 1 $'line 2: bad line\n'"$event"$'\n'
+printf '%s\n' "$device" 'rx 0g' > "$room/configuration"
+bac serve 127.0.0.1:47813 --count=0 < "$room/configuration"
+ended 'a bad event in a configuration' 1 $'line 2: bad line\n'"$event"$'\n'
+printf '%s\n' "$device" 'bynary 1 a 0' > "$room/configuration"
+bac serve 127.0.0.1:47813 --count=0 < "$room/configuration"
+ended 'no kind of line in a configuration' 1 $'line 2: bad line\na line begins with device, binary, multistate, integer or log\n'
+printf '%s\n' "$device" "$device" > "$room/configuration"
+bac serve 127.0.0.1:47813 --count=0 < "$room/configuration"
+ended 'two devices in a configuration' 1 $'line 2: bad line\na device line stands before it\n'
+printf '%s\n' "$device" 'binary 1 a 0 ' > "$room/configuration"
+bac serve 127.0.0.1:47813 --count=0 < "$room/configuration"
+ended 'a blank at the end of a line' 1 $'line 2: bad line\nthe line ends with a blank\n'
 printf '%s\n' "${device/1476/49}" > "$room/configuration"
 bac serve 127.0.0.1:47813 --count=0 < "$room/configuration"
 ended 'a configuration with replies of 49 octets' 1 $'cannot build: bad reply size\ndevice 123: REPLY is a number from 50 to 1476\n'

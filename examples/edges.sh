@@ -51,6 +51,18 @@ for port in 43981 47808; do
     server=
 done
 
+# That it is up is told before the first receive, which waits without limit here: nothing is sent.
+at=127.77.4.$((RANDOM % 250 + 1)):47000
+echo 'device 1 alone 0 1476 2024-05-06T07:08:09.10' > "$room/alone.conf"
+"$program" serve "$at" < "$room/alone.conf" > "$room/alone.told" 2>&1 &
+server=$!
+for try in {1..100}; do
+    [ ! -s "$room/alone.told" ] || break
+    sleep 0.1
+done
+is 'a server tells that it is up before anyone asks' "$(cat "$room/alone.told")" "serving $at"
+unserved
+
 # --local is the address and the port that a device sees, for each tool that asks.
 cat > "$room/seen.py" <<'P'
 import socket, subprocess, sys

@@ -26,7 +26,12 @@ bac wp "$at" 5 1 85 8 0 --timeout=100 --retries=0
 is 'nobody is there to write to' "$said" "|lost
 no answer came from $at|2"
 bac wi "$at" --timeout=100
-is 'nobody answers' "$said" '|no answer|2'
+is 'nobody answers' "$said" '|no answer
+addresses asked: 1|2'
+printf '%s\n' 127.0.0.1:1 '# and' '' "$at" > "$room/list"
+bac wi - --timeout=100 < "$room/list"
+is 'nobody of two answers' "$said" '|no answer
+addresses asked: 2|2'
 bac log "$at" 1 oldest --timeout=100 --retries=0
 is 'nobody is there to walk' "$said" 'lost, next 1||2'
 
@@ -38,8 +43,12 @@ served "$room/small.conf"
 bac serve "$at" --count=0 < plant.conf
 is 'an address in use' "$said" '|socket fault|2'
 bac wi "$at" --min=124 --timeout=250
-is 'another instance' "$said" '|no answer|2'
+is 'another instance' "$said" '|no answer
+addresses asked: 1|2'
 
+printf '127.0.0.1:1\r\n%s' "$at" > "$room/list"
+bac wi - --timeout=250 < "$room/list"
+is 'found by a list without an end of its last line' "$said" "I-Am 123 $at max-apdu 50 segmentation 3 vendor 0||0"
 bac rp "$at" 8 123 77
 is 'the name of the device' "$said" '"plant"||0'
 bac rp "$at" 8 4194303 75
@@ -149,6 +158,11 @@ for seed in {1..10}; do
     exec {input}>&-
     wait "$stranger"
 done
+
+# ---- an answer's lines are there before the next answer is (ahead.py)
+
+is 'the lines of an answer are written before the next one comes' \
+    "$(python3 ./ahead.py "$program" log 127.0.0.1:PORT 1 1 --timeout=5000)" ok
 
 # ---- outputs that refuse
 

@@ -68,9 +68,11 @@ is 'found on its network' "$said" "I-Am 123 $at net 7 mac 0a01 max-apdu 50 segme
 bac wi "$at" --dnet=65535 --timeout=500
 is 'found on all networks' "$said" "I-Am 123 $at net 7 mac 0a01 max-apdu 50 segmentation 3 vendor 0||0"
 bac wi "$at" --dnet=8 --timeout=200
-is 'nobody on another network' "$said" '|no answer|2'
+is 'nobody on another network' "$said" '|no answer
+addresses asked: 1|2'
 bac wi "$at" --timeout=200
-is 'a router is no device' "$said" '|no answer|2'
+is 'a router is no device' "$said" '|no answer
+addresses asked: 1|2'
 bac rp "$at" 8 123 77 "${far[@]}"
 is 'the name of the device' "$said" '"plant"||0'
 bac rp "$at" 8 123 77 --dnet=7 --dadr=0a02 --timeout=100 --retries=1

@@ -18,7 +18,9 @@ stations() {
     local input=${COPROC[1]} at
     mapfile -t -n 1000 -u "${COPROC[0]}" at
     SECONDS=0
-    bac wi "${at[@]}" --timeout=500
+    # As many addresses as a list may have don't fit each system's command line.
+    printf '%s\n' "${at[@]}" > "$room/list"
+    bac wi - --timeout=1000 < "$room/list"
     took=$SECONDS
     is "answers after $1 ms, $2 times, not of $3: the status and what is told" "$status $(cat "$room/err")" '0 '
     is "answers after $1 ms, $2 times, not of $3: the instances" \
@@ -29,15 +31,14 @@ stations() {
     server=
 }
 
-for ms in 0 3 20 150; do
-    stations $ms 1 0
-done
-for ms in 0 3 20; do
-    stations $ms 2 0
+for times in 1 2; do
+    for ms in 0 3 20 150; do
+        stations $ms $times 0
+    done
 done
 
 # The first 900 don't answer: no more than a second is waited for them, beside the wait at the end.
 stations 0 1 900
-is 'silent stations are not waited for long' "$([ "$took" -le 3 ] && echo yes)" yes
+is 'silent stations are not waited for long' "$([ "$took" -le 4 ] && echo yes)" yes
 
 counted
