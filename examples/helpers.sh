@@ -153,7 +153,8 @@ if has systemd-analyze; then
     for unit in systemd/*; do
         sed "s|/usr/local/bin/bac|$program|; s|/usr/local/bin/keep.sh|$PWD/keep.sh|" "$unit" > "$room/units/$(basename "$unit")"
     done
-    for unit in bac-serve@plant.service bac-keep@boiler.service bac-keep@boiler.timer; do
+    for unit in bac-serve@plant.service bac-keep@boiler.service bac-keep@boiler.timer bac-site@plant.service \
+        bac-site@plant.timer; do
         is "$unit" "$(SYSTEMD_UNIT_PATH="$room/units:" systemd-analyze verify "$unit" 2>&1; echo $?)" 0
     done
 fi

@@ -1,4 +1,5 @@
 mod SchemaLemmas
-mod RowsLemmas
+pub mod RowsLemmas
 mod QueryLemmas
 mod SpanLemmas
+mod LogLemmas

@@ -1,3 +1,4 @@
 pub mod Schema
 pub mod Rows
 pub mod Archive
+pub mod Logs

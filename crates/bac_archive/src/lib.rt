@@ -6,13 +6,19 @@
 #![tactic(auto)]
 
 mod creation;
+mod items;
+mod latest;
 mod opening;
 mod row;
 mod rows;
 mod shape;
+mod trend_logs;
 
 pub use creation::create;
+pub use items::{Item, items_of, read_item};
+pub use latest::{NewestItem, newest};
 pub use opening::{Refused, open};
 pub use row::Row;
-pub use rows::{append, leaves_the_last_commit};
+pub use rows::{adds_join, append, leaves_the_last_commit};
 pub use shape::is_archive;
+pub use trend_logs::{Log, NotAdded, Source, add_log, logs};

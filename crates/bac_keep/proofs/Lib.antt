@@ -1,2 +1,3 @@
 mod Taken
 mod KeptLemmas
+mod RunLemmas

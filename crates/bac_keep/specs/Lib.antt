@@ -1,3 +1,5 @@
 pub mod Items
 pub mod Sinks
 pub mod Kept
+pub mod Runs
+pub mod Gathers

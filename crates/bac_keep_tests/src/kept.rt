@@ -2,10 +2,10 @@
 
 use crate::archive::{archive, first};
 use bac_archive::{is_archive, open};
-use bac_keep::{NotKept, Place, Refusal, keep_step};
+use bac_keep::{KeptRun, KeptStep, NotKept, Place, Refusal, keep_log, keep_step};
 use bac_link::Transactions;
 use bac_scripted_link::ScriptedLink;
-use bac_walk::{Ended, Walk};
+use bac_walk::{Ended, Walk, WalkFault, Why};
 use bac_wire::ObjectId;
 use sqlite::{Connection, Constraint, Error, ErrorCode, MemStore};
 use std::alloc::Global;
@@ -22,6 +22,13 @@ fn two(invoke: u8, number: u8) -> [u8; 63] {
     ]
 }
 
+/// A step that brought two records.
+const TWO: KeptStep = KeptStep {
+    records: 2,
+    gaps: 0,
+    ended: Ended::StepLimit,
+};
+
 fn walk_from(s: u32) -> Result<Walk, Fail> {
     let log = ObjectId::new(20, 1).ok_or("no such object")?;
     Ok(Walk::from_number(log, s).ok_or("no walk")?)
@@ -36,7 +43,7 @@ fn keep(
     conn: &mut Connection<MemStore>,
     place: Place,
     free: &mut u64,
-) -> Result<Result<Ended, NotKept>, Fail> {
+) -> Result<Result<KeptStep, NotKept>, Fail> {
     if !is_archive(conn.schema()) {
         return Err(Fail::from("no archive"));
     }
@@ -62,7 +69,7 @@ fn each_batch_is_kept_with_its_gap(rt: HostRuntime) -> Result<(), Fail> {
         place,
         &mut free,
     )?;
-    assert!(rt; first_step == Ok(Ended::StepLimit));
+    assert!(rt; first_step == Ok(TWO));
     assert_eq!(rt; free, 7);
     let second = keep(
         rt.alloc(),
@@ -73,7 +80,7 @@ fn each_batch_is_kept_with_its_gap(rt: HostRuntime) -> Result<(), Fail> {
         place,
         &mut free,
     )?;
-    assert!(rt; second == Ok(Ended::StepLimit));
+    assert!(rt; second == Ok(TWO));
     assert_eq!(rt; walk.next_number(), 9);
     assert_eq!(rt; first::<i64>(&mut conn, "SELECT count(*) FROM items")?, 4);
     assert_eq!(rt;
@@ -115,7 +122,7 @@ fn a_number_that_is_kept_is_not_kept_again(rt: HostRuntime) -> Result<(), Fail> 
         place,
         &mut free,
     )?;
-    assert!(rt; kept == Ok(Ended::StepLimit));
+    assert!(rt; kept == Ok(TWO));
     let mut same = walk_from(5)?;
     let mut none = 0;
     let twice = keep(
@@ -141,5 +148,83 @@ fn a_number_that_is_kept_is_not_kept_again(rt: HostRuntime) -> Result<(), Fail> 
     )?;
     assert!(rt; round == Err(NotKept::Refused(Refusal::Round)));
     assert_eq!(rt; first::<i64>(&mut conn, "SELECT count(*) FROM items")?, 2);
+    Ok(())
+}
+
+#[test]
+fn a_run_goes_on_where_one_was_lost(rt: HostRuntime) -> Result<(), Fail> {
+    let mut conn = archive(rt.alloc())?;
+    let place = Place::new(7, 1).ok_or("no place")?;
+    let (one, next, later) = (two(1, 5), two(2, 7), two(4, 12));
+    let replies: [&[u8]; 4] = [&one, &next, &[], &later];
+    let mut link = ScriptedLink::new(&replies);
+    let mut transactions = Transactions::new(0);
+    let lost = keep_log(
+        rt.alloc(),
+        &mut link,
+        &mut transactions,
+        walk_from(5)?,
+        &mut conn,
+        place,
+        5,
+        10,
+    );
+    let first_run = KeptRun {
+        records: 4,
+        gaps: 0,
+        next: 9,
+        end: Ok(Why::Fault(WalkFault::Lost)),
+    };
+    assert!(rt; lost == first_run);
+    let again = keep_log(
+        rt.alloc(),
+        &mut link,
+        &mut transactions,
+        walk_from(lost.next)?,
+        &mut conn,
+        place,
+        9,
+        1,
+    );
+    let second_run = KeptRun {
+        records: 2,
+        gaps: 1,
+        next: 14,
+        end: Ok(Why::StepLimit),
+    };
+    assert!(rt; again == second_run);
+    assert_eq!(rt; first::<i64>(&mut conn, "SELECT count(*) FROM items")?, 7);
+    assert_eq!(rt;
+        first::<i64>(&mut conn, "SELECT last FROM items WHERE last IS NOT NULL")?,
+        11
+    );
+    assert!(rt; open(&mut conn) == Ok(()));
+    Ok(())
+}
+
+#[test]
+fn what_is_no_archive_is_left(rt: HostRuntime) -> Result<(), Fail> {
+    let mut conn = Connection::open_in_memory(rt.alloc())?;
+    let replies: [&[u8]; 0] = [];
+    let mut link = ScriptedLink::new(&replies);
+    let mut transactions = Transactions::new(0);
+    let place = Place::new(7, 1).ok_or("no place")?;
+    let run = keep_log(
+        rt.alloc(),
+        &mut link,
+        &mut transactions,
+        walk_from(5)?,
+        &mut conn,
+        place,
+        5,
+        10,
+    );
+    let none = KeptRun {
+        records: 0,
+        gaps: 0,
+        next: 5,
+        end: Err(NotKept::NoArchive),
+    };
+    assert!(rt; run == none);
     Ok(())
 }

@@ -4,4 +4,6 @@
 #[cfg(test)]
 mod archive;
 #[cfg(test)]
+mod callers;
+#[cfg(test)]
 mod kept;
