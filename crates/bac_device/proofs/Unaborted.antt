@@ -3,6 +3,8 @@ use Rattle.std.proofs.Common.{◌≡◌, refl, ap, subst, ◌∙◌, arith, ℕ,
 use Rattle.std.specs.Map.{lookup}
 use Rattle.std.proofs.Math.Nat.{le-min, min-le_right}
 use Rattle.std.proofs.lemmas.Bool.Decides.{nat_tests}
+use Rattle.std.proofs.lemmas.Option.{none-some}
+use Rattle.std.proofs.lemmas.Bool.{le-ltb}
 use Rattle.bac_wire.specs.Number.{bit}
 use Rattle.bac_wire.specs.Chain.{◌>>=◌ as ◌>>>◌}
 use Rattle.bac_wire.specs.OptionChain.{◌>>=◌}
@@ -149,15 +151,12 @@ ok_step : {A B F : Type 0} (P : B → Type 0) (o : Result A F) (f : A → Result
 ok_step P (Ok x) f k = k x
 ok_step P (Err fault) f k = tt
 
-low_instance : (n : ℕ) → n < 4194304 → nat_lt 4194303 n ≡ false
-low_instance n lt = grind (arith, nat_tests)
-
 sound_log : (d : State) (id : Id) (o : object.Object) (l : Logger) → IsSound d → lookup (is_id id) d.objects ≡ Some o → o.body ≡ body.Log l → IsLog l.log
 sound_log d id o l is at e =
     let named = is.only id o l at e in
     let same : id ≡ log_id id.instance = ap (λ k. let i : Id = record { kind = k; instance = id.instance } in i) named.0 in
     let found : lookup (is_id (log_id id.instance)) d.objects ≡ Some o = subst (λ (i : Id). lookup (is_id i) d.objects ≡ Some o) same at in
-    is.logs id.instance l.log (rw (low_instance id.instance named.1, found) (ap (λ b. records_in (logger_in b)) e))
+    is.logs id.instance l.log (rw (le-ltb 4194303 id.instance (omega (arith, named.1)), found) (ap (λ b. records_in (logger_in b)) e))
 
 buffer_log : (property : ℕ) (b : Body) → ((l : Logger) → b ≡ body.Log l → IsLog l.log) → AnyOk IsLog (buffer_of property b)
 buffer_log property (body.Command c) h = tt
@@ -180,9 +179,6 @@ range_is : (d : State) (limit invoke : ℕ) (x : Result ReadRange Reason) → Is
 range_is d limit invoke (Ok r) is ge = said_is limit invoke r (records_of d r) ge (records_log d r is)
 range_is d limit invoke (Err reason) is ge = refl
 
-no_heard : (h : ReceivedApdu) → None ≡ Some h → ⊥
-no_heard h e = cc
-
 abbrev said_to : State → ℕ → ℕ → List ℕ → Return → Option Reply × State
 said_to d size invoke parameters to = (Some (reply to (log_answer d (min size d.reply_size) invoke (read_range_at parameters))), d)
 
@@ -193,11 +189,11 @@ said_so d size invoke parameters to is room =
 
 frame_answered : (d : State) (f : Option Frame) (source : Option Place) (size invoke : ℕ) (parameters : List ℕ) → IsSound d → 50 ≤ size
     → heard_in f ≡ Some (record { to_all = false; source = source; apdu = Confirmed false size invoke 26 parameters }) → (to : Receiver) × (answer_frame d f ≡ said_to d size invoke parameters (record { to = to; place = source }))
-frame_answered d None source size invoke parameters is room h = absurd (no_heard _ h)
+frame_answered d None source size invoke parameters is room h = absurd (none-some _ h)
 frame_answered d (Some (Unicast npdu)) source size invoke parameters is room h = (Sender, rw h (said_so d size invoke parameters (record { to = Sender; place = source }) is room))
 frame_answered d (Some (Broadcast npdu)) source size invoke parameters is room h = (Sender, rw h (said_so d size invoke parameters (record { to = Sender; place = source }) is room))
 frame_answered d (Some (Forwarded address npdu)) source size invoke parameters is room h = (Address address, rw h (said_so d size invoke parameters (record { to = Address address; place = source }) is room))
-frame_answered d (Some (Function function rest)) source size invoke parameters is room h = absurd (no_heard _ h)
+frame_answered d (Some (Function function rest)) source size invoke parameters is room h = absurd (none-some _ h)
 
 pub ranges_answered : (d : State) (datagram : List ℕ) (source : Option Place) (size invoke : ℕ) (parameters : List ℕ) → IsSound d
     → heard_in (frame_at datagram) ≡ Some (record { to_all = false; source = source; apdu = Confirmed false size invoke 26 parameters }) → (to : Receiver) × (answer d datagram ≡ said_to d size invoke parameters (record { to = to; place = source }))
@@ -208,11 +204,11 @@ ranges_answered d datagram source size invoke parameters is h = frame_answered d
 
 -- a request is heard from where an answer can go
 frame_way : (f : Option Frame) (x : ReceivedApdu) → heard_in f ≡ Some x → IsWay x.source
-frame_way None x h = absurd (no_heard _ h)
+frame_way None x h = absurd (none-some _ h)
 frame_way (Some (Unicast npdu)) x h = heard_way false npdu x h
 frame_way (Some (Broadcast npdu)) x h = heard_way true npdu x h
 frame_way (Some (Forwarded address npdu)) x h = heard_way true npdu x h
-frame_way (Some (Function function rest)) x h = absurd (no_heard _ h)
+frame_way (Some (Function function rest)) x h = absurd (none-some _ h)
 
 within_limit : (small over : Bool) (limit invoke n : ℕ) (parameters : List ℕ) → nat_lt limit n ≡ over
     → cond small (abort invoke) (cond over (abort invoke) (Complex false invoke 26 parameters)) ≡ Complex false invoke 26 parameters → n ≤ limit
@@ -233,11 +229,11 @@ unaborted d to way limit invoke (Err reason) is ge le = rw (again to.place (reje
 
 frame_unaborted : (d : State) (f : Option Frame) (source : Option Place) (size invoke : ℕ) (parameters : List ℕ)
     → heard_in f ≡ Some (record { to_all = true; source = source; apdu = Confirmed false size invoke 26 parameters }) → is_aborted (answer_frame d f).0 ≡ false
-frame_unaborted d None source size invoke parameters h = absurd (no_heard _ h)
+frame_unaborted d None source size invoke parameters h = absurd (none-some _ h)
 frame_unaborted d (Some (Unicast npdu)) source size invoke parameters h = rw h refl
 frame_unaborted d (Some (Broadcast npdu)) source size invoke parameters h = rw h refl
 frame_unaborted d (Some (Forwarded address npdu)) source size invoke parameters h = rw h refl
-frame_unaborted d (Some (Function function rest)) source size invoke parameters h = absurd (no_heard _ h)
+frame_unaborted d (Some (Function function rest)) source size invoke parameters h = absurd (none-some _ h)
 
 pub ranges_unaborted : (d : State) (datagram : List ℕ) (to_all : Bool) (source : Option Place) (size invoke : ℕ) (parameters : List ℕ) → IsSound d
     → heard_in (frame_at datagram) ≡ Some (record { to_all = to_all; source = source; apdu = Confirmed false size invoke 26 parameters }) → is_aborted (answer d datagram).0 ≡ false
