@@ -42,6 +42,6 @@ pub use bac_walk::{
 };
 pub use bac_wire::{Datagram, Date4, Full, ObjectId, Stamp, Time4, Value};
 pub use bac_world::{
-    Memory, Packet, Side, World, WorldEvent, windows_stay_near, withstands_all,
+    Memory, Packet, Side, World, WorldEvent, packets_were_put, windows_stay_near, withstands_all,
     worlds_run_the_client,
 };

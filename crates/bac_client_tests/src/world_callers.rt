@@ -1,13 +1,15 @@
 //! What a user of a walk over a network needs, proved from public contracts alone.
 
-ghost use Rattle.std.specs.Prelude.{ℕ, ◌≡◌, ◌+◌, ◌<◌, ◌≤◌, ◌↔◌, length, IfOk, IfSome, IsSome};
+ghost use Rattle.std.specs.Prelude.{ℕ, ◌≡◌, ◌+◌, ◌<◌, ◌≤◌, ◌↔◌, ◌∷◌, ◌++◌, List, length, IfOk, IfSome, IsSome};
 ghost use Rattle.bac_log.specs.TrendLog.{sequence_number};
 ghost use Rattle.bac_link.specs.Delivery.{DeliversTo};
 ghost use Rattle.bac_walk.specs.Near.{AreInWindow};
 ghost use Rattle.bac_walk.specs.Place.{walk_at};
 ghost use Rattle.bac_direct.specs.Ahead.{IsThere};
+ghost use Rattle.bac_world.specs.declared.event.WorldEvent.TheVariants.{Deliver as Delivers};
 ghost use Rattle.bac_world.specs.Network.{started};
 ghost use Rattle.bac_world.specs.Runs.{history_of, moments_of};
+ghost use Rattle.bac_world.specs.Sources.{WasAnswered};
 ghost use Rattle.bac_world.specs.Views.{network_of};
 
 use bac_device::Device;
@@ -38,6 +40,30 @@ pub fn records_over_a_network(
 {
     // For the prover alone: a law that the contract follows from.
     windows_stay_near();
+    let Some(walk) = Walk::from_number(log, s) else {
+        return None;
+    };
+    let mut world = World::new(alloc, device, walk, retries);
+    match world.play_all(events) {
+        Ok(_) => Some(Ok(world)),
+        Err(Memory) => Some(Err(Memory)),
+    }
+}
+
+/// Whatever a network makes of the packets, what a walk from number s on takes as a reply is the
+/// device's: an event before brought the device the open request, and this is its answer to it.
+pub fn replies_of_the_device(
+    alloc: Global,
+    device: Device,
+    log: ObjectId,
+    s: u32,
+    retries: u8,
+    events: &[WorldEvent],
+) -> Option<Result<World, Memory>>
+    ensures is_some { IsSome result ↔ (0 < s) × (log.kind ≡ 20) }
+    ensures answered { IfSome result (λ played. IfOk played (λ world. IsThere device log.instance → (before : List WorldEvent) (k : ℕ) (after : List WorldEvent) →
+        events.now ≡ before ++ Delivers k ∷ after → WasAnswered (started device (walk_at log s) retries) before k)) }
+{
     let Some(walk) = Walk::from_number(log, s) else {
         return None;
     };

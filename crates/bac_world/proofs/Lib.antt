@@ -9,3 +9,4 @@ pub mod Keeps
 pub mod Withstands
 pub mod Played
 pub mod Machine
+pub mod Sources

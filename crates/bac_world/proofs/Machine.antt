@@ -53,7 +53,7 @@ taken_same w walks.Ask es = (refl, refl)
 taken_same w walks.End es = (refl, refl)
 taken_same w (Bring first) es = (refl, refl)
 
-heard_same : (w : Network) (o : Option AckParameters) → ((hears w o).transactions ≡ w.transactions) × ((hears w o).packets ≡ w.packets)
+pub heard_same : (w : Network) (o : Option AckParameters) → ((hears w o).transactions ≡ w.transactions) × ((hears w o).packets ≡ w.packets)
 heard_same w None = (refl, refl)
 heard_same w (Some h) = taken_same w (verdict w.walk h.first h.count h.entries) h.entries
 

@@ -207,7 +207,7 @@ packets_answered rounds H log devices began packets begun tx walk d k j octets e
 pub is_right : (log : Id) (devices : List State) (began : ℕ) (packets : List Packet) (begun : ℕ) (tx : Transactions) (walk : WalkPlace) (asked : Pending)
     (k j : ℕ) (octets : List ℕ) → PacketPart log devices began packets begun tx walk → tx.pending ≡ Some asked →
     slice_get packets k ≡ Some (packet j Client octets) → nat_lt begun (j + 256) ≡ true → is_awaited (Some asked) octets ≡ true →
-    IsOpen log devices began packets begun walk asked.request × IsReplied devices began asked.request octets
+    IsOpen log devices began packets begun walk asked.request × IsReplied devices began asked.request octets × (j ≡ begun)
 is_right log devices began packets begun tx walk asked k j octets a is at young awaited =
     let S : Option Pending → Type 0 = λ o. OpenPart log devices began packets begun walk o in
     let here : IsOpen log devices began packets begun walk asked.request = subst S is a.opened in
@@ -215,4 +215,4 @@ is_right log devices began packets begun tx walk asked k j octets a is at young 
     let invoke : begun % 256 ≡ j % 256 =
     same_invoke asked.request octets log (walks.question_of walk) (begun % 256) (j % 256) known.0 here.asks.0 known.1 awaited in
     let own : j ≡ begun = mod_close j begun (a.young k (packet j Client octets) at) (ltb-true begun (j + 256) young) (sym invoke) in
-    (here, here.belong k (packet j Client octets) at own)
+    (here, here.belong k (packet j Client octets) at own, own)

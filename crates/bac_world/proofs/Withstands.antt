@@ -21,6 +21,8 @@ use Rattle.bac_world.specs.Runs.{AreSane, DeliversFrom, IsAnswered, IsNearAll, I
 use Rattle.bac_world.proofs.Keeps.{Inv, keep_all, keep_some, stands}
 use Rattle.bac_world.proofs.Lasts.{LogPart}
 use Rattle.bac_world.proofs.Packets.{is_right}
+use Rattle.bac_world.proofs.Sources.{was_answered}
+use Rattle.bac_world.specs.Sources.{WasAnswered}
 
 sane_first : (w : Network) (es : List WorldEvent) → AreSane w es → IsSane w
 sane_first w [] sane = sane
@@ -90,7 +92,7 @@ abbrev Outcome : Network → List WorldEvent → Network → WalkPlace → ℕ �
 Outcome old es new walk s rounds =
     (IsNearAll rounds walk s old es → (answers : List (List Item)) × (t : ℕ)
     × Stands (history_of rounds walk.log.instance old es) (moments_of rounds walk.log.instance old es) walk.fresh s new answers t)
-    × ((before : List WorldEvent) (k : ℕ) (after : List WorldEvent) → es ≡ before ++ Deliver k ∷ after → IsRight (run_of old before) k)
+    × ((before : List WorldEvent) (k : ℕ) (after : List WorldEvent) → es ≡ before ++ Deliver k ∷ after → IsRight (run_of old before) k × WasAnswered old before k)
 
 from_start : (d : State) (walk : WalkPlace) (retries s rounds : ℕ) (es : List WorldEvent) → AreSane (started d walk retries) es → walk.asks_oldest ≡ false →
     IsThere d walk.log.instance → walk.next ≡ sequence_number s → Outcome (started d walk retries) es (happens_all (started d walk retries) es) walk s rounds
@@ -111,8 +113,10 @@ from_start d walk retries s rounds es sane new there next =
       λ before k after parts.
           let Q : List WorldEvent → Type 0 = λ l1. AreSane w l1 × LogPart rounds H n d (entries_of n w l1) in
           let both = subst Q parts (sane, l) in
-          are_right rounds ⊥ H walk.fresh s walk.log (follow_all run before) k
-          (keep_some rounds ⊥ H walk.fresh s walk.log run before (Deliver k ∷ after) both.0 both.1 (λ none. absurd none) start),
+          let kept = keep_some rounds ⊥ H walk.fresh s walk.log run before (Deliver k ∷ after) both.0 both.1 (λ none. absurd none) start in (
+            are_right rounds ⊥ H walk.fresh s walk.log (follow_all run before) k kept,
+            was_answered rounds ⊥ H walk.fresh s walk.log (follow_all run before) w before k refl (follow-network run before) kept,
+          ),
     )
 
 pub withstands_from : (old : Network) (es : List WorldEvent) (new : Network) → AreSane old es → new ≡ happens_all old es → WithstandsFrom old es new

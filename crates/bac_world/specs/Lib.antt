@@ -2,3 +2,4 @@ pub mod Network
 pub mod Runs
 pub mod Views
 pub mod Machine
+pub mod Sources

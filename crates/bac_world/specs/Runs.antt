@@ -27,6 +27,7 @@ use Rattle.bac_world.specs.declared.packet.Packet.{Packet}
 use Rattle.bac_world.specs.declared.packet.Side.{Side}
 use Rattle.bac_world.specs.declared.packet.Side.TheVariants.{Device, Client}
 use Rattle.bac_world.specs.Network.{Network, happens, happens_all, is_young, moves, started}
+use Rattle.bac_world.specs.Sources.{WasAnswered}
 
 -- ---- a run, with what it went through
 
@@ -171,7 +172,7 @@ IsRight run k =
 
 -- Events took a world that was new, with a walk of a log of its device, to another one: over the moments of the run and
 -- the log's history a walk that stayed near delivered what Delivery says, at every placing of the ordinals. Each reply
--- that it took was right, near or not.
+-- that it took was right, near or not, and the device had put it on the network.
 abbrev pub WithstandsFrom : Network → List WorldEvent → Network → Type 0
 WithstandsFrom old es new =
     (d : State) (walk : WalkPlace) (retries s rounds : ℕ) → old ≡ started d walk retries → walk.asks_oldest ≡ false →
@@ -180,7 +181,7 @@ WithstandsFrom old es new =
     × Stands (history_of rounds walk.log.instance old es)
     (moments_of rounds walk.log.instance old es) walk.fresh s new answers t)
     × ((before : List WorldEvent) (k : ℕ) (after : List WorldEvent) →
-    es ≡ before ++ Deliver k ∷ after → IsRight (run_of old before) k)
+    es ≡ before ++ Deliver k ∷ after → IsRight (run_of old before) k × WasAnswered old before k)
 
 -- the headline of it: a walk from ordinal s, or from the oldest entry
 abbrev pub DeliversFrom : Network → List WorldEvent → Network → Type 0

@@ -2,9 +2,11 @@
 
 ghost use Rattle.bac_world.specs.Machine.{RunsTheClient};
 ghost use Rattle.bac_world.specs.Runs.{WindowsStayNear, Withstands};
+ghost use Rattle.bac_world.specs.Sources.{PacketsWerePut};
 
 /// Whatever a network keeps, repeats or reorders, a walk over it delivers what the log held when it
-/// answered, each record once, in rising order; each reply that it takes answers its open request.
+/// answered, each record once, in rising order; each reply that it takes was put on the network by
+/// the device, as its answer to the open request.
 pub fn withstands_all()
     ensures { Withstands }
 {}
@@ -19,4 +21,10 @@ pub fn windows_stay_near()
 /// come to it: where its transactions are, and what was sent to the device, is what these events say.
 pub fn worlds_run_the_client()
     ensures { RunsTheClient }
+{}
+
+/// Nothing comes to a network from outside: each packet was put there by the client, or by the
+/// device as its reply to a packet that came to it.
+pub fn packets_were_put()
+    ensures { PacketsWerePut }
 {}
