@@ -5,6 +5,8 @@
 #[cfg(test)]
 mod again_callers;
 #[cfg(test)]
+mod came_callers;
+#[cfg(test)]
 mod direct_callers;
 #[cfg(test)]
 mod direct_link;

@@ -37,3 +37,4 @@ pub mod Honest
 pub mod Back
 pub mod Window
 pub mod Loggable
+pub mod Follows

@@ -23,3 +23,4 @@ pub mod Standard
 pub mod Came
 pub mod Spoken
 pub mod Meant
+pub mod Follows

@@ -13,9 +13,9 @@ use Rattle.bac_walk.specs.declared.outcome.BadReply.{BadReply}
 use Rattle.bac_walk.specs.declared.outcome.Progress.{Progress}
 use Rattle.bac_walk.specs.declared.outcome.Progress.TheVariants.{Batch as BatchOf, AskOldest, CaughtUp}
 
--- What a walk that is at ordinal s makes of a reply that was said at a moment. Records are brought, from s on or from the
--- oldest, and the walk is behind them; or none of its number is held, and it asks for the oldest; or the oldest were
--- asked for, and the log is empty, or its oldest is older than s.
+-- What a walk that is at ordinal s makes of a reply that was said at a moment. Records are brought, from s on or from
+-- the oldest, and the walk is behind them; or none of its number is held, and it asks for the oldest; or the oldest
+-- were asked for, and the log is empty, or its oldest is older than s.
 abbrev pub Means : History → Moment → ℕ → ℕ → WalkPlace → Progress → WalkPlace → Type 0
 Means H m low s w (BatchOf b) after =
     (u : ℕ) × Brings H m (base w s m) (items_in b) u

@@ -1,6 +1,6 @@
 -- Records that are put into a sink one after the other.
-use Rattle.std.specs.Prelude.{◌≡◌, ℕ, ◌+◌, ◌*◌, ◌<◌, ◌≤◌, Bool, true, false, ◌⊎◌, Option, Some, None, List, [], ◌∷◌, ◌++◌}
-use Rattle.std.specs.Prelude.{length}
+use Rattle.std.specs.Prelude.{◌≡◌, ℕ, ◌+◌, ◌*◌, ◌<◌, ◌≤◌, Bool, true, false, ◌⊎◌, Option, Some, None, List, [], ◌∷◌}
+use Rattle.std.specs.Prelude.{◌++◌, length}
 use Rattle.bac_link.specs.declared.item.Item.{Item}
 use Rattle.bac_walk.specs.declared.batch.Gap.{Gap as GapOf}
 use Rattle.bac_walk.specs.declared.batch.Numbered.{Numbered}

@@ -76,8 +76,8 @@ HonestSpeaks {S = S} asks honest =
     (place : Option Place) (log : Id) (r : ℕ) (H : History) (low : ℕ) → IsWay place →
     IsValid (Object log) → SpeaksFor asks (towards place) log H low (λ link M. honest link log r M H)
 
--- Where a reply came to a walk over an honest link, all that the log holds at the next moment is loggable: so whether it is
--- needn't be asked of who begins the walk.
+-- Where a reply came to a walk over an honest link, all that the log holds at the next moment is loggable: so whether
+-- it is needn't be asked of who begins the walk.
 abbrev pub RepliesAreLoggable : {S : Type 0} → (S → List ℕ → Result (List ℕ) Loss → S → Type 0) →
     (S → Id → ℕ → List Moment → History → Type 0) → Type 0
 RepliesAreLoggable {S = S} asks honest =

@@ -3,6 +3,7 @@ ghost use Rattle.std.specs.Prelude.{◌≡◌, ℕ, List};
 ghost use Rattle.bac_wire.specs.Primitive.{Id};
 ghost use Rattle.bac_link.specs.Delivery.{History, Moment};
 ghost use Rattle.bac_walk.specs.Came.{BroughtIsDelivered, CameIsDelivered, LostIsAsked, NothingCame, OwnIsSaid, SaidIsTaken};
+ghost use Rattle.bac_walk.specs.Follows.{BroughtGoes, BroughtTells};
 ghost use Rattle.bac_walk.specs.Meant.{SaidMeans};
 ghost use Rattle.bac_walk.specs.Near.{StaysInWindow, WindowsAreNear};
 ghost use Rattle.bac_walk.specs.Rests.{RestsAll, RestResumes};
@@ -77,6 +78,18 @@ pub fn came_is_delivered<L: LogLink>()
 /// The same of a run as `collect` and `deliver` tell it, with its items and its end.
 pub fn brought_is_delivered<L: LogLink>()
     ensures { BroughtIsDelivered L.asks }
+{}
+
+/// What came tells why: whoever answers, a run as `collect` and `deliver` tell it ended by its last
+/// exchange, which told the fault, or that there is no more.
+pub fn brought_tells_why<L: LogLink>()
+    ensures { BroughtTells L.asks }
+{}
+
+/// What came goes on: whoever answers, the items of such a run cover each number from where it
+/// began up to the next.
+pub fn brought_goes_on<L: LogLink>()
+    ensures { BroughtGoes L.asks }
 {}
 
 /// A run that is lost asked its last question once, and as often again as the retries say.

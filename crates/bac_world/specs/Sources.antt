@@ -20,8 +20,8 @@ IsReplyTo w e transaction octets =
     × (question.to ≡ Device) × (question.transaction ≡ transaction) × (is_young w transaction ≡ true)
     × (datagram_in (answer w.device question.datagram).0 ≡ Some octets)
 
--- An event puts a packet on the network: to the device just what the client sends at it, in its newest transaction; to the
--- client a reply.
+-- An event puts a packet on the network: to the device just what the client sends at it, in its newest transaction; to
+-- the client a reply.
 abbrev pub Puts : Network → WorldEvent → ℕ → Side → List ℕ → Type 0
 Puts w e transaction Device octets =
     (sent_of w.transactions (client_events w e) ≡ octets ∷ []) × (transaction ≡ (happens w e).begun)
@@ -40,8 +40,8 @@ abbrev pub PacketsWerePut : Type 0
 PacketsWerePut = (w : Network) (es : List WorldEvent) (k : ℕ) (p : Packet) →
     slice_get (happens_all w es).packets k ≡ Some p → (slice_get w.packets k ≡ Some p) ⊎ WasPut w es k p
 
--- What the client takes as the answer to its open request, after these events, is the reply that the device gave when one
--- of them brought it that request, which the client had put on the network before.
+-- What the client takes as the answer to its open request, after these events, is the reply that the device gave when
+-- one of them brought it that request, which the client had put on the network before.
 abbrev pub WasAnswered : Network → List WorldEvent → ℕ → Type 0
 WasAnswered w es k =
     (p : Packet) (asked : Pending) → slice_get (happens_all w es).packets k ≡ Some p → p.to ≡ Client →
