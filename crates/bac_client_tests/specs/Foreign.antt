@@ -83,8 +83,8 @@ from_oldest =
     ∷ 0x01 ∷ 0xb4 ∷ 0x08 ∷ 0x00 ∷ 0x00 ∷ 0x00 ∷ 0x0f ∷ 0x1e ∷ 0x2c ∷ 0x41 ∷ 0xcc ∷ 0x00 ∷ 0x00 ∷ 0x1f ∷ 0x2a ∷ 0x04
     ∷ 0x00 ∷ 0x5f ∷ 0x6a ∷ 0x00 ∷ 0x07 ∷ []
 
--- what it answers a question of this form (0x6e by number, 0x7e by time), if it answers: by number, one that has one octet
--- (0x21) and is known
+-- what it answers a question of this form (0x6e by number, 0x7e by time), if it answers: by number, one that has one
+-- octet (0x21) and is known
 abbrev pub said_for : ℕ → ℕ → ℕ → Option (List ℕ)
 said_for form size number =
     if form == 0x7e then Some from_oldest

@@ -1,7 +1,7 @@
--- The client's side of confirmed services as one machine (clause 5.4.4, without segments): what is sent, what comes, and
--- which answer is taken. An exchange over a port runs it, and so does a walk over a network.
-use Rattle.std.specs.Prelude.{◌≡◌, ℕ, ◌+◌, ◌%◌, ◌<◌, ◌≤◌, nat_lt, true, if◌then◌else◌, List, [], ◌∷◌, ◌++◌, Option, Some}
-use Rattle.std.specs.Prelude.{None}
+-- The client's side of confirmed services as one machine (clause 5.4.4, without segments): what is sent, what comes,
+-- and which answer is taken. An exchange over a port runs it, and so does a walk over a network.
+use Rattle.std.specs.Prelude.{◌≡◌, ℕ, ◌+◌, ◌%◌, ◌<◌, ◌≤◌, nat_lt, true, if◌then◌else◌, List, [], ◌∷◌, ◌++◌, Option}
+use Rattle.std.specs.Prelude.{Some, None}
 use Rattle.bac_link.specs.declared.request.Request.{Request}
 use Rattle.bac_link.specs.declared.transactions.Pending.{Pending}
 use Rattle.bac_link.specs.declared.transactions.Received.{Received}

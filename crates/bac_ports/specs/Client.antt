@@ -1,5 +1,5 @@
--- What an exchange over a port is: a run of the client's events, in which all that the client sends goes to the peer, and
--- what comes is received, in order.
+-- What an exchange over a port is: a run of the client's events, in which all that the client sends goes to the peer,
+-- and what comes is received, in order.
 use Rattle.std.specs.Prelude.{◌≡◌, ℕ, ◌⊎◌, List, [], ◌∷◌, Some, None, Result, Ok, Err}
 use Rattle.bac_link.specs.declared.exchanges.ExchangeFault.{ExchangeFault}
 use Rattle.bac_link.specs.declared.exchanges.ExchangeFault.TheVariants as fault
@@ -35,7 +35,8 @@ Arrives {P = P} receives peer (Come octets) old new =
 Arrives {P = P} receives peer TimeOut old new = new ≡ old
 
 -- what the client sends goes to the peer, whether the port takes it or not
-abbrev pub SendsAll : {P : Type 0} → (P → List ℕ → List ℕ → Sending → P → Type 0) → List ℕ → List (List ℕ) → P → P → Type 0
+abbrev pub SendsAll : {P : Type 0} → (P → List ℕ → List ℕ → Sending → P → Type 0) →
+    List ℕ → List (List ℕ) → P → P → Type 0
 SendsAll {P = P} sends peer [] old new = new ≡ old
 SendsAll {P = P} sends peer (octets ∷ more) old new =
     (sent : Sending) × (mid : P) × sends old octets peer sent mid × SendsAll sends peer more mid new
@@ -59,8 +60,8 @@ IsTakenAs r taken (Err fault.BadReply) =
 IsTakenAs r taken (Err fault.Lost) = taken ≡ []
 IsTakenAs r taken (Err fault.TooLong) = ⊥
 
--- An exchange over a port, by a link that says which port and which peer it has: the client begins the request, and runs
--- on until it has taken an answer or given up. What is sent and taken then is the client's, in that order.
+-- An exchange over a port, by a link that says which port and which peer it has: the client begins the request, and
+-- runs on until it has taken an answer or given up. What is sent and taken then is the client's, in that order.
 abbrev pub ExchangesAreRuns : {P S : Type 0} → (P → List ℕ → List ℕ → Sending → P → Type 0) →
     (P → Receiving → P → Type 0) → (S → P) → (S → List ℕ) → Type 0
 ExchangesAreRuns {P = P} {S = S} sends receives port peer =
