@@ -1,6 +1,6 @@
 -- ACKs that are too long.
-use Rattle.std.proofs.Common.{◌≡◌, refl, ap, sym, ◌∙◌, arith, ℕ, ◌<◌, ◌≤◌, nat_lt, true, false, List, [], ◌++◌, length, Option, Some, None, Result, Ok, Err, length-append}
-use Rattle.std.proofs.lemmas.Bool.Decides.{nat_tests}
+use Rattle.std.proofs.Common.{◌≡◌, refl, ap, sym, ◌∙◌, arith, ℕ, ◌<◌, ◌≤◌, false, List, [], ◌++◌, length, Option, Some, None, Result, Ok, Err, length-append}
+use Rattle.std.proofs.lemmas.Bool.{lt-ltb}
 use Rattle.bac_wire.specs.Primitive.{Id, Object, Enumerated, Unsigned}
 use Rattle.bac_apdu.specs.Adding.{context_octets, open_octets, close_octets}
 use Rattle.bac_apdu.specs.Apdu.{Complex, apdu_octets}
@@ -31,13 +31,10 @@ ack-len object property (Some index) values =
       length-append (context_octets 2 (Unsigned index)) tail,
     )
 
-over : (limit n : ℕ) → limit < n → nat_lt limit n ≡ true
-over limit n lt = grind (arith, nat_tests)
-
 long_ack : (limit invoke : ℕ) (d : State) (r : ReadProperty) (vs : List ℕ) → limit ≤ 1476 → 1501 < length vs → limited limit invoke (ack invoke d r vs) ≡ abort invoke
 long_ack limit invoke d r vs low long =
     let size : limit < length (apdu_octets (ack invoke d r vs)) = omega (arith, low, long, ack-len (own_id d r.object) r.property r.index vs) in
-    rw (over limit (length (apdu_octets (ack invoke d r vs))) size) refl
+    rw (lt-ltb limit (length (apdu_octets (ack invoke d r vs))) size) refl
 
 as_err : (e f : Refused) → e ≡ f → (let r : Result (List ℕ) Refused = Err f in r) ≡ Err e
 as_err e f is = rw is refl

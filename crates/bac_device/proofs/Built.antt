@@ -11,7 +11,6 @@ use Rattle.bac_objects.specs.Command.{commanded, present}
 use Rattle.bac_objects.specs.Properties.{slot_value, value_of}
 use Rattle.bac_objects.specs.Reading.{read_of, values_octets}
 use Rattle.bac_objects.specs.State.{State, is_id}
-use Rattle.bac_objects.specs.declared.build.BuildFault.{BuildFault}
 use Rattle.bac_objects.specs.declared.command.Command.{Command}
 use Rattle.bac_objects.specs.declared.command.Range.{Range}
 use Rattle.bac_objects.specs.declared.command.Range.TheVariants as range
@@ -22,7 +21,7 @@ use Rattle.bac_objects.specs.declared.lines.ObjectLine.{ObjectLine}
 use Rattle.bac_objects.specs.declared.lines.ObjectLine.TheVariants.{Binary, Multistate, Integer, Log}
 use Rattle.bac_objects.specs.declared.object.Body.TheVariants as body
 use Rattle.bac_objects.specs.declared.object.Object as object
-use Rattle.bac_objects.proofs.Builds.{found}
+use Rattle.bac_objects.proofs.Builds.{found, right_none}
 use Rattle.bac_device.specs.Answer.{answer}
 use Rattle.bac_device.specs.History.{after, default_of, ids_in_order, last_at, slot_after, with_slots, write_asked, writes, IsCommanded}
 use Rattle.bac_device.proofs.History.{stands, wrote}
@@ -65,13 +64,6 @@ in_order device lines xs =
     ∙ ap (λ (ids : List Primitive). Ok (values_octets (Object (record { kind = 8; instance = device.instance }) ∷ ids))) (ap (λ (ids : List Id). map (λ id. Object id) ids) keeps.keys ∙ keys_of_lines lines)
 
 -- ---- commandable objects
-
-right_none : (a b : Option BuildFault) → option_or a b ≡ None → b ≡ None
-right_none None b h = h
-right_none (Some x) b h = absurd (some_none x h)
-  where
-    some_none : (f : BuildFault) → (let r : Option BuildFault = Some f in r) ≡ None → ⊥
-    some_none f e = cc
 
 -- a list is what its elements say
 module _ {X : Type 0} where

@@ -1,10 +1,10 @@
 -- An answer of 44 octets holds a record.
-use Rattle.std.proofs.Common.{◌≡◌, refl, ap, subst, arith, ℕ, zero, suc, ◌+◌, ◌^◌, ◌<◌, ◌≤◌, nat_lt, Bool, true, false, not, ◌&&◌, cond, List, [], ◌∷◌, length, take, Option, Some, None}
+use Rattle.std.proofs.Common.{◌≡◌, refl, ap, subst, arith, ℕ, zero, suc, ◌+◌, ◌^◌, ◌<◌, ◌≤◌, Bool, true, false, not, ◌&&◌, cond, List, [], ◌∷◌, length, take, Option, Some, None}
 use Rattle.std.specs.Prelude.{nat_le, filter, All, if◌then◌else◌}
-use Rattle.std.proofs.lemmas.Bool.Decides.{nat_tests}
+use Rattle.std.proofs.lemmas.Bool.{le-leb, leb-true, le-ltb}
 use Rattle.bac_wire.specs.Primitive.{Id}
 use Rattle.bac_apdu.specs.Apdu.{Complex, apdu_octets}
-use Rattle.bac_apdu.specs.Service.ReadRangeAck.{IsSmall, number_size, optional_size}
+use Rattle.bac_apdu.specs.Service.ReadRangeAck.{IsSmall, optional_size}
 use Rattle.bac_apdu.specs.declared.service.extent.Extent.{Extent}
 use Rattle.bac_log.specs.Ack.{ack_apdu, ack_length, ack_parameters}
 use Rattle.bac_log.specs.Entry.{IsLoggable}
@@ -17,6 +17,8 @@ use Rattle.bac_log.proofs.Records.{All-head, All-tail}
 use Rattle.bac_log.proofs.Sizes.{entry_sized}
 use Rattle.bac_device.specs.Answer.{is_empty, records_ack, records_said}
 use Rattle.bac_device.specs.Reply.{limited}
+use Rattle.bac_apdu.proofs.Sizes.{number_size_small}
+use Rattle.bac_log.proofs.Packs.{shown_small}
 
 -- ---- the greatest that passes
 
@@ -74,39 +76,23 @@ few_taken (suc n) (r ∷ rs) = omega (arith, few_taken n rs)
 
 -- ---- sizes
 
-small_shown : (shows : Bool) (n : ℕ) → n < 2 ^ 32 → IsSmall (if shows then Some n else None)
-small_shown true n lt = lt
-small_shown false n lt = tt
-
-number_most : (n : ℕ) → number_size n ≤ 4
-number_most n = grind (arith, nat_tests)
-
 optional_most : (o : Option ℕ) → optional_size o ≤ 5
 optional_most None = omega arith
-optional_most (Some n) = omega (arith, number_most n)
+optional_most (Some n) = omega (arith, number_size_small n)
 
 one_length : (extent : Extent) (r : HeldEntry) → IsLoggable r.entry → reply_length extent (r ∷ []) ≤ 44
 one_length extent r is =
     let shown : Option ℕ = if shows_number extent then Some (sequence_number r.ordinal) else None in
-    let size = length-ack_length shown (r.entry ∷ []) (small_shown (shows_number extent) (sequence_number r.ordinal) (omega arith)) (omega arith) in
+    let size = length-ack_length shown (r.entry ∷ []) (shown_small (shows_number extent) (sequence_number r.ordinal) (omega arith)) (omega arith) in
     let most : length (entry_octets r.entry) ≤ 22 = (entry_sized r.entry is).most_of in
     omega (arith, size, most, optional_most shown)
-
-le_true : (a b : ℕ) → a ≤ b → nat_le a b ≡ true
-le_true a b le = grind (arith, nat_tests)
-
-le_of : (a b : ℕ) → nat_le a b ≡ true → a ≤ b
-le_of a b e = grind (arith, nat_tests)
-
-not_over : (a b : ℕ) → a ≤ b → nat_lt b a ≡ false
-not_over a b le = grind (arith, nat_tests)
 
 none_length : (extent : Extent) → reply_length extent [] ≤ 44
 none_length extent = omega (arith, length-ack_length None [] tt (omega arith))
 
 taken_some : (extent : Extent) (g : ℕ) (r : HeldEntry) (more : List HeldEntry) → 0 < g → (is_empty (take g (r ∷ more)) ≡ false) × IsSmall (first_shown extent (take g (r ∷ more)))
 taken_some extent zero r more p = absurd (omega (arith, p))
-taken_some extent (suc k) r more p = (refl, small_shown (shows_number extent) (sequence_number r.ordinal) (omega arith))
+taken_some extent (suc k) r more p = (refl, shown_small (shows_number extent) (sequence_number r.ordinal) (omega arith))
 
 abbrev Fits : Extent → ℕ → List HeldEntry → Type 0
 Fits extent limit all = ((not (is_empty all) && is_empty (packed extent limit all)) ≡ false) × (reply_length extent (packed extent limit all) ≤ limit) × IsSmall (first_shown extent (packed extent limit all))
@@ -116,17 +102,17 @@ some_fits extent limit [] ge first = (refl, omega (arith, ge, none_length extent
 some_fits extent limit (r ∷ more) ge first =
     let held_ = first r more refl in
     let passes : ℕ → Bool = λ n. nat_le (reply_length extent (take n (r ∷ more))) limit in
-    let one : passes 1 ≡ true = le_true (reply_length extent (r ∷ [])) limit (omega (arith, ge, one_length extent r held_)) in
+    let one : passes 1 ≡ true = le-leb (reply_length extent (r ∷ [])) limit (omega (arith, ge, one_length extent r held_)) in
     let some : 0 < greatest passes (suc (length more)) = greatest_some passes (length more) one in
     let taken = taken_some extent (greatest passes (suc (length more))) r more some in
-    (taken.0, le_of _ limit (greatest_passes passes (suc (length more)) some), taken.1)
+    (taken.0, leb-true _ limit (greatest_passes passes (suc (length more)) some), taken.1)
 
 ack_fits : (limit invoke : ℕ) (object : Id) (flags : ℕ) (first : Option ℕ) (entries : List Entry) → IsSmall first → length entries < 2 ^ 32 → ack_length first entries ≤ limit
     → limited limit invoke (Complex false invoke 26 (ack_parameters object flags first entries)) ≡ Complex false invoke 26 (ack_parameters object flags first entries)
 unfolding ack_apdu
 ack_fits limit invoke object flags first entries small few le =
     let size = same_octets invoke object flags first entries small few in
-    rw (not_over (length (apdu_octets (Complex false invoke 26 (ack_parameters object flags first entries)))) limit (omega (arith, size, le))) refl
+    rw (le-ltb limit (length (apdu_octets (Complex false invoke 26 (ack_parameters object flags first entries)))) (omega (arith, size, le))) refl
 
 pub records_fit : (limit invoke : ℕ) (object : Id) (extent : Extent) (log : Log) → IsLog log → 44 ≤ limit → records_said limit invoke object extent log ≡ records_ack limit invoke object extent log
 records_fit limit invoke object extent log is ge =

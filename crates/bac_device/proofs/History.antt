@@ -6,6 +6,7 @@ use Rattle.std.specs.Option.{option_or}
 use Rattle.bac_wire.specs.Primitive.{Primitive, Null, Boolean, Unsigned, Signed, Real, Double, Octets, Chars, Bits, Enumerated, Date, Time, Object, Id}
 use Rattle.bac_wire.specs.Chain.{◌>>=◌}
 use Rattle.std.proofs.lemmas.Bool.{eq-eqb}
+use Rattle.std.proofs.lemmas.Option.{none-some, same_Some}
 use Rattle.std.specs.Result.{result_ok}
 use Rattle.bac_apdu.specs.Frame.{frame_at}
 use Rattle.bac_apdu.specs.Apdu.{Apdu, Confirmed, Unconfirmed, Simple, Complex, SegmentAck, Error, Reject, Abort}
@@ -37,9 +38,6 @@ use Rattle.bac_device.proofs.Told.{Told, told}
 true_false : true ≡ false → ⊥
 true_false e = cc
 
-none_some : (w : PropertyWrite) → None ≡ Some w → ⊥
-none_some w e = cc
-
 -- ---- refusals
 
 pub refused : (d : State) (datagram : List ℕ) → is_done (answer d datagram).0 ≡ false → (answer d datagram).1 ≡ d
@@ -53,8 +51,8 @@ pub no_write : (d : State) (datagram : List ℕ) → write_asked datagram ≡ No
 no_write d datagram e = of (told d datagram)
   where
     gone : (b : Bool) (a : Option PropertyWrite) (w : PropertyWrite) → a ≡ None → cond b a None ≡ Some w → ⊥
-    gone true a w e h = none_some w (sym e ∙ h)
-    gone false a w e h = none_some w h
+    gone true a w e h = none-some w (sym e ∙ h)
+    gone false a w e h = none-some w h
 
     of : Told d (answer d datagram) (write_asked datagram) → (answer d datagram).1 ≡ d
     of (inl t) = t.1
@@ -109,9 +107,6 @@ ok_same a b e = cc
 
 err_ok : {X : Type 0} (f : Fault) (b : X) → (let r : Result X Fault = Err f in r) ≡ Ok b → ⊥
 err_ok f b e = cc
-
-some_same : (a b : object.Object) → (let r : Option object.Object = Some a in r) ≡ Some b → a ≡ b
-some_same a b e = cc
 
 set_some : (b : Bool) (v : Setting) (slot : Option Setting) → cond b (let r : Result (Option Setting) Fault = Ok (Some v) in r) (Err BadValue) ≡ Ok slot → slot ≡ Some v
 set_some true v slot e = sym (ok_same (Some v) slot e)
@@ -201,7 +196,7 @@ one_write : (b : Bool) (d : State) (w : PropertyWrite) (new : State) (id : Id) (
 one_write true d w new id o c slots e t h =
     let same : w.object ≡ id = sym (same_id id w.object e) in
     let at : lookup (is_id id) d.objects ≡ Some t.o = subst (λ (x : Id). lookup (is_id x) d.objects ≡ Some t.o) same t.at in
-    let found : t.o ≡ with_slots o c slots = some_same t.o (with_slots o c slots) (sym at ∙ h) in
+    let found : t.o ≡ with_slots o c slots = same_Some t.o (with_slots o c slots) (sym at ∙ h) in
     let did : object_written d.clock w (with_slots o c slots) ≡ Ok t.n = subst (λ (x : object.Object). object_written d.clock w x ≡ Ok t.n) found t.did in
     let n : t.n ≡ with_slots o c (written_slots w slots) = commanded_end d.clock w o t.n c slots did in
     ap (λ (s : State). lookup (is_id id) s.objects) t.is
@@ -300,30 +295,30 @@ from_apdu (Confirmed segmented size invoke service parameters) w h = from_test (
   where
     from_read : (parameters : List ℕ) (r : Result PropertyWrite Reason) (w : PropertyWrite) → write_property_at parameters ≡ r → result_ok r ≡ Some w → 1 ≤ priority_of w
     from_read parameters (Ok v) w e h = (write_prioritized parameters w (e ∙ ap (λ (x : PropertyWrite). let r : Result PropertyWrite Reason = Ok x in r) (let s : v ≡ w = cc in s))).0
-    from_read parameters (Err f) w e h = absurd (none_some w h)
+    from_read parameters (Err f) w e h = absurd (none-some w h)
 
     from_test : (b : Bool) (parameters : List ℕ) (w : PropertyWrite) → cond b (result_ok (write_property_at parameters)) None ≡ Some w → 1 ≤ priority_of w
     from_test true parameters w h = from_read parameters (write_property_at parameters) w refl h
-    from_test false parameters w h = absurd (none_some w h)
-from_apdu (Unconfirmed service parameters) w h = absurd (none_some w h)
-from_apdu (Simple invoke service) w h = absurd (none_some w h)
-from_apdu (Complex segmented invoke service parameters) w h = absurd (none_some w h)
-from_apdu (SegmentAck invoke) w h = absurd (none_some w h)
-from_apdu (Error invoke service class code) w h = absurd (none_some w h)
-from_apdu (Reject invoke reason) w h = absurd (none_some w h)
-from_apdu (Abort by_server invoke reason) w h = absurd (none_some w h)
+    from_test false parameters w h = absurd (none-some w h)
+from_apdu (Unconfirmed service parameters) w h = absurd (none-some w h)
+from_apdu (Simple invoke service) w h = absurd (none-some w h)
+from_apdu (Complex segmented invoke service parameters) w h = absurd (none-some w h)
+from_apdu (SegmentAck invoke) w h = absurd (none-some w h)
+from_apdu (Error invoke service class code) w h = absurd (none-some w h)
+from_apdu (Reject invoke reason) w h = absurd (none-some w h)
+from_apdu (Abort by_server invoke reason) w h = absurd (none-some w h)
 
 from_heard_at : (b : Bool) (m : Apdu) (w : PropertyWrite) → cond b None (write_in_apdu m) ≡ Some w → 1 ≤ priority_of w
-from_heard_at true m w h = absurd (none_some w h)
+from_heard_at true m w h = absurd (none-some w h)
 from_heard_at false m w h = from_apdu m w h
 
 from_heard : (x : Option ReceivedApdu) (w : PropertyWrite) → write_heard x ≡ Some w → 1 ≤ priority_of w
-from_heard None w h = absurd (none_some w h)
+from_heard None w h = absurd (none-some w h)
 from_heard (Some x) w h = from_heard_at x.to_all x.apdu w h
 
 from_accepted : (b : Bool) (x : Option ReceivedApdu) (w : PropertyWrite) → cond b (write_heard x) None ≡ Some w → 1 ≤ priority_of w
 from_accepted true x w h = from_heard x w h
-from_accepted false x w h = absurd (none_some w h)
+from_accepted false x w h = absurd (none-some w h)
 
 are_first : (a : Option PropertyWrite) (ws : List PropertyWrite) → ((w : PropertyWrite) → a ≡ Some w → 1 ≤ priority_of w) → AreWrites ws → AreWrites (with_first a ws)
 are_first None ws low are = are

@@ -4,6 +4,7 @@ use Rattle.std.specs.Prelude.{◌≢◌}
 use Rattle.std.specs.Map.{lookup, keys_of, set_value}
 use Rattle.std.proofs.lemmas.Bool.Decides.{nat_tests}
 use Rattle.std.proofs.lemmas.Map.{keys-set_value}
+use Rattle.std.proofs.lemmas.Option.{none-some, same_Some}
 use Rattle.bac_wire.specs.Chain.{◌>>=◌}
 use Rattle.bac_wire.specs.Primitive.{Id, Primitive, Null, Boolean, Unsigned, Signed, Real, Double, Octets, Chars, Bits, Enumerated, Date, Time, Object}
 use Rattle.bac_wire.specs.Stamp.{CivilTime}
@@ -52,31 +53,22 @@ stays (Some o) = body_stays o.body
 
 -- ---- the logs that are seen
 
-no_log : (log : Log) → (let none : Option Log = None in none) ≡ Some log → ⊥
-no_log log e = cc
-
-log_is : (a b : Log) → (let some : Option Log = Some a in some) ≡ Some b → a ≡ b
-log_is a b e = cc
-
 logs_body : (b c : Body) (log : Log) → BodySteps b c → records_in (logger_in b) ≡ Some log → (after : Log) × (records_in (logger_in c) ≡ Some after) × StepsTo log after
-logs_body (body.Command k) c log s e = absurd (no_log log e)
-logs_body (body.Log l) c log s e = (s.0.log, ap (λ (x : Body). records_in (logger_in x)) s.1, subst (λ (x : Log). StepsTo x s.0.log) (log_is l.log log e) s.2)
+logs_body (body.Command k) c log s e = absurd (none-some log e)
+logs_body (body.Log l) c log s e = (s.0.log, ap (λ (x : Body). records_in (logger_in x)) s.1, subst (λ (x : Log). StepsTo x s.0.log) (same_Some l.log log e) s.2)
 
 logs_some : (x y : Option object.Object) (log : Log) → Steps x y → log_in x ≡ Some log → (after : Log) × (log_in y ≡ Some after) × StepsTo log after
-logs_some None y log s e = absurd (no_log log e)
+logs_some None y log s e = absurd (none-some log e)
 logs_some (Some o) None log s e = absurd s
 logs_some (Some o) (Some p) log s e = logs_body o.body p.body log s e
 
 logs_at : (far : Bool) (x y : Option object.Object) (log : Log) → Steps x y → log_in (cond far None x) ≡ Some log → (after : Log) × (log_in (cond far None y) ≡ Some after) × StepsTo log after
-logs_at true x y log s e = absurd (no_log log e)
+logs_at true x y log s e = absurd (none-some log e)
 logs_at false x y log s e = logs_some x y log s e
-
-some_log : (log : Log) → (let some : Option Log = Some log in some) ≡ None → ⊥
-some_log log e = cc
 
 lacks_body : (b c : Body) → BodySteps b c → records_in (logger_in b) ≡ None → records_in (logger_in c) ≡ None
 lacks_body (body.Command k) c s e = ap (λ (x : Body). records_in (logger_in x)) s.1
-lacks_body (body.Log l) c s e = absurd (some_log l.log e)
+lacks_body (body.Log l) c s e = absurd (none-some l.log (sym e))
 
 lacks_some : (x y : Option object.Object) → Steps x y → log_in x ≡ None → log_in y ≡ None
 lacks_some None None s e = refl
@@ -88,24 +80,18 @@ lacks_at : (far : Bool) (x y : Option object.Object) → Steps x y → log_in (c
 lacks_at true x y s e = refl
 lacks_at false x y s e = lacks_some x y s e
 
-none_object : (p : object.Object) → (let none : Option object.Object = None in none) ≡ Some p → ⊥
-none_object p e = cc
-
-object_is : (a b : object.Object) → (let some : Option object.Object = Some a in some) ≡ Some b → a ≡ b
-object_is a b e = cc
-
 has_body : (b c : Body) (l : Logger) → b ≡ body.Log l → BodySteps b c → (m : Logger) × (c ≡ body.Log m)
 has_body b c l is s =
     let t : BodySteps (body.Log l) c = subst (λ (x : Body). BodySteps x c) is s in (t.0, t.1)
 
 has_at : (x y : Option object.Object) (p : object.Object) → Steps x y → ((o : object.Object) → x ≡ Some o → (l : Logger) × (o.body ≡ body.Log l)) → y ≡ Some p → (m : Logger) × (p.body ≡ body.Log m)
-has_at None None p s has e = absurd (none_object p e)
+has_at None None p s has e = absurd (none-some p e)
 has_at None (Some q) p s has e = absurd s
 has_at (Some o) None p s has e = absurd s
 has_at (Some o) (Some q) p s has e =
     let l = has o refl in
     let m = has_body o.body q.body l.0 l.1 s in
-    (m.0, ap (λ (x : object.Object). x.body) (sym (object_is q p e)) ∙ m.1)
+    (m.0, ap (λ (x : object.Object). x.body) (sym (same_Some q p e)) ∙ m.1)
 
 -- objects that each move by a step
 keeps_of : (d new : State) → new.reply_size ≡ d.reply_size → new.instance ≡ d.instance → keys_of new.objects ≡ keys_of d.objects

@@ -7,7 +7,8 @@ use Rattle.bac_apdu.specs.FormCanon.{canon_form}
 use Rattle.bac_apdu.specs.Frame.{Unicast, frame_at}
 use Rattle.bac_apdu.specs.Npdu.{IsHeader, Place, control_of, header_octets, hops_octets, place_octets}
 use Rattle.bac_apdu.specs.Route.{IsWay}
-use Rattle.std.proofs.lemmas.Bool.{le-leb}
+use Rattle.std.proofs.lemmas.Bool.{le-leb, le-ltb}
+use Rattle.std.proofs.lemmas.Option.{none-some, same_Some}
 use Rattle.bac_device.proofs.Told.{place_valid}
 use Rattle.bac_apdu.specs.Service.Extent.{IsExtent}
 use Rattle.bac_apdu.specs.Service.ReadRange.{read_range, range_parameters, range_in, read_range_at}
@@ -101,22 +102,16 @@ record Shows (d : State) (n : ℕ) (log : Log) : Type 0 where
   is : o.body ≡ body.Log l
   records : l.log ≡ log
 
-no_log : (log : Log) → (let none : Option Log = None in none) ≡ Some log → ⊥
-no_log log e = cc
-
-log_is : (a b : Log) → (let some : Option Log = Some a in some) ≡ Some b → a ≡ b
-log_is a b e = cc
-
 in_range : (n : ℕ) → nat_lt 4194303 n ≡ false → n < 4194304
 in_range n e = grind (arith, nat_tests)
 
 shows_body : (d : State) (n : ℕ) (log : Log) (o : object.Object) (b : Body) → n < 4194304 → lookup (is_id (log_id n)) d.objects ≡ Some o → o.body ≡ b → records_in (logger_in b) ≡ Some log → Shows d n log
-shows_body d n log o (body.Command c) lt at is e = absurd (no_log log e)
-shows_body d n log o (body.Log l) lt at is e = record { o = o; l = l; low = lt; at = at; is = is; records = log_is l.log log e }
+shows_body d n log o (body.Command c) lt at is e = absurd (none-some log e)
+shows_body d n log o (body.Log l) lt at is e = record { o = o; l = l; low = lt; at = at; is = is; records = same_Some l.log log e }
 
 shows_object : (far : Bool) (d : State) (n : ℕ) (log : Log) (x : Option object.Object) → nat_lt 4194303 n ≡ far → lookup (is_id (log_id n)) d.objects ≡ x → log_in (cond far None x) ≡ Some log → Shows d n log
-shows_object true d n log x far at e = absurd (no_log log e)
-shows_object false d n log None far at e = absurd (no_log log e)
+shows_object true d n log x far at e = absurd (none-some log e)
+shows_object false d n log None far at e = absurd (none-some log e)
 shows_object false d n log (Some o) far at e = shows_body d n log o o.body (in_range n far) at refl e
 
 shows : (d : State) (n : ℕ) (log : Log) → log_of d n ≡ Some log → Shows d n log
@@ -138,43 +133,31 @@ question_answered d source n log invoke extent way e valid =
 missing : (d : State) (n : ℕ) (extent : Extent) → lookup (is_id (log_id n)) d.objects ≡ None → records_of d (question n extent) ≡ Err UnknownObject
 missing d n extent at = rw at refl
 
-some_log : (log : Log) → (let some : Option Log = Some log in some) ≡ None → ⊥
-some_log log e = cc
-
-low : (n : ℕ) → n < 4194304 → nat_lt 4194303 n ≡ false
-low n lt = grind (arith, nat_tests)
-
 lacks_object : (d : State) (n : ℕ) (x : Option object.Object) → ((o : object.Object) → x ≡ Some o → (l : Logger) × (o.body ≡ body.Log l)) → log_in x ≡ None → x ≡ None
 lacks_object d n None has e = refl
 lacks_object d n (Some o) has e =
     let l = has o refl in
     let log : log_in (Some o) ≡ Some l.0.log = ap (λ (b : Body). records_in (logger_in b)) l.1 in
-    absurd (some_log l.0.log (sym log ∙ e))
+    absurd (none-some l.0.log (sym e ∙ log))
 
 pub question_refused : (d : State) (source : Option Place) (n : ℕ) (invoke : ℕ) (extent : Extent) → IsWay source → HasLogs d → log_of d n ≡ None → n < 4194304 → IsExtent extent
     → answer d (question_octets source invoke n extent) ≡ (Some (reply (record { to = Sender; place = source }) (error invoke 26 UnknownObject)), d)
 question_refused d source n invoke extent way has e lt valid =
-    let none : log_in (lookup (is_id (log_id n)) d.objects) ≡ None = sym (ap (λ (b : Bool). log_in (cond b None (lookup (is_id (log_id n)) d.objects))) (low n lt)) ∙ e in
+    let none : log_in (lookup (is_id (log_id n)) d.objects) ≡ None = sym (ap (λ (b : Bool). log_in (cond b None (lookup (is_id (log_id n)) d.objects))) (le-ltb 4194303 n (omega (arith, lt)))) ∙ e in
     answer_is d source invoke n extent way lt valid
     ∙ ap (λ x. (Some (reply (record { to = Sender; place = source }) (range_said (min 1476 d.reply_size) invoke (question n extent) x)), d)) (missing d n extent (lacks_object d n (lookup (is_id (log_id n)) d.objects) (has n) none))
 
 -- ---- built devices
 
-none_object : (o : object.Object) → (let none : Option object.Object = None in none) ≡ Some o → ⊥
-none_object o e = cc
-
-object_is : (a b : object.Object) → (let some : Option object.Object = Some a in some) ≡ Some b → a ≡ b
-object_is a b e = cc
-
 abbrev IsLogged : object.Object → Type 0
 IsLogged o = (l : Logger) × (o.body ≡ body.Log l)
 
 log_here : (b : Bool) (o p : object.Object) (rest : Option object.Object) → IsLogged p → (rest ≡ Some o → IsLogged o) → cond b (Some p) rest ≡ Some o → IsLogged o
-log_here true o p rest is more e = (is.0, ap (λ (x : object.Object). x.body) (sym (object_is p o e)) ∙ is.1)
+log_here true o p rest is more e = (is.0, ap (λ (x : object.Object). x.body) (sym (same_Some p o e)) ∙ is.1)
 log_here false o p rest is more e = more e
 
 in_lines : (lines : List ObjectLine) (n : ℕ) (o : object.Object) → lookup (is_id (log_id n)) (map entry_of lines) ≡ Some o → IsLogged o
-in_lines [] n o e = absurd (none_object o e)
+in_lines [] n o e = absurd (none-some o e)
 in_lines (line.Binary instance name default ∷ lines) n o e = in_lines lines n o e
 in_lines (line.Multistate instance name states default ∷ lines) n o e = in_lines lines n o e
 in_lines (line.Integer instance name default ∷ lines) n o e = in_lines lines n o e

@@ -1,7 +1,7 @@
 -- What a ReadRange is answered.
-use Rattle.std.proofs.Common.{◌≡◌, refl, ap, sym, ◌∙◌, arith, ℕ, ◌+◌, ◌<◌, ◌≤◌, nat_lt, Bool, true, false, not, ◌&&◌, cond, List, [], ◌∷◌, length}
+use Rattle.std.proofs.Common.{◌≡◌, refl, ap, sym, ◌∙◌, arith, ℕ, ◌+◌, ◌<◌, ◌≤◌, Bool, true, false, not, ◌&&◌, cond, List, [], ◌∷◌, length}
 use Rattle.std.specs.Prelude.{◌≢◌, Err, Ok, Result}
-use Rattle.std.proofs.lemmas.Bool.Decides.{nat_tests}
+use Rattle.std.proofs.lemmas.Bool.{lt-ltb}
 use Rattle.bac_wire.specs.Primitive.{Id}
 use Rattle.bac_apdu.specs.Apdu.{Apdu, apdu_octets}
 use Rattle.bac_apdu.specs.declared.service.extent.Extent.{Extent}
@@ -13,9 +13,6 @@ use Rattle.bac_log.specs.declared.ack.AnswerFault.{AnswerFault}
 use Rattle.bac_log.specs.declared.ack.AnswerFault.TheVariants as fault
 use Rattle.bac_device.specs.Answer.{is_empty, records_ack, records_said}
 use Rattle.bac_device.specs.Reply.{abort, datagram_octets, limited}
-
-over : (limit n : ℕ) → limit < n → nat_lt limit n ≡ true
-over limit n lt = grind (arith, nat_tests)
 
 -- ---- the answer of a log
 
@@ -57,4 +54,4 @@ said_refused limit invoke object extent log old fault.Full le six small full =
     let f = full refl in
     let m : Apdu = records_ack limit invoke object extent log in
     let size : limit < length (apdu_octets m) = omega (arith, le, f.1, six, ap (λ (l : List ℕ). length l) (ack_text invoke object log extent limit)) in
-    ap (λ (b : Bool). datagram_octets (cond b (abort invoke) m)) (sym (over limit (length (apdu_octets m)) size)) ∙ said_ack limit invoke object extent log f.0
+    ap (λ (b : Bool). datagram_octets (cond b (abort invoke) m)) (sym (lt-ltb limit (length (apdu_octets m)) size)) ∙ said_ack limit invoke object extent log f.0

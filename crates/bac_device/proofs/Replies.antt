@@ -1,16 +1,16 @@
 -- Replies fit a datagram.
-use Rattle.std.proofs.Common.{◌≡◌, ℕ, ◌+◌, ◌*◌, ◌^◌, ◌<◌, ◌≤◌, Bool, true, false, cond, nat_lt, List, [], ◌∷◌, ◌++◌, length, Option, Some, None, Result, Ok, Err, refl, ap, sym, ◌∙◌, arith, length-append}
-use Rattle.std.specs.Int.{w32, w64, to_be_bytes}
+use Rattle.std.proofs.Common.{◌≡◌, ℕ, ◌+◌, ◌*◌, ◌^◌, ◌<◌, ◌≤◌, Bool, true, false, cond, nat_lt, List, [], ◌++◌, length, Option, Some, None, Result, Ok, Err, refl, ap, sym, ◌∙◌, arith, length-append}
+use Rattle.std.specs.Int.{w32, to_be_bytes}
 use Rattle.std.specs.Result.{IsOk}
 use Rattle.bac_wire.specs.Primitive.{Id, Unsigned, Enumerated, Object}
 use Rattle.bac_wire.specs.Datagram.{Writes}
-use Rattle.bac_wire.specs.Canon.{shortened, without_needless, is_zero, unsigned_octets, tag_octets, length_octets, head_octets, tagged}
+use Rattle.bac_wire.specs.Canon.{unsigned_octets, tag_octets, length_octets, head_octets, tagged}
 use Rattle.bac_apdu.specs.Adding.{value_octets}
 use Rattle.bac_apdu.specs.Apdu.{Apdu, apdu_octets}
 use Rattle.bac_apdu.specs.FormCanon.{canon_form}
 use Rattle.std.specs.Prelude.{is_some}
 use Rattle.std.specs.Option.{option_map}
-use Rattle.std.proofs.lemmas.Bool.Decides.{nat_tests}
+use Rattle.std.proofs.lemmas.Bool.{lt-ltb, le-ltb}
 use Rattle.bac_apdu.specs.Frame.{unicast_head}
 use Rattle.bac_apdu.specs.Service.IAm.{i_am, i_am_parameters}
 use Rattle.bac_apdu.specs.Npdu.{Place, place_octets, header_octets}
@@ -18,29 +18,16 @@ use Rattle.bac_apdu.specs.declared.service.i_am.IAm.{IAm}
 use Rattle.bac_device.specs.Reply.{Return, abort, begun, datagram_octets, datagram_to, limited, plain, receiver_of, reply, reply_octets}
 use Rattle.bac_device.specs.declared.reply.Receiver.{Receiver}
 use Rattle.bac_device.specs.declared.reply.Reply.{Reply}
+use Rattle.bac_wire.proofs.Sizes.{length-unsigned}
 
 -- what fits is appended
 pub fits_in : {E : Type 0} (old text : List ℕ) (r : Result (Unit {0}) E) (new : List ℕ) → Writes old text r new → length old + length text ≤ 1501 → IsOk r × (new ≡ old ++ text)
 fits_in old text (Ok x) new w fits = (refl, w.0)
 fits_in old text (Err e) new w fits = absurd (omega (arith, w.1, fits))
 
-shortened-len : (needless : ℕ → ℕ → Bool) (a : ℕ) (bs : List ℕ) → length (shortened needless a bs) ≤ 1 + length bs
-shortened-len needless a [] = omega arith
-shortened-len needless a (b ∷ bs) =
-    let P : Bool → Type 0 = λ v. length (cond v (shortened needless b bs) (a ∷ b ∷ bs)) ≤ 1 + length (b ∷ bs) in
-    let rest = shortened-len needless b bs in
-    elim (needless a b) as (λ v. P v) [ true ↦ omega (arith, rest) | false ↦ omega arith ]
-
 cond-len : (b : Bool) (xs ys : List ℕ) (n : ℕ) → length xs ≤ n → length ys ≤ n → length (cond b xs ys) ≤ n
 cond-len true xs ys n h k = h
 cond-len false xs ys n h k = k
-
-without-len : (needless : ℕ → ℕ → Bool) (xs : List ℕ) → length (without_needless needless xs) ≤ length xs
-without-len needless [] = omega arith
-without-len needless (a ∷ bs) = omega (arith, shortened-len needless a bs)
-
-unsigned-len : (n : ℕ) → length (unsigned_octets n) ≤ 8
-unsigned-len n = without-len is_zero (to_be_bytes w64 n)
 
 tag-len : (class tag low : ℕ) → length (tag_octets class tag low) ≤ 2
 tag-len class tag low = cond-len (nat_lt tag 15) _ _ 2 (omega arith) (omega arith)
@@ -64,11 +51,11 @@ object-len id = tagged-len 0 12 (to_be_bytes w32 (id.kind * 2 ^ 22 + id.instance
 
 number-len : (n : ℕ) → length (value_octets (Unsigned n)) ≤ 15
 unfolding value_octets
-number-len n = omega (arith, tagged-len 0 2 (unsigned_octets n), unsigned-len n)
+number-len n = omega (arith, tagged-len 0 2 (unsigned_octets n), length-unsigned n)
 
 enumerated-len : (n : ℕ) → length (value_octets (Enumerated n)) ≤ 15
 unfolding value_octets
-enumerated-len n = omega (arith, tagged-len 0 9 (unsigned_octets n), unsigned-len n)
+enumerated-len n = omega (arith, tagged-len 0 9 (unsigned_octets n), length-unsigned n)
 
 pub announcement-len : (a : IAm) → length (canon_form i_am (i_am_parameters a)) ≤ 56
 announcement-len a =
@@ -117,17 +104,11 @@ begun_with old out xs ys e is = is ∙ ap (λ (l : List ℕ). l ++ ys) e ∙ beg
 
 -- ---- answers that are too long
 
-over : (limit n : ℕ) → limit < n → nat_lt limit n ≡ true
-over limit n lt = grind (arith, nat_tests)
-
-not_over : (limit n : ℕ) → n ≤ limit → nat_lt limit n ≡ false
-not_over limit n le = grind (arith, nat_tests)
-
 pub too_long : (limit invoke : ℕ) (m : Apdu) → limit < length (apdu_octets m) → datagram_octets (abort invoke) ≡ datagram_octets (limited limit invoke m)
-too_long limit invoke m lt = ap (λ (b : Bool). datagram_octets (cond b (abort invoke) m)) (sym (over limit (length (apdu_octets m)) lt))
+too_long limit invoke m lt = ap (λ (b : Bool). datagram_octets (cond b (abort invoke) m)) (sym (lt-ltb limit (length (apdu_octets m)) lt))
 
 pub short_enough : (limit invoke : ℕ) (m : Apdu) → length (apdu_octets m) ≤ limit → datagram_octets m ≡ datagram_octets (limited limit invoke m)
-short_enough limit invoke m le = ap (λ (b : Bool). datagram_octets (cond b (abort invoke) m)) (sym (not_over limit (length (apdu_octets m)) le))
+short_enough limit invoke m le = ap (λ (b : Bool). datagram_octets (cond b (abort invoke) m)) (sym (le-ltb limit (length (apdu_octets m)) le))
 
 -- ---- refusals of functions
 

@@ -1,5 +1,5 @@
 -- Every answer has at most 1476 octets, so it fits a datagram by whatever networks it goes.
-use Rattle.std.proofs.Common.{◌≡◌, refl, ap, sym, subst, ◌∙◌, arith, ℕ, ◌+◌, ◌≤◌, ◌==◌, nat_lt, min, Bool, true, false, cond, List, [], ◌++◌, take, drop, length, ◌-◌, Option, Some, None, Result, Ok, Err, length-append}
+use Rattle.std.proofs.Common.{◌≡◌, refl, ap, sym, subst, ◌∙◌, arith, ℕ, ◌≤◌, ◌==◌, nat_lt, min, Bool, true, false, cond, List, [], ◌++◌, take, drop, length, ◌-◌, Option, Some, None, Result, Ok, Err, length-append}
 use Rattle.std.proofs.lemmas.Bool.Decides.{nat_tests}
 use Rattle.std.proofs.lemmas.List.{length-drop, take_all}
 use Rattle.bac_wire.specs.Primitive.{Id}
@@ -32,6 +32,7 @@ use Rattle.bac_device.proofs.Told.{length-plain_to}
 use Rattle.bac_wire.specs.Datagram.{Writes}
 use Rattle.bac_apdu.specs.Route.{IsRoute}
 use Rattle.bac_device.proofs.Replies.{announcement-len, error-len, fits_in}
+use Rattle.bac_apdu.proofs.Shorts.{length-frame}
 
 abbrev IsShort : Apdu → Type 0
 IsShort m = length (apdu_octets m) ≤ 1476
@@ -125,10 +126,6 @@ pub behind_heads : (m : Apdu) → drop 6 (datagram_octets m) ≡ apdu_octets m
 unfolding datagram_octets frame_octets place_octets
 behind_heads m = refl
 
-length-frame : (body : List ℕ) → length (frame_octets body) ≡ 4 + length body
-unfolding frame_octets
-length-frame body = omega arith
-
 -- the octets from the APDU on
 rest_is : (out : List ℕ) → take (length out - 6) (drop 6 out) ≡ drop 6 out
 rest_is out = take_all (length out - 6) (drop 6 out) (omega (arith, length-drop 6 out))
@@ -157,10 +154,6 @@ plain_same m = refl
 some_of : (said : Option Apdu) → is_some said ≡ true → (m : Apdu) × (said ≡ Some m)
 some_of None e = absurd cc
 some_of (Some m) e = (m, refl)
-
-none_of : (said : Option Apdu) → is_some said ≡ false → said ≡ None
-none_of None e = refl
-none_of (Some m) e = absurd cc
 
 heads_long : (m : Apdu) → 6 ≤ length (datagram_octets m)
 unfolding datagram_octets frame_octets place_octets

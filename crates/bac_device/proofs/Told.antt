@@ -1,6 +1,6 @@
 -- What each answer does to the state.
-use Rattle.std.specs.Prelude.{nat_le, not, ◌&&◌}
-use Rattle.std.proofs.lemmas.Bool.{leb-true}
+use Rattle.std.specs.Prelude.{nat_le, not}
+use Rattle.std.proofs.lemmas.Bool.{leb-true, and_parts}
 use Rattle.std.proofs.lemmas.Option.{none-some, same_Some}
 use Rattle.std.proofs.Common.{◌≡◌, ◌==◌, refl, sym, ap, subst, arith, ℕ, ◌+◌, ◌<◌, ◌≤◌, ◌^◌, Bool, true, false, cond, List, [], ◌∷◌, ◌++◌, length, Option, Some, None, Result, Ok, Err, ◌⊎◌, inl, inr, length-append}
 use Rattle.std.proofs.lemmas.Bool.Decides.{nat_tests}
@@ -143,16 +143,12 @@ told_heard d to way (Some h) = told_apdu d to way h.to_all h.apdu
 
 -- ---- where answers go
 
-both : (a b : Bool) → (a && b) ≡ true → (a ≡ true) × (b ≡ true)
-both true b e = (refl, e)
-both false b e = absurd cc
-
 answerable_way : (place : Option Place) → is_answerable place ≡ true → IsWay place
 answerable_way None e = tt
 answerable_way (Some place) e =
-    let one = both (nat_le 1 place.net) _ e in
-    let two = both (nat_le place.net 65534) _ one.1 in
-    let three = both (nat_le 1 (length place.address)) _ two.1 in
+    let one = and_parts (nat_le 1 place.net) _ e in
+    let two = and_parts (nat_le place.net 65534) _ one.1 in
+    let three = and_parts (nat_le 1 (length place.address)) _ two.1 in
     (leb-true _ _ one.0, leb-true _ _ two.0, leb-true _ _ three.0, leb-true _ _ three.1)
 
 pub heard_way : (to_all : Bool) (npdu : List ℕ) (h : ReceivedApdu) → heard_at to_all npdu ≡ Some h → IsWay h.source
@@ -163,8 +159,8 @@ heard_way to_all npdu h e =
       | inl t ↦
           let a = bind_some (apdu_at x.0.1) _ h t.1 in
           let from : h.source ≡ x.0.0.source = ap (λ (y : ReceivedApdu). y.source) (sym (same_Some _ h a.2)) in
-          let tests = both (not x.0.0.network) _ t.0 in
-          let first = both (is_answerable x.0.0.source) _ tests.1 in
+          let tests = and_parts (not x.0.0.network) _ t.0 in
+          let first = and_parts (is_answerable x.0.0.source) _ tests.1 in
           subst IsWay (sym from) (answerable_way x.0.0.source first.0)
       | inr f ↦ absurd (none-some h f.1)
     ]

@@ -1,8 +1,10 @@
 -- No ReadRange is answered by an Abort.
-use Rattle.std.proofs.Common.{◌≡◌, refl, ap, subst, ◌∙◌, arith, ℕ, ◌<◌, ◌≤◌, ◌%◌, ◌/◌, ◌==◌, nat_lt, min, Bool, true, false, cond, List, length, Option, Some, None, Result, Ok, Err}
+use Rattle.std.proofs.Common.{◌≡◌, refl, ap, subst, ◌∙◌, arith, ℕ, ◌≤◌, ◌%◌, ◌/◌, ◌==◌, nat_lt, min, Bool, true, false, cond, List, length, Option, Some, None, Result, Ok, Err}
 use Rattle.std.specs.Map.{lookup}
 use Rattle.std.proofs.Math.Nat.{le-min, min-le_right}
 use Rattle.std.proofs.lemmas.Bool.Decides.{nat_tests}
+use Rattle.std.proofs.lemmas.Option.{none-some}
+use Rattle.std.proofs.lemmas.Bool.{eqb-true, le-ltb}
 use Rattle.bac_wire.specs.Number.{bit}
 use Rattle.bac_wire.specs.Chain.{◌>>=◌ as ◌>>>◌}
 use Rattle.bac_wire.specs.OptionChain.{◌>>=◌}
@@ -24,7 +26,7 @@ use Rattle.bac_objects.specs.Sound.{IsSound}
 use Rattle.bac_objects.specs.State.{State, is_id}
 use Rattle.bac_objects.specs.Writing.{checked, is_device}
 use Rattle.bac_objects.specs.declared.fault.Fault.{Fault}
-use Rattle.bac_objects.specs.declared.fault.Fault.TheVariants.{UnknownObject}
+use Rattle.bac_objects.specs.declared.fault.Fault.TheVariants.{NotList, UnknownObject}
 use Rattle.bac_objects.specs.declared.object.Body.{Body}
 use Rattle.bac_objects.specs.declared.object.Body.TheVariants as body
 use Rattle.bac_objects.specs.declared.object.Logger.{Logger}
@@ -149,15 +151,12 @@ ok_step : {A B F : Type 0} (P : B → Type 0) (o : Result A F) (f : A → Result
 ok_step P (Ok x) f k = k x
 ok_step P (Err fault) f k = tt
 
-low_instance : (n : ℕ) → n < 4194304 → nat_lt 4194303 n ≡ false
-low_instance n lt = grind (arith, nat_tests)
-
 sound_log : (d : State) (id : Id) (o : object.Object) (l : Logger) → IsSound d → lookup (is_id id) d.objects ≡ Some o → o.body ≡ body.Log l → IsLog l.log
 sound_log d id o l is at e =
     let named = is.only id o l at e in
     let same : id ≡ log_id id.instance = ap (λ k. let i : Id = record { kind = k; instance = id.instance } in i) named.0 in
     let found : lookup (is_id (log_id id.instance)) d.objects ≡ Some o = subst (λ (i : Id). lookup (is_id i) d.objects ≡ Some o) same at in
-    is.logs id.instance l.log (rw (low_instance id.instance named.1, found) (ap (λ b. records_in (logger_in b)) e))
+    is.logs id.instance l.log (rw (le-ltb 4194303 id.instance (omega (arith, named.1)), found) (ap (λ b. records_in (logger_in b)) e))
 
 buffer_log : (property : ℕ) (b : Body) → ((l : Logger) → b ≡ body.Log l → IsLog l.log) → AnyOk IsLog (buffer_of property b)
 buffer_log property (body.Command c) h = tt
@@ -170,6 +169,22 @@ found_log d r (Some o) is e = ok_step IsLog (checked (row r.property (object_tab
 records_log : (d : State) (r : ReadRange) → IsSound d → AnyOk IsLog (records_of d r)
 records_log d r is = ok_cond IsLog (is_device d r.object) _ _ tt (found_log d r (lookup (is_id r.object) d.objects) is refl)
 
+-- whose records are answered was asked for them
+is_buffer : (property : ℕ) (b : Bool) (l : Logger) → (property == 131) ≡ b → AnyOk (λ log. property ≡ 131) (cond b (Ok l.log) (Err NotList))
+is_buffer property true l e = eqb-true property 131 e
+is_buffer property false l e = tt
+
+buffer_asked : (property : ℕ) (b : Body) → AnyOk (λ log. property ≡ 131) (buffer_of property b)
+buffer_asked property (body.Command c) = tt
+buffer_asked property (body.Log l) = is_buffer property (property == 131) l refl
+
+found_asked : (r : ReadRange) (found : Option object.Object) → AnyOk (λ log. r.property ≡ 131) (or_fault found UnknownObject >>> object_records r)
+found_asked r None = tt
+found_asked r (Some o) = ok_step (λ log. r.property ≡ 131) (checked (row r.property (object_table r.object o)) r.index) _ (λ ok. buffer_asked r.property o.body)
+
+pub records_asked : (d : State) (r : ReadRange) (log : Log) → records_of d r ≡ Ok log → r.property ≡ 131
+records_asked d r log e = subst (AnyOk (λ log. r.property ≡ 131)) e (ok_cond (λ log. r.property ≡ 131) (is_device d r.object) _ _ tt (found_asked r (lookup (is_id r.object) d.objects)))
+
 -- ---- what is said
 
 said_is : (limit invoke : ℕ) (r : ReadRange) (x : Result Log Fault) → 44 ≤ limit → AnyOk IsLog x → range_said limit invoke r x ≡ log_said limit invoke r x
@@ -179,9 +194,6 @@ said_is limit invoke r (Err fault) ge is = refl
 range_is : (d : State) (limit invoke : ℕ) (x : Result ReadRange Reason) → IsSound d → 44 ≤ limit → answer_range d limit invoke x ≡ log_answer d limit invoke x
 range_is d limit invoke (Ok r) is ge = said_is limit invoke r (records_of d r) ge (records_log d r is)
 range_is d limit invoke (Err reason) is ge = refl
-
-no_heard : (h : ReceivedApdu) → None ≡ Some h → ⊥
-no_heard h e = cc
 
 abbrev said_to : State → ℕ → ℕ → List ℕ → Return → Option Reply × State
 said_to d size invoke parameters to = (Some (reply to (log_answer d (min size d.reply_size) invoke (read_range_at parameters))), d)
@@ -193,11 +205,11 @@ said_so d size invoke parameters to is room =
 
 frame_answered : (d : State) (f : Option Frame) (source : Option Place) (size invoke : ℕ) (parameters : List ℕ) → IsSound d → 50 ≤ size
     → heard_in f ≡ Some (record { to_all = false; source = source; apdu = Confirmed false size invoke 26 parameters }) → (to : Receiver) × (answer_frame d f ≡ said_to d size invoke parameters (record { to = to; place = source }))
-frame_answered d None source size invoke parameters is room h = absurd (no_heard _ h)
+frame_answered d None source size invoke parameters is room h = absurd (none-some _ h)
 frame_answered d (Some (Unicast npdu)) source size invoke parameters is room h = (Sender, rw h (said_so d size invoke parameters (record { to = Sender; place = source }) is room))
 frame_answered d (Some (Broadcast npdu)) source size invoke parameters is room h = (Sender, rw h (said_so d size invoke parameters (record { to = Sender; place = source }) is room))
 frame_answered d (Some (Forwarded address npdu)) source size invoke parameters is room h = (Address address, rw h (said_so d size invoke parameters (record { to = Address address; place = source }) is room))
-frame_answered d (Some (Function function rest)) source size invoke parameters is room h = absurd (no_heard _ h)
+frame_answered d (Some (Function function rest)) source size invoke parameters is room h = absurd (none-some _ h)
 
 pub ranges_answered : (d : State) (datagram : List ℕ) (source : Option Place) (size invoke : ℕ) (parameters : List ℕ) → IsSound d
     → heard_in (frame_at datagram) ≡ Some (record { to_all = false; source = source; apdu = Confirmed false size invoke 26 parameters }) → (to : Receiver) × (answer d datagram ≡ said_to d size invoke parameters (record { to = to; place = source }))
@@ -208,11 +220,11 @@ ranges_answered d datagram source size invoke parameters is h = frame_answered d
 
 -- a request is heard from where an answer can go
 frame_way : (f : Option Frame) (x : ReceivedApdu) → heard_in f ≡ Some x → IsWay x.source
-frame_way None x h = absurd (no_heard _ h)
+frame_way None x h = absurd (none-some _ h)
 frame_way (Some (Unicast npdu)) x h = heard_way false npdu x h
 frame_way (Some (Broadcast npdu)) x h = heard_way true npdu x h
 frame_way (Some (Forwarded address npdu)) x h = heard_way true npdu x h
-frame_way (Some (Function function rest)) x h = absurd (no_heard _ h)
+frame_way (Some (Function function rest)) x h = absurd (none-some _ h)
 
 within_limit : (small over : Bool) (limit invoke n : ℕ) (parameters : List ℕ) → nat_lt limit n ≡ over
     → cond small (abort invoke) (cond over (abort invoke) (Complex false invoke 26 parameters)) ≡ Complex false invoke 26 parameters → n ≤ limit
@@ -233,11 +245,11 @@ unaborted d to way limit invoke (Err reason) is ge le = rw (again to.place (reje
 
 frame_unaborted : (d : State) (f : Option Frame) (source : Option Place) (size invoke : ℕ) (parameters : List ℕ)
     → heard_in f ≡ Some (record { to_all = true; source = source; apdu = Confirmed false size invoke 26 parameters }) → is_aborted (answer_frame d f).0 ≡ false
-frame_unaborted d None source size invoke parameters h = absurd (no_heard _ h)
+frame_unaborted d None source size invoke parameters h = absurd (none-some _ h)
 frame_unaborted d (Some (Unicast npdu)) source size invoke parameters h = rw h refl
 frame_unaborted d (Some (Broadcast npdu)) source size invoke parameters h = rw h refl
 frame_unaborted d (Some (Forwarded address npdu)) source size invoke parameters h = rw h refl
-frame_unaborted d (Some (Function function rest)) source size invoke parameters h = absurd (no_heard _ h)
+frame_unaborted d (Some (Function function rest)) source size invoke parameters h = absurd (none-some _ h)
 
 pub ranges_unaborted : (d : State) (datagram : List ℕ) (to_all : Bool) (source : Option Place) (size invoke : ℕ) (parameters : List ℕ) → IsSound d
     → heard_in (frame_at datagram) ≡ Some (record { to_all = to_all; source = source; apdu = Confirmed false size invoke 26 parameters }) → is_aborted (answer d datagram).0 ≡ false

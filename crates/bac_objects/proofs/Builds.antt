@@ -5,6 +5,8 @@ use Rattle.std.specs.Option.{option_or}
 use Rattle.std.specs.Map.{lookup}
 use Rattle.std.specs.Str.{bytes_eq}
 use Rattle.std.proofs.lemmas.Bool.Decides.{nat_tests}
+use Rattle.std.proofs.lemmas.Bool.{false≢true}
+use Rattle.std.proofs.lemmas.Option.{none-some, same_Some}
 use Rattle.indexmap.specs.IndexMap.{insert_entry}
 use Rattle.indexmap.proofs.MapLemmas.{absent_from_lookup, insert_entry-absent}
 use Rattle.bac_wire.specs.Primitive.{Id}
@@ -28,25 +30,35 @@ never_or : (a b : Option BuildFault) → Never a → Never b → Never (option_o
 never_or None b h k is = k is
 never_or (Some x) b h k is = h is
 
-never_two : (a b : Bool) → Never (first_of ((a, BadStates) ∷ (b, BadDefault) ∷ []))
-never_two true b h = search rules
-never_two false true h = search rules
-never_two false false h = search rules
+-- the faults of a line by itself
+abbrev pub is_own : BuildFault → Bool
+is_own BadStates = true
+is_own BadDefault = true
+is_own BadCapacity = true
+is_own BadInterval = true
+is_own fault = false
 
-never_one : (a : Bool) → Never (first_of ((a, BadDefault) ∷ []))
-never_one true h = search rules
-never_one false h = search rules
+told_own : (own fault : BuildFault) → is_own own ≡ true → Some own ≡ Some fault → is_own fault ≡ true
+told_own own fault is e = subst (λ (x : BuildFault). is_own x ≡ true) (same_Some own fault e) is
 
-never_log : (a b : Bool) → Never (first_of ((a, BadCapacity) ∷ (b, BadInterval) ∷ []))
-never_log true b h = search rules
-never_log false true h = search rules
-never_log false false h = search rules
+two_own : (a b : Bool) (x y fault : BuildFault) → is_own x ≡ true → is_own y ≡ true → first_of ((a, x) ∷ (b, y) ∷ []) ≡ Some fault → is_own fault ≡ true
+two_own true b x y fault is k e = told_own x fault is e
+two_own false true x y fault is k e = told_own y fault k e
+two_own false false x y fault is k e = absurd (none-some fault e)
+
+one_own : (a : Bool) (x fault : BuildFault) → is_own x ≡ true → first_of ((a, x) ∷ []) ≡ Some fault → is_own fault ≡ true
+one_own true x fault is e = told_own x fault is e
+one_own false x fault is e = absurd (none-some fault e)
+
+-- each fault of a line by itself is one of these
+pub own_told : (line : ObjectLine) (fault : BuildFault) → first_of (own_tests line) ≡ Some fault → is_own fault ≡ true
+own_told (Binary instance name default) fault e = one_own _ BadDefault fault refl e
+own_told (Multistate instance name states default) fault e = two_own _ _ BadStates BadDefault fault refl refl e
+own_told (Integer instance name default) fault e = absurd (none-some fault e)
+own_told (Log instance name source capacity interval logged) fault e = two_own _ _ BadCapacity BadInterval fault refl refl e
 
 never_own : (line : ObjectLine) → Never (first_of (own_tests line))
-never_own (Binary instance name default) = never_one _
-never_own (Multistate instance name states default) = never_two _ _
-never_own (Integer instance name default) = λ h. search rules
-never_own (Log instance name source capacity interval logged) = never_log _ _
+never_own line e = absurd (false≢true (own_told line Memory e))
 
 never_four : (a b c d : Bool) (rest : List (Bool × BuildFault)) → Never (first_of rest) → Never (first_of ((a, BadInstance) ∷ (b, DuplicateId) ∷ (c, BadName) ∷ (d, DuplicateName) ∷ rest))
 never_four true b c d rest k h = search rules
@@ -131,7 +143,7 @@ two true b c d rest h = search rules
 two false true c d rest h = search rules
 two false false c d rest h = (refl, refl)
 
-in_range : (n : ℕ) → nat_lt 4194302 n ≡ false → n < 4194304
+pub in_range : (n : ℕ) → nat_lt 4194302 n ≡ false → n < 4194304
 in_range n h = grind (arith, nat_tests)
 
 -- a new object comes last
@@ -140,12 +152,12 @@ pub added : (es : List (Id × Object)) (id : Id) (name : List ℕ) (body : Body)
 added es id name body line same named made none = rw (same, named, made) (insert_entry-absent is_id (id_of line) _ es (absent_from_lookup (is_id (id_of line)) es none))
 
 -- what the adding of an object needs of its line
-pub record IsSound (before : List ObjectLine) (line : ObjectLine) : Type 0 where
+pub record IsFaultless (before : List ObjectLine) (line : ObjectLine) : Type 0 where
   pub within : instance_of line < 4194304
   pub other : has_id (id_of line) before ≡ false
 
-is_sound : (device : DeviceLine) (before : List ObjectLine) (line : ObjectLine) → object_fault device before line ≡ None → IsSound before line
-is_sound device before line h =
+is_faultless : (device : DeviceLine) (before : List ObjectLine) (line : ObjectLine) → object_fault device before line ≡ None → IsFaultless before line
+is_faultless device before line h =
     let f = two (nat_lt 4194302 (instance_of line)) (has_id (id_of line) before) (not (is_name (name_of line))) (bytes_eq (name_of line) device.name || has_name (name_of line) before) (own_tests line) h in
     record { within = in_range (instance_of line) f.0; other = f.1 }
 
@@ -162,8 +174,8 @@ at_index [] i line lt e = absurd (omega (arith, lt))
 at_index (x ∷ lines) zero line lt e = ap Some (sym e)
 at_index (x ∷ lines) (suc i) line lt e = at_index lines i line (omega (arith, lt)) e
 
-pub line_sound : (device : DeviceLine) (lines : List ObjectLine) (i : ℕ) (line : ObjectLine) → objects_fault device [] lines ≡ None → i < length lines → line ≡ get_or lines i line → IsSound (take i lines) line
-line_sound device lines i line h lt e = is_sound device (take i lines) line (line_none device [] lines i line h (at_index lines i line lt e))
+pub line_sound : (device : DeviceLine) (lines : List ObjectLine) (i : ℕ) (line : ObjectLine) → objects_fault device [] lines ≡ None → i < length lines → line ≡ get_or lines i line → IsFaultless (take i lines) line
+line_sound device lines i line h lt e = is_faultless device (take i lines) line (line_none device [] lines i line h (at_index lines i line lt e))
 
 -- ---- the object of a line in the table
 
@@ -187,7 +199,7 @@ other_id : (device : DeviceLine) (before : List ObjectLine) (x : ObjectLine) (li
 other_id device before x lines i line h at =
     let none : object_fault device (before ++ x ∷ take i lines) line ≡ None =
     subst (λ m. object_fault device m line ≡ None) (append_one before x i lines) (line_none device (before ++ x ∷ []) lines i line (right_none _ _ h) at) in
-    any_in (λ l. is_id (id_of line) (id_of l)) (is_id (id_of line) (id_of x)) before x (take i lines) refl (is_sound device (before ++ x ∷ take i lines) line none).other
+    any_in (λ l. is_id (id_of line) (id_of l)) (is_id (id_of line) (id_of x)) before x (take i lines) refl (is_faultless device (before ++ x ∷ take i lines) line none).other
 
 -- each line's object is found under its identifier
 pub found : (device : DeviceLine) (before lines : List ObjectLine) (i : ℕ) (line : ObjectLine) → objects_fault device before lines ≡ None → slice_get lines i ≡ Some line

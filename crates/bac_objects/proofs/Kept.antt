@@ -6,12 +6,12 @@ use Rattle.std.specs.Map.{lookup, set_value}
 use Rattle.std.proofs.lemmas.Bool.Decides.{nat_tests}
 use Rattle.indexmap.specs.IndexMap.{set_value_at}
 use Rattle.bac_wire.specs.Primitive.{Id}
-use Rattle.bac_wire.specs.Stamp.{CivilTime, ticks_of}
+use Rattle.bac_wire.specs.Stamp.{CivilTime, IsCivilTime, ticks_of}
 use Rattle.bac_log.specs.TrendLog.{Log, IsLog}
 use Rattle.bac_objects.specs.Build.{body_of, built, device_fault, entry_of, first_of, id_of, is_name}
 use Rattle.bac_objects.specs.Kept.{AreObjects, AreQuiet, IsBody, IsQuiet, KeepsBody, interval_in}
 use Rattle.bac_objects.specs.Sampling.{is_due, log_id, log_in, logger_in, records_in}
-use Rattle.bac_objects.specs.Sound.{IsSound}
+use Rattle.bac_objects.specs.Sound.{IsClocked, IsSound}
 use Rattle.bac_objects.specs.State.{State, is_id}
 use Rattle.bac_objects.specs.declared.build.BuildFault.TheVariants.{BadInstance, BadName, BadReplySize}
 use Rattle.bac_objects.specs.declared.lines.DeviceLine.{DeviceLine}
@@ -101,11 +101,12 @@ log_held : (far : Bool) (n : ℕ) (es : List (Id × object.Object)) (log : Log) 
 log_held true n es log are e = absurd cc
 log_held false n es log are e = found_log n (lookup (is_id (log_id n)) es) log (λ o h. body_found es (log_id n) o are h) e
 
-pub sound : (d : State) → d.instance ≤ 4194302 → 50 ≤ d.reply_size → d.reply_size ≤ 1476 → AreObjects d.objects → IsSound d
-sound d within least greatest are = record {
+pub sound : (d : State) → d.instance ≤ 4194302 → 50 ≤ d.reply_size → d.reply_size ≤ 1476 → IsClocked d.origin d.clock → AreObjects d.objects → IsSound d
+sound d within least greatest clocked are = record {
   instance = within;
   least_reply = least;
   greatest_reply = greatest;
+  clocked = clocked;
   has = λ n o h. log_body n o.body (body_found d.objects (log_id n) o are h);
   only = λ id o l h e. log_named id o.body l (body_found d.objects id o are h) e;
   logs = λ n log e. log_held (nat_lt 4194303 n) n d.objects log are e;
@@ -116,7 +117,7 @@ abbrev StaysSound : State → ℕ → List (Id × object.Object) → Type 0
 StaysSound d due es = (let new : State = record d { objects = es } in IsSound new) × AreObjects es × AreQuiet (ticks_of d.origin) (ticks_of d.clock) due es
 
 with_objects : (d : State) (due : ℕ) (es : List (Id × object.Object)) → IsSound d → AreObjects es → AreQuiet (ticks_of d.origin) (ticks_of d.clock) due es → StaysSound d due es
-with_objects d due es is are quiet = (sound (record d { objects = es }) is.instance is.least_reply is.greatest_reply are, are, quiet)
+with_objects d due es is are quiet = (sound (record d { objects = es }) is.instance is.least_reply is.greatest_reply is.clocked are, are, quiet)
 
 still_quiet : (origin clock due : ℕ) (old new : Body) → interval_in new ≡ interval_in old → IsQuiet origin clock due old → IsQuiet origin clock due new
 still_quiet origin clock due old new same quiet n from to = ap (is_due origin clock n) same ∙ quiet n from to
@@ -138,8 +139,10 @@ place_sound d due i k o new is keeps at =
     (place_each (λ k b. IsQuiet (ticks_of d.origin) (ticks_of d.clock) due b) d.objects i k o new (λ k. still_quiet (ticks_of d.origin) (ticks_of d.clock) due o.body new.body keeps.1) is.2 at)
 
 -- a clock that goes on
-pub clock_sound : (d : State) (stamp : CivilTime) → IsSound d → AreObjects d.objects → (let new : State = record d { clock = stamp } in IsSound new)
-clock_sound d stamp is are = sound (record d { clock = stamp }) is.instance is.least_reply is.greatest_reply are
+pub clock_sound : (d : State) (stamp : CivilTime) → IsCivilTime stamp → ticks_of d.clock ≤ ticks_of stamp → IsSound d → AreObjects d.objects → (let new : State = record d { clock = stamp } in IsSound new)
+clock_sound d stamp shown on is are =
+    let clocked : IsClocked d.origin stamp = record { begun = is.clocked.begun; shown = shown; since = omega (arith, is.clocked.since, on) } in
+    sound (record d { clock = stamp }) is.instance is.least_reply is.greatest_reply clocked are
 
 -- ---- the lines of a device
 
@@ -152,16 +155,17 @@ three_none false false false h = (refl, refl)
 line_bounds : (n size : ℕ) → nat_lt 4194302 n ≡ false → (nat_lt size 50 || nat_lt 1476 size) ≡ false → (n ≤ 4194302) × (50 ≤ size) × (size ≤ 1476)
 line_bounds n size h k = (grind (arith, nat_tests), grind (arith, nat_tests), grind (arith, nat_tests))
 
-none_quiet : (origin clock : ℕ) (es : List (Id × object.Object)) → AreQuiet origin clock 0 es
+none_quiet : (origin clock : ℕ) (es : List (Id × object.Object)) → AreQuiet origin clock clock es
 none_quiet origin clock [] = tt
-none_quiet origin clock (e ∷ es) = (λ n from to. absurd (omega (arith, to)), none_quiet origin clock es)
+none_quiet origin clock (e ∷ es) = (λ n from to. absurd (omega (arith, from, to)), none_quiet origin clock es)
 
-pub line_sound : (line : DeviceLine) (name : List ℕ) (es : List (Id × object.Object)) → device_fault line ≡ None → AreObjects es
-    → (let new : State = record (built line []) { name = name; objects = es } in Sound new 0)
-line_sound line name es none are =
+pub line_sound : (line : DeviceLine) (name : List ℕ) (es : List (Id × object.Object)) → device_fault line ≡ None → IsCivilTime line.clock → AreObjects es
+    → (let new : State = record (built line []) { name = name; objects = es } in Sound new (ticks_of line.clock))
+line_sound line name es none shown are =
+    let clocked : IsClocked line.clock line.clock = record { begun = shown; shown = shown; since = omega arith } in
     let tests = three_none (nat_lt 4194302 line.instance) (not (is_name line.name)) (nat_lt line.reply_size 50 || nat_lt 1476 line.reply_size) none in
     let bounds = line_bounds line.instance line.reply_size tests.0 tests.1 in
-    (sound (record (built line []) { name = name; objects = es }) bounds.0 bounds.1 bounds.2 are, are, none_quiet (ticks_of line.clock) (ticks_of line.clock) es)
+    (sound (record (built line []) { name = name; objects = es }) bounds.0 bounds.1 bounds.2 clocked are, are, none_quiet (ticks_of line.clock) (ticks_of line.clock) es)
 
 pub added_kept : (es new : List (Id × object.Object)) (line : ObjectLine) (b : Body) → AreObjects es → IsBody (id_of line) b → b ≡ body_of line → new ≡ es ++ entry_of line ∷ [] → AreObjects new
 added_kept es new line b are is same e = subst AreObjects (sym e) (push_each IsBody es (entry_of line) are (subst (IsBody (id_of line)) same is))

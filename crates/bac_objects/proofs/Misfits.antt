@@ -1,18 +1,18 @@
 -- The line that is to mend.
 use Rattle.std.proofs.Common.{◌≡◌, ap, ◌∙◌, refl, rules, inl, inr, Bool, true, false, ◌||◌, not, nat_lt, if◌then◌else◌, List, [], ◌∷◌, ℕ, Option, Some}
+use Rattle.std.proofs.lemmas.Bool.{false≢true}
 use Rattle.std.specs.List.{find}
 use Rattle.std.specs.Option.{IsSome, option_map, option_or}
 use Rattle.std.specs.Str.{bytes_eq}
 use Rattle.bac_objects.specs.Build.{build_fault, device_fault, first_of, has_id, has_name, id_of, instance_of, is_name, name_of, object_fault, objects_fault, own_tests}
 use Rattle.bac_objects.specs.Misfit.{IsMisfit, IsFaulty, device_line, earlier_named, namesake_of, object_line}
 use Rattle.bac_objects.specs.declared.build.BuildFault.{BuildFault}
-use Rattle.bac_objects.specs.declared.build.BuildFault.TheVariants.{BadInstance, DuplicateId, BadName, DuplicateName, BadStates, BadDefault, BadCapacity, BadInterval, BadReplySize}
+use Rattle.bac_objects.specs.declared.build.BuildFault.TheVariants.{BadInstance, DuplicateId, BadName, DuplicateName, BadReplySize}
 use Rattle.bac_objects.specs.declared.build.Misfit.{Misfit}
 use Rattle.bac_objects.specs.declared.lines.DeviceLine.{DeviceLine}
 use Rattle.bac_objects.specs.declared.lines.LineId.{LineId}
 use Rattle.bac_objects.specs.declared.lines.ObjectLine.{ObjectLine}
-use Rattle.bac_objects.specs.declared.lines.ObjectLine.TheVariants.{Binary, Multistate, Integer, Log}
-use Rattle.bac_objects.proofs.Builds.{faulty_told, left_none, right_none}
+use Rattle.bac_objects.proofs.Builds.{faulty_told, left_none, own_told, right_none}
 
 -- ---- its fault is the first
 
@@ -33,25 +33,8 @@ first_told device lines m (inr o) =
 abbrev Never : Option BuildFault → Type 0
 Never said = said ≡ Some DuplicateName → ⊥
 
-never_two : (a b : Bool) → Never (first_of ((a, BadStates) ∷ (b, BadDefault) ∷ []))
-never_two true b h = search rules
-never_two false true h = search rules
-never_two false false h = search rules
-
-never_one : (a : Bool) → Never (first_of ((a, BadDefault) ∷ []))
-never_one true h = search rules
-never_one false h = search rules
-
-never_log : (a b : Bool) → Never (first_of ((a, BadCapacity) ∷ (b, BadInterval) ∷ []))
-never_log true b h = search rules
-never_log false true h = search rules
-never_log false false h = search rules
-
 never_own : (line : ObjectLine) → Never (first_of (own_tests line))
-never_own (Binary instance name default) = never_one _
-never_own (Multistate instance name states default) = never_two _ _
-never_own (Integer instance name default) = λ h. search rules
-never_own (Log instance name source capacity interval logged) = never_log _ _
+never_own line e = absurd (false≢true (own_told line DuplicateName e))
 
 never_three : (a b c : Bool) → Never (first_of ((a, BadInstance) ∷ (b, BadName) ∷ (c, BadReplySize) ∷ []))
 never_three true b c h = search rules

@@ -87,6 +87,6 @@ shown_of (code.Reference object property) = Reference object property
 shown_of code.Records = Records
 
 -- what can be written
-abbrev pub IsSound : Property → Type 0
-IsSound (code.One v) = IsWellFormed v
-IsSound p = Unit {0}
+abbrev pub CanBeWritten : Property → Type 0
+CanBeWritten (code.One v) = IsWellFormed v
+CanBeWritten p = Unit {0}

@@ -71,7 +71,7 @@ impl Database {
             reply_size: line.reply_size,
             origin: line.clock,
             clock: line.clock,
-            due: 0,
+            due: line.clock.ticks(),
             objects,
         })
     }

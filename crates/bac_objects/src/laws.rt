@@ -5,6 +5,7 @@ ghost use Rattle.std.specs.Prelude.{◌≡◌, ◌≢◌, ℕ, List, None, Some,
 ghost use Rattle.std.specs.List.{AllByRecursion};
 ghost use Rattle.std.specs.Map.{lookup};
 ghost use Rattle.std.specs.Option.{IsSome};
+ghost use Rattle.bac_wire.specs.Stamp.{IsCivilTime};
 ghost use Rattle.bac_objects.specs.Build.{IsCounted, build_fault, built, entry_of, id_of};
 ghost use Rattle.bac_objects.specs.Misfit.{IsMisfit};
 ghost use Rattle.bac_objects.specs.Sound.{IsSound};
@@ -20,10 +21,10 @@ pub fn objects_are_found()
         → lookup (is_id (id_of line)) (built device lines).objects ≡ Some (entry_of line).1 }
 {}
 
-/// Lines without a fault describe a device that is sound, if no line says that more records were
-/// logged before than 64 bits can count.
+/// Lines without a fault describe a device that is sound, if its clock shows a civil time, and no
+/// line says that more records were logged before than 64 bits can count.
 pub fn built_devices_are_sound()
-    ensures { (device : FirstLine) (lines : List LineOf) → build_fault device lines ≡ None → AllByRecursion IsCounted lines → IsSound (built device lines) }
+    ensures { (device : FirstLine) (lines : List LineOf) → build_fault device lines ≡ None → IsCivilTime device.clock → AllByRecursion IsCounted lines → IsSound (built device lines) }
 {}
 
 /// No fault of lines is that memory ran out.

@@ -6,7 +6,7 @@ ghost use Rattle.bac_wire.specs.Primitive.{Bits, Chars};
 ghost use Rattle.bac_wire.specs.View.{IsWellFormed, view};
 ghost use Rattle.bac_objects.specs.Bits.{services_supported, types_supported};
 ghost use Rattle.bac_objects.specs.Properties.{body_rows, command_rows, device_table, further, log_rows, object_table, row};
-ghost use Rattle.bac_objects.specs.Reading.{IsSound, shown_of};
+ghost use Rattle.bac_objects.specs.Reading.{CanBeWritten, shown_of};
 
 use crate::command::{Command, Range, Setting};
 use crate::database::{DEVICE, Database};
@@ -82,7 +82,7 @@ impl Range {
     /// A property that only objects of this type have.
     fn property(&self, property: u32) -> Option<Property>
         ensures value { option_map shown_of result ≡ row property (further self.now) }
-        ensures sound { IfSome result IsSound }
+        ensures writable { IfSome result CanBeWritten }
     {
         match (self, property) {
             (Range::Multistate { states }, NUMBER_OF_STATES) => {
@@ -98,7 +98,7 @@ impl Command {
     /// A property of a commandable object.
     fn property(&self, property: u32) -> Option<Property>
         ensures value { option_map shown_of result ≡ row property (command_rows self.now) }
-        ensures sound { IfSome result IsSound }
+        ensures writable { IfSome result CanBeWritten }
     {
         match property {
             PRESENT_VALUE => Some(Property::One(self.present().value())),
@@ -119,7 +119,7 @@ impl Logger {
     /// A property of a Trend Log.
     fn property(&self, property: u32) -> Option<Property>
         ensures value { option_map shown_of result ≡ row property (log_rows self.now) }
-        ensures sound { IfSome result IsSound }
+        ensures writable { IfSome result CanBeWritten }
     {
         match property {
             ENABLE => Some(Property::One(Value::Boolean(self.log.enabled()))),
@@ -148,7 +148,7 @@ impl Body {
     /// A property that not every object has.
     fn property(&self, property: u32) -> Option<Property>
         ensures value { option_map shown_of result ≡ row property (body_rows self.now) }
-        ensures sound { IfSome result IsSound }
+        ensures writable { IfSome result CanBeWritten }
     {
         match self {
             Body::Command(command) => command.property(property),
@@ -161,7 +161,7 @@ impl Object {
     /// A property of the object with this identifier.
     pub(crate) fn property(&self, id: ObjectId, property: u32) -> Option<Property>
         ensures value { option_map shown_of result ≡ row property (object_table id self.now) }
-        ensures sound { IfSome result IsSound }
+        ensures writable { IfSome result CanBeWritten }
     {
         match property {
             OBJECT_IDENTIFIER => Some(Property::One(Value::Object(id))),
@@ -176,7 +176,7 @@ impl Database {
     /// A property of the device itself.
     pub(crate) fn property(&self, property: u32) -> Option<Property>
         ensures value { option_map shown_of result ≡ row property (device_table self.now) }
-        ensures sound { IfSome result IsSound }
+        ensures writable { IfSome result CanBeWritten }
     {
         match property {
             OBJECT_IDENTIFIER => Some(Property::One(Value::Object(self.id()))),

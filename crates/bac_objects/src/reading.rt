@@ -5,7 +5,7 @@ ghost use Rattle.std.specs.Option.{option_map};
 ghost use Rattle.bac_wire.specs.Primitive.{Object};
 ghost use Rattle.bac_wire.specs.View.{IsWellFormed, view};
 ghost use Rattle.bac_objects.specs.Properties.{Array, object_list, slot_value};
-ghost use Rattle.bac_objects.specs.Reading.{Appends, IsSound, elements, elements_of, fitted, read_of, reference_octets, shown_of, told, values_octets};
+ghost use Rattle.bac_objects.specs.Reading.{Appends, CanBeWritten, elements, elements_of, fitted, read_of, reference_octets, shown_of, told, values_octets};
 
 use crate::command::{Setting, slot_value};
 use crate::database::Database;
@@ -88,7 +88,7 @@ impl<'a> Property<'a> {
     /// The values of the property, or the element at an index.
     #[tactic(auto, using(crate::proofs::Encodings::nothing))]
     fn write_values(&self, index: Option<u32>, out: &mut Datagram) -> Result<(), Refused>
-        requires sound { IsSound self.now }
+        requires writable { CanBeWritten self.now }
         requires empty { out.old ≡ [] }
         ensures { told result out.new ≡ fitted (elements (shown_of self.now) index) }
     {
@@ -121,7 +121,7 @@ fn write_values_of(
     index: Option<u32>,
     out: &mut Datagram,
 ) -> Result<(), Refused>
-    requires sound { IfSome property.now IsSound }
+    requires writable { IfSome property.now CanBeWritten }
     requires empty { out.old ≡ [] }
     ensures { told result out.new ≡ fitted (elements_of (option_map shown_of property.now) index) }
 {
@@ -148,7 +148,7 @@ impl Database {
     }
 
     /// What the object list has at a place, counted from 0.
-    #[tactic(auto, using(crate::proofs::Listing::listed, crate::proofs::Listing::unlisted))]
+    #[tactic(auto, using(crate::proofs::Listing::unlisted))]
     fn listed(&self, place: usize) -> Option<ObjectId>
         ensures { option_map (λ id. Object id) result ≡ slice_get (object_list self.now) place }
     {

@@ -16,7 +16,7 @@ use Rattle.bac_apdu.specs.Service.ReadPropertyAck.{PropertyAck, property_ack_oct
 use Rattle.bac_apdu.specs.Service.ReadRange.{read_range, range_parameters, read_range_at}
 use Rattle.bac_apdu.specs.declared.service.read_range.ReadRange.{ReadRange}
 use Rattle.bac_apdu.specs.declared.reason.Reason.{Reason}
-use Rattle.bac_apdu_tests.specs.Passage.{header_with, datagram_with, apdu_in, question, question_in, two_values, answer, values_in, answer_in}
+use Rattle.bac_encoding_tests.specs.Passage.{header_with, datagram_with, apdu_in, question, question_in, two_values, answer, values_in, answer_in}
 
 -- an APDU that is sent is received
 abbrev pub Again : Type 0

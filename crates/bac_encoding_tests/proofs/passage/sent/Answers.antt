@@ -3,8 +3,8 @@ use Rattle.std.proofs.Common.{◌≡◌, ℕ, ◌+◌, ◌<◌, ◌≤◌, List,
 use Rattle.bac_apdu.specs.Apdu.{apdu_of, apdu_octets}
 use Rattle.bac_apdu.specs.Frame.{frame_octets}
 use Rattle.bac_apdu.specs.Npdu.{Header, header_octets}
-use Rattle.bac_apdu_tests.specs.Passage.{header_with}
-use Rattle.bac_apdu_tests.proofs.passage.sent.Goals as goal
+use Rattle.bac_encoding_tests.specs.Passage.{header_with}
+use Rattle.bac_encoding_tests.proofs.passage.sent.Goals as goal
 
 too_long : (h : Header) (apdu octets old : List ℕ) → ((body : List ℕ) → length (frame_octets body) ≡ 4 + length body) → length (header_octets h) ≡ 2 → octets ≡ apdu → length apdu ≤ 1495 → old ≡ [] → 1501 < length old + length (frame_octets (header_octets h ++ octets)) → ⊥
 too_long h apdu octets old size two same short empty long =

@@ -1,6 +1,6 @@
 use Rattle.std.proofs.Common.{ap, ◌∙◌}
-use Rattle.bac_apdu_tests.specs.Passage.{question_in}
-use Rattle.bac_apdu_tests.proofs.passage.question_comes_back.Goals as goal
+use Rattle.bac_encoding_tests.specs.Passage.{question_in}
+use Rattle.bac_encoding_tests.proofs.passage.question_comes_back.Goals as goal
 
 pub returns : goal.returns
 returns c =

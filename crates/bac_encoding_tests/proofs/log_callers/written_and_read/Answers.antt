@@ -1,7 +1,7 @@
 use Rattle.std.proofs.Common.{ℕ, List, [], ◌++◌, refl, sym, ap, ◌∙◌}
 use Rattle.std.proofs.lemmas.List.{append-nil}
 use Rattle.bac_log.specs.Record.{entry_octets}
-use Rattle.bac_log_tests.proofs.log_callers.written_and_read.Goals as goal
+use Rattle.bac_encoding_tests.proofs.log_callers.written_and_read.Goals as goal
 
 pub returns : goal.returns
 returns c =

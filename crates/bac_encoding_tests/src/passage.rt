@@ -10,7 +10,7 @@ ghost use Rattle.bac_apdu.specs.Frame.{frame_of};
 ghost use Rattle.bac_apdu.specs.Service.Extent.{IsExtent};
 ghost use Rattle.bac_apdu.specs.Service.ReadProperty.{IsProperty};
 ghost use Rattle.bac_apdu.specs.declared.service.read_range.ReadRange.{ReadRange as Question};
-ghost use Rattle.bac_apdu_tests.specs.Passage.{datagram_with, npdu_in, apdu_in, question, question_of, question_in, answer, answer_in};
+ghost use Rattle.bac_encoding_tests.specs.Passage.{datagram_with, npdu_in, apdu_in, question, question_of, question_in, answer, answer_in};
 
 use bac_apdu::{
     Apdu, Extent, Frame, Npdu, ReadPropertyAck, ReadRange, apdu_is_read, choice, frame_is_read,
