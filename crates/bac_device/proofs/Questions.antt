@@ -63,7 +63,7 @@ length-asking source way =
       length-append (place_octets source) (hops_octets None 0),
     )
 
-is_answered : (source : Option Place) → IsWay source → is_answerable source ≡ true
+pub is_answered : (source : Option Place) → IsWay source → is_answerable source ≡ true
 is_answered None way = refl
 is_answered (Some place) way =
     rw (le-leb 1 place.net way.0, le-leb place.net 65534 way.1, le-leb 1 (length place.address) way.2, le-leb (length place.address) 15 way.3) refl

@@ -40,7 +40,7 @@ pub place_valid : (place : Option Place) → IsWay place → IsPlace place
 place_valid None way = tt
 place_valid (Some place) way = (omega (arith, way.1), omega (arith, way.3))
 
-plain_to_valid : (place : Option Place) → IsWay place → IsHeader (plain_to place)
+pub plain_to_valid : (place : Option Place) → IsWay place → IsHeader (plain_to place)
 plain_to_valid None way = plain_valid
 plain_to_valid (Some place) way = (omega arith, place_valid (Some place) way, tt, tt)
 

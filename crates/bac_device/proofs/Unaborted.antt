@@ -232,7 +232,7 @@ within_limit true over limit invoke n parameters e h = absurd cc
 within_limit false true limit invoke n parameters e h = absurd cc
 within_limit false false limit invoke n parameters e h = grind (arith, nat_tests)
 
-ack_short : (limit invoke : ℕ) (object : Id) (extent : Extent) (log : Log) → IsLog log → 44 ≤ limit → length (apdu_octets (records_ack limit invoke object extent log)) ≤ limit
+pub ack_short : (limit invoke : ℕ) (object : Id) (extent : Extent) (log : Log) → IsLog log → 44 ≤ limit → length (apdu_octets (records_ack limit invoke object extent log)) ≤ limit
 ack_short limit invoke object extent log is ge = within_limit (is_too_small limit extent log) (nat_lt limit _) limit invoke _ _ refl (records_fit limit invoke object extent log is ge)
 
 log_unaborted : (to : Return) (way : IsWay to.place) (limit invoke : ℕ) (r : ReadRange) (x : Result Log Fault) → 44 ≤ limit → limit ≤ 1476 → AnyOk IsLog x → is_aborted (Some (reply to (log_said limit invoke r x))) ≡ false

@@ -136,13 +136,6 @@ lacked d new events id extent path invoke octets result = lacked_by (goes_on oct
 quiet : (d : State) (events : List LinkEvent) (octets : List ℕ) → events ≡ [] → goes_on octets ≡ false → told (meets d events octets) octets ≡ answer d octets
 quiet d events octets none here = rw (none, here) refl
 
-quiet_rest : (on : Bool) (d : State) → (met on d []).rest ≡ []
-quiet_rest true d = refl
-quiet_rest false d = refl
-
-pub stays_quiet : (d : State) (events rest : List LinkEvent) (octets : List ℕ) → events ≡ [] → rest ≡ (meets d events octets).rest → rest ≡ []
-stays_quiet d events rest octets none over = over ∙ ap (λ (es : List LinkEvent). (meets d es octets).rest) none ∙ quiet_rest (goes_on octets) d
-
 ok_of : (result : Result (List ℕ) Lost) (datagram : List ℕ) → result_ok result ≡ Some datagram → IsOk result
 ok_of (Ok o) datagram e = refl
 ok_of (Err lost) datagram e = absurd (no_datagram datagram (sym e))
@@ -164,3 +157,7 @@ pub nothing_changes : (d new : State) (events : List LinkEvent) (id : Id) (exten
     → events ≡ [] → path.dest ≡ None → IsQuestion id extent path invoke octets → new ≡ (told (meets d events octets) octets).1 → d ≡ new
 nothing_changes d new events id extent path invoke octets none here asks left =
     sym (left ∙ ap (λ (x : Option Reply × State). x.1) (said_here d events id extent path invoke octets none here asks))
+
+-- what the sender of a lost request learns
+pub lost : Lost
+lost = record {}

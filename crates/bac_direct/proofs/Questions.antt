@@ -1,5 +1,5 @@
 -- A link's questions are the device's: what the device makes of one.
-use Rattle.std.proofs.Common.{◌≡◌, refl, ap, ◌∙◌, arith, inr, ℕ, min, false, List, ◌++◌, length, Option, Some, None, Ok, sym, true, length-append, ◌+◌, ◌<◌}
+use Rattle.std.proofs.Common.{◌≡◌, refl, ap, ◌∙◌, arith, inr, ℕ, min, false, List, ◌++◌, length, Option, Some, None, Ok, sym, length-append, ◌+◌, ◌<◌}
 use Rattle.bac_wire.specs.Primitive.{Id, Object}
 use Rattle.bac_wire.specs.Canon.{IsValid}
 use Rattle.bac_apdu.specs.Apdu.{Apdu, Confirmed, apdu_octets}
@@ -29,8 +29,7 @@ use Rattle.bac_link.specs.Path.{Path, back, towards}
 use Rattle.bac_link.specs.Requests.{asking as asking_by}
 use Rattle.bac_link.proofs.Datagrams.{asking_valid, length-asking}
 use Rattle.bac_link.proofs.Verdicts.{question_short}
-use Rattle.std.proofs.lemmas.Bool.{le-leb}
-use Rattle.bac_device.specs.Receiving.{is_answerable}
+use Rattle.bac_device.proofs.Questions.{is_answered}
 use Rattle.bac_direct.specs.Events.{goes_on}
 use Rattle.bac_link.specs.Requests.{parameters_of, request_apdu, request_octets}
 
@@ -56,11 +55,6 @@ frame_is source invoke id extent way =
     ap frame_at (request_is source invoke id extent)
     ∙ frame_again (header_octets (asking source) ++ apdu_octets (asked invoke id extent))
     (omega (arith, length-asking (back (towards source)) (tt, way), range_apdu_short (range id extent) 1476 invoke, length-append (header_octets (asking source)) (apdu_octets (asked invoke id extent))))
-
-is_answered : (source : Option Place) → IsWay source → is_answerable source ≡ true
-is_answered None way = refl
-is_answered (Some place) way =
-    rw (le-leb 1 place.net way.0, le-leb place.net 65534 way.1, le-leb 1 (length place.address) way.2, le-leb (length place.address) 15 way.3) refl
 
 heard_is : (source : Option Place) (invoke : ℕ) (id : Id) (extent : Extent) → IsWay source → heard_at false (header_octets (asking source) ++ apdu_octets (asked invoke id extent)) ≡ Some (record { to_all = false; source = source; apdu = asked invoke id extent })
 unfolding heard_at

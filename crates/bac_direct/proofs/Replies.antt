@@ -1,11 +1,10 @@
 -- The device's answers to a link's questions are honest replies.
-use Rattle.std.proofs.Common.{◌≡◌, refl, ap, sym, subst, ◌∙◌, arith, ℕ, ◌+◌, ◌-◌, ◌≤◌, min, nat_lt, Bool, true, false, cond, pos, negsuc, List, [], ◌∷◌, ◌++◌, take, drop, length, Option, Some, None, length-append}
+use Rattle.std.proofs.Common.{◌≡◌, refl, ap, sym, subst, ◌∙◌, arith, ℕ, ◌+◌, ◌-◌, ◌≤◌, min, nat_lt, false, pos, negsuc, List, [], ◌∷◌, ◌++◌, take, drop, length, Option, Some, None, length-append}
 use Rattle.std.specs.Prelude.{All}
-use Rattle.std.proofs.lemmas.Bool.Decides.{nat_tests}
 use Rattle.std.proofs.Math.Seq.{drop-append_seam, take-append_seam}
 use Rattle.bac_wire.specs.Primitive.{Id}
 use Rattle.bac_apdu.specs.Apdu.{Apdu, Complex, IsApdu, apdu_octets}
-use Rattle.bac_apdu.specs.Npdu.{IsHeader, Place, header_octets}
+use Rattle.bac_apdu.specs.Npdu.{Place, header_octets}
 use Rattle.bac_apdu.specs.Route.{IsWay}
 use Rattle.bac_apdu.specs.declared.service.extent.Extent.{Extent}
 use Rattle.bac_apdu.specs.declared.service.extent.Extent.TheVariants as extent
@@ -18,19 +17,20 @@ use Rattle.bac_log.specs.declared.entry.Entry.{Entry}
 use Rattle.bac_objects.specs.Sampling.{log_id, log_of}
 use Rattle.bac_objects.specs.State.{State}
 use Rattle.bac_objects.specs.declared.fault.Fault.TheVariants.{UnknownObject}
-use Rattle.bac_device.specs.Answer.{answer, is_too_small, records_ack, records_said}
-use Rattle.bac_device.specs.Reply.{Return, abort, datagram_to, error, plain_to, reply}
+use Rattle.bac_device.specs.Answer.{answer, records_ack, records_said}
+use Rattle.bac_device.specs.Reply.{Return, datagram_to, error, plain_to, reply}
 use Rattle.bac_device.specs.declared.reply.Receiver.TheVariants.{Sender}
 use Rattle.bac_device.proofs.Fits.{records_fit}
 use Rattle.bac_device.proofs.Questions.{question_answered, question_refused}
-use Rattle.bac_device.proofs.Told.{length-plain_to}
+use Rattle.bac_device.proofs.Told.{length-plain_to, plain_to_valid}
+use Rattle.bac_device.proofs.Unaborted.{ack_short}
 use Rattle.bac_link.specs.Datagrams.{message_in}
 use Rattle.bac_link.specs.Path.{Path, back, path_of, towards}
 use Rattle.bac_link.specs.Delivery.{History, Moment}
 use Rattle.bac_link.specs.Links.{HasReply, IsQuestion, IsReply, IsUnknown, question, reply_parameters}
 use Rattle.bac_link.specs.Moments.{log_at}
 use Rattle.bac_link.specs.Requests.{request_octets}
-use Rattle.bac_link.proofs.Datagrams.{message_back, place_valid}
+use Rattle.bac_link.proofs.Datagrams.{message_back}
 use Rattle.bac_direct.specs.Ahead.{entries_ahead, Lacks, LiesAhead, log_with, moment_of, placed, turn}
 use Rattle.bac_direct.specs.declared.event.LinkEvent.{LinkEvent}
 use Rattle.bac_direct.proofs.Ahead.{log_is}
@@ -39,10 +39,6 @@ use Rattle.bac_direct.proofs.Placed.{log_placed, reply-placed}
 use Rattle.bac_direct.proofs.Questions.{question_is}
 
 -- ---- a reply is read back
-
-plain_to_valid : (place : Option Place) → IsWay place → IsHeader (plain_to place)
-plain_to_valid None way = (omega arith, tt, tt, refl)
-plain_to_valid (Some place) way = (omega arith, place_valid (Some place) way, tt, tt)
 
 plain_to_path : (place : Option Place) → path_of (plain_to place) ≡ towards place
 plain_to_path None = refl
@@ -66,30 +62,12 @@ pub ack_is : (limit invoke : ℕ) (id : Id) (extent : Extent) (log : Log) → re
 unfolding reply_parameters
 ack_is limit invoke id extent log = refl
 
-not_abort : (invoke i service : ℕ) (parameters : List ℕ) → abort invoke ≡ Complex false i service parameters → ⊥
-not_abort invoke i service parameters e = cc
-
-le_of : (a b : ℕ) → nat_lt b a ≡ false → a ≤ b
-le_of a b e = grind (arith, nat_tests)
-
--- what isn't turned into an Abort is within the limit
-ack_short : (small over : Bool) (limit invoke i service : ℕ) (parameters : List ℕ) → nat_lt limit (length (apdu_octets (Complex false i service parameters))) ≡ over
-    → cond small (abort invoke) (cond over (abort invoke) (Complex false i service parameters)) ≡ Complex false i service parameters
-    → length (apdu_octets (Complex false i service parameters)) ≤ limit
-ack_short true over limit invoke i service parameters t e = absurd (not_abort invoke i service parameters e)
-ack_short false true limit invoke i service parameters t e = absurd (not_abort invoke i service parameters e)
-ack_short false false limit invoke i service parameters t e = le_of _ limit t
-
-short_ack : (limit invoke : ℕ) (id : Id) (extent : Extent) (log : Log) → IsLog log → 44 ≤ limit → length (apdu_octets (records_ack limit invoke id extent log)) ≤ limit
-short_ack limit invoke id extent log is ge =
-    ack_short (is_too_small limit extent log) (nat_lt limit (length (apdu_octets (records_ack limit invoke id extent log)))) limit invoke invoke read_range_service _ refl (records_fit limit invoke id extent log is ge)
-
 -- what the device answers by a log is read back as that ACK
 pub said_again : (source : Option Place) (limit invoke : ℕ) (id : Id) (extent : Extent) (log : Log) → IsWay source → IsLog log → 44 ≤ limit → limit ≤ 1476
     → HasReply limit log id extent (back (towards source)) invoke (datagram_to source (records_said limit invoke id extent log))
 said_again source limit invoke id extent log way is ge le =
     ap (λ (m : Apdu). message_in (datagram_to source m)) (records_fit limit invoke id extent log is ge)
-    ∙ reply_again source (records_ack limit invoke id extent log) way refl (omega (arith, le, short_ack limit invoke id extent log is ge))
+    ∙ reply_again source (records_ack limit invoke id extent log) way refl (omega (arith, le, ack_short limit invoke id extent log is ge))
     ∙ ap (λ (m : Apdu). Some (towards source, m)) (ack_is limit invoke id extent log)
 
 -- ---- capacity and Enable don't matter to a reply
@@ -167,7 +145,7 @@ log_replied rounds d events source id r M H m extent invoke way a first =
     let is : IsLog log = log_is d id.instance a.sound a.there in
     let held = held_now rounds d events id r M H a in
     let cut : Log = log_at (placed rounds (moment_of log)) H in
-    let short = short_ack d.reply_size invoke id extent log is (omega (arith, a.sound.least_reply)) in
+    let short = ack_short d.reply_size invoke id extent log is (omega (arith, a.sound.least_reply)) in
     let same : reply_parameters id log extent d.reply_size ≡ reply_parameters id cut extent r =
     sym (reply-placed id rounds log extent d.reply_size)
     ∙ same_reply id (log_placed rounds log) cut extent d.reply_size (omega arith) (sym held) ∙ ap (λ k. reply_parameters id cut extent k) a.size in

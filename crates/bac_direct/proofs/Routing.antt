@@ -1,7 +1,7 @@
 -- What is handed on by a router is the question of a place near by, and what is handed back is its reply.
-use Rattle.std.proofs.Common.{◌≡◌, refl, ap, sym, subst, ◌∙◌, arith, inl, inr, ℕ, ◌+◌, ◌<◌, ◌≤◌, ◌/◌, ◌%◌, eqb, ◌==◌, if◌then◌else◌, nat_lt, Bool, true, false, not, ◌&&◌, List, [], ◌∷◌, ◌++◌, length, Option, None, Some, length-append}
+use Rattle.std.proofs.Common.{◌≡◌, refl, ap, sym, subst, ◌∙◌, arith, inl, inr, ℕ, ◌+◌, ◌<◌, ◌≤◌, ◌/◌, ◌%◌, eqb, ◌==◌, if◌then◌else◌, nat_lt, Bool, true, false, not, List, [], ◌∷◌, ◌++◌, length, Option, None, Some, length-append}
 use Rattle.std.specs.Str.{bytes_eq}
-use Rattle.std.proofs.lemmas.Bool.{eqb-true, eq-eqb}
+use Rattle.std.proofs.lemmas.Bool.{and_parts, eqb-true, eq-eqb}
 use Rattle.std.proofs.lemmas.Bool.Decides.{nat_tests}
 use Rattle.std.proofs.lemmas.Option.{none-some, same_Some}
 use Rattle.std.proofs.lemmas.Slice.Eq.{bytes_eq-Decides}
@@ -15,6 +15,7 @@ use Rattle.bac_apdu.specs.Route.{IsRoute}
 use Rattle.bac_apdu.specs.declared.service.extent.Extent.{Extent}
 use Rattle.bac_apdu.proofs.Grammar.{bind_some, chosen_some}
 use Rattle.bac_apdu.proofs.Heads.{frame_again, header_again}
+use Rattle.bac_apdu.proofs.Shorts.{length-frame}
 use Rattle.bac_link.specs.Datagrams.{carried_in, message_in, unicast_in}
 use Rattle.bac_link.specs.Links.{IsQuestion, question}
 use Rattle.bac_link.specs.Path.{Path, back, path_of, same_place, towards}
@@ -25,10 +26,6 @@ use Rattle.bac_direct.specs.Routing.{handed, handed_on, is_for, whole}
 
 -- ---- tests
 
-both : (a b : Bool) → (a && b) ≡ true → (a ≡ true) × (b ≡ true)
-both true b e = (refl, e)
-both false b e = absurd cc
-
 none_there : (place : Option Place) → not (is_there place) ≡ true → place ≡ None
 none_there None e = refl
 none_there (Some place) e = absurd cc
@@ -36,7 +33,7 @@ none_there (Some place) e = absurd cc
 same_is : (place : Option Place) (far : Place) → same_place place (Some far) ≡ true → place ≡ Some far
 same_is None far e = absurd cc
 same_is (Some place) far e =
-    let parts = both (place.net == far.net) (bytes_eq place.address far.address) e in
+    let parts = and_parts (place.net == far.net) (bytes_eq place.address far.address) e in
     let net : place.net ≡ far.net = eqb-true place.net far.net parts.0 in
     let address : place.address ≡ far.address = (bytes_eq-Decides place.address far.address).0 parts.1 in
     ap (λ n. (let p : Place = record { net = n; address = place.address } in Some p)) net ∙ ap (λ a. (let p : Place = record { net = far.net; address = a } in Some p)) address
@@ -78,7 +75,7 @@ question_handed far near path id extent invoke octets inner near_is asks e =
     let own : List ℕ = request_octets (back (towards (Some near))) invoke (question id extent) in
     elim (chosen_some (is_for far (asking path)) (whole own) None inner (sym (request_handed far near path id extent invoke octets asks) ∙ e)) [
       | inl on ↦
-          let tests = both (same_place path.dest (Some far)) (not (is_there path.source)) on.0 in
+          let tests = and_parts (same_place path.dest (Some far)) (not (is_there path.source)) on.0 in
           let dest : path.dest ≡ Some far = same_is path.dest far tests.0 in
           let source : path.source ≡ None = none_there path.source tests.1 in
           let is : inner ≡ own = (whole_is own inner on.1).0 in (
@@ -164,10 +161,6 @@ length-handed far h far_is =
       length-append (place_octets None) (place_octets (Some far) ++ hops_octets None 0),
       length-append (place_octets (Some far)) (hops_octets None 0),
     )
-
-length-frame : (body : List ℕ) → length (frame_octets body) ≡ 4 + length body
-unfolding frame_octets
-length-frame body = omega arith
 
 -- what comes back has the same APDU, and is from the far place
 pub reply_back : (far near : Place) (reply datagram : List ℕ) (m : Apdu) → IsRoute far → message_in reply ≡ Some (towards (Some near), m) → handed_on near far reply ≡ Some datagram →

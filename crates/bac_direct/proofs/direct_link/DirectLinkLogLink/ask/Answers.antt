@@ -1,10 +1,6 @@
 use Rattle.std.proofs.Common.{Ok, Err, sym}
-use Rattle.bac_link.specs.declared.link.Lost.{Lost}
-use Rattle.bac_direct.proofs.Asks.{asked, lacked, never_lost, nothing_changes}
+use Rattle.bac_direct.proofs.Asks.{asked, lacked, lost, never_lost, nothing_changes}
 use Rattle.bac_direct.proofs.direct_link.DirectLinkLogLink.ask.Goals as goal
-
-lost : Lost
-lost = record {}
 
 pub returns-in-Some-clause-honest : goal.returns-in-Some-clause-honest
 returns-in-Some-clause-honest c = λ id r M H extent path invoke ahead asks.

@@ -5,10 +5,10 @@ use Rattle.bac_link.specs.Delivery.{now}
 use Rattle.bac_link.specs.Links.{IsQuestion, IsReply, IsUnknown, reply_parameters}
 use Rattle.bac_link.specs.Moments.{log_at}
 use Rattle.bac_link.specs.Path.{Path, back, towards}
-use Rattle.bac_link.specs.declared.link.Lost.{Lost}
 use Rattle.bac_direct.specs.Routing.{handed_on, PassesOn}
 use Rattle.bac_direct.proofs.Routing.{fits_back, question_handed, reply_back}
 use Rattle.bac_direct.proofs.Fitting.{reply_small}
+use Rattle.bac_direct.proofs.Asks.{lost}
 use Rattle.bac_direct.proofs.routed_link.RoutedLink.pass.Goals as goal
 
 pub returns-in-Err-clause-honest : goal.returns-in-Err-clause-honest
@@ -68,9 +68,6 @@ returns-in-None-clause-lacking g c = λ id extent path invoke h asks.
     let q = question_handed far near path id extent invoke c.args.request.now c.in-Some.inner c.in-Some.ensures.source asks (sym c.in-Some.ensures.handed) in
     let is = subst (λ (o : List ℕ). IsQuestion id extent (back (towards (Some near))) invoke o) (sym c.octets.ensures.value) q.0 in
     (tt, (c.in-Ok.ensures.lacking id extent (back (towards (Some near))) invoke h is).1)
-
-lost : Lost
-lost = record {}
 
 pub returns-in-Err-clause-passes : goal.returns-in-Err-clause-passes
 returns-in-Err-clause-passes g c =
