@@ -1,0 +1,41 @@
+//! How a run over a log ended.
+
+ghost use Rattle.std.specs.Prelude.{◌≡◌};
+ghost use Rattle.bac_keeper.specs.Status.{walk_status};
+
+use crate::fault::{Fault, FileFault};
+use bac_walk::{WalkFault, Why};
+
+/// What was kept of a log, and why its walk ended.
+#[derive(Clone, Copy)]
+pub(crate) struct End {
+    pub records: u64,
+    pub gaps: u64,
+    pub why: Why,
+    /// The number that comes next.
+    pub next: u32,
+    /// The device began anew, and a new epoch with it.
+    pub anew: bool,
+}
+
+/// Why a log isn't kept.
+#[derive(Clone, Copy)]
+pub(crate) enum NotDone {
+    /// As a tool that asks one device.
+    Asking(Fault),
+    /// The file is no use.
+    File(FileFault),
+}
+
+/// The exit status of a walk that ended so.
+pub(crate) fn walk_status(why: Why) -> u8
+    ensures { result ≡ walk_status why }
+{
+    match why {
+        Why::CaughtUp | Why::StepLimit => 0,
+        Why::Fault(WalkFault::Lost) => 2,
+        Why::Fault(WalkFault::Refused(_)) => 3,
+        Why::Fault(WalkFault::BadReply) => 4,
+        Why::Memory => 5,
+    }
+}

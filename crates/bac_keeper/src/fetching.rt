@@ -1,0 +1,215 @@
+//! The records of one log are fetched and kept.
+
+ghost use Rattle.std.specs.Prelude.{◌≡◌, ◌+◌, true, false, IfOk, IfErr, Ok};
+ghost use Rattle.bac_walk.specs.Place.{walk_from_oldest};
+ghost use Rattle.bac_keeper.specs.Starts.{IsStart};
+
+use crate::end::{End, NotDone};
+use crate::fault::{Fault, FileFault};
+use crate::log_words::Asking;
+use bac_apdu::Route;
+use bac_apdu::object_type::TREND_LOG;
+use bac_archive::{NewestItem, newest};
+use bac_keep::{KeptRun, LastRecord, NotKept, Place, Refusal, Resume, keep_log, resume_from};
+use bac_link::{LogLink, Transactions};
+use bac_ports::{Sockets, UdpLink};
+use bac_walk::{Walk, Why};
+use bac_wire::ObjectId;
+use bac_words::{Asked, Word};
+use sqlite::{Alter, Connection};
+use std::alloc::Global;
+
+/// Any address of this machine, and any free port.
+const ANY: [u8; 6] = [0; 6];
+
+fn transactions_by(retries: u8, route: Option<Route>) -> Transactions {
+    match route {
+        Some(route) => Transactions::through(retries, route),
+        None => Transactions::new(retries),
+    }
+}
+
+/// A link to the device that is asked, and transactions with it.
+pub(crate) fn connect<S: Sockets>(
+    sockets: &mut S,
+    asked: Asked,
+) -> Result<(UdpLink<S::Socket>, Transactions), NotDone> {
+    let Asked {
+        address,
+        local,
+        timeout,
+        retries,
+        route,
+    } = asked;
+    match sockets.open(local.unwrap_or(ANY), timeout) {
+        Ok(port) => Ok((UdpLink::new(port, address), transactions_by(retries, route))),
+        Err(_) => Err(NotDone::Asking(Fault::Socket)),
+    }
+}
+
+/// Where the rows of a run begin.
+#[derive(Drop)]
+pub(crate) struct Start {
+    pub place: Place,
+    pub walk: Walk,
+    /// The first number that may be kept.
+    pub free: u64,
+    /// The device began anew.
+    pub anew: bool,
+}
+
+fn place_of(log: u16, epoch: u16) -> Result<Place, NotDone>
+    ensures { IfOk result (λ place. (place.log ≡ log) × (place.epoch ≡ epoch)) }
+{
+    match Place::new(log, epoch) {
+        Some(place) => Ok(place),
+        None => Err(NotDone::File(FileFault::Epochs)),
+    }
+}
+
+/// At the oldest record of a log of which nothing is kept.
+fn first_start(id: u16, log: ObjectId) -> Result<Start, NotDone>
+    ensures { IfOk result (λ start. (start.place.log ≡ id) × (start.place.epoch ≡ 0) × (start.walk ≡ walk_from_oldest log) × (start.free ≡ 0) × (start.anew ≡ false)) }
+{
+    let place = place_of(id, 0)?;
+    match Walk::oldest(log) {
+        Some(walk) => Ok(Start {
+            place,
+            walk,
+            free: 0,
+            anew: false,
+        }),
+        None => Err(NotDone::Asking(Fault::BadValue(Word::Instance))),
+    }
+}
+
+/// A record of a row, by its texts. A gap has none, and no record is the same.
+fn record_of(last: &NewestItem) -> LastRecord<'_> {
+    LastRecord {
+        number: last.number,
+        stamp: octets_of(&last.stamp),
+        datum: octets_of(&last.datum),
+    }
+}
+
+fn octets_of(text: &Option<String>) -> &[u8] {
+    match text {
+        Some(text) => text.as_bytes(),
+        None => b"".as_slice(),
+    }
+}
+
+/// Where the rows of a run begin that goes on behind the newest item, or in a new epoch; or why the
+/// device didn't say which.
+fn start_of(id: u16, last: &NewestItem, told: Resume) -> Result<Result<Start, End>, NotDone>
+    ensures { IfOk result (IsStart id last.now told) }
+{
+    match told {
+        Resume::GoOn(walk) => Ok(Ok(Start {
+            place: place_of(id, last.epoch)?,
+            walk,
+            free: u64::from(last.number) + 1,
+            anew: false,
+        })),
+        Resume::BeganAnew(walk) => Ok(Ok(Start {
+            place: place_of(id, last.epoch.saturating_add(1))?,
+            walk,
+            free: 0,
+            anew: true,
+        })),
+        Resume::Fault(fault) => Ok(Err(End {
+            records: 0,
+            gaps: 0,
+            why: Why::Fault(fault),
+            next: last.number.saturating_add(1),
+            anew: false,
+        })),
+    }
+}
+
+/// Where a log goes on: behind its newest item, or at the oldest record if it has none or the
+/// device began anew; or why the device didn't say which.
+fn where_to_start<L: LogLink, A: Alter>(
+    alloc: Global,
+    link: &mut L,
+    transactions: &mut Transactions,
+    conn: &mut Connection<A>,
+    id: u16,
+    log: ObjectId,
+) -> Result<Result<Start, End>, NotDone>
+    requires { log.kind ≡ 20 }
+{
+    let last = match newest(conn, id) {
+        Ok(Some(last)) => last,
+        Ok(None) => return Ok(Ok(first_start(id, log)?)),
+        Err(error) => return Err(NotDone::File(FileFault::of(error))),
+    };
+    match resume_from(alloc, link, transactions, log, record_of(&last)) {
+        Ok(told) => start_of(id, &last, told),
+        Err(_) => Err(NotDone::Asking(Fault::Memory)),
+    }
+}
+
+fn of_not_kept(fault: NotKept) -> NotDone {
+    match fault {
+        NotKept::NoArchive => NotDone::File(FileFault::Foreign),
+        NotKept::Refused(Refusal::Memory) => NotDone::Asking(Fault::Memory),
+        NotKept::Refused(Refusal::Round) => NotDone::File(FileFault::Round),
+        NotKept::Database(error) => NotDone::File(FileFault::of(error)),
+    }
+}
+
+/// What a run over a log kept, and why it ended.
+fn end_of(run: KeptRun, anew: bool) -> Result<End, NotDone>
+    ensures { IfOk result (λ end. (run.end ≡ Ok end.why) × (end.records ≡ run.records) × (end.gaps ≡ run.gaps) × (end.next ≡ run.next) × (end.anew ≡ anew)) }
+{
+    match run.end {
+        Ok(why) => Ok(End {
+            records: run.records,
+            gaps: run.gaps,
+            why,
+            next: run.next,
+            anew,
+        }),
+        Err(fault) => Err(of_not_kept(fault)),
+    }
+}
+
+/// Asks a device for what is new of its log, and keeps it.
+pub(crate) fn fetch<S: Sockets, A: Alter>(
+    alloc: Global,
+    sockets: &mut S,
+    conn: &mut Connection<A>,
+    id: u16,
+    asking: Asking,
+) -> Result<End, NotDone> {
+    let Asking {
+        asked,
+        instance,
+        steps,
+    } = asking;
+    let Some(log) = ObjectId::new(TREND_LOG, instance) else {
+        return Err(NotDone::Asking(Fault::BadValue(Word::Instance)));
+    };
+    let (mut link, mut transactions) = connect(sockets, asked)?;
+    let Start {
+        place,
+        walk,
+        free,
+        anew,
+    } = match where_to_start(alloc, &mut link, &mut transactions, conn, id, log)? {
+        Ok(start) => start,
+        Err(end) => return Ok(end),
+    };
+    let run = keep_log(
+        alloc,
+        &mut link,
+        &mut transactions,
+        walk,
+        conn,
+        place,
+        free,
+        steps,
+    );
+    end_of(run, anew)
+}

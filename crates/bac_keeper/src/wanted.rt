@@ -1,0 +1,144 @@
+//! The logs that are to be fetched, and where they are.
+
+use crate::end::NotDone;
+use crate::fault::{Fault, FileFault};
+use crate::job::Options;
+use crate::log_words::{Asking, ask_as_log};
+use bac_archive::{Log, Source};
+use bac_print::{push_address, push_hex, push_number};
+use bac_words::{Asked, Word, WordsFault};
+use std::alloc::{AllocError, Global};
+
+/// A log that is to be fetched.
+#[derive(Drop)]
+pub(crate) struct Wanted {
+    pub source: Source,
+    /// Its Object_Name, where it was asked for.
+    pub name: Option<String>,
+    pub asking: Asking,
+}
+
+/// A fault of words.
+pub(crate) fn of_words(fault: WordsFault) -> NotDone {
+    match fault {
+        WordsFault::BadValue(word) => NotDone::Asking(Fault::BadValue(word)),
+        WordsFault::Usage(_) => NotDone::Asking(Fault::BadValue(Word::Tool)),
+        WordsFault::Memory => NotDone::Asking(Fault::Memory),
+    }
+}
+
+fn text_of(octets: Vec<u8>) -> Result<String, AllocError> {
+    match String::from_utf8(octets) {
+        Ok(text) => Ok(text),
+        Err(_) => Err(AllocError),
+    }
+}
+
+/// Where a log is that is asked for.
+pub(crate) fn source_of(alloc: Global, asked: &Asked, instance: u32) -> Result<Source, AllocError> {
+    let mut address = Vec::new(alloc);
+    push_address(&mut address, asked.address)?;
+    let mut dadr = Vec::new(alloc);
+    let mut dnet = 0;
+    if let Some(route) = &asked.route {
+        let far = route.far();
+        dnet = far.net;
+        push_hex(&mut dadr, far.address)?;
+    }
+    Ok(Source {
+        address: text_of(address)?,
+        dnet,
+        dadr: text_of(dadr)?,
+        instance,
+    })
+}
+
+/// The log that words name.
+pub(crate) fn named(
+    alloc: Global,
+    address: &str,
+    instance: &str,
+    options: &Options<'_>,
+) -> Result<Wanted, NotDone> {
+    let asking = match ask_as_log(alloc, address, instance, options) {
+        Ok(asking) => asking,
+        Err(fault) => return Err(of_words(fault)),
+    };
+    match source_of(alloc, &asking.asked, asking.instance) {
+        Ok(source) => Ok(Wanted {
+            source,
+            name: None,
+            asking,
+        }),
+        Err(_) => Err(NotDone::Asking(Fault::Memory)),
+    }
+}
+
+/// The logs of one device that words name.
+pub(crate) fn named_all(
+    alloc: Global,
+    address: &str,
+    instances: &[&str],
+    options: &Options<'_>,
+) -> Result<Vec<Wanted>, NotDone> {
+    let mut all = Vec::new(alloc);
+    for instance in instances {
+        let wanted = named(alloc, address, instance, options)?;
+        if all.push(wanted).is_err() {
+            return Err(NotDone::Asking(Fault::Memory));
+        }
+    }
+    Ok(all)
+}
+
+/// A number in decimal digits.
+pub(crate) fn digits(alloc: Global, n: u32) -> Result<String, AllocError> {
+    let mut text = Vec::new(alloc);
+    push_number(&mut text, u64::from(n))?;
+    text_of(text)
+}
+
+/// How the log of a source is asked for.
+fn asking_at(alloc: Global, source: &Source, options: &Options<'_>) -> Result<Asking, WordsFault> {
+    let instance = digits(alloc, source.instance)?;
+    if source.dnet == 0 {
+        return ask_as_log(alloc, &source.address, &instance, options);
+    }
+    let dnet = digits(alloc, u32::from(source.dnet))?;
+    let by_router = Options {
+        steps: options.steps,
+        timeout: options.timeout,
+        local: options.local,
+        retries: options.retries,
+        dnet: Some(dnet.as_str()),
+        dadr: Some(source.dadr.as_str()),
+    };
+    ask_as_log(alloc, &source.address, &instance, &by_router)
+}
+
+/// How a log of an archive is asked for.
+pub(crate) fn kept_log(alloc: Global, log: Log, options: &Options<'_>) -> Result<Wanted, NotDone> {
+    let source = log.source;
+    match asking_at(alloc, &source, options) {
+        Ok(asking) => Ok(Wanted {
+            source,
+            name: None,
+            asking,
+        }),
+        Err(fault) => match fault {
+            WordsFault::Memory => Err(NotDone::Asking(Fault::Memory)),
+            _other => Err(NotDone::File(FileFault::Address)),
+        },
+    }
+}
+
+/// The options of `bac keep FILE`: no way to a device is among them.
+pub(crate) fn check_options(alloc: Global, options: &Options<'_>) -> Result<(), NotDone> {
+    if options.dnet.is_some() || options.dadr.is_some() {
+        return Err(NotDone::Asking(Fault::BadValue(Word::Address)));
+    }
+    match ask_as_log(alloc, "0.0.0.0", "0", options) {
+        Ok(_) => Ok(()),
+        Err(fault) => Err(of_words(fault)),
+    }
+}
