@@ -1,7 +1,8 @@
-//! The program `bac`: its words, its standard streams, the machine's sockets and its clock. What
-//! it does with them is in the crate bac_tools.
+//! The program `bac`: its words, its standard streams, the machine's sockets, its files and its
+//! clock. What it does with them is in the crates bac_tools and, of `keep` and `kept`, bac_keeper.
 #![tactic(auto)]
 
+use bac_keeper::{Fault as KeepFault, is_keeping, run_keep};
 use bac_tools::{Fault, SystemClock, UdpSockets, UntilRefused, run, tell};
 use std::env::Args;
 use std::io::{BufWriter, ErrorKind};
@@ -25,6 +26,17 @@ fn words_of(rt: &HostRuntime) -> Result<Vec<String>, Fault> {
     Ok(list)
 }
 
+/// A fault of `keep` or `kept`.
+fn of_keeping(fault: KeepFault) -> Fault {
+    match fault {
+        KeepFault::BadValue(word) => Fault::BadValue(word),
+        KeepFault::Socket => Fault::Socket,
+        KeepFault::Exchange { address, fault } => Fault::Exchange { address, fault },
+        KeepFault::Write => Fault::Write,
+        KeepFault::Memory => Fault::Memory,
+    }
+}
+
 /// Runs the program, and answers its exit status.
 fn started(rt: &HostRuntime) -> Result<u8, Fault> {
     let words = words_of(rt)?;
@@ -33,6 +45,20 @@ fn started(rt: &HostRuntime) -> Result<u8, Fault> {
     let Ok(mut output) = BufWriter::new(rt.alloc(), writer) else {
         return Err(Fault::Memory);
     };
+    if is_keeping(&words) {
+        let done = run_keep(
+            rt,
+            &mut UdpSockets::new(rt),
+            rt.alloc(),
+            &words,
+            &mut output,
+            &mut rt.stderr(),
+        );
+        return match done {
+            Ok(status) => Ok(status),
+            Err(fault) => Err(of_keeping(fault)),
+        };
+    }
     Ok(run(
         &mut UdpSockets::new(rt),
         rt.alloc(),

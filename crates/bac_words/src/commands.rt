@@ -256,6 +256,9 @@ fn top<'a>(alloc: Global) -> Command<'a>
 prints the device at that address; bac rp, bac wp and bac log then speak to it.
 bac help log, or bac log --help, tells what a tool takes, with an example.
 
+bac keep and bac kept keep trend logs in a database file, each record once:
+bac keep --help and bac kept --help tell what they take.
+
 Status: 0 done, 1 usage, a bad value or a bad script, 2 no answer, or a read,
 write or socket fault, 3 refused by the device, 4 bad reply, 5 out of memory.",
         )

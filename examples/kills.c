@@ -1,0 +1,67 @@
+// Ends the program that it is loaded into (LD_PRELOAD) at one of its calls on files, for kept.py: by
+// SIGKILL before the call numbered AT, counted from 1, of write, pwrite, fsync, fdatasync, ftruncate
+// and rename. What goes to the standard streams isn't counted. Where AT is 0, the count is written to
+// the file descriptor TOLD when the program ends.
+#define _GNU_SOURCE
+#include <dlfcn.h>
+#include <signal.h>
+#include <stdio.h>
+#include <stdlib.h>
+#include <sys/types.h>
+#include <unistd.h>
+
+static long calls;
+
+static void counts(int file) {
+    static long at = -1;
+    if (file <= 2) return;
+    if (at < 0) at = atol(getenv("AT"));
+    if (++calls == at) kill(getpid(), SIGKILL);
+}
+
+#define NEXT(name) ((__typeof__(name) *)dlsym(RTLD_NEXT, #name))
+
+ssize_t write(int file, const void *from, size_t size) {
+    counts(file);
+    return NEXT(write)(file, from, size);
+}
+
+ssize_t pwrite(int file, const void *from, size_t size, off_t at) {
+    counts(file);
+    return NEXT(pwrite)(file, from, size, at);
+}
+
+ssize_t pwrite64(int file, const void *from, size_t size, off64_t at) {
+    counts(file);
+    return NEXT(pwrite64)(file, from, size, at);
+}
+
+int fsync(int file) {
+    counts(file);
+    return NEXT(fsync)(file);
+}
+
+int fdatasync(int file) {
+    counts(file);
+    return NEXT(fdatasync)(file);
+}
+
+int ftruncate(int file, off_t size) {
+    counts(file);
+    return NEXT(ftruncate)(file, size);
+}
+
+int ftruncate64(int file, off64_t size) {
+    counts(file);
+    return NEXT(ftruncate64)(file, size);
+}
+
+int rename(const char *from, const char *to) {
+    counts(3);
+    return NEXT(rename)(from, to);
+}
+
+__attribute__((destructor)) static void told(void) {
+    const char *to = getenv("TOLD");
+    if (to) dprintf(atoi(to), "%ld\n", calls);
+}
