@@ -203,7 +203,7 @@ bac serve 127.0.0.1 < "$room/named"
 ended 'an event behind two objects of one name' 1 $'line 4: bad line\n'"$event"$'\n'
 head -n 3 "$room/named" > "$room/configuration"
 bac serve 127.0.0.1 < "$room/configuration"
-ended 'a configuration with two objects of one name' 1 $'cannot build: duplicate name\nbinary 2: its name is that of binary 1\n'
+ended 'a configuration with two objects of one name' 1 $'cannot build: duplicate name\nline 3: binary 2: its name is that of binary 1 in line 2\n'
 printf '%s\n' "$device" 'sample 1' > "$room/configuration"
 bac serve 127.0.0.1:47813 --count=0 < "$room/configuration"
 ended 'a sample in a configuration' 1 $'line 2: bad line\n'"$event"$'\n'
@@ -221,7 +221,10 @@ bac serve 127.0.0.1:47813 --count=0 < "$room/configuration"
 ended 'a blank at the end of a line' 1 $'line 2: bad line\nthe line ends with a blank\n'
 printf '%s\n' "${device/1476/49}" > "$room/configuration"
 bac serve 127.0.0.1:47813 --count=0 < "$room/configuration"
-ended 'a configuration with replies of 49 octets' 1 $'cannot build: bad reply size\ndevice 123: REPLY is a number from 50 to 1476\n'
+ended 'a configuration with replies of 49 octets' 1 $'cannot build: bad reply size\nline 1: device 123: REPLY is a number from 50 to 1476\n'
+printf '# a plant\n\n%s\r\nbinary 2 pump 0\n# twice\nbinary 2 fan 0' "$device" > "$room/configuration"
+bac serve 127.0.0.1:47813 --count=0 < "$room/configuration"
+ended 'a configuration with an object twice' 1 $'cannot build: duplicate object\nline 6: binary 2: line 4 has this type and instance\n'
 bac serve 127.0.0.1 < "$room/longer"
 ended 'a configuration of 1,048,577 octets' 1 $'script too long\n'
 bac serve 127.0.0.1 < .

@@ -47,7 +47,7 @@ mended() {
     line=$(sed -n 's/^line \([0-9]*\): bad line$/\1/p' "$room/err")
     word=$(sed -n 's/^word \([0-9]*\): .*/\1/p' "$room/err")
     ends=$(sed -n -e 's/^word [0-9]*: .*from \([0-9-]*\) to \([0-9A-Z]*\).*/\1 \2/p' \
-        -e 's/^word [0-9]*: \([0-9]*\) or \([0-9]*\)$/\1 \2/p' "$room/err")
+        -e 's/^word [0-9]*: \([0-9]*\) or \([0-9]*\)\(, of .*\)*$/\1 \2/p' "$room/err")
     for end in $ends; do
         # The states of a line are its own number.
         [ "$end" != STATES ] || continue
@@ -116,6 +116,9 @@ while IFS= read -r row; do
     read -ra words <<< "$words"
     case $word in
         'usage '*) told_usage "${word#usage }" "${words[@]}" ;;
+        'long '*)
+            word=${word#long }
+            told $'bad value\n'"$word: ${ranges[$word]}, of at most 10 digits" "${words[@]}" ;;
         *) told $'bad value\n'"$word: ${ranges[$word]}" "${words[@]}" "${value[@]}" ;;
     esac
 done < words.rows

@@ -7,6 +7,7 @@ use Rattle.bac_objects.specs.declared.lines.DeviceLine.{DeviceLine}
 use Rattle.bac_objects.specs.declared.lines.ObjectLine.{ObjectLine}
 use Rattle.bac_script.specs.Script.Line.{ScriptLine, Device, Object, is_silent, line_in}
 use Rattle.bac_script.specs.declared.configuration.Configuration.{Configuration}
+use Rattle.bac_script.specs.declared.configuration.ConfigurationText.{ConfigurationText}
 use Rattle.bac_script.specs.declared.replay.fault.LineFault as line
 use Rattle.bac_script.specs.declared.replay.fault.LineFault.{LineFault}
 use Rattle.bac_script.specs.declared.replay.fault.ReplayFault.{ReplayFault}
@@ -85,3 +86,8 @@ IsConfigured limit script left other = (length script ≤ limit) × Describes (p
 abbrev pub Configures : ℕ → Option (List ℕ) → Option (List ℕ) → Result (Option Configuration) ReplayFault → Type 0
 Configures limit None left result = Unit {0}
 Configures limit (Some script) left result = IsConfigured limit script left result
+
+-- the same answer without the text
+abbrev pub without_text : Result ConfigurationText ReplayFault → Result (Option Configuration) ReplayFault
+without_text (Ok read) = Ok read.configuration
+without_text (Err fault) = Err fault

@@ -1,9 +1,9 @@
 //! A configuration: the lines of a script that describe a device, without an event.
 
-ghost use Rattle.std.specs.Prelude.{◌≡◌, ◌+◌, ◌<◌, ◌≤◌, length, take, None, OnErr, OnOk, IfErr, IfSome};
+ghost use Rattle.std.specs.Prelude.{◌≡◌, ◌+◌, ◌<◌, ◌≤◌, length, take, None, OnErr, OnOk, IfErr, IfOk, IfSome};
 ghost use Rattle.std.specs.Io.KnownBytes.{Consumes, IsAtEnd};
 ghost use Rattle.std.specs.Str.Lines.{lines};
-ghost use Rattle.bac_script.specs.Configuration.{AddsLine, Configures, Describes, IsAdded, kept_plan, plan_of, with_line, with_text};
+ghost use Rattle.bac_script.specs.Configuration.{AddsLine, Configures, Describes, IsAdded, kept_plan, plan_of, with_line, with_text, without_text};
 ghost use Rattle.bac_script.specs.Reason.{IsExplainedThere, described, without_reason};
 ghost use Rattle.bac_script.specs.Input.{ConsumesUpTo};
 ghost use Rattle.bac_script.specs.Script.Line.{Device, Object};
@@ -23,6 +23,15 @@ use std::io::Read;
 pub struct Configuration {
     pub device: DeviceLine,
     pub objects: Vec<ObjectLine>,
+}
+
+/// What a text describes, and the text itself.
+#[derive(Debug, Drop)]
+pub struct ConfigurationText {
+    /// `None` if no line describes a device.
+    pub configuration: Option<Configuration>,
+    /// All that was read.
+    pub text: Vec<u8>,
 }
 
 /// Adds the device.
@@ -181,14 +190,15 @@ fn configuration_within<R: Read>(
     }
 }
 
-/// The same; a fault comes with what is to mend.
+/// The same, with the text; a fault comes with what is to mend.
 fn explained_within<R: Read>(
     alloc: Global,
     limit: usize,
     reader: &mut R,
-) -> Result<Option<Configuration>, Refused>
+) -> Result<ConfigurationText, Refused>
     requires { limit ≤ LIMIT }
-    ensures configures { Configures limit (R.remaining reader.old) (R.remaining reader.new) (without_reason result) }
+    ensures configures { Configures limit (R.remaining reader.old) (R.remaining reader.new) (without_text (without_reason result)) }
+    ensures text { IfOk result (λ read. IfSome (R.remaining reader.old) (λ script. read.text.items ≡ script)) }
     ensures explained { IfErr result (IsExplainedThere (R.remaining reader.old) (R.remaining reader.new)) }
     ensures read { ConsumesUpTo (limit + 1) (R.remaining reader.old) (R.remaining reader.new) }
     ensures whole { OnOk result (IsAtEnd (R.remaining reader.new)) }
@@ -201,18 +211,25 @@ fn explained_within<R: Read>(
     };
     let (filled, read) = configuration_in(alloc, limit, &mut buffer, reader);
     match read {
-        Ok(configuration) => Ok(configuration),
+        Ok(configuration) => {
+            buffer.truncate(filled);
+            Ok(ConfigurationText {
+                configuration,
+                text: buffer,
+            })
+        }
         Err(fault) => Err(Refused::of_configuration(&buffer[..filled], fault)),
     }
 }
 
-/// Reads a configuration as [`read_configuration`] does; a fault comes with what is wrong with a
-/// bad line.
+/// Reads a configuration as [`read_configuration`] does, and keeps its text, in which lines can be
+/// found; a fault comes with what is wrong with a bad line.
 pub fn read_configuration_explained<R: Read>(
     alloc: Global,
     reader: &mut R,
-) -> Result<Option<Configuration>, Refused>
-    ensures configures { Configures LIMIT (R.remaining reader.old) (R.remaining reader.new) (without_reason result) }
+) -> Result<ConfigurationText, Refused>
+    ensures configures { Configures LIMIT (R.remaining reader.old) (R.remaining reader.new) (without_text (without_reason result)) }
+    ensures text { IfOk result (λ read. IfSome (R.remaining reader.old) (λ script. read.text.items ≡ script)) }
     ensures explained { IfErr result (IsExplainedThere (R.remaining reader.old) (R.remaining reader.new)) }
     ensures read { ConsumesUpTo (LIMIT + 1) (R.remaining reader.old) (R.remaining reader.new) }
     ensures whole { OnOk result (IsAtEnd (R.remaining reader.new)) }

@@ -16,9 +16,12 @@ mod laws;
 mod replay;
 mod script;
 
-pub use configuration::{Configuration, read_configuration, read_configuration_explained};
+pub use configuration::{
+    Configuration, ConfigurationText, read_configuration, read_configuration_explained,
+};
 pub use laws::{lines_in_the_wrong_place_are_lines, texts_are_joined};
 pub use replay::fault::{Reason, Refused, ReplayFault, UnfitLine};
 pub use replay::input::{Ending, fill};
+pub use replay::mending::unfit_line;
 pub use replay::{LIMIT, run_replay, run_replay_explained};
 pub use script::flaw::{Flaw, LineKind, Wanted};

@@ -14,7 +14,7 @@ ghost use Rattle.bac_script.specs.Stops.{LineStops, Stops, ScriptStops};
 
 pub(crate) mod fault;
 pub(crate) mod input;
-mod mending;
+pub(crate) mod mending;
 mod session;
 mod walk;
 

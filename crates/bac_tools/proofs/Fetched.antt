@@ -1,5 +1,5 @@
 -- What `fetch_log` says of the run that it fetched.
-use Rattle.std.proofs.Common.{◌≡◌, ℕ, ◌+◌, ◌*◌, ◌≤◌, ◌⊎◌, List, length, Result, Ok, Err, inl, inr}
+use Rattle.std.proofs.Common.{ℕ, List, Ok, Err, inl, inr}
 use Rattle.bac_link.specs.Delivery.{History, Moment}
 use Rattle.bac_link.specs.Path.{towards}
 use Rattle.bac_link.specs.declared.item.Item.{Item}
@@ -12,7 +12,6 @@ use Rattle.bac_tools.specs.Sockets.{SocketRules, socket_asks}
 use Rattle.bac_walk.specs.Place.{WalkPlace}
 use Rattle.bac_walk.specs.Told.{Told}
 use Rattle.bac_walk.specs.declared.outcome.Ended.{Ended}
-use Rattle.bac_walk.specs.declared.outcome.Why.{Why}
 use Rattle.bac_words.specs.declared.job.Asked.{Asked}
 
 -- what is printed, and how the run ended, in one

@@ -1,12 +1,16 @@
 -- A text of which a front part was written, the word that is wrong, and a server that isn't up.
-use Rattle.std.proofs.Common.{◌≡◌, ℕ, List, [], ◌++◌, ◌⊎◌, inl, inr, Option, Result, Ok, Err, OnOk, OnErr, if◌then◌else◌, sym, ap, append-nil, append_assoc, ◌∙◌}
+use Rattle.std.proofs.Common.{◌≡◌, ℕ, List, [], ◌++◌, ◌⊎◌, inl, inr, Option, None, Some, Result, Ok, Err, OnOk, OnErr, IfSome, if◌then◌else◌, subst, sym, ap, append-nil, append_assoc, ◌∙◌}
 use Rattle.std.specs.Result.{is_ok}
 use Rattle.std.specs.Io.KnownBytes.{Appends}
-use Rattle.bac_print.specs.Output.{AppendsPart}
+use Rattle.std.specs.Str.Lines.{lines}
+use Rattle.bac_print.specs.Output.{AppendsPart, Held}
 use Rattle.bac_objects.specs.State.{State}
+use Rattle.bac_objects.specs.declared.lines.DeviceLine.{DeviceLine}
+use Rattle.bac_objects.specs.declared.lines.ObjectLine.{ObjectLine}
 use Rattle.bac_ports.specs.declared.port.SocketFault.{SocketFault}
 use Rattle.bac_tools.specs.Ending.{Ending}
-use Rattle.bac_tools.specs.Serving.{IsServed}
+use Rattle.bac_script.specs.Reason.{AreNumbers}
+use Rattle.bac_tools.specs.Serving.{IsServed, IsUnbuilt}
 use Rattle.bac_tools.specs.Sockets.{SocketRules}
 use Rattle.bac_tools.specs.Streams.{Streams}
 use Rattle.bac_tools.specs.declared.fault.Fault.{Fault}
@@ -54,3 +58,11 @@ unserved rules tells address wait count device old new result fault said errors 
     inl (said ∙ ap Err p, ((errors, clock), sockets))
 unserved rules tells address wait count device old new result fault said errors clock (inr (p, (why, opens))) =
     inr (Err why, opens, (said ∙ ap Err p, (errors, clock)))
+
+-- lines that make no device are told by their numbers in the input, if its text was kept
+pub placed : (input : Held) (text : List ℕ) (device : DeviceLine) (objects : List ObjectLine) (fault : Fault) → IfSome input (λ script. text ≡ script)
+    → IsUnbuilt (Some text) device objects fault → IsUnbuilt input device objects fault
+placed input text device objects fault kept (inl memory) = inl memory
+placed None text device objects fault kept (inr (unfit, first, same, there, told)) = inr (unfit, first, same, tt, told)
+placed (Some script) text device objects fault kept (inr (unfit, first, same, there, told)) =
+    inr (unfit, first, same, subst (λ (t : List ℕ). AreNumbers (lines t) unfit) kept there, told)

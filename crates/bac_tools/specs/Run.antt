@@ -1,5 +1,5 @@
 -- What the program does with its words: its streams, its sockets and its clock, before and now. Read from the end.
-use Rattle.std.specs.Prelude.{◌≡◌, ◌≢◌, ◌≤◌, ◌⊎◌, ℕ, ◌==◌, if◌then◌else◌}
+use Rattle.std.specs.Prelude.{◌≡◌, ◌≤◌, ◌⊎◌, ℕ, ◌==◌, if◌then◌else◌}
 use Rattle.std.specs.Prelude.{List, [], Option, Some, None, Ok, Err}
 use Rattle.std.specs.Io.KnownBytes.{Appends, Keeps}
 use Rattle.clap.specs.Words.{Text, IsAmong}
@@ -21,11 +21,11 @@ use Rattle.bac_tools.specs.Status.{exit_status}
 use Rattle.bac_tools.specs.Streams.{Streams, IsIdle, IsQuiet, IsUntouched, outside_of, with_errors}
 use Rattle.bac_tools.specs.Texts.{told_text}
 use Rattle.bac_tools.specs.declared.fault.Fault.{Fault}
-use Rattle.bac_tools.specs.declared.fault.Fault.TheVariants.{BadValue, Memory, Write}
+use Rattle.bac_tools.specs.declared.fault.Fault.TheVariants.{BadValue, LongNumber, Memory, Write}
 use Rattle.bac_walk.specs.Place.{WalkPlace, walk_at, walk_from_oldest}
 use Rattle.bac_wire.specs.Primitive.{Id}
 use Rattle.bac_wire.specs.Stamp.{CivilTime}
-use Rattle.bac_words.specs.Outcome.{mistakes_of, job_in}
+use Rattle.bac_words.specs.Outcome.{mistakes_of, is_long_in, job_in}
 use Rattle.bac_words.specs.declared.job.Given.{Given}
 use Rattle.bac_words.specs.declared.job.Job.{Job}
 use Rattle.bac_words.specs.declared.job.Job.TheVariants as job
@@ -139,6 +139,10 @@ AskFor words asked = (mistakes_of words ≡ []) × (job_in words ≡ Ok asked)
 -- words of which this one has a value that it can't have
 abbrev pub AreWrong : List Text → Word → Type 0
 AreWrong words word = (mistakes_of words ≡ []) × (job_in words ≡ Err word)
+
+-- what is told of it: that its number has too many digits, or its value is another
+abbrev pub wrong_fault : List Text → Word → Fault
+wrong_fault words word = if is_long_in words word then LongNumber word else BadValue word
 
 -- ---- help, the version and mistakes, whose texts are clap's
 

@@ -1,16 +1,16 @@
 -- What `bac serve` does. Read from the end.
-use Rattle.std.specs.Prelude.{◌≡◌, ◌⊎◌, ℕ, if◌then◌else◌, List, Option, Some, None, Result, Ok, Err}
+use Rattle.std.specs.Prelude.{◌≡◌, ◌⊎◌, ℕ, if◌then◌else◌, List, Option, Some, None, Result, Ok, Err, IfSome}
 use Rattle.std.specs.List.{list_any}
+use Rattle.std.specs.Str.Lines.{lines}
 use Rattle.bac_objects.specs.Build.{build_fault, built}
 use Rattle.bac_objects.specs.Misfit.{IsMisfit}
 use Rattle.bac_objects.specs.State.{State}
-use Rattle.bac_objects.specs.declared.build.Misfit.{Misfit}
 use Rattle.bac_objects.specs.declared.lines.DeviceLine.{DeviceLine}
 use Rattle.bac_objects.specs.declared.lines.ObjectLine.{ObjectLine}
 use Rattle.bac_ports.specs.Port.{Opening}
 use Rattle.bac_print.specs.Output.{AppendsPart, Held}
 use Rattle.bac_script.specs.Configuration.{Configures}
-use Rattle.bac_script.specs.Reason.{IsExplainedThere}
+use Rattle.bac_script.specs.Reason.{AreNumbers, IsExplainedThere}
 use Rattle.bac_script.specs.declared.configuration.Configuration.{Configuration}
 use Rattle.bac_script.specs.declared.replay.fault.Reason.TheVariants.{Device}
 use Rattle.bac_script.specs.declared.replay.fault.Refused.{Refused}
@@ -36,20 +36,17 @@ IsConfigured input left (Err (Script refused)) =
     Configures 1048576 input left (Err refused.fault) × IsExplainedThere input left refused
 IsConfigured input left (Err other) = ⊥
 
--- the line, of which it isn't known where it stands
-abbrev pub unplaced : Misfit → UnfitLine
-unplaced misfit = record { misfit = misfit; number = None; rival = None }
-
 -- the refusal of a configuration with this line
-abbrev pub refused_with : Misfit → Refused
-refused_with misfit = record { fault = Build misfit.fault; reason = Some (Device (unplaced misfit)) }
+abbrev pub refused_with : UnfitLine → Refused
+refused_with unfit = record { fault = Build unfit.misfit.fault; reason = Some (Device unfit) }
 
--- the device can't be built with one of the lines, the first that has a fault; or there is no memory for it
-abbrev pub IsUnbuilt : DeviceLine → List ObjectLine → Fault → Type 0
-IsUnbuilt device lines fault =
-    ((build_fault device lines ≡ None) × (fault ≡ Memory))
-    ⊎ ((misfit : Misfit) × IsMisfit device lines misfit × (build_fault device lines ≡ Some misfit.fault)
-    × (fault ≡ Script (refused_with misfit)))
+-- The device can't be built with one of the lines, the first that has a fault, and the numbers of that line and of the
+-- one that has its type and instance, or its name, are those in the input; or there is no memory for the device.
+abbrev pub IsUnbuilt : Held → DeviceLine → List ObjectLine → Fault → Type 0
+IsUnbuilt input device objects fault =
+    ((build_fault device objects ≡ None) × (fault ≡ Memory))
+    ⊎ ((unfit : UnfitLine) × IsMisfit device objects unfit.misfit × (build_fault device objects ≡ Some unfit.misfit.fault)
+    × IfSome input (λ text. AreNumbers (lines text) unfit) × (fault ≡ Script (refused_with unfit)))
 
 -- ---- the server
 
@@ -86,6 +83,6 @@ abbrev pub Serves : {S P C : Type 0} → SocketRules S P → (C → Option Civil
 Serves rules tells address count old result new =
     ((fault : Fault) × IsConfigured old.input new.input (Err fault) × (result ≡ Err fault) × IsIdle old new)
     ⊎ ((c : Configuration) × IsConfigured old.input new.input (Ok c)
-    × (((fault : Fault) × IsUnbuilt c.device c.objects.items fault × (result ≡ Err fault) × IsIdle old new)
+    × (((fault : Fault) × IsUnbuilt old.input c.device c.objects.items fault × (result ≡ Err fault) × IsIdle old new)
     ⊎ ((build_fault c.device c.objects.items ≡ None)
     × IsServed rules tells address (wait_of c.objects.items) count (built c.device c.objects.items) old result new)))

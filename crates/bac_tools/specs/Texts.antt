@@ -11,7 +11,7 @@ use Rattle.bac_script.specs.declared.replay.fault.ReplayFault.{ReplayFault}
 use Rattle.bac_script.specs.declared.replay.fault.ReplayFault.TheVariants as script
 use Rattle.bac_tools.specs.Reasons.{list_text, second_line, unanswered_text}
 use Rattle.bac_tools.specs.declared.fault.Fault.{Fault}
-use Rattle.bac_tools.specs.declared.fault.Fault.TheVariants.{NotText, BadValue, NoDevice, Script, Socket, Refused}
+use Rattle.bac_tools.specs.declared.fault.Fault.TheVariants.{NotText, BadValue, LongNumber, NoDevice, Script, Socket, Refused}
 use Rattle.bac_tools.specs.declared.fault.Fault.TheVariants.{NoAnswer, List as ListOf, Exchange, Write, Memory}
 use Rattle.bac_words.specs.Names.{name_of, is_option}
 use Rattle.bac_words.specs.declared.word.Word.{Word}
@@ -100,10 +100,15 @@ refused_text address = of_address (codes "socket fault") (codes "nothing was sen
 unfoldable pub wrong_text : Word → List ℕ
 wrong_text w = bad_value ++ (word_text w ++ (codes ": " ++ range_text w))
 
+-- the same of a number that has too many digits
+abbrev pub long_text : Word → List ℕ
+long_text w = wrong_text w ++ codes ", of at most 10 digits"
+
 -- each fault of the program, without the last line's end
 unfoldable pub fault_text : Fault → List ℕ
 fault_text NotText = bad_value ++ codes "a word isn't UTF-8"
 fault_text (BadValue w) = wrong_text w
+fault_text (LongNumber w) = long_text w
 fault_text NoDevice = bad_value ++ codes "no device line"
 fault_text (Script refused) = refusal_lines refused
 fault_text Socket = codes "socket fault"

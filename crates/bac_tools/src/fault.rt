@@ -17,6 +17,8 @@ pub enum Fault {
     NotText,
     /// A word or an option has a value that it can't have.
     BadValue(Word),
+    /// The same of a number that has over ten digits.
+    LongNumber(Word),
     /// The configuration describes no device.
     NoDevice,
     /// A script or a configuration is wrong, or a stream refused while it was played; and what is
@@ -78,7 +80,7 @@ impl Fault {
         ensures { result ≡ exit_status self }
     {
         match self {
-            Fault::NotText | Fault::BadValue(_) | Fault::NoDevice => 1,
+            Fault::NotText | Fault::BadValue(_) | Fault::LongNumber(_) | Fault::NoDevice => 1,
             Fault::Script(refused) => script_status(refused.fault),
             Fault::Socket | Fault::Refused(_) | Fault::NoAnswer(_) | Fault::Write => 2,
             Fault::List(fault) => list_status(fault),

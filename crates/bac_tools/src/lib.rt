@@ -21,8 +21,9 @@ mod until_refused;
 
 pub use bac_ports::{Heard, Port, SocketFault, Sockets, UdpPort, UdpSockets};
 pub use bac_script::{
-    Configuration, Flaw, LIMIT, LineKind, Reason, Refused, ReplayFault, UnfitLine, Wanted,
-    read_configuration, read_configuration_explained, run_replay, run_replay_explained,
+    Configuration, ConfigurationText, Flaw, LIMIT, LineKind, Reason, Refused, ReplayFault,
+    UnfitLine, Wanted, read_configuration, read_configuration_explained, run_replay,
+    run_replay_explained, unfit_line,
 };
 pub use bac_serve::{Clock, SystemClock, serve, serve_one};
 pub use bac_words::{

@@ -5,7 +5,7 @@ ghost use Rattle.std.specs.Io.KnownBytes.{Appends};
 ghost use Rattle.std.specs.String.{string_bytes};
 ghost use Rattle.clap.specs.Values.{kind_of};
 ghost use Rattle.bac_print.specs.Output.{AppendsPart};
-ghost use Rattle.bac_tools.specs.Run.{AnswersWords, AreWrong, AskFor, Explains, IsNoWalk, IsOutside, OnlyTells, Runs, Works, priority_of, walk_from};
+ghost use Rattle.bac_tools.specs.Run.{AnswersWords, AreWrong, AskFor, Explains, IsNoWalk, IsOutside, OnlyTells, Runs, Works, priority_of, walk_from, wrong_fault};
 ghost use Rattle.bac_tools.specs.Sockets.{socket_rules};
 ghost use Rattle.bac_tools.specs.Streams.{streams};
 ghost use Rattle.bac_words.specs.Outcome.{mistakes_of};
@@ -199,7 +199,7 @@ pub fn run<S: Sockets, I: Read, O: Write, E: Write, C: Clock>(
         (streams (I.remaining input.new) (O.contents output.new) (E.contents errors.new) sockets.new clock.new) }
     // Of words with a wrong value this is told, and nothing else is done.
     ensures bad_value { (word : AnyWord) → AreWrong (map string_bytes words.now) word →
-        OnlyTells (Fault.BadValue word)
+        OnlyTells (wrong_fault (map string_bytes words.now) word)
         (streams (I.remaining input.old) (O.contents output.old) (E.contents errors.old) sockets.old clock.old) result
         (streams (I.remaining input.new) (O.contents output.new) (E.contents errors.new) sockets.new clock.new) }
     // Words that ask for help or the version have it on the output, those with a mistake on the
@@ -212,6 +212,7 @@ pub fn run<S: Sockets, I: Read, O: Write, E: Write, C: Clock>(
         Ok(job) => job,
         Err(WordsFault::Usage(error)) => return explain(alloc, &error, output, errors),
         Err(WordsFault::BadValue(word)) => return tell(alloc, Fault::BadValue(word), errors),
+        Err(WordsFault::LongNumber(word)) => return tell(alloc, Fault::LongNumber(word), errors),
         Err(WordsFault::Memory) => return tell(alloc, Fault::Memory, errors),
     };
     match work(sockets, alloc, job, input, output, errors, clock) {

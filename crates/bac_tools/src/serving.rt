@@ -1,6 +1,6 @@
 //! The tool that is a device.
 
-ghost use Rattle.std.specs.Prelude.{◌≡◌, ◌⊎◌, Ok, Err, Some, None, IfOk, IfErr};
+ghost use Rattle.std.specs.Prelude.{◌≡◌, ◌⊎◌, Ok, Err, Some, None, IfOk, IfErr, IfSome};
 ghost use Rattle.bac_objects.specs.Build.{build_fault, built as built_of};
 ghost use Rattle.bac_print.specs.Output.{AppendsPart};
 ghost use Rattle.bac_tools.specs.Serving.{IsConfigured, IsUnbuilt, Serves};
@@ -13,49 +13,57 @@ use crate::telling::{announcement, say};
 use bac_device::{Device, misfit};
 use bac_ports::{SocketFault, Sockets};
 use bac_script::{
-    Configuration, Reason, Refused, ReplayFault, UnfitLine, read_configuration_explained,
+    Configuration, ConfigurationText, Reason, Refused, ReplayFault, read_configuration_explained,
+    unfit_line,
 };
 use bac_serve::{Clock, idle_wait};
 use std::alloc::Global;
 use std::io::{Read, Write};
 
-/// Reads the configuration to its end.
-fn configured<I: Read>(alloc: Global, input: &mut I) -> Result<Configuration, Fault>
-    ensures { IsConfigured (I.remaining input.old) (I.remaining input.new) result }
+/// Reads the configuration to its end; beside it its text.
+fn configured<I: Read>(alloc: Global, input: &mut I) -> Result<(Configuration, Vec<u8>), Fault>
+    ensures ok { IfOk result (λ read. IsConfigured (I.remaining input.old) (I.remaining input.new) (Ok read.0)
+        × IfSome (I.remaining input.old) (λ script. read.1.items ≡ script)) }
+    ensures err { IfErr result (λ fault. IsConfigured (I.remaining input.old) (I.remaining input.new) (Err fault)) }
 {
     match read_configuration_explained(alloc, input) {
-        Ok(Some(configuration)) => Ok(configuration),
-        Ok(None) => Err(Fault::NoDevice),
+        Ok(read) => {
+            let ConfigurationText {
+                configuration,
+                text,
+            } = read;
+            match configuration {
+                Some(configuration) => Ok((configuration, text)),
+                None => Err(Fault::NoDevice),
+            }
+        }
         Err(refused) => Err(Fault::Script(refused)),
     }
 }
 
-/// Why lines make no device: the first line that has a fault, or that memory ran out, if none has.
-fn unfit(alloc: Global, configuration: &Configuration) -> Fault
-    ensures { IsUnbuilt configuration.now.device configuration.now.objects.items result }
+/// Why the lines of a text make no device: the first line that has a fault, or that memory ran out,
+/// if none has.
+fn unfit(alloc: Global, configuration: &Configuration, text: &[u8]) -> Fault
+    ensures { IsUnbuilt (Some text.now) configuration.now.device configuration.now.objects.items result }
 {
     match misfit(alloc, &configuration.device, &configuration.objects) {
         Some(misfit) => Fault::Script(Refused {
             fault: ReplayFault::Build(misfit.fault),
-            reason: Some(Reason::Device(UnfitLine {
-                misfit,
-                number: None,
-                rival: None,
-            })),
+            reason: Some(Reason::Device(unfit_line(text, misfit))),
         }),
         None => Fault::Memory,
     }
 }
 
-/// Builds the device.
-fn built(alloc: Global, configuration: &Configuration) -> Result<Device, Fault>
+/// Builds the device that a text describes. The text is let go.
+fn built(alloc: Global, configuration: &Configuration, text: Vec<u8>) -> Result<Device, Fault>
     ensures ok { IfOk result (λ device. (build_fault configuration.now.device configuration.now.objects.items ≡ None)
         × (device ≡ built_of configuration.now.device configuration.now.objects.items)) }
-    ensures err { IfErr result (IsUnbuilt configuration.now.device configuration.now.objects.items) }
+    ensures err { IfErr result (IsUnbuilt (Some text.items) configuration.now.device configuration.now.objects.items) }
 {
     match Device::build(alloc, &configuration.device, &configuration.objects) {
         Ok(device) => Ok(device),
-        Err(_) => Err(unfit(alloc, configuration)),
+        Err(_) => Err(unfit(alloc, configuration, &text)),
     }
 }
 
@@ -98,8 +106,9 @@ pub(crate) fn serve<S: Sockets, I: Read, E: Write, C: Clock>(
         (streams (I.remaining input.old) None (E.contents errors.old) sockets.old clock.old) result
         (streams (I.remaining input.new) None (E.contents errors.new) sockets.new clock.new) }
 {
-    let configuration = configured(alloc, input)?;
-    let mut device = built(alloc, &configuration)?;
+    let read = configured(alloc, input)?;
+    let (configuration, text) = read;
+    let mut device = built(alloc, &configuration, text)?;
     let wait = idle_wait(&configuration.objects);
     let mut port = open_socket(sockets, alloc, address, wait, errors)?;
     match bac_serve::serve(&mut port, &mut device, clock, count) {

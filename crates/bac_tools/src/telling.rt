@@ -3,7 +3,7 @@
 ghost use Rattle.std.specs.Prelude.{◌≡◌, ◌++◌, OnOk, IfOk};
 ghost use Rattle.bac_print.specs.Output.{AppendsPart};
 ghost use Rattle.bac_tools.specs.Run.{IsTold};
-ghost use Rattle.bac_tools.specs.Texts.{build_text, exchange_text, fault_text, of_address, range_text, refusal_lines, script_text, serving_line, told_text, unbuilt_text, word_text, wrong_text};
+ghost use Rattle.bac_tools.specs.Texts.{build_text, exchange_text, fault_text, long_text, of_address, range_text, refusal_lines, script_text, serving_line, told_text, unbuilt_text, word_text, wrong_text};
 
 use crate::fault::Fault;
 use crate::reason::{push_list, push_second_line, push_unanswered};
@@ -59,6 +59,14 @@ fn push_wrong(text: &mut Vec<u8>, word: Word) -> Result<(), AllocError>
     push_written(text, word)?;
     text.extend_from_slice(b": ")?;
     text.extend_from_slice(range_of(word).as_bytes())
+}
+
+/// The same of a number that has too many digits.
+fn push_long(text: &mut Vec<u8>, word: Word) -> Result<(), AllocError>
+    ensures { OnOk result (text.new.items ≡ text.old.items ++ long_text word) }
+{
+    push_wrong(text, word)?;
+    text.extend_from_slice(b", of at most 10 digits")
 }
 
 /// Why a device can't be built.
@@ -155,6 +163,7 @@ fn push_fault(text: &mut Vec<u8>, fault: Fault) -> Result<(), AllocError>
     match fault {
         Fault::NotText => text.extend_from_slice(b"bad value\na word isn't UTF-8"),
         Fault::BadValue(word) => push_wrong(text, word),
+        Fault::LongNumber(word) => push_long(text, word),
         Fault::NoDevice => text.extend_from_slice(b"bad value\nno device line"),
         Fault::Script(refused) => push_refused(text, refused),
         Fault::Socket => text.extend_from_slice(b"socket fault"),

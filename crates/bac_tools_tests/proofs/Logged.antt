@@ -24,7 +24,7 @@ use Rattle.bac_tools.specs.Sockets.{Outside, SocketRules, link_over, own_address
 use Rattle.bac_tools.specs.Status.{exchange_status, exit_status, list_status, script_status, walk_status}
 use Rattle.bac_tools.specs.Streams.{Streams}
 use Rattle.bac_tools.specs.declared.fault.Fault.{Fault}
-use Rattle.bac_tools.specs.declared.fault.Fault.TheVariants.{NotText, BadValue, NoDevice, Script, Socket, Refused}
+use Rattle.bac_tools.specs.declared.fault.Fault.TheVariants.{NotText, BadValue, LongNumber, NoDevice, Script, Socket, Refused}
 use Rattle.bac_tools.specs.declared.fault.Fault.TheVariants.{NoAnswer, List as ListOf, Exchange, Write, Memory}
 use Rattle.bac_tools_tests.proofs.AtRest.{after_one, few_batches, few_lines, leads_bring}
 use Rattle.bac_tools_tests.specs.Logging.{IsCut, IsLogged, IsLoggedAtRest, PrintsAll}
@@ -69,6 +69,7 @@ no_list list.Memory e = omega (arith, e)
 no_fault : (fault : Fault) → exit_status fault ≡ 0 → ⊥
 no_fault NotText e = omega (arith, e)
 no_fault (BadValue word) e = omega (arith, e)
+no_fault (LongNumber word) e = omega (arith, e)
 no_fault NoDevice e = omega (arith, e)
 no_fault (Script refused) e = no_script refused.fault e
 no_fault Socket e = omega (arith, e)

@@ -296,6 +296,7 @@ configured_not input left (fault.Script refused) is e = absurd (cc)
 configured_not input left fault.Socket is e = is
 configured_not input left fault.NotText is e = absurd (cc)
 configured_not input left (fault.BadValue word) is e = absurd (cc)
+configured_not input left (fault.LongNumber word) is e = absurd (cc)
 configured_not input left (fault.Refused address) is e = absurd (cc)
 configured_not input left (fault.NoAnswer asked) is e = absurd (cc)
 configured_not input left (fault.List said) is e = absurd (cc)
@@ -317,7 +318,7 @@ stays rules tells address count old new sure (inl (why, configured, is, idle), k
 stays rules tells address count old new sure (inr (c, configured, inl (why, inl unbuilt, is, idle)), keeps) =
     let e = unbuilt.1 in absurd (cc)
 stays rules tells address count old new sure (inr (c, configured, inl (why, inr unbuilt, is, idle)), keeps) =
-    let e = unbuilt.3 in absurd (cc)
+    let e = unbuilt.4 in absurd (cc)
 stays rules tells address count old new sure (inr (c, configured, inr (built, inl memory)), keeps) =
     let e = memory.0 in absurd (cc)
 stays rules tells address count old new sure (inr (c, configured, inr (built, inr (Err why, opens, closed))), keeps) =

@@ -42,3 +42,12 @@ is_option Retries = true
 is_option Dnet = true
 is_option Dadr = true
 is_option other = false
+
+-- whether its value is a number of at most ten digits
+abbrev pub is_number : Word → Bool
+is_number Tool = false
+is_number Address = false
+is_number Local = false
+is_number Value = false
+is_number Dadr = false
+is_number other = true

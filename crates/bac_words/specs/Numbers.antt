@@ -2,6 +2,7 @@
 use Rattle.std.specs.Prelude.{ℕ, ℤ, pos, ◌+◌, ◌-◌, ◌*◌, ◌^◌, ◌-ℤ◌, ◌==◌, ◌&&◌, Bool, true, false, nat_le, nat_lt}
 use Rattle.std.specs.Prelude.{if◌then◌else◌, List, [], ◌∷◌, length, Option, None, Some, option_and_then}
 use Rattle.std.specs.Char.{is_ascii_digit}
+use Rattle.std.specs.List.{list_all}
 
 -- what the digits say after those that say n
 abbrev pub value_of : ℕ → List ℕ → Option ℕ
@@ -11,6 +12,10 @@ value_of n (c ∷ cs) = if is_ascii_digit c then value_of (10 * n + (c - 48)) cs
 -- the number that 1 to `most` digits say
 abbrev pub digits_in : ℕ → List ℕ → Option ℕ
 digits_in most word = if nat_le 1 (length word) && nat_le (length word) most then value_of 0 word else None
+
+-- digits alone, and more than a number has
+abbrev pub is_long : List ℕ → Bool
+is_long word = nat_lt 10 (length word) && list_all is_ascii_digit word
 
 -- the number, if it is in range
 abbrev pub between : ℕ → ℕ → ℕ → Option ℕ

@@ -11,14 +11,19 @@ use Rattle.bac_words.specs.declared.job.Stations.{Stations}
 use Rattle.bac_words.specs.declared.job.Stations.TheVariants.{Listed, Input}
 use Rattle.bac_words.specs.declared.word.Word.{Word}
 use Rattle.bac_words.specs.declared.word.Word.TheVariants.{Address, Local, Dnet, Dadr}
-use Rattle.bac_words.specs.Names.{name_of}
-use Rattle.bac_words.specs.Numbers.{number_in}
+use Rattle.bac_words.specs.Names.{is_number, name_of}
+use Rattle.bac_words.specs.Numbers.{is_long, number_in}
 use Rattle.bac_words.specs.Addresses.{address_in}
 use Rattle.bac_words.specs.Steps.{◌>>=◌}
 
 -- what a word says, if it is there
 abbrev pub text_at : Word → List Row → Option Text
 text_at w rows = first_of (name_of w) rows
+
+-- the word of a number is digits alone, and more than a number has
+abbrev pub is_long_text : Word → Option Text → Bool
+is_long_text w None = false
+is_long_text w (Some text) = is_number w && is_long text
 
 -- a number from low to high
 abbrev pub number_at : Word → ℕ → ℕ → List Row → Result ℕ Word

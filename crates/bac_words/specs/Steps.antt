@@ -2,7 +2,7 @@
 use Rattle.std.specs.Prelude.{◌≡◌, Result, Ok, Err}
 use Rattle.bac_words.specs.declared.word.Word.{Word}
 use Rattle.bac_words.specs.declared.fault.WordsFault.{WordsFault}
-use Rattle.bac_words.specs.declared.fault.WordsFault.TheVariants.{Usage, BadValue, Memory}
+use Rattle.bac_words.specs.declared.fault.WordsFault.TheVariants.{Usage, BadValue, LongNumber, Memory}
 
 infixl 10 ◌>>=◌
 -- the next step, if this one found no wrong word
@@ -14,5 +14,6 @@ Err w >>= f = Err w
 abbrev pub Makes : {A : Type 0} → Result A Word → Result A WordsFault → Type 0
 Makes said (Ok a) = said ≡ Ok a
 Makes said (Err (BadValue w)) = said ≡ Err w
+Makes said (Err (LongNumber w)) = ⊥
 Makes said (Err Memory) = Unit {0}
 Makes said (Err (Usage e)) = ⊥

@@ -14,6 +14,8 @@ pub enum WordsFault {
     /// The first word or option, in the order of the job's fields, whose value isn't one that it
     /// can have.
     BadValue(Word),
+    /// The same of a number that has over ten digits.
+    LongNumber(Word),
     /// Out of memory.
     Memory,
 }

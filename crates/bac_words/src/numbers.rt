@@ -1,7 +1,9 @@
 //! Numbers in decimal digits.
 
+ghost use Rattle.std.specs.Char.{is_ascii_digit};
+ghost use Rattle.std.specs.List.{list_all};
 ghost use Rattle.std.specs.Prelude.{◌≡◌, ◌≤◌, length, true, false};
-ghost use Rattle.bac_words.specs.Numbers.{value_of, digits_in, number_in, unsigned_in, signed_in, with_sign};
+ghost use Rattle.bac_words.specs.Numbers.{value_of, digits_in, is_long, number_in, unsigned_in, signed_in, with_sign};
 
 /// What the digits of a word say, of which there are at most twenty.
 fn value(word: &[u8]) -> Option<u128>
@@ -27,6 +29,25 @@ fn digits_in(word: &[u8], most: usize) -> Option<u128>
         return None;
     }
     value(word)
+}
+
+/// Whether all are decimal digits.
+fn are_digits(word: &[u8]) -> bool
+    ensures { result ≡ list_all is_ascii_digit word.now }
+{
+    for c in word {
+        if !c.is_ascii_digit() {
+            return false;
+        }
+    }
+    true
+}
+
+/// Whether a word is digits alone, and more than a number has.
+pub(crate) fn is_long(word: &[u8]) -> bool
+    ensures { result ≡ is_long word.now }
+{
+    word.len() > 10 && are_digits(word)
 }
 
 /// A number of 1 to 10 digits, from `low` to `high`.

@@ -3,13 +3,13 @@
 ghost use Rattle.std.specs.Prelude.{◌≡◌, map, option_map};
 ghost use Rattle.clap.specs.Words.{rows_of, found_of};
 ghost use Rattle.bac_words.specs.Steps.{Makes};
-ghost use Rattle.bac_words.specs.Rows.{text_at, number_at, maybe_number_at, address_at, local_at, addresses_in, is_input, stations_in, stations_at};
+ghost use Rattle.bac_words.specs.Rows.{is_long_text, text_at, number_at, maybe_number_at, address_at, local_at, addresses_in, is_input, stations_in, stations_at};
 
 use crate::address::address;
 use crate::addresses::Addresses;
 use crate::fault::WordsFault;
 use crate::job::Stations;
-use crate::numbers::{number, octet, short};
+use crate::numbers::{is_long, number, octet, short};
 use crate::word::Word;
 use clap::ArgMatches;
 use std::alloc::Global;
@@ -19,6 +19,16 @@ pub(crate) fn text<'a>(matches: &ArgMatches<'a>, word: Word) -> Option<&'a str>
     ensures { option_map (λ s. s.now) result ≡ text_at word (rows_of (found_of matches.now)) }
 {
     matches.get_str(word.name())
+}
+
+/// Whether a word of a number is digits alone, and more than a number has.
+pub(crate) fn is_long_at(matches: &ArgMatches, word: Word) -> bool
+    ensures { result ≡ is_long_text word (text_at word (rows_of (found_of matches.now))) }
+{
+    match text(matches, word) {
+        Some(text) => word.is_number() && is_long(text.as_bytes()),
+        None => false,
+    }
 }
 
 pub(crate) fn number_at(matches: &ArgMatches, word: Word, low: u32, high: u32) -> Result<u32, Word>

@@ -1,7 +1,7 @@
 //! The words and options of the tools, by their names.
 
 ghost use Rattle.std.specs.Prelude.{◌≡◌};
-ghost use Rattle.bac_words.specs.Names.{is_option as is_option_of, name_of};
+ghost use Rattle.bac_words.specs.Names.{is_number as is_number_of, is_option as is_option_of, name_of};
 
 use std::fmt;
 
@@ -93,6 +93,16 @@ impl Word {
                 | Word::Retries
                 | Word::Dnet
                 | Word::Dadr
+        )
+    }
+
+    /// Its value is a number of at most ten digits.
+    pub(crate) fn is_number(self) -> bool
+        ensures { result ≡ is_number_of self }
+    {
+        !matches!(
+            self,
+            Word::Tool | Word::Address | Word::Local | Word::Value | Word::Dadr
         )
     }
 }

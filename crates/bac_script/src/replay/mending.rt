@@ -83,8 +83,8 @@ fn others_of(fault: BuildFault) -> usize
     }
 }
 
-/// Where the line with which a device can't be built stands.
-fn unbuilt(script: &[u8], misfit: Misfit) -> UnfitLine
+/// Where the line with which a device can't be built stands in the text that describes it.
+pub fn unfit_line(script: &[u8], misfit: Misfit) -> UnfitLine
     ensures misfit { result.misfit ≡ misfit }
     ensures numbers { AreNumbers (lines script.now) result }
 {
@@ -103,7 +103,7 @@ impl Refused {
         ensures reason { IsReason script.now (ReplayFault.Build fault) result.reason }
     {
         let reason = match misfit_in(alloc, script) {
-            Some(misfit) => Some(Reason::Device(unbuilt(script, misfit))),
+            Some(misfit) => Some(Reason::Device(unfit_line(script, misfit))),
             None => None,
         };
         Refused {

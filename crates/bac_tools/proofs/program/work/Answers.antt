@@ -1,4 +1,4 @@
-use Rattle.std.proofs.Common.{inl, inr, refl, rules}
+use Rattle.std.proofs.Common.{inr, refl}
 use Rattle.bac_apdu.specs.declared.service.write_property.WriteProperty.{WriteProperty}
 use Rattle.bac_tools.proofs.program.work.Goals as goal
 

@@ -2,8 +2,7 @@ use Rattle.std.proofs.Common.{map, ap, subst, sym, inl, inr, true, true≢false,
 use Rattle.std.specs.String.{string_bytes}
 use Rattle.clap.specs.Words.{is_simple, is_simple_and_free, fault_of, subcommand_of, kind_of, IsAmong}
 use Rattle.clap.specs.declared.error.kind.ErrorKind.TheVariants.{OutOfMemory}
-use Rattle.bac_words.specs.Jobs.{job_of}
-use Rattle.bac_words.specs.Steps.{Makes}
+use Rattle.bac_words.specs.Outcome.{Answers}
 use Rattle.bac_words.proofs.Answering.{is_exact, is_simple_app, answered}
 use Rattle.bac_words.proofs.read.read_words.Goals as goal
 
@@ -13,8 +12,8 @@ returns-in-Ok-clause-ok c =
     let app = c.in_ok-command.ensures.app in
     let none = sym (ap (λ a. fault_of a words) app) ∙ c.in-Ok.ensures.kinds (ap is_simple_and_free app ∙ is_exact) in
     let rows = (c.in-Ok.ensures.matches (ap is_simple app ∙ is_simple_app)).1 in
-    let makes = subst (λ x. Makes (job_of x) c.job.result) (rows ∙ ap (λ a. subcommand_of a words) app) c.job.ensures in
-    (answered words c.job.result none makes).0
+    let answers = subst (λ x. Answers x c.answer.result) (rows ∙ ap (λ a. subcommand_of a words) app) c.answer.ensures in
+    (answered words c.answer.result none answers).0
 
 pub returns-in-Ok-clause-err : goal.returns-in-Ok-clause-err
 returns-in-Ok-clause-err c =
@@ -22,8 +21,8 @@ returns-in-Ok-clause-err c =
     let app = c.in_ok-command.ensures.app in
     let none = sym (ap (λ a. fault_of a words) app) ∙ c.in-Ok.ensures.kinds (ap is_simple_and_free app ∙ is_exact) in
     let rows = (c.in-Ok.ensures.matches (ap is_simple app ∙ is_simple_app)).1 in
-    let makes = subst (λ x. Makes (job_of x) c.job.result) (rows ∙ ap (λ a. subcommand_of a words) app) c.job.ensures in
-    (answered words c.job.result none makes).1
+    let answers = subst (λ x. Answers x c.answer.result) (rows ∙ ap (λ a. subcommand_of a words) app) c.answer.ensures in
+    (answered words c.answer.result none answers).1
 
 pub returns-in-Err-2-clause-err : goal.returns-in-Err-2-clause-err
 returns-in-Err-2-clause-err c =
