@@ -30,6 +30,7 @@ fn words_of(rt: &HostRuntime) -> Result<Vec<String>, Fault> {
 fn of_keeping(fault: KeepFault) -> Fault {
     match fault {
         KeepFault::BadValue(word) => Fault::BadValue(word),
+        KeepFault::LongNumber(word) => Fault::LongNumber(word),
         KeepFault::Socket => Fault::Socket,
         KeepFault::Exchange { address, fault } => Fault::Exchange { address, fault },
         KeepFault::Write => Fault::Write,

@@ -15,6 +15,8 @@ use std::fmt::Write;
 pub enum Fault {
     /// A word or an option has a value that it can't have.
     BadValue(Word),
+    /// The same of a number that has over ten digits.
+    LongNumber(Word),
     /// A socket couldn't be opened.
     Socket,
     /// The answer from this address didn't come, or isn't the ACK that belongs to the request.

@@ -100,6 +100,7 @@ pub fn run_keep<S: Sockets, O: Write, E: Write>(
         Ok(job) => job,
         Err(WordsFault::Usage(error)) => return explain(alloc, &error, output, errors),
         Err(WordsFault::BadValue(word)) => return Err(Fault::BadValue(word)),
+        Err(WordsFault::LongNumber(word)) => return Err(Fault::LongNumber(word)),
         Err(WordsFault::Memory) => return Err(Fault::Memory),
     };
     match done(rt, sockets, alloc, job, output, errors) {

@@ -22,6 +22,7 @@ pub(crate) struct Wanted {
 pub(crate) fn of_words(fault: WordsFault) -> NotDone {
     match fault {
         WordsFault::BadValue(word) => NotDone::Asking(Fault::BadValue(word)),
+        WordsFault::LongNumber(word) => NotDone::Asking(Fault::LongNumber(word)),
         WordsFault::Usage(_) => NotDone::Asking(Fault::BadValue(Word::Tool)),
         WordsFault::Memory => NotDone::Asking(Fault::Memory),
     }
