@@ -127,8 +127,12 @@ for tool in wi rp wp log serve replay; do
     bac help "$tool"
     ended "help of $tool by its word" 0 '' "$tool.help"
 done
+for tool in keep kept; do
+    bac "$tool" --help
+    ended "help of $tool" 0 '' "$tool.help"
+done
 # No line of help is wider than a terminal of 80 columns.
-for help in bac.help {wi,rp,wp,log,serve,replay}.help; do
+for help in bac.help {wi,rp,wp,log,keep,kept,serve,replay}.help; do
     awk -v help="$help" 'length($0) > 80 { print help ": " $0 }' "$help"
 done > "$room/out" 2> "$room/err"
 ended 'help of 80 columns' 0 ''
@@ -294,6 +298,8 @@ counted ./stations.sh
 counted ./router.sh
 counted ./edges.sh
 counted ./keeping.sh
+# Logs kept in a file, and runs that are killed.
+counted ./kept.sh
 counted ./helpers.sh
 # A device among strangers.
 counted ./hostile.sh

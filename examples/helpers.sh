@@ -60,7 +60,7 @@ typed 'bac replay < walk.scr' 'bac replay < walk.script '
 typed 'bac log 10.0.0.1 1 1 > keepi' 'bac log 10.0.0.1 1 1 > keeping.sh '
 typed 'bac help ser' 'bac help serve '
 # Each option that the help of a tool names, without its last letter.
-for tool in wi rp wp log serve replay; do
+for tool in wi rp wp log keep kept serve replay; do
     while read -r option value; do
         typed "bac $tool ${option%?}" "bac $tool $option${value:-' '}"
     done < <(sed -nE 's/^ +(-h, )?(--[a-z]+) <.*/\2 =/p; s/^ +(-h, )?(--[a-z]+)( [^<].*)?$/\2/p' "$tool.help")
@@ -68,7 +68,7 @@ done
 is 'completion' "$(./complete.py ./bac.bash "${typed[@]}" 2>&1)" "$(printf '%s\n' "${wanted[@]}" | sed "s/' '$/ /")"
 # And no other: what is completed of an option's first letters is all that the help names.
 completed() { bash -c '. ./bac.bash; compopt() { :; }; COMP_LINE=$1 COMP_POINT=${#1}; _bac; printf "%s\n" "${COMPREPLY[@]}"' _ "$1"; }
-for tool in wi rp wp log serve replay; do
+for tool in wi rp wp log keep kept serve replay; do
     is "the options of $tool" "$(completed "bac $tool --" | tr -d = | sort | tr '\n' ' ')" \
         "$(sed -nE 's/^ +(-h, )?(--[a-z]+).*/\2/p' "$tool.help" | sort | tr '\n' ' ')"
 done
@@ -153,7 +153,8 @@ if has systemd-analyze; then
     for unit in systemd/*; do
         sed "s|/usr/local/bin/bac|$program|; s|/usr/local/bin/keep.sh|$PWD/keep.sh|" "$unit" > "$room/units/$(basename "$unit")"
     done
-    for unit in bac-serve@plant.service bac-keep@boiler.service bac-keep@boiler.timer; do
+    for unit in bac-serve@plant.service bac-keep@boiler.service bac-keep@boiler.timer bac-site@plant.service \
+        bac-site@plant.timer; do
         is "$unit" "$(SYSTEMD_UNIT_PATH="$room/units:" systemd-analyze verify "$unit" 2>&1; echo $?)" 0
     done
 fi

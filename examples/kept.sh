@@ -4,7 +4,7 @@
 #
 #     examples/kept.sh [PROGRAM [SEED [RUNS]]]
 #
-# PROGRAM is crates/bac/out/bac where none is given. The last line is `N passed, M failed`.
+# PROGRAM is crates/bac/out/bac, SEED 1 and RUNS 120 where none is given. The last line is `N passed, M failed`.
 set -u
 cd "$(dirname "$0")"
 program=$(realpath -- "${1:-../crates/bac/out/bac}")
@@ -13,4 +13,4 @@ limit=600
 room=$(mktemp -d)
 trap 'rm -rf "$room"' EXIT
 cc -shared -fPIC -O1 -o "$room/kills.so" kills.c -ldl || exit 1
-python3 kept.py "$program" "$room" "${2:-1}" "${3:-500}" "$room/kills.so"
+python3 kept.py "$program" "$room" "${2:-1}" "${3:-120}" "$room/kills.so"

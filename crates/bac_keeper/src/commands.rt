@@ -25,7 +25,7 @@ fn file<'a>(alloc: Global) -> Arg<'a> {
 }
 
 fn with_options<'a>(alloc: Global, command: Command<'a>) -> Result<Command<'a>, AllocError> {
-    let help = "Batches of up to 100 records to fetch of each log; 1000 if left out";
+    let help = "Batches of up to 100 records a log; 1000 if left out";
     let command = command.arg(option(alloc, Word::Steps, "N", help))?;
     let help = "Wait for an answer: 1 to 60000 ms; 3000 if left out";
     let command = command.arg(option(alloc, Word::Timeout, "MS", help))?;
