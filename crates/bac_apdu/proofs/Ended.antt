@@ -5,7 +5,7 @@ use Rattle.std.specs.Int.{w16, to_be_bytes}
 use Rattle.std.proofs.Math.Seq.{set-append_seam}
 use Rattle.bac_apdu.specs.Frame.{frame_octets, unicast_head, with_length}
 
-put_at : (xs : List ℕ) (y : ℕ) (ys : List ℕ) (i a : ℕ) → length xs ≡ i → slice_set (xs ++ y ∷ ys) i a ≡ xs ++ a ∷ ys
+pub put_at : (xs : List ℕ) (y : ℕ) (ys : List ℕ) (i a : ℕ) → length xs ≡ i → slice_set (xs ++ y ∷ ys) i a ≡ xs ++ a ∷ ys
 put_at xs y ys i a is = ap (λ (k : ℕ). slice_set (xs ++ y ∷ ys) k a) (sym is) ∙ set-append_seam xs y ys a
 
 both_put : (before body : List ℕ) (start high low : ℕ) → length before ≡ start

@@ -7,10 +7,11 @@ use Rattle.std.proofs.lemmas.List.{take-append-drop, length-take-le}
 use Rattle.bac_wire.specs.Number.{bit}
 use Rattle.bac_wire.specs.OptionChain.{◌>>=◌}
 use Rattle.bac_wire.proofs.Numbers.{IsBytes, IsBytes-drop}
+use Rattle.bac_wire.proofs.Canonical.{flag_is, flag_small}
 use Rattle.bac_apdu.specs.Octets.{octet_at, word_at, octets_at}
 use Rattle.bac_apdu.specs.Frame.{Frame, Unicast, Broadcast, Forwarded, Function, body_at, frame_at, framed, function_of, body_of, frame_encoding, IsKind, IsFrame}
 use Rattle.bac_apdu.specs.Npdu.{Place, Header, place_at, maybe_place_at, hops_at, header_at, is_there, place_octets, hops_octets, control_of, IsPlace, HasHops, IsHeader, IsControl, header_encoding}
-use Rattle.bac_apdu.proofs.Heads.{word_again, octets_again, maybe_again, hops_again, flag_is, flag_small}
+use Rattle.bac_apdu.proofs.Heads.{word_again, octets_again, maybe_again, hops_again}
 
 -- ---- steps of which nothing says why they fail
 

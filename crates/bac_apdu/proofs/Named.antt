@@ -72,7 +72,7 @@ module _ {Y : Type 0} (back : List Parameter → Y) (form : Form) (text : List �
 
 -- ---- each service shows its fields
 
-same_number : (n : Option ℕ) → number_in (number_parameter n) ≡ n
+pub same_number : (n : Option ℕ) → number_in (number_parameter n) ≡ n
 same_number None = refl
 same_number (Some n) = refl
 

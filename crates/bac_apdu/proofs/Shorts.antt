@@ -13,19 +13,20 @@ use Rattle.bac_apdu.specs.Apdu.{Confirmed, Error, apdu_octets}
 use Rattle.bac_apdu.specs.Form.{Form, end, optional, unsigned, is_u32, Parameter, number_parameter}
 use Rattle.bac_apdu.specs.FormCanon.{canon_form}
 use Rattle.bac_apdu.specs.Frame.{frame_octets}
-use Rattle.bac_apdu.specs.Npdu.{Header, place_octets, header_octets}
+use Rattle.bac_apdu.specs.Npdu.{Header, place_octets, header_octets, Place, hops_octets, IsPlace}
 use Rattle.bac_apdu.specs.Service.Choice.{read_range_service}
 use Rattle.bac_apdu.specs.Service.ReadProperty.{read_property, property_parameters}
 use Rattle.bac_apdu.specs.Service.ReadRange.{read_range, range_parameters}
 use Rattle.bac_apdu.specs.Service.Extent.{range, extent_parameters}
 use Rattle.bac_apdu.specs.Service.IAm.{i_am, i_am_parameters}
+use Rattle.bac_apdu.specs.Route.{IsWay}
 
 -- ---- single parameters
 
 object_behind : (tag : ℕ) (id : Id) → tag < 15 → length (context_octets tag (Object id)) ≡ 5
 object_behind tag id low = few_behind tag (Object id) low (omega arith)
 
-number_behind : (tag n : ℕ) → tag < 15 → length (context_octets tag (Unsigned n)) ≤ 10
+pub number_behind : (tag n : ℕ) → tag < 15 → length (context_octets tag (Unsigned n)) ≤ 10
 number_behind tag n low = omega (arith, some_behind tag (Unsigned n) low (omega (arith, length-unsigned n)), length-unsigned n)
 
 enumerated_behind : (tag n : ℕ) → tag < 15 → length (context_octets tag (Enumerated n)) ≤ 10
@@ -125,3 +126,23 @@ length-header h dest source = rw (dest, source) refl
 pub length-frame : (body : List ℕ) → length (frame_octets body) ≡ 4 + length body
 unfolding frame_octets
 length-frame body = omega arith
+
+-- ---- places
+
+pub length-place : (place : Option Place) → IsWay place → length (place_octets place) ≤ 18
+unfolding place_octets
+length-place None way = omega arith
+length-place (Some place) way = omega (arith, way.3)
+
+pub length-no_place : length (place_octets None) ≡ 0
+unfolding place_octets
+length-no_place = refl
+
+pub length-hops : (place : Option Place) (hops : ℕ) → length (hops_octets place hops) ≤ 1
+length-hops None hops = omega arith
+length-hops (Some place) hops = omega arith
+
+-- what can be told of a way can be written
+pub place_valid : (place : Option Place) → IsWay place → IsPlace place
+place_valid None way = tt
+place_valid (Some place) way = (omega (arith, way.1), omega (arith, way.3))
