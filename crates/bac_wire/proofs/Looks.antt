@@ -1,11 +1,12 @@
--- What stands in most records, passed over in one look: a stamp, a number of one octet with flags, a log-status.
-use Rattle.std.proofs.Common.{◌≡◌, ℕ, suc, ◌+◌, ◌-◌, ◌≤◌, List, [], ◌∷◌, length, get_or, drop, Ok, refl, sym, ap, ◌∙◌, arith, ◌⊎◌, inl, inr}
-use Rattle.std.proofs.lemmas.List.{length-drop, drop-drop}
-use Rattle.bac_wire.specs.Level.{token_at, close_at}
+-- What stands in most records, passed over in one look: a stamp, a datum of few octets, status flags.
+use Rattle.std.proofs.Common.{◌≡◌, ◌≢◌, ℕ, suc, ◌+◌, ◌-◌, ◌/◌, ◌%◌, ◌<◌, ◌≤◌, List, [], ◌∷◌, length, get_or, take, drop, Ok, refl, sym, ap, ◌∙◌, arith, inl, inr}
+use Rattle.std.proofs.lemmas.List.{length-drop, length-take, drop-drop, drop_more, take-append-drop}
+use Rattle.bac_wire.specs.Level.{token_at, close_at, IsPassed}
 use Rattle.bac_wire.specs.declared.level.Token.TheVariants.{Whole, Open, Close}
 use Rattle.bac_wire.specs.Reading.{number_at, length_at}
 use Rattle.bac_wire.proofs.Tags.{octets_again}
-use Rattle.bac_wire.proofs.Levels.{Walked, one_step}
+use Rattle.bac_wire.specs.Spelling.{IsTag, IsTagged}
+use Rattle.bac_wire.proofs.Levels.{Walked, one_step, token_again}
 
 -- ---- the four tags of a stamp
 
@@ -65,92 +66,87 @@ stamp_on bytes wanted at depth w long p0 p1 p6 p11 =
       same = rw (← drop-drop) (sym (stamp_front m depth wanted (drop at bytes) long p0 p1 p6 p11) ∙ ap (λ (n : ℕ). close_at n depth wanted (drop at bytes)) (sym four) ∙ w.same);
     }
 
--- ---- the four tags of a number of one octet with status flags
+-- ---- octets that are passed over
+
+-- a whole tag
+one_passed : (n : ℕ) (l : List ℕ) → 1 ≤ n → n ≤ length l → token_at l ≡ Ok (Whole, drop n l) → IsPassed n l
+one_passed n l some within is = (1, omega arith, some, within, λ steps depth wanted. rw (first steps) (one_step steps depth depth wanted l (drop n l) Whole is refl))
+  where
+    first : (steps : ℕ) → 1 + steps ≡ suc steps
+    first steps = omega arith
+
+-- one after the other
+pub both_passed : (n m : ℕ) (l : List ℕ) → IsPassed n l → IsPassed m (drop n l) → IsPassed (n + m) l
+both_passed n m l a b =
+    let sum : (steps : ℕ) → (a.0 + b.0) + steps ≡ a.0 + (b.0 + steps) = λ steps. omega arith in (
+      a.0 + b.0,
+      omega (arith, a.1),
+      omega (arith, a.2, b.2),
+      omega (arith, a.3, b.3, length-drop n l),
+      λ steps depth wanted. rw (sum steps, ← drop-drop) (a.4 (b.0 + steps) depth wanted ∙ b.4 steps depth wanted),
+    )
+
+-- behind octets that are passed over the loop is as deep as before them
+pub passed_on : (bytes : List ℕ) (wanted at depth n : ℕ) → Walked bytes wanted at depth → IsPassed n (drop at bytes) → Walked bytes wanted (at + n) depth
+passed_on bytes wanted at depth n w p =
+    let len = length-drop at bytes in
+    let split : w.steps ≡ p.0 + (w.steps - p.0) = omega (arith, w.enough, len, p.2, p.3) in
+    record {
+      within = omega (arith, len, p.3, w.within);
+      deep = omega (arith, w.deep);
+      steps = w.steps - p.0;
+      enough = omega (arith, w.enough, len, p.1, p.2, p.3);
+      same = rw (← drop-drop) (sym (p.4 (w.steps - p.0) depth wanted) ∙ ap (λ (s : ℕ). close_at s depth wanted (drop at bytes)) (sym split) ∙ w.same);
+    }
+
+-- ---- a datum between its tags, and status flags
 
 opens_one : (l : List ℕ) → token_at (30 ∷ l) ≡ Ok (Open, l)
 unfolding token_at number_at
 opens_one l = refl
 
-enumerated_passed : (a : ℕ) (l : List ℕ) → token_at (57 ∷ a ∷ l) ≡ Ok (Whole, l)
-unfolding token_at number_at length_at
-enumerated_passed a l = rw (octets_again (a ∷ []) l) refl
-
-unsigned_passed : (a : ℕ) (l : List ℕ) → token_at (73 ∷ a ∷ l) ≡ Ok (Whole, l)
-unfolding token_at number_at length_at
-unsigned_passed a l = rw (octets_again (a ∷ []) l) refl
-
 closes_one : (l : List ℕ) → token_at (31 ∷ l) ≡ Ok (Close 1, l)
 unfolding token_at number_at
 closes_one l = refl
 
-flags_passed : (a b : ℕ) (l : List ℕ) → token_at (42 ∷ a ∷ b ∷ l) ≡ Ok (Whole, l)
-unfolding token_at number_at length_at
-flags_passed a b l = rw (octets_again (a ∷ b ∷ []) l) refl
+-- so many octets after a context tag of one octet
+short_passed : (head : ℕ) (l : List ℕ) → head / 8 % 2 ≢ 0 → head < 240 → head % 8 ≤ 4 → head % 8 ≤ length l → token_at (head ∷ l) ≡ Ok (Whole, drop (head % 8) l)
+short_passed head l context small few within =
+    let tag : IsTag 8 (head / 16) (head % 8) (head ∷ []) = (omega (arith, small), omega (arith, context, small)) in
+    let size : length (take (head % 8) l) ≡ head % 8 = omega (arith, length-take (head % 8) l, within) in
+    let is : IsTagged 8 (head / 16) (take (head % 8) l) (head ∷ take (head % 8) l) =
+    record { head = head ∷ []; low = head % 8; size = []; parts = refl; tagged = tag; sized = (omega (arith, size, few), sym size) } in
+    ap (λ (m : List ℕ). token_at (head ∷ m)) (sym (take-append-drop (head % 8) l))
+    ∙ token_again Whole (head ∷ take (head % 8) l) (drop (head % 8) l) (inr (8, head / 16, take (head % 8) l, inl refl, is))
 
-number_steps : (m depth wanted head a b c : ℕ) (l : List ℕ) → token_at (head ∷ a ∷ 31 ∷ 42 ∷ b ∷ c ∷ l) ≡ Ok (Whole, 31 ∷ 42 ∷ b ∷ c ∷ l)
-    → close_at (suc (suc (suc (suc m)))) depth wanted (30 ∷ head ∷ a ∷ 31 ∷ 42 ∷ b ∷ c ∷ l) ≡ close_at m depth wanted l
-number_steps m depth wanted head a b c l passed =
-    one_step (suc (suc (suc m))) depth (depth + 1) wanted (30 ∷ head ∷ a ∷ 31 ∷ 42 ∷ b ∷ c ∷ l) (head ∷ a ∷ 31 ∷ 42 ∷ b ∷ c ∷ l) Open (opens_one (head ∷ a ∷ 31 ∷ 42 ∷ b ∷ c ∷ l)) refl
-    ∙ (one_step (suc (suc m)) (depth + 1) (depth + 1) wanted (head ∷ a ∷ 31 ∷ 42 ∷ b ∷ c ∷ l) (31 ∷ 42 ∷ b ∷ c ∷ l) Whole passed refl
-    ∙ (one_step (suc m) (depth + 1) depth wanted (31 ∷ 42 ∷ b ∷ c ∷ l) (42 ∷ b ∷ c ∷ l) (Close 1) (closes_one (42 ∷ b ∷ c ∷ l)) (λ z. omega arith, omega arith)
-    ∙ one_step m depth depth wanted (42 ∷ b ∷ c ∷ l) l Whole (flags_passed b c l) refl))
+-- a datum in a tag of one octet, between its opening and its closing tag
+pub datum_passed : (l : List ℕ) → 2 ≤ length l → get_or l 0 0 ≡ 30 → get_or l 1 0 / 8 % 2 ≢ 0 → get_or l 1 0 < 240 → get_or l 1 0 % 8 ≤ 4
+    → get_or l 1 0 % 8 < length (drop 2 l) → get_or (drop 2 l) (get_or l 1 0 % 8) 0 ≡ 31 → IsPassed (get_or l 1 0 % 8 + 3) l
+datum_passed [] long begins context small few within ends = absurd (omega arith)
+datum_passed (a ∷ []) long begins context small few within ends = absurd (omega arith)
+datum_passed (a ∷ b ∷ l) long begins context small few within ends =
+    let n : ℕ = b % 8 in
+    let rest : List ℕ = drop (n + 1) l in
+    let at_close : drop n l ≡ 31 ∷ rest = drop_more l n 0 within ∙ ap (λ (x : ℕ). x ∷ rest) ends in
+    let same : drop (n + 3) (30 ∷ b ∷ l) ≡ rest = ap (λ (k : ℕ). drop k (30 ∷ b ∷ l)) (behind n) in (
+      3,
+      omega arith,
+      omega arith,
+      omega (arith, within),
+      λ steps depth wanted.
+          rw (begins, same, third steps)
+          (one_step (suc (suc steps)) depth (depth + 1) wanted (30 ∷ b ∷ l) (b ∷ l) Open (opens_one (b ∷ l)) refl
+          ∙ (one_step (suc steps) (depth + 1) (depth + 1) wanted (b ∷ l) (drop n l) Whole (short_passed b l context small few (omega (arith, within))) refl
+          ∙ rw at_close (one_step steps (depth + 1) depth wanted (31 ∷ rest) rest (Close 1) (closes_one rest) (λ z. omega arith, omega arith)))),
+    )
+  where
+    behind : (n : ℕ) → n + 3 ≡ suc (suc (n + 1))
+    behind n = omega arith
 
-number_front : (m depth wanted : ℕ) (l : List ℕ) → 7 ≤ length l → get_or l 0 0 ≡ 30 → (get_or l 1 0 ≡ 57) ⊎ (get_or l 1 0 ≡ 73) → get_or l 3 0 ≡ 31 → get_or l 4 0 ≡ 42
-    → close_at (suc (suc (suc (suc m)))) depth wanted l ≡ close_at m depth wanted (drop 7 l)
-number_front m depth wanted [] long p0 p1 p3 p4 = absurd (omega arith)
-number_front m depth wanted (a ∷ []) long p0 p1 p3 p4 = absurd (omega arith)
-number_front m depth wanted (a ∷ b ∷ []) long p0 p1 p3 p4 = absurd (omega arith)
-number_front m depth wanted (a ∷ b ∷ c ∷ []) long p0 p1 p3 p4 = absurd (omega arith)
-number_front m depth wanted (a ∷ b ∷ c ∷ d ∷ []) long p0 p1 p3 p4 = absurd (omega arith)
-number_front m depth wanted (a ∷ b ∷ c ∷ d ∷ e ∷ []) long p0 p1 p3 p4 = absurd (omega arith)
-number_front m depth wanted (a ∷ b ∷ c ∷ d ∷ e ∷ f ∷ []) long p0 p1 p3 p4 = absurd (omega arith)
-number_front m depth wanted (a ∷ b ∷ c ∷ d ∷ e ∷ f ∷ g ∷ rest) long p0 (inl p1) p3 p4 = rw (p0, p1, p3, p4) (number_steps m depth wanted 57 c f g rest (enumerated_passed c (31 ∷ 42 ∷ f ∷ g ∷ rest)))
-number_front m depth wanted (a ∷ b ∷ c ∷ d ∷ e ∷ f ∷ g ∷ rest) long p0 (inr p1) p3 p4 = rw (p0, p1, p3, p4) (number_steps m depth wanted 73 c f g rest (unsigned_passed c (31 ∷ 42 ∷ f ∷ g ∷ rest)))
+    third : (steps : ℕ) → 3 + steps ≡ suc (suc (suc steps))
+    third steps = omega arith
 
-status_passed : (a b : ℕ) (l : List ℕ) → token_at (10 ∷ a ∷ b ∷ l) ≡ Ok (Whole, l)
-unfolding token_at number_at length_at
-status_passed a b l = rw (octets_again (a ∷ b ∷ []) l) refl
-
-status_front : (m depth wanted : ℕ) (l : List ℕ) → 5 ≤ length l → get_or l 0 0 ≡ 30 → get_or l 1 0 ≡ 10 → get_or l 4 0 ≡ 31
-    → close_at (suc (suc (suc m))) depth wanted l ≡ close_at m depth wanted (drop 5 l)
-status_front m depth wanted [] long p0 p1 p4 = absurd (omega arith)
-status_front m depth wanted (a ∷ []) long p0 p1 p4 = absurd (omega arith)
-status_front m depth wanted (a ∷ b ∷ []) long p0 p1 p4 = absurd (omega arith)
-status_front m depth wanted (a ∷ b ∷ c ∷ []) long p0 p1 p4 = absurd (omega arith)
-status_front m depth wanted (a ∷ b ∷ c ∷ d ∷ []) long p0 p1 p4 = absurd (omega arith)
-status_front m depth wanted (a ∷ b ∷ c ∷ d ∷ e ∷ rest) long p0 p1 p4 = rw (p0, p1, p4)
-    (one_step (suc (suc m)) depth (depth + 1) wanted (30 ∷ 10 ∷ c ∷ d ∷ 31 ∷ rest) (10 ∷ c ∷ d ∷ 31 ∷ rest) Open (opens_one (10 ∷ c ∷ d ∷ 31 ∷ rest)) refl
-    ∙ (one_step (suc m) (depth + 1) (depth + 1) wanted (10 ∷ c ∷ d ∷ 31 ∷ rest) (31 ∷ rest) Whole (status_passed c d (31 ∷ rest)) refl
-    ∙ one_step m (depth + 1) depth wanted (31 ∷ rest) rest (Close 1) (closes_one rest) (λ z. omega arith, omega arith)))
-
--- behind a log-status the loop is as deep as before it
-pub status_on : (bytes : List ℕ) (wanted at depth : ℕ) → Walked bytes wanted at depth → 5 ≤ length (drop at bytes)
-    → get_or (drop at bytes) 0 0 ≡ 30 → get_or (drop at bytes) 1 0 ≡ 10 → get_or (drop at bytes) 4 0 ≡ 31
-    → Walked bytes wanted (at + 5) depth
-status_on bytes wanted at depth w long p0 p1 p4 =
-    let len = length-drop at bytes in
-    let m = w.steps - 3 in
-    let three : w.steps ≡ suc (suc (suc (w.steps - 3))) = omega (arith, w.enough, len, long) in
-    record {
-      within = omega (arith, len, long);
-      deep = omega (arith, w.deep);
-      steps = m;
-      enough = omega (arith, w.enough, len, long);
-      same = rw (← drop-drop) (sym (status_front m depth wanted (drop at bytes) long p0 p1 p4) ∙ ap (λ (n : ℕ). close_at n depth wanted (drop at bytes)) (sym three) ∙ w.same);
-    }
-
--- behind such a number, too, the loop is as deep as before it
-pub number_on : (bytes : List ℕ) (wanted at depth : ℕ) → Walked bytes wanted at depth → 7 ≤ length (drop at bytes)
-    → get_or (drop at bytes) 0 0 ≡ 30 → (get_or (drop at bytes) 1 0 ≡ 57) ⊎ (get_or (drop at bytes) 1 0 ≡ 73) → get_or (drop at bytes) 3 0 ≡ 31 → get_or (drop at bytes) 4 0 ≡ 42
-    → Walked bytes wanted (at + 7) depth
-number_on bytes wanted at depth w long p0 p1 p3 p4 =
-    let len = length-drop at bytes in
-    let m = w.steps - 4 in
-    let four : w.steps ≡ suc (suc (suc (suc (w.steps - 4)))) = omega (arith, w.enough, len, long) in
-    record {
-      within = omega (arith, len, long);
-      deep = omega (arith, w.deep);
-      steps = m;
-      enough = omega (arith, w.enough, len, long);
-      same = rw (← drop-drop) (sym (number_front m depth wanted (drop at bytes) long p0 p1 p3 p4) ∙ ap (λ (n : ℕ). close_at n depth wanted (drop at bytes)) (sym four) ∙ w.same);
-    }
+-- status flags
+pub flags_passed : (l : List ℕ) → 3 ≤ length l → get_or l 0 0 ≡ 42 → IsPassed 3 l
+flags_passed [] long is = absurd (omega arith)
+flags_passed (a ∷ l) long is = rw is (one_passed 3 (42 ∷ l) (omega arith) long (short_passed 42 l (omega arith) (omega arith) (omega arith) (omega arith)))

@@ -78,3 +78,9 @@ close_at (suc steps) depth wanted bytes = do
         if depth == 0 then (if number == wanted then Ok bytes else Err BadTag) else
         close_at steps (depth - 1) wanted token.1
   ]
+
+-- who looks for the end of a level finds it behind so many octets as before them, in fewer steps
+abbrev pub IsPassed : ℕ → List ℕ → Type 0
+IsPassed n bytes = (tags : ℕ)
+    × (1 ≤ tags) × (tags ≤ n) × (n ≤ length bytes)
+    × ((steps depth wanted : ℕ) → close_at (tags + steps) depth wanted bytes ≡ close_at steps depth wanted (drop n bytes))

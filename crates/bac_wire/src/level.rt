@@ -1,9 +1,9 @@
 //! Tags on one level: whole tags, and the tags that open and close a level (clause 20.2.1.3.2).
 
-ghost use Rattle.std.specs.Prelude.{◌≡◌, true, ◌⊎◌, ◌+◌, ◌≤◌, ℕ, List, ◌++◌, length, drop, slice_index, IfOk, IsOkAnd};
+ghost use Rattle.std.specs.Prelude.{◌≡◌, true, ◌+◌, ◌≤◌, ℕ, List, ◌++◌, length, drop, slice_index, IfOk, IfSome, IsOkAnd};
 ghost use Rattle.bac_wire.specs.Chain.{Gives};
 ghost use Rattle.bac_wire.specs.Spelling.{IsTag};
-ghost use Rattle.bac_wire.specs.Level.{token_at, close_at, IsLevel, EndsAt};
+ghost use Rattle.bac_wire.specs.Level.{token_at, close_at, IsLevel, IsPassed, EndsAt};
 
 use crate::fault::WireFault;
 use crate::primitive_type::PrimitiveType;
@@ -74,46 +74,53 @@ fn is_stamp_next(bytes: &[u8]) -> bool
     }
 }
 
-/// Whether a number of one octet between an opening and a closing tag 1, an Enumerated or an
-/// Unsigned, and status flags are next, as behind the stamp of most records of a log: four tags in
-/// seven octets.
+/// How many octets a datum at the front takes if it is one of at most four octets after a context
+/// tag of one, between an opening and a closing tag 1, as behind the stamp of most records of a
+/// log: three tags.
 #[inline(always)]
-fn is_number_next(bytes: &[u8]) -> bool
-    ensures { result ≡ true → (7 ≤ length bytes.now) × (slice_index bytes.now 0 ≡ 30)
-        × ((slice_index bytes.now 1 ≡ 57) ⊎ (slice_index bytes.now 1 ≡ 73))
-        × (slice_index bytes.now 3 ≡ 31) × (slice_index bytes.now 4 ≡ 42) }
+fn datum_len(bytes: &[u8]) -> Option<usize>
+    ensures { IfSome result (λ n. IsPassed n bytes.now) }
 {
     match bytes {
-        [open, number, _, close, flags, _, _, ..] => {
-            if *open != 0x1e || *close != 0x1f || *flags != 0x2a {
-                return false;
+        [open, head, rest @ ..] => {
+            let len = (*head % 8) as usize;
+            if *open != 0x1e || *head / 8 % 2 == 0 || *head >= 240 || len > 4 || len >= rest.len() {
+                return None;
             }
-            *number == 0x39 || *number == 0x49
+            if rest[len] != 0x1f {
+                return None;
+            }
+            Some(len + 3)
         }
+        _ => None,
+    }
+}
+
+/// Whether status flags are next: two octets after a context tag 2 of one octet.
+#[inline(always)]
+fn are_flags_next(bytes: &[u8]) -> bool
+    ensures { result ≡ true → IsPassed 3 bytes.now }
+{
+    match bytes {
+        [head, _, _, ..] => *head == 0x2a,
         _ => false,
     }
 }
 
-/// Whether a log-status between an opening and a closing tag 1 is next, as behind the stamp of a
-/// record that says what became of the log: three tags in five octets.
+/// How many octets such a datum takes, with the status flags behind it if there are any.
 #[inline(always)]
-fn is_status_next(bytes: &[u8]) -> bool
-    ensures { result ≡ true → (5 ≤ length bytes.now) × (slice_index bytes.now 0 ≡ 30)
-        × (slice_index bytes.now 1 ≡ 10) × (slice_index bytes.now 4 ≡ 31) }
+fn logged_len(bytes: &[u8]) -> Option<usize>
+    ensures { IfSome result (λ n. IsPassed n bytes.now) }
 {
-    match bytes {
-        [open, status, _, _, close, ..] => {
-            if *open != 0x1e || *status != 0x0a || *close != 0x1f {
-                return false;
-            }
-            true
-        }
-        _ => false,
+    let len = datum_len(bytes)?;
+    if are_flags_next(&bytes[len..]) {
+        return Some(len + 3);
     }
+    Some(len)
 }
 
 /// Goes from tag to tag, and counts the levels that are open. The four tags of a stamp are passed
-/// over in one look, and so are those of a number with status flags and of a log-status.
+/// over in one look, and so are those of most data, with their status flags.
 fn count_to_close(bytes: &[u8], wanted: u8) -> Result<usize, WireFault>
     ensures within { IfOk result (λ n. n ≤ length bytes.now) }
     ensures exact { Gives (λ n. drop n bytes.now) result (close_at (length bytes.now + 1) 0 wanted bytes.now) }
@@ -125,12 +132,8 @@ fn count_to_close(bytes: &[u8], wanted: u8) -> Result<usize, WireFault>
             at += 12;
             continue;
         }
-        if is_number_next(&bytes[at..]) {
-            at += 7;
-            continue;
-        }
-        if is_status_next(&bytes[at..]) {
-            at += 5;
+        if let Some(len) = logged_len(&bytes[at..]) {
+            at += len;
             continue;
         }
         let (token, after) = token_of(&bytes[at..])?;
