@@ -1,5 +1,5 @@
 -- An answer of 44 octets holds a record.
-use Rattle.std.proofs.Common.{◌≡◌, refl, ap, subst, arith, ℕ, zero, suc, ◌+◌, ◌^◌, ◌<◌, ◌≤◌, Bool, true, false, not, ◌&&◌, cond, List, [], ◌∷◌, length, take, Option, Some, None}
+use Rattle.std.proofs.Common.{◌≡◌, refl, subst, arith, ℕ, zero, suc, ◌+◌, ◌^◌, ◌<◌, ◌≤◌, Bool, true, false, not, ◌&&◌, cond, List, [], ◌∷◌, length, take, Option, Some, None}
 use Rattle.std.specs.Prelude.{nat_le, filter, All, if◌then◌else◌}
 use Rattle.std.proofs.lemmas.Bool.{le-leb, leb-true, le-ltb}
 use Rattle.bac_wire.specs.Primitive.{Id}
@@ -18,7 +18,7 @@ use Rattle.bac_log.proofs.Sizes.{entry_sized}
 use Rattle.bac_device.specs.Answer.{is_empty, records_ack, records_said}
 use Rattle.bac_device.specs.Reply.{limited}
 use Rattle.bac_apdu.proofs.Sizes.{number_size_small}
-use Rattle.bac_log.proofs.Packs.{shown_small}
+use Rattle.bac_log.proofs.Packs.{shown_small, length-entries_in}
 
 -- ---- the greatest that passes
 
@@ -64,10 +64,6 @@ few_kept test first (e ∷ es) = at (test (record { ordinal = first; entry = e }
         → length (cond b ((let x : HeldEntry = record { ordinal = first; entry = e } in x) ∷ filter test (numbered (first + 1) es)) (filter test (numbered (first + 1) es))) ≤ suc (length es)
     at true le = omega (arith, le)
     at false le = omega (arith, le)
-
-length_in : (rs : List HeldEntry) → length (entries_in rs) ≡ length rs
-length_in [] = refl
-length_in (r ∷ rs) = ap suc (length_in rs)
 
 few_taken : (n : ℕ) (rs : List HeldEntry) → length (take n rs) ≤ length rs
 few_taken zero rs = omega arith
@@ -120,5 +116,5 @@ records_fit limit invoke object extent log is ge =
     let all : List HeldEntry = selected log extent in
     let rs : List HeldEntry = packed extent limit all in
     let fits = some_fits extent limit all ge (λ r more h. first_held test (oldest log) log.entries r more is.loggable h) in
-    let few : length (entries_in rs) < 2 ^ 32 = omega (arith, length_in rs, few_taken (greatest (λ n. nat_le (reply_length extent (take n all)) limit) (length all)) all, few_kept test (oldest log) log.entries, is.within, is.capacity.1) in
+    let few : length (entries_in rs) < 2 ^ 32 = omega (arith, length-entries_in rs, few_taken (greatest (λ n. nat_le (reply_length extent (take n all)) limit) (length all)) all, few_kept test (oldest log) log.entries, is.within, is.capacity.1) in
     rw fits.0 (ack_fits limit invoke object (answer_of log extent limit).flags (first_shown extent rs) (entries_in rs) fits.2 few fits.1)

@@ -9,7 +9,6 @@ use Rattle.bac_apdu.specs.Npdu.{IsHeader, Place, control_of, header_octets, hops
 use Rattle.bac_apdu.specs.Route.{IsWay}
 use Rattle.std.proofs.lemmas.Bool.{le-leb, le-ltb}
 use Rattle.std.proofs.lemmas.Option.{none-some, same_Some}
-use Rattle.bac_device.proofs.Told.{place_valid}
 use Rattle.bac_apdu.specs.Service.Extent.{IsExtent}
 use Rattle.bac_apdu.specs.Service.ReadRange.{read_range, range_parameters, range_in, read_range_at}
 use Rattle.bac_apdu.specs.declared.service.extent.Extent.{Extent}
@@ -17,7 +16,7 @@ use Rattle.bac_apdu.specs.declared.service.read_range.ReadRange.{ReadRange}
 use Rattle.bac_apdu.proofs.Heads.{frame_again, header_again, message_again}
 use Rattle.bac_apdu.proofs.Named.{fields_again, range_back}
 use Rattle.bac_apdu.proofs.Services.{range_again}
-use Rattle.bac_apdu.proofs.Shorts.{range_apdu_short}
+use Rattle.bac_apdu.proofs.Shorts.{range_apdu_short, length-place, length-no_place, place_valid}
 use Rattle.bac_log.specs.TrendLog.{Log}
 use Rattle.bac_objects.specs.Build.{built, entry_of}
 use Rattle.bac_objects.specs.Records.{records_of}
@@ -43,21 +42,12 @@ use Rattle.bac_device.specs.declared.reply.Receiver.TheVariants.{Sender}
 asking_valid : (source : Option Place) → IsWay source → IsHeader (asking source)
 asking_valid source way = (omega arith, tt, place_valid source way, refl)
 
-length-from : (place : Option Place) → IsWay place → length (place_octets place) ≤ 18
-unfolding place_octets
-length-from None way = omega arith
-length-from (Some place) way = omega (arith, way.3)
-
-none_long : length (place_octets None) ≡ 0
-unfolding place_octets
-none_long = refl
-
 length-asking : (source : Option Place) → IsWay source → length (header_octets (asking source)) ≤ 20
 length-asking source way =
     omega (
       arith,
-      none_long,
-      length-from source way,
+      length-no_place,
+      length-place source way,
       length-append (1 ∷ control_of (asking source) ∷ []) (place_octets None ++ (place_octets source ++ hops_octets None 0)),
       length-append (place_octets None) (place_octets source ++ hops_octets None 0),
       length-append (place_octets source) (hops_octets None 0),

@@ -19,6 +19,7 @@ use Rattle.bac_device.specs.Reply.{Return, abort, begun, datagram_octets, datagr
 use Rattle.bac_device.specs.declared.reply.Receiver.{Receiver}
 use Rattle.bac_device.specs.declared.reply.Reply.{Reply}
 use Rattle.bac_wire.proofs.Sizes.{length-unsigned}
+use Rattle.bac_wire.proofs.Fewest.{length-length_octets}
 
 -- what fits is appended
 pub fits_in : {E : Type 0} (old text : List ℕ) (r : Result (Unit {0}) E) (new : List ℕ) → Writes old text r new → length old + length text ≤ 1501 → IsOk r × (new ≡ old ++ text)
@@ -32,16 +33,12 @@ cond-len false xs ys n h k = k
 tag-len : (class tag low : ℕ) → length (tag_octets class tag low) ≤ 2
 tag-len class tag low = cond-len (nat_lt tag 15) _ _ 2 (omega arith) (omega arith)
 
-length-len : (len : ℕ) → length (length_octets len) ≤ 5
-length-len len =
-    cond-len (nat_lt len 5) _ _ 5 (omega arith) (cond-len (nat_lt len 254) _ _ 5 (omega arith) (cond-len (nat_lt len 65536) _ _ 5 (omega arith) (omega arith)))
-
 tagged-len : (class tag : ℕ) (contents : List ℕ) → length (tagged class tag contents) ≤ 7 + length contents
 tagged-len class tag contents =
     let len = length contents in
     let low = cond (nat_lt len 5) len 5 in
     let first = tag-len class tag low in
-    let size = length-len len in
+    let size = length-length_octets len in
     let head = length-append (tag_octets class tag low) (length_octets len) in
     omega (arith, first, size, head, length-append (head_octets class tag len) contents)
 

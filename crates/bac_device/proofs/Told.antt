@@ -7,13 +7,14 @@ use Rattle.std.proofs.lemmas.Bool.Decides.{nat_tests}
 use Rattle.std.specs.Result.{result_ok}
 use Rattle.bac_apdu.specs.Apdu.{Apdu, Confirmed, Unconfirmed, Simple, Complex, SegmentAck, Error, Reject, Abort, IsApdu, apdu_at, apdu_octets}
 use Rattle.bac_apdu.specs.Frame.{Frame, Unicast, Broadcast, Forwarded, Function, frame_at}
-use Rattle.bac_apdu.specs.Npdu.{Place, header_at, header_octets, IsHeader, IsPlace, place_octets}
+use Rattle.bac_apdu.specs.Npdu.{Place, header_at, header_octets, IsHeader, place_octets}
 use Rattle.bac_apdu.specs.Route.{IsRoute, IsWay}
 use Rattle.bac_apdu.proofs.Grammar.{bind_some, chosen_some}
 use Rattle.bac_apdu.proofs.Heads.{frame_again, header_again, message_again}
 use Rattle.bac_apdu.specs.declared.reason.Reason.{Reason}
 use Rattle.bac_objects.specs.State.{State}
 use Rattle.bac_apdu.specs.Service.WriteProperty.{PropertyWrite, write_property_at}
+use Rattle.bac_apdu.proofs.Shorts.{place_valid}
 use Rattle.bac_objects.specs.Writing.{write_of}
 use Rattle.bac_device.specs.Receiving.{ReceivedApdu, heard_at, is_answerable, is_heard}
 use Rattle.bac_device.specs.Answer.{write_said, answer_write, answer_request, replied, answer_apdu, answer_heard, returning, sent, answer_npdu, answer_frame, answer}
@@ -35,10 +36,6 @@ plain_is = refl
 
 plain_valid : IsHeader plain
 plain_valid = (omega arith, tt, tt, refl)
-
-pub place_valid : (place : Option Place) → IsWay place → IsPlace place
-place_valid None way = tt
-place_valid (Some place) way = (omega (arith, way.1), omega (arith, way.3))
 
 pub plain_to_valid : (place : Option Place) → IsWay place → IsHeader (plain_to place)
 plain_to_valid None way = plain_valid

@@ -19,7 +19,7 @@ use Rattle.bac_objects.specs.declared.lines.ObjectLine.TheVariants.{Binary, Mult
 use Rattle.bac_objects.specs.declared.object.Body.{Body}
 use Rattle.bac_objects.specs.declared.object.Object.{Object}
 use Rattle.bac_objects.specs.declared.build.BuildFault.{BuildFault}
-use Rattle.bac_objects.specs.declared.build.BuildFault.TheVariants.{BadInstance, DuplicateId, BadName, DuplicateName, BadStates, BadDefault, BadCapacity, BadInterval, BadReplySize, Memory}
+use Rattle.bac_objects.specs.declared.build.BuildFault.TheVariants.{BadInstance, DuplicateId, BadName, DuplicateName, BadStates, BadDefault, BadCapacity, BadInterval, Memory, BadReplySize}
 
 -- ---- no fault of a line is that memory ran out
 
@@ -57,8 +57,16 @@ own_told (Multistate instance name states default) fault e = two_own _ _ BadStat
 own_told (Integer instance name default) fault e = absurd (none-some fault e)
 own_told (Log instance name source capacity interval logged) fault e = two_own _ _ BadCapacity BadInterval fault refl refl e
 
-never_own : (line : ObjectLine) → Never (first_of (own_tests line))
-never_own line e = absurd (false≢true (own_told line Memory e))
+-- no other fault is one of a line by itself, nor of three tests
+pub no_own : (fault : BuildFault) (line : ObjectLine) → is_own fault ≡ false → first_of (own_tests line) ≡ Some fault → ⊥
+no_own fault line other e = absurd (false≢true (sym other ∙ own_told line fault e))
+
+pub none_of_three : (fault x y z : BuildFault) (a b c : Bool) → (x ≡ fault → ⊥) → (y ≡ fault → ⊥) → (z ≡ fault → ⊥)
+    → first_of ((a, x) ∷ (b, y) ∷ (c, z) ∷ []) ≡ Some fault → ⊥
+none_of_three fault x y z true b c p q r e = p (same_Some x fault e)
+none_of_three fault x y z false true c p q r e = q (same_Some y fault e)
+none_of_three fault x y z false false true p q r e = r (same_Some z fault e)
+none_of_three fault x y z false false false p q r e = none-some fault e
 
 never_four : (a b c d : Bool) (rest : List (Bool × BuildFault)) → Never (first_of rest) → Never (first_of ((a, BadInstance) ∷ (b, DuplicateId) ∷ (c, BadName) ∷ (d, DuplicateName) ∷ rest))
 never_four true b c d rest k h = search rules
@@ -70,16 +78,10 @@ never_four false false false false rest k h = k h
 never_objects : (device : DeviceLine) (before lines : List ObjectLine) → Never (objects_fault device before lines)
 never_objects device before [] h = search rules
 never_objects device before (line ∷ lines) h =
-    never_or (object_fault device before line) (objects_fault device (before ++ line ∷ []) lines) (never_four _ _ _ _ (own_tests line) (never_own line)) (never_objects device (before ++ line ∷ []) lines) h
-
-never_three : (a b c : Bool) → Never (first_of ((a, BadInstance) ∷ (b, BadName) ∷ (c, BadReplySize) ∷ []))
-never_three true b c h = search rules
-never_three false true c h = search rules
-never_three false false true h = search rules
-never_three false false false h = search rules
+    never_or (object_fault device before line) (objects_fault device (before ++ line ∷ []) lines) (never_four _ _ _ _ (own_tests line) (no_own Memory line refl)) (never_objects device (before ++ line ∷ []) lines) h
 
 pub never_memory : (device : DeviceLine) (lines : List ObjectLine) → Never (build_fault device lines)
-never_memory device lines = never_or (device_fault device) (objects_fault device [] lines) (never_three _ _ _) (never_objects device [] lines)
+never_memory device lines = never_or (device_fault device) (objects_fault device [] lines) (none_of_three Memory BadInstance BadName BadReplySize _ _ _ (λ e. cc) (λ e. cc) (λ e. cc)) (never_objects device [] lines)
 
 refuses : (fault : BuildFault) (said : Option BuildFault) → Never said → said ≡ Some fault → Refuses fault said
 refuses Memory said never is = absurd (never is)

@@ -1,6 +1,5 @@
 -- The line that is to mend.
-use Rattle.std.proofs.Common.{◌≡◌, ap, ◌∙◌, refl, rules, inl, inr, Bool, true, false, ◌||◌, not, nat_lt, if◌then◌else◌, List, [], ◌∷◌, ℕ, Option, Some}
-use Rattle.std.proofs.lemmas.Bool.{false≢true}
+use Rattle.std.proofs.Common.{◌≡◌, ap, ◌∙◌, refl, inl, inr, Bool, true, false, ◌||◌, not, nat_lt, if◌then◌else◌, List, [], ◌∷◌, ℕ, Option, Some}
 use Rattle.std.specs.List.{find}
 use Rattle.std.specs.Option.{IsSome, option_map, option_or}
 use Rattle.std.specs.Str.{bytes_eq}
@@ -12,7 +11,7 @@ use Rattle.bac_objects.specs.declared.build.Misfit.{Misfit}
 use Rattle.bac_objects.specs.declared.lines.DeviceLine.{DeviceLine}
 use Rattle.bac_objects.specs.declared.lines.LineId.{LineId}
 use Rattle.bac_objects.specs.declared.lines.ObjectLine.{ObjectLine}
-use Rattle.bac_objects.proofs.Builds.{faulty_told, left_none, own_told, right_none}
+use Rattle.bac_objects.proofs.Builds.{faulty_told, left_none, right_none, no_own, none_of_three}
 
 -- ---- its fault is the first
 
@@ -32,15 +31,6 @@ first_told device lines m (inr o) =
 
 abbrev Never : Option BuildFault → Type 0
 Never said = said ≡ Some DuplicateName → ⊥
-
-never_own : (line : ObjectLine) → Never (first_of (own_tests line))
-never_own line e = absurd (false≢true (own_told line DuplicateName e))
-
-never_three : (a b c : Bool) → Never (first_of ((a, BadInstance) ∷ (b, BadName) ∷ (c, BadReplySize) ∷ []))
-never_three true b c h = search rules
-never_three false true c h = search rules
-never_three false false true h = search rules
-never_three false false false h = search rules
 
 fourth : (a b c d : Bool) (rest : List (Bool × BuildFault)) → Never (first_of rest) → first_of ((a, BadInstance) ∷ (b, DuplicateId) ∷ (c, BadName) ∷ (d, DuplicateName) ∷ rest) ≡ Some DuplicateName → d ≡ true
 fourth true b c d rest never h = absurd cc
@@ -63,11 +53,11 @@ earlier false any id o rest h = rest h
 
 named : (device : DeviceLine) (before : List ObjectLine) (line : ObjectLine) → object_fault device before line ≡ Some DuplicateName → IsSome (earlier_named device before (name_of line))
 named device before line h =
-    let same = fourth (nat_lt 4194302 (instance_of line)) (has_id (id_of line) before) (not (is_name (name_of line))) (bytes_eq (name_of line) device.name || has_name (name_of line) before) (own_tests line) (never_own line) h in
+    let same = fourth (nat_lt 4194302 (instance_of line)) (has_id (id_of line) before) (not (is_name (name_of line))) (bytes_eq (name_of line) device.name || has_name (name_of line) before) (own_tests line) (no_own DuplicateName line refl) h in
     earlier (bytes_eq (name_of line) device.name) (has_name (name_of line) before) (device_line device) _ (found (name_of line) before) same
 
 pub namesake_there : (device : DeviceLine) (lines : List ObjectLine) (m : Misfit) → IsMisfit device lines m → m.fault ≡ DuplicateName → IsSome m.namesake
-namesake_there device lines m (inl d) is = absurd (never_three _ _ _ (d.fault ∙ ap Some is))
+namesake_there device lines m (inl d) is = absurd (none_of_three DuplicateName BadInstance BadName BadReplySize _ _ _ (λ e. cc) (λ e. cc) (λ e. cc) (d.fault ∙ ap Some is))
 namesake_there device lines m (inr o) is =
     let said : m.namesake ≡ earlier_named device o.before (name_of o.faulty) = o.namesake ∙ ap (λ (f : BuildFault). namesake_of f device o.before o.faulty) is in
     rw said (named device o.before o.faulty (o.fault ∙ ap Some is))

@@ -7,6 +7,7 @@ use Rattle.std.proofs.Math.Seq.{drop-cons}
 use Rattle.std.proofs.lemmas.Bool.Decides.{nat_tests}
 use Rattle.std.proofs.lemmas.List.{take-append-drop, take_more}
 use Rattle.std.proofs.lemmas.List.Folds.{list_any-append}
+use Rattle.std.proofs.lemmas.Bool.{or_parts}
 use Rattle.indexmap.specs.IndexSet.{insert_key}
 use Rattle.bac_wire.specs.Primitive.{Id}
 use Rattle.bac_objects.specs.Build.{first_of, has_id, has_name, id_of, instance_of, is_name, line_tests, name_of, object_fault, objects_fault, own_tests}
@@ -61,10 +62,6 @@ line_fault device before line same_id same_name r i n e =
 
 -- a line without a fault is none that was there
 
-right : (a b : Bool) → (a || b) ≡ false → b ≡ false
-right true b h = search rules
-right false b h = h
-
 second_and_fourth : (a b c d : Bool) (rest : List (Bool × BuildFault)) → first_of ((a, BadInstance) ∷ (b, DuplicateId) ∷ (c, BadName) ∷ (d, DuplicateName) ∷ rest) ≡ None → (b ≡ false) × (d ≡ false)
 second_and_fourth true b c d rest h = search rules
 second_and_fourth false true c d rest h = search rules
@@ -75,7 +72,7 @@ second_and_fourth false false false false rest h = (refl, refl)
 pub is_new : (device : DeviceLine) (before : List ObjectLine) (line : ObjectLine) → object_fault device before line ≡ None → (has_id (id_of line) before ≡ false) × (has_name (name_of line) before ≡ false)
 is_new device before line h =
     let f = second_and_fourth (nat_lt 4194302 (instance_of line)) (has_id (id_of line) before) (not (is_name (name_of line))) (bytes_eq (name_of line) device.name || has_name (name_of line) before) (own_tests line) h in
-    (f.0, right (bytes_eq (name_of line) device.name) (has_name (name_of line) before) f.1)
+    (f.0, (or_parts (bytes_eq (name_of line) device.name) (has_name (name_of line) before) f.1).1)
 
 -- ---- the tables
 
