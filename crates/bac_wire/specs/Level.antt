@@ -83,4 +83,5 @@ close_at (suc steps) depth wanted bytes = do
 abbrev pub IsPassed : ℕ → List ℕ → Type 0
 IsPassed n bytes = (tags : ℕ)
     × (1 ≤ tags) × (tags ≤ n) × (n ≤ length bytes)
-    × ((steps depth wanted : ℕ) → close_at (tags + steps) depth wanted bytes ≡ close_at steps depth wanted (drop n bytes))
+    × ((steps depth wanted : ℕ)
+    → close_at (tags + steps) depth wanted bytes ≡ close_at steps depth wanted (drop n bytes))
