@@ -1,26 +1,38 @@
 -- What comes from the device that isn't ours.
-use Rattle.std.proofs.Common.{◌≡◌, ℕ, true, false, Option, Some, None, Result, Ok, List, [], ◌∷◌, ◌++◌, refl, sym, subst, ap, ◌∙◌, inl, arith}
+use Rattle.std.proofs.Common.{◌≡◌, ℕ, zero, suc, ◌+◌, ◌<◌, ◌≤◌, ◌^◌, ◌==◌, Bool, true, false, nat_lt, get_or, if◌then◌else◌, Option, Some, None, Result, Ok, Err, List, [], ◌∷◌, ◌++◌, length, pos, refl, sym, subst, ap, ◌∙◌, inl, inr, arith}
+use Rattle.std.proofs.lemmas.Bool.{cases_Bool, cases_lt, eqb-true}
+use Rattle.bac_wire.specs.Canon.{tagged, unsigned_octets}
+use Rattle.bac_wire.specs.Number.{number}
+use Rattle.bac_wire.specs.Primitive.{Id, Object, Enumerated, Signed}
+use Rattle.bac_wire.proofs.Canonical.{unsigned_stands}
 use Rattle.bac_wire.specs.Level.{token_at, close_at}
 use Rattle.bac_wire.specs.Reading.{number_at as wire_number_at, length_at, value_in, tagged_at, value_at, context_at, mark_at, contents_as}
 use Rattle.bac_wire.specs.Encoding.{context_octets, value_octets, open_octets, close_octets}
 use Rattle.bac_apdu.specs.Apdu.{segment_at, confirmed_at, complex_at, number_at, error_at, pair_at, unconfirmed_at, segment_ack_at, apdu_behind, apdu_at}
 use Rattle.bac_apdu.specs.FormReading.{row_at, optional_at, form_at}
 use Rattle.bac_apdu.specs.Frame.{body_at, frame_at, frame_octets}
-use Rattle.bac_apdu.specs.Npdu.{place_at, maybe_place_at, hops_at, header_at, place_octets}
+use Rattle.bac_apdu.specs.Apdu.{apdu_octets, Confirmed}
+use Rattle.bac_apdu.specs.Npdu.{header_octets, place_at, maybe_place_at, hops_at, header_at, place_octets}
 use Rattle.bac_apdu.specs.Octets.{word_at, octets_at}
 use Rattle.bac_apdu.specs.Service.ReadRangeAck.{read_range_ack_at}
 use Rattle.bac_log.specs.RecordReading.{date_at, time_at, behind_at, simple_at, choice_at, chosen_at, datum_at, flags_at, entry_at, entries_at}
 use Rattle.bac_log.specs.TrendLog.{sequence_number}
 use Rattle.bac_link.specs.Datagrams.{carried_in, message_in}
-use Rattle.bac_link.specs.Delivery.{DeliversTo, items_of}
+use Rattle.bac_link.specs.Delivery.{DeliversTo, Moment, items_of, now, later}
+use Rattle.bac_link.specs.Laws.{moment_at}
 use Rattle.bac_link.specs.Links.{question}
 use Rattle.bac_link.specs.Path.{Path, towards}
-use Rattle.bac_link.specs.Requests.{parameters_of, request_apdu, request_octets}
+use Rattle.bac_link.specs.Requests.{asking, parameters_of, request_apdu, request_octets}
 use Rattle.bac_link.specs.declared.item.Item.{Item}
 use Rattle.bac_link.specs.declared.item.Item.TheVariants.{Logged}
 use Rattle.bac_link.specs.declared.link.Lost.{Lost}
 use Rattle.bac_walk.specs.Came.{Asks, Came, Comes, Brought, BroughtIsDelivered, AreOf, AreSaidAt, EndsBy, EndsEmpty, answers_of, asked_by}
 use Rattle.bac_walk.specs.Collects.{turn_items}
+use Rattle.bac_walk.specs.Delivers.{NoneFrom}
+use Rattle.bac_walk.specs.Spoken.{DeliversSaid, IsSaidOrLost, IsSpokenEnd, SpeaksFor}
+use Rattle.bac_walk.specs.Told.{ended_of}
+use Rattle.bac_walk.specs.declared.outcome.WalkFault.{WalkFault}
+use Rattle.bac_walk.specs.declared.outcome.WalkFault.TheVariants as fault
 use Rattle.bac_walk.specs.Outcomes.{IsRunOf}
 use Rattle.bac_walk.specs.declared.outcome.Ended.{Ended}
 use Rattle.bac_walk.specs.declared.outcome.Ended.TheVariants.{CaughtUp as IsUp, StepLimit, Stopped, Fault}
@@ -34,7 +46,7 @@ use Rattle.bac_walk.specs.Standard.{FromNumber, FromOldest, IsSaidAt, HoldsNumbe
 use Rattle.bac_walk.specs.Walks.{question_of, IsTakenFrom}
 use Rattle.bac_walk.specs.declared.outcome.Progress.{Progress}
 use Rattle.bac_walk.specs.declared.outcome.Progress.TheVariants.{Batch as BatchOf, AskOldest, CaughtUp}
-use Rattle.bac_client_tests.specs.Foreign.{all_held, from_7, from_9, from_oldest, held, history, log, none_from_11, record_7, record_8, record_9, record_10, said_to, IsSaid}
+use Rattle.bac_client_tests.specs.Foreign.{all_held, from_7, from_9, from_oldest, held, history, log, none_from_11, record_7, record_8, record_9, record_10, said_for, said_to, IsSaid}
 
 -- ---- what is read
 
@@ -253,3 +265,134 @@ all_delivered old new way retries w after steps n came items ended reason near f
       (d.1, d.2, d.4, subst D (d.3 refl) d.5),
       λ is. let e = up (λ a octets answer b. IsSaid octets answer) (towards None) retries n came b.0 after b.1 new items ended (ended_up reason steps n ended run is) b.3 b.4 in e.1 ∙ said.1 e.0,
     )
+
+-- ---- any question of a walk
+
+abbrev place : ℕ → Bool → Bool → WalkPlace
+place n fresh asks = record { log = log; next = n; fresh = fresh; asks_oldest = asks }
+
+asks_time_fresh : (n invoke : ℕ) (asks : Bool) → said_to (asked_for invoke (place n true asks)) ≡ Some from_oldest
+unfolding context_octets value_octets open_octets close_octets frame_octets place_octets parameters_of request_apdu request_octets
+asks_time_fresh n invoke asks = refl
+
+asks_time : (n invoke : ℕ) → said_to (asked_for invoke (place n false true)) ≡ Some from_oldest
+unfolding context_octets value_octets open_octets close_octets frame_octets place_octets parameters_of request_apdu request_octets
+asks_time n invoke = refl
+
+-- the question by number, with these contents for the number
+with_number : ℕ → List ℕ → List ℕ
+with_number invoke contents =
+    frame_octets (header_octets (asking (towards None)) ++ apdu_octets (Confirmed false 1476 invoke 26
+    (context_octets 0 (Object log) ++ (context_octets 1 (Enumerated 131) ++ (open_octets 6 ++ (tagged 0 2 contents ++ (value_octets (Signed (pos 100)) ++ (close_octets 6 ++ []))))))))
+
+asks_with : (n invoke : ℕ) → asked_for invoke (place n false false) ≡ with_number invoke (unsigned_octets n)
+unfolding with_number context_octets value_octets open_octets close_octets frame_octets place_octets parameters_of request_apdu request_octets
+asks_with n invoke = refl
+
+unknown_size : (size number : ℕ) → (size ≡ 33 → ⊥) → said_for 0x6e size number ≡ None
+unknown_size size number other = elim (cases_Bool (size == 33)) [
+  | inl e ↦ absurd (other (eqb-true size 33 e))
+  | inr e ↦ rw e refl
+]
+
+low_of : (n : ℕ) → 2 ≤ n → 32 + (if nat_lt n 5 then n else 5) ≡ 33 → ⊥
+low_of n two is = elim (cases_Bool (nat_lt n 5)) [
+  | inl e ↦ omega (arith, two, (let P : Bool → Type 0 = λ b. 32 + (if b then n else 5) ≡ 33 in subst P e is))
+  | inr e ↦ let P : Bool → Type 0 = λ b. 32 + (if b then n else 5) ≡ 33 in absurd (omega (arith, subst P e is))
+]
+
+none_said : (invoke : ℕ) → said_to (with_number invoke []) ≡ None
+unfolding with_number context_octets value_octets open_octets close_octets frame_octets place_octets parameters_of request_apdu request_octets
+none_said invoke = refl
+
+one_said : (invoke a : ℕ) → said_to (with_number invoke (a ∷ [])) ≡ said_for 0x6e 0x21 a
+unfolding with_number context_octets value_octets open_octets close_octets frame_octets place_octets parameters_of request_apdu request_octets
+one_said invoke a = refl
+
+more_said : (invoke a b : ℕ) (rest : List ℕ) → said_to (with_number invoke (a ∷ b ∷ rest)) ≡ None
+unfolding with_number context_octets value_octets open_octets close_octets frame_octets place_octets parameters_of request_apdu request_octets
+more_said invoke a b rest = unknown_size _ (get_or (with_number invoke (a ∷ b ∷ rest)) 19 0) (low_of (length (a ∷ b ∷ rest)) (omega arith))
+
+known : (a : ℕ) (seven nine eleven : Bool) (datagram : List ℕ) → (a == 7) ≡ seven → (a == 9) ≡ nine → (a == 11) ≡ eleven →
+    (if seven then Some from_7 else (if nine then Some from_9 else (if eleven then Some none_from_11 else None))) ≡ Some datagram → IsSaidAt held history log (FromNumber a) datagram
+known a true nine eleven datagram is_7 is_9 is_11 said =
+    let N : ℕ → Type 0 = λ n. IsSaidAt held history log (FromNumber n) datagram in
+    let D : List ℕ → Type 0 = λ d. IsSaidAt held history log (FromNumber 7) d in
+    subst N (sym (eqb-true a 7 is_7)) (subst D (same from_7 datagram said) said_7)
+known a false true eleven datagram is_7 is_9 is_11 said =
+    let N : ℕ → Type 0 = λ n. IsSaidAt held history log (FromNumber n) datagram in
+    let D : List ℕ → Type 0 = λ d. IsSaidAt held history log (FromNumber 9) d in
+    subst N (sym (eqb-true a 9 is_9)) (subst D (same from_9 datagram said) said_9)
+known a false false true datagram is_7 is_9 is_11 said =
+    let N : ℕ → Type 0 = λ n. IsSaidAt held history log (FromNumber n) datagram in
+    let D : List ℕ → Type 0 = λ d. IsSaidAt held history log (FromNumber 11) d in
+    subst N (sym (eqb-true a 11 is_11)) (subst D (same none_from_11 datagram said) said_11)
+known a false false false datagram is_7 is_9 is_11 said = absurd (cc)
+
+by_contents : (contents : List ℕ) (n invoke : ℕ) (datagram : List ℕ) → number contents ≡ n → said_to (with_number invoke contents) ≡ Some datagram → IsSaidAt held history log (FromNumber n) datagram
+by_contents [] n invoke datagram is said = absurd (let e = sym (none_said invoke) ∙ said in cc)
+by_contents (a ∷ b ∷ rest) n invoke datagram is said = absurd (let e = sym (more_said invoke a b rest) ∙ said in cc)
+by_contents (a ∷ []) n invoke datagram is said =
+    let N : ℕ → Type 0 = λ k. IsSaidAt held history log (FromNumber k) datagram in
+    subst N (let e : a ≡ n = omega (arith, is) in e) (known a (a == 7) (a == 9) (a == 11) datagram refl refl refl (sym (one_said invoke a) ∙ said))
+
+at_place : (n invoke : ℕ) (fresh asks : Bool) (datagram : List ℕ) → n < 2 ^ 64 → said_to (asked_for invoke (place n fresh asks)) ≡ Some datagram →
+    IsSaidAt held history log (asked_by (place n fresh asks)) datagram
+at_place n invoke true asks datagram small said =
+    let D : List ℕ → Type 0 = λ d. IsSaidAt held history log FromOldest d in subst D (same from_oldest datagram (sym (asks_time_fresh n invoke asks) ∙ said)) said_oldest
+at_place n invoke false true datagram small said =
+    let D : List ℕ → Type 0 = λ d. IsSaidAt held history log FromOldest d in subst D (same from_oldest datagram (sym (asks_time n invoke) ∙ said)) said_oldest
+at_place n invoke false false datagram small said =
+    by_contents (unsigned_octets n) n invoke datagram (unsigned_stands n small).1 (ap said_to (sym (asks_with n invoke)) ∙ said)
+
+one_ask : (M : List Moment) (w : WalkPlace) (s invoke : ℕ) (answer : Result (List ℕ) Lost) → held ∷ [] ≡ M → w.log ≡ log → w.next ≡ sequence_number s →
+    IsSaid (asked_for invoke w) answer → IsSaidOrLost (λ N. held ∷ [] ≡ N) M history w (asked_for invoke w) answer
+one_ask M w s invoke (Err lost) stands log_is next said = stands
+one_ask M w s invoke (Ok datagram) stands log_is next said =
+    let here : w ≡ place w.next w.fresh w.asks_oldest = ap (λ i. let v : WalkPlace = record { log = i; next = w.next; fresh = w.fresh; asks_oldest = w.asks_oldest } in v) log_is in
+    let S : WalkPlace → Type 0 = λ v. said_to (asked_for invoke v) ≡ Some datagram in
+    let R : WalkPlace → Type 0 = λ v. IsSaidAt held history v.log (asked_by v) datagram in
+    let reply = subst R (sym here) (at_place w.next invoke w.fresh w.asks_oldest datagram (omega (arith, next)) (subst S here said)) in
+    let P : List Moment → Type 0 = λ N. IsSaidAt (now N) history w.log (asked_by w) datagram × (held ∷ [] ≡ later N) in
+    ((λ yes. subst P stands (reply, refl)), λ no. stands)
+
+pub speaks_for : {S : Type 0} (low : ℕ) → SpeaksFor {S = S} (λ a octets answer b. IsSaid octets answer) (towards None) log history low (λ link M. held ∷ [] ≡ M)
+speaks_for low = λ old new M w s invoke answer stands log_is next some window at asked. one_ask M w s invoke answer stands log_is next asked
+
+always_held : (i : ℕ) → moment_at (held ∷ []) i ≡ held
+always_held zero = refl
+always_held (suc i) = always_held i
+
+is_loss : (e : WalkFault) → IsSpokenEnd (Fault e) → e ≡ fault.Lost
+is_loss fault.Lost end = refl
+is_loss (fault.Refused refusal) end = absurd end
+is_loss fault.BadReply end = absurd end
+
+-- over the device's link a run delivers what its log holds, from any place
+pub walk_delivers : {S : Type 0} (old new : S) (way : Option Place) (w after : WalkPlace) (items : List Item) (reason : Why) (low s : ℕ) →
+    DeliversSaid (λ a octets answer b. IsSaid octets answer) (towards way) old w items (ended_of reason) after new → way ≡ None → w.log ≡ log → w.next ≡ sequence_number s →
+    low ≤ 7 → (w.fresh ≡ false → (low ≤ s) × (s < low + 2147483648)) →
+    ((b : ℕ) × (a : ℕ) × (t : ℕ) × (w.fresh ≡ false → b ≡ s) × (after.next ≡ sequence_number t) × DeliversTo history b items t (held ∷ []) a × (reason ≡ why.CaughtUp → 10 < t))
+    × ((e : WalkFault) → reason ≡ why.Fault e → e ≡ fault.Lost)
+walk_delivers {S = S} old new way w after items reason low s said near log_is next below at =
+    let W : Option Place → Type 0 = λ y. DeliversSaid {S = S} (λ a octets answer b. IsSaid octets answer) (towards y) old w items (ended_of reason) after new in
+    let I : Id → Type 0 = λ i. SpeaksFor {S = S} (λ a octets answer b. IsSaid octets answer) (towards None) i history low (λ link M. held ∷ [] ≡ M) in
+    let all = subst W near said (λ link. held ∷ []) history s low (subst I (sym log_is) (speaks_for {S = S} low)) next (omega arith) tt (record { oldest = below; newest = omega arith }, tt) at in
+    let E : Why → Type 0 = λ y. IsSpokenEnd (ended_of y) in (
+      (
+        all.0,
+        all.1,
+        all.2,
+        all.3,
+        all.4,
+        all.5,
+        (λ up.
+            let caught = all.7 (ap ended_of up) in
+            let N : Moment → Type 0 = λ m. NoneFrom all.2 m in
+            beyond all.2 (subst N (always_held caught.0) caught.2)),
+      ),
+      λ e is. is_loss e (subst E is all.8),
+    )
+  where
+    beyond : (t : ℕ) → NoneFrom t held → 10 < t
+    beyond t none = elim (cases_lt 10 t) [ inl lt ↦ lt | inr ge ↦ absurd (none 10 ge (omega arith, omega arith)) ]

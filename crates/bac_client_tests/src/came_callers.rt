@@ -1,7 +1,7 @@
 //! What a user of walks needs who asks what follows from what came, proved from public contracts
 //! alone.
 
-ghost use Rattle.std.specs.Prelude.{ℕ, ◌≡◌, Bool};
+ghost use Rattle.std.specs.Prelude.{ℕ, ◌≡◌};
 ghost use Rattle.bac_link.specs.Path.{towards};
 ghost use Rattle.bac_walk.specs.declared.outcome.Ended.{Ended as EndedOf};
 ghost use Rattle.bac_walk.specs.Came.{restarted};
@@ -25,7 +25,7 @@ pub fn what_came_tells<L: LogLink>(
 ) -> Outcome
     ensures { (n : ℕ) × (ended : EndedOf) × IsRunOf result.why steps n ended
         × ((here : WalkPlace) × (restarted here ≡ restarted walk.new) × Told L.asks (towards transactions.old.route) transactions.old.retries ended here link.new)
-        × ((fresh : Bool) × ((s : ℕ) → Goes walk.old.fresh walk.old.next s result.items.items fresh result.next)) }
+        × ((s : ℕ) → Goes walk.old.fresh walk.old.next s result.items.items walk.new.fresh result.next) }
 {
     // For the prover alone, both: laws that the contract follows from.
     brought_tells_why::<L>();

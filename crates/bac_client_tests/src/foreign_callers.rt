@@ -1,10 +1,15 @@
 //! A device that isn't ours, with REAL records in a longer encoding, two a reply: that the headline
 //! of what came holds over it is proved from public contracts alone.
 
-ghost use Rattle.std.specs.Prelude.{ℕ, ◌≡◌, [], ◌∷◌, get_or, IfSome};
+ghost use Rattle.std.specs.Prelude.{ℕ, ◌≡◌, ◌+◌, ◌<◌, ◌≤◌, false, [], ◌∷◌, get_or, None, IfSome};
 ghost use Rattle.bac_log.specs.TrendLog.{sequence_number};
 ghost use Rattle.bac_link.specs.Delivery.{DeliversTo};
+ghost use Rattle.bac_link.specs.Path.{towards};
+ghost use Rattle.bac_walk.specs.Spoken.{SpeaksFor};
+ghost use Rattle.bac_walk.specs.declared.outcome.WalkFault.{WalkFault as WalkFaultOf};
+ghost use Rattle.bac_walk.specs.declared.outcome.WalkFault.TheVariants as fault;
 ghost use Rattle.bac_walk.specs.declared.outcome.Why.TheVariants as why;
+ghost use Rattle.bac_client_tests.specs.declared.foreign_callers.ForeignLink.{ForeignLink as ForeignLinkOf};
 ghost use Rattle.bac_client_tests.specs.Foreign.{all_held, held, history, log as log_one, said_to, IsSaid};
 
 use crate::direct_link::brought;
@@ -83,7 +88,8 @@ fn reply_to(question: &[u8]) -> Option<Datagram>
     }
 }
 
-/// It isn't claimed to be honest: what is proved over it follows from what it answers.
+/// It isn't claimed to be honest, which is of logs of our own: what is proved over it follows from
+/// what it answers.
 impl LogLink for ForeignLink {
     ghost failures = { λ link. link.failures };
 
@@ -135,6 +141,31 @@ pub fn records_of_another_device(
     let mut walk = Walk::from_number(log, 7)?;
     let mut transactions = Transactions::new(retries);
     Some(collect(alloc, link, &mut transactions, &mut walk, steps))
+}
+
+/// To each question of a walk of its log, from whatever number on or for the oldest, the device
+/// answers by the standard, or the ask is lost: the link speaks for its log.
+pub fn another_device_speaks()
+    ensures { (low : ℕ) → SpeaksFor {S = ForeignLinkOf} (λ old octets answer new. IsSaid octets answer) (towards None) log_one history low
+        (λ link M. held ∷ [] ≡ M) }
+{}
+
+/// So a walk of its log from any number, or from the oldest record, delivers what the log holds from
+/// there on, all of it where it is caught up; and the only fault is a loss.
+pub fn walk_of_another_device(
+    alloc: Global,
+    link: &mut ForeignLink,
+    transactions: &mut Transactions,
+    walk: &mut Walk,
+    steps: u32,
+) -> Outcome
+    ensures { (s low : ℕ) → transactions.old.route ≡ None → walk.old.log ≡ log_one → walk.old.next ≡ sequence_number s → low ≤ 7 →
+        (walk.old.fresh ≡ false → (low ≤ s) × (s < low + 2147483648)) →
+        ((b : ℕ) × (a : ℕ) × (t : ℕ) × (walk.old.fresh ≡ false → b ≡ s) × (walk.new.next ≡ sequence_number t)
+        × DeliversTo history b result.items.items t (held ∷ []) a × (result.why ≡ why.CaughtUp → 10 < t))
+        × ((e : WalkFaultOf) → result.why ≡ why.Fault e → e ≡ fault.Lost) }
+{
+    collect(alloc, link, transactions, walk, steps)
 }
 
 /// The record of this number, logged at the hour of that number.

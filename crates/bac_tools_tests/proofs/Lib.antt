@@ -2,3 +2,4 @@ mod AtRest
 mod Logged
 mod Silence
 mod Unfound
+mod Spoken

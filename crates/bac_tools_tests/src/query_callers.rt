@@ -1,18 +1,26 @@
 //! What a user of the queries needs, proved from their public contracts alone.
 
-ghost use Rattle.std.specs.Prelude.{◌≡◌, ◌+◌, ℕ, List, true, length, Err, IfSome};
+ghost use Rattle.std.specs.Prelude.{◌≡◌, ◌+◌, ◌<◌, ◌≤◌, ◌++◌, ℕ, List, None, true, length, Err, IfOk, IfSome};
+ghost use Rattle.std.specs.Io.KnownBytes.{Appends};
+ghost use Rattle.bac_log.specs.TrendLog.{sequence_number};
 ghost use Rattle.bac_link.specs.Delivery.{History, Moment, DeliversTo};
 ghost use Rattle.bac_link.specs.Exchanges.{Unanswered};
 ghost use Rattle.bac_link.specs.Path.{towards};
 ghost use Rattle.bac_link.specs.Requests.{next_invoke, request_octets, IsSendable};
 ghost use Rattle.bac_link.specs.declared.item.Item.{Item};
 ghost use Rattle.bac_query.specs.Fetching.{PrintsItems};
+ghost use Rattle.bac_report.specs.Ends.{end_line};
+ghost use Rattle.bac_report.specs.Items.{items_text};
+ghost use Rattle.bac_walk.specs.Came.{NeverGoesBack};
+ghost use Rattle.bac_walk.specs.Spoken.{SpeaksFor};
+ghost use Rattle.bac_walk.specs.declared.outcome.WalkFault.{WalkFault as WalkFaultOf};
+ghost use Rattle.bac_walk.specs.declared.outcome.WalkFault.TheVariants.{Lost as Loss};
 ghost use Rattle.bac_walk.specs.Collects.{start_of};
 ghost use Rattle.bac_walk.specs.Near.{AreInWindow};
 
 use bac_link::{ExchangeFault, LogLink, Request, Transactions};
 use bac_query::{Fetched, QueryFault, fetch_log, write_property};
-use bac_walk::{Walk, collected_is_delivered, windows_are_near};
+use bac_walk::{Walk, Why, collected_is_delivered, spoken_is_delivered, windows_are_near};
 use bac_wire::ObjectId;
 use std::alloc::Global;
 use std::io::Write;
@@ -56,4 +64,32 @@ pub fn written_until_lost<L: LogLink, W: Write>(
         (transactions.old.retries + 1) link.old link.new }
 {
     write_property(link, transactions, asked, out)
+}
+
+/// Over a link that speaks for a log by the standard, whatever records it holds: what is printed from
+/// number s on, if no write was refused, are the lines of the records that the log holds when each is
+/// reached, each once, in rising order, with the gaps before them, and the end line; and the only
+/// fault that it tells is a loss.
+pub fn printed_by_the_standard<L: LogLink, W: Write>(
+    alloc: Global,
+    link: &mut L,
+    log: ObjectId,
+    s: u32,
+    steps: u32,
+    out: &mut W,
+) -> Option<Result<Fetched, QueryFault>>
+    ensures { IfSome result (λ fetched. IfOk fetched (λ done. (moments : L → List Moment) (H : History) (k low : ℕ) →
+        SpeaksFor L.asks (towards None) log H low (λ l M. moments l ≡ M) → s ≡ sequence_number k →
+        0 < length (moments link.old) → NeverGoesBack (moments link.old) → AreInWindow low (moments link.old) →
+        low ≤ k → k < low + 2147483648 →
+        (items : List Item) × (a : ℕ) × (t : ℕ) × (done.next ≡ sequence_number t)
+        × DeliversTo H k items t (moments link.old) a
+        × Appends (W.contents out.old) (W.contents out.new) (items_text items ++ end_line done.why done.next)
+        × ((e : WalkFaultOf) → done.why ≡ Why.Fault e → e ≡ Loss))) }
+{
+    // For the prover alone: the law that the contract follows from.
+    spoken_is_delivered::<L>();
+    let walk = Walk::from_number(log, s)?;
+    let mut transactions = Transactions::new(3);
+    Some(fetch_log(alloc, link, &mut transactions, walk, steps, out))
 }

@@ -1,18 +1,18 @@
 -- What came over a link is delivered.
-use Rattle.std.proofs.Common.{◌≡◌, ℕ, zero, suc, ◌+◌, ◌<◌, ◌≤◌, ◌⊎◌, ◌||◌, inl, inr, Bool, true, false, Result, Ok, Err, List, [], ◌∷◌, length, drop, ◌++◌, refl, sym, ap, subst, ◌∙◌, arith, append_assoc}
-use Rattle.bac_link.proofs.Delivers.{resumed}
+use Rattle.std.proofs.Common.{◌≡◌, ℕ, zero, suc, ◌+◌, ◌-◌, ◌<◌, ◌≤◌, ◌⊎◌, ◌||◌, inl, inr, Bool, true, false, Result, Ok, Err, List, [], ◌∷◌, length, drop, ◌++◌, refl, sym, ap, subst, ◌∙◌, arith, append_assoc, append-nil}
+use Rattle.bac_link.proofs.Delivers.{joined, resumed}
 use Rattle.bac_link.specs.declared.item.Item.TheVariants.{Logged}
 use Rattle.bac_walk.specs.Ordinals.{number_after}
 use Rattle.bac_walk.specs.declared.outcome.Ended.{Ended}
 use Rattle.bac_walk.specs.declared.outcome.Ended.TheVariants.{CaughtUp as IsUp, StepLimit, Stopped, Fault}
 use Rattle.bac_walk.proofs.Shown.{after-number}
-use Rattle.bac_link.specs.Laws.{moment_at}
+use Rattle.bac_link.specs.Laws.{after_answers, moment_at}
 use Rattle.bac_link.specs.declared.item.Item.{Item}
 use Rattle.bac_link.specs.declared.link.Lost.{Lost as Loss}
 use Rattle.bac_link.specs.Delivery.{History, Moment, Brings, Leads, DeliversTo, now, later, items_of}
 use Rattle.bac_link.specs.Path.{Path}
 use Rattle.bac_log.specs.TrendLog.{sequence_number}
-use Rattle.bac_walk.specs.Came.{Came, Comes, AreSaidAt, AreOf, NeverGoesBack, EndsBy, EndsEmpty, BroughtIsDelivered, CameIsDelivered, SaidIsTaken, answers_of, asked_by, restarted}
+use Rattle.bac_walk.specs.Came.{Came, Comes, Brought, AreSaidAt, AreOf, NeverGoesBack, EndsBy, EndsEmpty, BroughtIsDelivered, CameIsDelivered, SaidIsTaken, answers_of, asked_by, restarted}
 use Rattle.bac_walk.specs.Collects.{batches, turn_items, IsCaughtUp}
 use Rattle.bac_walk.specs.Delivers.{NoneFrom}
 use Rattle.bac_walk.specs.Near.{IsInWindow, AreInWindow}
@@ -50,7 +50,7 @@ rises_now [] some back = absurd (omega arith)
 rises_now (m ∷ []) some back = omega arith
 rises_now (m ∷ n ∷ M) some back = back.0
 
-back_later : (M : List Moment) → NeverGoesBack M → NeverGoesBack (later M)
+pub back_later : (M : List Moment) → NeverGoesBack M → NeverGoesBack (later M)
 back_later [] back = back
 back_later (m ∷ []) back = back
 back_later (m ∷ n ∷ M) back = back.2
@@ -220,11 +220,24 @@ pub said_taken : SaidIsTaken
 said_taken = λ m H low s w after datagram bad says here window at taken.
     said_means H m low s w (heard_in w.log datagram) says.heard (Err bad) after says.reads window here at says.counts says.says taken
 
+-- answers that bring nothing change nothing
+no_more : (H : History) (M : List Moment) (t count : ℕ) → DeliversTo H t [] t M count
+no_more H M t zero = ([], refl, refl, refl)
+no_more H M t (suc count) =
+    let d = no_more H (later M) t count in ([] ∷ d.0, omega (arith, d.1), d.2, (t, refl, d.3))
+
+up_to : (H : History) (M : List Moment) (b t a count : ℕ) (items : List Item) → DeliversTo H b items t M a → a ≤ count → DeliversTo H b items t M count
+up_to H M b t a count items d le =
+    let all : a + (count - a) ≡ count = omega (arith, le) in
+    let P : List Item → Type 0 = λ l. DeliversTo H b l t M (a + (count - a)) in
+    let Q : ℕ → Type 0 = λ n. DeliversTo H b items t M n in
+    subst Q all (subst P (append-nil items) (joined H b t t a (count - a) M items [] d (no_more H (after_answers a M) t (count - a))))
+
 -- a run that brought this, from ordinal s
-abbrev Ran : WalkPlace → WalkPlace → ℕ → List Came → List Item → Ended → History → List Moment → Type 0
+abbrev pub Ran : WalkPlace → WalkPlace → ℕ → List Came → List Item → Ended → History → List Moment → Type 0
 Ran w after s came items ended H M =
-    (b : ℕ) × (a : ℕ) × (t : ℕ) × (w.fresh ≡ false → b ≡ s) × (after.next ≡ sequence_number t)
-    × DeliversTo H b items t M a × (ended ≡ IsUp → IsCaughtUp w.fresh t M (answers_of came))
+    (b : ℕ) × (t : ℕ) × (w.fresh ≡ false → b ≡ s) × (after.next ≡ sequence_number t)
+    × DeliversTo H b items t M (length came) × (ended ≡ IsUp → IsCaughtUp w.fresh t M (answers_of came))
 
 abbrev CameTo : WalkPlace → WalkPlace → ℕ → List Came → History → List Moment → Type 0
 CameTo w here s came H M =
@@ -236,22 +249,40 @@ whole_run : (w here after : WalkPlace) (s : ℕ) (came : List Came) (items : Lis
     CameTo w here s came H M → restarted after ≡ restarted here → items ≡ items_of (answers_of came) → (ended ≡ IsUp → EndsEmpty came) → Ran w after s came items ended H M
 whole_run w here after s came items ended H M d place is up =
     let P : List Item → Type 0 = λ l. DeliversTo H d.0 l d.1 M (length came) in
-    (d.0, length came, d.1, d.2, ap (λ (v : WalkPlace). v.next) place ∙ d.3, subst P (sym is) d.4, λ e. d.5 refl (up e))
+    (d.0, d.1, d.2, ap (λ (v : WalkPlace). v.next) place ∙ d.3, subst P (sym is) d.4, λ e. d.5 refl (up e))
 
 run_ended : {S : Type 0} (asks : Asking S) (path : Path) (retries : ℕ) (new mid : S) (w here after : WalkPlace) (s steps : ℕ) (came : List Came) (items : List Item) (ended : Ended) (H : History) (M : List Moment) →
     CameTo w here s came H M → EndsBy asks path retries steps came here mid ended after new → AreOf ended came items after → Ran w after s came items ended H M
 run_ended asks path retries new mid w here after s steps came items IsUp H M d ends are = whole_run w here after s came items IsUp H M d ends.2 are (λ e. ends.0)
 run_ended asks path retries new mid w here after s steps came items StepLimit H M d ends are = whole_run w here after s came items StepLimit H M d ends.2 are (λ e. absurd (cc))
 run_ended asks path retries new mid w here after s steps came items (Fault f) H M d ends are = whole_run w here after s came items (Fault f) H M d ends.2 are (λ e. absurd (cc))
-run_ended asks path retries new mid w here after s steps came items Stopped H M d ends (before, k, e, dropped, cut, all, next) =
+run_ended asks path retries new mid w here after s steps came items Stopped H M d ends (before, k, e, dropped, cut, all, next, old) =
     let whole : items_of (answers_of came) ≡ before ++ Logged k e ∷ dropped =
     sym all ∙ ap (λ l. l ++ dropped) cut ∙ append_assoc before (Logged k e ∷ []) dropped in
     let P : List Item → Type 0 = λ l. DeliversTo H d.0 l d.1 M (length came) in
     let r = resumed H d.0 d.1 (length came) k e M before dropped (subst P whole d.4) in
-    let Q : List Item → Type 0 = λ l. DeliversTo H d.0 l (r.0 + 1) M (r.1 + 1) in
-    (d.0, r.1 + 1, r.0 + 1, d.2, next ∙ ap (λ n. number_after n 1) r.2 ∙ after-number r.0 1, subst Q (sym cut) r.6, λ e. absurd (cc))
+    let Q : List Item → Type 0 = λ l. DeliversTo H d.0 l (r.0 + 1) M (r.1 + 1) in (
+      d.0,
+      r.0 + 1,
+      d.2,
+      next ∙ ap (λ n. number_after n 1) r.2 ∙ after-number r.0 1,
+      up_to H M d.0 (r.0 + 1) (r.1 + 1) (length came) items (subst Q (sym cut) r.6) (omega (arith, r.3)),
+      λ e. absurd (cc),
+    )
+
+pub brought_ran : {S : Type 0} (asks : Asking S) (path : Path) (retries : ℕ) (old new : S) (w after : WalkPlace) (steps : ℕ) (came : List Came) (items : List Item) (ended : Ended)
+    (H : History) (M : List Moment) (low s : ℕ) →
+    Brought asks path retries old w steps came items ended after new → AreSaidAt H M came → w.next ≡ sequence_number s →
+    0 < length M → NeverGoesBack M → AreInWindow low M → (w.fresh ≡ false → (low ≤ s) × (s < low + 2147483648)) →
+    Ran w after s came items ended H M
+brought_ran asks path retries old new w after steps came items ended H M low s run said here some back window at =
+    run_ended asks path retries new run.1 w run.0 after s steps came items ended H M
+    (came_delivers asks path retries old run.1 (restarted w) run.0 came H M low s run.2 said here some back window at) run.3 run.4
 
 pub brought_delivers : {S : Type 0} (asks : Asking S) → BroughtIsDelivered asks
 brought_delivers asks = λ path retries old new w after steps came items ended H M low s run said here some back window at.
-    run_ended asks path retries new run.1 w run.0 after s steps came items ended H M
-    (came_delivers asks path retries old run.1 (restarted w) run.0 came H M low s run.2 said here some back window at) run.3 run.4
+    let ran = brought_ran asks path retries old new w after steps came items ended H M low s run said here some back window at in
+    (ran.0, length came, ran.1, ran.2, ran.3, ran.4, ran.5)
+
+pub answers_came : (came : List Came) → length (answers_of came) ≡ length came
+answers_came came = length_answers came

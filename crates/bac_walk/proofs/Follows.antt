@@ -1,5 +1,5 @@
 -- Why a run ended, and that its numbers go on: from what came alone.
-use Rattle.std.proofs.Common.{◌≡◌, ℕ, Bool, true, false, ◌+◌, ◌<◌, Result, Ok, Err, List, [], ◌∷◌, ◌++◌, length, refl, sym, ap, subst, ◌∙◌, arith, append_assoc, ◌⊎◌, inl, inr}
+use Rattle.std.proofs.Common.{◌≡◌, ℕ, Bool, true, false, ◌+◌, Ok, List, [], ◌∷◌, ◌++◌, length, refl, sym, ap, subst, ◌∙◌, arith, append_assoc, ◌⊎◌, inl, inr}
 use Rattle.bac_link.specs.declared.item.Item.{Item}
 use Rattle.bac_link.specs.declared.item.Item.TheVariants.{Gap, Logged}
 use Rattle.bac_link.specs.Delivery.{items_of}
@@ -10,7 +10,7 @@ use Rattle.bac_walk.specs.declared.outcome.Ended.{Ended}
 use Rattle.bac_walk.specs.declared.outcome.Ended.TheVariants.{CaughtUp, StepLimit, Stopped, Fault}
 use Rattle.bac_walk.specs.declared.outcome.Progress.{Progress}
 use Rattle.bac_walk.specs.declared.outcome.Progress.TheVariants.{Batch as BatchOf, AskOldest, CaughtUp as IsUp}
-use Rattle.bac_walk.specs.Came.{Came, Asks, AreOf, Brought, Comes, EndsBy, EndsEmpty, answers_of, restarted}
+use Rattle.bac_walk.specs.Came.{Came, Asks, AreOf, Comes, EndsBy, EndsEmpty, answers_of, restarted}
 use Rattle.bac_walk.specs.Collects.{Goes, turn_items}
 use Rattle.bac_walk.specs.Delivers.{end_of}
 use Rattle.bac_walk.specs.Follows.{BroughtGoes, BroughtTells}
@@ -125,30 +125,25 @@ ends_go : {S : Type 0} (asks : Asking S) (path : Path) (retries steps : ℕ) (mi
     (came : List Came) (items : List Item) (ended : Ended) →
     EndsBy asks path retries steps came here mid ended after new → AreOf ended came items after →
     ((s : ℕ) → Goes fresh before s (items_of (answers_of came)) here.fresh here.next) →
-    (left : Bool) × ((ended ≡ Stopped → ⊥) → after.fresh ≡ left) × (ended ≡ Stopped → left ≡ false)
-    × ((s : ℕ) → Goes fresh before s items left after.next)
+    (s : ℕ) → Goes fresh before s items after.fresh after.next
 ends_go asks path retries steps mid new fresh before here after came items CaughtUp ends are goes =
-    (after.fresh, (λ n. refl), (λ s. absurd (cc)), whole_goes fresh before here after (items_of (answers_of came)) items ends.2 are goes)
+    whole_goes fresh before here after (items_of (answers_of came)) items ends.2 are goes
 ends_go asks path retries steps mid new fresh before here after came items StepLimit ends are goes =
-    (after.fresh, (λ n. refl), (λ s. absurd (cc)), whole_goes fresh before here after (items_of (answers_of came)) items ends.2 are goes)
+    whole_goes fresh before here after (items_of (answers_of came)) items ends.2 are goes
 ends_go asks path retries steps mid new fresh before here after came items (Fault e) ends are goes =
-    (after.fresh, (λ n. refl), (λ s. absurd (cc)), whole_goes fresh before here after (items_of (answers_of came)) items ends.2 are goes)
-ends_go asks path retries steps mid new fresh before here after came items Stopped ends are goes = (
-  false,
-  (λ n. absurd (n refl)),
-  (λ s. refl),
-  λ s.
-      let xs = are.0 in
-      let k = are.1 in
-      let e = are.2 in
-      let dropped = are.3 in
-      let parts : items_of (answers_of came) ≡ xs ++ Logged k e ∷ dropped =
-      sym are.5 ∙ ap (λ l. l ++ dropped) are.4 ∙ append_assoc xs (Logged k e ∷ []) dropped in
-      let P : List Item → Type 0 = λ l. Goes fresh before s l here.fresh here.next in
-      let Q : List Item → Type 0 = λ l. Goes fresh before s l false after.next in
-      let R : ℕ → Type 0 = λ n. Goes fresh before s (xs ++ Logged k e ∷ []) false n in
-      subst Q (sym are.4) (subst R (sym are.6) (cut_goes fresh before s xs k e dropped here.fresh here.next (subst P parts (goes s)))),
-)
+    whole_goes fresh before here after (items_of (answers_of came)) items ends.2 are goes
+ends_go asks path retries steps mid new fresh before here after came items Stopped ends are goes = λ s.
+    let xs = are.0 in
+    let k = are.1 in
+    let e = are.2 in
+    let dropped = are.3 in
+    let parts : items_of (answers_of came) ≡ xs ++ Logged k e ∷ dropped =
+    sym are.5 ∙ ap (λ l. l ++ dropped) are.4 ∙ append_assoc xs (Logged k e ∷ []) dropped in
+    let P : List Item → Type 0 = λ l. Goes fresh before s l here.fresh here.next in
+    let Q : List Item → Type 0 = λ l. Goes fresh before s l after.fresh after.next in
+    let R : ℕ → Type 0 = λ n. Goes fresh before s (xs ++ Logged k e ∷ []) false n in
+    let F : Bool → Type 0 = λ f. Goes fresh before s (xs ++ Logged k e ∷ []) f after.next in
+    subst Q (sym are.4) (subst F (sym are.7) (subst R (sym are.6) (cut_goes fresh before s xs k e dropped here.fresh here.next (subst P parts (goes s)))))
 
 pub brought_goes : {S : Type 0} (asks : Asking S) → BroughtGoes asks
 brought_goes asks path retries old new before after steps came items ended brought =

@@ -143,6 +143,7 @@ brought_joins {S = S} asks path retries old half new w mid after n more xs ys en
       ap (λ l. xs ++ l) is.4 ∙ sym (append_assoc xs is.0 (Logged is.1 is.2 ∷ [])),
       append_assoc xs ys is.3 ∙ ap (λ l. l ++ (ys ++ is.3)) are ∙ ap (λ l. items_of (answers_of first) ++ l) is.5 ∙ sym (came_items first rest),
       is.6,
+      is.7,
     )
     all (Fault e) is = whole is
 
@@ -204,6 +205,7 @@ handed_batch asks path retries puts old new sink left before mid b (Some n) (cam
             cut,
             ap (λ l. l ++ post) cut ∙ append_assoc pre (one ∷ []) post ∙ sym whole ∙ are,
             ap (λ m. number_after m 1) (sym c.shown),
+            refl,
           ),
         ),
       ),

@@ -1,5 +1,5 @@
 -- What comes over a link that speaks for a log.
-use Rattle.std.proofs.Common.{◌≡◌, ℕ, zero, suc, ◌+◌, ◌<◌, ◌≤◌, Bool, true, false, ◌==◌, if◌then◌else◌, Option, Some, None, Result, Ok, Err, List, [], ◌∷◌, length, refl, sym, ap, subst, ◌∙◌, inl, inr}
+use Rattle.std.proofs.Common.{◌≡◌, ℕ, zero, suc, ◌+◌, ◌<◌, ◌≤◌, Bool, true, false, ◌==◌, if◌then◌else◌, Option, Some, None, Result, Ok, Err, List, [], ◌∷◌, ◌++◌, length, refl, sym, ap, subst, ◌∙◌, inl, inr, arith}
 use Rattle.bac_wire.specs.Primitive.{Id}
 use Rattle.bac_apdu.specs.Apdu.{Apdu, Confirmed, Unconfirmed, Simple, Complex, SegmentAck, Error, Reject, Abort}
 use Rattle.bac_apdu.specs.declared.service.extent.Extent.{Extent}
@@ -8,19 +8,20 @@ use Rattle.bac_link.specs.declared.link.Lost.{Lost as Loss}
 use Rattle.bac_link.specs.declared.exchanges.Verdict.{Verdict}
 use Rattle.bac_link.specs.declared.exchanges.Verdict.TheVariants as verdict
 use Rattle.bac_link.specs.Datagrams.{apdu_in}
-use Rattle.bac_link.specs.Delivery.{History, Moment, now, later}
+use Rattle.bac_link.specs.Delivery.{History, Moment, DeliversTo, now, later}
 use Rattle.bac_link.specs.Exchanges.{Answers, IsNoAnswer, Unanswered, verdict_of}
-use Rattle.bac_link.specs.Laws.{after_answers}
+use Rattle.bac_link.specs.Laws.{after_answers, moment_at}
+use Rattle.bac_link.proofs.Delivers.{joined}
 use Rattle.bac_link.specs.Links.{question}
 use Rattle.bac_link.specs.Path.{Path}
 use Rattle.bac_link.specs.Requests.{request_octets}
 use Rattle.bac_log.specs.TrendLog.{sequence_number}
-use Rattle.bac_walk.specs.Came.{Came, Asks, Comes, AreSaidAt, EndsBy, asked_by, restarted}
+use Rattle.bac_walk.specs.Came.{Came, Asks, Comes, AreSaidAt, Brought, BroughtInto, EndsBy, NeverGoesBack, asked_by, restarted}
 use Rattle.bac_walk.specs.Heard.{AckParameters}
 use Rattle.bac_walk.specs.Near.{AreInWindow}
 use Rattle.bac_walk.specs.Place.{WalkPlace}
 use Rattle.bac_walk.specs.Replied.{heard_from, heard_in}
-use Rattle.bac_walk.specs.Spoken.{IsSaidOrLost, IsSpokenEnd, SpeaksFor, SpokenIsDelivered}
+use Rattle.bac_walk.specs.Spoken.{DeliversSaid, IsSaidOrLost, IsSpokenEnd, SpeaksFor, SpokenIsDelivered}
 use Rattle.bac_walk.specs.Standard.{IsSaidAt}
 use Rattle.bac_walk.specs.Takes.{parameters_in}
 use Rattle.bac_walk.specs.Walks.{question_of}
@@ -29,8 +30,19 @@ use Rattle.bac_walk.specs.declared.outcome.Ended.TheVariants.{CaughtUp as IsUp, 
 use Rattle.bac_walk.specs.declared.outcome.Progress.{Progress}
 use Rattle.bac_walk.specs.declared.outcome.Progress.TheVariants.{Batch as BatchOf, AskOldest, CaughtUp}
 use Rattle.bac_walk.specs.declared.outcome.WalkFault.TheVariants.{Lost, Refused, BadReply}
-use Rattle.bac_walk.proofs.Came.{Asking, brought_delivers, some_later, window_later, window_now}
+use Rattle.bac_walk.specs.Delivers.{NoneFrom}
+use Rattle.bac_walk.proofs.Joins.{after_answers-add}
+use Rattle.bac_walk.proofs.Window.{stays_in_window}
+use Rattle.bac_walk.proofs.Came.{Asking, answers_came, back_later, brought_delivers, brought_ran, some_later, window_later, window_now}
+use Rattle.bac_link.specs.declared.item.Item.{Item}
 use Rattle.bac_walk.specs.Meant.{Means}
+use Rattle.bac_walk.specs.Outcomes.{IsRunOf}
+use Rattle.bac_walk.specs.Sinks.{Call, Takes, is_stopped, put_items}
+use Rattle.bac_walk.specs.Told.{ended_of}
+use Rattle.bac_walk.specs.declared.batch.Gap.{Gap as GapOf}
+use Rattle.bac_walk.specs.declared.batch.Numbered.{Numbered}
+use Rattle.bac_walk.specs.declared.outcome.Why.{Why}
+use Rattle.bac_walk.specs.declared.outcome.Why.TheVariants.{CaughtUp as WasUp, StepLimit as WasLimit, Fault as WasFault, Memory}
 use Rattle.bac_walk.proofs.Standard.{said_means}
 
 -- ---- what a reply by the standard is to its question
@@ -161,3 +173,84 @@ spoken_delivers asks stands = λ path retries old new w after steps came items e
     let all = spoken asks stands path retries w.log H low came M old run.1 (restarted w) run.0 speaks here at run.2 in
     let end = ended_spoken asks stands path retries steps w.log H low came (after_answers (length came) M) run.0 after run.1 new ended speaks all.2 all.1 run.3 in
     (brought_delivers asks path retries old new w after steps came items ended H M low s run all.0 next some back window in_window, all.0, end.0, end.1)
+
+-- ---- what a run delivers, at the moments that a function tells
+
+as_ended : (why : Why) (steps n : ℕ) (ended : Ended) → IsRunOf why steps n ended → ended ≡ ended_of why
+as_ended WasUp steps n ended run = run.1
+as_ended WasLimit steps n ended run = run.1
+as_ended (WasFault e) steps n ended run = run.1
+as_ended Memory steps n ended run = run.1
+
+pub delivers_said : {S : Type 0} (asks : Asking S) (path : Path) (retries : ℕ) (old new : S) (w after : WalkPlace) (steps : ℕ) (items : List Item) (ended : Ended) →
+    (came : List Came) × Brought asks path retries old w steps came items ended after new → DeliversSaid asks path old w items ended after new
+delivers_said {S = S} asks path retries old new w after steps items ended (came, run) = λ moments H s low speaks next some back window at.
+    let stands : S → List Moment → Type 0 = λ link M. moments link ≡ M in
+    let here : Here low w.log (moments old) (restarted w) = record { ordinal = s; log_is = refl; next = next; some = some; window = window; at = at } in
+    let all = spoken asks stands path retries w.log H low came (moments old) old run.1 (restarted w) run.0 speaks here refl run.2 in
+    let end = ended_spoken asks stands path retries steps w.log H low came (after_answers (length came) (moments old)) run.0 after run.1 new ended speaks all.2 all.1 run.3 in
+    let ran = brought_ran asks path retries old new w after steps came items ended H (moments old) low s run all.0 next some back window at in (
+      ran.0,
+      length came,
+      ran.1,
+      ran.2,
+      ran.3,
+      ran.4,
+      end.0,
+      (λ up. let caught = ran.5 up in (caught.0, omega (arith, caught.1, answers_came came), caught.3)),
+      end.1,
+    )
+
+pub delivers_run : {S : Type 0} (asks : Asking S) (path : Path) (retries : ℕ) (old new : S) (w after : WalkPlace) (steps : ℕ) (items : List Item) (why : Why) →
+    (n : ℕ) × (ended : Ended) × IsRunOf why steps n ended × ((came : List Came) × Brought asks path retries old w n came items ended after new) →
+    DeliversSaid asks path old w items (ended_of why) after new
+delivers_run asks path retries old new w after steps items why (n, ended, run, brought) =
+    let P : Ended → Type 0 = λ e. DeliversSaid asks path old w items e after new in
+    subst P (as_ended why steps n ended run) (delivers_said asks path retries old new w after n items ended brought)
+
+pub into_said : {S T : Type 0} (asks : Asking S) (path : Path) (retries : ℕ) (puts : T → Option GapOf → Numbered → Bool → T → Type 0) (old new : S) (sink left : T) (w after : WalkPlace) (steps : ℕ) (ended : Ended) →
+    BroughtInto asks path retries puts old sink w steps ended after left new →
+    (calls : List Call) × Takes puts sink calls (is_stopped ended) left × DeliversSaid asks path old w (put_items calls) ended after new
+into_said asks path retries puts old new sink left w after steps ended (calls, takes, few, gaps, brought) =
+    (calls, takes, delivers_said asks path retries old new w after steps (put_items calls) ended brought)
+
+-- ---- one run, and another from where it ended
+
+some_after : (count : ℕ) (M : List Moment) → 0 < length M → 0 < length (after_answers count M)
+some_after zero M some = some
+some_after (suc count) M some = some_after count (later M) (some_later M some)
+
+back_after : (count : ℕ) (M : List Moment) → NeverGoesBack M → NeverGoesBack (after_answers count M)
+back_after zero M back = back
+back_after (suc count) M back = back_after count (later M) (back_later M back)
+
+pub said_joins : {S : Type 0} (asks : Asking S) (path : Path) (old half new : S) (w mid resumed after : WalkPlace) (xs ys : List Item) (e f : Ended) →
+    DeliversSaid asks path old w xs e mid half → DeliversSaid asks path half resumed ys f after new → resumed.log ≡ w.log → resumed.next ≡ mid.next → resumed.fresh ≡ false → w.fresh ≡ false →
+    DeliversSaid asks path old w (xs ++ ys) f after new
+said_joins {S = S} asks path old half new w mid resumed after xs ys e f first second log_is next_is by_number had_number = λ moments H s low speaks next some back window at.
+    let M : List Moment = moments old in
+    let a = first moments H s low speaks next some back window at in
+    let P : ℕ → Type 0 = λ n. DeliversTo H n xs a.2 M a.1 in
+    let one = subst P (a.3 had_number) a.5 in
+    let place = stays_in_window H M low s a.2 a.1 xs some window (at had_number).0 (at had_number).1 one in
+    let R : Id → Type 0 = λ i. SpeaksFor asks path i H low (λ link N. moments link ≡ N) in
+    let Q : List Moment → Type 0 = λ N. (0 < length N) × NeverGoesBack N × AreInWindow low N in
+    let left = subst Q (sym a.6) (some_after a.1 M some, back_after a.1 M back, place.2) in
+    let b = second moments H a.2 low (subst R (sym log_is) speaks) (next_is ∙ a.4) left.0 left.1 left.2 (λ old. (place.0, place.1)) in
+    let D : List Moment → Type 0 = λ N. DeliversTo H b.0 ys b.2 N b.1 in
+    let E : ℕ → Type 0 = λ n. DeliversTo H n ys b.2 (after_answers a.1 M) b.1 in
+    let two = subst E (b.3 by_number) (subst D a.6 b.5) in (
+      s,
+      a.1 + b.1,
+      b.2,
+      (λ old. refl),
+      b.4,
+      joined H s a.2 b.2 a.1 b.1 M xs ys one two,
+      b.6 ∙ ap (λ N. after_answers b.1 N) a.6 ∙ sym (after_answers-add a.1 b.1 M),
+      (λ up.
+          let c = b.7 up in
+          let F : List Moment → Type 0 = λ N. NoneFrom b.2 (moment_at N c.0) in
+          let G : List Moment → Type 0 = λ N. NoneFrom b.2 (now N) in
+          (a.1 + c.0, omega (arith, c.1), subst G (sym (after_answers-add a.1 c.0 M)) (subst F a.6 c.2))),
+      b.8,
+    )

@@ -1,10 +1,9 @@
 -- What follows from what came over a link, whoever answered: why a run ended, and that its numbers go on.
-use Rattle.std.specs.Prelude.{◌≡◌, ℕ, Bool, false, Result, List}
+use Rattle.std.specs.Prelude.{◌≡◌, ℕ, Result, List}
 use Rattle.bac_link.specs.declared.item.Item.{Item}
 use Rattle.bac_link.specs.declared.link.Lost.{Lost as Loss}
 use Rattle.bac_link.specs.Path.{Path}
 use Rattle.bac_walk.specs.declared.outcome.Ended.{Ended}
-use Rattle.bac_walk.specs.declared.outcome.Ended.TheVariants.{Stopped}
 use Rattle.bac_walk.specs.Came.{Came, Brought, restarted}
 use Rattle.bac_walk.specs.Collects.{Goes}
 use Rattle.bac_walk.specs.Place.{WalkPlace}
@@ -19,10 +18,9 @@ BroughtTells {S = S} asks =
     (here : WalkPlace) × (restarted here ≡ restarted after) × Told asks path retries ended here new
 
 -- What came goes on: the items begin at the walk's number, or at that of the oldest record, and cover each number up to
--- the next one. A walk that was stopped had a batch; of any other the run tells whether it did.
+-- the next one.
 abbrev pub BroughtGoes : {S : Type 0} → (S → List ℕ → Result (List ℕ) Loss → S → Type 0) → Type 0
 BroughtGoes {S = S} asks =
     (path : Path) (retries : ℕ) (old new : S) (before after : WalkPlace) (steps : ℕ) (came : List Came)
     (items : List Item) (ended : Ended) → Brought asks path retries old before steps came items ended after new →
-    (fresh : Bool) × ((ended ≡ Stopped → ⊥) → after.fresh ≡ fresh) × (ended ≡ Stopped → fresh ≡ false)
-    × ((s : ℕ) → Goes before.fresh before.next s items fresh after.next)
+    (s : ℕ) → Goes before.fresh before.next s items after.fresh after.next

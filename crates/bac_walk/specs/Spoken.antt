@@ -8,7 +8,7 @@ use Rattle.bac_link.specs.declared.item.Item.{Item}
 use Rattle.bac_link.specs.declared.link.Lost.{Lost as Loss}
 use Rattle.bac_link.specs.Datagrams.{answers_to}
 use Rattle.bac_link.specs.Delivery.{History, Moment, DeliversTo, now, later}
-use Rattle.bac_link.specs.Laws.{after_answers}
+use Rattle.bac_link.specs.Laws.{after_answers, moment_at}
 use Rattle.bac_link.specs.Links.{question}
 use Rattle.bac_link.specs.Moments.{AreServed, log_at}
 use Rattle.bac_link.specs.Path.{Path, towards}
@@ -20,6 +20,7 @@ use Rattle.bac_walk.specs.declared.outcome.Ended.TheVariants.{CaughtUp, StepLimi
 use Rattle.bac_walk.specs.declared.outcome.WalkFault.TheVariants.{Lost, Refused, BadReply}
 use Rattle.bac_walk.specs.Came.{Came, Comes, AreSaidAt, Brought, NeverGoesBack, answers_of, asked_by}
 use Rattle.bac_walk.specs.Collects.{IsCaughtUp}
+use Rattle.bac_walk.specs.Delivers.{NoneFrom}
 use Rattle.bac_walk.specs.Near.{AreInWindow, IsNear}
 use Rattle.bac_walk.specs.Place.{WalkPlace}
 use Rattle.bac_walk.specs.Standard.{IsSaidAt}
@@ -68,6 +69,20 @@ SpokenIsDelivered {S = S} asks stands =
     ((b : ℕ) × (a : ℕ) × (t : ℕ) × (w.fresh ≡ false → b ≡ s) × (after.next ≡ sequence_number t)
     × DeliversTo H b items t M a × (ended ≡ CaughtUp → IsCaughtUp w.fresh t M (answers_of came)))
     × AreSaidAt H M came × stands new (after_answers (length came) M) × IsSpokenEnd ended
+
+-- What a run over such a link delivers, at the moments that any function tells of the link: from the ordinal of the
+-- walk's number on, or from the oldest, the records that the log holds when each is reached. So many answers use up as
+-- many moments; caught up, the log held nothing more at one of these answers; and the only fault is a loss.
+abbrev pub DeliversSaid : {S : Type 0} → (S → List ℕ → Result (List ℕ) Loss → S → Type 0) → Path →
+    S → WalkPlace → List Item → Ended → WalkPlace → S → Type 0
+DeliversSaid {S = S} asks path old before items ended after new =
+    (moments : S → List Moment) (H : History) (s low : ℕ) →
+    SpeaksFor asks path before.log H low (λ link M. moments link ≡ M) → before.next ≡ sequence_number s →
+    0 < length (moments old) → NeverGoesBack (moments old) → AreInWindow low (moments old) →
+    (before.fresh ≡ false → (low ≤ s) × (s < low + 2147483648)) →
+    (b : ℕ) × (a : ℕ) × (t : ℕ) × (before.fresh ≡ false → b ≡ s) × (after.next ≡ sequence_number t)
+    × DeliversTo H b items t (moments old) a × (moments new ≡ after_answers a (moments old))
+    × (ended ≡ CaughtUp → (i : ℕ) × (i < a) × NoneFrom t (moment_at (moments old) i)) × IsSpokenEnd ended
 
 -- a link speaks for each log for which it is honest, by every way that a request can go
 abbrev pub HonestSpeaks : {S : Type 0} → (S → List ℕ → Result (List ℕ) Loss → S → Type 0) →

@@ -14,6 +14,7 @@ ghost use Rattle.bac_walk.specs.Outcomes.{IsRunOf};
 ghost use Rattle.bac_walk.specs.Rests.{rest, Rests, Misses};
 ghost use Rattle.bac_walk.specs.Told.{Told, ended_of};
 ghost use Rattle.bac_walk.specs.Came.{Came, Brought};
+ghost use Rattle.bac_walk.specs.Spoken.{DeliversSaid};
 
 use crate::batch::{Gap, Numbered};
 use crate::outcome::{Ended, Outcome, Why};
@@ -99,6 +100,9 @@ pub fn collect<L: LogLink>(
         StaysNear r H M walk.old.fresh s steps →
         (b : ℕ) × (a : ℕ) × (t : ℕ) × (walk.old.fresh ≡ false → b ≡ s) × (walk.new.next ≡ sequence_number t)
         × DeliversTo H b result.items.items t M a × L.is_honest link.new walk.old.log r (after_answers a M) H }
+    // So it does over a link that speaks for the log by the standard, whatever records it holds and
+    // however it encodes them; and the only fault is then a loss.
+    ensures said { DeliversSaid L.asks (towards transactions.old.route) link.old walk.old result.items.items (ended_of result.why) walk.new link.new }
     // It is a run of so many steps, or of fewer that had no memory for the next, of which nothing
     // was asked: over any link, and over an honest one with all that its answers brought and how it
     // ended.

@@ -8,6 +8,7 @@ ghost use Rattle.bac_walk.specs.Came.{BroughtInto};
 ghost use Rattle.bac_walk.specs.Place.{WalkPlace, walk_at};
 ghost use Rattle.bac_walk.specs.Near.{AreInWindow};
 ghost use Rattle.bac_walk.specs.Sinks.{Call, Takes, put_items, is_stopped};
+ghost use Rattle.bac_walk.specs.Spoken.{DeliversSaid};
 
 use crate::outcome::Ended;
 use crate::sink::{Sink, deliver};
@@ -33,6 +34,11 @@ pub fn stop_and_resume<L: LogLink, S: Sink, R: Sink>(
         walk.old.fresh ≡ false → L.is_honest link.old walk.old.log r M H → walk.old.next ≡ sequence_number s →
         AreInWindow low M → low ≤ s → s < low + 2147483648 →
         (a : ℕ) × (t : ℕ) × (walk.new.next ≡ sequence_number t) × DeliversTo H s (put_items first ++ put_items second) t M a) }
+    // So do they over a link that speaks for the log by the standard, unless the first walk was one
+    // from the oldest record.
+    ensures said { walk.old.fresh ≡ false → (first : List Call) × (second : List Call)
+        × Takes S.puts sink.old first (is_stopped result.0) sink.new × Takes R.puts rest.old second (is_stopped result.1) rest.new
+        × DeliversSaid L.asks (towards transactions.old.route) link.old walk.old (put_items first ++ put_items second) result.1 walk.new link.new }
     // Over any link: what came to the first walk, and to the second, which began at the number, and
     // on the link, where the first ended.
     ensures brought { (here : WalkPlace) × (half : L)

@@ -14,6 +14,7 @@ ghost use Rattle.bac_walk.specs.Spelled.{IsWhole, records_from};
 ghost use Rattle.bac_walk.specs.Collects.{FoundEnd, MissingEnd};
 ghost use Rattle.bac_walk.specs.Told.{Told};
 ghost use Rattle.bac_walk.specs.Came.{BroughtInto};
+ghost use Rattle.bac_walk.specs.Spoken.{DeliversSaid};
 
 use crate::batch::{Gap, Numbered};
 use crate::outcome::{Ended, WalkFault};
@@ -67,6 +68,10 @@ pub fn deliver<L: LogLink, S: Sink>(
     ensures near { (calls : List Call) × Takes S.puts sink.old calls (is_stopped result) sink.new
         × IsDeliveredNear (λ r M H. L.is_honest link.old walk.old.log r M H) (λ r M H. L.is_honest link.new walk.old.log r M H)
         walk.old walk.new steps (put_items calls) }
+    // So it does over a link that speaks for the log by the standard, whatever records it holds and
+    // however it encodes them; and the only fault is then a loss.
+    ensures said { (calls : List Call) × Takes S.puts sink.old calls (is_stopped result) sink.new
+        × DeliversSaid L.asks (towards transactions.old.route) link.old walk.old (put_items calls) result walk.new link.new }
     // It is a run of so many steps, with all that its answers brought and how it ended.
     ensures delivers { Delivery S.puts sink.old sink.new
         (λ r M H. L.is_honest link.old walk.old.log r M H) (λ r M H. L.is_honest link.new walk.old.log r M H)

@@ -13,6 +13,7 @@ ghost use Rattle.bac_walk.specs.Replied.{IsSame, heard_in, progress_of, step_of}
 ghost use Rattle.bac_walk.specs.Spelled.{data_held, records_from};
 ghost use Rattle.bac_walk.specs.Told.{Told, ToldTurn};
 ghost use Rattle.bac_walk.specs.Came.{Came, CameTurn, Brought};
+ghost use Rattle.bac_walk.specs.Spoken.{DeliversSaid};
 ghost use Rattle.bac_walk.specs.Walks.{IsTakenFrom};
 
 use crate::batch::Batch;
@@ -127,6 +128,8 @@ impl Walk {
             L.is_honest link.old self.old.log r M H → self.old.next ≡ sequence_number s → (self.old.fresh ≡ false → IsNearStep s M) →
             (b : ℕ) × (a : ℕ) × (t : ℕ) × (self.old.fresh ≡ false → b ≡ s) × (self.new.next ≡ sequence_number t)
             × DeliversTo H b (step_items result) t M a × L.is_honest link.new self.old.log r (after_answers a M) H }
+        // So it does over a link that speaks for the log by the standard.
+        ensures said { DeliversSaid L.asks (towards transactions.old.route) link.old self.old (step_items result) (step_ended result) self.new link.new }
         // The walk is at ordinal s before the step, near its log, and at t after it.
         ensures honest { (r : ℕ) (M : List Moment) (H : History) (s : ℕ) →
             L.is_honest link.old self.old.log r M H → self.old.next ≡ sequence_number s → (self.old.fresh ≡ false → IsNearStep s M) →

@@ -6,7 +6,7 @@ use Rattle.bac_walk.specs.declared.kept.Kept.{Kept}
 use Rattle.bac_walk.specs.declared.outcome.Ended.{Ended}
 use Rattle.bac_walk.specs.declared.outcome.Ended.TheVariants.{CaughtUp, StepLimit, Stopped, Fault}
 use Rattle.bac_walk.specs.declared.outcome.Why.{Why}
-use Rattle.bac_walk.specs.declared.outcome.Why.TheVariants.{StepLimit as WasLimit}
+use Rattle.bac_walk.specs.declared.outcome.Why.TheVariants.{StepLimit as WasLimit, Memory}
 use Rattle.bac_link.specs.Delivery.{History, Moment}
 use Rattle.bac_link.specs.Laws.{after_answers}
 use Rattle.bac_walk.specs.Sinks.{gaps, put_items, is_stopped, IsRun}
@@ -24,6 +24,7 @@ use Rattle.bac_walk.specs.Place.{WalkPlace}
 use Rattle.bac_walk.proofs.Told.{Asking}
 use Rattle.bac_link.specs.Path.{Path, towards}
 use Rattle.bac_walk.proofs.Rests.{rested}
+use Rattle.bac_walk.proofs.Spoken.{delivers_run}
 use Rattle.bac_walk.proofs.kept.collect.Goals as goal
 
 abbrev room : Kept → ℕ
@@ -361,3 +362,21 @@ returns-clause-unknown g c lacks =
     let here = c.loop-done.invariant.missing lacks in
     let same = c.loop-done.invariant.none here.1 in
     (same.0, c.next_number-2.ensures.next ∙ same.1, omega (arith, here.1))
+
+pub returns-then-not-make_room-clause-said : goal.returns-then-not-make_room-clause-said
+unfolding returns-then-not-make_room-clause-brought
+returns-then-not-make_room-clause-said g c =
+    delivers_run g.L.LogLink.asks (towards c.args.transactions.now.route) c.args.transactions.now.retries c.args.link.now c.loop-done.link c.args.walk.now c.loop-done.walk
+    c.args.steps c.make_room.new.kept.items.items Memory (returns-then-not-make_room-clause-brought g c)
+
+pub returns-in-Some-clause-said : goal.returns-in-Some-clause-said
+unfolding returns-in-Some-clause-brought
+returns-in-Some-clause-said g c =
+    delivers_run g.L.LogLink.asks (towards c.args.transactions.now.route) c.args.transactions.now.retries c.args.link.now c.deliver-ended.new.link c.args.walk.now c.deliver-ended.new.walk
+    c.args.steps c.deliver-ended.new.sink.items.items c.in-Some.why (returns-in-Some-clause-brought g c)
+
+pub returns-clause-said : goal.returns-clause-said
+unfolding returns-clause-brought
+returns-clause-said g c =
+    delivers_run g.L.LogLink.asks (towards c.args.transactions.now.route) c.args.transactions.now.retries c.args.link.now c.loop-done.link c.args.walk.now c.loop-done.walk
+    c.args.steps c.loop-done.kept.items.items WasLimit (returns-clause-brought g c)

@@ -1,7 +1,9 @@
 use Rattle.std.proofs.Common.{◌≡◌, ◌+◌, ℕ, sym, ap, ◌∙◌, subst}
 use Rattle.bac_wire.specs.Primitive.{Id}
 use Rattle.bac_walk.specs.Place.{WalkPlace, walk_at}
-use Rattle.bac_link.specs.Path.{towards}
+use Rattle.bac_link.specs.Path.{Path, towards}
+use Rattle.bac_walk.specs.Spoken.{DeliversSaid}
+use Rattle.bac_walk.proofs.Spoken.{said_joins}
 use Rattle.bac_walk.specs.Came.{BroughtInto}
 use Rattle.bac_walk.proofs.Joined.{into_same}
 use Rattle.bac_link.specs.Laws.{after_answers}
@@ -29,6 +31,20 @@ returns g c =
             g.R.Sink.puts c.deliver-first.new.link c.deliver-second.new.link c.args.rest.now c.deliver-second.new.sink c.in-Some.resumed c.deliver-second.new.walk c.args.more c.deliver-second.result
             (ap towards c.deliver-first.ensures.route) c.deliver-first.ensures.retries c.deliver-second.ensures.brought),
       );
+      said = λ had_number.
+          let one = c.deliver-first.ensures.said in
+          let two = c.deliver-second.ensures.said in
+          let is = (c.in-Some.ensures {u = tt}).some in
+          let D : Path → Type 0 = λ q. DeliversSaid g.L.LogLink.asks q c.deliver-first.new.link c.in-Some.resumed (put_items two.0) c.deliver-second.result c.deliver-second.new.walk c.deliver-second.new.link in (
+            one.0,
+            two.0,
+            one.1,
+            two.1,
+            said_joins g.L.LogLink.asks (towards c.args.transactions.now.route) c.args.link.now c.deliver-first.new.link c.deliver-second.new.link c.args.walk.now c.deliver-first.new.walk
+                c.in-Some.resumed c.deliver-second.new.walk (put_items one.0) (put_items two.0) c.deliver-first.result c.deliver-second.result one.2
+                (subst D (ap towards c.deliver-first.ensures.route) two.2) (ap (λ (v : WalkPlace). v.log) is ∙ c.log.ensures.log ∙ c.deliver-first.ensures.log)
+                (ap (λ (v : WalkPlace). v.next) is ∙ c.next_number.ensures.next) (ap (λ (v : WalkPlace). v.fresh) is) had_number,
+          );
       resumed = (
         x.0,
         y.0,

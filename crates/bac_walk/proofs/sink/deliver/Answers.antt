@@ -13,6 +13,7 @@ use Rattle.bac_walk.proofs.Window.{in_window_of}
 use Rattle.bac_walk.proofs.Joined.{no_into, into_joins, into_early, into_same}
 use Rattle.bac_walk.specs.Came.{BroughtInto}
 use Rattle.bac_link.specs.Path.{towards}
+use Rattle.bac_walk.proofs.Spoken.{into_said}
 use Rattle.bac_walk.proofs.sink.deliver.Goals as goal
 
 missing_more : (n : ℕ) (ended : Ended) → ended ≢ StepLimit → 0 < n → MissingEnd 1 ended → MissingEnd n ended
@@ -60,16 +61,19 @@ returns-in_default g c =
     (g.L.LogLink.failures c.args.link.now) (g.L.LogLink.failures c.loop-done.link) (g.L.LogLink.failures c.deliver_step.new.link)
     c.args.walk.now c.loop-done.walk c.deliver_step.new.walk c.loop-done.done c.deliver_step.result
     c.loop-done.invariant.delivers step c.loop-done.invariant.never_falls) in
+    let brought = into_early g.L.LogLink.asks (towards c.args.transactions.now.route) c.args.transactions.now.retries g.S.Sink.puts c.args.link.now c.deliver_step.new.link
+    c.args.sink.now c.deliver_step.new.sink c.args.walk.now c.deliver_step.new.walk (c.loop-done.done + 1) c.args.steps c.deliver_step.result not_limit (omega arith)
+    (into_joins g.L.LogLink.asks (towards c.args.transactions.now.route) c.args.transactions.now.retries g.S.Sink.puts c.args.link.now c.loop-done.link c.deliver_step.new.link
+    c.args.sink.now c.loop-done.sink c.deliver_step.new.sink c.args.walk.now c.loop-done.walk c.deliver_step.new.walk c.loop-done.done 1 c.deliver_step.result
+    c.loop-done.invariant.brought
+    (into_same g.L.LogLink.asks (towards c.args.transactions.now.route) (towards c.loop-done.transactions.route) c.args.transactions.now.retries c.loop-done.transactions.retries
+    g.S.Sink.puts c.loop-done.link c.deliver_step.new.link c.loop-done.sink c.deliver_step.new.sink c.loop-done.walk c.deliver_step.new.walk 1 c.deliver_step.result
+    (ap towards c.loop-done.invariant.route) c.loop-done.invariant.retries c.deliver_step.ensures.brought)) in
     record {
       none = λ h. absurd (omega (arith, h));
-      brought = into_early g.L.LogLink.asks (towards c.args.transactions.now.route) c.args.transactions.now.retries g.S.Sink.puts c.args.link.now c.deliver_step.new.link
-          c.args.sink.now c.deliver_step.new.sink c.args.walk.now c.deliver_step.new.walk (c.loop-done.done + 1) c.args.steps c.deliver_step.result not_limit (omega arith)
-          (into_joins g.L.LogLink.asks (towards c.args.transactions.now.route) c.args.transactions.now.retries g.S.Sink.puts c.args.link.now c.loop-done.link c.deliver_step.new.link
-          c.args.sink.now c.loop-done.sink c.deliver_step.new.sink c.args.walk.now c.loop-done.walk c.deliver_step.new.walk c.loop-done.done 1 c.deliver_step.result
-          c.loop-done.invariant.brought
-          (into_same g.L.LogLink.asks (towards c.args.transactions.now.route) (towards c.loop-done.transactions.route) c.args.transactions.now.retries c.loop-done.transactions.retries
-          g.S.Sink.puts c.loop-done.link c.deliver_step.new.link c.loop-done.sink c.deliver_step.new.sink c.loop-done.walk c.deliver_step.new.walk 1 c.deliver_step.result
-          (ap towards c.loop-done.invariant.route) c.loop-done.invariant.retries c.deliver_step.ensures.brought));
+      brought = brought;
+      said = into_said g.L.LogLink.asks (towards c.args.transactions.now.route) c.args.transactions.now.retries g.S.Sink.puts c.args.link.now c.deliver_step.new.link
+          c.args.sink.now c.deliver_step.new.sink c.args.walk.now c.deliver_step.new.walk c.args.steps c.deliver_step.result brought;
       told = told_same g.L.LogLink.asks (towards c.args.transactions.now.route) (towards c.loop-done.transactions.route) c.args.transactions.now.retries c.loop-done.transactions.retries
           c.deliver_step.result c.deliver_step.new.walk c.deliver_step.new.link (ap towards c.loop-done.invariant.route) c.loop-done.invariant.retries c.deliver_step.ensures.told;
       near = (
@@ -197,3 +201,9 @@ returns-clause-brought g c =
     let P : ℕ → Type 0 = λ n. BroughtInto g.L.LogLink.asks (towards c.args.transactions.now.route) c.args.transactions.now.retries g.S.Sink.puts c.args.link.now c.args.sink.now
     c.args.walk.now n StepLimit c.loop-done.walk c.loop-done.sink c.loop-done.link in
     subst P all c.loop-done.invariant.brought
+
+pub returns-clause-said : goal.returns-clause-said
+unfolding returns-clause-brought
+returns-clause-said g c =
+    into_said g.L.LogLink.asks (towards c.args.transactions.now.route) c.args.transactions.now.retries g.S.Sink.puts c.args.link.now c.loop-done.link
+    c.args.sink.now c.loop-done.sink c.args.walk.now c.loop-done.walk c.args.steps StepLimit (returns-clause-brought g c)

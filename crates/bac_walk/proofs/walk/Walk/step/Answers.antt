@@ -10,6 +10,7 @@ use Rattle.bac_walk.proofs.Sames.{same_step}
 use Rattle.bac_link.specs.Path.{towards}
 use Rattle.bac_walk.specs.Told.{Told}
 use Rattle.bac_walk.specs.Came.{Came, Brought}
+use Rattle.bac_walk.proofs.Spoken.{delivers_said}
 use Rattle.bac_walk.proofs.walk.Walk.step.Goals as goal
 
 pub returns-clause-fault : goal.returns-clause-fault
@@ -76,3 +77,9 @@ returns-clause-brought g c =
     let Q : Ended → Type 0 = λ e. (came : List Came) × Brought g.L.LogLink.asks (towards c.args.transactions.now.route) c.args.transactions.now.retries
     c.args.link.now c.args.self.now 1 came (step_items c.decoded.result) e c.reply.new.self c.reply.new.link in
     subst Q same.ended (subst P same.items c.reply.ensures.brought)
+
+pub returns-clause-said : goal.returns-clause-said
+unfolding returns-clause-brought
+returns-clause-said g c =
+    delivers_said g.L.LogLink.asks (towards c.args.transactions.now.route) c.args.transactions.now.retries c.args.link.now c.reply.new.link c.args.self.now c.reply.new.self 1
+    (step_items c.decoded.result) (step_ended c.decoded.result) (returns-clause-brought g c)

@@ -1,0 +1,65 @@
+-- What is printed of a link that speaks for a log.
+use Rattle.std.specs.Io.KnownBytes.{Appends}
+use Rattle.std.specs.Prelude.{IfOk}
+use Rattle.std.proofs.Common.{◌≡◌, ℕ, ◌+◌, ◌<◌, ◌≤◌, Option, None, Result, Ok, Err, List, ◌++◌, length, refl, subst, ◌∙◌}
+use Rattle.bac_wire.specs.Primitive.{Id}
+use Rattle.bac_apdu.specs.Npdu.{Place}
+use Rattle.bac_log.specs.TrendLog.{sequence_number}
+use Rattle.bac_link.specs.Delivery.{History, Moment, DeliversTo}
+use Rattle.bac_link.specs.Path.{towards}
+use Rattle.bac_link.specs.declared.item.Item.{Item}
+use Rattle.bac_link.specs.declared.link.Lost.{Lost as Loss}
+use Rattle.bac_query.specs.Fetching.{FetchesOver, Fetching}
+use Rattle.bac_query.specs.Reading.{Held}
+use Rattle.bac_query.specs.declared.fetching.Fetched.{Fetched}
+use Rattle.bac_report.specs.Ends.{end_line}
+use Rattle.bac_report.specs.Items.{items_text}
+use Rattle.bac_walk.specs.Came.{NeverGoesBack}
+use Rattle.bac_walk.specs.Near.{AreInWindow}
+use Rattle.bac_walk.specs.Outcomes.{IsRunOf}
+use Rattle.bac_walk.specs.Place.{WalkPlace, walk_at}
+use Rattle.bac_walk.specs.Spoken.{IsSpokenEnd, SpeaksFor, SpokenIsDelivered}
+use Rattle.bac_walk.specs.declared.outcome.Ended.{Ended}
+use Rattle.bac_walk.specs.declared.outcome.Ended.TheVariants.{Fault}
+use Rattle.bac_walk.specs.declared.outcome.WalkFault.{WalkFault}
+use Rattle.bac_walk.specs.declared.outcome.WalkFault.TheVariants.{Lost, Refused, BadReply}
+use Rattle.bac_walk.specs.declared.outcome.Why.{Why}
+use Rattle.bac_walk.specs.declared.outcome.Why.TheVariants as why
+
+ended_as : (w : Why) (steps n : ℕ) (ended : Ended) (e : WalkFault) → IsRunOf w steps n ended → w ≡ why.Fault e → ended ≡ Fault e
+ended_as why.CaughtUp steps n ended e run is = absurd (cc)
+ended_as why.StepLimit steps n ended e run is = absurd (cc)
+ended_as (why.Fault f) steps n ended e run is = let a = run.1 in cc
+ended_as why.Memory steps n ended e run is = absurd (cc)
+
+is_loss : (e : WalkFault) → IsSpokenEnd (Fault e) → e ≡ Lost
+is_loss Lost end = refl
+is_loss (Refused refusal) end = absurd end
+is_loss BadReply end = absurd end
+
+-- the lines of what such a link brought from the ordinal k on, and the end line
+abbrev pub PrintsSaid : History → List Moment → ℕ → Fetched → Held → Held → Type 0
+PrintsSaid H M k done old new =
+    (items : List Item) × (a : ℕ) × (t : ℕ) × (done.next ≡ sequence_number t) × DeliversTo H k items t M a
+    × Appends old new (items_text items ++ end_line done.why done.next) × ((e : WalkFault) → done.why ≡ why.Fault e → e ≡ Lost)
+
+pub prints_said : {S : Type 0} (asks : S → List ℕ → Result (List ℕ) Loss → S → Type 0) (link left : S) (way : Option Place) (retries : ℕ) (w : WalkPlace) (log : Id) (number steps : ℕ) (result : Fetching) (old new : Held) →
+    ((moments : S → List Moment) → SpokenIsDelivered asks (λ l M. moments l ≡ M)) → way ≡ None → w ≡ walk_at log number →
+    FetchesOver asks (towards way) retries link w steps result left old new →
+    IfOk result (λ done. (moments : S → List Moment) (H : History) (k low : ℕ) → SpeaksFor asks (towards None) log H low (λ l M. moments l ≡ M) → number ≡ sequence_number k →
+    0 < length (moments link) → NeverGoesBack (moments link) → AreInWindow low (moments link) → low ≤ k → k < low + 2147483648 → PrintsSaid H (moments link) k done old new)
+prints_said asks link left way retries w log number steps (Err fault) old new law near from over = tt
+prints_said {S = S} asks link left way retries w log number steps (Ok done) old new law near from over = λ moments H k low speaks here some back window above below.
+    let P : Option Place → WalkPlace → Type 0 = λ y v. FetchesOver asks (towards y) retries link v steps (Ok done) left old new in
+    let B : Option Place → Type 0 = λ y. P y (walk_at log number) in
+    let f : P None (walk_at log number) = subst B near (subst (P way) from over) in
+    let d = law moments (towards None) retries link f.5 (walk_at log number) f.4 f.2 f.0 f.1 f.3 H (moments link) low k speaks refl f.6 here some back window (λ is. (above, below)) in
+    let D : ℕ → Type 0 = λ x. DeliversTo H x f.1 d.0.2 (moments link) d.0.1 in (
+      f.1,
+      d.0.1,
+      d.0.2,
+      f.7.0.1 ∙ d.0.4,
+      subst D (d.0.3 refl) d.0.5,
+      f.7.2,
+      λ e is. is_loss e (subst IsSpokenEnd (ended_as done.why steps f.2 f.3 e f.7.0.0 is) d.3),
+    )
