@@ -38,3 +38,4 @@ pub mod Back
 pub mod Window
 pub mod Loggable
 pub mod Follows
+pub mod Flaws

@@ -24,3 +24,4 @@ pub mod Came
 pub mod Spoken
 pub mod Meant
 pub mod Follows
+pub mod Flaws

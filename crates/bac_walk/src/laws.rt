@@ -3,6 +3,7 @@ ghost use Rattle.std.specs.Prelude.{◌≡◌, ℕ, List};
 ghost use Rattle.bac_wire.specs.Primitive.{Id};
 ghost use Rattle.bac_link.specs.Delivery.{History, Moment};
 ghost use Rattle.bac_walk.specs.Came.{BroughtIsDelivered, CameIsDelivered, LostIsAsked, NothingCame, OwnIsSaid, SaidIsTaken};
+ghost use Rattle.bac_walk.specs.Flaws.{BadRepliesHaveFlaws, FlawsAreRefused};
 ghost use Rattle.bac_walk.specs.Follows.{BroughtGoes, BroughtTells};
 ghost use Rattle.bac_walk.specs.Meant.{SaidMeans};
 ghost use Rattle.bac_walk.specs.Near.{StaysInWindow, WindowsAreNear};
@@ -128,4 +129,14 @@ pub fn moments_never_go_back()
 /// Each number is that of an ordinal near a log, if enough was logged before what it holds.
 pub fn numbers_have_ordinals()
     ensures { NumbersHaveOrdinals }
+{}
+
+/// The replies that a walk can't take are those with a flaw.
+pub fn flaws_are_refused()
+    ensures { FlawsAreRefused }
+{}
+
+/// Over every link: a walk that was told a bad reply had one, and something is wrong with it.
+pub fn bad_replies_have_flaws<L: LogLink>()
+    ensures { BadRepliesHaveFlaws L.asks }
 {}

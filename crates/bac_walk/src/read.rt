@@ -113,7 +113,7 @@ pub(crate) fn next_record(octets: &[u8]) -> Option<(Entry, &[u8])>
 }
 
 /// How many records there are, if all octets are records.
-fn count_of(octets: &[u8]) -> Option<usize>
+pub(crate) fn count_of(octets: &[u8]) -> Option<usize>
     ensures { IsCounted result (records_in octets.now) }
 {
     let mut rest = octets;
@@ -141,7 +141,7 @@ pub(crate) fn is_same(a: ObjectId, b: ObjectId) -> bool
 }
 
 /// Whether an ACK is that of a log's records.
-fn is_of(ack: &ReadRangeAck, log: ObjectId) -> bool
+pub(crate) fn is_of(ack: &ReadRangeAck, log: ObjectId) -> bool
     ensures { result ≡ is_of_log log (range_ack_of ack.now) }
 {
     is_same(ack.object, log) && ack.property == LOG_BUFFER && ack.index.is_none()

@@ -225,14 +225,14 @@ impl Walk {
     }
 
     // Whether the oldest entries were asked for, and those that came begin before the next number.
-    fn is_past(&self, first: u32) -> bool
+    pub(crate) fn is_past(&self, first: u32) -> bool
         ensures { result ≡ is_past self.now first }
     {
         self.asks_oldest_now() && !self.fresh && !is_ahead(self.next, first)
     }
 
     // Whether so many entries from this number on were asked for.
-    fn fits(&self, first: u32, count: usize) -> bool
+    pub(crate) fn fits(&self, first: u32, count: usize) -> bool
         ensures { result ≡ fits self.now first count }
     {
         count <= 100
