@@ -6,9 +6,16 @@
 # work in one file and without contracts but those of safety. Both are in one program, which is
 # proved and built over copies of the libraries (its files aren't named .rt, since the gate looks for
 # such files in crates/ alone). The libraries must have been built, by `rt all check` or `rt ci`.
+#
+#     bench/walk.sh [PROGRAM [WALKS]]
+#
+# PROGRAM is crates/bac/out/bac where none is given. WALKS is the program of `collect` and the plain walks:
+# it is taken if it is there, and else left there once it is built.
 set -eu
+program=${1:-$(dirname "$0")/../crates/bac/out/bac}
+program=$(realpath -- "$program")
+kept=${2:+$(realpath -m -- "$2")}
 cd "$(dirname "$0")/.."
-program=${1:-crates/bac/out/bac}
 script=$(mktemp)
 room=$(mktemp -d)
 trap 'rm -rf "$script" "$room"' EXIT
@@ -48,22 +55,25 @@ for reply in 50 480 1476; do
     done
 done
 
-libraries='bac_wire bac_apdu bac_log bac_objects bac_device bac_link bac_walk bac_direct'
-mkdir -p "$room/crates/walk_bench/src"
-cp HANDLES "$room"
-for library in $libraries; do
-    cp -a "crates/$library" "$room/crates"
-    grep "^$library:" crates.txt >> "$room/crates.txt"
-done
-echo "walk_bench: $libraries arrayvec" >> "$room/crates.txt"
-for file in main plain; do
-    cp "bench/walk/$file.rattle" "$room/crates/walk_bench/src/$file.rt"
-done
-if ! (cd "$room/crates/walk_bench" && rt run -- plain 1476 1 1) > "$room/built" 2>&1; then
-    cat "$room/built"
-    exit 1
+walks=${kept:-$room/crates/walk_bench/out/walk_bench}
+if [ ! -x "$walks" ]; then
+    libraries='bac_wire bac_apdu bac_log bac_objects bac_device bac_link bac_walk bac_direct'
+    mkdir -p "$room/crates/walk_bench/src"
+    cp HANDLES "$room"
+    for library in $libraries; do
+        cp -a "crates/$library" "$room/crates"
+        grep "^$library:" crates.txt >> "$room/crates.txt"
+    done
+    echo "walk_bench: $libraries arrayvec" >> "$room/crates.txt"
+    for file in main plain; do
+        cp "bench/walk/$file.rattle" "$room/crates/walk_bench/src/$file.rt"
+    done
+    if ! (cd "$room/crates/walk_bench" && rt run -- plain 1476 1 1) > "$room/built" 2>&1; then
+        cat "$room/built"
+        exit 1
+    fi
+    [ -z "$kept" ] || cp "$room/crates/walk_bench/out/walk_bench" "$kept"
 fi
-walks=$room/crates/walk_bench/out/walk_bench
 for reply in 50 480 1476; do
     declare -A took
     for kind in collect plain; do
