@@ -1,5 +1,5 @@
 -- Why a run ended, and that its numbers go on: from what came alone.
-use Rattle.std.proofs.Common.{◌≡◌, ℕ, Bool, true, false, ◌+◌, ◌<◌, Result, Ok, Err, List, [], ◌∷◌, ◌++◌, length, refl, sym, ap, subst, ◌∙◌, arith, append_assoc, ◌⊎◌, inl, inr}
+use Rattle.std.proofs.Common.{◌≡◌, ℕ, Bool, true, false, ◌+◌, Ok, List, [], ◌∷◌, ◌++◌, length, refl, sym, ap, subst, ◌∙◌, arith, append_assoc, ◌⊎◌, inl, inr}
 use Rattle.bac_link.specs.declared.item.Item.{Item}
 use Rattle.bac_link.specs.declared.item.Item.TheVariants.{Gap, Logged}
 use Rattle.bac_link.specs.Delivery.{items_of}
@@ -10,7 +10,7 @@ use Rattle.bac_walk.specs.declared.outcome.Ended.{Ended}
 use Rattle.bac_walk.specs.declared.outcome.Ended.TheVariants.{CaughtUp, StepLimit, Stopped, Fault}
 use Rattle.bac_walk.specs.declared.outcome.Progress.{Progress}
 use Rattle.bac_walk.specs.declared.outcome.Progress.TheVariants.{Batch as BatchOf, AskOldest, CaughtUp as IsUp}
-use Rattle.bac_walk.specs.Came.{Came, Asks, AreOf, Brought, Comes, EndsBy, EndsEmpty, answers_of, restarted}
+use Rattle.bac_walk.specs.Came.{Came, Asks, AreOf, Comes, EndsBy, EndsEmpty, answers_of, restarted}
 use Rattle.bac_walk.specs.Collects.{Goes, turn_items}
 use Rattle.bac_walk.specs.Delivers.{end_of}
 use Rattle.bac_walk.specs.Follows.{BroughtGoes, BroughtTells}
