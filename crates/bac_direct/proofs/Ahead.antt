@@ -133,7 +133,7 @@ record Lies (rounds : ℕ) (d : State) (n : ℕ) (events : List LinkEvent) (M : 
   entries : H.entries ≡ past ++ ((log_with d n).entries ++ entries_ahead d n events)
 
 -- the oldest entries give way
-gives_way : (past held since ahead : List Entry) (k : ℕ) → past ++ (held ++ (since ++ ahead)) ≡ (past ++ take k held) ++ ((drop k held ++ since) ++ ahead)
+pub gives_way : (past held since ahead : List Entry) (k : ℕ) → past ++ (held ++ (since ++ ahead)) ≡ (past ++ take k held) ++ ((drop k held ++ since) ++ ahead)
 gives_way past held since ahead k =
     ap (λ (es : List Entry). past ++ (es ++ (since ++ ahead))) (sym (take-append-drop k held)) ∙ regroup past (take k held) (drop k held) since ahead
   where

@@ -17,7 +17,7 @@ use Rattle.bac_direct.specs.declared.event.LinkEvent.TheVariants.{Sample, Advanc
 
 -- ---- one event
 
-stays : (d : State) → Keeps d d
+pub stays : (d : State) → Keeps d d
 stays d = record { reply_size = refl; instance = refl; ids = refl; logs = λ n log e. (log, e, inl refl); lacks = λ n e. e; has = λ h. h }
 
 sample_keeps : (d : State) (n : ℕ) (r : Result (ℕ × State) SampleFault) → sampled d n ≡ r → Keeps d (after_sample d r).1

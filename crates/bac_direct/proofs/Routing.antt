@@ -15,12 +15,12 @@ use Rattle.bac_apdu.specs.Route.{IsRoute}
 use Rattle.bac_apdu.specs.declared.service.extent.Extent.{Extent}
 use Rattle.bac_apdu.proofs.Grammar.{bind_some, chosen_some}
 use Rattle.bac_apdu.proofs.Heads.{frame_again, header_again}
-use Rattle.bac_apdu.proofs.Shorts.{length-frame}
+use Rattle.bac_apdu.proofs.Shorts.{length-frame, length-place, length-no_place, place_valid}
 use Rattle.bac_link.specs.Datagrams.{carried_in, message_in, unicast_in}
 use Rattle.bac_link.specs.Links.{IsQuestion, question}
 use Rattle.bac_link.specs.Path.{Path, back, path_of, same_place, towards}
 use Rattle.bac_link.specs.Requests.{asking, request_apdu, request_octets}
-use Rattle.bac_link.proofs.Datagrams.{asking_valid, length-asking, length-place, none_long, message_of, place_valid}
+use Rattle.bac_link.proofs.Datagrams.{asking_valid, length-asking, message_of}
 use Rattle.bac_link.proofs.Verdicts.{question_short}
 use Rattle.bac_direct.specs.Routing.{handed, handed_on, is_for, whole}
 
@@ -156,7 +156,7 @@ length-handed far h far_is =
     omega (
       arith,
       length-place (Some far) far_is,
-      none_long,
+      length-no_place,
       length-append (1 ∷ control_of k ∷ []) (place_octets None ++ (place_octets (Some far) ++ hops_octets None 0)),
       length-append (place_octets None) (place_octets (Some far) ++ hops_octets None 0),
       length-append (place_octets (Some far)) (hops_octets None 0),

@@ -62,7 +62,7 @@ since-logs log new e l =
 
 -- ---- its moment
 
-moment_same : (a b c d : ℕ) → a ≡ b → c ≡ d → (let m : Moment = record { newest = a; oldest = c } in m) ≡ record { newest = b; oldest = d }
+pub moment_same : (a b c d : ℕ) → a ≡ b → c ≡ d → (let m : Moment = record { newest = a; oldest = c } in m) ≡ record { newest = b; oldest = d }
 moment_same a b c d p q = ap (λ n. let m : Moment = record { newest = n; oldest = c } in m) p ∙ ap (λ n. let m : Moment = record { newest = b; oldest = n } in m) q
 
 appended : (log new : Log) → newest new ≡ newest log + 1 → oldest new ≡ max (oldest log) (newest log + 2 - log.capacity) → moment_of new ≡ changed log.capacity (moment_of log) Append

@@ -6,9 +6,10 @@ use Rattle.std.specs.Str.{bytes_eq}
 use Rattle.std.proofs.lemmas.Slice.Eq.{bytes_eq-Decides}
 use Rattle.bac_apdu.specs.Apdu.{Apdu, Confirmed, Complex, Error, IsApdu, apdu_at, apdu_octets}
 use Rattle.bac_apdu.specs.Frame.{frame_octets, unicast_head}
-use Rattle.bac_apdu.specs.Npdu.{Header, Place, control_of, header_octets, hops_octets, place_octets, HasHops, IsHeader, IsPlace}
+use Rattle.bac_apdu.specs.Npdu.{Header, Place, control_of, header_octets, hops_octets, place_octets, HasHops, IsHeader}
 use Rattle.bac_apdu.specs.Route.{IsWay}
 use Rattle.bac_apdu.proofs.Heads.{frame_again, header_again, message_again}
+pub use Rattle.bac_apdu.proofs.Shorts.{length-place, length-no_place as none_long, length-hops, place_valid}
 use Rattle.bac_link.specs.Datagrams.{carried_in, message_in, apdu_in, asked_id, answer_in, same_id, answers_to}
 use Rattle.bac_link.specs.Path.{Path, AreWays, back, path_of, same_place, towards}
 use Rattle.bac_link.specs.Requests.{asking, hops_to, service_of, parameters_of, request_apdu, request_octets}
@@ -16,20 +17,7 @@ use Rattle.bac_link.specs.Transactions.{is_awaited}
 use Rattle.bac_link.specs.declared.request.Request.{Request}
 use Rattle.bac_link.specs.declared.transactions.Pending.{Pending}
 
-length-frame_octets : (body : List ℕ) → length (frame_octets body) ≡ 4 + length body
-unfolding frame_octets
-length-frame_octets body = omega arith
-
 -- ---- how long a header is
-
-pub length-place : (place : Option Place) → IsWay place → length (place_octets place) ≤ 18
-unfolding place_octets
-length-place None way = omega arith
-length-place (Some place) way = omega (arith, way.3)
-
-pub length-hops : (place : Option Place) (hops : ℕ) → length (hops_octets place hops) ≤ 1
-length-hops None hops = omega arith
-length-hops (Some place) hops = omega arith
 
 pub length-asking : (path : Path) → AreWays path → length (header_octets (asking path)) ≤ 39
 length-asking path ways =
@@ -43,10 +31,6 @@ length-asking path ways =
       length-append (place_octets path.dest) (place_octets path.source ++ hops_octets path.dest h.hops),
       length-append (place_octets path.source) (hops_octets path.dest h.hops),
     )
-
-pub none_long : length (place_octets None) ≡ 0
-unfolding place_octets
-none_long = refl
 
 -- to a place, and from this network
 abbrev to_place : Option Place → ℕ → Header
@@ -93,10 +77,6 @@ message_of h apdu m valid here is small = rw (carried_again h apdu valid here sm
 
 pub message_back : (h : Header) (m : Apdu) → IsHeader h → h.network ≡ false → IsApdu m → length (header_octets h ++ apdu_octets m) + 4 < 65536 → message_in (frame_octets (header_octets h ++ apdu_octets m)) ≡ Some (path_of h, m)
 message_back h m valid here is small = message_of h (apdu_octets m) m valid here (message_again m is) small
-
-pub place_valid : (place : Option Place) → IsWay place → IsPlace place
-place_valid None way = tt
-place_valid (Some place) way = (omega (arith, way.1), omega (arith, way.3))
 
 pub hops_valid : (place : Option Place) → HasHops place (hops_to place)
 hops_valid None = refl

@@ -1,5 +1,5 @@
 -- Laws of what a walk delivers.
-use Rattle.std.proofs.Common.{◌≡◌, ℕ, suc, ◌+◌, ◌<◌, ◌⊎◌, inl, inr, List, [], ◌∷◌, ◌++◌, length, refl, sym, ap, subst, ◌∙◌, append_assoc, append-nil, arith, length-append}
+use Rattle.std.proofs.Common.{◌≡◌, ℕ, suc, ◌+◌, ◌<◌, ◌⊎◌, inl, inr, List, [], ◌∷◌, ◌++◌, length, refl, sym, ap, subst, ◌∙◌, append_assoc, append-nil, arith, length-append, zero, ◌≤◌}
 use Rattle.std.proofs.lemmas.Grind.{flat_map-append}
 use Rattle.bac_log.specs.TrendLog.{sequence_number}
 use Rattle.bac_log.specs.declared.entry.Entry.{Entry}
@@ -7,6 +7,24 @@ use Rattle.bac_link.specs.declared.item.Item.{Item}
 use Rattle.bac_link.specs.declared.item.Item.TheVariants.{Gap, Logged}
 use Rattle.bac_link.specs.Delivery.{History, IsEntry, Moment, Holds, now, later, AreHeld, Brings, Leads, items_of, DeliversTo}
 use Rattle.bac_link.specs.Laws.{after_answers, moment_at, CoversEach, CanBeResumed, CanBeJoined, DeliversEachOnce}
+
+-- the last moment stays
+pub after_one : (i : ℕ) (m : Moment) → after_answers i (m ∷ []) ≡ m ∷ []
+after_one zero m = refl
+after_one (suc i) m = after_one i m
+
+-- ---- what a moment holds
+
+pub held_end : (H : History) (m : Moment) (s u : ℕ) (items : List Item) → AreHeld H m s items u → s ≤ m.newest + 1 → (s ≤ u) × (u ≤ m.newest + 1)
+held_end H m s u [] are le = (omega (arith, are), omega (arith, are, le))
+held_end H m s u (Gap f b ∷ items) are le = absurd are
+held_end H m s u (Logged k e ∷ items) are le =
+    let rest = held_end H m (s + 1) u items are.3 (omega (arith, are.1.1)) in (omega (arith, rest.0), rest.1)
+
+pub first_held : (H : History) (m : Moment) (s u : ℕ) (items : List Item) → 0 < length items → AreHeld H m s items u → Holds m s
+first_held H m s u [] some are = absurd (omega arith)
+first_held H m s u (Gap f b ∷ items) some are = absurd are
+first_held H m s u (Logged k e ∷ items) some are = are.1
 
 -- ---- each number once
 

@@ -8,8 +8,7 @@ use Rattle.bac_apdu.specs.declared.service.extent.Extent.{Extent}
 use Rattle.bac_apdu.proofs.Shorts.{range_apdu_short}
 use Rattle.bac_log.specs.Ack.{log_buffer, read_range_service}
 use Rattle.bac_log.specs.TrendLog.{Log}
-use Rattle.bac_link.specs.declared.exchanges.Refusal.TheVariants as refusal
-use Rattle.bac_link.specs.declared.exchanges.Verdict.TheVariants.{Ack, Refused}
+use Rattle.bac_link.specs.declared.exchanges.Verdict.TheVariants.{Ack}
 use Rattle.bac_link.specs.Datagrams.{answers_to, apdu_in}
 use Rattle.bac_link.specs.Exchanges.{verdict_of}
 use Rattle.bac_link.specs.Links.{HasReply, IsUnknown, IsQuestion, question, reply_parameters, RisesBy}

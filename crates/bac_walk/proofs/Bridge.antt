@@ -14,9 +14,10 @@ use Rattle.bac_log.specs.Record.{entry_octets}
 use Rattle.bac_log.specs.Run.{record_size}
 use Rattle.bac_log.specs.Select.{HeldEntry, numbered, selected, packed, greatest, reply_length, first_shown, entries_in, shows_number}
 use Rattle.bac_log.specs.TrendLog.{Log, oldest, sequence_number}
-use Rattle.bac_log.proofs.Packs.{length-numbered, take-numbered}
+use Rattle.bac_log.proofs.Packs.{length-numbered, take-numbered, entries_in-numbered}
 use Rattle.bac_log.proofs.Acks.{length-ack_length}
 use Rattle.bac_log.proofs.Sizes.{entry_sized}
+use Rattle.bac_log.proofs.Filled.{greatest_within}
 use Rattle.bac_link.specs.Delivery.{History, Moment}
 use Rattle.bac_link.specs.Moments.{IsMoment, log_at, entries_from}
 use Rattle.bac_walk.specs.Replies.{IsShown, Wanted, FromOrdinal, FromOldest, extent_of, first_asked, asked_count, fitting, how_many}
@@ -25,7 +26,6 @@ use Rattle.bac_walk.specs.Near.{IsNear}
 use Rattle.bac_walk.specs.Takes.{records_of, first_of}
 use Rattle.bac_walk.proofs.Asks.{selected-by_number, greatest_some}
 use Rattle.bac_walk.proofs.Oldest.{selected-from_oldest}
-use Rattle.bac_walk.proofs.ReadBack.{greatest_within}
 
 -- ---- parts of parts
 
@@ -67,10 +67,6 @@ greatest_same p q zero same = refl
 greatest_same p q (suc n) same =
     ap (λ (b : Bool). if b then suc n else greatest p n) (same (suc n) (omega arith) (omega arith))
     ∙ ap (λ (g : ℕ). if q (suc n) then suc n else g) (greatest_same p q n (λ k a b. same k a (omega arith)))
-
-entries_in-numbered : (first : ℕ) (entries : List Entry) → entries_in (numbered first entries) ≡ entries
-entries_in-numbered first [] = refl
-entries_in-numbered first (e ∷ es) = ap (λ (l : List Entry). e ∷ l) (entries_in-numbered (first + 1) es)
 
 shows : (wanted : Wanted) → shows_number (extent_of wanted) ≡ true
 shows (FromOrdinal n) = refl

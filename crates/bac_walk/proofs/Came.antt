@@ -76,7 +76,7 @@ Delivers low H M s w after came =
 base_of : (w : WalkPlace) (s : ℕ) (m : Moment) → w.fresh ≡ false → base w s m ≡ s
 base_of w s m old = rw old refl
 
-or_true : (a b : Bool) → (a || b) ≡ true → a ≡ false → b ≡ true
+pub or_true : (a b : Bool) → (a || b) ≡ true → a ≡ false → b ≡ true
 or_true true b h f = absurd (cc)
 or_true false b h f = h
 
@@ -91,9 +91,6 @@ later_up : (M : List Moment) (fresh : Bool) (t : ℕ) (items : List Item) (answe
     (was ≡ true → batches (items ∷ answers) ≡ 0 → (fresh ≡ true) × (batches answers ≡ 0)) → Up (later M) fresh t answers → Up M was t (items ∷ answers)
 later_up M fresh t items answers was same up =
     (suc up.0, omega (arith, up.1), up.2, up.3, λ f b. let o = same f b in up.4 o.0 o.1)
-
-empty_tail : (c d : Came) (came : List Came) → EndsEmpty (c ∷ d ∷ came) → EndsEmpty (d ∷ came)
-empty_tail c d came ends = ends
 
 -- a reply, and those after it
 with_rest : (H : History) (M : List Moment) (low s : ℕ) (w next after : WalkPlace) (p : Progress) (c : Came) (came : List Came) →

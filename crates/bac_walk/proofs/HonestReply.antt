@@ -9,6 +9,7 @@ use Rattle.bac_wire.specs.Primitive.{Id, Object}
 use Rattle.bac_apdu.specs.declared.service.extent.Extent.{Extent}
 use Rattle.std.specs.Option.{option_map}
 use Rattle.bac_apdu.specs.Service.ReadRangeAck.{range_ack_in, read_range_ack_at}
+use Rattle.bac_apdu.proofs.Named.{same_number}
 use Rattle.bac_log.specs.declared.entry.Entry.{Entry}
 use Rattle.bac_log.specs.Ack.{shown_parameters}
 use Rattle.bac_log.specs.Entry.{IsLoggable}
@@ -26,7 +27,6 @@ use Rattle.bac_link.specs.Path.{Path}
 use Rattle.bac_link.specs.Moments.{AreServed, log_at}
 use Rattle.bac_walk.specs.Takes.{records_of, first_of, parameters_in, Says}
 use Rattle.bac_walk.specs.Replied.{heard_from, heard_in}
-use Rattle.bac_walk.proofs.Heards.{number_back}
 use Rattle.bac_walk.proofs.Bridge.{IsNearTo, shown, answer_is}
 use Rattle.bac_walk.proofs.Held.{Sound-now, In-now}
 use Rattle.bac_walk.proofs.ReadBack.{reply_reads, packed_loggable}
@@ -45,7 +45,7 @@ same_self id = rw (eq-eqb id.kind id.kind refl, eq-eqb id.instance id.instance r
 
 heard_shown : (id : Id) (flags : ℕ) (first : Option ℕ) (es : List Entry) → All IsLoggable es →
     heard_of id (range_ack_in (shown_parameters id flags first es)) ≡ Some (record { first = first; count = length es; entries = es })
-heard_shown id flags first es l = rw (same_self id, number_back first, records_back es l) refl
+heard_shown id flags first es l = rw (same_self id, same_number first, records_back es l) refl
 
 pub heard_reply : (id : Id) (log : Log) (extent : Extent) (r : ℕ) → IsShown log → r ≤ 1476 → IsValid (Object id) →
     heard_at id (reply_parameters id log extent r) ≡ Some (record { first = first_of r log extent; count = length (records_of r log extent); entries = records_of r log extent })

@@ -28,6 +28,8 @@ use Rattle.bac_walk.specs.declared.outcome.WalkFault.{WalkFault}
 use Rattle.bac_walk.proofs.Handed.{calls_of, length-calls, gaps-one, items-calls, put_whole, put_up_to, map-append}
 use Rattle.bac_walk.proofs.Runs.{Takes-append, put_items-append, gaps-append}
 use Rattle.bac_walk.proofs.Told.{Asking}
+use Rattle.bac_walk.proofs.Joins.{batches-append}
+use Rattle.bac_walk.proofs.Cuts.{items_of-append}
 
 -- ---- two in a row
 
@@ -44,20 +46,11 @@ answers-append : (xs ys : List Came) → answers_of (xs ++ ys) ≡ answers_of xs
 answers-append [] ys = refl
 answers-append (c ∷ xs) ys = ap (λ l. c.items ∷ l) (answers-append xs ys)
 
-batches-append : (xs ys : List (List Item)) → batches (xs ++ ys) ≡ batches xs + batches ys
-batches-append [] ys = omega arith
-batches-append ([] ∷ xs) ys = batches-append xs ys
-batches-append ((x ∷ b) ∷ xs) ys = omega (arith, batches-append xs ys)
-
-items-append : (xs ys : List (List Item)) → items_of (xs ++ ys) ≡ items_of xs ++ items_of ys
-items-append [] ys = refl
-items-append (x ∷ xs) ys = ap (λ l. x ++ l) (items-append xs ys) ∙ sym (append_assoc x (items_of xs) (items_of ys))
-
 came_batches : (xs ys : List Came) → batches (answers_of (xs ++ ys)) ≡ batches (answers_of xs) + batches (answers_of ys)
 came_batches xs ys = ap batches (answers-append xs ys) ∙ batches-append (answers_of xs) (answers_of ys)
 
 came_items : (xs ys : List Came) → items_of (answers_of (xs ++ ys)) ≡ items_of (answers_of xs) ++ items_of (answers_of ys)
-came_items xs ys = ap items_of (answers-append xs ys) ∙ items-append (answers_of xs) (answers_of ys)
+came_items xs ys = ap items_of (answers-append xs ys) ∙ items_of-append (answers_of xs) (answers_of ys)
 
 full_append : (xs ys : List Came) → EndsFull xs → EndsFull ys → EndsFull (xs ++ ys)
 full_append [] ys first rest = rest

@@ -2,9 +2,10 @@
 use Rattle.std.proofs.Common.{◌≡◌, ℕ, zero, suc, Bool, true, false, ◌+◌, ◌<◌, ◌≤◌, List, [], ◌∷◌, ◌++◌, length, refl, sym, ap, subst, ◌∙◌, arith, length-append}
 use Rattle.bac_link.specs.declared.item.Item.{Item}
 use Rattle.bac_link.specs.declared.item.Item.TheVariants.{Gap, Logged}
-use Rattle.bac_link.specs.Delivery.{History, Moment, Holds, now, later, items_of, AreHeld, Brings, Leads}
+use Rattle.bac_link.specs.Delivery.{History, Moment, now, later, items_of, Brings, Leads}
 use Rattle.bac_link.specs.Laws.{after_answers}
 use Rattle.bac_link.specs.Moments.{AreServed}
+use Rattle.bac_link.proofs.Delivers.{after_one, held_end, first_held}
 use Rattle.bac_walk.specs.declared.outcome.Ended.TheVariants.{StepLimit}
 use Rattle.bac_walk.specs.Collects.{batches, start_of, Collected, IsFreshAfter}
 use Rattle.bac_walk.specs.Delivers.{end_of}
@@ -44,17 +45,6 @@ next_step r H M fresh mid_fresh s i retries old mid t items answers near run lef
 
 -- ---- what an answer brings
 
-held_end : (H : History) (m : Moment) (s u : ℕ) (items : List Item) → AreHeld H m s items u → s ≤ m.newest + 1 → (s ≤ u) × (u ≤ m.newest + 1)
-held_end H m s u [] are le = (omega (arith, are), omega (arith, are, le))
-held_end H m s u (Gap f b ∷ items) are le = absurd are
-held_end H m s u (Logged k e ∷ items) are le =
-    let rest = held_end H m (s + 1) u items are.3 (omega (arith, are.1.1)) in (omega (arith, rest.0), rest.1)
-
-first_held : (H : History) (m : Moment) (s u : ℕ) (items : List Item) → 0 < length items → AreHeld H m s items u → Holds m s
-first_held H m s u [] some are = absurd (omega arith)
-first_held H m s u (Gap f b ∷ items) some are = absurd are
-first_held H m s u (Logged k e ∷ items) some are = are.1
-
 -- a batch brings a walk into what is held, or right after it
 pub brings_end : (H : History) (m : Moment) (s u : ℕ) (x : Item) (items : List Item) → Brings H m s (x ∷ items) u → (m.oldest ≤ u) × (u ≤ m.newest + 1)
 brings_end H m s u (Gap f b) items brings =
@@ -93,10 +83,6 @@ run_leads r H M fresh s steps retries old new t items answers run =
     let end : end_of b (items_of answers) ≡ t = ap (λ l. end_of b l) run.all ∙ Covers-end b t items run.covers in
     let P : ℕ → Type 0 = λ u. Leads H M b answers u in
     subst P end (leads H M b answers run.each)
-
-after_one : (i : ℕ) (m : Moment) → after_answers i (m ∷ []) ≡ m ∷ []
-after_one zero m = refl
-after_one (suc i) m = after_one i m
 
 pub rest_near : (r : ℕ) (H : History) (m : Moment) (fresh : Bool) (s steps : ℕ) → AreServed r (m ∷ []) H → (fresh ≡ false → IsNear s m) → StaysNear r H (m ∷ []) fresh s steps
 rest_near r H m fresh s steps served near = λ i retries old new t items answers lt run not_fresh.

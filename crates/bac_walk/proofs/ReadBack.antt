@@ -20,7 +20,8 @@ use Rattle.bac_log.specs.TrendLog.{Log, oldest, sequence_number}
 use Rattle.bac_log.proofs.Acks.{ack_reads, length-ack_length, same_octets}
 use Rattle.bac_log.proofs.Records.{entries_back}
 use Rattle.bac_log.proofs.Sizes.{entry_sized}
-use Rattle.bac_log.proofs.Packs.{length-numbered}
+use Rattle.bac_log.proofs.Packs.{length-numbered, length-entries_in}
+use Rattle.bac_log.proofs.Filled.{greatest_within}
 use Rattle.bac_link.specs.Links.{reply_parameters}
 use Rattle.bac_walk.specs.Replies.{IsShown}
 
@@ -63,10 +64,6 @@ first_valid extent (r ∷ rs) = shown (shows_number extent)
     shown true = (omega arith, omega arith)
     shown false = tt
 
-length-entries_in : (rs : List HeldEntry) → length (entries_in rs) ≡ length rs
-length-entries_in [] = refl
-length-entries_in (r ∷ rs) = ap suc (length-entries_in rs)
-
 -- the greatest that passes does pass
 greatest_passes : (passes : ℕ → Bool) (most : ℕ) → (greatest passes most ≡ 0) ⊎ (passes (greatest passes most) ≡ true)
 greatest_passes passes zero = inl refl
@@ -75,13 +72,6 @@ greatest_passes passes (suc n) = elim (cases_Bool (passes (suc n))) [
   | inr p ↦
       let same = cond-false (passes (suc n)) (suc n) (greatest passes n) p in
       elim (greatest_passes passes n) [ inl z ↦ inl (same ∙ z) | inr q ↦ inr (ap passes same ∙ q) ]
-]
-
-pub greatest_within : (passes : ℕ → Bool) (most : ℕ) → greatest passes most ≤ most
-greatest_within passes zero = omega arith
-greatest_within passes (suc n) = elim (cases_Bool (passes (suc n))) [
-  | inl p ↦ let same = cond-true (passes (suc n)) (suc n) (greatest passes n) p in omega (arith, same)
-  | inr p ↦ let same = cond-false (passes (suc n)) (suc n) (greatest passes n) p in omega (arith, same, greatest_within passes n)
 ]
 
 sum_large : (es : List Entry) → All IsLoggable es → 17 * length es ≤ sum_by (λ e. length (entry_octets e)) es

@@ -9,8 +9,8 @@ use Rattle.bac_walk.specs.declared.outcome.WalkFault.{WalkFault}
 use Rattle.bac_walk.specs.declared.outcome.WalkFault.TheVariants.{Lost, Refused, BadReply}
 use Rattle.bac_log.specs.TrendLog.{sequence_number}
 use Rattle.bac_link.specs.Delivery.{History, Moment, Holds, now, later, items_of}
-use Rattle.bac_link.specs.Laws.{after_answers}
 use Rattle.bac_link.specs.Moments.{entries_from}
+use Rattle.bac_link.proofs.Delivers.{after_one}
 use Rattle.bac_walk.specs.Turns.{Covers, AreRecords, IsBatch, NoneOfHundred, whole_reply, reply_count}
 use Rattle.bac_walk.specs.Delivers.{end_of, AreAnswers, NoneFrom}
 use Rattle.bac_walk.specs.Walks.{items_in, numbered}
@@ -174,10 +174,6 @@ rests r H m why s (suc n) ((x ∷ xs) ∷ answers) each paced whole ends =
     (rest_step r H m s n (x ∷ xs) (items_of answers) (end_of (end_of s (x ∷ xs)) (items_of answers)) why false each.0
     (near_first H m r s (x ∷ xs) each.0 (whole_head why r H m false s _ _ x xs answers _ ends whole).0) (whole_head why r H m false s _ _ x xs answers _ ends whole).0
     (rests r H m why (end_of s (x ∷ xs)) n answers each.1 paced (whole_head why r H m false s _ _ x xs answers _ ends whole).1 (subst E joined (ends_more why m _ n x xs answers ends))))
-
-after_one : (i : ℕ) (m : Moment) → after_answers i (m ∷ []) ≡ m ∷ []
-after_one zero m = refl
-after_one (suc i) m = after_one i m
 
 ends_of : (why : Ended) (m : Moment) (fresh : Bool) (t : ℕ) (answers : List (List Item)) (steps retries old new : ℕ) → FoundEnd why → why ≢ Stopped →
     IsEnded why fresh t (m ∷ []) answers steps retries old new → Ends why m t answers steps

@@ -145,6 +145,12 @@ goes_on StepLimit is = refl
 goes_on Stopped is = absurd (cc)
 goes_on (Fault e) is = absurd (cc)
 
+pub runs_on : (ended : Ended) → ended ≢ Stopped → is_stopped ended ≡ false
+runs_on CaughtUp on = refl
+runs_on StepLimit on = refl
+runs_on Stopped on = absurd (on refl)
+runs_on (Fault e) on = refl
+
 pub not_stopped : (ended : Ended) → is_stopped ended ≡ false → ended ≢ Stopped
 not_stopped CaughtUp on = λ e. cc
 not_stopped StepLimit on = λ e. cc

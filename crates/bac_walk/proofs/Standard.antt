@@ -1,6 +1,6 @@
 -- What a reply by the standard means to a walk.
 use Rattle.std.proofs.Common.{◌≡◌, ℕ, suc, max, Bool, true, false, not, ◌+◌, ◌<◌, ◌≤◌, ◌⊎◌, inl, inr, if◌then◌else◌, nat_lt, nat_le, Option, Some, Result, Ok, Err, List, [], ◌∷◌, ◌++◌, length, refl, sym, ap, subst, ◌∙◌, arith}
-use Rattle.std.proofs.lemmas.Bool.{cases_lt, ltb-true, ltb-false, leb-true, leb-false, le-ltb, le-leb}
+use Rattle.std.proofs.lemmas.Bool.{cases_lt, ltb-true, ltb-false, leb-true, leb-false, le-ltb, le-leb, not-true, not-false}
 use Rattle.bac_link.specs.declared.item.Item.{Item}
 use Rattle.bac_link.specs.declared.item.Item.TheVariants.{Gap}
 use Rattle.bac_link.specs.Delivery.{History, Moment, AreHeld, Brings}
@@ -19,7 +19,7 @@ use Rattle.bac_walk.specs.declared.outcome.BadReply.{BadReply}
 use Rattle.bac_walk.specs.declared.outcome.Progress.{Progress}
 use Rattle.bac_walk.specs.declared.outcome.Progress.TheVariants.{Batch as BatchOf, AskOldest, CaughtUp}
 use Rattle.bac_walk.proofs.Shown.{number-is, distance-number, distance-behind, after-number, ahead-number, shown_numbered, length-numbered}
-use Rattle.bac_walk.proofs.Turns.{gap_same, or_left, both_true, last_false, not_true, not_false}
+use Rattle.bac_walk.proofs.Turns.{gap_same, or_left, both_true, last_false}
 use Rattle.bac_walk.proofs.WalkTakes.{verdict-bring}
 
 -- ---- entries
@@ -161,11 +161,11 @@ oldest_some H m low s w count e es p after window next by true fresh past is_fre
     let v : verdict w (Some (sequence_number m.oldest)) count (e ∷ es) ≡ End = rw past refl in
     let P : NextAct → Type 0 = λ u. IsTaken w (e ∷ es) u p after in
     let both = both_true (asks_oldest_now w) (not w.fresh) (not (is_ahead w.next (sequence_number m.oldest))) past in
-    let here = at (not_true w.fresh both.0) in
+    let here = at (not-true w.fresh both.0) in
     let in_log = held_within H m m.oldest (e ∷ es) (omega arith) are in
     let behind : nat_le s m.oldest ≡ false =
-    sym (ahead-number s m.oldest (omega (arith, here.1, window.oldest)) (omega (arith, here.0, window.newest, in_log.1))) ∙ ap (λ n. is_ahead n (sequence_number m.oldest)) (sym next) ∙ not_true _ both.1 in
-    end H m low s w (e ∷ es) p after (subst P v taken) by (inr (not_true w.fresh both.0, leb-false s m.oldest behind))
+    sym (ahead-number s m.oldest (omega (arith, here.1, window.oldest)) (omega (arith, here.0, window.newest, in_log.1))) ∙ ap (λ n. is_ahead n (sequence_number m.oldest)) (sym next) ∙ not-true _ both.1 in
+    end H m low s w (e ∷ es) p after (subst P v taken) by (inr (not-true w.fresh both.0, leb-false s m.oldest behind))
 oldest_some H m low s w count e es p after window next by false true past is_fresh at few counted are taken =
     let hundred : nat_le (length (e ∷ es)) 100 ≡ true = le-leb _ _ few in
     let fitting_in : fits w (sequence_number m.oldest) (length (e ∷ es)) ≡ true = rw (hundred, number-is m.oldest, by) refl in
@@ -184,7 +184,7 @@ oldest_some H m low s w count e es p after window next by false false past is_fr
     let v : verdict w (Some (sequence_number m.oldest)) count (e ∷ es) ≡ Bring (sequence_number m.oldest) = verdict-bring w (sequence_number m.oldest) count (e ∷ es) (omega arith) past counted fitting_in in
     let ahead : nat_le s m.oldest ≡ true =
     sym (ahead-number s m.oldest (omega (arith, here.1, window.oldest)) (omega (arith, here.0, window.newest, in_log.1))) ∙ ap (λ n. is_ahead n (sequence_number m.oldest)) (sym next)
-    ∙ not_false _ (last_false (asks_oldest_now w) (not w.fresh) (not (is_ahead w.next (sequence_number m.oldest))) past by (ap not is_fresh)) in
+    ∙ not-false _ (last_false (asks_oldest_now w) (not w.fresh) (not (is_ahead w.next (sequence_number m.oldest))) past by (ap not is_fresh)) in
     let le : s ≤ m.oldest = leb-true s m.oldest ahead in
     let top : m.oldest ≡ max s m.oldest = omega (arith, le) in
     let P : NextAct → Type 0 = λ u. IsTaken w (e ∷ es) u p after in

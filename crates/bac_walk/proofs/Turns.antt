@@ -1,6 +1,6 @@
 -- What one honest answer means to a walk.
 use Rattle.std.proofs.Common.{◌≡◌, ℕ, zero, suc, max, Bool, true, false, not, ◌&&◌, ◌||◌, ◌+◌, ◌-◌, ◌<◌, ◌≤◌, ◌⊎◌, inl, inr, if◌then◌else◌, nat_lt, nat_le, Option, Some, None, Result, Ok, Err, List, [], ◌∷◌, ◌++◌, length, drop, refl, sym, ap, subst, ◌∙◌, arith, length-take, length-drop}
-use Rattle.std.proofs.lemmas.Bool.{ltb-true, ltb-false, leb-true, leb-false, lt-ltb, le-ltb, le-leb}
+use Rattle.std.proofs.lemmas.Bool.{ltb-true, ltb-false, leb-true, leb-false, lt-ltb, le-ltb, le-leb, or_parts, not-true, not-false}
 use Rattle.bac_link.specs.declared.item.Item.{Item}
 use Rattle.bac_link.specs.declared.item.Item.TheVariants.{Gap}
 use Rattle.bac_walk.specs.Place.{WalkPlace}
@@ -126,10 +126,6 @@ entries_count H m f (suc c) s within low high =
       length-drop (f - (H.logged + 1)) H.entries,
     )
 
-pub or_right : (a b : Bool) → (a || b) ≡ false → b ≡ false
-or_right true b h = absurd (cc)
-or_right false b h = h
-
 pub both_true : (a b c : Bool) → (a && b && c) ≡ true → (b ≡ true) × (c ≡ true)
 both_true true true true h = (refl, refl)
 both_true true true false h = absurd (cc)
@@ -140,10 +136,6 @@ pub last_false : (a b c : Bool) → (a && b && c) ≡ false → a ≡ true → b
 last_false a b true h g k = cc
 last_false a b false h g k = refl
 
-pub not_true : (b : Bool) → not b ≡ true → b ≡ false
-not_true true h = absurd (cc)
-not_true false h = refl
-
 count_at : (r : ℕ) (H : History) (f g c d : ℕ) → f ≡ g → c ≡ d → fitting r f (entries_from H f c) ≡ fitting r g (entries_from H g d)
 count_at r H f g c d p q = ap (λ n. fitting r n (entries_from H n c)) p ∙ ap (λ n. fitting r g (entries_from H g n)) q
 
@@ -151,10 +143,6 @@ count_same : (r : ℕ) (H : History) (m : Moment) (b : Bool) (u : ℕ) → u ≤
     reply_count r H m b u ≡ how_many r H FromOldest m
 count_same r H m true u le same = count_at r H (max u m.oldest) m.oldest _ (asked_count FromOldest m) (omega arith) (omega arith)
 count_same r H m false u le same = let e : u ≡ m.oldest = same refl in count_at r H (max u m.oldest) m.oldest _ (asked_count FromOldest m) (omega arith) (omega (arith, e))
-
-pub not_false : (b : Bool) → not b ≡ false → b ≡ true
-not_false true h = refl
-not_false false h = absurd (cc)
 
 pub or_second : (a b : Bool) → a ≡ false → (a || b) ≡ b
 or_second true b h = absurd (cc)
@@ -192,7 +180,7 @@ by_number H m r s w first count (e ∷ es) p after sound within room few by next
     let P : NextAct → Type 0 = λ u. IsTaken w (e ∷ es) u p after in
     let Q : List Entry → Type 0 = λ xs. AreRecords H m f (numbered f xs) in
     let old : w.fresh ≡ false = or_left w.fresh w.asks_oldest by in
-    let asks : w.asks_oldest ≡ false = or_right w.fresh w.asks_oldest by in
+    let asks : w.asks_oldest ≡ false = (or_parts w.fresh w.asks_oldest by).1 in
     let E : Bool → Type 0 = λ b. (e ∷ es) ≡ entries_from H f (reply_count r H m b s) in
     bring r H m s s w (e ∷ es) p after (rw old refl) (omega (arith, near.above)) (subst P v taken) (omega arith)
     (subst Q (sym is) (records H m f (reply_count r H m false s) (omega (arith, sound.above)) (omega arith) (omega (arith, n, same, few))))
@@ -222,10 +210,10 @@ oldest_some r H m s w count e es p after next by true fresh past is_fresh near f
     let v : verdict w (Some (sequence_number m.oldest)) count (e ∷ es) ≡ End = rw past refl in
     let P : NextAct → Type 0 = λ u. IsTaken w (e ∷ es) u p after in
     let both = both_true (asks_oldest_now w) (not w.fresh) (not (is_ahead w.next (sequence_number m.oldest))) past in
-    let close = near (not_true w.fresh both.0) in
+    let close = near (not-true w.fresh both.0) in
     let behind : nat_le s m.oldest ≡ false =
-    sym (ahead-number s m.oldest close.below close.above) ∙ ap (λ n. is_ahead n (sequence_number m.oldest)) (sym next) ∙ not_true _ both.1 in
-    end r H m s w (e ∷ es) p after (subst P v taken) by (inr (not_true w.fresh both.0, leb-false s m.oldest behind))
+    sym (ahead-number s m.oldest close.below close.above) ∙ ap (λ n. is_ahead n (sequence_number m.oldest)) (sym next) ∙ not-true _ both.1 in
+    end r H m s w (e ∷ es) p after (subst P v taken) by (inr (not-true w.fresh both.0, leb-false s m.oldest behind))
 oldest_some r H m s w count e es p after next by false true past is_fresh near few counted are is taken =
     let hundred : nat_le (length (e ∷ es)) 100 ≡ true = le-leb _ _ few in
     let fitting_in : fits w (sequence_number m.oldest) (length (e ∷ es)) ≡ true = rw (hundred, number-is m.oldest, by) refl in
@@ -241,7 +229,7 @@ oldest_some r H m s w count e es p after next by false false past is_fresh near 
     let P : NextAct → Type 0 = λ u. IsTaken w (e ∷ es) u p after in
     let ahead : nat_le s m.oldest ≡ true =
     sym (ahead-number s m.oldest close.below close.above) ∙ ap (λ n. is_ahead n (sequence_number m.oldest)) (sym next)
-    ∙ not_false _ (last_false (asks_oldest_now w) (not w.fresh) (not (is_ahead w.next (sequence_number m.oldest))) past by (ap not is_fresh)) in
+    ∙ not-false _ (last_false (asks_oldest_now w) (not w.fresh) (not (is_ahead w.next (sequence_number m.oldest))) past by (ap not is_fresh)) in
     let asks : w.asks_oldest ≡ true = sym (or_second w.fresh w.asks_oldest is_fresh) ∙ by in
     oldest_batch r H m s s w e es p after (rw is_fresh refl) (omega (arith, close.above)) (leb-true s m.oldest ahead) (λ h. absurd (cc))
     (gap_same w s m (nat_lt s m.oldest) refl (omega (arith, close.above)) next is_fresh) are is (subst P v taken)

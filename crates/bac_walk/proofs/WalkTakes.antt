@@ -8,7 +8,6 @@ use Rattle.bac_walk.specs.Ordinals.{number_after}
 use Rattle.bac_walk.specs.Place.{WalkPlace}
 use Rattle.bac_walk.specs.declared.batch.Batch.{Batch}
 use Rattle.bac_walk.specs.declared.outcome.Progress.{Progress}
-use Rattle.bac_walk.specs.Collects.{asks_next}
 use Rattle.bac_walk.specs.declared.outcome.Progress.TheVariants.{Batch as BatchOf, AskOldest, CaughtUp}
 use Rattle.bac_walk.specs.Walks.{with_numbers, item_of, gap_items, gap_of, is_past, fits, NextAct, Refuse, Ask, End, Bring, verdict, IsTaken, IsTakenFrom}
 use Rattle.bac_walk.proofs.Numbers.{map-with_numbers}
@@ -36,16 +35,6 @@ taken w h heard f b new said is some current count fitting gap entries after =
           ∙ ap (λ n. gap_of w f ++ n) (map-with_numbers f h.entries),
       after,
     ))
-
--- a walk that asks on is where it was
-asked_verdict : (w : WalkPlace) (es : List Entry) (v : NextAct) (p : Progress) (after : WalkPlace) → IsTaken w es v (Ok p) after →
-    asks_next (Ok p) ≡ true → after.next ≡ w.next
-asked_verdict w es Ask AskOldest after taken asks = ap (λ (u : WalkPlace). u.next) taken
-asked_verdict w es Refuse AskOldest after taken asks = absurd taken
-asked_verdict w es End AskOldest after taken asks = absurd taken
-asked_verdict w es (Bring f) AskOldest after taken asks = absurd taken
-asked_verdict w es v (BatchOf b) after taken asks = absurd (cc)
-asked_verdict w es v CaughtUp after taken asks = absurd (cc)
 
 -- the log stays
 log_of : (w : WalkPlace) (es : List Entry) (v : NextAct) (p : Progress) (after : WalkPlace) → IsTaken w es v (Ok p) after → after.log ≡ w.log
