@@ -5,22 +5,29 @@ import resource
 import sqlite3
 import subprocess
 import sys
-import threading
 
 program, room, records, rows = sys.argv[1], sys.argv[2], int(sys.argv[3]), int(sys.argv[4])
 sys.path.insert(0, os.path.join(os.path.dirname(os.path.abspath(__file__)), "..", "examples"))
-sys.argv = ["kept.py", program, room, "1", "0", ""]
-import kept  # noqa: E402
+from kept_devices import Device, Log, serve  # noqa: E402
+
+
+# The greatest memory of a child counts what its parent has, so a small one starts it.
+MEASURE = """
+import resource, subprocess, sys
+status = subprocess.run(sys.argv[1:]).returncode
+used = resource.getrusage(resource.RUSAGE_CHILDREN)
+print(used.ru_utime + used.ru_stime, used.ru_maxrss / 1000, file=sys.stderr)
+sys.exit(status)
+"""
 
 
 def cost(words):
-    """Processor seconds and megabytes of a run."""
-    process = subprocess.Popen(words, stdout=subprocess.PIPE)
-    told = process.stdout.read().decode().strip()
-    _, status, used = os.wait4(process.pid, 0)
-    if status:
-        sys.exit(f"{words}: status {status}")
-    return used.ru_utime + used.ru_stime, used.ru_maxrss / 1000, told
+    """Processor seconds and megabytes of a run, and what it printed."""
+    run = subprocess.run([sys.executable, "-S", "-c", MEASURE, *words], capture_output=True, text=True)
+    if run.returncode:
+        sys.exit(f"{words}: status {run.returncode}: {run.stderr}")
+    took, memory = map(float, run.stderr.split())
+    return took, memory, run.stdout.strip()
 
 
 def inserted(source, into):
@@ -45,10 +52,13 @@ def inserted(source, into):
 
 
 def main():
-    log = kept.Log(1, records)
-    device = kept.Device([log], "bench")
+    log, part = Log(1, records), Log(2, records // 8)
+    device = Device([log, part], "bench")
     log.log(records)
-    threading.Thread(target=kept.serve, args=([device],), daemon=True).start()
+    part.log(records // 8)
+    serve([device])
+    _, memory, told = cost([program, "keep", f"{room}/part.db", device.address, "2", "--steps=1000000", "--timeout=60000"])
+    print(f"{told}: {memory:.0f} MB")
     for turn in range(3):
         file = f"{room}/{turn}.db"
         took, memory, told = cost([program, "keep", file, device.address, "1", "--steps=1000000", "--timeout=60000"])

@@ -297,7 +297,6 @@ counted ./stations.sh
 # A device behind a router.
 counted ./router.sh
 counted ./edges.sh
-counted ./keeping.sh
 # Logs kept in a file, and runs that are killed.
 counted ./kept.sh
 counted ./helpers.sh

@@ -57,7 +57,9 @@ typed 'bac log 10.0.0.1 1 1 --steps=o' 'bac log 10.0.0.1 1 1 --steps=o'
 typed 'bac serve 127.0.0.1 < plant.c' 'bac serve 127.0.0.1 < plant.conf '
 typed 'bac serve 127.0.0.1:47809 <plant.c' 'bac serve 127.0.0.1:47809 <plant.conf '
 typed 'bac replay < walk.scr' 'bac replay < walk.script '
-typed 'bac log 10.0.0.1 1 1 > keepi' 'bac log 10.0.0.1 1 1 > keeping.sh '
+typed 'bac log 10.0.0.1 1 1 > help' 'bac log 10.0.0.1 1 1 > helpers.sh '
+typed 'bac keep plant.c' 'bac keep plant.conf '
+typed 'bac kept plant.c' 'bac kept plant.conf '
 typed 'bac help ser' 'bac help serve '
 # Each option that the help of a tool names, without its last letter.
 for tool in wi rp wp log keep kept serve replay; do
@@ -94,7 +96,7 @@ gap 1 2
 16 2024-05-06T06:08:09.10 time-change(c5610000) -
 17 2024-05-06T06:08:09.10 4294967296 -
 18 2024-05-06T06:08:09.10 time-change(00000000) -
-began anew: 0 records, and 19 was next
+began anew
 1 2024-05-06T07:08:09.10 real(00000000) -
 caught up, next 2
 L
@@ -132,7 +134,7 @@ gap 3 4
 6 2024-05-06T06:13:09.10 time-change(c5610000) -
 7 2024-05-06T06:13:09.10 real(41e00000) -
 8 2024-05-06T06:14:09.10 7 -
-began anew: 2 records, and 9 was next
+began anew
 1 2024-05-06T07:08:09.10 enum(1) -
 2 2024-05-06T07:09:09.10 enum(0) -
 caught up, next 3
@@ -151,10 +153,9 @@ fi
 if has systemd-analyze; then
     mkdir "$room/units"
     for unit in systemd/*; do
-        sed "s|/usr/local/bin/bac|$program|; s|/usr/local/bin/keep.sh|$PWD/keep.sh|" "$unit" > "$room/units/$(basename "$unit")"
+        sed "s|/usr/local/bin/bac|$program|" "$unit" > "$room/units/$(basename "$unit")"
     done
-    for unit in bac-serve@plant.service bac-keep@boiler.service bac-keep@boiler.timer bac-site@plant.service \
-        bac-site@plant.timer; do
+    for unit in bac-serve@plant.service bac-site@plant.service bac-site@plant.timer; do
         is "$unit" "$(SYSTEMD_UNIT_PATH="$room/units:" systemd-analyze verify "$unit" 2>&1; echo $?)" 0
     done
 fi

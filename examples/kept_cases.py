@@ -1,0 +1,471 @@
+"""Cases of `bac keep` and `bac kept` for kept.py, each with devices and files of its own."""
+import csv
+import datetime
+import io
+import os
+import re
+import shutil
+import signal
+import sqlite3
+import struct
+import subprocess
+import sys
+import time
+
+from kept_devices import Device, Log, chance, lock, serve, wait_until_asked
+from kept_judge import wrongs
+
+FOLDER = os.path.dirname(os.path.abspath(__file__))
+QUICK = ("--timeout=60", "--retries=0")
+
+
+def one(room_for=50, way=None, count=0):
+    """A device with one log, and the log."""
+    device = Device([Log(1, room_for)], "one", way)
+    device.logs[1].log(count)
+    serve([device])
+    return device, device.logs[1]
+
+
+def said(device, records, gaps, end, way=""):
+    shown = "1 record" if records == 1 else f"{records} records"
+    return f"{device.address}{way} 1 {shown} {gaps} {'gap' if gaps == 1 else 'gaps'} {end}\n"
+
+
+def run_after_run(judge, _runs):
+    """What is new each time, and nothing if nothing is; the file's name may be a link, and its mode stays."""
+    device, log = one()
+    file = f"{judge.room}/a.db"
+    judge.same("an empty log", judge.ran(["keep", file, device.address, "1"]),
+               (0, said(device, 0, 0, "caught up, next 1"), ""))
+    for count in (0, 6, 0, 4, 1):
+        log.log(count)
+        judge.same(f"{count} more", judge.ran(["keep", file]),
+                   (0, said(device, count, 0, f"caught up, next {log.total + 1}"), ""))
+    log.purge()
+    judge.same("behind a purge", judge.ran(["keep", file])[:2], (0, said(device, 0, 0, "caught up, next 12")))
+    log.log(2)
+    judge.same("and records again", judge.ran(["keep", file])[:2], (0, said(device, 2, 0, "caught up, next 14")))
+    log.log(3)
+    log.purge()
+    log.log(1)
+    judge.same("what was purged is a gap", judge.ran(["keep", file])[:2], (0, said(device, 1, 1, "caught up, next 18")))
+    os.chmod(file, 0o640)
+    os.symlink("a.db", f"{judge.room}/link")
+    before = os.stat(file)
+    log.log(2)
+    judge.same("by a link", judge.ran(["keep", f"{judge.room}/link"])[:2], (0, said(device, 2, 0, "caught up, next 20")))
+    after = os.stat(file)
+    judge.same("the file and its mode stay", (after.st_ino, after.st_mode), (before.st_ino, before.st_mode))
+    judge.is_right("the link stays", os.path.islink(f"{judge.room}/link"))
+    judge.judge("by a link", file, [device], True)
+    judge.same("no other file is left", sorted(os.listdir(judge.room)), ["a.db", "a.db-wal", "a.db.copy", "link"])
+    judge.is_right("no record is in the log beside it", os.path.getsize(f"{file}-wal") < 4096)
+
+
+def options(judge, _runs):
+    """The way to a device is kept with its logs; the options of time and of our own address go for each run."""
+    device, log = one(way=(5, b"\x07"), count=3)
+    file = f"{judge.room}/a.db"
+    way = "/5/07"
+    judge.same("through a router", judge.ran(["keep", file, device.address, "1", "--dnet=5", "--dadr=07"]),
+               (0, said(device, 3, 0, "caught up, next 4", way), ""))
+    log.log(1)
+    judge.same("and again", judge.ran(["keep", file]), (0, said(device, 1, 0, "caught up, next 5", way), ""))
+    for bad in ("--local=127.77.5.1:0", "--timeout=0", "--retries=11"):
+        before = device.asked
+        status, out, errors = judge.ran(["keep", file, bad])
+        judge.is_right(bad, status == 1 and out == "" and errors.startswith("bad value\n") and device.asked == before, errors)
+    port = 20000 + chance.randrange(9000)
+    judge.ran(["keep", file, f"--local=127.77.5.1:{port}"])
+    judge.same("--local", device.asker, f"127.77.5.1:{port}")
+    device.answers, before, began = 0, device.asked, time.monotonic()
+    judge.same("nobody answers", judge.ran(["keep", file, "--timeout=200", "--retries=1"]),
+               (2, said(device, 0, 0, "lost, next 5", way), ""))
+    took = time.monotonic() - began
+    judge.is_right("--timeout and --retries", 0.4 <= took < 2.9 and device.asked == before + 2, (took, device.asked - before))
+
+
+def losses(judge, _runs):
+    """A run that is lost keeps what came, and the next one goes on; so does one that is killed while it waits."""
+    device, log = one(room_for=400, count=150)
+    file = f"{judge.room}/a.db"
+    device.answers = 0
+    judge.same("a first run that is lost", judge.ran(["keep", file, device.address, "1", *QUICK]),
+               (2, said(device, 0, 0, "lost, next 1"), ""))
+    device.answers = 2
+    status, out, errors = judge.ran(["keep", file, *QUICK])
+    judge.is_right("lost after two answers", status == 2 and re.search(r" [1-9]\d* records? 0 gaps lost, next \d+\n", out), out)
+    judge.judge("lost after two answers", file, [device])
+    device.answers, before = 0, device.asked
+    process = judge.started(["keep", file, "--timeout=60000"])
+    wait_until_asked(device, before)
+    judge.same("a second run", judge.ran(["keep", file, *QUICK]), (7, "", "file in use\n"))
+    judge.same("kept beside a run", judge.ran(["kept", file]), (7, "", "file in use\n"))
+    process.kill()
+    process.communicate()
+    device.answers = None
+    judge.same("behind a run that is killed", judge.ran(["keep", file])[0], 0)
+    judge.judge("behind a run that is killed", file, [device], True)
+    # Held back until the second run has ended, the first goes on.
+    log.log(5)
+    device.open.clear()
+    before = device.asked
+    process = judge.started(["keep", file, "--timeout=60000"])
+    wait_until_asked(device, before)
+    judge.same("a second run again", judge.ran(["keep", file, *QUICK]), (7, "", "file in use\n"))
+    device.open.set()
+    out = process.communicate(timeout=60)[0].decode()
+    judge.same("the first run", (process.returncode, out), (0, said(device, 5, 0, "caught up, next 156")))
+    judge.judge("the first run", file, [device], True)
+    other = Device([Log(1, 50)], "other")
+    other.logs[1].log(3)
+    serve([other])
+    device.answers = 0
+    judge.ran(["keep", file, other.address, "1"])
+    other.logs[1].log(1)
+    judge.same("a device that doesn't answer doesn't stop the others", judge.ran(["keep", file, *QUICK]),
+               (2, said(device, 0, 0, "lost, next 156") + said(other, 1, 0, "caught up, next 5"), ""))
+
+
+def far_away(judge, _runs):
+    """The first run is lost, and then the log is 2^31 records and more away; and what is dropped there."""
+    device, log = one(room_for=4)
+    file = f"{judge.room}/a.db"
+    device.answers = 0
+    judge.same("lost", judge.ran(["keep", file, device.address, "1", *QUICK])[0], 2)
+    device.answers = None
+    log.begin(3000000000)
+    log.log(3)
+    judge.same("from the oldest", judge.ran(["keep", file])[:2], (0, said(device, 3, 0, "caught up, next 3000000004")))
+    log.log(7)
+    judge.same("a gap", judge.ran(["keep", file])[:2], (0, said(device, 4, 1, "caught up, next 3000000011")))
+    judge.judge("far away", file, [device], True)
+    judge.same("the gap", judge.ran(["kept", file, device.address, "1"])[1].splitlines()[3], "gap 3000000004 3000000006")
+
+
+def restarts(judge, _runs):
+    """A log that counts fewer, as many or more records than before, that is empty, or whose records are dated before."""
+    device, log = one(count=12)
+    file = f"{judge.room}/a.db"
+    judge.ran(["keep", file, device.address, "1"])
+    anew = f"{device.address} 1 began anew\n"
+    epoch = 0
+    for name, count in (("fewer", 3), ("as many", 3), ("more", 8), ("one more", 9), ("fewer again", 1)):
+        log.begin(0)
+        log.log(count)
+        epoch += 1
+        judge.same(name, judge.ran(["keep", file]), (0, said(device, count, 0, f"caught up, next {count + 1}"), anew))
+        judge.judge(name, file, [device], True)
+        judge.same(f"{name}, again", judge.ran(["keep", file]),
+                   (0, said(device, 0, 0, f"caught up, next {count + 1}"), ""))
+    log.begin(0)
+    judge.same("an empty log tells nothing", judge.ran(["keep", file])[::2], (0, ""))
+    log.log(1)
+    judge.same("until it has a record", judge.ran(["keep", file]), (0, said(device, 1, 0, "caught up, next 2"), anew))
+    # It has passed the number and dropped it; its clock was set back, which tells it.
+    log.begin(0)
+    log.clock -= datetime.timedelta(days=400)
+    log.log(70)
+    judge.same("passed, and dated before", judge.ran(["keep", file]), (0, said(device, 50, 0, "caught up, next 71"), anew))
+    judge.judge("passed, and dated before", file, [device], True)
+    base = sqlite3.connect(file)
+    judge.same("epochs", base.execute("SELECT max(epoch) FROM records").fetchone(), (epoch + 2,))
+    base.close()
+
+
+def cut_files(judge, _runs):
+    """What a crash leaves: the log beside a file is cut at any octet, and the next run goes on."""
+    device, log = one(room_for=400, count=200)
+    file, cuts = f"{judge.room}/a.db", 0
+    judge.ran(["keep", file, device.address, "1"])
+    for call in (3, 4, 5, 6, 7, 8, 9, 10, 12, 14, 17, 20):
+        log.log(90)
+        judge.ended_at(call, ["keep", file])
+        size = os.path.getsize(f"{file}-wal") if os.path.exists(f"{file}-wal") else 0
+        if size:
+            cuts += 1
+            os.truncate(f"{file}-wal", chance.randrange(size))
+        judge.judge(f"cut behind call {call}", file, [device])
+        status, out, errors = judge.ran(["keep", file])
+        judge.is_right(f"behind a cut at call {call}", status == 0, f"status {status}: {out} {errors}")
+        judge.judge(f"behind a cut at call {call}", file, [device], True)
+    judge.is_right("logs were cut", cuts >= 4, cuts)
+    with open(file, "rb") as it:
+        octets = it.read()
+    for _ in range(12):
+        cut = f"{judge.room}/cut.db"
+        with open(cut, "wb") as it:
+            it.write(octets[: chance.randrange(1, len(octets))])
+        status, out, errors = judge.ran(["kept", cut])
+        judge.is_right("a cut file", status == 6 and errors.startswith("file fault\n"), f"status {status}: {errors}")
+
+
+def foreign_files(judge, _runs):
+    """Files that are no archives are refused, and left as they are."""
+    device, _log = one(count=5)
+    file = f"{judge.room}/a.db"
+    judge.ran(["keep", file, device.address, "1"])
+
+    def made(name, *statements, of=None):
+        path = f"{judge.room}/{name}"
+        if of:
+            shutil.copyfile(of, path)
+        base = sqlite3.connect(path)
+        for statement in statements:
+            base.execute(statement)
+        base.commit()
+        base.close()
+        return path
+
+    text = f"{judge.room}/text"
+    with open(text, "w") as it:
+        it.write("not a database\n")
+    names = [text, made("other.db", "CREATE TABLE people (name TEXT)", "INSERT INTO people VALUES ('Ada')"),
+             made("later.db", "UPDATE archive SET version = 2", of=file),
+             made("more.db", "CREATE TABLE people (name TEXT)", of=file),
+             made("over.db", "UPDATE items SET last = (id & 4294967295) + 1, stamp = NULL WHERE id & 4294967295 = 2", of=file)]
+    for name in names:
+        with open(name, "rb") as it:
+            before = it.read()
+        for words in (["keep", name, device.address, "1"], ["keep", name], ["kept", name]):
+            status, out, errors = judge.ran(words)
+            right = status == 6 and out == "" and errors.startswith("file fault\n")
+            judge.is_right(f"{os.path.basename(name)}", right, f"status {status}: {out} {errors}")
+        with open(name, "rb") as it:
+            judge.is_right(f"{os.path.basename(name)} is left as it is", it.read() == before, "it has changed")
+    judge.is_right("no log is left beside a text", not os.path.exists(f"{text}-wal"), "there is one")
+    status, out, errors = judge.ran(["kept", f"{judge.room}/none.db"])
+    judge.is_right("no file", status == 6 and not os.path.exists(f"{judge.room}/none.db"), f"status {status}: {errors}")
+    judge.same("a folder", judge.ran(["keep", judge.room])[0], 6)
+
+
+def a_large_file(judge, _runs):
+    """A run goes on behind a million records."""
+    device, log = one(count=3)
+    file = f"{judge.room}/a.db"
+    judge.ran(["keep", file, device.address, "1"])
+    base = sqlite3.connect(file)
+    newest, *texts = base.execute("SELECT * FROM items ORDER BY id DESC LIMIT 1").fetchone()
+    base.executemany("INSERT INTO items VALUES (?, ?, ?, ?, ?, ?)", ((newest + 1 + at, *texts) for at in range(1000000)))
+    base.commit()
+    base.close()
+    octets, row = log.held[3], log.lives[0][3]
+    log.total = log.oldest = 1000003
+    log.held, log.lives[0][log.total] = {log.total: octets}, row
+    log.log(1)
+    judge.same("a million records", judge.ran(["keep", file]), (0, said(device, 1, 0, "caught up, next 1000005"), ""))
+
+
+def printed(judge, _runs):
+    """`kept` prints the lines of the rows, as CSV what a spreadsheet reads, and yesterday is one statement."""
+    yesterday = datetime.datetime.combine(datetime.datetime.utcnow().date(), datetime.time()) - datetime.timedelta(hours=20)
+    devices = [Device([Log(1, 50, yesterday), Log(2, 50)], 'boiler, "old"')]
+    serve(devices)
+    (log, old), file = devices[0].logs.values(), f"{judge.room}/a.db"
+    log.log(70)
+    old.log(5)
+    judge.ran(["keep", file, devices[0].address])
+    log.log(60)
+    judge.ran(["keep", file])
+    old.begin(0)
+    old.log(2)
+    judge.ran(["keep", file])
+    base = sqlite3.connect(file)
+    rows = base.execute("SELECT address, trend_log, epoch, number, NULL, stamp, value, datum, flags, name FROM records UNION ALL "
+                        "SELECT address, trend_log, epoch, first, last, '', NULL, '', '', name FROM gaps ORDER BY 2, 3, 4").fetchall()
+    base.close()
+    judge.is_right("a gap is there", any(row[4] for row in rows), rows[:3])
+    lines, before = [], None
+    for address, instance, epoch, number, last, stamp, _value, text, flags, _name in rows:
+        if before is None or before[0] != instance:
+            lines.append(f"{address} {instance}")
+        elif before[1] != epoch:
+            lines.append("began anew")
+        lines.append(f"gap {number} {last}" if last else f"{number} {stamp} {text} {flags}")
+        before = instance, epoch
+    judge.same("the lines", judge.ran(["kept", file]), (0, "\n".join(lines) + "\n", ""))
+    out = judge.ran(["kept", file, devices[0].address, "2"])[1].splitlines()
+    judge.same("the lines of one log", out, lines[lines.index(f"{devices[0].address} 2") + 1 :])
+    judge.same("of a log that isn't kept", judge.ran(["kept", file, devices[0].address, "3"]),
+               (6, "", "file fault\nit keeps no such trend log\n"))
+    table = list(csv.reader(io.StringIO(judge.ran(["kept", file, "--csv"])[1], newline="")))
+    judge.same("the names of columns", table[0], "address,trend_log,name,epoch,number,stamp,value,datum,flags".split(","))
+    wanted = [(address, str(instance), name, str(epoch), str(number), stamp, value, f"gap {number} {last}" if last else text, flags)
+              for address, instance, epoch, number, last, stamp, value, text, flags, name in rows]
+    got = [(*row[:6], float(row[6]) if row[6] else None, *row[7:]) for row in table[1:]]
+    judge.same("CSV", got, wanted)
+    values = [value for _, value, _, _ in log.lives[0].values() if value is not None]
+    kept = [row[6] for row in rows if row[1] == 1 and row[6] is not None]
+    judge.is_right("values are kept", len(kept) > 50 and set(kept) <= set(values), kept[:5])
+    with open(f"{FOLDER}/../docs/ARCHIVE.md") as page:
+        statement = re.search(r"\n    (SELECT address, trend_log, name, avg.*?;)\n", page.read(), re.S)[1]
+    count = sum(row[1] == 1 and row[4] is None for row in rows)
+    base = sqlite3.connect(file)
+    judge.same("yesterday", base.execute(statement).fetchall(),
+               [(devices[0].address, 1, 'boiler, "old" log 1', sum(kept) / len(kept), min(kept), max(kept), count)])
+    base.close()
+    plot(judge, file, devices[0].address, rows)
+
+
+def plot(judge, file, address, rows):
+    """A line where record follows record, and none over a gap or a record without a number."""
+    drawn = subprocess.run([sys.executable, f"{FOLDER}/plot.py", file, address, "1"], capture_output=True, text=True)
+    lines, before = [[]], None
+    for row in (row for row in rows if row[1] == 1):
+        if row[4] or row[6] is None or row[6] in (float("inf"), float("-inf")):
+            lines.append([])
+        else:
+            lines[-1].append(row[6])
+    found = [len(points.split()) for points in re.findall(r'<polyline points="([^"]*)"', drawn.stdout)]
+    judge.same("a plot", (drawn.returncode, found, drawn.stderr), (0, [len(line) for line in lines if line], ""))
+
+
+def taken_over(judge, _runs):
+    """The lines of keep.sh are taken over, `bac keep` goes on behind them, and `bac kept` prints them."""
+    device, log = one(count=20)
+    records, file = f"{judge.room}/records", f"{judge.room}/a.db"
+
+    def text(numbers):
+        rows = ((number, log.lives[-1][number]) for number in numbers)
+        return "".join(f"{number} {stamp} {shown} {flags}\n" for number, (stamp, _value, shown, flags) in rows)
+
+    old = text(range(1, 21))
+    log.begin(0)
+    log.log(60)
+    lines = old + "began anew: 60 records, and 21 was next\n" + "gap 1 10\n" + text(range(11, 31)) + "caught up, next 31\n" + text([31])
+
+    def take(*words):
+        return subprocess.run([sys.executable, f"{FOLDER}/takeover.py", *words], capture_output=True, text=True)
+
+    for name, wrong, why in (("no line of bac log", lines.replace("\n25 ", "\n25:", 1), "it is no record, gap or end of a walk: 25:"),
+                             ("a number twice", lines.replace("\n15 ", "\n14 ", 1), "14 stands where 15 is next"),
+                             ("a number is missing", re.sub("\n7 .*", "", lines), "8 stands where 7 is next"),
+                             ("number 0", "0 " + lines.split(" ", 1)[1], "a number is from 1 to 4294967295")):
+        with open(records, "w") as it:
+            it.write(wrong)
+        at = next(at for at, pair in enumerate(zip(lines.splitlines(), wrong.splitlines()), 1) if pair[0] != pair[1])
+        done = take(records, file, device.address, "1")
+        judge.is_right(f"{name} is refused", done.returncode == 1 and done.stderr.startswith(f"takeover.py: line {at}: {why}"), done.stderr)
+        judge.is_right(f"{name} leaves nothing", not os.path.exists(file))
+    with open(records, "w") as it:
+        it.write(lines + "gap 32 40\n41 2024-01-0")
+    judge.same("taken over", (take(records, file, device.address, "1").stdout, wrongs(file, [device], False)), ("41 records\n", []))
+    judge.same("it goes on behind them", judge.ran(["keep", file]), (0, said(device, 29, 0, "caught up, next 61"), ""))
+    judge.judge("behind what was taken over", file, [device], True)
+    printed = judge.ran(["kept", file, device.address, "1"])[1]
+    wanted = re.sub(r"caught up.*\n", "", re.sub(r"began anew:.*", "began anew", lines)) + text(range(32, 61))
+    judge.same("the old lines", printed, wanted)
+    done = take(records, file, device.address, "1")
+    judge.is_right("once", done.returncode == 1 and "it has records of this trend log already" in done.stderr, done.stderr)
+    done = take(records, file, "10.0.0.1", "7", "5", "0A")
+    judge.same("beside another log", (done.stdout, judge.ran(["kept", file, "10.0.0.1", "7"])[1]), ("41 records\n", wanted.replace(text(range(32, 61)), "")))
+
+
+def served(judge, _runs):
+    """The device is `bac serve`: a log that is switched and purged, and a device that is restarted."""
+    file, address, server = f"{judge.room}/a.db", None, None
+
+    def begin():
+        nonlocal address, server
+        for _try in range(50):
+            at = address or f"127.0.0.1:{20000 + chance.randrange(9000)}"
+            with open(f"{FOLDER}/plant.conf") as lines:
+                server = subprocess.Popen([judge.program, "serve", at], stdin=lines, stderr=subprocess.PIPE)
+            if server.stderr.readline().startswith(b"serving"):
+                address = at
+                return
+            server.wait()
+
+    def switched(times):
+        for turn in range(times):
+            words = ["wp", address, "20", "2", "133", "0", "1", f"--value={(turn + 1) % 2}"]
+            judge.same("the log is switched", judge.ran(words), (0, "written\n", ""))
+
+    def kept(name, records, gaps, after, anew=False):
+        wanted = f"{address} 2 {records} records {gaps} gaps caught up, next {after}\n"
+        judge.same(name, judge.ran(["keep", file, address, "2"]), (0, wanted, f"{address} 2 began anew\n" if anew else ""))
+
+    begin()
+    try:
+        # An enabled log stays enabled with the first of them; each change of Enable is a record.
+        judge.ran(["wp", address, "20", "2", "133", "0", "1", "--value=0"])
+        switched(5)
+        status, out, errors = judge.ran(["keep", file, address, "2"])
+        judge.same("switched", (status, out, errors), (0, f"{address} 2 6 records 0 gaps caught up, next 7\n", ""))
+        judge.ran(["wp", address, "20", "2", "141", "0", "2", "--value=0"])
+        judge.same("a purge is a record", judge.ran(["keep", file, address, "2"])[:2], (0, f"{address} 2 1 record 0 gaps caught up, next 8\n"))
+        log_lines = judge.ran(["log", address, "2", "7"])[1].splitlines()
+        judge.same("as bac log prints it", judge.ran(["kept", file, address, "2"])[1].splitlines()[-1], log_lines[0])
+        server.kill()
+        server.wait()
+        time.sleep(0.02)
+        begin()
+        judge.ran(["wp", address, "20", "2", "133", "0", "1", "--value=0"])
+        switched(9)
+        kept("restarted, and past the old number", 10, 0, 11, anew=True)
+        kept("and nothing new", 0, 0, 11)
+        site = subprocess.run(["bash", f"{FOLDER}/site.sh", f"{judge.room}/site.db"], input=f"127.77.77.77:9\n{address}\n", text=True,
+                              capture_output=True, env={**os.environ, "BAC": judge.program})
+        right = re.fullmatch(rf"{address} 1 \d+ records? 0 gaps caught up, next \d+\n{address} 2 10 records 0 gaps caught up, next 11\n", site.stdout)
+        judge.is_right("site.sh", site.returncode == 0 and right and site.stderr == "", f"{site.returncode}: {site.stdout} {site.stderr}")
+        base = sqlite3.connect(f"{judge.room}/site.db")
+        judge.same("with its names", base.execute("SELECT instance, name FROM logs ORDER BY instance").fetchall(), [(1, "pump-trend"), (2, "by-hand")])
+        base.close()
+    finally:
+        server.kill()
+        server.wait()
+
+
+def judgements(judge, _runs):
+    """Each kind of judgement fails on a file that was broken so."""
+    device = Device([Log(1, 50), Log(2, 50)], "broken")
+    serve([device])
+    one_log, two = device.logs.values()
+    one_log.log(90)
+    two.log(20)
+    file, broken = f"{judge.room}/a.db", f"{judge.room}/broken.db"
+    judge.ran(["keep", file, device.address])
+    one_log.log(60)
+    two.begin(0)
+    two.log(10)
+    judge.ran(["keep", file])
+    judge.judge("whole", file, [device], True)
+    record = "id = (SELECT id FROM items WHERE last IS NULL AND id >> 47 = 1 AND id & 4294967295 = 120)"
+    for name, statement, why in (
+        ("a row is removed", f"DELETE FROM items WHERE {record}", "121 comes where 120 is next"),
+        ("the newest row is removed", "DELETE FROM items WHERE id = (SELECT max(id) FROM items)", "newest is 9 of"),
+        ("the first rows are removed", "DELETE FROM items WHERE id >> 47 = 2 AND (id >> 32) & 32767 = 1 AND id & 4294967295 < 3", "begins at 3"),
+        ("an epoch is removed", "DELETE FROM items WHERE id >> 47 = 2 AND (id >> 32) & 32767 = 1", "newest is 20 of life 0"),
+        ("a gap is removed", "DELETE FROM items WHERE last NOT NULL", "comes where 91 is next"),
+        ("a stamp is another", f"UPDATE items SET stamp = '2024-01-01T00:00:00.00' WHERE {record}", "was logged"),
+        ("a value is another", f"UPDATE items SET value = 1e300 WHERE {record}", "was logged"),
+        ("a datum is another", f"UPDATE items SET datum = 'real(00000001)' WHERE {record}", "was logged"),
+        ("flags are others", f"UPDATE items SET flags = '1111' WHERE {record}", "was logged"),
+        ("a gap of what is held", f"UPDATE items SET last = 120, stamp = NULL, value = NULL, datum = NULL, flags = NULL WHERE {record}", "gap 120 120"),
+        ("a gap with a record's texts", "UPDATE items SET datum = 'null' WHERE last NOT NULL", "are gone"),
+        ("a gap is one shorter", "UPDATE items SET last = last - 1 WHERE last NOT NULL", "comes where"),
+        ("a gap is one longer", "UPDATE items SET last = last + 1 WHERE last NOT NULL", "are gone"),
+        ("a gap at the end", "INSERT INTO items (id, last) VALUES ((SELECT max(id) + 1 FROM items), 11)", "ends with a gap"),
+        ("a record comes twice", f"INSERT INTO items SELECT id + 4294967296, last, stamp, value, datum, flags FROM items WHERE {record}", "no life logged"),
+        ("a log that isn't there", f"INSERT INTO items SELECT id + (1 << 48), last, stamp, value, datum, flags FROM items WHERE {record}", "which aren't there"),
+        ("rows under another log", "UPDATE items SET id = id + (1 << 47) WHERE id >> 47 = 2", "which aren't there"),
+        ("a log of nobody", "INSERT INTO logs (address, dnet, dadr, instance) VALUES ('10.0.0.1:1', 0, '', 1)", "no device has it"),
+        ("a log is lost", "DELETE FROM logs WHERE id = 2", "isn't kept"),
+    ):
+        shutil.copyfile(file, broken)
+        base = sqlite3.connect(broken)
+        changed = base.execute(statement).rowcount
+        base.commit()
+        base.close()
+        found = wrongs(broken, [device], True)
+        judge.is_right(f"{name} is seen", changed > 0 and any(why in text for text in found), f"{changed} rows, {found}")
+    with open(file, "rb") as it:
+        octets = bytearray(it.read())
+    octets[-4096:-4088] = b"\xaa" * 8
+    with open(broken, "wb") as it:
+        it.write(octets)
+    judge.is_right("a broken page is seen", wrongs(broken, [device], True))
+
+
+CASES = [judgements, run_after_run, options, losses, far_away, restarts, cut_files, foreign_files, a_large_file, printed, taken_over, served]

@@ -1,0 +1,123 @@
+"""What is wrong with an archive, for kept.py: Python's sqlite3 reads it, and the rows are compared with what the
+devices of kept_devices.py logged."""
+import os
+import shutil
+import sqlite3
+import subprocess
+
+
+class Judge:
+    """Runs PROGRAM, and counts what is right. Its files lie in `room`; KILLS is the library of kills.c."""
+
+    def __init__(self, program, kills, room):
+        self.program, self.kills, self.room = program, kills, room
+        self.passed = self.failed = 0
+        self.told = []
+
+    def is_right(self, name, right, why=""):
+        if right:
+            self.passed += 1
+        else:
+            self.failed += 1
+            self.told.append(f"{name}: {why}"[:1000])
+
+    def same(self, name, got, wanted):
+        self.is_right(name, got == wanted, f"{wanted!r} is wanted, and it is {got!r}")
+
+    def started(self, words, **more):
+        return subprocess.Popen([self.program, *words], stdin=subprocess.DEVNULL, stdout=subprocess.PIPE,
+                                stderr=subprocess.PIPE, **more)
+
+    def ran(self, words, **more):
+        """The status of a run, and what it printed and told."""
+        process = self.started(words, **more)
+        out, errors = process.communicate(timeout=120)
+        return process.returncode, out.decode(), errors.decode()
+
+    def ended_at(self, call, words):
+        """The same of a run that is ended before this one of its calls on files."""
+        return self.ran(words, env={**os.environ, "LD_PRELOAD": self.kills, "AT": str(call)})
+
+    def judge(self, name, file, devices, all_of_it=False):
+        found = wrongs(file, devices, all_of_it)
+        self.is_right(name, not found, "; ".join(found[:3]))
+
+
+def rows_of(file):
+    """What sqlite3 reads of a copy of the file and its log."""
+    copy = f"{file}.copy"
+    for end in ("", "-wal", "-shm"):
+        if os.path.exists(copy + end):
+            os.remove(copy + end)
+        if end != "-shm" and os.path.exists(file + end):
+            shutil.copyfile(file + end, copy + end)
+    base = sqlite3.connect(copy)
+    try:
+        whole = base.execute("PRAGMA integrity_check").fetchall()
+        if not base.execute("SELECT 1 FROM sqlite_master WHERE name = 'gaps'").fetchall():
+            # A first run that ended before it made the tables.
+            return whole, [], []
+        logs = base.execute("SELECT id, address, instance FROM logs").fetchall()
+        items = base.execute("SELECT id, last, stamp, value, datum, flags FROM items ORDER BY id").fetchall()
+        return whole, logs, items
+    finally:
+        base.close()
+
+
+def wrongs(file, devices, all_of_it):
+    """What is wrong with a file, a text each; if `all_of_it`, it has to have caught up."""
+    try:
+        whole, logs, items = rows_of(file)
+    except sqlite3.Error as error:
+        return [f"sqlite3: {error}"]
+    if whole != [("ok",)]:
+        return [f"integrity_check: {whole}"]
+    found, by_log = [], {}
+    for item, last, *texts in items:
+        by_log.setdefault(item >> 47, {}).setdefault(item >> 32 & 32767, []).append((item & 0xFFFFFFFF, last, tuple(texts)))
+    by_address = {device.address: device for device in devices}
+    if strangers := set(by_log) - {log_id for log_id, _, _ in logs}:
+        found.append(f"items of the logs {strangers}, which aren't there")
+    for log_id, address, instance in logs:
+        log = by_address[address].logs.get(instance) if address in by_address else None
+        wrong = wrong_of(log, by_log.get(log_id, {}), all_of_it) if log else "no device has it"
+        if wrong:
+            found.append(f"{address} {instance}: {wrong}")
+    if all_of_it:
+        kept = {(address, instance) for _, address, instance in logs}
+        found += [f"{device.address} {number} isn't kept" for device in devices for number in device.logs
+                  if (device.address, number) not in kept]
+    return found
+
+
+def wrong_of(log, epochs, all_of_it):
+    """What is wrong with the rows of a log, or None."""
+    life = -1
+    for epoch in sorted(epochs):
+        rows = epochs[epoch]
+        if rows[-1][1] is not None:
+            return f"epoch {epoch} ends with a gap"
+        # Where the first record is from: a life after that of the epoch before.
+        first, _, texts = next(row for row in rows if row[1] is None)
+        found = [at for at, logged in enumerate(log.lives) if at > life and logged.get(first) == texts]
+        if not found:
+            return f"epoch {epoch}: no life logged {first} {texts}"
+        life = found[0]
+        logged = log.lives[life]
+        dropped = log.oldest - 1 if life == len(log.lives) - 1 else max(logged, default=0)
+        next_number = rows[0][0]
+        if any(number > dropped for number in logged if number < next_number):
+            return f"epoch {epoch} begins at {next_number}, behind what is held"
+        for number, last, texts in rows:
+            if number != next_number:
+                return f"epoch {epoch}: {number} comes where {next_number} is next"
+            if last is None and logged.get(number) != texts:
+                return f"epoch {epoch}: {number} is {texts}, and {logged.get(number)} was logged"
+            if last is not None and (last < number or last > dropped or texts != (None,) * 4):
+                return f"epoch {epoch}: gap {number} {last} {texts}, and only {dropped} and before are gone"
+            next_number = (number if last is None else last) + 1
+    if all_of_it and log.held:
+        newest = epochs[max(epochs)][-1][0] if epochs else 0
+        if life != len(log.lives) - 1 or newest != log.total:
+            return f"newest is {newest} of life {life}, and {log.total} of life {len(log.lives) - 1} is"
+    return None
