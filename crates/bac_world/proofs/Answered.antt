@@ -1,13 +1,12 @@
 -- What a device answers to a walk's question, and what the walk hears in it.
-use Rattle.std.proofs.Common.{◌≡◌, ℕ, true, false, ◌&&◌, ◌==◌, ◌-◌, ◌≤◌, List, [], ◌∷◌, length, Option, Some, None, refl, sym, ap, subst, ◌∙◌, arith}
+use Rattle.std.proofs.Common.{◌≡◌, ℕ, true, false, ◌&&◌, ◌==◌, ◌-◌, List, [], ◌∷◌, Option, Some, None, refl, sym, ap, subst, ◌∙◌, arith}
 use Rattle.std.specs.Prelude.{All}
 use Rattle.std.proofs.lemmas.Bool.{and_parts, eqb-true}
 use Rattle.bac_wire.specs.Canon.{IsValid}
 use Rattle.bac_wire.specs.Primitive.{Id, Object}
 use Rattle.bac_apdu.specs.Apdu.{Apdu, Complex}
 use Rattle.bac_apdu.specs.declared.service.extent.Extent.{Extent}
-use Rattle.bac_apdu.proofs.Shorts.{range_apdu_short}
-use Rattle.bac_log.specs.Ack.{log_buffer, read_range_service}
+use Rattle.bac_log.specs.Ack.{read_range_service}
 use Rattle.bac_log.specs.Entry.{IsLoggable}
 use Rattle.bac_log.specs.TrendLog.{Log}
 use Rattle.bac_log.specs.declared.entry.Entry.{Entry}
@@ -20,8 +19,9 @@ use Rattle.bac_link.specs.Delivery.{History, Moment}
 use Rattle.bac_link.specs.Links.{HasReply, IsQuestion, IsReply, question, reply_parameters}
 use Rattle.bac_link.specs.Moments.{AreServed, log_at}
 use Rattle.bac_link.specs.Path.{towards}
-use Rattle.bac_link.specs.Requests.{parameters_of, request_apdu, request_octets}
+use Rattle.bac_link.specs.Requests.{request_octets}
 use Rattle.bac_link.proofs.Datagrams.{request_again}
+use Rattle.bac_link.proofs.Verdicts.{question_short}
 use Rattle.bac_walk.specs.Heard.{AckParameters}
 use Rattle.bac_walk.specs.Replies.{Wanted, extent_of}
 use Rattle.bac_walk.specs.Takes.{Says}
@@ -77,10 +77,6 @@ is_ack rounds H d id extent invoke kind here =
     (reply_parameters id (log_at (placed rounds (moment_of (log_with d id.instance))) H) extent d.reply_size, said.1)
 
 -- ---- which question it answers
-
-question_short : (id : Id) (extent : Extent) (invoke : ℕ) → length (request_apdu invoke (question id extent)) ≤ 1476
-unfolding request_apdu parameters_of
-question_short id extent invoke = omega (arith, range_apdu_short (record { object = id; property = log_buffer; index = None; extent = extent }) 1476 invoke)
 
 answers_same : (request octets : List ℕ) (id : Id) (extent : Extent) (i j : ℕ) (parameters : List ℕ) → request ≡ request_octets (towards None) i (question id extent) →
     message_in octets ≡ Some (towards None, Complex false j read_range_service parameters) → answers_to request octets ≡ (i == j) && true

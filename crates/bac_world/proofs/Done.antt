@@ -1,5 +1,5 @@
 -- What every event keeps of what was delivered.
-use Rattle.std.proofs.Common.{◌≡◌, ℕ, zero, suc, Bool, true, false, ◌||◌, ◌+◌, ◌-◌, ◌<◌, ◌≤◌, ◌⊎◌, inl, inr, if◌then◌else◌, List, [], ◌∷◌, ◌++◌, length, take, Option, Some, None, refl, sym, ap, subst, ◌∙◌, arith, length-append, nat_lt}
+use Rattle.std.proofs.Common.{◌≡◌, ℕ, zero, suc, Bool, true, false, ◌+◌, ◌-◌, ◌<◌, ◌≤◌, ◌⊎◌, inl, inr, if◌then◌else◌, List, [], ◌∷◌, ◌++◌, length, take, Option, Some, None, refl, sym, ap, subst, ◌∙◌, arith, length-append, nat_lt}
 use Rattle.std.proofs.lemmas.Bool.{ltb-true, ltb-false}
 use Rattle.std.proofs.lemmas.List.{length-take, take_all}
 use Rattle.bac_log.specs.TrendLog.{sequence_number}
@@ -14,6 +14,7 @@ use Rattle.bac_walk.specs.Turns.{Covers, IsBatch, NoneOfHundred}
 use Rattle.bac_walk.specs.Walks.{asks_oldest_now}
 use Rattle.bac_walk.proofs.Cuts.{Covers-end, one_answer}
 use Rattle.bac_walk.proofs.Headline.{leads}
+use Rattle.bac_walk.proofs.Came.{or_true}
 use Rattle.std.proofs.Common.{append-nil}
 use Rattle.bac_world.specs.Network.{restarted}
 use Rattle.bac_world.specs.Runs.{WasCaughtUp}
@@ -162,10 +163,6 @@ done_idle H M fresh s began waits walk items caught done t p d w from below none
 
 -- ---- nothing newer is held
 
-or_second : (a b : Bool) → (a || b) ≡ true → a ≡ false → b ≡ true
-or_second true b h g = absurd (cc)
-or_second false b h g = h
-
 led_whole : (H : History) (M : List Moment) (fresh : Bool) (s t : ℕ) (done : List (List Item)) (i : ℕ) → length done ≤ i → Led H M fresh s done t → Led H M fresh s (take i done) t
 led_whole H M fresh s t done i le led =
     let P : List (List Item) → Type 0 = λ xs. Led H M fresh s xs t in
@@ -186,7 +183,7 @@ caught_now H M fresh s began waits walk items caught done t p d w from below bef
   λ k low held. omega (arith, held.0, held.1, empty),
 )
 caught_now H M fresh s began waits walk items caught done t p d w from below before oldest (inr past) =
-    let q = d.hundred past.0 (or_second walk.fresh walk.asks_oldest oldest past.0) in
+    let q = d.hundred past.0 (or_true walk.fresh walk.asks_oldest oldest past.0) in
     let lt : q.0 < began = q.2 w in
     let low : (moment_at M q.0).oldest ≤ (moment_at M p).oldest = before q.0 (omega arith) in
     let less : (moment_at M p).oldest < t = past.1 in (

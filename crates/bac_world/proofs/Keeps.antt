@@ -1,6 +1,7 @@
 -- What every event keeps of a run.
 use Rattle.std.proofs.Common.{◌≡◌, ℕ, Bool, true, false, ◌%◌, ◌+◌, ◌<◌, ◌≤◌, if◌then◌else◌, nat_lt, List, [], ◌∷◌, ◌++◌, length, slice_get, Option, Some, None, refl, sym, ap, subst, ◌∙◌, arith}
 use Rattle.std.specs.Prelude.{is_some}
+use Rattle.std.proofs.lemmas.Option.{slice_get_within}
 use Rattle.bac_wire.specs.Canon.{IsValid}
 use Rattle.bac_wire.specs.Primitive.{Id, Object}
 use Rattle.bac_log.specs.TrendLog.{oldest}
@@ -37,7 +38,7 @@ use Rattle.bac_world.specs.Network.{arrives, asks, closes, delivers, gives_up, h
 use Rattle.bac_world.specs.Runs.{AreSane, IsNearWhere, IsSane, Run, Stands, StaysNear, answering, arriving, asking, delivering, devices_after, entries_of, follow, follow_all, moments_in}
 use Rattle.bac_world.proofs.Answered.{answered, reply_text, says_now}
 use Rattle.bac_world.proofs.Done.{DonePart, done_asked, done_batch, done_closed, done_grown, done_idle, done_up, stands_of}
-use Rattle.bac_world.proofs.Lasts.{DevicesPart, InHistory, LogPart, devices_later, devices_more, get_below, get_some, in_history, keeps, length-moments, log_kept, log_rises, moment_in, moments_more}
+use Rattle.bac_world.proofs.Lasts.{DevicesPart, InHistory, LogPart, devices_later, devices_more, get_some, in_history, keeps, length-moments, log_kept, log_rises, moment_in, moments_more}
 use Rattle.bac_world.proofs.Packets.{PacketPart, is_right, packets_again, packets_answered, packets_begun, packets_closed}
 use Rattle.bac_world.proofs.Verdicts.{VerdictOf, verdict_of}
 
@@ -175,7 +176,7 @@ module _ (rounds : ℕ) (near : Type 0) (H : History) (fresh : Bool) (s : ℕ) (
       (moment_at (moments_in rounds log.instance devices) i).oldest ≤ (moment_at (moments_in rounds log.instance devices) p).oldest
   in_order devices d now p a at i lt =
       let n = log.instance in
-      let before = get_some devices i (omega (arith, get_below devices p d at)) in
+      let before = get_some devices i (omega (arith, slice_get_within devices p d at)) in
       let P : Moment → Type 0 = λ m. m.oldest ≤ (moment_at (moments_in rounds n devices) p).oldest in
       let Q : Moment → Type 0 = λ m. oldest (log_with before.0 n) + turn rounds ≤ m.oldest in
       subst P (sym (moment_in rounds n devices i before.0 before.1))
@@ -258,7 +259,7 @@ module _ (rounds : ℕ) (near : Type 0) (H : History) (fresh : Bool) (s : ℕ) (
       Inv rounds near H fresh s log (record { network = hears (closes run.network) o; devices = run.devices; began = run.began })
   keep_heard run asked None p d is i from at close said =
       let n = log.instance in
-      keep_taken run asked Refuse [] p is i from (omega (arith, get_below run.devices p d at, length-moments rounds n run.devices)) (in_order run.devices d run.network.device p i.devices at)
+      keep_taken run asked Refuse [] p is i from (omega (arith, slice_get_within run.devices p d at, length-moments rounds n run.devices)) (in_order run.devices d run.network.device p i.devices at)
       (λ g. absurd (said g).1)
   keep_heard run asked (Some h) p d is i from at close said =
       let w = run.network in
@@ -266,7 +267,7 @@ module _ (rounds : ℕ) (near : Type 0) (H : History) (fresh : Bool) (s : ℕ) (
       let M = moments_in rounds n run.devices in
       let m : Moment = placed rounds (moment_of (log_with d n)) in
       let v = verdict w.walk h.first h.count h.entries in
-      keep_taken run asked v h.entries p is i from (omega (arith, get_below run.devices p d at, length-moments rounds n run.devices)) (in_order run.devices d w.device p i.devices at)
+      keep_taken run asked v h.entries p is i from (omega (arith, slice_get_within run.devices p d at, length-moments rounds n run.devices)) (in_order run.devices d w.device p i.devices at)
       (λ g.
       let k = i.delivers g in
       let P : Moment → Type 0 = λ x. VerdictOf H x k.t w.walk v h.entries in
@@ -295,7 +296,7 @@ module _ (rounds : ℕ) (near : Type 0) (H : History) (fresh : Bool) (s : ℕ) (
       let k = i.delivers g in
       let N : Moment → Type 0 = λ x. IsNear k.t x in
       subst N (moment_in rounds n run.devices p d found.1.3)
-      (k.part.near (ap is_some is) f p found.1.2 (omega (arith, get_below run.devices p d found.1.3, length-moments rounds n run.devices))) in
+      (k.part.near (ap is_some is) f p found.1.2 (omega (arith, slice_get_within run.devices p d found.1.3, length-moments rounds n run.devices))) in
       keep_heard run asked (heard_in w.walk.log (answer_in (apdu_in octets))) p d is i found.1.2 found.1.3 close (λ g.
       let k = i.delivers g in
       let wanted : Wanted = wanted_at w.walk k.t in

@@ -1,7 +1,8 @@
 -- What events make of the log that is walked: the history has what is gone, what is held and what is to come.
-use Rattle.std.proofs.Common.{◌≡◌, ℕ, zero, suc, Bool, true, false, ◌+◌, ◌-◌, ◌<◌, ◌≤◌, ◌⊎◌, inl, inr, if◌then◌else◌, Option, Some, None, List, [], ◌∷◌, ◌++◌, length, take, drop, slice_get, refl, sym, ap, subst, ◌∙◌, arith, append_assoc}
-use Rattle.std.proofs.lemmas.List.{length-append, length-take-le, take-append-drop}
+use Rattle.std.proofs.Common.{◌≡◌, ℕ, zero, suc, Bool, true, false, ◌+◌, ◌-◌, ◌<◌, ◌≤◌, ◌⊎◌, inl, inr, if◌then◌else◌, Option, Some, None, List, [], ◌∷◌, ◌++◌, length, take, drop, slice_get, refl, sym, ap, subst, ◌∙◌, arith}
+use Rattle.std.proofs.lemmas.List.{length-append, length-take-le}
 use Rattle.std.proofs.Math.Seq.{drop-append_seam, take-append_seam}
+use Rattle.std.proofs.lemmas.Option.{slice_get_within}
 use Rattle.bac_log.specs.declared.entry.Entry.{Entry}
 use Rattle.bac_log.specs.TrendLog.{Log, newest, oldest}
 use Rattle.bac_objects.specs.Sound.{IsSound}
@@ -18,8 +19,8 @@ use Rattle.bac_walk.specs.Heard.{AckParameters}
 use Rattle.bac_walk.specs.Walks.{NextAct, Bring, Refuse, Ask, End, verdict}
 use Rattle.bac_direct.specs.Ahead.{IsThere, log_with, logged_since, moment_of, placed, turn}
 use Rattle.bac_direct.specs.declared.event.LinkEvent.TheVariants as link
-use Rattle.bac_direct.proofs.Ahead.{log_is}
-use Rattle.bac_direct.proofs.Events.{event_keeps, log_there}
+use Rattle.bac_direct.proofs.Ahead.{log_is, gives_way}
+use Rattle.bac_direct.proofs.Events.{event_keeps, log_there, stays}
 use Rattle.bac_direct.proofs.Steps.{Gains, steps_gain}
 use Rattle.bac_world.specs.declared.event.WorldEvent.{WorldEvent}
 use Rattle.bac_world.specs.declared.event.WorldEvent.TheVariants as event
@@ -30,9 +31,6 @@ use Rattle.bac_world.specs.Network.{Network, arrives, asks, closes, delivers, gi
 use Rattle.bac_world.specs.Runs.{entries_of, moments_in}
 
 -- ---- each event keeps the device's logs
-
-stays : (d : State) → Keeps d d
-stays d = event_keeps link.Answer d
 
 abbrev KeepsDevice : Network → Network → Type 0
 KeepsDevice w new = Keeps w.device new.device
@@ -106,14 +104,6 @@ pub record LogPart (rounds : ℕ) (H : History) (n : ℕ) (d : State) (rest : Li
   pub past : List Entry
   pub gone : length past + (H.logged + 1) ≡ oldest (log_with d n) + turn rounds
   pub entries : H.entries ≡ past ++ ((log_with d n).entries ++ rest)
-
--- the oldest entries give way
-gives_way : (past held since ahead : List Entry) (k : ℕ) → past ++ (held ++ (since ++ ahead)) ≡ (past ++ take k held) ++ ((drop k held ++ since) ++ ahead)
-gives_way past held since ahead k =
-    ap (λ (es : List Entry). past ++ (es ++ (since ++ ahead))) (sym (take-append-drop k held)) ∙ regroup past (take k held) (drop k held) since ahead
-  where
-    regroup : (p a b c e : List Entry) → p ++ ((a ++ b) ++ (c ++ e)) ≡ (p ++ a) ++ ((b ++ c) ++ e)
-    regroup p a b c e = simp append_assoc
 
 log_later : (rounds : ℕ) (H : History) (n : ℕ) (d new : State) (rest : List Entry) → IsSound d → Keeps d new →
     LogPart rounds H n d (logged_since (log_with d n) (log_with new n) ++ rest) → LogPart rounds H n new rest
@@ -190,11 +180,6 @@ pub get_last : {A : Type 0} → (xs : List A) (x : A) → slice_get (xs ++ x ∷
 get_last [] x = refl
 get_last (y ∷ xs) x = get_last xs x
 
-pub get_below : {A : Type 0} → (xs : List A) (k : ℕ) (p : A) → slice_get xs k ≡ Some p → k < length xs
-get_below [] k p h = absurd (cc)
-get_below (x ∷ xs) zero p h = omega arith
-get_below (x ∷ xs) (suc k) p h = omega (arith, get_below xs k p h)
-
 pub record DevicesPart (rounds : ℕ) (H : History) (n : ℕ) (devices : List State) (d : State) : Type 0 where
   pub inside : (p : ℕ) (e : State) → slice_get devices p ≡ Some e → InHistory rounds H n e
   pub rises : (i j : ℕ) (a b : State) → i ≤ j → slice_get devices i ≡ Some a → slice_get devices j ≡ Some b → oldest (log_with a n) ≤ oldest (log_with b n)
@@ -216,7 +201,7 @@ devices_more rounds H n devices d here a = record {
       | inr new ↦ subst (λ (z : State). oldest (log_with x n) ≤ oldest (log_with z n)) (sym new.1) (a.now i x old)
     ]
     | inr new ↦ elim (get_push devices d j y second) [
-      | inl old2 ↦ absurd (omega (arith, new.0, get_below devices j y old2, le))
+      | inl old2 ↦ absurd (omega (arith, new.0, slice_get_within devices j y old2, le))
       | inr new2 ↦ let same : x ≡ y = new.1 ∙ sym new2.1 in subst (λ (z : State). oldest (log_with x n) ≤ oldest (log_with z n)) same (omega arith)
     ]
   ];

@@ -5,7 +5,8 @@ use Rattle.bac_device.specs.Answer.{answer}
 use Rattle.bac_device.specs.declared.reply.Reply.{Reply}
 use Rattle.bac_link.specs.declared.item.Item.{Item}
 use Rattle.bac_link.specs.declared.item.Item.TheVariants.{Gap, Logged}
-use Rattle.bac_link.specs.Delivery.{History, Moment, AreHeld, Brings, Holds, Leads, later}
+use Rattle.bac_link.specs.Delivery.{History, Moment, Brings, Leads, later}
+use Rattle.bac_link.proofs.Delivers.{held_end, first_held}
 use Rattle.bac_walk.specs.Collects.{batches, start_of}
 use Rattle.bac_walk.specs.Near.{IsNear, IsInWindow, AreInWindow}
 use Rattle.bac_direct.specs.Ahead.{log_with, moment_of, placed}
@@ -18,17 +19,6 @@ use Rattle.bac_world.specs.Network.{Network, is_young}
 use Rattle.bac_world.specs.Runs.{IsNearWhere, Run, StaysNear, WindowsStayNear, answering, arriving, delivering, devices_after, follow, follow_all, moments_in}
 
 -- ---- what an answer brings
-
-held_end : (H : History) (m : Moment) (s u : ℕ) (items : List Item) → AreHeld H m s items u → s ≤ m.newest + 1 → (s ≤ u) × (u ≤ m.newest + 1)
-held_end H m s u [] are le = (omega (arith, are), omega (arith, are, le))
-held_end H m s u (Gap f b ∷ items) are le = absurd are
-held_end H m s u (Logged k e ∷ items) are le =
-    let rest = held_end H m (s + 1) u items are.3 (omega (arith, are.1.1)) in (omega (arith, rest.0), rest.1)
-
-first_held : (H : History) (m : Moment) (s u : ℕ) (items : List Item) → 0 < length items → AreHeld H m s items u → Holds m s
-first_held H m s u [] some are = absurd (omega arith)
-first_held H m s u (Gap f b ∷ items) some are = absurd are
-first_held H m s u (Logged k e ∷ items) some are = are.1
 
 -- a batch brings a walk into what is held, or right after it
 brings_end : (H : History) (m : Moment) (s u : ℕ) (x : Item) (items : List Item) → Brings H m s (x ∷ items) u → (m.oldest ≤ m.newest) × (m.oldest ≤ u) × (u ≤ m.newest + 1)

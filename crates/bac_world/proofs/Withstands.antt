@@ -131,9 +131,6 @@ withstands = λ w es sane. withstands_from w es (happens_all w es) sane refl
 
 -- ---- its headline
 
-begins_at : (fresh : Bool) (s : ℕ) (b : ℕ) → (fresh ≡ false → b ≡ s) → fresh ≡ false → b ≡ s
-begins_at fresh s b h f = h f
-
 start_old : (rounds : ℕ) (H : History) (w : Network) (es : List WorldEvent) (n : ℕ) (fresh : Bool) (s : ℕ) (answers : List (List Item)) → fresh ≡ false →
     start_of fresh s (moments_of rounds n w es) answers ≡ s
 start_old rounds H w es n fresh s answers old = ap (λ b. start_of b s (moments_of rounds n w es) answers) old
