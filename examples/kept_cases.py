@@ -79,11 +79,14 @@ def options(judge, _runs):
     port = 20000 + chance.randrange(9000)
     judge.ran(["keep", file, f"--local=127.77.5.1:{port}"])
     judge.same("--local", device.asker, f"127.77.5.1:{port}")
-    device.answers, before, began = 0, device.asked, time.monotonic()
-    judge.same("nobody answers", judge.ran(["keep", file, "--timeout=200", "--retries=1"]),
-               (2, said(device, 0, 0, "lost, next 5", way), ""))
-    took = time.monotonic() - began
-    judge.is_right("--timeout and --retries", 0.4 <= took < 2.9 and device.asked == before + 2, (took, device.asked - before))
+    device.answers = 0
+    # Longer than what is waited without the option: a busy machine can't fail it.
+    for timeout, retries in ((4, 0), (0.05, 2)):
+        before, began = device.asked, time.monotonic()
+        judge.same("nobody answers", judge.ran(["keep", file, f"--timeout={timeout * 1000:.0f}", f"--retries={retries}"]),
+                   (2, said(device, 0, 0, "lost, next 5", way), ""))
+        took, asks = time.monotonic() - began, device.asked - before
+        judge.is_right("--timeout and --retries", took >= timeout and asks == retries + 1, (took, asks))
 
 
 def losses(judge, _runs):
