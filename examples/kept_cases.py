@@ -244,20 +244,20 @@ def foreign_files(judge, _runs):
 
 
 def a_large_file(judge, _runs):
-    """A run goes on behind a million records."""
+    """A run goes on behind 200,000 records."""
     device, log = one(count=3)
     file = f"{judge.room}/a.db"
     judge.ran(["keep", file, device.address, "1"])
     base = sqlite3.connect(file)
     newest, *texts = base.execute("SELECT * FROM items ORDER BY id DESC LIMIT 1").fetchone()
-    base.executemany("INSERT INTO items VALUES (?, ?, ?, ?, ?, ?)", ((newest + 1 + at, *texts) for at in range(1000000)))
+    base.executemany("INSERT INTO items VALUES (?, ?, ?, ?, ?, ?)", ((newest + 1 + at, *texts) for at in range(200000)))
     base.commit()
     base.close()
     octets, row = log.held[3], log.lives[0][3]
-    log.total = log.oldest = 1000003
+    log.total = log.oldest = 200003
     log.held, log.lives[0][log.total] = {log.total: octets}, row
     log.log(1)
-    judge.same("a million records", judge.ran(["keep", file]), (0, said(device, 1, 0, "caught up, next 1000005"), ""))
+    judge.same("a large file", judge.ran(["keep", file]), (0, said(device, 1, 0, "caught up, next 200005"), ""))
 
 
 def printed(judge, _runs):
