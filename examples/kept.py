@@ -157,8 +157,6 @@ def a_first_run_at_each_call(judge, _runs):
             if os.path.exists(file + end):
                 os.remove(file + end)
         ended = judge.ended_at(call, words)[0]
-        if os.path.exists(file):
-            judge.judge(f"a first run, ended at call {call}", file, devices)
         status, out, errors = judge.ran(words)
         judge.is_right(f"behind a first run, ended at call {call}", status == 0, f"status {status}: {out} {errors}")
         judge.judge(f"behind a first run, ended at call {call}", file, devices, True)
