@@ -45,7 +45,8 @@ refused_with unfit = record { fault = Build unfit.misfit.fault; reason = Some (D
 abbrev pub IsUnbuilt : Held → DeviceLine → List ObjectLine → Fault → Type 0
 IsUnbuilt input device objects fault =
     ((build_fault device objects ≡ None) × (fault ≡ Memory))
-    ⊎ ((unfit : UnfitLine) × IsMisfit device objects unfit.misfit × (build_fault device objects ≡ Some unfit.misfit.fault)
+    ⊎ ((unfit : UnfitLine) × IsMisfit device objects unfit.misfit
+    × (build_fault device objects ≡ Some unfit.misfit.fault)
     × IfSome input (λ text. AreNumbers (lines text) unfit) × (fault ≡ Script (refused_with unfit)))
 
 -- ---- the server
