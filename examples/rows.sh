@@ -1,6 +1,6 @@
 #!/usr/bin/env bash
 # Plays the rows of lines.rows (scripts of a few lines) and words.rows (words that no tool takes), and
-# compares the status, the output and what is told.
+# compares the status, the output and what is told. What is told of a number is mended to either end of its range.
 #
 #     examples/rows.sh [PROGRAM]
 #
@@ -82,6 +82,63 @@ while IFS= read -r row; do
     esac
 done < lines.rows
 
+# Which words a tool has, in order.
+declare -A places=([wi]=ADDRESS [serve]=ADDRESS [log]='ADDRESS INSTANCE FROM' [rp]='ADDRESS TYPE INSTANCE PROPERTY'
+    [wp]='ADDRESS TYPE INSTANCE PROPERTY PRIORITY TAG')
+
+# ends_of WORD TOOL: the least and the greatest value that the text of a word tells.
+ends_of() {
+    local range=${ranges[$1]} end
+    case $range in
+        A.B.C.D*) echo 0.0.0.0:1 255.255.255.255:65535 ;;
+        *hexadecimal*)
+            # As many digits.
+            for end in $(sed 's/^\([0-9]*\) to \([0-9]*\) .*/\1 \2/' <<< "$range"); do printf '%0*d ' "$end" 1; done ;;
+        *'for bac wi'*)
+            [ "$2" = wi ] && range=${range#*for bac wi}
+            sed 's/^[^0-9]*\([0-9]*\) to \([0-9]*\).*/\1 \2/' <<< "$range" ;;
+        'a number from '*) sed 's/^a number from \([0-9]*\) to \([0-9]*\).*/\1 \2/' <<< "$range" ;;
+        *' or '[0-9]*) sed 's/^\([0-9]*\),.* or \([0-9]*\)$/\1 \2/' <<< "$range" ;;
+    esac
+}
+
+# with_option NAME VALUE: the words have this option, in place of one with this name.
+with_option() {
+    local kept=() word
+    for word in "${words[@]}"; do
+        [[ $word == "$1="* ]] || kept+=("$word")
+    done
+    words=("${kept[@]}" "$1=$2")
+}
+
+# mended_word WORD WORDS..: with either end of what is told of a word in its place, the words are taken, or another
+# word is told.
+mended_word() {
+    local named=$1 tool=$2 end told place words at
+    shift
+    for end in $(ends_of "$named" "$tool"); do
+        # An address where nobody answers, so that what is taken ends soon.
+        words=("${@/#10.0.0.1/127.0.0.1}")
+        at=1
+        for place in ${places[$tool]}; do
+            [ "$place" != "$named" ] || words[at]=$end
+            at=$((at + 1))
+        done
+        # The last of several addresses is the wrong one.
+        [ "$tool $named" != 'wi ADDRESS' ] || words=(wi "$end")
+        case $named in
+            --max) with_option --min 0 ;;
+            --dadr) with_option --dnet 1 ;;
+            --dnet) [ "$tool" = wi ] || with_option --dadr 01 ;;
+        esac
+        [ "$tool" = serve ] || with_option --timeout 1
+        case $tool in rp | wp | log) with_option --retries 0 ;; esac
+        case $named in --*) with_option "$named" "$end" ;; esac
+        told=$(timeout 1 "$program" "${words[@]}" < /dev/null 2>&1 > "$room/out" | grep -e "^$named: " -e '^error')
+        is "$* with $end as $named" "$told" ''
+    done
+}
+
 # told WANTED WORDS..: the words are wrong, and the text on standard error says so.
 told() {
     local wanted=$1 status
@@ -118,8 +175,11 @@ while IFS= read -r row; do
         'usage '*) told_usage "${word#usage }" "${words[@]}" ;;
         'long '*)
             word=${word#long }
-            told $'bad value\n'"$word: ${ranges[$word]}, of at most 10 digits" "${words[@]}" ;;
-        *) told $'bad value\n'"$word: ${ranges[$word]}" "${words[@]}" "${value[@]}" ;;
+            told $'bad value\n'"$word: ${ranges[$word]}, of at most 10 digits" "${words[@]}"
+            mended_word "$word" "${words[@]}" ;;
+        *)
+            told $'bad value\n'"$word: ${ranges[$word]}" "${words[@]}" "${value[@]}"
+            mended_word "$word" "${words[@]}" "${value[@]}" ;;
     esac
 done < words.rows
 
