@@ -78,15 +78,15 @@ fn list_status(fault: ListFault) -> u8
 
 impl Fault {
     /// The program's exit status.
-    pub fn status(self) -> u8
-        ensures { result ≡ exit_status self }
+    pub fn status(&self) -> u8
+        ensures { result ≡ exit_status self.now }
     {
         match self {
             Fault::NotText | Fault::BadValue(_) | Fault::LongNumber(_) | Fault::NoDevice => 1,
             Fault::Script(refused) => script_status(refused.fault),
             Fault::Socket | Fault::Refused(_) | Fault::NoAnswer(_) | Fault::Write => 2,
-            Fault::List(fault) => list_status(fault),
-            Fault::Exchange { fault, .. } => exchange_status(fault),
+            Fault::List(fault) => list_status(*fault),
+            Fault::Exchange { fault, .. } => exchange_status(*fault),
             Fault::Flawed(_) => 4,
             Fault::Memory => 5,
         }

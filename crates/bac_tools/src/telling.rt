@@ -217,10 +217,11 @@ pub(crate) fn say<E: Write>(text: &[u8], errors: &mut E)
 pub fn tell<E: Write>(alloc: Global, fault: Fault, errors: &mut E) -> u8
     ensures { IsTold fault (E.contents errors.old) (E.contents errors.new) result }
 {
+    let status = fault.status();
     match text_of(alloc, fault) {
         Ok(text) => {
             say(&text, errors);
-            fault.status()
+            status
         }
         Err(_) => {
             say(b"out of memory\n", errors);
