@@ -21,6 +21,7 @@ IsStart log last (BeganAnew walk) (Ok start) = (start.place.log ≡ log) × (sta
 IsStart log last (Fault fault) (Err end) = (end.records ≡ 0) × (end.gaps ≡ 0) × (end.why ≡ why.Fault fault) × (end.anew ≡ false)
 IsStart log last _ _ = ⊥
 
--- the line of a log was printed, and the status is that of its end
-abbrev pub IsToldBy : Option (List ℕ) → Option (List ℕ) → Source → ℕ → Type 0
-IsToldBy before after source status = (end : End) × (status ≡ walk_status end.why) × Appends before after (summary_line source end)
+-- the line of a log was printed, and its end is what was kept; the status is that of its end
+abbrev pub IsToldBy : Option (List ℕ) → Option (List ℕ) → Source → (End → Type 0) → ℕ → Type 0
+IsToldBy before after source kept status =
+    (end : End) × (status ≡ walk_status end.why) × Appends before after (summary_line source end) × kept end

@@ -1,7 +1,11 @@
 //! The records of one log are fetched and kept.
 
-ghost use Rattle.std.specs.Prelude.{◌≡◌, ◌+◌, true, false, IfOk, IfErr, Ok};
+ghost use Rattle.std.specs.Prelude.{◌≡◌, ◌+◌, true, false, IfOk, IfErr, OnOk, Ok};
+ghost use Rattle.sqlite.specs.State.{HasCleanDisk};
+ghost use Rattle.sqlite.specs.Held.{state};
+ghost use Rattle.bac_archive.specs.Schema.{archive_schema};
 ghost use Rattle.bac_walk.specs.Place.{walk_from_oldest};
+ghost use Rattle.bac_keeper.specs.Keeps.{BeginsAt, KeepsLog};
 ghost use Rattle.bac_keeper.specs.Starts.{IsStart};
 
 use crate::end::{End, NotDone};
@@ -138,6 +142,10 @@ fn where_to_start<L: LogLink, A: Alter>(
     log: ObjectId,
 ) -> Result<Result<Start, End>, NotDone>
     requires { log.kind ≡ 20 }
+    ensures begins { IfOk result (BeginsAt id) }
+    ensures same { HasCleanDisk (state A.Store conn.new) → (state A.Store conn.old).now.schema ≡ archive_schema
+        → OnOk result ((state A.Store conn.new).now ≡ (state A.Store conn.old).now) }
+    ensures clean { HasCleanDisk (state A.Store conn.new) → (state A.Store conn.old).now.schema ≡ archive_schema → HasCleanDisk (state A.Store conn.old) }
 {
     let last = match newest(conn, id) {
         Ok(Some(last)) => last,
@@ -175,6 +183,38 @@ fn end_of(run: KeptRun, anew: bool) -> Result<End, NotDone>
     }
 }
 
+/// Keeps what a log has from a start on.
+fn keep_from<L: LogLink, A: Alter>(
+    alloc: Global,
+    link: &mut L,
+    transactions: &mut Transactions,
+    conn: &mut Connection<A>,
+    start: Start,
+    steps: u32,
+) -> Result<End, NotDone>
+    ensures kept { HasCleanDisk (state A.Store conn.new) → (state A.Store conn.old).now.schema ≡ archive_schema
+        → IfOk result (KeepsLog start.place.log (state A.Store conn.old).now (state A.Store conn.new).now) }
+    ensures clean { HasCleanDisk (state A.Store conn.new) → HasCleanDisk (state A.Store conn.old) }
+{
+    let Start {
+        place,
+        walk,
+        free,
+        anew,
+    } = start;
+    let run = keep_log(
+        alloc,
+        link,
+        transactions,
+        walk,
+        conn,
+        place,
+        free,
+        steps,
+    );
+    end_of(run, anew)
+}
+
 /// Asks a device for what is new of its log, and keeps it.
 pub(crate) fn fetch<S: Sockets, A: Alter>(
     alloc: Global,
@@ -182,7 +222,12 @@ pub(crate) fn fetch<S: Sockets, A: Alter>(
     conn: &mut Connection<A>,
     id: u16,
     asking: Asking,
-) -> Result<End, NotDone> {
+) -> Result<End, NotDone>
+    // The rows of what the run brought come to those before, under this log.
+    ensures kept { HasCleanDisk (state A.Store conn.new) → (state A.Store conn.old).now.schema ≡ archive_schema
+        → IfOk result (KeepsLog id (state A.Store conn.old).now (state A.Store conn.new).now) }
+    ensures clean { HasCleanDisk (state A.Store conn.new) → (state A.Store conn.old).now.schema ≡ archive_schema → HasCleanDisk (state A.Store conn.old) }
+{
     let Asking {
         asked,
         instance,
@@ -192,24 +237,8 @@ pub(crate) fn fetch<S: Sockets, A: Alter>(
         return Err(NotDone::Asking(Fault::BadValue(Word::Instance)));
     };
     let (mut link, mut transactions) = connect(sockets, asked)?;
-    let Start {
-        place,
-        walk,
-        free,
-        anew,
-    } = match where_to_start(alloc, &mut link, &mut transactions, conn, id, log)? {
-        Ok(start) => start,
-        Err(end) => return Ok(end),
-    };
-    let run = keep_log(
-        alloc,
-        &mut link,
-        &mut transactions,
-        walk,
-        conn,
-        place,
-        free,
-        steps,
-    );
-    end_of(run, anew)
+    match where_to_start(alloc, &mut link, &mut transactions, conn, id, log)? {
+        Ok(start) => keep_from(alloc, &mut link, &mut transactions, conn, start, steps),
+        Err(end) => Ok(end),
+    }
 }

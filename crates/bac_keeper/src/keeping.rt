@@ -2,6 +2,10 @@
 
 ghost use Rattle.std.specs.Prelude.{◌≡◌, OnOk, IfOk};
 ghost use Rattle.std.specs.Io.KnownBytes.{Appends};
+ghost use Rattle.sqlite.specs.State.{HasCleanDisk};
+ghost use Rattle.sqlite.specs.Held.{state};
+ghost use Rattle.bac_archive.specs.Schema.{archive_schema};
+ghost use Rattle.bac_keeper.specs.Keeps.{KeepsSource};
 ghost use Rattle.bac_keeper.specs.Lines.{anew_line, summary_line};
 ghost use Rattle.bac_keeper.specs.Starts.{IsToldBy};
 
@@ -108,7 +112,10 @@ fn keep_one<S: Sockets, A: Alter, O: Write, E: Write>(
     errors: &mut E,
 ) -> Result<u8, NotDone>
     // What is told of a log is how its run ended, and so is the status.
-    ensures { IfOk result (IsToldBy (O.contents output.old) (O.contents output.new) wanted.source) }
+    // The rows of what the run brought come to those before, under the id of this log in the archive.
+    ensures { IfOk result (IsToldBy (O.contents output.old) (O.contents output.new) wanted.source (λ end.
+        HasCleanDisk (state A.Store conn.new) → (state A.Store conn.old).now.schema ≡ archive_schema →
+        KeepsSource wanted.source (state A.Store conn.old).now (state A.Store conn.new).now end)) }
 {
     let Wanted {
         source,
