@@ -2,7 +2,7 @@
 use Rattle.std.specs.Prelude.{ℕ, ◌==◌, if◌then◌else◌, List, [], ◌∷◌, ◌++◌, codes, decimal}
 use Rattle.std.specs.String.{string_bytes}
 use Rattle.bac_archive.specs.declared.trend_logs.Source.{Source}
-use Rattle.bac_report.specs.Ends.{end_line}
+use Rattle.bac_query.specs.Ends.{end_line}
 use Rattle.bac_keeper.specs.declared.end.End.{End}
 
 -- a device's address, and for one behind a router its network and its address there

@@ -6,7 +6,7 @@ ghost use Rattle.bac_keeper.specs.Lines.{anew_line, counted, place_text, source_
 use crate::end::End;
 use bac_archive::Source;
 use bac_print::push_number;
-use bac_report::push_end;
+use bac_query::push_end;
 use ryu::Buffer;
 use std::alloc::AllocError;
 

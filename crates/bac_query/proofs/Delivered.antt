@@ -6,7 +6,7 @@ use Rattle.bac_wire.specs.Primitive.{Id}
 use Rattle.bac_log.specs.TrendLog.{sequence_number}
 use Rattle.bac_link.specs.Delivery.{History, Moment}
 use Rattle.bac_link.specs.declared.item.Item.{Item}
-use Rattle.bac_report.specs.Items.{item_line, items_text}
+use Rattle.bac_query.specs.Items.{item_line, items_text}
 use Rattle.bac_walk.specs.declared.batch.Gap.{Gap as GapOf}
 use Rattle.bac_walk.specs.declared.batch.Numbered.{Numbered}
 use Rattle.bac_walk.specs.Place.{WalkPlace}
@@ -20,7 +20,7 @@ use Rattle.bac_walk.specs.declared.outcome.Ended.TheVariants.{CaughtUp, StepLimi
 use Rattle.bac_walk.specs.declared.outcome.Why.TheVariants.{CaughtUp as WasUp}
 use Rattle.bac_walk.proofs.Near.{fewer_steps}
 use Rattle.bac_walk.proofs.Runs.{headline_of, join_run, not_limit, run_early}
-use Rattle.bac_report.specs.Ends.{end_line}
+use Rattle.bac_query.specs.Ends.{end_line}
 use Rattle.bac_query.specs.Fetching.{Delivers, EndsAs, Fetching, IsFetched, NextIs, PrintsEnd, PrintsItems}
 use Rattle.bac_print.specs.Output.{AppendsPart}
 use Rattle.bac_query.specs.Reading.{Held, Prints}

@@ -4,3 +4,7 @@ pub mod CameOver
 pub mod Maps
 pub mod Pending
 pub mod RunsAhead
+pub mod Requests
+pub mod Turns
+pub mod Pieces
+pub mod Told

@@ -4,7 +4,7 @@ use Rattle.std.specs.Io.KnownBytes.{Appends, Keeps}
 use Rattle.std.proofs.KnownBytes.{Appends-kept, Keeps-refl, Keeps-trans}
 use Rattle.bac_link.specs.declared.item.Item.{Item}
 use Rattle.bac_print.specs.Output.{AppendsPart}
-use Rattle.bac_report.specs.Items.{items_text}
+use Rattle.bac_query.specs.Items.{items_text}
 use Rattle.bac_query.specs.Ahead.{Pending, PrintsFrom, PrintsLeft, PrintsOn, PrintsTo}
 use Rattle.bac_query.specs.Reading.{Answer, Held}
 use Rattle.bac_query.specs.declared.fault.QueryFault.TheVariants.{Exchange, Write, Memory}

@@ -5,8 +5,8 @@ use Rattle.std.proofs.KnownBytes.{Appends-kept, Appends-trans, Keeps-refl}
 use Rattle.bac_link.specs.Path.{Path}
 use Rattle.bac_link.specs.declared.item.Item.{Item}
 use Rattle.bac_print.specs.Output.{AppendsPart}
-use Rattle.bac_report.specs.Ends.{end_line}
-use Rattle.bac_report.specs.Items.{items_text}
+use Rattle.bac_query.specs.Ends.{end_line}
+use Rattle.bac_query.specs.Items.{items_text}
 use Rattle.bac_link.specs.declared.link.Lost.{Lost as Loss}
 use Rattle.bac_walk.specs.Came.{Came, Brought, BroughtInto}
 use Rattle.bac_walk.specs.Walks.{gap_items, item_of}

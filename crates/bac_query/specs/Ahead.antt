@@ -9,7 +9,7 @@ use Rattle.bac_ports.specs.Asking.{Asks}
 use Rattle.bac_ports.specs.Port.{Receiving, Sending}
 use Rattle.bac_ports.specs.declared.udp_link.UdpLink.{UdpLink}
 use Rattle.bac_print.specs.Output.{AppendsPart}
-use Rattle.bac_report.specs.Items.{items_text}
+use Rattle.bac_query.specs.Items.{items_text}
 use Rattle.bac_walk.specs.Came.{Came, Brought}
 use Rattle.bac_walk.specs.Place.{WalkPlace}
 use Rattle.bac_walk.specs.Sinks.{IsRun}

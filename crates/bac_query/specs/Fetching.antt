@@ -6,8 +6,8 @@ use Rattle.bac_link.specs.Delivery.{History, Moment, DeliversTo}
 use Rattle.bac_link.specs.Path.{Path}
 use Rattle.bac_link.specs.declared.item.Item.{Item}
 use Rattle.bac_link.specs.declared.link.Lost.{Lost}
-use Rattle.bac_report.specs.Ends.{end_line}
-use Rattle.bac_report.specs.Items.{items_text}
+use Rattle.bac_query.specs.Ends.{end_line}
+use Rattle.bac_query.specs.Items.{items_text}
 use Rattle.bac_walk.specs.Came.{Came, Brought, AreSaidAt, NeverGoesBack, answers_of}
 use Rattle.bac_walk.specs.Collects.{IsCaughtUp}
 use Rattle.bac_walk.specs.Near.{AreInWindow, StaysNear}

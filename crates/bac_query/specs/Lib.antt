@@ -3,3 +3,11 @@ pub mod Reading
 pub mod Fetching
 pub mod Writing
 pub mod Ahead
+pub mod Announcements
+pub mod Lines
+pub mod Requests
+pub mod Hearing
+pub mod Turns
+pub mod Finding
+pub mod Items
+pub mod Ends

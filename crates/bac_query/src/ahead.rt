@@ -9,11 +9,11 @@ ghost use Rattle.bac_query.specs.Fetching.{PrintsEnd};
 
 use crate::fault::QueryFault;
 use crate::fetching::{Fetched, end};
+use crate::items::push_items;
 use crate::reading::print;
 use crate::record_lines::Lines;
 use bac_link::{Item, LogLink, Lost};
 use bac_ports::{Port, UdpLink};
-use bac_report::push_items;
 use bac_walk::{Gap, Numbered, Sink, Why};
 use bac_wire::Datagram;
 use std::io::Write;

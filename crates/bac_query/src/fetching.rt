@@ -3,8 +3,8 @@
 ghost use Rattle.std.specs.Prelude.{◌≡◌, ◌≢◌, ◌≤◌, ℕ, List, length};
 ghost use Rattle.std.specs.Io.KnownBytes.{Appends};
 ghost use Rattle.bac_link.specs.declared.item.Item.{Item};
-ghost use Rattle.bac_report.specs.Ends.{end_line};
-ghost use Rattle.bac_report.specs.Items.{items_text};
+ghost use Rattle.bac_query.specs.Ends.{end_line};
+ghost use Rattle.bac_query.specs.Items.{items_text};
 ghost use Rattle.bac_link.specs.Path.{towards};
 ghost use Rattle.bac_walk.specs.Place.{WalkPlace};
 ghost use Rattle.bac_walk.specs.Came.{Brought, Came};
@@ -14,11 +14,11 @@ ghost use Rattle.bac_walk.specs.declared.outcome.Ended.{Ended as EndedOf};
 ghost use Rattle.bac_query.specs.Fetching.{Delivers, EndsAs, FetchesOver, IsFetched, PrintsEnd, PrintsItems};
 ghost use Rattle.bac_query.specs.Reading.{Prints};
 
+use crate::ends::push_end;
 use crate::fault::QueryFault;
 use crate::reading::print;
 use crate::record_lines::Lines;
 use bac_link::{LogLink, Transactions};
-use bac_report::push_end;
 use bac_walk::{Ended, Walk, Why, deliver};
 use std::alloc::Global;
 use std::io::Write;

@@ -3,20 +3,38 @@
 //! [`read_property`] prints a property's values, a line each (specs/Reading, specs/Values). What is
 //! printed is said of every link and every writer that tells what it holds: the whole text, or a
 //! front part of it if a write was refused, and nothing else.
+//!
+//! [`find_devices`] asks each address by Who-Is over any port and prints a line for each I-Am that comes
+//! (clause 16.10; specs/Finding, specs/Announcements). [`push_items`] and [`push_end`] make the texts of
+//! what a walk delivers: a line for each item, and why it ended.
 #![tactic(auto)]
 
 mod ahead;
+mod announcement;
+mod ends;
 mod fault;
 mod fetching;
 mod fetching_ahead;
+mod find_fault;
+mod finding;
+mod items;
+mod line;
 mod reading;
 mod record_lines;
+mod request;
+mod search;
+mod seeking;
 mod values;
 mod writing;
 
+pub use ends::{push_end, push_refusal};
 pub use fault::QueryFault;
 pub use fetching::{Fetched, fetch_log};
 pub use fetching_ahead::fetch_log_ahead;
+pub use find_fault::FindFault;
+pub use finding::{RECEIVES, find_devices};
+pub use items::{push_item, push_items};
 pub use reading::read_property;
+pub use search::Search;
 pub use values::push_values;
 pub use writing::write_property;

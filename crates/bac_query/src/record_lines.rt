@@ -2,10 +2,10 @@
 
 ghost use Rattle.std.specs.Prelude.{◌≡◌, ◌++◌, ◌∷◌, [], true, OnOk};
 ghost use Rattle.bac_walk.specs.Walks.{gap_items, item_of};
-ghost use Rattle.bac_report.specs.Items.{items_text};
+ghost use Rattle.bac_query.specs.Items.{items_text};
 
+use crate::items::push_item;
 use bac_link::Item;
-use bac_report::push_item;
 use bac_walk::{Gap, Numbered, Sink};
 use std::alloc::AllocError;
 

@@ -7,8 +7,8 @@ use Rattle.bac_log.specs.TrendLog.{Log, sequence_number}
 use Rattle.bac_link.specs.Delivery.{History, Moment}
 use Rattle.bac_objects.specs.Sampling.{log_of}
 use Rattle.bac_objects.specs.State as device
-use Rattle.bac_report.specs.Ends.{end_line}
-use Rattle.bac_report.specs.Items.{items_text}
+use Rattle.bac_query.specs.Ends.{end_line}
+use Rattle.bac_query.specs.Items.{items_text}
 use Rattle.bac_walk.specs.Ordinals.{distance}
 use Rattle.bac_walk.specs.Place.{WalkPlace, walk_at, walk_from_oldest}
 use Rattle.bac_walk.specs.Rests.{Rested, rest, end_missing}

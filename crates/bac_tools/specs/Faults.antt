@@ -1,7 +1,7 @@
 -- The faults of the crates below as faults of a tool.
 use Rattle.std.specs.Prelude.{ℕ, List}
-use Rattle.bac_find.specs.declared.fault.FindFault.{FindFault}
-use Rattle.bac_find.specs.declared.fault.FindFault.TheVariants as find
+use Rattle.bac_query.specs.declared.find_fault.FindFault.{FindFault}
+use Rattle.bac_query.specs.declared.find_fault.FindFault.TheVariants as find
 use Rattle.bac_query.specs.declared.fault.QueryFault.{QueryFault}
 use Rattle.bac_query.specs.declared.fault.QueryFault.TheVariants as query
 use Rattle.bac_tools.specs.declared.fault.Fault.{Fault}

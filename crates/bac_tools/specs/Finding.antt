@@ -3,9 +3,9 @@ use Rattle.std.specs.Prelude.{◌≡◌, ◌<◌, ◌≤◌, ◌==◌, ℕ, List
 use Rattle.std.specs.Io.KnownBytes.{Consumes, IsAtEnd}
 use Rattle.std.specs.List.{slice_split}
 use Rattle.std.specs.Option.{unwrap_or}
-use Rattle.bac_find.specs.Finding.{Finds as FindsDevices, console}
-use Rattle.bac_find.specs.Hearing.{Found}
-use Rattle.bac_find.specs.declared.search.Search.{Search}
+use Rattle.bac_query.specs.Finding.{Finds as FindsDevices, console}
+use Rattle.bac_query.specs.Hearing.{Found}
+use Rattle.bac_query.specs.declared.search.Search.{Search}
 use Rattle.bac_query.specs.Reading.{Held}
 use Rattle.bac_tools.specs.Ending.{Ending}
 use Rattle.bac_tools.specs.Faults.{of_find}

@@ -5,7 +5,7 @@ use Rattle.bac_link.specs.declared.exchanges.ExchangeFault.TheVariants as exchan
 use Rattle.bac_objects.specs.declared.build.BuildFault.{BuildFault}
 use Rattle.bac_objects.specs.declared.build.BuildFault.TheVariants as build
 use Rattle.bac_print.specs.Addresses.{address_text}
-use Rattle.bac_report.specs.Ends.{refusal_text}
+use Rattle.bac_query.specs.Ends.{refusal_text}
 use Rattle.bac_script.specs.declared.replay.fault.Refused.{Refused as Refusal}
 use Rattle.bac_script.specs.declared.replay.fault.ReplayFault.{ReplayFault}
 use Rattle.bac_script.specs.declared.replay.fault.ReplayFault.TheVariants as script

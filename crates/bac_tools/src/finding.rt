@@ -7,8 +7,8 @@ ghost use Rattle.bac_tools.specs.Sockets.{outside, socket_rules};
 
 use crate::asking::ANY;
 use crate::fault::Fault;
-use bac_find::{FindFault, Search, find_devices};
 use bac_ports::Sockets;
+use bac_query::{FindFault, Search, find_devices};
 use bac_script::{Ending, LIMIT, fill};
 use bac_words::{Addresses, ListFault, Stations, read_addresses};
 use std::alloc::Global;

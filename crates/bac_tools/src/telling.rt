@@ -10,7 +10,7 @@ use crate::reason::{push_list, push_second_line, push_unanswered};
 use bac_device::BuildFault;
 use bac_link::ExchangeFault;
 use bac_print::{push_address, push_number, write_text};
-use bac_report::push_refusal;
+use bac_query::push_refusal;
 use bac_script::{Refused, ReplayFault};
 use bac_words::Word;
 use std::alloc::{AllocError, Global};

@@ -25,8 +25,8 @@ use Rattle.bac_query.specs.Fetching.{Fetching, IsEnd}
 use Rattle.bac_query.specs.Reading.{Answer, PrintsValues, Way, values_in}
 use Rattle.bac_query.specs.declared.fault.QueryFault.{QueryFault}
 use Rattle.bac_query.specs.declared.fault.QueryFault.TheVariants as query
-use Rattle.bac_report.specs.Ends.{end_line}
-use Rattle.bac_report.specs.Items.{items_text}
+use Rattle.bac_query.specs.Ends.{end_line}
+use Rattle.bac_query.specs.Items.{items_text}
 use Rattle.bac_serve.specs.Serving.{Done, Server, Serves as ServesDevice, ServesNext}
 use Rattle.bac_tools.specs.Asking.{AsksDevice, Fetches, OverLink, Reads, Writes, of_answer, of_fetching}
 use Rattle.bac_tools.specs.Ending.{Ending}

@@ -1,14 +1,14 @@
 -- Where no datagram comes no device is found.
 use Rattle.std.proofs.Common.{◌≡◌, ◌∙◌, ℕ, Bool, true, false, List, [], ◌∷◌, ◌++◌, Option, Some, None, Ok, Err, inl, inr, refl, sym, ap, subst, append-nil, length}
 use Rattle.std.specs.Io.KnownBytes.{Appends, Keeps}
-use Rattle.bac_find.specs.Announcements.{Announcement}
-use Rattle.bac_find.specs.Finding.{Console, Finds, told_of, unasked}
-use Rattle.bac_find.specs.Hearing.{Found, Held, Left, Standing}
-use Rattle.bac_find.specs.Requests.{who_is_octets}
-use Rattle.bac_find.specs.Turns.{Along, ComesTo, Fails, IsLast, Turn, Sent, Received, came_in, has_device, lines_of}
-use Rattle.bac_find.specs.declared.fault.FindFault.{FindFault}
-use Rattle.bac_find.specs.declared.fault.FindFault.TheVariants as find
-use Rattle.bac_find.specs.declared.search.Search.{Search}
+use Rattle.bac_query.specs.Announcements.{Announcement}
+use Rattle.bac_query.specs.Finding.{Console, Finds, told_of, unasked}
+use Rattle.bac_query.specs.Hearing.{Found, Held, Left, Standing}
+use Rattle.bac_query.specs.Requests.{who_is_octets}
+use Rattle.bac_query.specs.Turns.{Along, ComesTo, Fails, IsLast, Turn, Sent, Received, came_in, has_device, lines_of}
+use Rattle.bac_query.specs.declared.find_fault.FindFault.{FindFault}
+use Rattle.bac_query.specs.declared.find_fault.FindFault.TheVariants as find
+use Rattle.bac_query.specs.declared.search.Search.{Search}
 use Rattle.bac_ports.specs.Port.{Receiving, Sending}
 use Rattle.bac_ports.specs.declared.port.Heard.{Heard}
 use Rattle.bac_tools.specs.Faults.{of_find}

@@ -8,8 +8,8 @@ use Rattle.bac_log.specs.TrendLog.{sequence_number}
 use Rattle.bac_ports.specs.declared.udp_link.UdpLink.{UdpLink}
 use Rattle.bac_print.specs.Output.{AppendsPart, Held}
 use Rattle.bac_query.specs.Fetching.{IsHeadline}
-use Rattle.bac_report.specs.Ends.{end_line}
-use Rattle.bac_report.specs.Items.{items_text}
+use Rattle.bac_query.specs.Ends.{end_line}
+use Rattle.bac_query.specs.Items.{items_text}
 use Rattle.bac_tools.specs.Sockets.{SocketRules, link_over, socket_asks}
 use Rattle.bac_walk.specs.Came.{AreSaidAt, Brought, Came}
 use Rattle.bac_walk.specs.Delivers.{NoneFrom}

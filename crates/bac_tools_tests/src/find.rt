@@ -4,8 +4,8 @@
 
 use crate::memory_port::{Coming, MemoryPort};
 use bac_apdu::WhoIs;
-use bac_find::{FindFault, Search, find_devices};
 use bac_ports::{Heard, Port, SocketFault};
+use bac_query::{FindFault, Search, find_devices};
 use bac_wire::Datagram;
 use std::alloc::Global;
 use std::io::{self, Write};

@@ -5,7 +5,7 @@ ghost use Rattle.std.specs.Prelude.{◌≡◌, ◌<◌, ℕ, map, List, Option};
 ghost use Rattle.std.specs.Io.KnownBytes.{Keeps};
 ghost use Rattle.std.specs.String.{string_bytes};
 ghost use Rattle.bac_print.specs.Output.{AppendsPart};
-ghost use Rattle.bac_report.specs.Ends.{end_line};
+ghost use Rattle.bac_query.specs.Ends.{end_line};
 ghost use Rattle.bac_tools.specs.Run.{AskFor};
 ghost use Rattle.bac_tools.specs.Sockets.{socket_rules};
 ghost use Rattle.bac_tools_tests.specs.Silence.{IsSilent, IsSilentWithin, LostWasAsked, ServersStay};

@@ -12,7 +12,7 @@ use crate::script::line::WalkWords;
 use bac_device::Device;
 use bac_direct::DirectLink;
 use bac_link::{LogLink, Transactions};
-use bac_report::{push_end, push_items};
+use bac_query::{push_end, push_items};
 use bac_walk::{Outcome, Walk, Why, collect};
 use std::alloc::{AllocError, Global};
 use std::marker::Model;

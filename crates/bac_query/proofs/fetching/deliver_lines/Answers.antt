@@ -1,5 +1,5 @@
 use Rattle.std.proofs.Common.{Bool, List, ℕ, ◌++◌, ◌∙◌, ap, subst, arith}
-use Rattle.bac_report.specs.Items.{items_text}
+use Rattle.bac_query.specs.Items.{items_text}
 use Rattle.bac_walk.specs.Sinks.{put_items, Takes}
 use Rattle.bac_walk.proofs.Keeps.{put_length}
 use Rattle.bac_query.specs.declared.record_lines.Lines.{Lines}

@@ -1,7 +1,7 @@
 use Rattle.std.proofs.Common.{◌≡◌, ◌*◌, ◌≤◌, List, length}
 use Rattle.std.specs.Io.KnownBytes.{Appends}
 use Rattle.bac_link.specs.declared.item.Item.{Item}
-use Rattle.bac_report.specs.Items.{items_text}
+use Rattle.bac_query.specs.Items.{items_text}
 use Rattle.bac_link.specs.Path.{towards}
 use Rattle.bac_walk.specs.Came.{Came, Brought}
 use Rattle.bac_walk.specs.Sinks.{IsRun}

@@ -2,7 +2,7 @@ use Rattle.std.proofs.Common.{◌≡◌, ◌+◌, ◌≤◌, ℕ, false, List}
 use Rattle.std.specs.Io.KnownBytes.{Appends}
 use Rattle.bac_link.specs.declared.item.Item.{Item}
 use Rattle.bac_link.specs.Path.{towards}
-use Rattle.bac_report.specs.Items.{items_text}
+use Rattle.bac_query.specs.Items.{items_text}
 use Rattle.bac_walk.specs.Place.{WalkPlace}
 use Rattle.bac_walk.specs.declared.outcome.Ended.TheVariants.{StepLimit}
 use Rattle.bac_query.specs.Ahead.{IsRunOver, port_asks}

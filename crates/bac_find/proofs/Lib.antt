@@ -1,4 +1,0 @@
-pub mod Requests
-pub mod Turns
-pub mod Pieces
-pub mod Told

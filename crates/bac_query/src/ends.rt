@@ -1,0 +1,62 @@
+//! The line that says how a walk ended.
+
+ghost use Rattle.std.specs.Prelude.{◌≡◌, ◌++◌, OnOk};
+ghost use Rattle.bac_query.specs.Ends.{end_line, numbered_word, refusal_text, why_text};
+
+use bac_link::Refusal;
+use bac_print::push_number;
+use bac_walk::{WalkFault, Why};
+use std::alloc::AllocError;
+
+/// Appends a word and a number after a blank.
+fn push_numbered(text: &mut Vec<u8>, word: &[u8], n: u64) -> Result<(), AllocError>
+    ensures { OnOk result (text.new.items ≡ text.old.items ++ numbered_word word.now n) }
+{
+    text.extend_from_slice(word)?;
+    text.extend_from_slice(b" ")?;
+    push_number(text, n)
+}
+
+/// Appends how a device refused: `refused: error CLASS CODE`, `refused: reject REASON` or
+/// `refused: abort REASON`.
+#[tactic(auto, unfolding(crate::specs::Ends::refusal_text))]
+pub fn push_refusal(text: &mut Vec<u8>, refusal: Refusal) -> Result<(), AllocError>
+    ensures { OnOk result (text.new.items ≡ text.old.items ++ refusal_text refusal) }
+{
+    text.extend_from_slice(b"refused: ")?;
+    match refusal {
+        Refusal::Error(class, code) => {
+            push_numbered(text, b"error", u64::from(class))?;
+            text.extend_from_slice(b" ")?;
+            push_number(text, u64::from(code))
+        }
+        Refusal::Reject(reason) => push_numbered(text, b"reject", u64::from(reason)),
+        Refusal::Abort(reason) => push_numbered(text, b"abort", u64::from(reason)),
+    }
+}
+
+/// Appends why a walk ended.
+#[tactic(auto, unfolding(crate::specs::Ends::why_text))]
+fn push_why(text: &mut Vec<u8>, why: Why) -> Result<(), AllocError>
+    ensures { OnOk result (text.new.items ≡ text.old.items ++ why_text why) }
+{
+    match why {
+        Why::CaughtUp => text.extend_from_slice(b"caught up"),
+        Why::StepLimit => text.extend_from_slice(b"step limit"),
+        Why::Fault(WalkFault::Lost) => text.extend_from_slice(b"lost"),
+        Why::Fault(WalkFault::Refused(refusal)) => push_refusal(text, refusal),
+        Why::Fault(WalkFault::BadReply) => text.extend_from_slice(b"bad reply"),
+        Why::Memory => text.extend_from_slice(b"out of memory"),
+    }
+}
+
+/// Appends the line of a walk's end: why it ended, and the number that comes next.
+#[tactic(auto, unfolding(crate::specs::Ends::end_line))]
+pub fn push_end(text: &mut Vec<u8>, why: Why, next: u32) -> Result<(), AllocError>
+    ensures { OnOk result (text.new.items ≡ text.old.items ++ end_line why next) }
+{
+    push_why(text, why)?;
+    text.extend_from_slice(b", next ")?;
+    push_number(text, u64::from(next))?;
+    text.extend_from_slice(b"\n")
+}

@@ -1,7 +1,0 @@
--- What is still to be appended makes the whole.
-use Rattle.std.proofs.Common.{◌≡◌, ◌++◌, drop}
-use Rattle.bac_report.specs.Items.{items_text}
-use Rattle.bac_report.proofs.items.push_items.Given as goal
-
-abbrev pub invariant-loop-item : goal.invariant-loop-item
-invariant-loop-item l = l.text.items ++ items_text (drop l.item-index l.items) ≡ l.initial.text.items ++ items_text l.items
