@@ -1,9 +1,7 @@
 -- Where a walk over a log that doesn't change has brought all.
-use Rattle.std.proofs.Common.{◌≡◌, ℕ, zero, suc, ◌+◌, ◌<◌, max, nat_lt, Bool, true, false, [], ◌∷◌, refl, arith}
-use Rattle.std.proofs.lemmas.Bool.{lt-ltb}
-use Rattle.std.proofs.lemmas.Bool.Decides.{nat_tests}
+use Rattle.std.proofs.Common.{◌≡◌, ℕ, ◌+◌, ◌<◌, max, nat_lt, Bool, true, false, [], refl, arith}
+use Rattle.std.proofs.lemmas.Bool.{lt-ltb, ltb-true, ltb-false}
 use Rattle.bac_link.specs.Delivery.{History, Moment}
-use Rattle.bac_link.specs.Laws.{after_answers}
 use Rattle.bac_walk.specs.Near.{IsInWindow, IsNear}
 use Rattle.bac_walk.specs.Outcomes.{IsRunOf}
 use Rattle.bac_walk.specs.Rests.{Rested, rest_all}
@@ -11,24 +9,14 @@ use Rattle.bac_walk.specs.declared.outcome.Ended.TheVariants.{CaughtUp}
 use Rattle.bac_walk.specs.declared.outcome.Why.{Why}
 use Rattle.bac_walk.specs.declared.outcome.Why.TheVariants as why
 
-pub one_moment : (a : ℕ) (m : Moment) → after_answers a (m ∷ []) ≡ m ∷ []
-one_moment zero m = refl
-one_moment (suc a) m = one_moment a m
-
-less : (a b : ℕ) → nat_lt a b ≡ true → a < b
-less a b e = grind (arith, nat_tests)
-
-not_less : (a k b : ℕ) → nat_lt a (max k b) ≡ false → b < a + 1
-not_less a k b e = grind (arith, nat_tests)
-
 pub after_all : (H : History) (m : Moment) (k low : ℕ) (b : Bool) → nat_lt m.newest (max k m.oldest) ≡ b → IsNear k m → IsInWindow low m →
     (t : ℕ) × ((rest_all H m k).next ≡ t) × (m.newest < max t m.oldest) × IsNear t m
-after_all H m k low true e near window = (k, rw e refl, less m.newest (max k m.oldest) e, near)
+after_all H m k low true e near window = (k, rw e refl, ltb-true m.newest (max k m.oldest) e, near)
 after_all H m k low false e near window = (
   m.newest + 1,
   rw e refl,
   omega arith,
-  record { above = omega (arith, not_less m.newest k m.oldest e); below = omega (arith, window.oldest, window.newest) },
+  record { above = omega (arith, ltb-false m.newest (max k m.oldest) e); below = omega (arith, window.oldest, window.newest) },
 )
 
 pub caught_up : (H : History) (m : Moment) (t : ℕ) → m.newest < max t m.oldest →

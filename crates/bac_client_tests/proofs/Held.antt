@@ -1,7 +1,7 @@
 -- What a walk over a log at rest delivers is what the log holds.
 use Rattle.std.proofs.Common.{◌≡◌, ℕ, ◌+◌, ◌-◌, ◌<◌, ◌≤◌, max, nat_lt, Bool, true, false, if◌then◌else◌, List, [], ◌∷◌, ◌++◌, length, take, drop, refl, ap, ◌∙◌, arith}
-use Rattle.std.proofs.lemmas.Bool.Decides.{nat_tests}
-use Rattle.std.proofs.lemmas.List.{length-drop, take_all}
+use Rattle.std.proofs.lemmas.List.{length-drop, take_all, append-nil}
+use Rattle.std.proofs.lemmas.Bool.{ltb-false}
 use Rattle.bac_log.specs.TrendLog.{Log, newest, sequence_number, oldest}
 use Rattle.bac_log.specs.declared.entry.Entry.{Entry}
 use Rattle.bac_link.specs.Delivery.{History}
@@ -18,16 +18,9 @@ use Rattle.bac_client_tests.specs.Held.{held_from}
 abbrev pub history_of : Log → History
 history_of log = record { logged = log.before; entries = log.entries ++ [] }
 
-append_none : (es : List Entry) → es ++ [] ≡ es
-append_none [] = refl
-append_none (e ∷ es) = ap (λ (xs : List Entry). e ∷ xs) (append_none es)
-
-not_less : (a b : ℕ) → nat_lt a b ≡ false → b ≤ a
-not_less a b e = grind (arith, nat_tests)
-
 entries_are : (log : Log) (k : ℕ) → oldest log ≤ k → k ≤ newest log → entries_from (history_of log) k ((newest log + 1) - k) ≡ drop (k - oldest log) log.entries
 entries_are log k low high =
-    ap (λ (es : List Entry). take ((newest log + 1) - k) (drop (k - oldest log) es)) (append_none log.entries)
+    ap (λ (es : List Entry). take ((newest log + 1) - k) (drop (k - oldest log) es)) (append-nil log.entries)
     ∙ take_all ((newest log + 1) - k) (drop (k - oldest log) log.entries) (omega (arith, length-drop (k - oldest log) log.entries, low, high))
 
 abbrev gap_to : Log → ℕ → List Item
@@ -45,7 +38,7 @@ held_if : (log : Log) (s : ℕ) (b : Bool) → nat_lt (newest log) (max s (oldes
 held_if log s true e = refl
 held_if log s false e =
     ap (λ (es : List Entry). gap_to log s ++ numbered (max s (oldest log)) es)
-    (entries_are log (max s (oldest log)) (omega arith) (not_less (newest log) (max s (oldest log)) e))
+    (entries_are log (max s (oldest log)) (omega arith) (ltb-false (newest log) (max s (oldest log)) e))
 
 pub held_all : (log : Log) (s : ℕ) → (rest_all (history_of log) (moment_of log) s).items ≡ held_from log s
 held_all log s = held_if log s (nat_lt (newest log) (max s (oldest log))) refl
@@ -61,5 +54,5 @@ held_now log =
     let place : oldest log - (log.before + 1) ≡ 0 = omega arith in
     ap (λ n. take n (drop (oldest log - (log.before + 1)) (log.entries ++ []))) size
     ∙ ap (λ n. take (length log.entries) (drop n (log.entries ++ []))) place
-    ∙ ap (λ (es : List Entry). take (length log.entries) es) (append_none log.entries)
+    ∙ ap (λ (es : List Entry). take (length log.entries) es) (append-nil log.entries)
     ∙ take_all (length log.entries) log.entries (omega arith)

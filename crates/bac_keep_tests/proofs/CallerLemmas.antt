@@ -1,5 +1,5 @@
 -- What two runs keep, one after the other.
-use Rattle.std.proofs.Common.{◌≡◌, ◌+◌, ◌<◌, ◌≤◌, ℕ, false, Result, Ok, Err, IfOk, List, [], ◌∷◌, map, refl, sym, subst, ◌∙◌, arith}
+use Rattle.std.proofs.Common.{◌≡◌, ◌+◌, ◌<◌, ◌≤◌, ℕ, false, List, [], ◌∷◌, map, refl, sym, subst, ◌∙◌, arith}
 use Rattle.sqlite.specs.Effect.{Database}
 use Rattle.sqlite_trees.specs.Tree.{Trees}
 use Rattle.bac_wire.specs.Primitive.{Id}
@@ -19,10 +19,6 @@ use Rattle.bac_keep.specs.declared.place.Place.{Place}
 use Rattle.bac_keep.specs.Items.{kept_row}
 use Rattle.bac_keep.specs.Kept.{IsKept, rows_at, Ran, AllRunsAreKept, BeginsEmpty, KeptIsDelivered}
 use Rattle.bac_keep.specs.Runs.{KeepsRun}
-
-pub if_ok : {A E : Type 0} (r : Result A E) (P Q : A → Type 0) → ((x : A) → P x → Q x) → IfOk r P → IfOk r Q
-if_ok (Ok x) P Q f p = f x p
-if_ok (Err e) P Q f p = tt
 
 pub few_steps : (why : Why) (steps n : ℕ) (ended : Ended) → IsRunOf why steps n ended → n ≤ steps
 few_steps CaughtUp steps n ended is = let e : n ≡ steps = is.0 in omega (arith, e)

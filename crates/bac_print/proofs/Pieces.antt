@@ -1,10 +1,11 @@
 -- Texts that are made octet by octet.
-use Rattle.std.proofs.Common.{◌≡◌, ℕ, ◌+◌, ◌-◌, ◌*◌, ◌≤◌, suc, List, [], ◌∷◌, ◌++◌, length, take, map, refl, sym, ap, ◌∙◌, arith, drop, append_assoc, append-nil, length-append, take-append-drop}
+use Rattle.std.proofs.Common.{◌≡◌, ℕ, ◌+◌, ◌-◌, ◌*◌, ◌≤◌, List, [], ◌∷◌, ◌++◌, length, take, refl, ap, ◌∙◌, arith, drop, append_assoc, append-nil, length-append, take-append-drop}
 use Rattle.std.proofs.Math.Seq.{take-append-add}
 use Rattle.std.proofs.lemmas.List.{take-map, take_rest}
 use Rattle.std.proofs.lemmas.List.{length-map}
 use Rattle.hex.specs.Hex.{encode_with, encode_lower}
 use Rattle.bac_wire.specs.Number.{bits_of}
+use Rattle.bac_wire.proofs.Shortest.{bits_length}
 use Rattle.bac_print.specs.Numbers.{bit_digit, bit_digits}
 
 -- the digits of octets one after the other
@@ -26,13 +27,8 @@ unfolding encode_with
 hex_done text [] none = append-nil text
 hex_done text (x ∷ xs) none = absurd (omega (arith, none))
 
--- an octet has eight bits
-pub length-bits_of : (octets : List ℕ) → length (bits_of octets) ≡ 8 * length octets
-length-bits_of [] = refl
-length-bits_of (octet ∷ rest) = omega (arith, length-bits_of rest)
-
 pub length-bit_digits : (octets : List ℕ) → length (bit_digits (bits_of octets)) ≡ 8 * length octets
-length-bit_digits octets = length-map (bits_of octets) bit_digit ∙ length-bits_of octets
+length-bit_digits octets = length-map (bits_of octets) bit_digit ∙ bits_length octets
 
 -- all the bits, and then without the last ones
 pub bits_cut : (text octets : List ℕ) (unused size : ℕ) → unused ≤ 8 * length octets → size ≡ length (text ++ bit_digits (bits_of octets))

@@ -3,15 +3,8 @@ use Rattle.std.proofs.Common.{◌≡◌, ℕ, ◌+◌, ◌/◌, ◌%◌, ◌<◌
 use Rattle.std.specs.Prelude.{decimal}
 use Rattle.std.specs.Fmt.{digits}
 use Rattle.std.proofs.lemmas.Bool.{ne_eqb, eq-eqb, lt-ltb, le-ltb, cases_lt}
+use Rattle.std.proofs.lemmas.Fmt.{decimal_digit}
 use Rattle.bac_print.specs.Moments.{year_text, part_text, day_text, time_text}
-
-pub one_digit : (n : ℕ) → n < 10 → decimal n ≡ (48 + n) ∷ []
-unfolding digits
-one_digit n lt =
-    let over : eqb (n / 10) 0 ≡ true = eq-eqb _ _ (omega arith) in
-    let last : n % 10 ≡ n = omega arith in
-    let small : ltb n 10 ≡ true = lt-ltb _ _ lt in
-    rw (over, last, small) refl
 
 two_digits_are : (n : ℕ) → 10 ≤ n → n < 100 → decimal n ≡ (48 + n / 10) ∷ (48 + n % 10) ∷ []
 unfolding digits
@@ -31,7 +24,7 @@ part_is n lt =
           let few : ltb n 10 ≡ true = lt-ltb _ _ l in
           let high : n / 10 ≡ 0 = omega arith in
           let low : n % 10 ≡ n = omega arith in
-          rw (plain, few, high, low) (ap (λ (l : List ℕ). 48 ∷ l) (one_digit n l))
+          rw (plain, few, high, low) (ap (λ (l : List ℕ). 48 ∷ l) (decimal_digit n l))
       | inr g ↦ let many : ltb n 10 ≡ false = le-ltb _ _ g in rw (plain, many) (two_digits_are n g lt)
     ]
 

@@ -1,5 +1,5 @@
 -- Lines that were put into a sink one by one, and runs whose lines were printed.
-use Rattle.std.proofs.Common.{◌≡◌, ◌≢◌, ◌≤◌, ◌*◌, ◌+◌, ℕ, Bool, true, false, inl, inr, Option, Some, None, Ok, Err, List, [], ◌∷◌, ◌++◌, length, arith, refl, sym, ap, subst, ◌∙◌, append_assoc, append-nil}
+use Rattle.std.proofs.Common.{◌≡◌, ◌≤◌, ◌*◌, ◌+◌, ℕ, Bool, true, false, inl, inr, Option, Some, None, Ok, Err, List, [], ◌∷◌, ◌++◌, length, arith, refl, sym, ap, subst, ◌∙◌, append_assoc, append-nil}
 use Rattle.std.specs.Io.KnownBytes.{Appends, Keeps}
 use Rattle.std.proofs.KnownBytes.{Appends-trans}
 use Rattle.bac_wire.specs.Primitive.{Id}
@@ -10,7 +10,7 @@ use Rattle.bac_query.specs.Items.{item_line, items_text}
 use Rattle.bac_walk.specs.declared.batch.Gap.{Gap as GapOf}
 use Rattle.bac_walk.specs.declared.batch.Numbered.{Numbered}
 use Rattle.bac_walk.specs.Place.{WalkPlace}
-use Rattle.bac_walk.specs.Sinks.{Call, put_items, IsRun, Takes, is_stopped}
+use Rattle.bac_walk.specs.Sinks.{Call, put_items, IsRun, Takes}
 use Rattle.bac_walk.specs.Collects.{IsEnded}
 use Rattle.bac_walk.specs.Outcomes.{IsRunOf, why_of}
 use Rattle.bac_walk.specs.declared.outcome.Ended.{Ended}
@@ -27,6 +27,7 @@ use Rattle.bac_query.specs.Reading.{Held, Prints}
 use Rattle.bac_query.specs.declared.fault.QueryFault.{QueryFault}
 use Rattle.bac_query.specs.declared.fault.QueryFault.TheVariants.{Exchange, Write, Memory}
 use Rattle.bac_walk.specs.Walks.{gap_items, item_of}
+pub use Rattle.bac_walk.proofs.Runs.{runs_on as not_stopped}
 
 pub items_text-append : (xs ys : List Item) → items_text (xs ++ ys) ≡ items_text xs ++ items_text ys
 items_text-append [] ys = refl
@@ -46,12 +47,6 @@ all_put text old (c ∷ calls) new (inr (mid, put, rest)) =
     ∙ ap (λ l. l ++ items_text (put_items calls)) (put refl)
     ∙ append_assoc (text old) (items_text here) (items_text (put_items calls))
     ∙ ap (λ l. text old ++ l) (sym (items_text-append here (put_items calls)) ∙ ap items_text (append_assoc (gap_items c.gap) (item_of c.record_put ∷ []) (put_items calls)))
-
-pub not_stopped : (ended : Ended) → ended ≢ Stopped → is_stopped ended ≡ false
-not_stopped CaughtUp on = refl
-not_stopped StepLimit on = refl
-not_stopped Stopped on = absurd (on refl)
-not_stopped (Fault e) on = refl
 
 -- ---- what was written
 

@@ -3,17 +3,9 @@ use Rattle.std.proofs.Common.{◌≡◌, ◌==◌, true, false, ℕ, ◌<◌, Li
 use Rattle.std.proofs.lemmas.Bool.{eqb-true}
 use Rattle.std.proofs.lemmas.List.{drop_at}
 use Rattle.bac_wire.specs.Primitive.{Primitive}
-use Rattle.bac_wire.specs.Reading.{value_at}
 use Rattle.bac_wire.specs.Spelling.{Spells}
-use Rattle.bac_wire.proofs.Values.{at_again}
 use Rattle.bac_print.specs.Values.{value_text}
 use Rattle.bac_query.specs.Values.{AreValues, value_lines}
-
--- no value is encoded by no octets
-pub spells_some : (value : Primitive) (text : List ℕ) → Spells text value → 0 < length text
-unfolding value_at
-spells_some value [] spelled = let e = at_again value [] [] spelled in absurd (cc)
-spells_some value (x ∷ text) spelled = omega arith
 
 -- one line more
 pub lines_more : (values : List Primitive) (value : Primitive) →

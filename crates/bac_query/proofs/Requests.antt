@@ -1,16 +1,15 @@
 -- A Who-Is fits a datagram.
-use Rattle.std.proofs.Common.{◌≡◌, ℕ, ◌<◌, ◌≤◌, false, List, [], ◌∷◌, ◌++◌, length, Option, None, Some, Result, Ok, Err, refl, ap, arith, length-append}
+use Rattle.std.proofs.Common.{◌≡◌, ℕ, ◌≤◌, false, List, [], ◌∷◌, ◌++◌, length, Option, None, Some, Result, Ok, Err, refl, ap, arith, length-append}
 use Rattle.std.specs.Result.{IsOk}
 use Rattle.bac_wire.specs.Datagram.{Writes}
 use Rattle.bac_wire.specs.Primitive.{Unsigned}
-use Rattle.bac_wire.proofs.Sizes.{length-unsigned, some_behind}
 use Rattle.bac_apdu.specs.Adding.{context_octets}
 use Rattle.bac_apdu.specs.FormCanon.{canon_form}
 use Rattle.bac_apdu.specs.Frame.{frame_octets}
 use Rattle.bac_apdu.specs.Npdu.{Header, Place, control_of, header_octets, hops_octets, place_octets}
 use Rattle.bac_apdu.specs.Service.WhoIs.{who_is, who_is_parameters}
 use Rattle.bac_apdu.specs.declared.service.who_is.WhoIs.{WhoIs}
-use Rattle.bac_apdu.proofs.Shorts.{length-frame}
+use Rattle.bac_apdu.proofs.Shorts.{length-frame, length-hops, length-no_place, number_behind}
 use Rattle.bac_query.specs.Requests.{asking, devices_of, who_is_apdu}
 
 -- what fits is written
@@ -18,17 +17,14 @@ pub fits : {E : Type 0} (old text : List ℕ) (r : Result (Unit {0}) E) (new : L
 fits old text (Ok x) new w empty small = refl
 fits old text (Err e) new w empty small = absurd (omega (arith, w.1, ap length empty))
 
-limit_short : (tag n : ℕ) → tag < 15 → length (context_octets tag (Unsigned n)) ≤ 10
-limit_short tag n low = omega (arith, some_behind tag (Unsigned n) low (omega (arith, length-unsigned n)), length-unsigned n)
-
 limits_short : (low high : ℕ) → length (context_octets 0 (Unsigned low) ++ (context_octets 1 (Unsigned high) ++ [])) ≤ 20
 limits_short low high =
     omega (
       arith,
       length-append (context_octets 0 (Unsigned low)) (context_octets 1 (Unsigned high) ++ []),
       length-append (context_octets 1 (Unsigned high)) [],
-      limit_short 0 low (omega arith),
-      limit_short 1 high (omega arith),
+      number_behind 0 low (omega arith),
+      number_behind 1 high (omega arith),
     )
 
 pub parameters_short : (w : WhoIs) → length (canon_form who_is (who_is_parameters w)) ≤ 20
@@ -49,14 +45,6 @@ unfolding place_octets
 devices_short None = omega arith
 devices_short (Some net) = omega arith
 
-none_long : length (place_octets None) ≡ 0
-unfolding place_octets
-none_long = refl
-
-hops_short : (place : Option Place) (hops : ℕ) → length (hops_octets place hops) ≤ 1
-hops_short None hops = omega arith
-hops_short (Some place) hops = omega arith
-
 -- a network behind a router takes four octets more than none
 header_short : (net : Option ℕ) → length (header_octets (asking net)) ≤ 6
 header_short net =
@@ -64,8 +52,8 @@ header_short net =
     omega (
       arith,
       devices_short net,
-      none_long,
-      hops_short h.dest h.hops,
+      length-no_place,
+      length-hops h.dest h.hops,
       length-append (1 ∷ control_of h ∷ []) (place_octets h.dest ++ (place_octets h.source ++ hops_octets h.dest h.hops)),
       length-append (place_octets h.dest) (place_octets h.source ++ hops_octets h.dest h.hops),
       length-append (place_octets h.source) (hops_octets h.dest h.hops),

@@ -1,9 +1,9 @@
 -- The lines of a configuration, one after the other.
-use Rattle.std.proofs.Common.{◌≡◌, ℕ, ◌+◌, ◌<◌, List, [], ◌∷◌, ◌++◌, length, Option, None, Some, Result, Err, sym, ap, ◌∙◌, arith}
+use Rattle.std.proofs.Common.{◌≡◌, ℕ, ◌+◌, List, ◌∷◌, ◌++◌, Option, None, Some, Result, Err, sym, ap, ◌∙◌}
 use Rattle.std.specs.Str.Lines.{strip_carriage_return, lines}
 use Rattle.bac_script.specs.Configuration.{Plan, plan_of, next_plan, with_text, AddsLine, Describes}
 use Rattle.bac_script.specs.Reason.{described, with_next}
-use Rattle.bac_script.specs.Script.Lines.{parts, all_but_last, last_if_any, ended_lines, open_line}
+use Rattle.bac_script.specs.Script.Lines.{parts, ended_lines, open_line}
 use Rattle.bac_script.specs.declared.replay.fault.ReplayFault.{ReplayFault}
 use Rattle.bac_script.specs.declared.replay.fault.ReplayFault.TheVariants.{BadLine, Build, Read, TooLong, Write, Memory}
 use Rattle.bac_script.proofs.LineLemmas.{ended_lines-first, open_line-first, lines-parts}
@@ -21,18 +21,6 @@ pub plan_of-cut : (said : Result Plan ℕ) (n : ℕ) (plan : Plan) (text line mo
     → parts text ≡ line ∷ parts more → first ≡ strip_carriage_return line → said ≡ plan_of n plan (first ∷ lines more)
 plan_of-cut said n plan text line more first is h e =
     is ∙ ap (plan_of n plan) (lines-first text line more h ∙ ap (λ l. l ∷ lines more) (sym e))
-
--- a text without a line feed
-lines-open : (text : List ℕ) → parts text ≡ text ∷ [] → lines text ≡ last_if_any (text ∷ [])
-lines-open text h = lines-parts text ∙ ap (λ l. l ++ open_line text) (ap all_but_last h) ∙ ap last_if_any h
-
-pub lines-none : (text : List ℕ) → parts text ≡ text ∷ [] → length text ≡ 0 → lines text ≡ []
-lines-none [] h e = lines-open [] h
-lines-none (b ∷ bs) h e = absurd (omega arith)
-
-pub lines-one : (text : List ℕ) → parts text ≡ text ∷ [] → 0 < length text → lines text ≡ text ∷ []
-lines-one [] h e = absurd (omega arith)
-lines-one (b ∷ bs) h e = lines-open (b ∷ bs) h
 
 module _ (said : Result Plan ℕ) (n : ℕ) (plan new : Plan) (text : List ℕ) (more : List (List ℕ)) (is : said ≡ plan_of n plan (text ∷ more)) where
   pub plan_of-line : with_text plan text ≡ Some new → said ≡ plan_of (n + 1) new more

@@ -1,11 +1,11 @@
 -- Words that are wanting, and words too many.
-use Rattle.std.proofs.Common.{◌≡◌, ◌<◌, ◌≤◌, ◌-◌, cond, true, false, ℕ, List, [], ◌∷◌, length, drop, refl, ap, ◌∙◌, arith}
+use Rattle.std.proofs.Common.{◌≡◌, ◌<◌, ◌≤◌, ◌-◌, cond, true, ℕ, List, [], ◌∷◌, length, drop, refl, ap, ◌∙◌, arith}
 use Rattle.std.proofs.lemmas.List.{drop_all, length-drop}
 use Rattle.std.specs.Prelude.{nat_le}
 use Rattle.std.specs.Str.Lines.{strip_carriage_return, lines}
 use Rattle.bac_script.specs.Flaw.{blank_at, flaw_from, line_at}
 use Rattle.bac_script.specs.Script.Lines.{parts}
-use Rattle.bac_script.proofs.ConfigurationLemmas.{lines-first, lines-none, lines-one}
+use Rattle.bac_script.proofs.ConfigurationLemmas.{lines-first}
 use Rattle.std.proofs.lemmas.Bool.Decides.{nat_tests}
 use Rattle.bac_script.specs.Script.Words.{is_space, words_of}
 use Rattle.bac_script.specs.declared.script.flaw.Flaw.TheVariants.{Blanks, Count}
@@ -15,9 +15,6 @@ use Rattle.bac_script.proofs.Splits.{IsCons, slice_split-IsCons}
 
 nat_le-true : {a b : ℕ} → a ≤ b → nat_le a b ≡ true
 nat_le-true h = grind (arith, nat_tests, h)
-
-nat_le-false : {a b : ℕ} → b < a → nat_le a b ≡ false
-nat_le-false h = grind (arith, nat_tests, h)
 
 -- a word is wanted, and none is left
 none_left : (kind : LineKind) (n : ℕ) (all : List Wanted) → 0 < length all → flaw_from kind n all [] ≡ Count kind
@@ -44,19 +41,5 @@ blank_at-words n text = blank_before n (words_of text) (slice_split-IsCons is_sp
 here : (n : ℕ) (line : List ℕ) (more : List (List ℕ)) → n ≤ 1 → line_at n (line ∷ more) ≡ line
 here n line more h = ap (λ first. cond first line (line_at (n - 1) more)) (nat_le-true h)
 
-later : (n : ℕ) (line : List ℕ) (more : List (List ℕ)) → 1 < n → line_at n (line ∷ more) ≡ line_at (n - 1) more
-later n line more h = ap (λ first. cond first line (line_at (n - 1) more)) (nat_le-false h)
-
 pub line_at-here : (n : ℕ) (text line more : List ℕ) → parts text ≡ line ∷ parts more → n ≤ 1 → line_at n (lines text) ≡ strip_carriage_return line
 line_at-here n text line more cut h = ap (line_at n) (lines-first text line more cut) ∙ here n (strip_carriage_return line) (lines more) h
-
-pub line_at-later : (n : ℕ) (text line more : List ℕ) → parts text ≡ line ∷ parts more → 1 < n → line_at n (lines text) ≡ line_at (n - 1) (lines more)
-line_at-later n text line more cut h = ap (line_at n) (lines-first text line more cut) ∙ later n (strip_carriage_return line) (lines more) h
-
-pub line_at-last : (n : ℕ) (text : List ℕ) → parts text ≡ text ∷ [] → n ≤ 1 → line_at n (lines text) ≡ text
-line_at-last n [] cut h = ap (line_at n) (lines-none [] cut refl)
-line_at-last n (b ∷ bs) cut h = ap (line_at n) (lines-one (b ∷ bs) cut (omega arith)) ∙ here n (b ∷ bs) [] h
-
-pub line_at-past : (n : ℕ) (text : List ℕ) → parts text ≡ text ∷ [] → 1 < n → line_at n (lines text) ≡ []
-line_at-past n [] cut h = ap (line_at n) (lines-none [] cut refl)
-line_at-past n (b ∷ bs) cut h = ap (line_at n) (lines-one (b ∷ bs) cut (omega arith)) ∙ later n (b ∷ bs) [] h

@@ -3,6 +3,7 @@ use Rattle.std.proofs.Common.{◌≡◌, refl, ap, sym, ◌∙◌, ℕ, suc, ◌
 use Rattle.std.specs.Prelude.{◌↔◌, codes, is_some}
 use Rattle.std.specs.Option.{IsSome}
 use Rattle.std.specs.Str.{bytes_eq}
+use Rattle.std.proofs.lemmas.Bool.{and_right}
 use Rattle.bac_wire.specs.OptionChain.{◌>>=◌}
 use Rattle.bac_wire.specs.Primitive.{Id}
 use Rattle.bac_script.specs.Flaw.{blank_at, extra_word, flaw_from, flaw_of, flaw_of_kind, flaw_of_words, is_long, is_wanted, line_kind, no_kind, words_wanted, wrong_word}
@@ -62,16 +63,12 @@ placed kind n (wanted ∷ more) (word ∷ words) =
 
 -- ---- more words, or fewer
 
-no : (b c : Bool) → c ≡ false → (b && c) ≡ false
-no true c h = h
-no false c h = refl
-
 differ : (all : List Wanted) (words : List (List ℕ)) → (length all ≡ length words → ⊥) → false ≡ fit all words
 differ [] [] h = absurd (h refl)
 differ [] (word ∷ words) h = refl
 differ (wanted ∷ more) [] h = refl
 differ (wanted ∷ more) (word ∷ words) h =
-    sym (no (is_wanted wanted word) (fit more words) (sym (differ more words (λ e. h (ap suc e)))))
+    sym (and_right (is_wanted wanted word) (fit more words) (sym (differ more words (λ e. h (ap suc e)))))
 
 -- ---- one word after the other
 

@@ -1,7 +1,7 @@
 -- Lines that are played in parts.
-use Rattle.std.proofs.Common.{◌≡◌, ℕ, suc, ◌+◌, List, [], ◌∷◌, ◌++◌, length, Option, Result, Ok, Err, refl, sym, ap, subst, ◌∙◌, arith, append_assoc, append-nil, length-append}
+use Rattle.std.proofs.Common.{◌≡◌, ℕ, suc, ◌+◌, List, [], ◌∷◌, ◌++◌, length, Option, Result, Ok, Err, sym, ap, subst, ◌∙◌, arith, append_assoc, append-nil, length-append}
 use Rattle.std.specs.Io.KnownBytes.{Appends, Keeps}
-use Rattle.std.proofs.KnownBytes.{Appends-nil, Appends-trans, Appends-kept}
+use Rattle.std.proofs.KnownBytes.{Appends-trans, Appends-kept}
 use Rattle.bac_script.specs.Replay.{Played, play, then_play, PlaysAll}
 use Rattle.bac_script.specs.Fault.{at_line, Refusal}
 use Rattle.bac_script.specs.Session.{step, SessionState}
@@ -37,10 +37,6 @@ pub record Progress (old new : Option (List ℕ)) (s : SessionState) (all rest :
   pub split : all ≡ before ++ rest
   pub counted : number ≡ 1 + length before
   pub played : PlaysAll old new s before t
-
-pub Progress-start : (old : Option (List ℕ)) (s : SessionState) (all : List (List ℕ)) → Progress old old s all all 1 s
-Progress-start old s all =
-    record { before = []; split = refl; counted = omega arith; played = record { state = refl; text = Appends-nil old } }
 
 pub Progress-end : {old new : Option (List ℕ)} {s : SessionState} {all : List (List ℕ)} {number : ℕ} {t : SessionState} → Progress old new s all [] number t → PlaysAll old new s all t × (number ≡ 1 + length all)
 Progress-end {old} {new} {s} {all} {number} {t} p =

@@ -35,12 +35,6 @@ pub two : {E : Type 0} (r : Result (Unit {0}) E) (old x y z a new : List ℕ) �
 two (Ok done) old x y z a new p q last = last ∙ ap (λ l. l ++ z) p ∙ append_assoc old x z ∙ ap (λ l. old ++ (x ++ l)) q
 two (Err fault) old x y z a new p q last = last
 
-pub three : {E : Type 0} (r : Result (Unit {0}) E) (old x y z a b new : List ℕ) → a ≡ old ++ x → b ≡ a ++ y → OnOk r (new ≡ b ++ z)
-    → OnOk r (new ≡ old ++ (x ++ (y ++ z)))
-three (Ok done) old x y z a b new p q last =
-    last ∙ ap (λ l. l ++ z) (q ∙ ap (λ l. l ++ y) p) ∙ append_assoc (old ++ x) y z ∙ append_assoc old x (y ++ z)
-three (Err fault) old x y z a b new p q last = last
-
 -- what an append leaves if there was memory for it
 pub grown : {E : Type 0} (r : Result (Unit {0}) E) (old text new : List ℕ) → new ≡ (if is_ok r then old ++ text else old)
     → OnOk r (new ≡ old ++ text)

@@ -1,16 +1,10 @@
 -- Replies of a log that doesn't change bring together what one reply without a limit would bring.
-use Rattle.std.proofs.Common.{◌≡◌, ℕ, zero, suc, ◌+◌, ◌-◌, ◌<◌, ◌≤◌, max, List, [], ◌∷◌, ◌++◌, length, refl, subst, arith}
+use Rattle.std.proofs.Common.{◌≡◌, ℕ, ◌+◌, ◌-◌, ◌<◌, ◌≤◌, max, List, [], ◌∷◌, ◌++◌, length, subst, arith}
 use Rattle.std.proofs.lemmas.List.{length-append}
-use Rattle.bac_link.specs.Delivery.{History, Moment, Holds, AreHeld, Brings, Leads, items_of}
-use Rattle.bac_link.specs.Laws.{after_answers}
+use Rattle.bac_link.specs.Delivery.{History, Moment, AreHeld, Brings, Leads, items_of}
 use Rattle.bac_link.specs.declared.item.Item.{Item}
 use Rattle.bac_link.specs.declared.item.Item.TheVariants.{Gap, Logged}
 use Rattle.bac_walk.specs.Collects.{batches}
-
--- the last moment stays
-pub after_one : (i : ℕ) (m : Moment) → after_answers i (m ∷ []) ≡ m ∷ []
-after_one zero m = refl
-after_one (suc i) m = after_one i m
 
 -- held entries are one for each ordinal, and all are within what is held
 held_end : (H : History) (m : Moment) (s : ℕ) (items : List Item) (u : ℕ) → AreHeld H m s items u →

@@ -1,6 +1,6 @@
 -- What `run` says of `bac log`: with status 0 no fault was told, so what came over the socket is printed; if the log
 -- doesn't change, all of it; and whatever is refused, a front part of it.
-use Rattle.std.proofs.Common.{◌≡◌, ◌⊎◌, ◌∙◌, inl, inr, ℕ, ◌+◌, ◌-◌, ◌<◌, ◌≤◌, max, List, [], ◌∷◌, ◌++◌, Option, Some, Result, Ok, Err, false, refl, sym, ap, subst, append-nil, append_assoc, Bool, length, arith}
+use Rattle.std.proofs.Common.{◌≡◌, ◌⊎◌, ◌∙◌, inl, inr, ℕ, ◌+◌, ◌-◌, ◌<◌, ◌≤◌, max, List, [], ◌∷◌, ◌++◌, Option, Some, Result, Ok, Err, false, refl, sym, ap, subst, append-nil, Bool, length, arith}
 use Rattle.std.specs.Io.KnownBytes.{Appends, Keeps}
 use Rattle.bac_link.specs.Delivery.{History, Moment, DeliversTo, Brings, items_of, now}
 use Rattle.bac_link.specs.Path.{Path, towards}
@@ -8,12 +8,14 @@ use Rattle.bac_link.specs.declared.exchanges.ExchangeFault.{ExchangeFault}
 use Rattle.bac_link.specs.declared.exchanges.ExchangeFault.TheVariants as exchange
 use Rattle.bac_link.specs.declared.item.Item.{Item}
 use Rattle.bac_link.specs.declared.link.Lost.{Lost as Loss}
+use Rattle.bac_link.proofs.Delivers.{after_one}
 use Rattle.bac_log.specs.TrendLog.{sequence_number}
 use Rattle.bac_ports.specs.declared.udp_link.UdpLink.{UdpLink}
 use Rattle.bac_print.specs.Output.{AppendsPart, Held}
 use Rattle.bac_query.specs.Ahead.{FetchesAhead}
 use Rattle.bac_query.specs.Fetching.{Fetching, IsEnd, TellsRun}
 use Rattle.bac_query.specs.declared.fault.QueryFault.TheVariants as query
+use Rattle.bac_query.proofs.Delivered.{part_of_longer}
 use Rattle.bac_query.specs.Ends.{end_line}
 use Rattle.bac_query.specs.Items.{items_text}
 use Rattle.bac_script.specs.declared.replay.fault.ReplayFault.{ReplayFault}
@@ -26,7 +28,7 @@ use Rattle.bac_tools.specs.Streams.{Streams}
 use Rattle.bac_tools.specs.declared.fault.Fault.{Fault}
 use Rattle.bac_tools.specs.declared.fault.Fault.TheVariants.{NotText, BadValue, LongNumber, NoDevice, Script, Socket, Refused}
 use Rattle.bac_tools.specs.declared.fault.Fault.TheVariants.{NoAnswer, List as ListOf, Exchange, Write, Memory}
-use Rattle.bac_tools_tests.proofs.AtRest.{after_one, few_batches, few_lines, leads_bring}
+use Rattle.bac_tools_tests.proofs.AtRest.{few_batches, few_lines, leads_bring}
 use Rattle.bac_tools_tests.specs.Logging.{IsCut, IsLogged, IsLoggedAtRest, PrintsAll}
 use Rattle.bac_walk.specs.Came.{AreOf, Brought, Came, EndsBy, answers_of}
 use Rattle.bac_walk.specs.Collects.{IsCaughtUp, batches}
@@ -181,11 +183,6 @@ rested rules asked walk steps port old new done (Ok said) left zero fresh over i
 
 -- ---- whatever is refused
 
--- a front part of a text is one of a longer text
-longer : (old new : Held) (text more : List ℕ) → AppendsPart old new text → AppendsPart old new (text ++ more)
-longer old new text more (written, rest, is, appends) =
-    (written, rest ++ more, ap (λ l. l ++ more) is ∙ append_assoc written rest more, appends)
-
 -- the whole is one too
 whole : (old new : Held) (text : List ℕ) → Appends old new text → AppendsPart old new text
 whole old new text appends = (text, [], sym (append-nil text), appends)
@@ -197,10 +194,10 @@ pub cut_over : {P : Type 0} (asks : UdpLink P → List ℕ → Result (List ℕ)
 cut_over asks left items steps n e after (Ok fetched) old new tells =
     (fetched.why, fetched.next, whole old new _ tells.2)
 cut_over asks left items steps n e after (Err query.Write) old new (inl tells) =
-    (why.StepLimit, 0, longer old new (items_text items) (end_line why.StepLimit 0) tells.2)
+    (why.StepLimit, 0, part_of_longer old new (items_text items) (end_line why.StepLimit 0) tells.2)
 cut_over asks left items steps n e after (Err query.Write) old new (inr tells) = (tells.0, tells.1, tells.4)
 cut_over asks left items steps n e after (Err query.Memory) old new tells =
-    (tells.0, tells.1, longer old new (items_text items) (end_line tells.0 tells.1) (whole old new (items_text items) tells.4))
+    (tells.0, tells.1, part_of_longer old new (items_text items) (end_line tells.0 tells.1) (whole old new (items_text items) tells.4))
 cut_over asks left items steps n e after (Err (query.Exchange fault)) old new tells = absurd tells
 
 -- ---- over a socket

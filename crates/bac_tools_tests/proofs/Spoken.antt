@@ -12,8 +12,8 @@ use Rattle.bac_link.specs.declared.link.Lost.{Lost as Loss}
 use Rattle.bac_query.specs.Fetching.{FetchesOver, Fetching}
 use Rattle.bac_query.specs.Reading.{Held}
 use Rattle.bac_query.specs.declared.fetching.Fetched.{Fetched}
-use Rattle.bac_report.specs.Ends.{end_line}
-use Rattle.bac_report.specs.Items.{items_text}
+use Rattle.bac_query.specs.Ends.{end_line}
+use Rattle.bac_query.specs.Items.{items_text}
 use Rattle.bac_walk.specs.Came.{NeverGoesBack}
 use Rattle.bac_walk.specs.Near.{AreInWindow}
 use Rattle.bac_walk.specs.Outcomes.{IsRunOf}

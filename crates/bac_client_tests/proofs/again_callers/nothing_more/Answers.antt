@@ -4,10 +4,11 @@ use Rattle.bac_apdu.specs.Npdu.{Place as Far}
 use Rattle.bac_link.specs.Delivery.{Moment}
 use Rattle.bac_link.specs.Path.{towards}
 use Rattle.bac_link.specs.declared.transactions.Transactions.{Transactions}
+use Rattle.bac_link.proofs.Delivers.{after_one}
 use Rattle.bac_log.specs.TrendLog.{sequence_number}
 use Rattle.bac_walk.specs.Place.{WalkPlace}
 use Rattle.bac_walk.specs.Rests.{Rested, rest, Rests}
-use Rattle.bac_client_tests.proofs.Again.{after_all, caught_up, is_up, one_moment}
+use Rattle.bac_client_tests.proofs.Again.{after_all, caught_up, is_up}
 use Rattle.bac_client_tests.proofs.again_callers.nothing_more.Goals as goal
 
 pub returns : goal.returns
@@ -35,7 +36,7 @@ returns g c = λ r m H k low sure honest here near window above below loggable e
       | inl memory ↦ absurd (ran memory)
       | inr rests ↦
           let here_more : c.collect-first.result.next ≡ sequence_number end.0 = rests.1 ∙ ap (λ (x : Rested). sequence_number x.next) whole ∙ ap sequence_number end.1 in
-          let honest_more = subst N (log ∙ sym log_more) (subst M (one_moment later.1 m) later.6) in
+          let honest_more = subst N (log ∙ sym log_more) (subst M (after_one later.1 m) later.6) in
           let second = c.collect-second.ensures.resting r m H end.0 (c.collect-first.ensures.sure certain) honest_more
           (ap (λ (w : WalkPlace). w.next) is_more ∙ here_more) (λ old. end.3) in
           let rested = c.rests_all.ensures r H m end.0 n served loggable end.3 (omega (arith, enough, end.2)) ∙ caught_up H m end.0 end.2 in

@@ -14,12 +14,10 @@ use Rattle.bac_walk.specs.Near.{IsNear}
 use Rattle.bac_walk.specs.Place.{WalkPlace}
 use Rattle.bac_walk.specs.Rests.{Misses, Rested, Rests, rest, rest_all}
 use Rattle.bac_direct.specs.Ahead.{IsAhead, Lacks, history_ahead, log_with, moment_of, placed, turn}
+use Rattle.bac_direct.proofs.Steps.{moment_same}
 use Rattle.bac_client_tests.specs.Held.{held_from}
 use Rattle.bac_client_tests.proofs.Held.{enough, held_all, held_now, history_of}
 use Rattle.bac_client_tests.proofs.direct_callers.all_records_from.Goals as goal
-
-moment_same : (a b x y : ℕ) → a ≡ b → x ≡ y → (let m : Moment = record { newest = a; oldest = x } in m) ≡ record { newest = b; oldest = y }
-moment_same a b x y p q = ap (λ n. let m : Moment = record { newest = n; oldest = x } in m) p ∙ ap (λ n. let m : Moment = record { newest = b; oldest = n } in m) q
 
 pub returns-clause-records : goal.returns-clause-records
 returns-clause-records c = λ k there here near more.

@@ -1,4 +1,5 @@
-use Rattle.std.proofs.Common.{◌≡◌, ℕ, Result, Ok, Err, IfOk, rules, sym, ap, subst}
+use Rattle.std.proofs.Common.{◌≡◌, ℕ, Result, Ok, rules, sym, ap, subst}
+use Rattle.std.proofs.lemmas.Result.{IfOk-weaker}
 use Rattle.bac_link.specs.Path.{Path, towards}
 use Rattle.bac_walk.specs.declared.outcome.Step.{Step}
 use Rattle.bac_walk.specs.declared.outcome.Step.TheVariants.{CaughtUp}
@@ -7,17 +8,13 @@ use Rattle.bac_walk.specs.Place.{WalkPlace, walk_from_oldest}
 use Rattle.bac_keep.specs.Resumption.{CameTo, IsTold}
 use Rattle.bac_keep.proofs.resumption.resume_from.Goals as goal
 
-if_told : {A E : Type 0} (r : Result A E) (P Q : A → Type 0) → ((x : A) → P x → Q x) → IfOk r P → IfOk r Q
-if_told (Ok x) P Q f p = f x p
-if_told (Err e) P Q f p = tt
-
 pub returns-in-Ok-CaughtUp-clause-told : goal.returns-in-Ok-CaughtUp-clause-told
 returns-in-Ok-CaughtUp-clause-told g c some =
     let is : c.step.result ≡ Ok CaughtUp = search rules in
     let at = (c.in-Some.ensures {u = tt}).some in
     let W : WalkPlace → Type 0 = λ w. CameTo g.L.LogLink.asks (towards c.args.transactions.now.route) c.args.transactions.now.retries c.args.link.now w c.step.result c.step.new.link in
     let first = subst W at (c.step.ensures.brought.0, c.step.new.self, c.step.ensures.brought.1) in
-    if_told c.told_last.result _ _
+    IfOk-weaker c.told_last.result _ _
     (λ told it.
     let T : Result Step WalkFault → Type 0 = λ a. IsTold c.args.log (record { number = c.args.last.number; stamp = c.args.last.stamp.now; datum = c.args.last.datum.now }) a it.0 told in
     let R : Path → Type 0 = λ path. CameTo g.L.LogLink.asks path c.step.new.transactions.retries c.step.new.link (walk_from_oldest c.args.log) it.0 c.told_last.new.link in

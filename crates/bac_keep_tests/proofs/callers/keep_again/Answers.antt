@@ -1,7 +1,8 @@
 use Rattle.std.proofs.Common.{◌≡◌, arith}
+use Rattle.std.proofs.lemmas.Result.{IfOk-weaker}
 use Rattle.sqlite.specs.State.{HasCleanDisk}
 use Rattle.sqlite.specs.Held.{state}
-use Rattle.bac_keep_tests.proofs.CallerLemmas.{if_ok, few_steps, kept_again}
+use Rattle.bac_keep_tests.proofs.CallerLemmas.{few_steps, kept_again}
 use Rattle.bac_keep_tests.proofs.callers.keep_again.Goals as goal
 
 pub returns : goal.returns
@@ -10,7 +11,7 @@ returns g c clean has none =
     let two = c.keep_log-second.new in
     let early : HasCleanDisk (state g.S.Store c.keep_log-first.new.conn) = omega (arith, clean, c.keep_log-second.ensures.crash.clean) in
     let first = rw c.in-Ok.is at (c.keep_log-first.ensures.kept early has) in
-    if_ok c.keep_log-second.result.end _ _
+    IfOk-weaker c.keep_log-second.result.end _ _
     (λ why second. kept_again (λ link id r M H. g.L.LogLink.is_honest link id r M H) (λ link. g.L.LogLink.failures link) (λ link id r M H. g.K.LogLink.is_honest link id r M H) (λ link. g.K.LogLink.failures link)
     c.kept_is_delivered.ensures c.kept_is_delivered-2.ensures c.begins_empty.ensures c.all_runs_are_kept.ensures c.args.place c.new-transactions.result.retries one.transactions.retries
     (state g.S.Store c.args.conn.now).now (state g.S.Store c.keep_log-first.new.conn).now (state g.S.Store c.keep_log-second.new.conn).now c.args.link.now one.link c.args.later.now two.link
