@@ -92,18 +92,20 @@ IsReasonBy flaw text (BadLine number) said = said ≡ Some (Line (flaw (line_at 
 IsReasonBy flaw text (Build fault) said = MatchOption said (Unit {0}) (IsUnfitReason (lines text) fault)
 IsReasonBy flaw text other said = said ≡ None
 
--- of a script, and of a configuration
+-- what is to mend in a script
 abbrev pub IsReason : List ℕ → ReplayFault → Option Reason → Type 0
 IsReason = IsReasonBy flaw_of
 
+-- what is to mend in a configuration
 abbrev pub IsReasonThere : List ℕ → ReplayFault → Option Reason → Type 0
 IsReasonThere = IsReasonBy flaw_there
 
--- a fault comes with what is to mend in what was read: of a script, and of a configuration
+-- a fault comes with what is to mend in what was read of a script
 abbrev pub IsExplained : Option (List ℕ) → Option (List ℕ) → Refused → Type 0
 IsExplained have left refused =
     (read : List ℕ) × Consumes have left read × IsReason read refused.fault refused.reason
 
+-- a fault comes with what is to mend in what was read of a configuration
 abbrev pub IsExplainedThere : Option (List ℕ) → Option (List ℕ) → Refused → Type 0
 IsExplainedThere have left refused =
     (read : List ℕ) × Consumes have left read × IsReasonThere read refused.fault refused.reason
