@@ -10,8 +10,9 @@
 #     bench/walk.sh [PROGRAM [WALKS]]
 #
 # PROGRAM is crates/bac/out/bac where none is given. WALKS is the program of `collect` and the plain walks:
-# it is taken if it is there, and else left there once it is built.
+# it is taken if it is there, and else left there once it is built. The best of five runs counts, or of ROUNDS.
 set -eu
+rounds=${ROUNDS:-5}
 program=${1:-$(dirname "$0")/../crates/bac/out/bac}
 program=$(realpath -- "$program")
 kept=${2:+$(realpath -m -- "$2")}
@@ -31,10 +32,10 @@ script_of() {
     }' > "$script"
 }
 
-# nanoseconds of a program with these words, the best of five
+# nanoseconds of a program with these words, the best of the rounds
 best() {
-    local least=0 start took
-    for _ in 1 2 3 4 5; do
+    local least=0 start took round
+    for ((round = 0; round < rounds; round++)); do
         start=$(date +%s%N)
         "$@" < "$script" > /dev/null
         took=$(($(date +%s%N) - start))

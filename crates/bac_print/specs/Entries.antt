@@ -1,5 +1,5 @@
 -- Texts of the records of a trend log (BACnetLogRecord, clause 21).
-use Rattle.std.specs.Prelude.{ℕ, ◌-◌, Bool, List, [], ◌∷◌, ◌++◌, codes, decimal, take, Option, None, Some}
+use Rattle.std.specs.Prelude.{ℕ, List, [], ◌∷◌, ◌++◌, codes, decimal, take, Option, None, Some}
 use Rattle.std.specs.Int.{w32, to_be_bytes}
 use Rattle.std.specs.Fmt.{signed_decimal}
 use Rattle.bac_wire.specs.Number.{bits_of}

@@ -1,5 +1,5 @@
 -- Texts of numbers, bits and octets.
-use Rattle.std.specs.Prelude.{ℕ, nat_lt, Bool, if◌then◌else◌, List, [], ◌∷◌, ◌++◌, map, codes, decimal}
+use Rattle.std.specs.Prelude.{ℕ, nat_lt, Bool, if◌then◌else◌, List, [], ◌∷◌, ◌++◌, map, decimal}
 use Rattle.hex.specs.Hex.{encode_lower}
 
 -- decimal digits, two at least

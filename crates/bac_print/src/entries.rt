@@ -2,7 +2,7 @@
 
 ghost use Rattle.std.specs.Prelude.{◌≡◌, ◌∷◌, [], ◌++◌, OnOk, codes, decimal};
 ghost use Rattle.std.specs.Int.{w32, to_be_bytes};
-ghost use Rattle.bac_print.specs.Numbers.{called};
+ghost use Rattle.bac_print.specs.Numbers.{called, called_hex};
 ghost use Rattle.bac_print.specs.Entries.{datum_text, first_bits, entry_text, flags_text, gap_line, record_line};
 
 use crate::moments::{push_head, push_moment};
@@ -41,6 +41,17 @@ fn push_status(text: &mut Vec<u8>, bits: u8) -> Result<(), AllocError>
     ])
 }
 
+/// Appends a REAL's octets.
+fn push_real(text: &mut Vec<u8>, octets: [u8; 4]) -> Result<(), AllocError>
+    ensures { OnOk result (text.new.items ≡ text.old.items ++ called_hex (codes "real") octets) }
+{
+    let mut room = *b"real(........)";
+    match hex::encode_to_slice(&octets, &mut room[5..13]) {
+        Ok(()) => text.extend_from_slice(&room),
+        Err(_) => unreachable!(),
+    }
+}
+
 /// Appends an Enumerated.
 #[tactic(auto, using(crate::proofs::PlainMoments::one_digit))]
 fn push_enumerated(text: &mut Vec<u8>, n: u32) -> Result<(), AllocError>
@@ -60,7 +71,7 @@ pub fn push_datum(text: &mut Vec<u8>, datum: &Datum) -> Result<(), AllocError>
     match *datum {
         Datum::LogStatus(bits) => push_status(text, bits),
         Datum::Boolean(flag) => push_boolean(text, flag),
-        Datum::Real4(octets) => push_called_hex(text, "real", octets.as_slice()),
+        Datum::Real4(octets) => push_real(text, octets),
         Datum::Enumerated(n) => push_enumerated(text, n),
         Datum::Unsigned(n) => push_number(text, n),
         Datum::Signed(z) => push_signed(text, z),

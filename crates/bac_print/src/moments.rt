@@ -1,6 +1,6 @@
 //! Dates and times (clauses 20.2.12 and 20.2.13).
 
-ghost use Rattle.std.specs.Prelude.{◌≡◌, ◌<◌, ◌∷◌, [], ◌++◌, OnOk, decimal};
+ghost use Rattle.std.specs.Prelude.{◌≡◌, ◌<◌, ◌+◌, ◌/◌, ◌%◌, ◌∷◌, [], ◌++◌, OnOk, decimal};
 ghost use Rattle.bac_wire.specs.Stamp.{date_octets, time_octets};
 ghost use Rattle.bac_print.specs.Moments.{date_text, day_text, part_text, time_text, weekday_text, year_text};
 
@@ -86,6 +86,23 @@ pub fn push_moment(text: &mut Vec<u8>, date: Date4, time: Time4) -> Result<(), A
     push_time(text, time)
 }
 
+/// The two digits of each number below 100.
+static PAIRS: [u8; 200] =
+    *b"00010203040506070809101112131415161718192021222324252627282930313233343536373839\
+        40414243444546474849505152535455565758596061626364656667686970717273747576777879\
+        8081828384858687888990919293949596979899";
+
+/// The two digits of a number below 100.
+#[inline(always)]
+fn pair(n: u8) -> [u8; 2]
+    requires { n < 100 }
+    ensures { result ≡ (48 + n / 10) ∷ (48 + n % 10) ∷ [] }
+{
+    let first = n as usize * 2;
+    let (tens, ones) = (PAIRS[first], PAIRS[first + 1]);
+    [tens, ones]
+}
+
 /// How many digits the longest sequence number has.
 const MOST_DIGITS: usize = 10;
 
@@ -107,6 +124,14 @@ fn push_plain_head(
     ensures { OnOk result (text.new.items ≡ text.old.items ++ (decimal number ++ (32 ∷ (day_text (date_octets date) ++ (84 ∷ (time_text (time_octets time) ++ 32 ∷ [])))))) }
 {
     let year = 1900 + date.year as u16;
+    let century = pair((year / 100) as u8);
+    let of_century = pair((year % 100) as u8);
+    let month = pair(date.month);
+    let day = pair(date.day);
+    let hour = pair(time.hour);
+    let minute = pair(time.minute);
+    let second = pair(time.second);
+    let hundredth = pair(time.hundredth);
     let mut head = [
         0,
         0,
@@ -119,28 +144,28 @@ fn push_plain_head(
         0,
         0,
         b' ',
-        b'0' + (year / 1000) as u8,
-        b'0' + (year / 100 % 10) as u8,
-        b'0' + (year / 10 % 10) as u8,
-        b'0' + (year % 10) as u8,
+        century[0],
+        century[1],
+        of_century[0],
+        of_century[1],
         b'-',
-        b'0' + date.month / 10,
-        b'0' + date.month % 10,
+        month[0],
+        month[1],
         b'-',
-        b'0' + date.day / 10,
-        b'0' + date.day % 10,
+        day[0],
+        day[1],
         b'T',
-        b'0' + time.hour / 10,
-        b'0' + time.hour % 10,
+        hour[0],
+        hour[1],
         b':',
-        b'0' + time.minute / 10,
-        b'0' + time.minute % 10,
+        minute[0],
+        minute[1],
         b':',
-        b'0' + time.second / 10,
-        b'0' + time.second % 10,
+        second[0],
+        second[1],
         b'.',
-        b'0' + time.hundredth / 10,
-        b'0' + time.hundredth % 10,
+        hundredth[0],
+        hundredth[1],
         b' ',
     ];
     let start = itoa::write_digits(number as u64, &mut head, MOST_DIGITS);

@@ -1,5 +1,5 @@
-use Rattle.std.proofs.Common.{rules, ◌≡◌, ℕ, ◌-◌, List, ◌∷◌, ◌++◌, length, take, drop, sym, ap, subst, ◌∙◌}
-use Rattle.std.specs.Prelude.{decimal, OnOk}
+use Rattle.std.proofs.Common.{rules, ◌≡◌, ℕ, ◌-◌, List, ◌++◌, length, take, drop, ap, subst, refl, sym, ◌∙◌}
+use Rattle.std.specs.Prelude.{OnOk}
 use Rattle.std.proofs.lemmas.Fmt.{length-decimal-le}
 use Rattle.std.proofs.lemmas.List.{take_rest}
 use Rattle.bac_print.proofs.PlainMoments.{moment_is}
@@ -17,4 +17,15 @@ returns c =
     let size : length head ≡ 34 = search rules in
     let whole : take (34 - start) (drop start head) ≡ drop start head = ap (λ n. take (n - start) (drop start head)) (sym size) ∙ take_rest head start in
     let P : List ℕ → Type 0 = λ l. OnOk c.extend_from_slice.result (c.extend_from_slice.new.self.items ≡ c.args.text.now.items ++ l) in
-    subst P (whole ∙ c.write_digits-start.ensures.written ∙ ap (λ (l : List ℕ). decimal c.args.number ++ (32 ∷ l)) (sym is)) (search rules)
+    subst P (whole ∙ c.write_digits-start.ensures.written
+    ∙ rw (
+      is,
+      c.pair-century.ensures,
+      c.pair-of_century.ensures,
+      c.pair-month.ensures,
+      c.pair-day.ensures,
+      c.pair-hour.ensures,
+      c.pair-minute.ensures,
+      c.pair-second.ensures,
+      c.pair-hundredth.ensures,
+    ) refl) (search rules)

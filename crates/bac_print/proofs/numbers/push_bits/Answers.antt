@@ -1,4 +1,4 @@
-use Rattle.std.proofs.Common.{rules, ◌≡◌, ◌∙◌, sym, ap, length, take, ◌++◌}
+use Rattle.std.proofs.Common.{rules, ◌≡◌, ◌∙◌, ap, length, take, ◌++◌}
 use Rattle.bac_print.proofs.Pieces.{bits_cut, bits_there}
 use Rattle.bac_print.proofs.numbers.push_bits.Goals as goal
 

@@ -1,5 +1,5 @@
 -- What is still to be appended makes the whole.
-use Rattle.std.proofs.Common.{◌≡◌, ℕ, ◌++◌, length}
+use Rattle.std.proofs.Common.{◌≡◌, ◌++◌, length}
 use Rattle.hex.specs.Hex.{encode_lower}
 use Rattle.bac_print.proofs.numbers.push_hex.Given as goal
 
