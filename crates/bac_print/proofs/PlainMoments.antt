@@ -4,9 +4,9 @@ use lib.Ieee.Fits.{and_l, and_r}
 use Rattle.std.specs.Prelude.{decimal}
 use Rattle.std.specs.Fmt.{digits}
 use Rattle.std.proofs.lemmas.Bool.{ne_eqb, eq-eqb, lt-ltb, le-ltb, cases_lt}
-use Rattle.std.proofs.lemmas.Fmt.{decimal_digit}
 use Rattle.bac_print.specs.Moments.{year_text, part_text, day_text, time_text}
 use Rattle.bac_print.specs.declared.moments.TheConstants.{PAIRS}
+pub use Rattle.std.proofs.lemmas.Fmt.{decimal_digit as one_digit}
 
 two_digits_are : (n : ℕ) → 10 ≤ n → n < 100 → decimal n ≡ (48 + n / 10) ∷ (48 + n % 10) ∷ []
 unfolding digits
@@ -26,7 +26,7 @@ part_is n lt =
           let few : ltb n 10 ≡ true = lt-ltb _ _ l in
           let high : n / 10 ≡ 0 = omega arith in
           let low : n % 10 ≡ n = omega arith in
-          rw (plain, few, high, low) (ap (λ (l : List ℕ). 48 ∷ l) (decimal_digit n l))
+          rw (plain, few, high, low) (ap (λ (l : List ℕ). 48 ∷ l) (one_digit n l))
       | inr g ↦ let many : ltb n 10 ≡ false = le-ltb _ _ g in rw (plain, many) (two_digits_are n g lt)
     ]
 
