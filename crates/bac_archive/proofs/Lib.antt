@@ -3,3 +3,4 @@ pub mod RowsLemmas
 mod QueryLemmas
 mod SpanLemmas
 mod LogLemmas
+mod NewestLemmas

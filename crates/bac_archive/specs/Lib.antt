@@ -2,3 +2,4 @@ pub mod Schema
 pub mod Rows
 pub mod Archive
 pub mod Logs
+pub mod Latest
