@@ -46,6 +46,7 @@ use Rattle.bac_walk.specs.Standard.{FromNumber, FromOldest, IsSaidAt, HoldsNumbe
 use Rattle.bac_walk.specs.Walks.{question_of, IsTakenFrom}
 use Rattle.bac_walk.specs.declared.outcome.Progress.{Progress}
 use Rattle.bac_walk.specs.declared.outcome.Progress.TheVariants.{Batch as BatchOf, AskOldest, CaughtUp}
+use Rattle.bac_client_tests.proofs.Spoken.{is_loss}
 use Rattle.bac_client_tests.specs.Foreign.{all_held, from_7, from_9, from_oldest, held, history, log, none_from_11, record_7, record_8, record_9, record_10, said_for, said_to, IsSaid}
 
 -- ---- what is read
@@ -105,7 +106,7 @@ said_oldest = record {
 
 -- ---- what is asked
 
-abbrev asked_for : ℕ → WalkPlace → List ℕ
+abbrev pub asked_for : ℕ → WalkPlace → List ℕ
 asked_for invoke w = request_octets (towards None) invoke (question w.log (question_of w))
 
 -- where the walk is after number 11, too, brought nothing
@@ -236,7 +237,7 @@ comes_7 retries (c ∷ came) old w after new here (mid, next, p, place, asked, t
 
 -- ---- a run
 
-ended_up : (w : Why) (steps n : ℕ) (ended : Ended) → IsRunOf w steps n ended → w ≡ why.CaughtUp → ended ≡ IsUp
+pub ended_up : (w : Why) (steps n : ℕ) (ended : Ended) → IsRunOf w steps n ended → w ≡ why.CaughtUp → ended ≡ IsUp
 ended_up why.CaughtUp steps n ended run is = run.1
 ended_up why.StepLimit steps n ended run is = absurd (cc)
 ended_up (why.Fault f) steps n ended run is = absurd (cc)
@@ -345,28 +346,32 @@ at_place n invoke false true datagram small said =
 at_place n invoke false false datagram small said =
     by_contents (unsigned_octets n) n invoke datagram (unsigned_stands n small).1 (ap said_to (sym (asks_with n invoke)) ∙ said)
 
+-- the reply to a question of a walk that is anywhere
+pub reply_said : (w : WalkPlace) (s invoke : ℕ) (datagram : List ℕ) → w.log ≡ log → w.next ≡ sequence_number s →
+    said_to (asked_for invoke w) ≡ Some datagram → IsSaidAt held history w.log (asked_by w) datagram
+reply_said w s invoke datagram log_is next said =
+    let here : w ≡ place w.next w.fresh w.asks_oldest = ap (λ i. let v : WalkPlace = record { log = i; next = w.next; fresh = w.fresh; asks_oldest = w.asks_oldest } in v) log_is in
+    let S : WalkPlace → Type 0 = λ v. said_to (asked_for invoke v) ≡ Some datagram in
+    let R : WalkPlace → Type 0 = λ v. IsSaidAt held history v.log (asked_by v) datagram in
+    subst R (sym here) (at_place w.next invoke w.fresh w.asks_oldest datagram (omega (arith, next)) (subst S here said))
+
 one_ask : (M : List Moment) (w : WalkPlace) (s invoke : ℕ) (answer : Result (List ℕ) Lost) → held ∷ [] ≡ M → w.log ≡ log → w.next ≡ sequence_number s →
     IsSaid (asked_for invoke w) answer → IsSaidOrLost (λ N. held ∷ [] ≡ N) M history w (asked_for invoke w) answer
 one_ask M w s invoke (Err lost) stands log_is next said = stands
 one_ask M w s invoke (Ok datagram) stands log_is next said =
-    let here : w ≡ place w.next w.fresh w.asks_oldest = ap (λ i. let v : WalkPlace = record { log = i; next = w.next; fresh = w.fresh; asks_oldest = w.asks_oldest } in v) log_is in
-    let S : WalkPlace → Type 0 = λ v. said_to (asked_for invoke v) ≡ Some datagram in
-    let R : WalkPlace → Type 0 = λ v. IsSaidAt held history v.log (asked_by v) datagram in
-    let reply = subst R (sym here) (at_place w.next invoke w.fresh w.asks_oldest datagram (omega (arith, next)) (subst S here said)) in
     let P : List Moment → Type 0 = λ N. IsSaidAt (now N) history w.log (asked_by w) datagram × (held ∷ [] ≡ later N) in
-    ((λ yes. subst P stands (reply, refl)), λ no. stands)
+    ((λ yes. subst P stands (reply_said w s invoke datagram log_is next said, refl)), λ no. stands)
 
 pub speaks_for : {S : Type 0} (low : ℕ) → SpeaksFor {S = S} (λ a octets answer b. IsSaid octets answer) (towards None) log history low (λ link M. held ∷ [] ≡ M)
 speaks_for low = λ old new M w s invoke answer stands log_is next some window at asked. one_ask M w s invoke answer stands log_is next asked
 
-always_held : (i : ℕ) → moment_at (held ∷ []) i ≡ held
+pub always_held : (i : ℕ) → moment_at (held ∷ []) i ≡ held
 always_held zero = refl
 always_held (suc i) = always_held i
 
-is_loss : (e : WalkFault) → IsSpokenEnd (Fault e) → e ≡ fault.Lost
-is_loss fault.Lost end = refl
-is_loss (fault.Refused refusal) end = absurd end
-is_loss fault.BadReply end = absurd end
+-- nothing is held from there on: so it is behind the last one
+pub beyond : (t : ℕ) → NoneFrom t held → 10 < t
+beyond t none = elim (cases_lt 10 t) [ inl lt ↦ lt | inr ge ↦ absurd (none 10 ge (omega arith, omega arith)) ]
 
 -- over the device's link a run delivers what its log holds, from any place
 pub walk_delivers : {S : Type 0} (old new : S) (way : Option Place) (w after : WalkPlace) (items : List Item) (reason : Why) (low s : ℕ) →
@@ -393,6 +398,3 @@ walk_delivers {S = S} old new way w after items reason low s said near log_is ne
       ),
       λ e is. is_loss e (subst E is all.8),
     )
-  where
-    beyond : (t : ℕ) → NoneFrom t held → 10 < t
-    beyond t none = elim (cases_lt 10 t) [ inl lt ↦ lt | inr ge ↦ absurd (none 10 ge (omega arith, omega arith)) ]

@@ -4,3 +4,4 @@ pub mod Again
 pub mod Foreign
 pub mod Spoken
 pub mod Loggable
+pub mod ForeignPort

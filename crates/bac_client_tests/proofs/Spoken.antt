@@ -19,13 +19,13 @@ use Rattle.bac_walk.specs.declared.outcome.WalkFault.TheVariants.{Lost, Refused,
 use Rattle.bac_walk.specs.declared.outcome.Why.{Why}
 use Rattle.bac_walk.specs.declared.outcome.Why.TheVariants as why
 
-ended_as : (w : Why) (steps n : ℕ) (ended : Ended) (e : WalkFault) → IsRunOf w steps n ended → w ≡ why.Fault e → ended ≡ Fault e
+pub ended_as : (w : Why) (steps n : ℕ) (ended : Ended) (e : WalkFault) → IsRunOf w steps n ended → w ≡ why.Fault e → ended ≡ Fault e
 ended_as why.CaughtUp steps n ended e run is = absurd (cc)
 ended_as why.StepLimit steps n ended e run is = absurd (cc)
 ended_as (why.Fault f) steps n ended e run is = let a = run.1 in cc
 ended_as why.Memory steps n ended e run is = absurd (cc)
 
-is_loss : (e : WalkFault) → IsSpokenEnd (Fault e) → e ≡ Lost
+pub is_loss : (e : WalkFault) → IsSpokenEnd (Fault e) → e ≡ Lost
 is_loss Lost end = refl
 is_loss (Refused refusal) end = absurd end
 is_loss BadReply end = absurd end

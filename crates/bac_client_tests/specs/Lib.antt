@@ -1,3 +1,4 @@
 pub mod Held
 pub mod Day
 pub mod Foreign
+pub mod ForeignPort

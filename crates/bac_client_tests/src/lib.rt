@@ -1,5 +1,6 @@
 //! Tests of requests, links and walks by their public calls: over links that answer from a list and
-//! over a link straight to a device, and callers that see public contracts alone.
+//! over a link straight to a device, and callers that see public contracts alone, of what is printed
+//! over a port too.
 #![tactic(auto)]
 
 #[cfg(test)]
@@ -12,6 +13,8 @@ mod direct_callers;
 mod direct_link;
 #[cfg(test)]
 mod foreign_callers;
+#[cfg(test)]
+mod foreign_port;
 #[cfg(test)]
 mod full_log;
 #[cfg(test)]
