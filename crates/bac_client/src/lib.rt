@@ -35,10 +35,10 @@ pub use bac_ports::{Heard, Port, SocketFault, UdpLink, UdpPort, exchanges_are_ru
 pub use bac_walk::{
     BadReply, Batch, Ended, Gap, Numbered, Outcome, Progress, Sink, Step, Walk, WalkFault, Why,
     brought_goes_on, brought_is_delivered, brought_tells_why, came_is_delivered, collect,
-    collected_is_delivered, deliver, honest_speaks, lost_is_asked, moments_never_go_back,
-    nothing_came, numbers_have_ordinals, own_is_said, replies_are_loggable, rest_resumes,
-    rests_all, runs_deliver, runs_join, runs_stay_in_their_window, said_is_taken, said_means,
-    spoken_is_delivered, stop_and_resume, windows_are_near,
+    collected_is_delivered, deliver, honest_speaks, links_speak, lost_is_asked,
+    moments_never_go_back, nothing_came, numbers_have_ordinals, own_is_said, replies_are_loggable,
+    rest_resumes, rests_all, runs_deliver, runs_join, runs_stay_in_their_window, said_is_taken,
+    said_means, spoken_is_delivered, stop_and_resume, windows_are_near,
 };
 pub use bac_wire::{Datagram, Date4, Full, ObjectId, Stamp, Time4, Value};
 pub use bac_world::{

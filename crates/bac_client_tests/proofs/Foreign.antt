@@ -29,7 +29,7 @@ use Rattle.bac_link.specs.declared.link.Lost.{Lost}
 use Rattle.bac_walk.specs.Came.{Asks, Came, Comes, Brought, BroughtIsDelivered, AreOf, AreSaidAt, EndsBy, EndsEmpty, answers_of, asked_by}
 use Rattle.bac_walk.specs.Collects.{turn_items}
 use Rattle.bac_walk.specs.Delivers.{NoneFrom}
-use Rattle.bac_walk.specs.Spoken.{DeliversSaid, IsSaidOrLost, IsSpokenEnd, SpeaksFor}
+use Rattle.bac_walk.specs.Spoken.{DeliversSaid, IsSaidOrLost, IsSpokenEnd, SpeaksFor, SpeaksWhereItStands}
 use Rattle.bac_walk.specs.Told.{ended_of}
 use Rattle.bac_walk.specs.declared.outcome.WalkFault.{WalkFault}
 use Rattle.bac_walk.specs.declared.outcome.WalkFault.TheVariants as fault
@@ -375,14 +375,16 @@ beyond t none = elim (cases_lt 10 t) [ inl lt ↦ lt | inr ge ↦ absurd (none 1
 
 -- over the device's link a run delivers what its log holds, from any place
 pub walk_delivers : {S : Type 0} (old new : S) (way : Option Place) (w after : WalkPlace) (items : List Item) (reason : Why) (low s : ℕ) →
+    SpeaksWhereItStands {S = S} (λ a octets answer b. IsSaid octets answer) (λ link M. held ∷ [] ≡ M) →
     DeliversSaid (λ a octets answer b. IsSaid octets answer) (towards way) old w items (ended_of reason) after new → way ≡ None → w.log ≡ log → w.next ≡ sequence_number s →
     low ≤ 7 → (w.fresh ≡ false → (low ≤ s) × (s < low + 2147483648)) →
     ((b : ℕ) × (a : ℕ) × (t : ℕ) × (w.fresh ≡ false → b ≡ s) × (after.next ≡ sequence_number t) × DeliversTo history b items t (held ∷ []) a × (reason ≡ why.CaughtUp → 10 < t))
     × ((e : WalkFault) → reason ≡ why.Fault e → e ≡ fault.Lost)
-walk_delivers {S = S} old new way w after items reason low s said near log_is next below at =
+walk_delivers {S = S} old new way w after items reason low s stands said near log_is next below at =
     let W : Option Place → Type 0 = λ y. DeliversSaid {S = S} (λ a octets answer b. IsSaid octets answer) (towards y) old w items (ended_of reason) after new in
     let I : Id → Type 0 = λ i. SpeaksFor {S = S} (λ a octets answer b. IsSaid octets answer) (towards None) i history low (λ link M. held ∷ [] ≡ M) in
-    let all = subst W near said (λ link. held ∷ []) history s low (subst I (sym log_is) (speaks_for {S = S} low)) next (omega arith) tt (record { oldest = below; newest = omega arith }, tt) at in
+    let speaks = stands (towards None) w.log history low old (held ∷ []) (subst I (sym log_is) (speaks_for {S = S} low)) refl in
+    let all = subst W near said history (held ∷ []) s low speaks next (omega arith) tt (record { oldest = below; newest = omega arith }, tt) at in
     let E : Why → Type 0 = λ y. IsSpokenEnd (ended_of y) in (
       (
         all.0,

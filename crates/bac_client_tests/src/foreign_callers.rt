@@ -15,7 +15,7 @@ ghost use Rattle.bac_client_tests.specs.Foreign.{all_held, held, history, log as
 use crate::direct_link::brought;
 use bac_link::{Item, LogLink, Lost, Transactions};
 use bac_log::{Datum, Entry};
-use bac_walk::{Outcome, Walk, Why, brought_is_delivered, collect};
+use bac_walk::{Outcome, Walk, Why, brought_is_delivered, collect, links_speak};
 use bac_wire::{Datagram, Date4, ObjectId, Time4};
 use std::alloc::Global;
 use std::test::Fail;
@@ -165,6 +165,8 @@ pub fn walk_of_another_device(
         × DeliversTo history b result.items.items t (held ∷ []) a × (result.why ≡ why.CaughtUp → 10 < t))
         × ((e : WalkFaultOf) → result.why ≡ why.Fault e → e ≡ fault.Lost) }
 {
+    // For the prover alone: the law that the contract follows from.
+    links_speak::<ForeignLink>();
     collect(alloc, link, transactions, walk, steps)
 }
 

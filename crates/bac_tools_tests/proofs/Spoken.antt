@@ -6,7 +6,7 @@ use Rattle.bac_wire.specs.Primitive.{Id}
 use Rattle.bac_apdu.specs.Npdu.{Place}
 use Rattle.bac_log.specs.TrendLog.{sequence_number}
 use Rattle.bac_link.specs.Delivery.{History, Moment, DeliversTo}
-use Rattle.bac_link.specs.Path.{towards}
+use Rattle.bac_link.specs.Path.{Path, towards}
 use Rattle.bac_link.specs.declared.item.Item.{Item}
 use Rattle.bac_link.specs.declared.link.Lost.{Lost as Loss}
 use Rattle.bac_query.specs.Fetching.{FetchesOver, Fetching}
@@ -18,7 +18,7 @@ use Rattle.bac_walk.specs.Came.{NeverGoesBack}
 use Rattle.bac_walk.specs.Near.{AreInWindow}
 use Rattle.bac_walk.specs.Outcomes.{IsRunOf}
 use Rattle.bac_walk.specs.Place.{WalkPlace, walk_at}
-use Rattle.bac_walk.specs.Spoken.{IsSpokenEnd, SpeaksFor, SpokenIsDelivered}
+use Rattle.bac_walk.specs.Spoken.{IsSpokenEnd, Speaks, SpeaksFor, SpokenIsDelivered}
 use Rattle.bac_walk.specs.declared.outcome.Ended.{Ended}
 use Rattle.bac_walk.specs.declared.outcome.Ended.TheVariants.{Fault}
 use Rattle.bac_walk.specs.declared.outcome.WalkFault.{WalkFault}
@@ -44,17 +44,18 @@ PrintsSaid H M k done old new =
     × Appends old new (items_text items ++ end_line done.why done.next) × ((e : WalkFault) → done.why ≡ why.Fault e → e ≡ Lost)
 
 pub prints_said : {S : Type 0} (asks : S → List ℕ → Result (List ℕ) Loss → S → Type 0) (link left : S) (way : Option Place) (retries : ℕ) (w : WalkPlace) (log : Id) (number steps : ℕ) (result : Fetching) (old new : Held) →
-    ((moments : S → List Moment) → SpokenIsDelivered asks (λ l M. moments l ≡ M)) → way ≡ None → w ≡ walk_at log number →
+    ((path : Path) (log : Id) (H : History) (low : ℕ) → SpokenIsDelivered asks (λ l M. Speaks asks path log H low l M)) →
+    ((path : Path) (log : Id) (H : History) (low : ℕ) → SpeaksFor asks path log H low (λ l M. Speaks asks path log H low l M)) → way ≡ None → w ≡ walk_at log number →
     FetchesOver asks (towards way) retries link w steps result left old new →
-    IfOk result (λ done. (moments : S → List Moment) (H : History) (k low : ℕ) → SpeaksFor asks (towards None) log H low (λ l M. moments l ≡ M) → number ≡ sequence_number k →
-    0 < length (moments link) → NeverGoesBack (moments link) → AreInWindow low (moments link) → low ≤ k → k < low + 2147483648 → PrintsSaid H (moments link) k done old new)
-prints_said asks link left way retries w log number steps (Err fault) old new law near from over = tt
-prints_said {S = S} asks link left way retries w log number steps (Ok done) old new law near from over = λ moments H k low speaks here some back window above below.
+    IfOk result (λ done. (M : List Moment) (H : History) (k low : ℕ) → Speaks asks (towards None) log H low link M → number ≡ sequence_number k →
+    0 < length M → NeverGoesBack M → AreInWindow low M → low ≤ k → k < low + 2147483648 → PrintsSaid H M k done old new)
+prints_said asks link left way retries w log number steps (Err fault) old new law goes near from over = tt
+prints_said {S = S} asks link left way retries w log number steps (Ok done) old new law goes near from over = λ M H k low speaks here some back window above below.
     let P : Option Place → WalkPlace → Type 0 = λ y v. FetchesOver asks (towards y) retries link v steps (Ok done) left old new in
     let B : Option Place → Type 0 = λ y. P y (walk_at log number) in
     let f : P None (walk_at log number) = subst B near (subst (P way) from over) in
-    let d = law moments (towards None) retries link f.5 (walk_at log number) f.4 f.2 f.0 f.1 f.3 H (moments link) low k speaks refl f.6 here some back window (λ is. (above, below)) in
-    let D : ℕ → Type 0 = λ x. DeliversTo H x f.1 d.0.2 (moments link) d.0.1 in (
+    let d = law (towards None) log H low (towards None) retries link f.5 (walk_at log number) f.4 f.2 f.0 f.1 f.3 H M low k (goes (towards None) log H low) speaks f.6 here some back window (λ is. (above, below)) in
+    let D : ℕ → Type 0 = λ x. DeliversTo H x f.1 d.0.2 M d.0.1 in (
       f.1,
       d.0.1,
       d.0.2,

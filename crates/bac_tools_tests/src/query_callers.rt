@@ -12,7 +12,7 @@ ghost use Rattle.bac_query.specs.Fetching.{PrintsItems};
 ghost use Rattle.bac_query.specs.Ends.{end_line};
 ghost use Rattle.bac_query.specs.Items.{items_text};
 ghost use Rattle.bac_walk.specs.Came.{NeverGoesBack};
-ghost use Rattle.bac_walk.specs.Spoken.{SpeaksFor};
+ghost use Rattle.bac_walk.specs.Spoken.{Speaks};
 ghost use Rattle.bac_walk.specs.declared.outcome.WalkFault.{WalkFault as WalkFaultOf};
 ghost use Rattle.bac_walk.specs.declared.outcome.WalkFault.TheVariants.{Lost as Loss};
 ghost use Rattle.bac_walk.specs.Collects.{start_of};
@@ -20,7 +20,9 @@ ghost use Rattle.bac_walk.specs.Near.{AreInWindow};
 
 use bac_link::{ExchangeFault, LogLink, Request, Transactions};
 use bac_query::{Fetched, QueryFault, fetch_log, write_property};
-use bac_walk::{Walk, Why, collected_is_delivered, spoken_is_delivered, windows_are_near};
+use bac_walk::{
+    Walk, Why, collected_is_delivered, links_speak, spoken_is_delivered, windows_are_near,
+};
 use bac_wire::ObjectId;
 use std::alloc::Global;
 use std::io::Write;
@@ -78,17 +80,17 @@ pub fn printed_by_the_standard<L: LogLink, W: Write>(
     steps: u32,
     out: &mut W,
 ) -> Option<Result<Fetched, QueryFault>>
-    ensures { IfSome result (λ fetched. IfOk fetched (λ done. (moments : L → List Moment) (H : History) (k low : ℕ) →
-        SpeaksFor L.asks (towards None) log H low (λ l M. moments l ≡ M) → s ≡ sequence_number k →
-        0 < length (moments link.old) → NeverGoesBack (moments link.old) → AreInWindow low (moments link.old) →
-        low ≤ k → k < low + 2147483648 →
+    ensures { IfSome result (λ fetched. IfOk fetched (λ done. (M : List Moment) (H : History) (k low : ℕ) →
+        Speaks L.asks (towards None) log H low link.old M → s ≡ sequence_number k →
+        0 < length M → NeverGoesBack M → AreInWindow low M → low ≤ k → k < low + 2147483648 →
         (items : List Item) × (a : ℕ) × (t : ℕ) × (done.next ≡ sequence_number t)
-        × DeliversTo H k items t (moments link.old) a
+        × DeliversTo H k items t M a
         × Appends (W.contents out.old) (W.contents out.new) (items_text items ++ end_line done.why done.next)
         × ((e : WalkFaultOf) → done.why ≡ Why.Fault e → e ≡ Loss))) }
 {
-    // For the prover alone: the law that the contract follows from.
+    // For the prover alone, both: laws that the contract follows from.
     spoken_is_delivered::<L>();
+    links_speak::<L>();
     let walk = Walk::from_number(log, s)?;
     let mut transactions = Transactions::new(3);
     Some(fetch_log(alloc, link, &mut transactions, walk, steps, out))

@@ -10,7 +10,7 @@ use Rattle.bac_link.specs.declared.exchanges.Verdict.TheVariants as verdict
 use Rattle.bac_link.specs.Datagrams.{apdu_in}
 use Rattle.bac_link.specs.Delivery.{History, Moment, DeliversTo, now, later}
 use Rattle.bac_link.specs.Exchanges.{Answers, IsNoAnswer, Unanswered, verdict_of}
-use Rattle.bac_link.specs.Laws.{after_answers, moment_at}
+use Rattle.bac_link.specs.Laws.{after_answers}
 use Rattle.bac_link.proofs.Delivers.{joined}
 use Rattle.bac_link.specs.Links.{question}
 use Rattle.bac_link.specs.Path.{Path}
@@ -21,7 +21,7 @@ use Rattle.bac_walk.specs.Heard.{AckParameters}
 use Rattle.bac_walk.specs.Near.{AreInWindow}
 use Rattle.bac_walk.specs.Place.{WalkPlace}
 use Rattle.bac_walk.specs.Replied.{heard_from, heard_in}
-use Rattle.bac_walk.specs.Spoken.{DeliversSaid, IsSaidOrLost, IsSpokenEnd, SpeaksFor, SpokenIsDelivered}
+use Rattle.bac_walk.specs.Spoken.{DeliversSaid, IsSaidOrLost, IsSpokenEnd, Speaks, SpeaksFor, SpeaksOn, SpeaksWhereItStands, SpokenIsDelivered}
 use Rattle.bac_walk.specs.Standard.{IsSaidAt}
 use Rattle.bac_walk.specs.Takes.{parameters_in}
 use Rattle.bac_walk.specs.Walks.{question_of}
@@ -174,7 +174,34 @@ spoken_delivers asks stands = λ path retries old new w after steps came items e
     let end = ended_spoken asks stands path retries steps w.log H low came (after_answers (length came) M) run.0 after run.1 new ended speaks all.2 all.1 run.3 in
     (brought_delivers asks path retries old new w after steps came items ended H M low s run all.0 next some back window in_window, all.0, end.0, end.1)
 
--- ---- what a run delivers, at the moments that a function tells
+-- ---- how long a link speaks
+
+mapped : (stays goes : List Moment → Type 0) (M : List Moment) (H : History) (w : WalkPlace) (octets : List ℕ) (answer : Result (List ℕ) Loss) →
+    ((N : List Moment) → stays N → goes N) → IsSaidOrLost stays M H w octets answer → IsSaidOrLost goes M H w octets answer
+mapped stays goes M H w octets (Ok datagram) to said = ((λ yes. let x = said.0 yes in (x.0, to (later M) x.1)), λ no. to M (said.1 no))
+mapped stays goes M H w octets (Err lost) to said = to M said
+
+speaks_on : {S : Type 0} (asks : Asking S) (stands : S → List Moment → Type 0) (path : Path) (log : Id) (H : History) (low : ℕ) → SpeaksFor asks path log H low stands →
+    (more : ℕ) (link : S) (M : List Moment) → stands link M → SpeaksOn asks path log H low more link M
+speaks_on asks stands path log H low speaks zero link M at = tt
+speaks_on asks stands path log H low speaks (suc more) link M at = λ new w s invoke answer log_is next some window is asked.
+    mapped (λ N. stands new N) (λ N. SpeaksOn asks path log H low more new N) M H w (request_octets path invoke (question w.log (question_of w))) answer
+    (λ N stood. speaks_on asks stands path log H low speaks more new N stood) (speaks link new M w s invoke answer at log_is next some window is asked)
+
+pub stands_speaks : {S : Type 0} (asks : Asking S) (stands : S → List Moment → Type 0) → SpeaksWhereItStands asks stands
+stands_speaks asks stands = λ path log H low link M speaks at more. speaks_on asks stands path log H low speaks more link M at
+
+however_many : {S : Type 0} (asks : Asking S) (path : Path) (log : Id) (H : History) (low : ℕ) (new : S) (M : List Moment) (w : WalkPlace) (octets : List ℕ) (answer : Result (List ℕ) Loss) →
+    ((more : ℕ) → IsSaidOrLost (λ N. SpeaksOn asks path log H low more new N) M H w octets answer) → IsSaidOrLost (λ N. Speaks asks path log H low new N) M H w octets answer
+however_many asks path log H low new M w octets (Ok datagram) said = ((λ yes. (((said 0).0 yes).0, (λ more. ((said more).0 yes).1))), λ no more. (said more).1 no)
+however_many asks path log H low new M w octets (Err lost) said = said
+
+pub goes_on : {S : Type 0} (asks : Asking S) (path : Path) (log : Id) (H : History) (low : ℕ) → SpeaksFor asks path log H low (λ link M. Speaks asks path log H low link M)
+goes_on asks path log H low = λ old new M w s invoke answer speaks log_is next some window at asked.
+    however_many asks path log H low new M w (request_octets path invoke (question w.log (question_of w))) answer
+    (λ more. speaks (suc more) new w s invoke answer log_is next some window at asked)
+
+-- ---- what a run delivers
 
 as_ended : (why : Why) (steps n : ℕ) (ended : Ended) → IsRunOf why steps n ended → ended ≡ ended_of why
 as_ended WasUp steps n ended run = run.1
@@ -184,19 +211,26 @@ as_ended Memory steps n ended run = run.1
 
 pub delivers_said : {S : Type 0} (asks : Asking S) (path : Path) (retries : ℕ) (old new : S) (w after : WalkPlace) (steps : ℕ) (items : List Item) (ended : Ended) →
     (came : List Came) × Brought asks path retries old w steps came items ended after new → DeliversSaid asks path old w items ended after new
-delivers_said {S = S} asks path retries old new w after steps items ended (came, run) = λ moments H s low speaks next some back window at.
-    let stands : S → List Moment → Type 0 = λ link M. moments link ≡ M in
-    let here : Here low w.log (moments old) (restarted w) = record { ordinal = s; log_is = refl; next = next; some = some; window = window; at = at } in
-    let all = spoken asks stands path retries w.log H low came (moments old) old run.1 (restarted w) run.0 speaks here refl run.2 in
-    let end = ended_spoken asks stands path retries steps w.log H low came (after_answers (length came) (moments old)) run.0 after run.1 new ended speaks all.2 all.1 run.3 in
-    let ran = brought_ran asks path retries old new w after steps came items ended H (moments old) low s run all.0 next some back window at in (
+delivers_said {S = S} asks path retries old new w after steps items ended (came, run) = λ H M s low speaks next some back window at.
+    let here : Here low w.log M (restarted w) = record { ordinal = s; log_is = refl; next = next; some = some; window = window; at = at } in
+    let stands : S → List Moment → Type 0 = λ link N. Speaks asks path w.log H low link N in
+    let goes = goes_on asks path w.log H low in
+    let all = spoken asks stands path retries w.log H low came M old run.1 (restarted w) run.0 goes here speaks run.2 in
+    let end = ended_spoken asks stands path retries steps w.log H low came (after_answers (length came) M) run.0 after run.1 new ended goes all.2 all.1 run.3 in
+    let ran = brought_ran asks path retries old new w after steps came items ended H M low s run all.0 next some back window at in (
       ran.0,
       length came,
       ran.1,
       ran.2,
       ran.3,
       ran.4,
-      end.0,
+      (
+        end.0,
+        λ moments told is.
+            let at_moments : S → List Moment → Type 0 = λ link N. moments link ≡ N in
+            let b = spoken asks at_moments path retries w.log H low came M old run.1 (restarted w) run.0 told here is run.2 in
+            (ended_spoken asks at_moments path retries steps w.log H low came (after_answers (length came) M) run.0 after run.1 new ended told b.2 b.1 run.3).0,
+      ),
       (λ up. let caught = ran.5 up in (caught.0, omega (arith, caught.1, answers_came came), caught.3)),
       end.1,
     )
@@ -227,30 +261,30 @@ back_after (suc count) M back = back_after count (later M) (back_later M back)
 pub said_joins : {S : Type 0} (asks : Asking S) (path : Path) (old half new : S) (w mid resumed after : WalkPlace) (xs ys : List Item) (e f : Ended) →
     DeliversSaid asks path old w xs e mid half → DeliversSaid asks path half resumed ys f after new → resumed.log ≡ w.log → resumed.next ≡ mid.next → resumed.fresh ≡ false → w.fresh ≡ false →
     DeliversSaid asks path old w (xs ++ ys) f after new
-said_joins {S = S} asks path old half new w mid resumed after xs ys e f first second log_is next_is by_number had_number = λ moments H s low speaks next some back window at.
-    let M : List Moment = moments old in
-    let a = first moments H s low speaks next some back window at in
+said_joins {S = S} asks path old half new w mid resumed after xs ys e f first second log_is next_is by_number had_number = λ H M s low speaks next some back window at.
+    let a = first H M s low speaks next some back window at in
     let P : ℕ → Type 0 = λ n. DeliversTo H n xs a.2 M a.1 in
     let one = subst P (a.3 had_number) a.5 in
     let place = stays_in_window H M low s a.2 a.1 xs some window (at had_number).0 (at had_number).1 one in
-    let R : Id → Type 0 = λ i. SpeaksFor asks path i H low (λ link N. moments link ≡ N) in
-    let Q : List Moment → Type 0 = λ N. (0 < length N) × NeverGoesBack N × AreInWindow low N in
-    let left = subst Q (sym a.6) (some_after a.1 M some, back_after a.1 M back, place.2) in
-    let b = second moments H a.2 low (subst R (sym log_is) speaks) (next_is ∙ a.4) left.0 left.1 left.2 (λ old. (place.0, place.1)) in
-    let D : List Moment → Type 0 = λ N. DeliversTo H b.0 ys b.2 N b.1 in
-    let E : ℕ → Type 0 = λ n. DeliversTo H n ys b.2 (after_answers a.1 M) b.1 in
-    let two = subst E (b.3 by_number) (subst D a.6 b.5) in (
+    let left : List Moment = after_answers a.1 M in
+    let R : Id → Type 0 = λ i. Speaks asks path i H low half left in
+    let b = second H left a.2 low (subst R (sym log_is) a.6.0) (next_is ∙ a.4) (some_after a.1 M some) (back_after a.1 M back) place.2 (λ old. (place.0, place.1)) in
+    let E : ℕ → Type 0 = λ n. DeliversTo H n ys b.2 left b.1 in
+    let two = subst E (b.3 by_number) b.5 in
+    let K : Id → Type 0 = λ i. Speaks asks path i H low new (after_answers b.1 left) in
+    let L : List Moment → Type 0 = λ N. Speaks asks path w.log H low new N in
+    let T : Id → Type 0 = λ i. (moments : S → List Moment) → SpeaksFor asks path i H low (λ link N. moments link ≡ N) → moments half ≡ left → moments new ≡ after_answers b.1 left in
+    let both = sym (after_answers-add a.1 b.1 M) in (
       s,
       a.1 + b.1,
       b.2,
       (λ old. refl),
       b.4,
       joined H s a.2 b.2 a.1 b.1 M xs ys one two,
-      b.6 ∙ ap (λ N. after_answers b.1 N) a.6 ∙ sym (after_answers-add a.1 b.1 M),
+      (subst L both (subst K log_is b.6.0), (λ moments told is. subst T log_is b.6.1 moments told (a.6.1 moments told is) ∙ both)),
       (λ up.
           let c = b.7 up in
-          let F : List Moment → Type 0 = λ N. NoneFrom b.2 (moment_at N c.0) in
           let G : List Moment → Type 0 = λ N. NoneFrom b.2 (now N) in
-          (a.1 + c.0, omega (arith, c.1), subst G (sym (after_answers-add a.1 c.0 M)) (subst F a.6 c.2))),
+          (a.1 + c.0, omega (arith, c.1), subst G (sym (after_answers-add a.1 c.0 M)) c.2)),
       b.8,
     )

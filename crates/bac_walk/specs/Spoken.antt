@@ -1,5 +1,5 @@
 -- Links that answer the questions of a walk by the standard, whatever else is known of them.
-use Rattle.std.specs.Prelude.{◌≡◌, ℕ, ◌+◌, ◌<◌, ◌≤◌, true, false, Option, Result, Ok, Err, List, ◌∷◌, length, All}
+use Rattle.std.specs.Prelude.{◌≡◌, ℕ, zero, suc, ◌+◌, ◌<◌, ◌≤◌, true, false, Option, Result, Ok, Err, List, ◌∷◌, length, All}
 use Rattle.bac_wire.specs.Canon.{IsValid}
 use Rattle.bac_wire.specs.Primitive.{Id, Object}
 use Rattle.bac_apdu.specs.Npdu.{Place}
@@ -46,6 +46,24 @@ SpeaksFor {S = S} asks path log H low stands =
     asks old (request_octets path invoke (question w.log (question_of w))) answer new →
     IsSaidOrLost (λ N. stands new N) M H w (request_octets path invoke (question w.log (question_of w))) answer
 
+-- It speaks for a log from these moments on, for so many asks more: the next ask of a question of a walk of this log
+-- brings that, and what is left of the moments is where it speaks from then, for one ask less.
+abbrev pub SpeaksOn : {S : Type 0} → (S → List ℕ → Result (List ℕ) Loss → S → Type 0) →
+    Path → Id → History → ℕ → ℕ → S → List Moment → Type 0
+SpeaksOn {S = S} asks path log H low zero old M = Unit {0}
+SpeaksOn {S = S} asks path log H low (suc more) old M =
+    (new : S) (w : WalkPlace) (s invoke : ℕ) (answer : Result (List ℕ) Loss) →
+    w.log ≡ log → w.next ≡ sequence_number s → 0 < length M → AreInWindow low M →
+    (w.fresh ≡ false → (low ≤ s) × (s < low + 2147483648)) →
+    asks old (request_octets path invoke (question w.log (question_of w))) answer new →
+    IsSaidOrLost (λ N. SpeaksOn asks path log H low more new N) M H w
+    (request_octets path invoke (question w.log (question_of w))) answer
+
+-- it speaks for a log from these moments on, however many asks come
+abbrev pub Speaks : {S : Type 0} → (S → List ℕ → Result (List ℕ) Loss → S → Type 0) →
+    Path → Id → History → ℕ → S → List Moment → Type 0
+Speaks asks path log H low link M = (more : ℕ) → SpeaksOn asks path log H low more link M
+
 -- how a run over such a link ends: the device refuses nothing, and no reply is a bad one
 abbrev pub IsSpokenEnd : Ended → Type 0
 IsSpokenEnd CaughtUp = Unit {0}
@@ -70,19 +88,35 @@ SpokenIsDelivered {S = S} asks stands =
     × DeliversTo H b items t M a × (ended ≡ CaughtUp → IsCaughtUp w.fresh t M (answers_of came)))
     × AreSaidAt H M came × stands new (after_answers (length came) M) × IsSpokenEnd ended
 
--- What a run over such a link delivers, at the moments that any function tells of the link: from the ordinal of the
--- walk's number on, or from the oldest, the records that the log holds when each is reached. So many answers use up as
--- many moments; caught up, the log held nothing more at one of these answers; and the only fault is a loss.
+-- The link speaks from the moments on that so many answers left. If a function tells where it stands, by which it speaks,
+-- it stands at these.
+abbrev pub IsLeftAt : {S : Type 0} → (S → List ℕ → Result (List ℕ) Loss → S → Type 0) →
+    Path → Id → History → ℕ → S → S → List Moment → ℕ → Type 0
+IsLeftAt {S = S} asks path log H low old new M a =
+    Speaks asks path log H low new (after_answers a M)
+    × ((moments : S → List Moment) → SpeaksFor asks path log H low (λ link N. moments link ≡ N) → moments old ≡ M →
+    moments new ≡ after_answers a M)
+
+-- What a run delivers over a link that speaks for its log from the moments M on: from the ordinal of the walk's number
+-- on, or from the oldest, the records that the log holds when each is reached. So many answers use up as many moments;
+-- caught up, the log held nothing more at one of these answers; and the only fault is a loss.
 abbrev pub DeliversSaid : {S : Type 0} → (S → List ℕ → Result (List ℕ) Loss → S → Type 0) → Path →
     S → WalkPlace → List Item → Ended → WalkPlace → S → Type 0
 DeliversSaid {S = S} asks path old before items ended after new =
-    (moments : S → List Moment) (H : History) (s low : ℕ) →
-    SpeaksFor asks path before.log H low (λ link M. moments link ≡ M) → before.next ≡ sequence_number s →
-    0 < length (moments old) → NeverGoesBack (moments old) → AreInWindow low (moments old) →
+    (H : History) (M : List Moment) (s low : ℕ) →
+    Speaks asks path before.log H low old M → before.next ≡ sequence_number s →
+    0 < length M → NeverGoesBack M → AreInWindow low M →
     (before.fresh ≡ false → (low ≤ s) × (s < low + 2147483648)) →
     (b : ℕ) × (a : ℕ) × (t : ℕ) × (before.fresh ≡ false → b ≡ s) × (after.next ≡ sequence_number t)
-    × DeliversTo H b items t (moments old) a × (moments new ≡ after_answers a (moments old))
-    × (ended ≡ CaughtUp → (i : ℕ) × (i < a) × NoneFrom t (moment_at (moments old) i)) × IsSpokenEnd ended
+    × DeliversTo H b items t M a × IsLeftAt asks path before.log H low old new M a
+    × (ended ≡ CaughtUp → (i : ℕ) × (i < a) × NoneFrom t (moment_at M i)) × IsSpokenEnd ended
+
+-- a link that stands at moments, where each ask is so answered, speaks from these on
+abbrev pub SpeaksWhereItStands : {S : Type 0} → (S → List ℕ → Result (List ℕ) Loss → S → Type 0) →
+    (S → List Moment → Type 0) → Type 0
+SpeaksWhereItStands {S = S} asks stands =
+    (path : Path) (log : Id) (H : History) (low : ℕ) (link : S) (M : List Moment) →
+    SpeaksFor asks path log H low stands → stands link M → Speaks asks path log H low link M
 
 -- a link speaks for each log for which it is honest, by every way that a request can go
 abbrev pub HonestSpeaks : {S : Type 0} → (S → List ℕ → Result (List ℕ) Loss → S → Type 0) →

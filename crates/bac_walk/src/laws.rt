@@ -2,6 +2,7 @@
 ghost use Rattle.std.specs.Prelude.{◌≡◌, ℕ, List};
 ghost use Rattle.bac_wire.specs.Primitive.{Id};
 ghost use Rattle.bac_link.specs.Delivery.{History, Moment};
+ghost use Rattle.bac_link.specs.Path.{Path};
 ghost use Rattle.bac_walk.specs.Came.{BroughtIsDelivered, CameIsDelivered, LostIsAsked, NothingCame, OwnIsSaid, SaidIsTaken};
 ghost use Rattle.bac_walk.specs.Flaws.{BadRepliesHaveFlaws, FlawsAreRefused};
 ghost use Rattle.bac_walk.specs.Follows.{BroughtGoes, BroughtTells};
@@ -9,7 +10,8 @@ ghost use Rattle.bac_walk.specs.Meant.{SaidMeans};
 ghost use Rattle.bac_walk.specs.Near.{StaysInWindow, WindowsAreNear};
 ghost use Rattle.bac_walk.specs.Rests.{RestsAll, RestResumes};
 ghost use Rattle.bac_walk.specs.Runs.{CollectedIsDelivered, RunsDeliver, RunsJoin};
-ghost use Rattle.bac_walk.specs.Spoken.{HonestSpeaks, MomentsNeverGoBack, NumbersHaveOrdinals, RepliesAreLoggable, SpokenIsDelivered};
+ghost use Rattle.bac_walk.specs.Spoken.{HonestSpeaks, MomentsNeverGoBack, NumbersHaveOrdinals, RepliesAreLoggable};
+ghost use Rattle.bac_walk.specs.Spoken.{Speaks, SpeaksFor, SpeaksWhereItStands, SpokenIsDelivered};
 
 use bac_link::LogLink;
 
@@ -103,12 +105,22 @@ pub fn nothing_came<L: LogLink>()
     ensures { NothingCame L.asks }
 {}
 
-/// Over a link that speaks for the log of a walk, at the moments that any function tells of it, or
-/// at those at which it is honest: a run delivers what the log holds when each reply is given, and
-/// ends with no fault but a loss.
+/// Over a link that speaks for the log of a walk, from any moments on, at those that any function
+/// tells of it, or at those at which it is honest: a run delivers what the log holds when each reply
+/// is given, and ends with no fault but a loss.
 pub fn spoken_is_delivered<L: LogLink>()
     ensures told { (moments : L → List Moment) → SpokenIsDelivered L.asks (λ link M. moments link ≡ M) }
     ensures honest { (log : Id) (r : ℕ) (H : History) → SpokenIsDelivered L.asks (λ link M. L.is_honest link log r M H) }
+    ensures speaking { (path : Path) (log : Id) (H : History) (low : ℕ) → SpokenIsDelivered L.asks (λ link M. Speaks L.asks path log H low link M) }
+{}
+
+/// Where each ask is answered by the standard a link speaks, as long as it is asked: from the moments
+/// on that any function tells of it, or at which it is honest. And where it speaks each ask is so
+/// answered.
+pub fn links_speak<L: LogLink>()
+    ensures told { (moments : L → List Moment) → SpeaksWhereItStands L.asks (λ link M. moments link ≡ M) }
+    ensures honest { (log : Id) (r : ℕ) (H : History) → SpeaksWhereItStands L.asks (λ link M. L.is_honest link log r M H) }
+    ensures goes_on { (path : Path) (log : Id) (H : History) (low : ℕ) → SpeaksFor L.asks path log H low (λ link M. Speaks L.asks path log H low link M) }
 {}
 
 /// A link speaks for each log for which it is honest.
