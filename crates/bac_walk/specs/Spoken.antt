@@ -1,5 +1,6 @@
 -- Links that answer the questions of a walk by the standard, whatever else is known of them.
-use Rattle.std.specs.Prelude.{◌≡◌, ℕ, zero, suc, ◌+◌, ◌<◌, ◌≤◌, true, false, Option, Result, Ok, Err, List, ◌∷◌, length, All}
+use Rattle.std.specs.Prelude.{◌≡◌, ℕ, zero, suc, ◌+◌, ◌<◌, ◌≤◌, true, false, Option, Result, Ok, Err}
+use Rattle.std.specs.Prelude.{List, ◌∷◌, length, All}
 use Rattle.bac_wire.specs.Canon.{IsValid}
 use Rattle.bac_wire.specs.Primitive.{Id, Object}
 use Rattle.bac_apdu.specs.Npdu.{Place}
@@ -88,8 +89,8 @@ SpokenIsDelivered {S = S} asks stands =
     × DeliversTo H b items t M a × (ended ≡ CaughtUp → IsCaughtUp w.fresh t M (answers_of came)))
     × AreSaidAt H M came × stands new (after_answers (length came) M) × IsSpokenEnd ended
 
--- The link speaks from the moments on that so many answers left. If a function tells where it stands, by which it speaks,
--- it stands at these.
+-- The link speaks from the moments on that so many answers left. If a function tells where it stands, by which it
+-- speaks, it stands at these.
 abbrev pub IsLeftAt : {S : Type 0} → (S → List ℕ → Result (List ℕ) Loss → S → Type 0) →
     Path → Id → History → ℕ → S → S → List Moment → ℕ → Type 0
 IsLeftAt {S = S} asks path log H low old new M a =
