@@ -4,3 +4,4 @@ pub mod CameOver
 pub mod Maps
 pub mod Pending
 pub mod RunsAhead
+pub mod Flaws

@@ -3,3 +3,4 @@ pub mod Reading
 pub mod Fetching
 pub mod Writing
 pub mod Ahead
+pub mod Flaws
