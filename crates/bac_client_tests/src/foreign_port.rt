@@ -102,7 +102,8 @@ fn another_device_is_printed(rt: HostRuntime) -> Result<(), Fail> {
         fetched,
         Some(Ok(Fetched {
             why: Why::CaughtUp,
-            next: 11
+            next: 11,
+            flaw: None,
         }))
     );
     let want = [

@@ -8,3 +8,4 @@ pub mod Requests
 pub mod Turns
 pub mod Pieces
 pub mod Told
+pub mod Flaws

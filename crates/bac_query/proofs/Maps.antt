@@ -1,10 +1,12 @@
 -- What came over a link, seen as what came over another that makes each of its asks one; and what each ask keeps.
 use Rattle.std.proofs.Common.{◌≡◌, ◌+◌, ℕ, zero, suc, Ok, Err, Result, List, [], ◌∷◌, sym, ap, subst}
-use Rattle.bac_link.specs.Exchanges.{Exchanges, Unanswered}
+use Rattle.bac_link.specs.Exchanges.{Answers, Exchanges, Unanswered}
 use Rattle.bac_link.specs.Path.{Path}
 use Rattle.bac_link.specs.Requests.{request_octets}
 use Rattle.bac_link.specs.declared.exchanges.ExchangeFault.{ExchangeFault}
 use Rattle.bac_link.specs.declared.exchanges.ExchangeFault.TheVariants as fault
+use Rattle.bac_link.specs.declared.exchanges.Verdict.{Verdict}
+use Rattle.bac_link.specs.declared.exchanges.Verdict.TheVariants as verdict
 use Rattle.bac_link.specs.declared.item.Item.{Item}
 use Rattle.bac_link.specs.declared.link.Lost.{Lost as Loss}
 use Rattle.bac_link.specs.declared.request.Request.{Request}
@@ -26,10 +28,10 @@ unanswered_maps f asks other maps octets zero old new same = ap f same
 unanswered_maps f asks other maps octets (suc n) old new (mid, answer, rest, asked, none) =
     (f mid, answer, unanswered_maps f asks other maps octets n old mid rest, maps mid new octets answer asked, none)
 
-exchanges_maps : {S T : Type 0} (f : S → T) (asks : Asking S) (other : Asking T) → Maps f asks other →
-    (path : Path) (invoke : ℕ) (r : Request) (retries : ℕ) (old : S) (result : Result (List ℕ) ExchangeFault) (new : S) →
-    Exchanges asks path invoke r retries old result new → Exchanges other path invoke r retries (f old) result (f new)
-exchanges_maps f asks other maps path invoke r retries old (Ok datagram) new (tries, mid, few, before, asked, is) = (
+pub answers_maps : {S T : Type 0} (f : S → T) (asks : Asking S) (other : Asking T) → Maps f asks other →
+    (path : Path) (invoke : ℕ) (r : Request) (retries : ℕ) (said : Verdict) (old : S) (datagram : List ℕ) (new : S) →
+    Answers asks path invoke r retries said old datagram new → Answers other path invoke r retries said (f old) datagram (f new)
+answers_maps f asks other maps path invoke r retries said old datagram new (tries, mid, few, before, asked, is) = (
   tries,
   f mid,
   few,
@@ -37,14 +39,16 @@ exchanges_maps f asks other maps path invoke r retries old (Ok datagram) new (tr
   maps mid new (request_octets path invoke r) (Ok datagram) asked,
   is,
 )
-exchanges_maps f asks other maps path invoke r retries old (Err (fault.Refused refusal)) new (datagram, (tries, mid, few, before, asked, is)) = (
-  datagram,
-  (tries, f mid, few, unanswered_maps f asks other maps (request_octets path invoke r) tries old mid before, maps mid new (request_octets path invoke r) (Ok datagram) asked, is),
-)
-exchanges_maps f asks other maps path invoke r retries old (Err fault.BadReply) new (datagram, (tries, mid, few, before, asked, is)) = (
-  datagram,
-  (tries, f mid, few, unanswered_maps f asks other maps (request_octets path invoke r) tries old mid before, maps mid new (request_octets path invoke r) (Ok datagram) asked, is),
-)
+
+exchanges_maps : {S T : Type 0} (f : S → T) (asks : Asking S) (other : Asking T) → Maps f asks other →
+    (path : Path) (invoke : ℕ) (r : Request) (retries : ℕ) (old : S) (result : Result (List ℕ) ExchangeFault) (new : S) →
+    Exchanges asks path invoke r retries old result new → Exchanges other path invoke r retries (f old) result (f new)
+exchanges_maps f asks other maps path invoke r retries old (Ok datagram) new answers =
+    answers_maps f asks other maps path invoke r retries verdict.Ack old datagram new answers
+exchanges_maps f asks other maps path invoke r retries old (Err (fault.Refused refusal)) new (datagram, answers) =
+    (datagram, answers_maps f asks other maps path invoke r retries (verdict.Refused refusal) old datagram new answers)
+exchanges_maps f asks other maps path invoke r retries old (Err fault.BadReply) new (datagram, answers) =
+    (datagram, answers_maps f asks other maps path invoke r retries verdict.BadReply old datagram new answers)
 exchanges_maps f asks other maps path invoke r retries old (Err fault.Lost) new tries =
     unanswered_maps f asks other maps (request_octets path invoke r) (retries + 1) old new tries
 exchanges_maps f asks other maps path invoke r retries old (Err fault.TooLong) new same = ap f same

@@ -121,8 +121,8 @@ IsHeadline walk came items ended after =
     (b : ℕ) × (a : ℕ) × (t : ℕ) × (walk.fresh ≡ false → b ≡ s) × (after.next ≡ sequence_number t)
     × DeliversTo H b items t M a × (ended ≡ CaughtUp → IsCaughtUp walk.fresh t M (answers_of came))
 
--- Fetching from a place on, over any link: replies came, one after the other, from this link on; what is printed are the
--- lines of the items that they brought, and the end of their run; and if they say what one log holds, those are the
+-- Fetching from a place on, over any link: replies came, one after the other, from this link on; what is printed are
+-- the lines of the items that they brought, and the end of their run; and if they say what one log holds, those are the
 -- headline's.
 abbrev pub FetchesOver : {S : Type 0} → (S → List ℕ → Result (List ℕ) Lost → S → Type 0) →
     Path → ℕ → S → WalkPlace → ℕ → Fetching → S → Held → Held → Type 0

@@ -11,3 +11,4 @@ pub mod Turns
 pub mod Finding
 pub mod Items
 pub mod Ends
+pub mod Flaws

@@ -1,7 +1,8 @@
 //! A link that prints while an answer is waited for.
 
-ghost use Rattle.std.specs.Prelude.{◌≡◌, ◌++◌, ◌∷◌, [], true, false, Err, OnOk, refl};
+ghost use Rattle.std.specs.Prelude.{◌≡◌, ◌++◌, ◌∷◌, [], true, false, None, Err, OnOk, refl};
 ghost use Rattle.std.specs.Io.KnownBytes.{Keeps};
+ghost use Rattle.std.specs.Result.{result_ok};
 ghost use Rattle.std.proofs.Common.{◌∙◌};
 ghost use Rattle.bac_walk.specs.Walks.{gap_items, item_of};
 ghost use Rattle.bac_query.specs.Ahead.{pending, port_asks, PrintsLeft, PrintsLast, PrintsOn};
@@ -14,7 +15,7 @@ use crate::reading::print;
 use crate::record_lines::Lines;
 use bac_link::{Item, LogLink, Lost};
 use bac_ports::{Port, UdpLink};
-use bac_walk::{Gap, Numbered, Sink, Why};
+use bac_walk::{Gap, Numbered, ReplyFlaw, Sink, Why};
 use bac_wire::Datagram;
 use std::io::Write;
 
@@ -30,6 +31,10 @@ pub(crate) struct Ahead<'a, P, W> {
     lines: &'a mut Lines,
     /// A write was refused: nothing more is printed.
     is_refused: bool,
+    /// The answer to the last request, if one came.
+    pub(crate) last: Option<Datagram>,
+    /// What is wrong with it, if it is a bad reply.
+    pub(crate) flaw: Option<ReplyFlaw>,
 }
 
 impl<'a, P: Port, W: Write> Ahead<'a, P, W> {
@@ -53,6 +58,8 @@ impl<'a, P: Port, W: Write> Ahead<'a, P, W> {
             left,
             lines,
             is_refused: false,
+            last: None,
+            flaw: None,
         }
     }
 
@@ -68,6 +75,7 @@ impl<'a, P: Port, W: Write> Ahead<'a, P, W> {
         ensures none { OnOk result (self.new.left.now.items ≡ []) }
         ensures well { OnOk result (self.new.is_refused ≡ false) }
         ensures link { self.new.link.now ≡ self.old.link.now }
+        ensures flaw { self.new.flaw ≡ self.old.flaw }
         ensures same_link { self.new.link.ghost_name ≡ self.old.link.ghost_name }
         ensures same_out { self.new.out.ghost_name ≡ self.old.out.ghost_name }
     {
@@ -97,6 +105,7 @@ impl<'a, P: Port, W: Write> Ahead<'a, P, W> {
     pub(crate) fn end(&mut self, why: Why, next: u32) -> Result<Fetched, QueryFault>
         ensures prints { PrintsEnd why next result (W.contents self.old.out.now) (W.contents self.new.out.now) }
         ensures link { self.new.link.now ≡ self.old.link.now }
+        ensures flaw { self.new.flaw ≡ self.old.flaw }
         ensures same_link { self.new.link.ghost_name ≡ self.old.link.ghost_name }
         ensures same_out { self.new.out.ghost_name ≡ self.old.out.ghost_name }
     {
@@ -109,6 +118,7 @@ impl<'a, P: Port, W: Write> Ahead<'a, P, W> {
         requires { self.old.is_refused ≡ false }
         ensures prints { PrintsLast self.old.left.now.items why next told result (W.contents self.old.out.now) (W.contents self.new.out.now) }
         ensures link { self.new.link.now ≡ self.old.link.now }
+        ensures flaw { self.new.flaw ≡ self.old.flaw }
         ensures same_link { self.new.link.ghost_name ≡ self.old.link.ghost_name }
         ensures same_out { self.new.out.ghost_name ≡ self.old.out.ghost_name }
     {
@@ -131,19 +141,22 @@ impl<'a, P: Port, W: Write> LogLink for Ahead<'a, P, W> {
 
     ghost keeps = { λ a b. a ≡ b };
 
-    // An ask over its link; and what was left is printed beside it.
+    // An ask over its link; what was left is printed beside it, and the answer is kept.
     ghost asks = { λ old octets answer new. port_asks P.sends P.receives old.link.now octets answer new.link.now
         × PrintsOn (pending old.is_refused old.left.now.items (W.contents old.out.now)) (pending new.is_refused new.left.now.items (W.contents new.out.now))
-        × (new.link.ghost_name ≡ old.link.ghost_name) × (new.out.ghost_name ≡ old.out.ghost_name) };
+        × (new.link.ghost_name ≡ old.link.ghost_name) × (new.out.ghost_name ≡ old.out.ghost_name)
+        × (new.last ≡ result_ok answer) };
 
     fn ask(&mut self, request: &[u8]) -> Result<Datagram, Lost> {
         let sent = self.link.send(request);
         // What can't be printed now is told once the answer is here.
         let _ = self.print_left();
-        match sent {
+        let answer = match sent {
             Ok(()) => self.link.hear(request),
             Err(_) => Err(Lost),
-        }
+        };
+        self.last = copy_of(&answer);
+        answer
     }
 
     ghost serves = { λ ahead id r M H h. absurd h };
@@ -153,6 +166,16 @@ impl<'a, P: Port, W: Write> LogLink for Ahead<'a, P, W> {
     ghost keeps_itself = { λ ahead. refl };
 
     ghost keeps_on = { λ a b c h k. h ∙ k };
+}
+
+/// The datagram that came, if one did.
+fn copy_of(answer: &Result<Datagram, Lost>) -> Option<Datagram>
+    ensures { result ≡ result_ok answer.now }
+{
+    match answer {
+        Ok(datagram) => Some(datagram.copy()),
+        Err(_) => None,
+    }
 }
 
 /// A sink that keeps the items of a reply. It wants no more if memory runs out.

@@ -1,6 +1,6 @@
 //! Fetching the records of a trend log, and what is printed of them.
 
-ghost use Rattle.std.specs.Prelude.{◌≡◌, ◌≢◌, ◌≤◌, ℕ, List, length};
+ghost use Rattle.std.specs.Prelude.{◌≡◌, ◌≢◌, ◌≤◌, ℕ, List, length, None, IfOk};
 ghost use Rattle.std.specs.Io.KnownBytes.{Appends};
 ghost use Rattle.bac_link.specs.declared.item.Item.{Item};
 ghost use Rattle.bac_query.specs.Ends.{end_line};
@@ -19,7 +19,7 @@ use crate::fault::QueryFault;
 use crate::reading::print;
 use crate::record_lines::Lines;
 use bac_link::{LogLink, Transactions};
-use bac_walk::{Ended, Walk, Why, deliver};
+use bac_walk::{Ended, ReplyFlaw, Walk, Why, deliver};
 use std::alloc::Global;
 use std::io::Write;
 
@@ -29,6 +29,9 @@ pub struct Fetched {
     pub why: Why,
     /// The sequence number that comes next.
     pub next: u32,
+    /// What is wrong with a bad reply: [`fetch_log_ahead`](crate::fetch_log_ahead) tells it, and
+    /// [`fetch_log`] doesn't see replies.
+    pub flaw: Option<ReplyFlaw>,
 }
 
 /// Walks a log for at most so many steps, and prints a line for each record and each gap, those of
@@ -54,6 +57,7 @@ pub fn fetch_log<L: LogLink, W: Write>(
     // it from here on; and if these say what one log holds, of what it held.
     ensures came { FetchesOver L.asks (towards transactions.old.route) transactions.old.retries
         link.old walk steps result link.new (W.contents out.old) (W.contents out.new) }
+    ensures flaw { IfOk result (λ fetched. fetched.flaw ≡ None) }
 {
     let mut lines = Lines {
         text: Vec::new(alloc),
@@ -103,12 +107,17 @@ pub(crate) fn end<W: Write>(
     next: u32,
     out: &mut W,
 ) -> Result<Fetched, QueryFault>
-    ensures { PrintsEnd why next result (W.contents out.old) (W.contents out.new) }
+    ensures prints { PrintsEnd why next result (W.contents out.old) (W.contents out.new) }
+    ensures flaw { IfOk result (λ fetched. fetched.flaw ≡ None) }
 {
     lines.text.clear();
     if push_end(&mut lines.text, why, next).is_err() {
         return Err(QueryFault::Memory);
     }
     print(&lines.text, out)?;
-    Ok(Fetched { why, next })
+    Ok(Fetched {
+        why,
+        next,
+        flaw: None,
+    })
 }

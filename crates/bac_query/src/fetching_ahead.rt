@@ -1,10 +1,13 @@
 //! Fetching the records of a trend log, whose lines are printed while the next answer is waited for.
 
-ghost use Rattle.std.specs.Prelude.{◌≡◌, ◌≢◌, [], false, List, IfOk, OnOk};
+ghost use Rattle.std.specs.Prelude.{◌≡◌, ◌≢◌, [], false, List, Option, None, IfOk, OnOk};
 ghost use Rattle.bac_link.specs.Path.{towards};
 ghost use Rattle.bac_link.specs.declared.item.Item.{Item as ItemOf};
 ghost use Rattle.bac_walk.specs.declared.outcome.Ended.{Ended as EndedOf};
+ghost use Rattle.bac_walk.specs.declared.flaw.ReplyFlaw.{ReplyFlaw as FlawOf};
+ghost use Rattle.bac_walk.specs.declared.outcome.WalkFault.{WalkFault as FaultOf};
 ghost use Rattle.bac_query.specs.Ahead.{FetchesAhead, IsRunOver, PrintsLeft, PrintsOn, PrintsRun, pending, port_asks};
+ghost use Rattle.bac_query.specs.Flaws.{IsBadlyFetched, IsFlawed, TellsFlaw, last_flaw, with_flaw};
 
 use crate::ahead::{Ahead, Reply};
 use crate::fault::QueryFault;
@@ -12,14 +15,15 @@ use crate::fetching::Fetched;
 use crate::record_lines::Lines;
 use bac_link::Transactions;
 use bac_ports::{Port, UdpLink};
-use bac_walk::{Ended, Walk, Why, deliver};
+use bac_walk::{Ended, ReplyFlaw, Walk, WalkFault, Why, deliver};
+use bac_wire::Datagram;
 use std::alloc::Global;
 use std::io::Write;
 
 /// What [`fetch_log`](crate::fetch_log) does, over a port: the lines of a reply are made and
 /// written once the next question is sent, while its answer is on its way. If a write is refused,
 /// the records of the reply after it have come too; if there is no memory for the lines of a reply,
-/// the next number is the one before it.
+/// the next number is the one before it. Of a bad reply it tells what is wrong.
 pub fn fetch_log_ahead<P: Port, W: Write>(
     alloc: Global,
     link: &mut UdpLink<P>,
@@ -36,13 +40,55 @@ pub fn fetch_log_ahead<P: Port, W: Write>(
     // it from here on; and if these say what one log holds, of what it held.
     ensures came { FetchesAhead (port_asks P.sends P.receives) (towards transactions.old.route) transactions.old.retries
         link.old walk steps result link.new (W.contents out.old) (W.contents out.new) }
+    // If the walk ended with a bad reply, and only then, this is wrong with that reply.
+    ensures flaw { TellsFlaw (port_asks P.sends P.receives) (towards transactions.old.route) transactions.old.retries walk.log result link.new }
 {
     let mut left = Vec::new(alloc);
     let mut lines = Lines {
         text: Vec::new(alloc),
     };
     let mut ahead = Ahead::new(link, out, &mut left, &mut lines);
-    fetch(alloc, &mut ahead, transactions, walk, steps)
+    fetch_told(alloc, &mut ahead, transactions, walk, steps)
+}
+
+/// The run, and what is wrong with a bad reply.
+fn fetch_told<P: Port, W: Write>(
+    alloc: Global,
+    ahead: &mut Ahead<'_, P, W>,
+    transactions: &mut Transactions,
+    walk: Walk,
+    steps: u32,
+) -> Result<Fetched, QueryFault>
+    requires well { ahead.old.is_refused ≡ false }
+    requires none { ahead.old.left.now.items ≡ [] }
+    ensures printed { PrintsRun (port_asks P.sends P.receives) (towards transactions.old.route) transactions.old.retries
+        walk steps result ahead.old.link.now.failures ahead.new.link.now.failures ahead.new.link.now
+        (W.contents ahead.old.out.now) (W.contents ahead.new.out.now) }
+    ensures came { FetchesAhead (port_asks P.sends P.receives) (towards transactions.old.route) transactions.old.retries
+        ahead.old.link.now walk steps result ahead.new.link.now (W.contents ahead.old.out.now) (W.contents ahead.new.out.now) }
+    ensures flaw { TellsFlaw (port_asks P.sends P.receives) (towards transactions.old.route) transactions.old.retries walk.log result ahead.new.link.now }
+    ensures same_link { ahead.new.link.ghost_name ≡ ahead.old.link.ghost_name }
+    ensures same_out { ahead.new.out.ghost_name ≡ ahead.old.out.ghost_name }
+{
+    match fetch(alloc, ahead, transactions, walk, steps) {
+        Ok(fetched) => Ok(with_flaw(fetched, ahead.flaw)),
+        Err(fault) => Err(fault),
+    }
+}
+
+/// The same end, and if it was a bad reply, what is wrong with it.
+fn with_flaw(fetched: Fetched, flaw: Option<ReplyFlaw>) -> Fetched
+    ensures { result ≡ with_flaw fetched flaw }
+{
+    let flaw = match fetched.why {
+        Why::Fault(WalkFault::BadReply) => flaw,
+        _ => None,
+    };
+    Fetched {
+        why: fetched.why,
+        next: fetched.next,
+        flaw,
+    }
 }
 
 fn fetch<P: Port, W: Write>(
@@ -59,6 +105,8 @@ fn fetch<P: Port, W: Write>(
         (W.contents ahead.old.out.now) (W.contents ahead.new.out.now) }
     ensures came { FetchesAhead (port_asks P.sends P.receives) (towards transactions.old.route) transactions.old.retries
         ahead.old.link.now walk steps result ahead.new.link.now (W.contents ahead.old.out.now) (W.contents ahead.new.out.now) }
+    ensures flaw { IfOk result (λ fetched. fetched.why ≡ Why.Fault FaultOf.BadReply →
+        IsBadlyFetched (port_asks P.sends P.receives) (towards transactions.old.route) transactions.old.retries walk.log fetched.next ahead.new.flaw ahead.new.link.now) }
     ensures same_link { ahead.new.link.ghost_name ≡ ahead.old.link.ghost_name }
     ensures same_out { ahead.new.out.ghost_name ≡ ahead.old.out.ghost_name }
 {
@@ -100,6 +148,9 @@ fn turn<P: Port, W: Write>(
         ahead.old.link.now walk.old 1 items ended walk.new ahead.new.link.now }
     ensures prints { PrintsLeft ahead.old.left.now.items result (W.contents ahead.old.out.now) (W.contents ahead.new.out.now) }
     ensures well { OnOk result (ahead.new.is_refused ≡ false) }
+    ensures flaw { IfOk result (λ ended. ended ≡ Ended.Fault FaultOf.BadReply →
+        IsFlawed (port_asks P.sends P.receives) (towards transactions.old.route) transactions.old.retries walk.new ahead.new.flaw ahead.new.link.now) }
+    ensures log { walk.new.log ≡ walk.old.log }
     ensures retries { transactions.new.retries ≡ transactions.old.retries }
     ensures route { transactions.new.route ≡ transactions.old.route }
     ensures same_link { ahead.new.link.ghost_name ≡ ahead.old.link.ghost_name }
@@ -128,9 +179,27 @@ fn step<P: Port, W: Write>(
     ensures beside { PrintsOn (pending ahead.old.is_refused ahead.old.left.now.items (W.contents ahead.old.out.now))
         (pending ahead.new.is_refused ahead.new.left.now.items (W.contents ahead.new.out.now))
         × (ahead.new.link.ghost_name ≡ ahead.old.link.ghost_name) × (ahead.new.out.ghost_name ≡ ahead.old.out.ghost_name) }
+    ensures flaw { result ≡ Ended.Fault FaultOf.BadReply →
+        IsFlawed (port_asks P.sends P.receives) (towards transactions.old.route) transactions.old.retries walk.new ahead.new.flaw ahead.new.link.now }
+    ensures log { walk.new.log ≡ walk.old.log }
     ensures retries { transactions.new.retries ≡ transactions.old.retries }
     ensures route { transactions.new.route ≡ transactions.old.route }
 {
     reply.items.clear();
-    deliver(ahead, transactions, walk, 1, reply)
+    let ended = deliver(ahead, transactions, walk, 1, reply);
+    ahead.flaw = last_flaw(ended, walk, &ahead.last);
+    ended
+}
+
+/// What is wrong with the last reply, if a step ended with a bad one.
+fn last_flaw(ended: Ended, walk: &Walk, last: &Option<Datagram>) -> Option<ReplyFlaw>
+    ensures { result ≡ last_flaw ended walk.now last.now }
+{
+    let Ended::Fault(WalkFault::BadReply) = ended else {
+        return None;
+    };
+    match last {
+        Some(datagram) => walk.flaw(datagram.octets()),
+        None => None,
+    }
 }

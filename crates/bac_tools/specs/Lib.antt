@@ -2,6 +2,7 @@ pub mod Ending
 pub mod Faults
 pub mod Status
 pub mod Reasons
+pub mod Flaws
 pub mod Texts
 pub mod Sockets
 pub mod Given

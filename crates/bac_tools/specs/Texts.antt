@@ -9,11 +9,12 @@ use Rattle.bac_query.specs.Ends.{refusal_text}
 use Rattle.bac_script.specs.declared.replay.fault.Refused.{Refused as Refusal}
 use Rattle.bac_script.specs.declared.replay.fault.ReplayFault.{ReplayFault}
 use Rattle.bac_script.specs.declared.replay.fault.ReplayFault.TheVariants as script
+use Rattle.bac_tools.specs.Flaws.{reply_text}
 use Rattle.bac_tools.specs.Reasons.{list_text, second_line, unanswered_text}
 use Rattle.bac_tools.specs.declared.fault.Fault.{Fault}
 use Rattle.bac_tools.specs.declared.fault.Fault.TheVariants.{NotText, BadValue, LongNumber, NoDevice, Script}
 use Rattle.bac_tools.specs.declared.fault.Fault.TheVariants.{Socket, Refused}
-use Rattle.bac_tools.specs.declared.fault.Fault.TheVariants.{NoAnswer, List as ListOf, Exchange, Write, Memory}
+use Rattle.bac_tools.specs.declared.fault.Fault.TheVariants.{NoAnswer, List as ListOf, Exchange, Flawed, Write, Memory}
 use Rattle.bac_words.specs.Names.{name_of, is_option}
 use Rattle.bac_words.specs.declared.word.Word.{Word}
 use Rattle.bac_words.specs.declared.word.Word.TheVariants as word
@@ -117,6 +118,7 @@ fault_text (Refused address) = refused_text address
 fault_text (NoAnswer asked) = unanswered_text asked
 fault_text (ListOf fault) = list_text fault
 fault_text (Exchange address fault) = exchange_text address fault
+fault_text (Flawed flaw) = reply_text flaw
 fault_text Write = codes "write fault"
 fault_text Memory = codes "out of memory"
 

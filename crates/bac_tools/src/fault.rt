@@ -7,7 +7,7 @@ ghost use Rattle.bac_tools.specs.Status.{exit_status, exchange_status, list_stat
 use bac_link::ExchangeFault;
 use bac_query::QueryFault;
 use bac_script::{Refused, ReplayFault};
-use bac_walk::{WalkFault, Why};
+use bac_walk::{ReplyFlaw, WalkFault, Why};
 use bac_words::{ListFault, Word};
 
 /// Why a tool ends without what it was asked for.
@@ -37,6 +37,8 @@ pub enum Fault {
         address: [u8; 6],
         fault: ExchangeFault,
     },
+    /// This is wrong with the reply that ended a walk; that it was a bad one is on the output.
+    Flawed(ReplyFlaw),
     /// The output refused a write.
     Write,
     /// Out of memory.
@@ -76,15 +78,16 @@ fn list_status(fault: ListFault) -> u8
 
 impl Fault {
     /// The program's exit status.
-    pub fn status(self) -> u8
-        ensures { result ≡ exit_status self }
+    pub fn status(&self) -> u8
+        ensures { result ≡ exit_status self.now }
     {
         match self {
             Fault::NotText | Fault::BadValue(_) | Fault::LongNumber(_) | Fault::NoDevice => 1,
             Fault::Script(refused) => script_status(refused.fault),
             Fault::Socket | Fault::Refused(_) | Fault::NoAnswer(_) | Fault::Write => 2,
-            Fault::List(fault) => list_status(fault),
-            Fault::Exchange { fault, .. } => exchange_status(fault),
+            Fault::List(fault) => list_status(*fault),
+            Fault::Exchange { fault, .. } => exchange_status(*fault),
+            Fault::Flawed(_) => 4,
             Fault::Memory => 5,
         }
     }

@@ -12,6 +12,7 @@
 mod asking;
 mod fault;
 mod finding;
+mod flaw;
 mod playing;
 mod program;
 mod reason;
@@ -26,6 +27,7 @@ pub use bac_script::{
     run_replay_explained, unfit_line,
 };
 pub use bac_serve::{Clock, SystemClock, serve, serve_one};
+pub use bac_walk::ReplyFlaw;
 pub use bac_words::{
     Addresses, Asked, Given, Job, ListFault, Name, Stations, Word, WordsFault, read_words,
 };

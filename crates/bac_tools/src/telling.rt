@@ -6,6 +6,7 @@ ghost use Rattle.bac_tools.specs.Run.{IsTold};
 ghost use Rattle.bac_tools.specs.Texts.{build_text, exchange_text, fault_text, long_text, of_address, range_text, refusal_lines, script_text, serving_line, told_text, unbuilt_text, word_text, wrong_text};
 
 use crate::fault::Fault;
+use crate::flaw::push_reply_flaw;
 use crate::reason::{push_list, push_second_line, push_unanswered};
 use bac_device::BuildFault;
 use bac_link::ExchangeFault;
@@ -176,6 +177,7 @@ fn push_fault(text: &mut Vec<u8>, fault: Fault) -> Result<(), AllocError>
         Fault::NoAnswer(asked) => push_unanswered(text, asked),
         Fault::List(fault) => push_list(text, fault),
         Fault::Exchange { address, fault } => push_exchange(text, address, fault),
+        Fault::Flawed(flaw) => push_reply_flaw(text, flaw),
         Fault::Write => text.extend_from_slice(b"write fault"),
         Fault::Memory => text.extend_from_slice(b"out of memory"),
     }
@@ -215,10 +217,11 @@ pub(crate) fn say<E: Write>(text: &[u8], errors: &mut E)
 pub fn tell<E: Write>(alloc: Global, fault: Fault, errors: &mut E) -> u8
     ensures { IsTold fault (E.contents errors.old) (E.contents errors.new) result }
 {
+    let status = fault.status();
     match text_of(alloc, fault) {
         Ok(text) => {
             say(&text, errors);
-            fault.status()
+            status
         }
         Err(_) => {
             say(b"out of memory\n", errors);

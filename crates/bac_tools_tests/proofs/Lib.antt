@@ -1,4 +1,5 @@
 mod AtRest
+mod Explained
 mod Logged
 mod Silence
 mod Unfound

@@ -1,6 +1,6 @@
 -- What `run` says of `bac log`: with status 0 no fault was told, so what came over the socket is printed; if the log
 -- doesn't change, all of it; and whatever is refused, a front part of it.
-use Rattle.std.proofs.Common.{◌≡◌, ◌⊎◌, ◌∙◌, inl, inr, ℕ, ◌+◌, ◌-◌, ◌<◌, ◌≤◌, max, List, [], ◌∷◌, ◌++◌, Option, Some, Result, Ok, Err, false, refl, sym, ap, subst, append-nil, Bool, length, arith}
+use Rattle.std.proofs.Common.{◌≡◌, ◌⊎◌, ◌∙◌, inl, inr, ℕ, ◌+◌, ◌-◌, ◌<◌, ◌≤◌, max, List, [], ◌∷◌, ◌++◌, Option, Some, None, Result, Ok, Err, false, refl, sym, ap, subst, append-nil, Bool, length, arith}
 use Rattle.std.specs.Io.KnownBytes.{Appends, Keeps}
 use Rattle.bac_link.specs.Delivery.{History, Moment, DeliversTo, Brings, items_of, now}
 use Rattle.bac_link.specs.Path.{Path, towards}
@@ -20,20 +20,21 @@ use Rattle.bac_query.specs.Ends.{end_line}
 use Rattle.bac_query.specs.Items.{items_text}
 use Rattle.bac_script.specs.declared.replay.fault.ReplayFault.{ReplayFault}
 use Rattle.bac_script.specs.declared.replay.fault.ReplayFault.TheVariants as replay
-use Rattle.bac_tools.specs.Asking.{Fetches, of_fetching}
+use Rattle.bac_tools.specs.Asking.{Fetches, of_end, of_fetching}
 use Rattle.bac_tools.specs.Run.{IsTold, Runs, walk_from}
 use Rattle.bac_tools.specs.Sockets.{Outside, SocketRules, link_over, own_address, socket_asks}
 use Rattle.bac_tools.specs.Status.{exchange_status, exit_status, list_status, script_status, walk_status}
 use Rattle.bac_tools.specs.Streams.{Streams}
 use Rattle.bac_tools.specs.declared.fault.Fault.{Fault}
 use Rattle.bac_tools.specs.declared.fault.Fault.TheVariants.{NotText, BadValue, LongNumber, NoDevice, Script, Socket, Refused}
-use Rattle.bac_tools.specs.declared.fault.Fault.TheVariants.{NoAnswer, List as ListOf, Exchange, Write, Memory}
+use Rattle.bac_tools.specs.declared.fault.Fault.TheVariants.{NoAnswer, List as ListOf, Exchange, Flawed, Write, Memory}
 use Rattle.bac_tools_tests.proofs.AtRest.{few_batches, few_lines, leads_bring}
 use Rattle.bac_tools_tests.specs.Logging.{IsCut, IsLogged, IsLoggedAtRest, PrintsAll}
 use Rattle.bac_walk.specs.Came.{AreOf, Brought, Came, EndsBy, answers_of}
 use Rattle.bac_walk.specs.Collects.{IsCaughtUp, batches}
 use Rattle.bac_walk.specs.Delivers.{NoneFrom}
 use Rattle.bac_walk.specs.Place.{WalkPlace}
+use Rattle.bac_walk.specs.declared.flaw.ReplyFlaw.{ReplyFlaw}
 use Rattle.bac_walk.specs.declared.outcome.Ended.{Ended}
 use Rattle.bac_walk.specs.declared.outcome.Ended.TheVariants as ended
 use Rattle.bac_walk.specs.declared.outcome.WalkFault.TheVariants as walk
@@ -79,6 +80,7 @@ no_fault (Refused address) e = omega (arith, e)
 no_fault (NoAnswer asked) e = omega (arith, e)
 no_fault (ListOf fault) e = no_list fault e
 no_fault (Exchange address fault) e = no_exchange fault e
+no_fault (Flawed flaw) e = omega (arith, e)
 no_fault Write e = omega (arith, e)
 no_fault Memory e = omega (arith, e)
 
@@ -93,6 +95,11 @@ Over asks asked walk steps link fetching left old new =
     FetchesAhead asks (towards asked.route) asked.retries link walk steps fetching left old new
 
 -- ---- with status 0
+
+-- no flaw is told then
+pub end_of : (done status : ℕ) (flaw : Option ReplyFlaw) → Ok done ≡ of_end status flaw → done ≡ status
+end_of done status None is = cc
+end_of done status (Some flaw) is = absurd cc
 
 fetched : {S P : Type 0} (rules : SocketRules S P) (asked : Asked) (walk : WalkPlace) (steps : ℕ) (port : P) (old new : Held)
     (done : ℕ) (fetching : Fetching) (left : UdpLink P) →
@@ -165,7 +172,7 @@ rested : {S P : Type 0} (rules : SocketRules S P) (asked : Asked) (walk : WalkPl
 rested rules asked walk steps port old new done (Err fault) left zero fresh over is = absurd (cc)
 rested rules asked walk steps port old new done (Ok said) left zero fresh over is =
     let (came, items, n, ended, after, mid, brought, tells, headline) = over in
-    let status : walk_status said.why ≡ 0 = (let e : done ≡ walk_status said.why = cc in sym e ∙ zero) in (
+    let status : walk_status said.why ≡ 0 = sym (end_of done (walk_status said.why) said.flaw is) ∙ zero in (
       came,
       items,
       n,

@@ -37,7 +37,7 @@ use Rattle.bac_tools.specs.Status.{walk_status}
 use Rattle.bac_tools.specs.Streams.{Streams}
 use Rattle.bac_tools.specs.declared.fault.Fault.{Fault}
 use Rattle.bac_tools.specs.declared.fault.Fault.TheVariants as fault
-use Rattle.bac_tools_tests.proofs.Logged.{cut_over, not_told}
+use Rattle.bac_tools_tests.proofs.Logged.{cut_over, end_of, not_told}
 use Rattle.bac_tools_tests.specs.Silence.{IsSilent, LostWasAsked, NeverFails, ServersStay}
 use Rattle.bac_walk.specs.Came.{AreOf, Brought, Came, Comes, EndsBy, answers_of}
 use Rattle.bac_walk.specs.Place.{WalkPlace}
@@ -201,7 +201,7 @@ no_status : {S P : Type 0} (rules : SocketRules S P) → IsSilent rules.receives
 no_status rules silent asked w steps link (Err why) left old new done over is some none = absurd (cc)
 no_status rules silent asked w steps link (Ok fetched) left old new done over is some none =
     let (came, items, n, ended, after, mid, brought, tells, headline) = over in
-    let e : done ≡ walk_status fetched.why = cc in
+    let e = end_of done (walk_status fetched.why) fetched.flaw is in
     no_end rules silent (towards asked.route) asked.retries n steps link w came items ended after mid fetched.why fetched.next brought tells.0 some (sym e ∙ none)
 
 pub no_log : {S P C : Type 0} (rules : SocketRules S P) (tells : C → Option CivilTime → C → Type 0) (asked : Asked)
@@ -301,6 +301,7 @@ configured_not input left (fault.Refused address) is e = absurd (cc)
 configured_not input left (fault.NoAnswer asked) is e = absurd (cc)
 configured_not input left (fault.List said) is e = absurd (cc)
 configured_not input left (fault.Exchange address said) is e = absurd (cc)
+configured_not input left (fault.Flawed flaw) is e = absurd (cc)
 configured_not input left fault.Write is e = absurd (cc)
 configured_not input left fault.Memory is e = absurd (cc)
 

@@ -11,10 +11,14 @@ use Rattle.bac_query.specs.Fetching.{IsHeadline}
 use Rattle.bac_query.specs.Ends.{end_line}
 use Rattle.bac_query.specs.Items.{items_text}
 use Rattle.bac_tools.specs.Sockets.{SocketRules, link_over, socket_asks}
+use Rattle.bac_tools.specs.Texts.{told_text}
+use Rattle.bac_tools.specs.declared.fault.Fault.TheVariants.{Flawed}
 use Rattle.bac_walk.specs.Came.{AreSaidAt, Brought, Came}
 use Rattle.bac_walk.specs.Delivers.{NoneFrom}
+use Rattle.bac_walk.specs.Flaws.{ToldFlaw}
 use Rattle.bac_walk.specs.Near.{IsInWindow}
 use Rattle.bac_walk.specs.Place.{WalkPlace}
+use Rattle.bac_walk.specs.declared.flaw.ReplyFlaw.{ReplyFlaw}
 use Rattle.bac_walk.specs.declared.outcome.Ended.{Ended}
 use Rattle.bac_walk.specs.declared.outcome.Why.{Why}
 use Rattle.bac_walk.specs.declared.outcome.Why.TheVariants.{CaughtUp}
@@ -41,15 +45,15 @@ IsLogged rules asked walk port old new =
 
 -- ---- at rest
 
--- A log's lines from ordinal s on are printed, up to the last that it holds: each once, with its number, after one gap if
--- some are gone; and the line that says that there are no more.
+-- A log's lines from ordinal s on are printed, up to the last that it holds: each once, with its number, after one gap
+-- if some are gone; and the line that says that there are no more.
 abbrev pub PrintsAll : History → Moment → ℕ → Held → Held → Type 0
 PrintsAll H m s old new =
     (items : List Item) × (t : ℕ) × Brings H m s items t × NoneFrom t m
     × Appends old new (items_text items ++ end_line CaughtUp (sequence_number t))
 
--- Replies came over this socket. If they say what a log holds that doesn't change, and there were more steps than it has
--- lines from the walk's number on, all of them are printed.
+-- Replies came over this socket. If they say what a log holds that doesn't change, and there were more steps than it
+-- has lines from the walk's number on, all of them are printed.
 abbrev pub IsLoggedAtRest : {S P : Type 0} → SocketRules S P → Asked → WalkPlace → ℕ → P → Held → Held → Type 0
 IsLoggedAtRest rules asked walk steps port old new =
     (came : List Came) × (items : List Item) × (n : ℕ) × (ended : Ended) × (after : WalkPlace)
@@ -58,10 +62,20 @@ IsLoggedAtRest rules asked walk steps port old new =
     IsInWindow low m → low ≤ s → s < low + 2147483648 → ((m.newest + 1) - max s m.oldest) + 1 < steps →
     PrintsAll H m s old new)
 
+-- ---- when a reply is bad
+
+-- The question of a walk of this log was asked last, and brought a reply with which this is wrong. It is told, or a
+-- front part of it is written.
+abbrev pub IsExplained : {S P : Type 0} → SocketRules S P → Asked → WalkPlace → Held → Held → Type 0
+IsExplained {P = P} rules asked walk old new =
+    (left : UdpLink P) × (here : WalkPlace) × (flaw : ReplyFlaw) × (here.log ≡ walk.log)
+    × ToldFlaw (socket_asks rules) (towards asked.route) asked.retries here flaw left
+    × AppendsPart old new (told_text (Flawed flaw))
+
 -- ---- whatever the output refuses
 
--- What the output holds now ends in a front part of what the replies brought that came over this socket: nothing of it is
--- left out, and nothing else stands behind it.
+-- What the output holds now ends in a front part of what the replies brought that came over this socket: nothing of it
+-- is left out, and nothing else stands behind it.
 abbrev pub IsCut : {S P : Type 0} → SocketRules S P → Asked → WalkPlace → P → Held → Held → Type 0
 IsCut rules asked walk port old new =
     (came : List Came) × (items : List Item) × (n : ℕ) × (ended : Ended) × (after : WalkPlace)

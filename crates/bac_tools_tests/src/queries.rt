@@ -189,7 +189,8 @@ fn records_are_printed_a_reply_at_a_time(rt: HostRuntime) -> Result<(), Fail> {
         fetched,
         Ok(Fetched {
             why: Why::CaughtUp,
-            next: 7
+            next: 7,
+            flaw: None
         })
     );
     let want = [

@@ -5,7 +5,7 @@ ghost use Rattle.std.specs.Io.KnownBytes.{Keeps};
 ghost use Rattle.std.specs.String.{string_bytes};
 ghost use Rattle.bac_tools.specs.Run.{AskFor, walk_from};
 ghost use Rattle.bac_tools.specs.Sockets.{own_address, socket_rules};
-ghost use Rattle.bac_tools_tests.specs.Logging.{IsCut, IsLogged, IsLoggedAtRest};
+ghost use Rattle.bac_tools_tests.specs.Logging.{IsCut, IsExplained, IsLogged, IsLoggedAtRest};
 ghost use Rattle.bac_words.specs.declared.job.Asked.{Asked as AskedOf};
 ghost use Rattle.bac_words.specs.declared.job.Job.TheVariants.{Log};
 
@@ -50,6 +50,26 @@ pub fn logged_at_rest<S: Sockets, I: Read, O: Write, E: Write, C: Clock>(
         (port : S.Socket) × S.opens sockets.old (own_address asked.local) asked.timeout (Ok port) sockets.new
         × IsLoggedAtRest (socket_rules S.opens S.Socket.sends S.Socket.receives S.Socket.receives_within) asked
         (walk_from instance (Some number)) steps port (O.contents output.old) (O.contents output.new) }
+{
+    run(sockets, alloc, words, input, output, errors, clock)
+}
+
+/// If the words ask for a log and the status is 4, one socket was opened, a reply to the walk's last
+/// question came over it, and what is told is wrong with that reply.
+pub fn bad_reply_explained<S: Sockets, I: Read, O: Write, E: Write, C: Clock>(
+    sockets: &mut S,
+    alloc: Global,
+    words: &[String],
+    input: &mut I,
+    output: &mut O,
+    errors: &mut E,
+    clock: &mut C,
+) -> u8
+    ensures { (asked : AskedOf) (instance steps : ℕ) (from : Option ℕ) →
+        AskFor (map string_bytes words.now) (Log asked instance from steps) → result ≡ 4 →
+        (port : S.Socket) × S.opens sockets.old (own_address asked.local) asked.timeout (Ok port) sockets.new
+        × IsExplained (socket_rules S.opens S.Socket.sends S.Socket.receives S.Socket.receives_within) asked (walk_from instance from)
+        (E.contents errors.old) (E.contents errors.new) }
 {
     run(sockets, alloc, words, input, output, errors, clock)
 }

@@ -3,7 +3,7 @@
 use bac_device::{BuildFault, LineId, Misfit};
 use bac_link::ExchangeFault;
 use bac_script::{Flaw, LineKind, Reason, Refused, ReplayFault, UnfitLine, Wanted};
-use bac_tools::{Fault, tell};
+use bac_tools::{Fault, ReplyFlaw, tell};
 use bac_words::ListFault;
 use std::process::Abort;
 use std::test::Fail;
@@ -167,5 +167,37 @@ fn an_answer_that_did_not_come_is_told_with_its_address(rt: HostRuntime) -> Resu
     compare(
         &rt,
         &[(lost, 2, "lost\nno answer came from 10.0.0.1:47808\n")],
+    )
+}
+
+#[test]
+fn a_bad_reply_is_told_with_what_is_wrong(rt: HostRuntime) -> Result<(), Fail> {
+    compare(
+        &rt,
+        &[
+            (
+                Fault::Flawed(ReplyFlaw::Count {
+                    count: 9,
+                    records: 2,
+                }),
+                4,
+                "the reply has records, 2 in all, and item count 9\n",
+            ),
+            (
+                Fault::Flawed(ReplyFlaw::TooMany(101)),
+                4,
+                "the reply has records, 101 in all; 100 were asked for\n",
+            ),
+            (
+                Fault::Flawed(ReplyFlaw::Unasked {
+                    first: 500,
+                    records: 3,
+                    next: 7,
+                }),
+                4,
+                "the reply has records, 3 in all, from number 500 on; asked for were 100 from number \
+                 7 on\n",
+            ),
+        ],
     )
 }

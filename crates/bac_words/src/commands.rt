@@ -214,7 +214,8 @@ prints each record that trend log 1 holds, and at the end which number is next:
 
 bac log 192.168.1.20 1 43 then fetches what was logged since. Begin again at
 the number that was next after 'lost' or 'step limit', too: no record is lost or
-comes twice. A line 'gap 43 50' tells the numbers that the log no longer held.";
+comes twice. A line 'gap 43 50' tells the numbers that the log no longer held.
+After 'bad reply' a line on standard error says what is wrong with the reply.";
     let command = tool(alloc, "log", about, example);
     let help = "The device: A.B.C.D or A.B.C.D:PORT (port 47808)";
     let command = with(command, needed(alloc, Word::Address, help))?;

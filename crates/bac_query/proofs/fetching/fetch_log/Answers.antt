@@ -33,15 +33,15 @@ returns-in-Stopped-clause-printed g c =
     let was : ℕ → List Moment → History → Type 0 = λ r M H. g.L.LogLink.is_honest c.args.link.now c.args.walk.log r M H in
     let is : ℕ → List Moment → History → Type 0 = λ r M H. g.L.LogLink.is_honest c.loop-done.link c.args.walk.log r M H in (
       v.0,
-      ended_by v.0 why.Memory c.next_number-before.result c.end.result _ _ _ v.4 c.end.ensures,
+      ended_by v.0 why.Memory c.next_number-before.result c.end.result _ _ _ v.4 c.end.ensures.prints,
       delivered was is _ _ _ c.args.walk c.loop-done.walk c.loop-done.done c.args.steps StepLimit v.0 c.end.result (omega arith) v.5
-          (next_is why.Memory c.next_number-before.result c.loop-done.walk.next c.end.result _ _ c.next_number-before.ensures.next c.end.ensures),
+          (next_is why.Memory c.next_number-before.result c.loop-done.walk.next c.end.result _ _ c.next_number-before.ensures.next c.end.ensures.prints),
       (
         c.loop-done.done,
         StepLimit,
         c.loop-done.walk,
         ends_as v.0 c.args.steps c.loop-done.done StepLimit c.loop-done.walk why.Memory c.next_number-before.result c.end.result _ _ _ (omega arith) (omega arith, refl)
-            c.next_number-before.ensures.next v.4 c.end.ensures,
+            c.next_number-before.ensures.next v.4 c.end.ensures.prints,
         fetched was is c.args.transactions.now.retries (g.L.LogLink.failures c.args.link.now) (g.L.LogLink.failures c.loop-done.link) (g.L.LogLink.failures c.deliver_lines.new.link)
             c.args.walk c.loop-done.walk c.loop-done.done StepLimit v.0 c.deliver_lines.ensures.never_falls v.5 v.7 (λ limit. v.8),
         tt,
@@ -98,15 +98,15 @@ returns-in-Some-clause-printed g c =
     let whole = run_whole (was c.args.walk.log) (is c.args.walk.log) c.args.transactions.now.retries (g.L.LogLink.failures c.args.link.now) (g.L.LogLink.failures c.deliver_lines.new.link)
     c.args.walk c.deliver_lines.new.walk (c.loop-done.done + 1) c.args.steps c.deliver_lines.result c.in-Some.why (v.0 ++ step.0) some (omega arith) run in (
       v.0 ++ step.0,
-      ended_by (v.0 ++ step.0) c.in-Some.why c.next_number.result c.end-in-Some.result _ _ _ written c.end-in-Some.ensures,
+      ended_by (v.0 ++ step.0) c.in-Some.why c.next_number.result c.end-in-Some.result _ _ _ written c.end-in-Some.ensures.prints,
       delivered (was c.args.walk.log) (is c.args.walk.log) _ _ _ c.args.walk c.deliver_lines.new.walk (c.loop-done.done + 1) c.args.steps c.deliver_lines.result (v.0 ++ step.0) c.end-in-Some.result (omega arith) run
-          (next_is c.in-Some.why c.next_number.result c.deliver_lines.new.walk.next c.end-in-Some.result _ _ c.next_number.ensures.next c.end-in-Some.ensures),
+          (next_is c.in-Some.why c.next_number.result c.deliver_lines.new.walk.next c.end-in-Some.result _ _ c.next_number.ensures.next c.end-in-Some.ensures.prints),
       (
         c.args.steps,
         c.deliver_lines.result,
         c.deliver_lines.new.walk,
         ends_as (v.0 ++ step.0) c.args.steps c.args.steps c.deliver_lines.result c.deliver_lines.new.walk c.in-Some.why c.next_number.result c.end-in-Some.result _ _ _ (omega arith)
-            (ends_run c.deliver_lines.result c.in-Some.why c.args.steps (not_stopped c.deliver_lines.result c.in_default.not-Stopped) some) c.next_number.ensures.next written c.end-in-Some.ensures,
+            (ends_run c.deliver_lines.result c.in-Some.why c.args.steps (not_stopped c.deliver_lines.result c.in_default.not-Stopped) some) c.next_number.ensures.next written c.end-in-Some.ensures.prints,
         fetched (was c.args.walk.log) (is c.args.walk.log) c.args.transactions.now.retries (g.L.LogLink.failures c.args.link.now) (g.L.LogLink.failures c.deliver_lines.new.link)
             (g.L.LogLink.failures c.deliver_lines.new.link) c.args.walk c.deliver_lines.new.walk c.args.steps c.deliver_lines.result (v.0 ++ step.0) (omega arith) whole
             (omega (arith, length-append v.0 step.0, v.7, step.3)) (λ limit. absurd (not_limit c.deliver_lines.result c.in-Some.why some limit)),
@@ -162,15 +162,15 @@ returns-clause-printed g c =
     let was : ℕ → List Moment → History → Type 0 = λ r M H. g.L.LogLink.is_honest c.args.link.now c.args.walk.log r M H in
     let is : ℕ → List Moment → History → Type 0 = λ r M H. g.L.LogLink.is_honest c.loop-done.link c.args.walk.log r M H in (
       v.0,
-      ended_by v.0 why.StepLimit c.next_number-2.result c.end-2.result _ _ _ v.4 c.end-2.ensures,
+      ended_by v.0 why.StepLimit c.next_number-2.result c.end-2.result _ _ _ v.4 c.end-2.ensures.prints,
       delivered was is _ _ _ c.args.walk c.loop-done.walk c.loop-done.done c.args.steps StepLimit v.0 c.end-2.result (omega arith) v.5
-          (next_is why.StepLimit c.next_number-2.result c.loop-done.walk.next c.end-2.result _ _ c.next_number-2.ensures.next c.end-2.ensures),
+          (next_is why.StepLimit c.next_number-2.result c.loop-done.walk.next c.end-2.result _ _ c.next_number-2.ensures.next c.end-2.ensures.prints),
       (
         c.loop-done.done,
         StepLimit,
         c.loop-done.walk,
         ends_as v.0 c.args.steps c.loop-done.done StepLimit c.loop-done.walk why.StepLimit c.next_number-2.result c.end-2.result _ _ _ (omega arith) (omega arith, refl)
-            c.next_number-2.ensures.next v.4 c.end-2.ensures,
+            c.next_number-2.ensures.next v.4 c.end-2.ensures.prints,
         fetched was is c.args.transactions.now.retries (g.L.LogLink.failures c.args.link.now) (g.L.LogLink.failures c.loop-done.link) (g.L.LogLink.failures c.loop-done.link)
             c.args.walk c.loop-done.walk c.loop-done.done StepLimit v.0 (omega arith) v.5 v.7 (λ limit. v.8),
         tt,
@@ -191,7 +191,7 @@ returns-in-Stopped-clause-came g c =
     c.args.steps c.loop-done.done w.0 StepLimit c.end.result (g.W.Write.contents c.args.out.now) (g.W.Write.contents c.end.new.out) w.2
     (tells_end (λ cause. IsLeft g.L.LogLink.asks (towards c.args.transactions.now.route) c.args.transactions.now.retries c.loop-done.link c.loop-done.walk c.deliver_lines.new.link cause)
     w.0 c.args.steps c.loop-done.done StepLimit c.loop-done.walk why.Memory c.next_number-before.result c.end.result _ _ _ (omega arith, refl) c.next_number-before.ensures.next
-    (one.0, bring.0, c.deliver_lines.new.walk, subst B c.in-Stopped.is one.1) w.1 c.end.ensures)
+    (one.0, bring.0, c.deliver_lines.new.walk, subst B c.in-Stopped.is one.1) w.1 c.end.ensures.prints)
 
 pub returns-in_err-print-clause-came : goal.returns-in_err-print-clause-came
 returns-in_err-print-clause-came g c =
@@ -230,7 +230,7 @@ returns-in-Some-clause-came g c =
     (w.0 ++ bring.0) c.args.steps c.args.steps c.deliver_lines.result c.deliver_lines.new.walk c.in-Some.why c.next_number.result c.end-in-Some.result _ _ _
     (ends_run c.deliver_lines.result c.in-Some.why c.args.steps on some) c.next_number.ensures.next
     (left_whole g.L.LogLink.asks (towards c.args.transactions.now.route) c.args.transactions.now.retries c.deliver_lines.new.link c.deliver_lines.new.walk c.deliver_lines.result c.in-Some.why on some)
-    (more_lines w.0 bring.0 c.deref.result.now _ _ _ (c.deref.ensures.value ∙ bring.1 c.in_default.not-Stopped) w.1 c.in_ok-print.ensures) c.end-in-Some.ensures)
+    (more_lines w.0 bring.0 c.deref.result.now _ _ _ (c.deref.ensures.value ∙ bring.1 c.in_default.not-Stopped) w.1 c.in_ok-print.ensures) c.end-in-Some.ensures.prints)
 
 pub returns-clause-came : goal.returns-clause-came
 returns-clause-came g c =
@@ -238,4 +238,4 @@ returns-clause-came g c =
     fetches_over g.L.LogLink.asks (towards c.args.transactions.now.route) c.args.transactions.now.retries c.args.link.now c.loop-done.link c.loop-done.link c.args.walk c.loop-done.walk
     c.args.steps c.loop-done.done w.0 StepLimit c.end-2.result (g.W.Write.contents c.args.out.now) (g.W.Write.contents c.end-2.new.out) w.2
     (tells_end (λ cause. IsLeft g.L.LogLink.asks (towards c.args.transactions.now.route) c.args.transactions.now.retries c.loop-done.link c.loop-done.walk c.loop-done.link cause)
-    w.0 c.args.steps c.loop-done.done StepLimit c.loop-done.walk why.StepLimit c.next_number-2.result c.end-2.result _ _ _ (omega arith, refl) c.next_number-2.ensures.next refl w.1 c.end-2.ensures)
+    w.0 c.args.steps c.loop-done.done StepLimit c.loop-done.walk why.StepLimit c.next_number-2.result c.end-2.result _ _ _ (omega arith, refl) c.next_number-2.ensures.next refl w.1 c.end-2.ensures.prints)

@@ -1,4 +1,4 @@
-use Rattle.std.proofs.Common.{◌≡◌, ◌≢◌, ◌+◌, ◌++◌, List, [], Some, refl, sym, ap, subst, ◌∙◌, arith}
+use Rattle.std.proofs.Common.{ℕ, ◌≡◌, ◌≢◌, ◌+◌, ◌++◌, List, [], Some, refl, sym, ap, subst, ◌∙◌, arith}
 use Rattle.std.proofs.KnownBytes.{Appends-kept, Appends-nil}
 use Rattle.bac_link.specs.Path.{towards}
 use Rattle.bac_link.specs.declared.item.Item.{Item}
@@ -11,7 +11,10 @@ use Rattle.bac_walk.specs.declared.outcome.Why.TheVariants as why
 use Rattle.bac_walk.proofs.Runs.{ends_run, goes_on, not_limit}
 use Rattle.bac_walk.proofs.Told.{Asking}
 use Rattle.bac_query.specs.Ahead.{IsRunOver, PrintsLast, port_asks}
+use Rattle.bac_walk.specs.declared.outcome.WalkFault.TheVariants.{BadReply}
+use Rattle.bac_query.specs.Flaws.{IsBadlyFetched}
 use Rattle.bac_query.proofs.Delivered.{not_stopped}
+use Rattle.bac_query.proofs.Flaws.{badly, last_is, no_flaw, no_last_flaw, why_bad}
 use Rattle.bac_query.proofs.RunsAhead.{Learns, fails, finishes, limit_on, more_printed, none_over, over_early, over_joins, over_same, whole_ahead, without_lines}
 use Rattle.bac_query.proofs.fetching_ahead.fetch.Goals as goal
 
@@ -31,6 +34,7 @@ loop-done-init g c =
       same_out = refl;
       retries = refl;
       route = refl;
+      log = refl;
       so_far = ([], 0, 0, link, c.args.walk, none, subst P (sym c.requires.none) none, omega arith, omega arith, c.next_number-told.ensures.next, Appends-nil old);
     }
 
@@ -106,7 +110,7 @@ returns-in-Err g c =
     let whole = over_joins asks path retries link mid half c.args.walk w c.loop-done.walk n k items left StepLimit first last in
     let all = fails asks path retries link mid half new c.args.walk w c.loop-done.walk c.turn.new.walk c.args.steps n k items left brought ended c.loop-done.told c.in-Err.fault failures new.failures
     old now out first last step (omega (arith, sum, c.loop-done-test.true)) one told printed (rw c.in-Err.is at c.turn.ensures.prints) in
-    record { printed = all.1; came = all.0; same_link = c.turn.ensures.same_link ∙ c.loop-done.invariant.same_link; same_out = c.turn.ensures.same_out ∙ c.loop-done.invariant.same_out }
+    record { printed = all.1; came = all.0; flaw = tt; same_link = c.turn.ensures.same_link ∙ c.loop-done.invariant.same_link; same_out = c.turn.ensures.same_out ∙ c.loop-done.invariant.same_out }
 
 pub returns-in-Stopped-clause-printed : goal.returns-in-Stopped-clause-printed
 returns-in-Stopped-clause-printed g c =
@@ -194,7 +198,14 @@ returns-in-Some g c =
     (whole_ahead asks path retries new c.turn.new.walk ended c.in-Some.why (not_stopped ended on) some) (omega (arith, sum, c.loop-done-test.true)) (omega arith) c.next_number.ensures.next
     c.next_number-before.ensures.next lines (subst Q (ok.1 on) c.finish.ensures.prints) in
     let all = subst P (sym c.finish.ensures.link) both in
-    record { printed = all.1; came = all.0; same_link = c.finish.ensures.same_link ∙ c.turn.ensures.same_link ∙ c.loop-done.invariant.same_link; same_out = c.finish.ensures.same_out ∙ c.turn.ensures.same_out ∙ c.loop-done.invariant.same_out }
+    let flawed = rw c.in-Ok.is at c.turn.ensures.flaw in
+    let N : ℕ → Type 0 = λ next. IsBadlyFetched asks path retries c.args.walk.log next c.finish.new.self.flaw c.finish.new.self.link.now in
+    let badly_told = λ (bad : c.in-Some.why ≡ why.Fault BadReply).
+    badly asks path (towards c.loop-done.transactions.route) retries c.loop-done.transactions.retries c.turn.new.walk c.args.walk.log c.next_number.result c.finish.new.self.flaw
+    c.turn.new.ahead.flaw c.finish.new.self.link.now new (ap towards c.loop-done.invariant.route) c.loop-done.invariant.retries (c.turn.ensures.log ∙ c.loop-done.invariant.log)
+    c.next_number.ensures.next c.finish.ensures.flaw c.finish.ensures.link (flawed (ok.0 ∙ why_bad ended (some ∙ ap Some bad))) in
+    let told_flaw = last_is c.turn.new.ahead.left.now.items c.in-Some.why c.next_number.result c.next_number-before.result c.finish.result _ _ N badly_told c.finish.ensures.prints in
+    record { printed = all.1; came = all.0; flaw = told_flaw; same_link = c.finish.ensures.same_link ∙ c.turn.ensures.same_link ∙ c.loop-done.invariant.same_link; same_out = c.finish.ensures.same_out ∙ c.turn.ensures.same_out ∙ c.loop-done.invariant.same_out }
 
 pub loop-done-preserved : goal.loop-done-preserved
 loop-done-preserved g c =
@@ -226,6 +237,7 @@ loop-done-preserved g c =
       same_out = c.turn.ensures.same_out ∙ c.loop-done.invariant.same_out;
       retries = c.turn.ensures.retries ∙ c.loop-done.invariant.retries;
       route = c.turn.ensures.route ∙ c.loop-done.invariant.route;
+      log = c.turn.ensures.log ∙ c.loop-done.invariant.log;
       so_far = (
         items ++ left,
         n + k,
@@ -280,3 +292,12 @@ returns-clause-came g c =
     c.finish-2.result failures half.failures old now end first last limit_on whole (omega (arith, sum)) (omega (arith, sum), refl) refl (omega (arith, sum)) one c.next_number-2.ensures.next told printed c.finish-2.ensures.prints in
     let all = subst P (sym c.finish-2.ensures.link) both in
     all.0
+
+pub returns-in-Err-Memory-clause-flaw : goal.returns-in-Err-Memory-clause-flaw
+returns-in-Err-Memory-clause-flaw g c = no_flaw why.Memory c.loop-done.told c.end.result _ _ _ (λ e. cc) c.end.ensures.prints
+
+pub returns-in-Stopped-clause-flaw : goal.returns-in-Stopped-clause-flaw
+returns-in-Stopped-clause-flaw g c = no_flaw why.Memory c.next_number-before.result c.end-in-Stopped.result _ _ _ (λ e. cc) c.end-in-Stopped.ensures.prints
+
+pub returns-clause-flaw : goal.returns-clause-flaw
+returns-clause-flaw g c = no_last_flaw c.loop-done.ahead.left.now.items why.StepLimit c.next_number-2.result c.loop-done.told c.finish-2.result _ _ _ (λ e. cc) c.finish-2.ensures.prints

@@ -16,6 +16,7 @@ invariant-loop-done g l = record {
   same_out : l.ahead.out.ghost_name ≡ l.fn.ahead.out.ghost_name;
   retries : l.transactions.retries ≡ l.fn.transactions.retries;
   route : l.transactions.route ≡ l.fn.transactions.route;
+  log : l.walk.log ≡ l.fn.walk.log;
   so_far : (items : List Item) × (n : ℕ) × (k : ℕ) × (mid : _) × (w : WalkPlace)
       × IsRunOver (port_asks g.P.Port.sends g.P.Port.receives) (towards l.fn.transactions.route) l.fn.transactions.retries l.fn.ahead.link.now l.fn.walk n items StepLimit w mid
       × IsRunOver (port_asks g.P.Port.sends g.P.Port.receives) (towards l.fn.transactions.route) l.fn.transactions.retries mid w k l.ahead.left.now.items StepLimit l.walk l.ahead.link.now

@@ -25,3 +25,6 @@ returns-in-Err-clause-prints g c =
     let all = prints_all c.args.ahead.now.left.now.items c.step-ended.new.ahead.left.now.items (g.W.Write.contents c.args.ahead.now.out.now) (g.W.Write.contents c.step-ended.new.ahead.out.now)
     (g.W.Write.contents c.print_left.new.self.out.now) c.step-ended.new.ahead.is_refused c.print_left.result first c.print_left.ensures.prints c.print_left.ensures.refused in
     rw c.in-Err.is at all
+
+pub returns-in-Ok-clause-flaw : goal.returns-in-Ok-clause-flaw
+returns-in-Ok-clause-flaw g c = λ bad. rw (c.print_left.ensures.link, c.print_left.ensures.flaw) (c.step-ended.ensures.flaw bad)

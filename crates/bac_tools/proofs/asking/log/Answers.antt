@@ -1,4 +1,4 @@
-use Rattle.std.proofs.Common.{Err, Ok, ap}
+use Rattle.std.proofs.Common.{Err, Ok, ap, refl}
 use Rattle.bac_tools.specs.Sockets.{socket_rules}
 use Rattle.bac_tools.proofs.Fetched.{run_of}
 use Rattle.bac_tools.proofs.asking.log.Goals as goal
@@ -16,8 +16,9 @@ returns-in-Ok g c =
           rw (linked, begun) at c.fetch_log_ahead.ensures.came,
           run_of (socket_rules g.S.Sockets.opens g.S.Socket.Port.sends g.S.Socket.Port.receives g.S.Socket.Port.receives_within)
               c.args.asked c.args.walk _ _ _ _ _ _ c.fetch_log_ahead.new.link _ _ items prints (rw (linked, begun) at run),
+          rw begun at c.fetch_log_ahead.ensures.flaw,
         ),
-        rw c.in-Ok.is (ap Ok c.walk_status.ensures),
+        rw (c.in-Ok.is, c.ending_of.ensures, c.walk_status.ensures) refl,
       ),
     )
 
@@ -34,6 +35,7 @@ returns g c =
           rw (linked, begun) at c.fetch_log_ahead.ensures.came,
           run_of (socket_rules g.S.Sockets.opens g.S.Socket.Port.sends g.S.Socket.Port.receives g.S.Socket.Port.receives_within)
               c.args.asked c.args.walk _ _ _ _ _ _ c.fetch_log_ahead.new.link _ _ items prints (rw (linked, begun) at run),
+          rw begun at c.fetch_log_ahead.ensures.flaw,
         ),
         rw c.in-Err.is (ap Err c.of_query.ensures),
       ),

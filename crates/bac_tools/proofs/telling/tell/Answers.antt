@@ -4,4 +4,4 @@ use Rattle.bac_tools.proofs.telling.tell.Goals as goal
 
 pub returns-in-Err : goal.returns-in-Err
 unfolding fault_text
-returns-in-Err g c = inr (c.status-in-Err.ensures, c.say-in-Err.ensures)
+returns-in-Err g c = inr (c.status.ensures, c.say-in-Err.ensures)

@@ -1,0 +1,134 @@
+-- What `run` says of `bac log` with status 4: a bad reply came, and what is told is wrong with it.
+use Rattle.std.proofs.Common.{◌≡◌, ◌∙◌, inl, inr, ℕ, Option, Some, None, Result, Ok, Err, refl, sym, ap, subst, arith}
+use Rattle.bac_link.specs.Path.{Path, towards}
+use Rattle.bac_ports.specs.declared.udp_link.UdpLink.{UdpLink}
+use Rattle.bac_print.specs.Output.{AppendsPart, Held}
+use Rattle.bac_query.specs.Flaws.{TellsFlawOf}
+use Rattle.bac_query.specs.declared.fault.QueryFault.TheVariants as query
+use Rattle.bac_tools.specs.Asking.{of_end, of_fetching}
+use Rattle.bac_tools.specs.Run.{IsNoWalk, IsTold, Runs, walk_from}
+use Rattle.bac_tools.specs.Sockets.{SocketRules, own_address, socket_asks}
+use Rattle.bac_tools.specs.Status.{exit_status, walk_status}
+use Rattle.bac_tools.specs.Streams.{Streams}
+use Rattle.bac_tools.specs.Texts.{told_text}
+use Rattle.bac_tools.specs.declared.fault.Fault.{Fault}
+use Rattle.bac_tools.specs.declared.fault.Fault.TheVariants.{BadValue, Flawed, Memory, Socket, Write}
+use Rattle.bac_tools_tests.specs.Logging.{IsExplained}
+use Rattle.bac_walk.specs.Flaws.{ToldFlaw}
+use Rattle.bac_walk.specs.Place.{WalkPlace}
+use Rattle.bac_walk.specs.declared.flaw.ReplyFlaw.{ReplyFlaw}
+use Rattle.bac_walk.specs.declared.outcome.WalkFault.TheVariants as walk
+use Rattle.bac_walk.specs.declared.outcome.Why.{Why}
+use Rattle.bac_walk.specs.declared.outcome.Why.TheVariants as why
+use Rattle.bac_walk.proofs.Told.{Asking}
+use Rattle.bac_wire.specs.Primitive.{Id}
+use Rattle.bac_wire.specs.Stamp.{CivilTime}
+use Rattle.bac_words.specs.declared.job.Asked.{Asked}
+use Rattle.bac_words.specs.declared.job.Job.TheVariants.{Log}
+
+-- ---- what has another status
+
+five_isnt : (n : ℕ) → n ≡ 5 → n ≡ 4 → ⊥
+five_isnt n is four = omega (arith, is, four)
+
+-- a fault of another status isn't told with this one
+other_told : (fault : Fault) (old new : Held) (status : ℕ) → (exit_status fault ≡ 4 → ⊥) → IsTold fault old new status → status ≡ 4 → ⊥
+other_told fault old new status other (inl (is, part)) four = other (sym is ∙ four)
+other_told fault old new status other (inr (is, part)) four = five_isnt status is four
+
+-- the same by its name
+named_told : (fault named : Fault) (n : ℕ) (old new : Held) (status : ℕ) → fault ≡ named → exit_status named ≡ n → (n ≡ 4 → ⊥) →
+    IsTold fault old new status → status ≡ 4 → ⊥
+named_told fault named n old new status is has other = other_told fault old new status (λ e. other (sym has ∙ sym (ap exit_status is) ∙ e))
+
+no_walk : (instance : ℕ) (from : Option ℕ) (fault said : Fault) (old new : Held) (status : ℕ) → IsNoWalk instance from said → fault ≡ said →
+    IsTold fault old new status → status ≡ 4 → ⊥
+no_walk instance from fault said old new status (inl (outside, is)) same =
+    named_told fault (BadValue _) 1 old new status (same ∙ is) refl (λ e. omega (arith, e))
+no_walk instance from fault said old new status (inr (zero, is)) same =
+    named_told fault (BadValue _) 1 old new status (same ∙ is) refl (λ e. omega (arith, e))
+
+-- ---- the end of a walk
+
+-- without a flaw the status is another
+unflawed : (status done : ℕ) (flaw : Option ReplyFlaw) → flaw ≡ None → Ok done ≡ of_end status flaw → (status ≡ 4 → ⊥) → done ≡ 4 → ⊥
+unflawed status done None none is other four = other (sym (let e : done ≡ status = cc in e) ∙ four)
+unflawed status done (Some flaw) none is other four = absurd cc
+
+no_fault : {A : Type 0} (status : ℕ) (fault : Fault) (flaw : Option ReplyFlaw) → flaw ≡ None → Err fault ≡ of_end status flaw → A
+no_fault status fault None none is = absurd cc
+no_fault status fault (Some flaw) none is = absurd cc
+
+flawed : (status done : ℕ) (flaw : Option ReplyFlaw) (told : ReplyFlaw) → flaw ≡ Some told → Ok done ≡ of_end status flaw → ⊥
+flawed status done None told some is = cc
+flawed status done (Some flaw) told some is = cc
+
+told_is : (status : ℕ) (fault : Fault) (flaw : Option ReplyFlaw) (told : ReplyFlaw) → flaw ≡ Some told → Err fault ≡ of_end status flaw → fault ≡ Flawed told
+told_is status fault None told some is = absurd cc
+told_is status fault (Some flaw) told some is = cc
+
+-- a walk that ended with status 4 told its flaw
+bad_end : {S : Type 0} (asks : Asking S) (path : Path) (retries : ℕ) (log : Id) (next : ℕ) (flaw : Option ReplyFlaw) (left : S) (cause : Why) (done : ℕ) →
+    TellsFlawOf asks path retries log next flaw left cause → Ok done ≡ of_end (walk_status cause) flaw → done ≡ 4 → ⊥
+bad_end asks path retries log next flaw left why.CaughtUp done tells is = unflawed 0 done flaw tells is (λ e. omega (arith, e))
+bad_end asks path retries log next flaw left why.StepLimit done tells is = unflawed 0 done flaw tells is (λ e. omega (arith, e))
+bad_end asks path retries log next flaw left (why.Fault walk.Lost) done tells is = unflawed 2 done flaw tells is (λ e. omega (arith, e))
+bad_end asks path retries log next flaw left (why.Fault (walk.Refused refusal)) done tells is = unflawed 3 done flaw tells is (λ e. omega (arith, e))
+bad_end asks path retries log next flaw left (why.Fault walk.BadReply) done (w, own, here, (told, some, wrong)) is = λ four. flawed 4 done flaw told some is
+bad_end asks path retries log next flaw left why.Memory done tells is = unflawed 5 done flaw tells is (λ e. omega (arith, e))
+
+-- what is wrong with the reply that ended a walk of this log
+abbrev Explains : {S : Type 0} → Asking S → Path → ℕ → Id → Fault → S → Type 0
+Explains asks path retries log fault left =
+    (w : WalkPlace) × (told : ReplyFlaw) × (w.log ≡ log) × ToldFlaw asks path retries w told left × (fault ≡ Flawed told)
+
+flaw_end : {S : Type 0} (asks : Asking S) (path : Path) (retries : ℕ) (log : Id) (next : ℕ) (flaw : Option ReplyFlaw) (left : S) (cause : Why) (fault : Fault) →
+    TellsFlawOf asks path retries log next flaw left cause → Err fault ≡ of_end (walk_status cause) flaw → Explains asks path retries log fault left
+flaw_end asks path retries log next flaw left why.CaughtUp fault tells is = no_fault 0 fault flaw tells is
+flaw_end asks path retries log next flaw left why.StepLimit fault tells is = no_fault 0 fault flaw tells is
+flaw_end asks path retries log next flaw left (why.Fault walk.Lost) fault tells is = no_fault 2 fault flaw tells is
+flaw_end asks path retries log next flaw left (why.Fault (walk.Refused refusal)) fault tells is = no_fault 3 fault flaw tells is
+flaw_end asks path retries log next flaw left (why.Fault walk.BadReply) fault (w, own, here, (told, some, wrong)) is =
+    (w, told, own, wrong, told_is 4 fault flaw told some is)
+flaw_end asks path retries log next flaw left why.Memory fault tells is = no_fault 5 fault flaw tells is
+
+-- it is told
+told_flaw : (old new : Held) (status : ℕ) (fault : Fault) (told : ReplyFlaw) → fault ≡ Flawed told → IsTold fault old new status → status ≡ 4 →
+    AppendsPart old new (told_text (Flawed told))
+told_flaw old new status fault told is (inl (same, part)) four =
+    let Q : Fault → Type 0 = λ f. AppendsPart old new (told_text f) in
+    subst Q is part
+told_flaw old new status fault told is (inr (same, part)) four = absurd (five_isnt status same four)
+
+-- ---- over a socket
+
+pub explained : {S P C : Type 0} (rules : SocketRules S P) (tells : C → Option CivilTime → C → Type 0) (asked : Asked)
+    (instance steps : ℕ) (from : Option ℕ) (old new : Streams S C) (status : ℕ) →
+    Runs rules tells (Log asked instance from steps) old status new → status ≡ 4 →
+    (port : P) × rules.opens old.sockets (own_address asked.local) asked.timeout (Ok port) new.sockets
+    × IsExplained rules asked (walk_from instance from) old.errors new.errors
+explained rules tells asked instance steps from old new status (inl told) four =
+    absurd (other_told Memory old.errors new.errors status (λ e. omega (arith, e)) told.0 four)
+explained rules tells asked instance steps from old new status (inr (Err fault, said, (inl unasked, quiet), ends)) four =
+    absurd (no_walk instance from fault unasked.0 said new.errors status unasked.1.0 (let e = unasked.1.1 in cc) ends four)
+explained rules tells asked instance steps from old new status (inr (Ok done, said, (inl unasked, quiet), ends)) four =
+    absurd (let e = unasked.1.1 in cc)
+explained rules tells asked instance steps from old new status (inr (Err fault, said, (inr (Err shut, opens, closed), quiet), ends)) four =
+    absurd (named_told fault Socket 2 said new.errors status (let e = closed.0 in cc) refl (λ e. omega (arith, e)) ends four)
+explained rules tells asked instance steps from old new status (inr (Ok done, said, (inr (Err shut, opens, closed), quiet), ends)) four =
+    absurd (let e = closed.0 in cc)
+explained rules tells asked instance steps from old new status (inr (Err fault, said, (inr (Ok port, opens, (Ok fetched, left, over, is)), quiet), ends)) four =
+    let (w, told, own, wrong, same) = flaw_end (socket_asks rules) (towards asked.route) asked.retries (walk_from instance from).log fetched.next fetched.flaw left fetched.why fault over.2 is in
+    let Q : Held → Type 0 = λ h. AppendsPart h new.errors (told_text (Flawed told)) in
+    (port, opens, (left, w, told, own, wrong, subst Q quiet.0 (told_flaw said new.errors status fault told same ends four)))
+explained rules tells asked instance steps from old new status (inr (Err fault, said, (inr (Ok port, opens, (Err (query.Exchange bad), left, over, is)), quiet), ends)) four =
+    let (came, items, n, ended, after, mid, brought, printed, headline) = over.0 in
+    absurd printed
+explained rules tells asked instance steps from old new status (inr (Err fault, said, (inr (Ok port, opens, (Err query.Write, left, over, is)), quiet), ends)) four =
+    absurd (named_told fault Write 2 said new.errors status (cc) refl (λ e. omega (arith, e)) ends four)
+explained rules tells asked instance steps from old new status (inr (Err fault, said, (inr (Ok port, opens, (Err query.Memory, left, over, is)), quiet), ends)) four =
+    absurd (named_told fault Memory 5 said new.errors status (cc) refl (λ e. omega (arith, e)) ends four)
+explained rules tells asked instance steps from old new status (inr (Ok done, said, (inr (Ok port, opens, (Err bad, left, over, is)), quiet), ends)) four =
+    absurd (cc)
+explained rules tells asked instance steps from old new status (inr (Ok done, said, (inr (Ok port, opens, (Ok fetched, left, over, is)), quiet), ends)) four =
+    absurd (bad_end (socket_asks rules) (towards asked.route) asked.retries (walk_from instance from).log fetched.next fetched.flaw left fetched.why done over.2 is (sym ends.0 ∙ four))
