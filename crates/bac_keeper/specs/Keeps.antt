@@ -1,5 +1,6 @@
 -- What a run over logs keeps, and what is told of it.
-use Rattle.std.specs.Prelude.{◌≡◌, ◌⊎◌, ◌≤◌, ℕ, max, Bool, List, [], ◌∷◌, ◌++◌, length, Option, map, option_map, Result, Ok, Err}
+use Rattle.std.specs.Prelude.{◌≡◌, ◌⊎◌, ◌≤◌, ℕ, max, Bool, List, [], ◌∷◌, ◌++◌, length, map}
+use Rattle.std.specs.Prelude.{Option, option_map, Result, Ok, Err}
 use Rattle.std.specs.Io.KnownBytes.{Appends}
 use Rattle.std.specs.String.{string_bytes}
 use Rattle.sqlite.specs.Effect.{Database}
@@ -19,9 +20,9 @@ use Rattle.bac_keeper.specs.Lines.{summary_line}
 use Rattle.bac_keeper.specs.Starts.{IsBegun}
 use Rattle.bac_keeper.specs.Status.{file_status, walk_status}
 
--- The rows of what a run brought come to those before, in the start's log and epoch. They are as many records and gaps as
--- are told, and cover each number from the walk's on, or from that of the first record of a walk from the oldest, up to
--- the one that comes next, once.
+-- The rows of what a run brought come to those before, in the start's log and epoch. They are as many records and gaps
+-- as are told, and cover each number from the walk's on, or from that of the first record of a walk from the oldest, up
+-- to the one that comes next, once.
 pub record KeepsFrom (start : Start) (old new : Database) (end : End) : Type 0 where
   pub items : List Item
   pub had_none : Bool
@@ -36,10 +37,11 @@ abbrev pub KeepsBegun : Result Start End → Database → Database → End → T
 KeepsBegun (Ok start) old new end = KeepsFrom start old new end
 KeepsBegun (Err none) old new end = (new ≡ old) × (end ≡ none)
 
--- A run over the log of this id, which is this object of its device: where it begins, by the archive's rows and what the
--- device tells, and what it keeps from there.
+-- A run over the log of this id, which is this object of its device: where it begins, by the archive's rows and what
+-- the device tells, and what it keeps from there.
 abbrev pub KeepsLog : ℕ → Id → Database → Database → End → Type 0
-KeepsLog log object old new end = (begun : Result Start End) × IsBegun log object (kept old.trees) begun × KeepsBegun begun old new end
+KeepsLog log object old new end =
+    (begun : Result Start End) × IsBegun log object (kept old.trees) begun × KeepsBegun begun old new end
 
 -- the Trend Log object of this instance (clause 12.25)
 abbrev pub trend_log : ℕ → Id
@@ -56,7 +58,8 @@ pub record KeepsSource (wanted : Wanted) (old new : Database) (end : End) : Type
 -- logs are kept in their order, each run over the archive that the one before left
 abbrev pub KeepsAll : List Wanted → Database → Database → List End → Type 0
 KeepsAll [] old new [] = new ≡ old
-KeepsAll (wanted ∷ more) old new (end ∷ ends) = (mid : Database) × KeepsSource wanted old mid end × KeepsAll more mid new ends
+KeepsAll (wanted ∷ more) old new (end ∷ ends) =
+    (mid : Database) × KeepsSource wanted old mid end × KeepsAll more mid new ends
 KeepsAll _ old new _ = ⊥
 
 -- the lines of logs, in their order
@@ -85,8 +88,8 @@ AreToldBy before after all kept status =
 abbrev pub TellsLogs : Option (List ℕ) → Option (List ℕ) → ℕ → Type 0
 TellsLogs before after status = (all : List Wanted) × AreToldBy before after all (λ ends. Unit {0}) status
 
--- What was done of the words of `bac keep` or `bac kept`, by the status: logs were kept and told; the file is no use; or
--- help, a mistake in the words, or what a file keeps was printed.
+-- What was done of the words of `bac keep` or `bac kept`, by the status: logs were kept and told; the file is no use;
+-- or help, a mistake in the words, or what a file keeps was printed.
 abbrev pub IsDone : Option (List ℕ) → Option (List ℕ) → ℕ → Type 0
 IsDone before after status =
     TellsLogs before after status ⊎ (((fault : FileFault) × (status ≡ file_status fault)) ⊎ (status ≤ 1))

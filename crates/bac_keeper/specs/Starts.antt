@@ -17,8 +17,8 @@ use Rattle.bac_keeper.specs.declared.fetching.Start.{Start}
 
 -- a log of which nothing is kept begins at the oldest record, in epoch 0
 abbrev pub IsFirst : ℕ → Id → Result Start End → Type 0
-IsFirst log object (Ok start) = (start.place.log ≡ log) × (start.place.epoch ≡ 0) × (start.walk ≡ walk_from_oldest object)
-    × (start.free ≡ 0) × (start.anew ≡ false)
+IsFirst log object (Ok start) = (start.place.log ≡ log) × (start.place.epoch ≡ 0)
+    × (start.walk ≡ walk_from_oldest object) × (start.free ≡ 0) × (start.anew ≡ false)
 IsFirst log object (Err end) = ⊥
 
 -- A log goes on in the epoch of its newest item, and no number up to that is taken again; one that began anew has the
@@ -48,9 +48,10 @@ Tells object last told =
     × (0 < last.number → (answer : Result Step WalkFault) × (oldest : Result Step WalkFault)
     × IsTold object (kept_last last) answer oldest told)
 
--- A run over a log begins at its oldest record if these rows have no item of it, and else where the device tells that it
--- goes on.
+-- A run over a log begins at its oldest record if these rows have no item of it, and else where the device tells that
+-- it goes on.
 abbrev pub IsBegun : ℕ → Id → List Values → Result Start End → Type 0
 IsBegun log object rows begun =
     (HasNoItem log rows × IsFirst log object begun)
-    ⊎ ((last : NewestItem) × (told : Resume) × IsNewest log rows last × Tells object last told × IsStart log last told begun)
+    ⊎ ((last : NewestItem) × (told : Resume) × IsNewest log rows last × Tells object last told
+    × IsStart log last told begun)

@@ -128,7 +128,7 @@ fn keep_one<S: Sockets, A: Alter, O: Write, E: Write>(
     errors: &mut E,
 ) -> Result<u8, NotDone>
     // What is told of a log is how its run ended, and so is the status.
-    // The rows of what the run brought come to those before, under the id of this log in the archive.
+    // The rows of what the run brought come to those before, under the id of this log.
     ensures told { IfOk result (IsToldBy (O.contents output.old) (O.contents output.new) wanted.source (λ end.
         HasCleanDisk (state A.Store conn.new) → (state A.Store conn.old).now.schema ≡ archive_schema →
         KeepsSource wanted (state A.Store conn.old).now (state A.Store conn.new).now end)) }
@@ -167,7 +167,7 @@ pub fn keep_each<S: Sockets, A: Alter, O: Write, E: Write>(
     output: &mut O,
     errors: &mut E,
 ) -> Result<u8, NotDone>
-    // A line tells each log, in their order, and each is kept in the archive that the one before left.
+    // A line tells each log, in their order; each is kept in the archive that the one before left.
     ensures told { IfOk result (AreToldBy (O.contents output.old) (O.contents output.new) all.items (λ ends.
         HasCleanDisk (state A.Store conn.new) → (state A.Store conn.old).now.schema ≡ archive_schema →
         KeepsAll all.items (state A.Store conn.old).now (state A.Store conn.new).now ends)) }

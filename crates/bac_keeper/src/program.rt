@@ -111,8 +111,8 @@ pub fn run_keep<S: Sockets, O: Write, E: Write>(
     output: &mut O,
     errors: &mut E,
 ) -> Result<u8, Fault>
-    // The lines of the logs that were kept, and the greatest of their statuses, or another end. What is
-    // kept of them is the contract of `keep_each`, to which it gives the file that it opened.
+    // The lines of the logs that were kept, and the greatest of their statuses, or another end. What
+    // is kept of them is the contract of `keep_each`, to which it gives the file that it opened.
     ensures { IfOk result (IsDone (O.contents output.old) (O.contents output.new)) }
 {
     let job = match read_job(alloc, words) {
