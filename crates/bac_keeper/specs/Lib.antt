@@ -1,3 +1,4 @@
 pub mod Status
 pub mod Lines
 pub mod Starts
+pub mod Keeps

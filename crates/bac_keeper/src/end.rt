@@ -20,7 +20,7 @@ pub(crate) struct End {
 
 /// Why a log isn't kept.
 #[derive(Clone, Copy)]
-pub(crate) enum NotDone {
+pub enum NotDone {
     /// As a tool that asks one device.
     Asking(Fault),
     /// The file is no use.

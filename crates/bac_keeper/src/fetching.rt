@@ -1,8 +1,12 @@
 //! The records of one log are fetched and kept.
 
-ghost use Rattle.std.specs.Prelude.{◌≡◌, ◌+◌, true, false, IfOk, IfErr, Ok};
-ghost use Rattle.bac_walk.specs.Place.{walk_from_oldest};
-ghost use Rattle.bac_keeper.specs.Starts.{IsStart};
+ghost use Rattle.std.specs.Prelude.{◌≡◌, ◌+◌, true, false, IfOk, IfErr, OnOk, Ok};
+ghost use Rattle.sqlite.specs.State.{HasCleanDisk};
+ghost use Rattle.sqlite.specs.Held.{state};
+ghost use Rattle.bac_archive.specs.Schema.{archive_schema};
+ghost use Rattle.bac_archive.specs.Rows.{kept};
+ghost use Rattle.bac_keeper.specs.Keeps.{KeepsBegun, KeepsLog, trend_log};
+ghost use Rattle.bac_keeper.specs.Starts.{IsBegun, IsFirst, IsStart, kept_last, octets};
 
 use crate::end::{End, NotDone};
 use crate::fault::{Fault, FileFault};
@@ -69,7 +73,7 @@ fn place_of(log: u16, epoch: u16) -> Result<Place, NotDone>
 
 /// At the oldest record of a log of which nothing is kept.
 fn first_start(id: u16, log: ObjectId) -> Result<Start, NotDone>
-    ensures { IfOk result (λ start. (start.place.log ≡ id) × (start.place.epoch ≡ 0) × (start.walk ≡ walk_from_oldest log) × (start.free ≡ 0) × (start.anew ≡ false)) }
+    ensures { IfOk result (λ start. IsFirst id log (Ok start)) }
 {
     let place = place_of(id, 0)?;
     match Walk::oldest(log) {
@@ -84,7 +88,11 @@ fn first_start(id: u16, log: ObjectId) -> Result<Start, NotDone>
 }
 
 /// A record of a row, by its texts. A gap has none, and no record is the same.
-fn record_of(last: &NewestItem) -> LastRecord<'_> {
+fn record_of(last: &NewestItem) -> LastRecord<'_>
+    ensures number { result.number ≡ last.now.number }
+    ensures stamp { result.stamp.now ≡ (kept_last last.now).stamp }
+    ensures datum { result.datum.now ≡ (kept_last last.now).datum }
+{
     LastRecord {
         number: last.number,
         stamp: octets_of(&last.stamp),
@@ -92,7 +100,9 @@ fn record_of(last: &NewestItem) -> LastRecord<'_> {
     }
 }
 
-fn octets_of(text: &Option<String>) -> &[u8] {
+fn octets_of(text: &Option<String>) -> &[u8]
+    ensures { result.now ≡ octets text.now }
+{
     match text {
         Some(text) => text.as_bytes(),
         None => b"".as_slice(),
@@ -138,6 +148,12 @@ fn where_to_start<L: LogLink, A: Alter>(
     log: ObjectId,
 ) -> Result<Result<Start, End>, NotDone>
     requires { log.kind ≡ 20 }
+    // By the rows of the archive, and by what the device tells.
+    ensures begun { HasCleanDisk (state A.Store conn.new) → (state A.Store conn.old).now.schema ≡ archive_schema
+        → IfOk result (IsBegun id log (kept (state A.Store conn.old).now.trees)) }
+    ensures same { HasCleanDisk (state A.Store conn.new) → (state A.Store conn.old).now.schema ≡ archive_schema
+        → OnOk result ((state A.Store conn.new).now ≡ (state A.Store conn.old).now) }
+    ensures clean { HasCleanDisk (state A.Store conn.new) → HasCleanDisk (state A.Store conn.old) }
 {
     let last = match newest(conn, id) {
         Ok(Some(last)) => last,
@@ -175,41 +191,54 @@ fn end_of(run: KeptRun, anew: bool) -> Result<End, NotDone>
     }
 }
 
+/// Keeps what a log has from a start on.
+fn keep_from<L: LogLink, A: Alter>(
+    alloc: Global,
+    link: &mut L,
+    transactions: &mut Transactions,
+    conn: &mut Connection<A>,
+    start: Start,
+    steps: u32,
+) -> Result<End, NotDone>
+    ensures kept { HasCleanDisk (state A.Store conn.new) → (state A.Store conn.old).now.schema ≡ archive_schema
+        → IfOk result (KeepsBegun (Ok start) (state A.Store conn.old).now (state A.Store conn.new).now) }
+    ensures clean { HasCleanDisk (state A.Store conn.new) → HasCleanDisk (state A.Store conn.old) }
+{
+    let Start {
+        place,
+        walk,
+        free,
+        anew,
+    } = start;
+    let run = keep_log(alloc, link, transactions, walk, conn, place, free, steps);
+    end_of(run, anew)
+}
+
 /// Asks a device for what is new of its log, and keeps it.
 pub(crate) fn fetch<S: Sockets, A: Alter>(
     alloc: Global,
     sockets: &mut S,
     conn: &mut Connection<A>,
     id: u16,
+    instance: u32,
     asking: Asking,
-) -> Result<End, NotDone> {
+) -> Result<End, NotDone>
+    // The rows of what the run brought come to those before, under this log.
+    ensures kept { HasCleanDisk (state A.Store conn.new) → (state A.Store conn.old).now.schema ≡ archive_schema
+        → IfOk result (KeepsLog id (trend_log instance) (state A.Store conn.old).now (state A.Store conn.new).now) }
+    ensures clean { HasCleanDisk (state A.Store conn.new) → HasCleanDisk (state A.Store conn.old) }
+{
     let Asking {
         asked,
-        instance,
+        instance: _instance,
         steps,
     } = asking;
     let Some(log) = ObjectId::new(TREND_LOG, instance) else {
         return Err(NotDone::Asking(Fault::BadValue(Word::Instance)));
     };
     let (mut link, mut transactions) = connect(sockets, asked)?;
-    let Start {
-        place,
-        walk,
-        free,
-        anew,
-    } = match where_to_start(alloc, &mut link, &mut transactions, conn, id, log)? {
-        Ok(start) => start,
-        Err(end) => return Ok(end),
-    };
-    let run = keep_log(
-        alloc,
-        &mut link,
-        &mut transactions,
-        walk,
-        conn,
-        place,
-        free,
-        steps,
-    );
-    end_of(run, anew)
+    match where_to_start(alloc, &mut link, &mut transactions, conn, id, log)? {
+        Ok(start) => keep_from(alloc, &mut link, &mut transactions, conn, start, steps),
+        Err(end) => Ok(end),
+    }
 }

@@ -1,9 +1,15 @@
 //! `bac keep`: logs are added to an archive, and what is new of them is kept.
 
-ghost use Rattle.std.specs.Prelude.{◌≡◌, OnOk, IfOk};
+ghost use Rattle.std.specs.Prelude.{◌≡◌, OnOk, IfOk, List, max, option_map};
+ghost use Rattle.std.specs.String.{string_bytes};
 ghost use Rattle.std.specs.Io.KnownBytes.{Appends};
+ghost use Rattle.sqlite.specs.State.{HasCleanDisk};
+ghost use Rattle.sqlite.specs.Held.{state};
+ghost use Rattle.bac_archive.specs.Schema.{archive_schema};
+ghost use Rattle.bac_keeper.specs.Keeps.{AreToldBy, IsToldBy, KeepsAll, KeepsSource};
 ghost use Rattle.bac_keeper.specs.Lines.{anew_line, summary_line};
-ghost use Rattle.bac_keeper.specs.Starts.{IsToldBy};
+ghost use Rattle.bac_keeper.specs.Keeps.{TellsLogs};
+ghost use Rattle.bac_keeper.specs.declared.wanted.Wanted.{Wanted as WantedOf};
 
 use crate::archives::{close_file, opened};
 use crate::discovering::discover;
@@ -54,7 +60,11 @@ fn kept_logs<A: Alter>(
     alloc: Global,
     conn: &mut Connection<A>,
     options: &Options<'_>,
-) -> Result<Vec<Wanted>, NotDone> {
+) -> Result<Vec<Wanted>, NotDone>
+    ensures same { HasCleanDisk (state A.Store conn.new) → (state A.Store conn.old).now.schema ≡ archive_schema
+        → OnOk result ((state A.Store conn.new).now ≡ (state A.Store conn.old).now) }
+    ensures clean { HasCleanDisk (state A.Store conn.new) → HasCleanDisk (state A.Store conn.old) }
+{
     let known = match logs(alloc, conn) {
         Ok(known) => known,
         Err(error) => return Err(NotDone::File(FileFault::of(error))),
@@ -98,6 +108,16 @@ fn tell_anew<E: Write>(alloc: Global, source: &Source, errors: &mut E) -> Result
     Ok(())
 }
 
+/// A text, if there is one.
+fn name_of(text: &Option<String>) -> Option<&str>
+    ensures { option_map (λ s. s.now) result ≡ option_map string_bytes text.now }
+{
+    match text {
+        Some(text) => Some(text.as_str()),
+        None => None,
+    }
+}
+
 /// Keeps what is new of one log, and prints its line; answers its status.
 fn keep_one<S: Sockets, A: Alter, O: Write, E: Write>(
     sockets: &mut S,
@@ -108,22 +128,22 @@ fn keep_one<S: Sockets, A: Alter, O: Write, E: Write>(
     errors: &mut E,
 ) -> Result<u8, NotDone>
     // What is told of a log is how its run ended, and so is the status.
-    ensures { IfOk result (IsToldBy (O.contents output.old) (O.contents output.new) wanted.source) }
+    // The rows of what the run brought come to those before, under the id of this log.
+    ensures told { IfOk result (IsToldBy (O.contents output.old) (O.contents output.new) wanted.source (λ end.
+        HasCleanDisk (state A.Store conn.new) → (state A.Store conn.old).now.schema ≡ archive_schema →
+        KeepsSource wanted (state A.Store conn.old).now (state A.Store conn.new).now end)) }
+    ensures clean { HasCleanDisk (state A.Store conn.new) → HasCleanDisk (state A.Store conn.old) }
 {
     let Wanted {
         source,
         name,
         asking,
     } = wanted;
-    let name = match &name {
-        Some(name) => Some(name.as_str()),
-        None => None,
-    };
-    let id = match add_log(alloc, conn, &source, name) {
+    let id = match add_log(alloc, conn, &source, name_of(&name)) {
         Ok(id) => id,
         Err(fault) => return Err(NotDone::File(FileFault::of_log(fault))),
     };
-    let end = fetch(alloc, sockets, conn, id, asking)?;
+    let end = fetch(alloc, sockets, conn, id, source.instance, asking)?;
     if end.anew {
         tell_anew(alloc, &source, errors)?;
     }
@@ -131,23 +151,53 @@ fn keep_one<S: Sockets, A: Alter, O: Write, E: Write>(
     Ok(walk_status(end.why))
 }
 
-/// Keeps what is new of each of these logs; answers the greatest of their statuses.
-fn keep_each<S: Sockets, A: Alter, O: Write, E: Write>(
+/// The greater of two statuses.
+fn greater_of(one: u8, other: u8) -> u8
+    ensures { result ≡ max one other }
+{
+    if one < other { other } else { one }
+}
+
+/// Keeps what is new of each of these logs in an archive; answers the greatest of their statuses.
+pub fn keep_each<S: Sockets, A: Alter, O: Write, E: Write>(
     sockets: &mut S,
     conn: &mut Connection<A>,
     alloc: Global,
     all: Vec<Wanted>,
     output: &mut O,
     errors: &mut E,
-) -> Result<u8, NotDone> {
+) -> Result<u8, NotDone>
+    // A line tells each log, in their order; each is kept in the archive that the one before left.
+    ensures told { IfOk result (AreToldBy (O.contents output.old) (O.contents output.new) all.items (λ ends.
+        HasCleanDisk (state A.Store conn.new) → (state A.Store conn.old).now.schema ≡ archive_schema →
+        KeepsAll all.items (state A.Store conn.old).now (state A.Store conn.new).now ends)) }
+    ensures clean { HasCleanDisk (state A.Store conn.new) → HasCleanDisk (state A.Store conn.old) }
+{
     let mut greatest = 0u8;
     for wanted in all {
         let status = keep_one(sockets, conn, alloc, wanted, output, errors)?;
-        if greatest < status {
-            greatest = status;
-        }
+        greatest = greater_of(greatest, status);
     }
     Ok(greatest)
+}
+
+/// Which logs were chosen, in the order in which they are fetched.
+fn chosen_logs<S: Sockets, A: Alter>(
+    sockets: &mut S,
+    conn: &mut Connection<A>,
+    alloc: Global,
+    chosen: Chosen,
+    options: &Options<'_>,
+) -> Result<Vec<Wanted>, NotDone>
+    ensures same { HasCleanDisk (state A.Store conn.new) → (state A.Store conn.old).now.schema ≡ archive_schema
+        → OnOk result ((state A.Store conn.new).now ≡ (state A.Store conn.old).now) }
+    ensures clean { HasCleanDisk (state A.Store conn.new) → HasCleanDisk (state A.Store conn.old) }
+{
+    match chosen {
+        Chosen::Kept => kept_logs(alloc, conn, options),
+        Chosen::Device(like) => discover(sockets, alloc, &like),
+        Chosen::Named(all) => Ok(all),
+    }
 }
 
 /// Keeps what is new of the logs that were chosen.
@@ -159,12 +209,12 @@ fn keep_chosen<S: Sockets, A: Alter, O: Write, E: Write>(
     options: &Options<'_>,
     output: &mut O,
     errors: &mut E,
-) -> Result<u8, NotDone> {
-    let all = match chosen {
-        Chosen::Kept => kept_logs(alloc, conn, options)?,
-        Chosen::Device(like) => discover(sockets, alloc, &like)?,
-        Chosen::Named(all) => all,
-    };
+) -> Result<u8, NotDone>
+    ensures told { IfOk result (λ status. (all : List WantedOf) × AreToldBy (O.contents output.old) (O.contents output.new) all (λ ends.
+        HasCleanDisk (state A.Store conn.new) → (state A.Store conn.old).now.schema ≡ archive_schema →
+        KeepsAll all (state A.Store conn.old).now (state A.Store conn.new).now ends) status) }
+{
+    let all = chosen_logs(sockets, conn, alloc, chosen, options)?;
     keep_each(sockets, conn, alloc, all, output, errors)
 }
 
@@ -179,7 +229,9 @@ pub(crate) fn keep<S: Sockets, O: Write, E: Write>(
     options: &Options<'_>,
     output: &mut O,
     errors: &mut E,
-) -> Result<u8, NotDone> {
+) -> Result<u8, NotDone>
+    ensures { IfOk result (TellsLogs (O.contents output.old) (O.contents output.new)) }
+{
     let chosen = choose(alloc, address, instances, options)?;
     let mut conn = opened(rt, file, true)?;
     let done = keep_chosen(sockets, &mut conn, alloc, chosen, options, output, errors);

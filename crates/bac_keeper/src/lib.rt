@@ -23,5 +23,9 @@ mod questions;
 mod summary;
 mod wanted;
 
+pub use end::NotDone;
 pub use fault::{Fault, FileFault};
+pub use keeping::keep_each;
+pub use log_words::Asking;
 pub use program::{is_keeping, run_keep};
+pub use wanted::Wanted;

@@ -7,7 +7,7 @@ use std::alloc::{AllocError, Global};
 
 /// How a log is asked for.
 #[derive(Drop)]
-pub(crate) struct Asking {
+pub struct Asking {
     pub asked: Asked,
     pub instance: u32,
     pub steps: u32,

@@ -1,5 +1,7 @@
 //! `bac kept`: what an archive keeps is printed.
 
+ghost use Rattle.std.specs.Prelude.{◌≡◌, IfOk};
+
 use crate::archives::{close_file, opened};
 use crate::csv_lines::{write_items, write_names};
 use crate::end::NotDone;
@@ -107,7 +109,9 @@ fn print_shown<A: Alter, O: Write>(
     shown: &Shown,
     csv: bool,
     output: &mut O,
-) -> Result<u8, NotDone> {
+) -> Result<u8, NotDone>
+    ensures { IfOk result (λ status. status ≡ 0) }
+{
     let all = match logs(alloc, conn) {
         Ok(all) => all,
         Err(error) => return Err(NotDone::File(FileFault::of(error))),
@@ -136,7 +140,9 @@ pub(crate) fn kept<O: Write>(
     instance: Option<&str>,
     csv: bool,
     output: &mut O,
-) -> Result<u8, NotDone> {
+) -> Result<u8, NotDone>
+    ensures { IfOk result (λ status. status ≡ 0) }
+{
     let shown = choose(alloc, address, instance)?;
     let mut conn = opened(rt, file, false)?;
     let done = print_shown(alloc, &mut conn, &shown, csv, output);

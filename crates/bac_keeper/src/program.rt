@@ -1,5 +1,9 @@
 //! The tools `keep` and `kept`.
 
+ghost use Rattle.std.specs.Prelude.{◌≡◌, ◌≤◌, IfOk};
+ghost use Rattle.bac_keeper.specs.Keeps.{IsDone};
+ghost use Rattle.bac_keeper.specs.Status.{file_status};
+
 use crate::end::NotDone;
 use crate::fault::{Fault, FileFault};
 use crate::job::{Job, read_job};
@@ -11,9 +15,14 @@ use bac_words::WordsFault;
 use std::alloc::Global;
 use std::io::Write;
 
-/// Whether the words, the first of which is the program's name, ask for `keep` or `kept`.
+/// Whether the words, the first of which is the program's name, ask for `keep` or `kept`, or for
+/// help with one of them.
 pub fn is_keeping(words: &[String]) -> bool {
-    match words.get(1) {
+    let tool = match words.get(1) {
+        Some(word) if word.as_str() == "help" => words.get(2),
+        word => word,
+    };
+    match tool {
         Some(word) => word.as_str() == "keep" || word.as_str() == "kept",
         None => false,
     }
@@ -25,7 +34,9 @@ fn explain<O: Write, E: Write>(
     error: &clap::Error,
     output: &mut O,
     errors: &mut E,
-) -> Result<u8, Fault> {
+) -> Result<u8, Fault>
+    ensures { IfOk result (λ status. status ≤ 1) }
+{
     let Ok(text) = format!(in alloc; "{error}") else {
         return Err(Fault::Memory);
     };
@@ -40,7 +51,9 @@ fn explain<O: Write, E: Write>(
 }
 
 /// Tells why a file is no use, and answers the exit status.
-fn tell_file<E: Write>(alloc: Global, fault: FileFault, errors: &mut E) -> Result<u8, Fault> {
+fn tell_file<E: Write>(alloc: Global, fault: FileFault, errors: &mut E) -> Result<u8, Fault>
+    ensures { IfOk result (λ status. status ≡ file_status fault) }
+{
     match fault.lines(alloc) {
         Ok(text) => {
             let _ = write_text(errors, text.as_bytes());
@@ -58,7 +71,9 @@ fn done<S: Sockets, O: Write, E: Write>(
     job: Job<'_>,
     output: &mut O,
     errors: &mut E,
-) -> Result<u8, NotDone> {
+) -> Result<u8, NotDone>
+    ensures { IfOk result (IsDone (O.contents output.old) (O.contents output.new)) }
+{
     match job {
         Job::Keep {
             file,
@@ -95,7 +110,11 @@ pub fn run_keep<S: Sockets, O: Write, E: Write>(
     words: &[String],
     output: &mut O,
     errors: &mut E,
-) -> Result<u8, Fault> {
+) -> Result<u8, Fault>
+    // The lines of the logs that were kept, and the greatest of their statuses, or another end. What
+    // is kept of them is the contract of `keep_each`, to which it gives the file that it opened.
+    ensures { IfOk result (IsDone (O.contents output.old) (O.contents output.new)) }
+{
     let job = match read_job(alloc, words) {
         Ok(job) => job,
         Err(WordsFault::Usage(error)) => return explain(alloc, &error, output, errors),

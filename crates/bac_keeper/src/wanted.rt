@@ -11,7 +11,7 @@ use std::alloc::{AllocError, Global};
 
 /// A log that is to be fetched.
 #[derive(Drop)]
-pub(crate) struct Wanted {
+pub struct Wanted {
     pub source: Source,
     /// Its Object_Name, where it was asked for.
     pub name: Option<String>,
