@@ -29,7 +29,7 @@ part (Err fault) old new text whole some = some
 pub same_word : (said : Result Job Word) (v w : Word) → said ≡ Err v → said ≡ Err w → v ≡ w
 same_word said v w p q = cc
 
--- a text that is appended in two parts, and in three
+-- a text that is appended in two parts
 pub two : {E : Type 0} (r : Result (Unit {0}) E) (old x y z a new : List ℕ) → a ≡ old ++ x → z ≡ y → OnOk r (new ≡ a ++ z)
     → OnOk r (new ≡ old ++ (x ++ y))
 two (Ok done) old x y z a new p q last = last ∙ ap (λ l. l ++ z) p ∙ append_assoc old x z ∙ ap (λ l. old ++ (x ++ l)) q
