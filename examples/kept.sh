@@ -4,14 +4,14 @@
 #
 #     examples/kept.sh [PROGRAM] [RUNS [SEED]]
 #
-# PROGRAM is crates/bac/out/bac, RUNS 120 and SEED 1 where none is given. The last line is `N passed, M failed`.
+# PROGRAM is crates/bac/out/bac, RUNS 500 and SEED 1 where none is given. The last line is `N passed, M failed`.
 set -u
 cd "$(dirname "$0")"
 [[ ${1-} != +([0-9]) ]] || set -- ../crates/bac/out/bac "$@"
 program=$(realpath -- "${1:-../crates/bac/out/bac}")
-limit=$((600 + ${2:-120} * 3))
+limit=$((600 + ${2:-500} * 3))
 . ./limited.sh
 room=$(mktemp -d)
 trap 'rm -rf "$room"' EXIT
 cc -shared -fPIC -O1 -o "$room/kills.so" kills.c -ldl || exit 1
-python3 -B kept.py "$program" "$room" "${2:-120}" "${3:-1}" "$room/kills.so"
+python3 -B kept.py "$program" "$room" "${2:-500}" "${3:-1}" "$room/kills.so"
