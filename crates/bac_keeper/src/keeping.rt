@@ -1,6 +1,6 @@
 //! `bac keep`: logs are added to an archive, and what is new of them is kept.
 
-ghost use Rattle.std.specs.Prelude.{◌≡◌, OnOk, IfOk, List, max, option_map};
+ghost use Rattle.std.specs.Prelude.{◌≡◌, OnOk, IfOk, List, option_map};
 ghost use Rattle.std.specs.String.{string_bytes};
 ghost use Rattle.std.specs.Io.KnownBytes.{Appends};
 ghost use Rattle.sqlite.specs.State.{HasCleanDisk};
@@ -151,13 +151,6 @@ fn keep_one<S: Sockets, A: Alter, O: Write, E: Write>(
     Ok(walk_status(end.why))
 }
 
-/// The greater of two statuses.
-fn greater_of(one: u8, other: u8) -> u8
-    ensures { result ≡ max one other }
-{
-    if one < other { other } else { one }
-}
-
 /// Keeps what is new of each of these logs in an archive; answers the greatest of their statuses.
 pub fn keep_each<S: Sockets, A: Alter, O: Write, E: Write>(
     sockets: &mut S,
@@ -176,7 +169,7 @@ pub fn keep_each<S: Sockets, A: Alter, O: Write, E: Write>(
     let mut greatest = 0u8;
     for wanted in all {
         let status = keep_one(sockets, conn, alloc, wanted, output, errors)?;
-        greatest = greater_of(greatest, status);
+        greatest = greatest.max(status);
     }
     Ok(greatest)
 }

@@ -23,7 +23,7 @@ loop-wanted-preserved g c =
       told = (
         was.0 ++ it.0 ∷ [],
         length_more was.0 yielded it.0 wanted was.1,
-        c.greater_of-greatest.ensures ∙ ap₂ max was.2 it.1 ∙ sym (greatest_more was.0 it.0),
+        c.max-greatest.ensures ∙ ap₂ max was.2 it.1 ∙ sym (greatest_more was.0 it.0),
         subst (Appends (g.O.Write.contents c.args.output.now) (g.O.Write.contents c.keep_one.new.output)) (sym (lines_more yielded wanted was.0 it.0 was.1))
             (Appends-trans _ (g.O.Write.contents c.loop-wanted.output) _ (lines_of yielded was.0) (summary_line wanted.source it.0) was.3 it.2),
         λ clean has.
