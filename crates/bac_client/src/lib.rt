@@ -21,24 +21,23 @@
 
 pub use bac_apdu::{Apdu, Extent, ReadProperty, ReadRange, Route, WriteProperty};
 pub use bac_direct::{
-    DirectLink, LinkEvent, RoutedLink, device_answers_tell_honestly, questions_are_the_devices,
-    replies_are_the_devices, routed_asks_tell_honestly, routers_hand_on_questions,
+    DirectLink, LinkEvent, RoutedLink, device_answers_tell_ours, questions_are_the_devices,
+    replies_are_the_devices, routed_asks_tell_ours, routers_hand_on_questions,
 };
 pub use bac_link::{
     Answer, ExchangeFault, Item, LogLink, Lost, Pending, Received, Refusal, Request, Timeout,
-    Transactions, Verdict, answers, answers_tell_requests_apart, asks_tell_honestly,
-    calls_are_events, can_be_joined, can_be_resumed, delivers_each_once, exchange, judge,
-    read_datagram,
+    Transactions, Verdict, answers, answers_tell_requests_apart, asks_tell_ours, calls_are_events,
+    can_be_joined, can_be_resumed, delivers_each_once, exchange, judge, read_datagram,
 };
 pub use bac_log::{Datum, Entry};
 pub use bac_ports::{Heard, Port, SocketFault, UdpLink, UdpPort, exchanges_are_runs};
 pub use bac_walk::{
     BadReply, Batch, Ended, Gap, Numbered, Outcome, Progress, Sink, Step, Walk, WalkFault, Why,
     brought_goes_on, brought_is_delivered, brought_tells_why, came_is_delivered, collect,
-    collected_is_delivered, deliver, honest_speaks, links_speak, lost_is_asked,
-    moments_never_go_back, nothing_came, numbers_have_ordinals, own_is_said, replies_are_loggable,
-    rest_resumes, rests_all, runs_deliver, runs_join, runs_stay_in_their_window, said_is_taken,
-    said_means, spoken_is_delivered, stop_and_resume, windows_are_near,
+    collected_is_delivered, deliver, honest_is_delivered, links_are_honest, lost_is_asked,
+    moments_never_go_back, nothing_came, numbers_have_ordinals, ours_are_honest, own_is_said,
+    replies_are_loggable, rest_resumes, rests_all, runs_deliver, runs_join,
+    runs_stay_in_their_window, said_is_taken, said_means, stop_and_resume, windows_are_near,
 };
 pub use bac_wire::{Datagram, Date4, Full, ObjectId, Stamp, Time4, Value};
 pub use bac_world::{

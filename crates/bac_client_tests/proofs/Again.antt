@@ -2,7 +2,8 @@
 use Rattle.std.proofs.Common.{◌≡◌, ℕ, ◌+◌, ◌<◌, max, nat_lt, Bool, true, false, [], refl, arith}
 use Rattle.std.proofs.lemmas.Bool.{lt-ltb, ltb-true, ltb-false}
 use Rattle.bac_link.specs.Delivery.{History, Moment}
-use Rattle.bac_walk.specs.Near.{IsInWindow, IsNear}
+use Rattle.bac_link.specs.Moments.{IsInWindow}
+use Rattle.bac_walk.specs.Near.{IsNear}
 use Rattle.bac_walk.specs.Outcomes.{IsRunOf}
 use Rattle.bac_walk.specs.Rests.{Rested, rest_all}
 use Rattle.bac_walk.specs.declared.outcome.Ended.TheVariants.{CaughtUp}

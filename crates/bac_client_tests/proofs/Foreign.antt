@@ -1,5 +1,5 @@
 -- What comes from the device that isn't ours.
-use Rattle.std.proofs.Common.{◌≡◌, ℕ, zero, suc, ◌+◌, ◌<◌, ◌≤◌, ◌^◌, ◌==◌, Bool, true, false, nat_lt, get_or, if◌then◌else◌, Option, Some, None, Result, Ok, Err, List, [], ◌∷◌, ◌++◌, length, pos, refl, sym, subst, ap, ◌∙◌, inl, inr, arith}
+use Rattle.std.proofs.Common.{◌≡◌, ℕ, zero, suc, ◌+◌, ◌<◌, ◌≤◌, ◌==◌, Bool, true, false, nat_lt, get_or, if◌then◌else◌, Option, Some, None, Result, Ok, Err, List, [], ◌∷◌, ◌++◌, length, pos, refl, sym, subst, ap, ◌∙◌, inl, inr, arith}
 use Rattle.std.proofs.lemmas.Bool.{cases_Bool, cases_lt, eqb-true}
 use Rattle.bac_wire.specs.Canon.{tagged, unsigned_octets}
 use Rattle.bac_wire.specs.Number.{number}
@@ -26,10 +26,11 @@ use Rattle.bac_link.specs.Requests.{asking, parameters_of, request_apdu, request
 use Rattle.bac_link.specs.declared.item.Item.{Item}
 use Rattle.bac_link.specs.declared.item.Item.TheVariants.{Logged}
 use Rattle.bac_link.specs.declared.link.Lost.{Lost}
-use Rattle.bac_walk.specs.Came.{Asks, Came, Comes, Brought, BroughtIsDelivered, AreOf, AreSaidAt, EndsBy, EndsEmpty, answers_of, asked_by}
+use Rattle.bac_walk.specs.Came.{Asks, Came, Comes, Brought, BroughtIsDelivered, AreOf, AreSaidAt, EndsBy, EndsEmpty, answers_of}
 use Rattle.bac_walk.specs.Collects.{turn_items}
 use Rattle.bac_walk.specs.Delivers.{NoneFrom}
-use Rattle.bac_walk.specs.Spoken.{DeliversSaid, IsSaidOrLost, IsSpokenEnd, SpeaksFor, SpeaksWhereItStands}
+use Rattle.bac_walk.specs.Honest.{DeliversSaid, IsHonestEnd}
+use Rattle.bac_link.specs.Honest.{IsAskedIn, IsSaidOrLost, IsHonestWhere, HonestWhereItStands, asked_octets}
 use Rattle.bac_walk.specs.Told.{ended_of}
 use Rattle.bac_walk.specs.declared.outcome.WalkFault.{WalkFault}
 use Rattle.bac_walk.specs.declared.outcome.WalkFault.TheVariants as fault
@@ -39,14 +40,14 @@ use Rattle.bac_walk.specs.declared.outcome.Ended.TheVariants.{CaughtUp as IsUp, 
 use Rattle.bac_walk.specs.declared.outcome.Why.{Why}
 use Rattle.bac_walk.specs.declared.outcome.Why.TheVariants as why
 use Rattle.bac_apdu.specs.Npdu.{Place}
-use Rattle.bac_walk.specs.Heard.{AckParameters, heard_at}
+use Rattle.bac_link.specs.Heard.{AckParameters, heard_at}
 use Rattle.bac_walk.specs.Place.{WalkPlace, walk_at}
-use Rattle.bac_walk.specs.Replied.{heard_in}
-use Rattle.bac_walk.specs.Standard.{FromNumber, FromOldest, IsSaidAt, HoldsNumber}
-use Rattle.bac_walk.specs.Walks.{question_of, IsTakenFrom}
+use Rattle.bac_link.specs.Heard.{heard_in}
+use Rattle.bac_link.specs.Standard.{Asked, FromNumber, FromOldest, IsSaidAt, HoldsNumber}
+use Rattle.bac_walk.specs.Walks.{asked_by, question_of, IsTakenFrom}
 use Rattle.bac_walk.specs.declared.outcome.Progress.{Progress}
 use Rattle.bac_walk.specs.declared.outcome.Progress.TheVariants.{Batch as BatchOf, AskOldest, CaughtUp}
-use Rattle.bac_client_tests.proofs.Spoken.{is_loss}
+use Rattle.bac_client_tests.proofs.Honest.{is_loss}
 use Rattle.bac_client_tests.specs.Foreign.{all_held, from_7, from_9, from_oldest, held, history, log, none_from_11, record_7, record_8, record_9, record_10, said_for, said_to, IsSaid}
 
 -- ---- what is read
@@ -106,7 +107,7 @@ said_oldest = record {
 
 -- ---- what is asked
 
-abbrev pub asked_for : ℕ → WalkPlace → List ℕ
+abbrev asked_for : ℕ → WalkPlace → List ℕ
 asked_for invoke w = request_octets (towards None) invoke (question w.log (question_of w))
 
 -- where the walk is after number 11, too, brought nothing
@@ -267,18 +268,11 @@ all_delivered old new way retries w after steps n came items ended reason near f
       λ is. let e = up (λ a octets answer b. IsSaid octets answer) (towards None) retries n came b.0 after b.1 new items ended (ended_up reason steps n ended run is) b.3 b.4 in e.1 ∙ said.1 e.0,
     )
 
--- ---- any question of a walk
+-- ---- any question for its records
 
-abbrev place : ℕ → Bool → Bool → WalkPlace
-place n fresh asks = record { log = log; next = n; fresh = fresh; asks_oldest = asks }
-
-asks_time_fresh : (n invoke : ℕ) (asks : Bool) → said_to (asked_for invoke (place n true asks)) ≡ Some from_oldest
+asks_time : (invoke : ℕ) → said_to (asked_octets (towards None) invoke log FromOldest) ≡ Some from_oldest
 unfolding context_octets value_octets open_octets close_octets frame_octets place_octets parameters_of request_apdu request_octets
-asks_time_fresh n invoke asks = refl
-
-asks_time : (n invoke : ℕ) → said_to (asked_for invoke (place n false true)) ≡ Some from_oldest
-unfolding context_octets value_octets open_octets close_octets frame_octets place_octets parameters_of request_apdu request_octets
-asks_time n invoke = refl
+asks_time invoke = refl
 
 -- the question by number, with these contents for the number
 with_number : ℕ → List ℕ → List ℕ
@@ -286,7 +280,7 @@ with_number invoke contents =
     frame_octets (header_octets (asking (towards None)) ++ apdu_octets (Confirmed false 1476 invoke 26
     (context_octets 0 (Object log) ++ (context_octets 1 (Enumerated 131) ++ (open_octets 6 ++ (tagged 0 2 contents ++ (value_octets (Signed (pos 100)) ++ (close_octets 6 ++ []))))))))
 
-asks_with : (n invoke : ℕ) → asked_for invoke (place n false false) ≡ with_number invoke (unsigned_octets n)
+asks_with : (n invoke : ℕ) → asked_octets (towards None) invoke log (FromNumber n) ≡ with_number invoke (unsigned_octets n)
 unfolding with_number context_octets value_octets open_octets close_octets frame_octets place_octets parameters_of request_apdu request_octets
 asks_with n invoke = refl
 
@@ -337,33 +331,23 @@ by_contents (a ∷ []) n invoke datagram is said =
     let N : ℕ → Type 0 = λ k. IsSaidAt held history log (FromNumber k) datagram in
     subst N (let e : a ≡ n = omega (arith, is) in e) (known a (a == 7) (a == 9) (a == 11) datagram refl refl refl (sym (one_said invoke a) ∙ said))
 
-at_place : (n invoke : ℕ) (fresh asks : Bool) (datagram : List ℕ) → n < 2 ^ 64 → said_to (asked_for invoke (place n fresh asks)) ≡ Some datagram →
-    IsSaidAt held history log (asked_by (place n fresh asks)) datagram
-at_place n invoke true asks datagram small said =
-    let D : List ℕ → Type 0 = λ d. IsSaidAt held history log FromOldest d in subst D (same from_oldest datagram (sym (asks_time_fresh n invoke asks) ∙ said)) said_oldest
-at_place n invoke false true datagram small said =
-    let D : List ℕ → Type 0 = λ d. IsSaidAt held history log FromOldest d in subst D (same from_oldest datagram (sym (asks_time n invoke) ∙ said)) said_oldest
-at_place n invoke false false datagram small said =
-    by_contents (unsigned_octets n) n invoke datagram (unsigned_stands n small).1 (ap said_to (sym (asks_with n invoke)) ∙ said)
+-- the reply to any of them
+pub reply_said : (low invoke : ℕ) (asked : Asked) (datagram : List ℕ) → IsAskedIn low asked → said_to (asked_octets (towards None) invoke log asked) ≡ Some datagram →
+    IsSaidAt held history log asked datagram
+reply_said low invoke FromOldest datagram is said =
+    let D : List ℕ → Type 0 = λ d. IsSaidAt held history log FromOldest d in subst D (same from_oldest datagram (sym (asks_time invoke) ∙ said)) said_oldest
+reply_said low invoke (FromNumber n) datagram (s, number, above, below) said =
+    by_contents (unsigned_octets n) n invoke datagram (unsigned_stands n (omega (arith, number))).1 (ap said_to (sym (asks_with n invoke)) ∙ said)
 
--- the reply to a question of a walk that is anywhere
-pub reply_said : (w : WalkPlace) (s invoke : ℕ) (datagram : List ℕ) → w.log ≡ log → w.next ≡ sequence_number s →
-    said_to (asked_for invoke w) ≡ Some datagram → IsSaidAt held history w.log (asked_by w) datagram
-reply_said w s invoke datagram log_is next said =
-    let here : w ≡ place w.next w.fresh w.asks_oldest = ap (λ i. let v : WalkPlace = record { log = i; next = w.next; fresh = w.fresh; asks_oldest = w.asks_oldest } in v) log_is in
-    let S : WalkPlace → Type 0 = λ v. said_to (asked_for invoke v) ≡ Some datagram in
-    let R : WalkPlace → Type 0 = λ v. IsSaidAt held history v.log (asked_by v) datagram in
-    subst R (sym here) (at_place w.next invoke w.fresh w.asks_oldest datagram (omega (arith, next)) (subst S here said))
+one_ask : (M : List Moment) (low invoke : ℕ) (asked : Asked) (answer : Result (List ℕ) Lost) → held ∷ [] ≡ M → IsAskedIn low asked →
+    IsSaid (asked_octets (towards None) invoke log asked) answer → IsSaidOrLost (λ N. held ∷ [] ≡ N) M history log asked (asked_octets (towards None) invoke log asked) answer
+one_ask M low invoke asked (Err lost) stands is said = stands
+one_ask M low invoke asked (Ok datagram) stands is said =
+    let P : List Moment → Type 0 = λ N. IsSaidAt (now N) history log asked datagram × (held ∷ [] ≡ later N) in
+    ((λ yes. subst P stands (reply_said low invoke asked datagram is said, refl)), λ no. stands)
 
-one_ask : (M : List Moment) (w : WalkPlace) (s invoke : ℕ) (answer : Result (List ℕ) Lost) → held ∷ [] ≡ M → w.log ≡ log → w.next ≡ sequence_number s →
-    IsSaid (asked_for invoke w) answer → IsSaidOrLost (λ N. held ∷ [] ≡ N) M history w (asked_for invoke w) answer
-one_ask M w s invoke (Err lost) stands log_is next said = stands
-one_ask M w s invoke (Ok datagram) stands log_is next said =
-    let P : List Moment → Type 0 = λ N. IsSaidAt (now N) history w.log (asked_by w) datagram × (held ∷ [] ≡ later N) in
-    ((λ yes. subst P stands (reply_said w s invoke datagram log_is next said, refl)), λ no. stands)
-
-pub speaks_for : {S : Type 0} (low : ℕ) → SpeaksFor {S = S} (λ a octets answer b. IsSaid octets answer) (towards None) log history low (λ link M. held ∷ [] ≡ M)
-speaks_for low = λ old new M w s invoke answer stands log_is next some window at asked. one_ask M w s invoke answer stands log_is next asked
+pub honest_where : {S : Type 0} (low : ℕ) → IsHonestWhere {S = S} (λ a octets answer b. IsSaid octets answer) (towards None) log history low (λ link M. held ∷ [] ≡ M)
+honest_where low = λ old new M asked invoke answer stands some window is ask. one_ask M low invoke asked answer stands is ask
 
 pub always_held : (i : ℕ) → moment_at (held ∷ []) i ≡ held
 always_held zero = refl
@@ -375,17 +359,17 @@ beyond t none = elim (cases_lt 10 t) [ inl lt ↦ lt | inr ge ↦ absurd (none 1
 
 -- over the device's link a run delivers what its log holds, from any place
 pub walk_delivers : {S : Type 0} (old new : S) (way : Option Place) (w after : WalkPlace) (items : List Item) (reason : Why) (low s : ℕ) →
-    SpeaksWhereItStands {S = S} (λ a octets answer b. IsSaid octets answer) (λ link M. held ∷ [] ≡ M) →
+    HonestWhereItStands {S = S} (λ a octets answer b. IsSaid octets answer) (λ link M. held ∷ [] ≡ M) →
     DeliversSaid (λ a octets answer b. IsSaid octets answer) (towards way) old w items (ended_of reason) after new → way ≡ None → w.log ≡ log → w.next ≡ sequence_number s →
     low ≤ 7 → (w.fresh ≡ false → (low ≤ s) × (s < low + 2147483648)) →
     ((b : ℕ) × (a : ℕ) × (t : ℕ) × (w.fresh ≡ false → b ≡ s) × (after.next ≡ sequence_number t) × DeliversTo history b items t (held ∷ []) a × (reason ≡ why.CaughtUp → 10 < t))
     × ((e : WalkFault) → reason ≡ why.Fault e → e ≡ fault.Lost)
 walk_delivers {S = S} old new way w after items reason low s stands said near log_is next below at =
     let W : Option Place → Type 0 = λ y. DeliversSaid {S = S} (λ a octets answer b. IsSaid octets answer) (towards y) old w items (ended_of reason) after new in
-    let I : Id → Type 0 = λ i. SpeaksFor {S = S} (λ a octets answer b. IsSaid octets answer) (towards None) i history low (λ link M. held ∷ [] ≡ M) in
-    let speaks = stands (towards None) w.log history low old (held ∷ []) (subst I (sym log_is) (speaks_for {S = S} low)) refl in
-    let all = subst W near said history (held ∷ []) s low speaks next (omega arith) tt (record { oldest = below; newest = omega arith }, tt) at in
-    let E : Why → Type 0 = λ y. IsSpokenEnd (ended_of y) in (
+    let I : Id → Type 0 = λ i. IsHonestWhere {S = S} (λ a octets answer b. IsSaid octets answer) (towards None) i history low (λ link M. held ∷ [] ≡ M) in
+    let honest = stands (towards None) w.log history low old (held ∷ []) (subst I (sym log_is) (honest_where {S = S} low)) refl in
+    let all = subst W near said history (held ∷ []) s low honest next (omega arith) tt (record { oldest = below; newest = omega arith }, tt) at in
+    let E : Why → Type 0 = λ y. IsHonestEnd (ended_of y) in (
       (
         all.0,
         all.1,

@@ -1,4 +1,5 @@
--- A link over the port with the device behind it speaks for its log; so what is printed are the lines of what it holds.
+-- A link over the port with the device behind it is honest for its log; so what is printed are the lines of what it
+-- holds.
 use Rattle.std.specs.Prelude.{IfOk}
 use Rattle.std.specs.Str.{bytes_eq}
 use Rattle.std.proofs.Common.{◌≡◌, ℕ, zero, suc, ◌+◌, ◌<◌, ◌≤◌, ◌&&◌, if◌then◌else◌, Bool, true, false, Option, Some, None, Result, Ok, Err, List, [], ◌∷◌, ◌++◌, length, drop, refl, sym, subst, ap, ◌∙◌, append_assoc, arith}
@@ -6,7 +7,6 @@ use Rattle.std.proofs.lemmas.List.{length-append}
 use Rattle.std.proofs.lemmas.Slice.Eq.{bytes_eq-Decides}
 use Rattle.bac_wire.specs.Primitive.{Id}
 use Rattle.bac_apdu.specs.Npdu.{Place}
-use Rattle.bac_log.specs.TrendLog.{sequence_number}
 use Rattle.bac_log.specs.declared.entry.Entry.{Entry}
 use Rattle.bac_link.specs.Datagrams.{answers_to}
 use Rattle.bac_link.specs.Delivery.{AreHeld, Brings, DeliversTo, Leads, Moment, items_of, now, later}
@@ -19,13 +19,13 @@ use Rattle.bac_ports.specs.declared.port.Heard.{Heard}
 use Rattle.bac_ports.specs.declared.udp_link.UdpLink.{UdpLink}
 use Rattle.bac_query.specs.Fetching.{FetchesOver, Fetching}
 use Rattle.bac_query.specs.Reading.{Held}
-use Rattle.bac_walk.specs.Came.{asked_by}
 use Rattle.bac_walk.specs.Delivers.{NoneFrom}
 use Rattle.bac_walk.specs.Place.{WalkPlace, walk_at}
-use Rattle.bac_walk.specs.Spoken.{IsSaidOrLost, IsSpokenEnd, SpeaksFor, SpokenIsDelivered}
-use Rattle.bac_walk.specs.Standard.{IsSaidAt}
-use Rattle.bac_client_tests.proofs.Foreign.{always_held, asked_for, beyond, ended_up, reply_said}
-use Rattle.bac_client_tests.proofs.Spoken.{ended_as, is_loss}
+use Rattle.bac_link.specs.Honest.{IsAskedIn, IsSaidOrLost, IsHonestWhere, asked_octets}
+use Rattle.bac_walk.specs.Honest.{IsHonestEnd, HonestIsDelivered}
+use Rattle.bac_link.specs.Standard.{Asked, IsSaidAt}
+use Rattle.bac_client_tests.proofs.Foreign.{always_held, beyond, ended_up, reply_said}
+use Rattle.bac_client_tests.proofs.Honest.{ended_as, is_loss}
 use Rattle.bac_client_tests.specs.Foreign.{all_held, held, history, log, record_7, record_8, record_9, record_10, said_to}
 use Rattle.bac_client_tests.specs.ForeignPort.{IsBrought, IsPut, PrintsHeld, device_at, moments_at}
 
@@ -78,7 +78,7 @@ answered : {P : Type 0} (question : P → List ℕ) (request : List ℕ) (port :
 answered question request port datagram new (Err why, mid, put, rest) = absurd rest.0
 answered question request port datagram new (Ok done, mid, put, rest) = ap said_to (sym put) ∙ awaited question request 16 mid datagram new rest
 
--- ---- the link speaks
+-- ---- the link is honest
 
 -- where there is a moment, the link is to the device
 to_device : (peer : List ℕ) (M : List Moment) → moments_at peer ≡ M → 0 < length M → (peer ≡ device_at) × (M ≡ held ∷ [])
@@ -91,17 +91,17 @@ to_device peer M stands some = by (bytes_eq peer device_at) refl
     by true of =
         ((bytes_eq-Decides peer device_at).0 of, sym (sym (ap (λ (b : Bool). if b then held ∷ [] else []) of) ∙ stands))
 
-one_ask : (M : List Moment) (w : WalkPlace) (s invoke : ℕ) (peer left : List ℕ) (answer : Result (List ℕ) Lost) →
-    moments_at peer ≡ M → w.log ≡ log → w.next ≡ sequence_number s → 0 < length M → left ≡ peer →
-    ((datagram : List ℕ) → answer ≡ Ok datagram → peer ≡ device_at → said_to (asked_for invoke w) ≡ Some datagram) →
-    IsSaidOrLost (λ N. moments_at left ≡ N) M history w (asked_for invoke w) answer
-one_ask M w s invoke peer left (Err lost) stands log_is next some same said = ap moments_at same ∙ stands
-one_ask M w s invoke peer left (Ok datagram) stands log_is next some same said =
+one_ask : (M : List Moment) (low invoke : ℕ) (asked : Asked) (peer left : List ℕ) (answer : Result (List ℕ) Lost) →
+    moments_at peer ≡ M → 0 < length M → IsAskedIn low asked → left ≡ peer →
+    ((datagram : List ℕ) → answer ≡ Ok datagram → peer ≡ device_at → said_to (asked_octets (towards None) invoke log asked) ≡ Some datagram) →
+    IsSaidOrLost (λ N. moments_at left ≡ N) M history log asked (asked_octets (towards None) invoke log asked) answer
+one_ask M low invoke asked peer left (Err lost) stands some is same said = ap moments_at same ∙ stands
+one_ask M low invoke asked peer left (Ok datagram) stands some is same said =
     let device = to_device peer M stands some in
     let stays : moments_at left ≡ M = ap moments_at same ∙ stands in
-    let P : List Moment → Type 0 = λ N. (moments_at left ≡ N) → IsSaidAt (now N) history w.log (asked_by w) datagram × (moments_at left ≡ later N) in
-    let reply = reply_said w s invoke datagram log_is next (said datagram refl device.0) in (
-      (λ yes. subst P (sym device.1) (λ is. (reply, is)) stays),
+    let P : List Moment → Type 0 = λ N. (moments_at left ≡ N) → IsSaidAt (now N) history log asked datagram × (moments_at left ≡ later N) in
+    let reply = reply_said low invoke asked datagram is (said datagram refl device.0) in (
+      (λ yes. subst P (sym device.1) (λ at. (reply, at)) stays),
       λ no. stays,
     )
 
@@ -111,18 +111,19 @@ PortAsks question old octets answer new =
     Asks (λ a put to told left. IsPut put told (question left)) (λ a told left. IsBrought (question a) told × (question left ≡ question a))
     old.peer octets 16 old.port answer new.port × (new.peer ≡ old.peer)
 
-pub port_speaks : {P : Type 0} (question : P → List ℕ) (low : ℕ) →
-    SpeaksFor {S = UdpLink P} (λ old octets answer new. PortAsks question old octets answer new)
+pub port_is_honest : {P : Type 0} (question : P → List ℕ) (low : ℕ) →
+    IsHonestWhere {S = UdpLink P} (λ old octets answer new. PortAsks question old octets answer new)
     (towards None) log history low (λ link M. moments_at link.peer ≡ M)
-port_speaks {P = P} question low = λ old new M w s invoke answer stands log_is next some window at asked.
-    one_ask M w s invoke old.peer new.peer answer stands log_is next some asked.1
-    (λ datagram is device.
-    let A : List ℕ → Result (List ℕ) Lost → Type 0 = λ peer told.
-    Asks (λ a put to sent left. IsPut put sent (question left)) (λ a heard left. IsBrought (question a) heard × (question left ≡ question a))
-    peer (asked_for invoke w) 16 old.port told new.port in
+port_is_honest {P = P} question low = λ old new M asked invoke answer stands some window is ask.
+    one_ask M low invoke asked old.peer new.peer answer stands some is ask.1
+    (λ datagram told device.
+    let octets : List ℕ = asked_octets (towards None) invoke log asked in
+    let A : List ℕ → Result (List ℕ) Lost → Type 0 = λ peer heard.
+    Asks (λ a put to sent left. IsPut put sent (question left)) (λ a brought left. IsBrought (question a) brought × (question left ≡ question a))
+    peer octets 16 old.port heard new.port in
     let B : List ℕ → Type 0 = λ peer. A peer (Ok datagram) in
-    let C : Result (List ℕ) Lost → Type 0 = λ told. A old.peer told in
-    answered question (asked_for invoke w) old.port datagram new.port (subst B device (subst C is asked.0)))
+    let C : Result (List ℕ) Lost → Type 0 = λ heard. A old.peer heard in
+    answered question octets old.port datagram new.port (subst B device (subst C told ask.0)))
 
 -- ---- what it delivers
 
@@ -192,17 +193,17 @@ none_left t k is small none =
 
 pub prints_held : {S : Type 0} (asks : S → List ℕ → Result (List ℕ) Lost → S → Type 0) (moments : S → List Moment) (link left : S)
     (way : Option Place) (retries : ℕ) (w : WalkPlace) (asked : Id) (steps : ℕ) (result : Fetching) (old new : Held) →
-    SpokenIsDelivered asks (λ l M. moments l ≡ M) → ((low : ℕ) → SpeaksFor asks (towards None) log history low (λ l M. moments l ≡ M)) →
+    HonestIsDelivered asks (λ l M. moments l ≡ M) → ((low : ℕ) → IsHonestWhere asks (towards None) log history low (λ l M. moments l ≡ M)) →
     moments link ≡ held ∷ [] → way ≡ None → w ≡ walk_at asked 7 →
     FetchesOver asks (towards way) retries link w steps result left old new →
     IfOk result (λ done. asked ≡ log → PrintsHeld done old new)
-prints_held asks moments link left way retries w asked steps (Err fault) old new law speaks stands near from over = tt
-prints_held {S = S} asks moments link left way retries w asked steps (Ok done) old new law speaks stands near from over = λ is.
+prints_held asks moments link left way retries w asked steps (Err fault) old new law honest stands near from over = tt
+prints_held {S = S} asks moments link left way retries w asked steps (Ok done) old new law honest stands near from over = λ is.
     let P : Option Place → WalkPlace → Type 0 = λ y v. FetchesOver asks (towards y) retries link v steps (Ok done) left old new in
     let A : Option Place → Type 0 = λ y. P y (walk_at log 7) in
     let here : w ≡ walk_at log 7 = from ∙ ap (λ (i : Id). walk_at i 7) is in
     let f : P None (walk_at log 7) = subst A near (subst (P way) here over) in
-    let d = law (towards None) retries link f.5 (walk_at log 7) f.4 f.2 f.0 f.1 f.3 history (held ∷ []) 7 7 (speaks 7) stands f.6 refl (omega arith) tt
+    let d = law (towards None) retries link f.5 (walk_at log 7) f.4 f.2 f.0 f.1 f.3 history (held ∷ []) 7 7 (honest 7) stands f.6 refl (omega arith) tt
     (record { oldest = omega arith; newest = omega arith }, tt) (λ fresh. (omega arith, omega arith)) in
     let D : ℕ → Type 0 = λ x. DeliversTo history x f.1 d.0.2 (held ∷ []) d.0.1 in
     let part = all_of f.1 d.0.2 d.0.1 (subst D (d.0.3 refl) d.0.5) in (
@@ -215,5 +216,5 @@ prints_held {S = S} asks moments link left way retries w asked steps (Ok done) o
           let caught = d.0.6 (ended_up done.why steps f.2 f.3 f.7.0.0 up) in
           let N : Moment → Type 0 = λ m. NoneFrom d.0.2 m in
           none_left d.0.2 part.0 part.1 part.2 (subst N (always_held caught.0) caught.3)),
-      λ e told. is_loss e (subst IsSpokenEnd (ended_as done.why steps f.2 f.3 e f.7.0.0 told) d.3),
+      λ e told. is_loss e (subst IsHonestEnd (ended_as done.why steps f.2 f.3 e f.7.0.0 told) d.3),
     )

@@ -2,6 +2,6 @@ pub mod Held
 pub mod Day
 pub mod Again
 pub mod Foreign
-pub mod Spoken
+pub mod Honest
 pub mod Loggable
 pub mod ForeignPort

@@ -13,12 +13,11 @@ use Rattle.bac_link.specs.declared.item.Item.{Item}
 use Rattle.bac_link.specs.declared.link.Lost.{Lost as Loss}
 use Rattle.bac_walk.specs.Came.{Came, Brought, Comes, EndsBy, EndsEmpty, answers_of}
 use Rattle.bac_walk.specs.Collects.{batches}
-use Rattle.bac_walk.specs.Delivers.{end_of}
 use Rattle.bac_walk.specs.Outcomes.{IsRunOf}
 use Rattle.bac_walk.specs.Place.{WalkPlace, walk_at}
 use Rattle.bac_walk.specs.Rests.{Rested, rest_from}
-use Rattle.bac_walk.specs.Spoken.{RepliesAreLoggable}
-use Rattle.bac_walk.specs.Turns.{whole_reply}
+use Rattle.bac_walk.specs.Honest.{RepliesAreLoggable}
+use Rattle.bac_walk.specs.Turns.{whole_reply, reply_count}
 use Rattle.bac_walk.specs.declared.outcome.Ended.{Ended}
 use Rattle.bac_walk.specs.declared.outcome.Ended.TheVariants.{CaughtUp, StepLimit, Stopped, Fault}
 use Rattle.bac_walk.specs.declared.outcome.WalkFault.{WalkFault}
@@ -29,10 +28,11 @@ use Rattle.bac_walk.specs.declared.outcome.Why.TheVariants as why
 rest_whole : (r : ℕ) (H : History) (m : Moment) (s steps : ℕ) (e : WalkFault) → (rest_from r H m s steps).ended ≡ Fault e → ⊥
 rest_whole r H m s zero e is = absurd cc
 rest_whole r H m s (suc steps) e is =
-    let batch = whole_reply r H m (nat_lt (s + 99) (max s m.oldest)) s in
-    let more = rest_from r H m (end_of s batch) steps in
-    by (nat_lt m.newest (max s m.oldest)) (record { items = batch ++ more.items; next = more.next; ended = more.ended })
-    (λ f. rest_whole r H m (end_of s batch) steps e f) is
+    let by_oldest = nat_lt (s + 99) (max s m.oldest) in
+    let u = max s m.oldest + reply_count r H m by_oldest s in
+    let more = rest_from r H m u steps in
+    by (nat_lt m.newest (max s m.oldest)) (record { items = whole_reply r H m by_oldest s ++ more.items; next = more.next; ended = more.ended })
+    (λ f. rest_whole r H m u steps e f) is
   where
     by : (b : Bool) (x : Rested) → (x.ended ≡ Fault e → ⊥) → (if b then record { items = []; next = s; ended = CaughtUp } else x).ended ≡ Fault e → ⊥
     by true x whole f = absurd cc
@@ -67,12 +67,12 @@ came_some asks place retries steps n came here after mid new CaughtUp why.StepLi
 came_some asks place retries steps n came here after mid new Stopped why.StepLimit some whole run ends = absurd (let e = run.1 in cc)
 came_some asks place retries steps n came here after mid new (Fault f) why.StepLimit some whole run ends = absurd (let e = run.1 in cc)
 
-pub all_loggable : {S : Type 0} (asks : S → List ℕ → Result (List ℕ) Loss → S → Type 0) (honest : S → Id → ℕ → List Moment → History → Type 0) →
-    RepliesAreLoggable asks honest → (way : Option Place) (retries steps n : ℕ) (came : List Came) (items : List Item) (ended : Ended) (reason : Why) (w after : WalkPlace) (old new : S)
-    (log : Id) (number r s : ℕ) (m : Moment) (H : History) → way ≡ None → w ≡ walk_at log number → number ≡ sequence_number s → IsValid (Object log) → honest old log r (m ∷ []) H → 0 < steps →
+pub all_loggable : {S : Type 0} (asks : S → List ℕ → Result (List ℕ) Loss → S → Type 0) (ours : S → Id → ℕ → List Moment → History → Type 0) →
+    RepliesAreLoggable asks ours → (way : Option Place) (retries steps n : ℕ) (came : List Came) (items : List Item) (ended : Ended) (reason : Why) (w after : WalkPlace) (old new : S)
+    (log : Id) (number r s : ℕ) (m : Moment) (H : History) → way ≡ None → w ≡ walk_at log number → number ≡ sequence_number s → IsValid (Object log) → ours old log r (m ∷ []) H → 0 < steps →
     IsRunOf reason steps steps (rest_from r H m s steps).ended → IsRunOf reason steps n ended → Brought asks (towards way) retries old w n came items ended after new →
     (reason ≡ why.Memory) ⊎ All IsLoggable (log_at m H).entries
-all_loggable {S = S} asks honest law way retries steps n came items ended reason w after old new log number r s m H near from here valid is_honest some rests run ran =
+all_loggable {S = S} asks ours law way retries steps n came items ended reason w after old new log number r s m H near from here valid is_ours some rests run ran =
     let P : Option Place → WalkPlace → Type 0 = λ y v. Brought asks (towards y) retries old v n came items ended after new in
     let B : Option Place → Type 0 = λ y. P y (walk_at log number) in
     let b : P None (walk_at log number) = subst B near (subst (P way) from ran) in
@@ -84,4 +84,4 @@ all_loggable {S = S} asks honest law way retries steps n came items ended reason
   where
     held : (came : List Came) (left : WalkPlace) (mid : S) → 0 < length came → Comes asks (towards None) retries old (walk_at log number) came left mid → All IsLoggable (log_at m H).entries
     held [] left mid full comes = absurd (omega (arith, full))
-    held (c ∷ more) left mid full comes = law None retries old mid (walk_at log number) left c more r s (m ∷ []) H is_honest tt valid here comes
+    held (c ∷ more) left mid full comes = law None retries old mid (walk_at log number) left c more r s (m ∷ []) H is_ours tt valid here comes

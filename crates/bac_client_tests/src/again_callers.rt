@@ -7,7 +7,8 @@ ghost use Rattle.bac_link.specs.Delivery.{History, Moment};
 ghost use Rattle.bac_link.specs.Moments.{log_at};
 ghost use Rattle.bac_link.specs.Path.{towards};
 ghost use Rattle.bac_walk.specs.declared.outcome.Why.TheVariants as why;
-ghost use Rattle.bac_walk.specs.Near.{IsInWindow, IsNear};
+ghost use Rattle.bac_link.specs.Moments.{IsInWindow};
+ghost use Rattle.bac_walk.specs.Near.{IsNear};
 
 use bac_link::{LogLink, Transactions};
 use bac_walk::{Outcome, Walk, collect, rests_all};
@@ -24,7 +25,7 @@ pub fn nothing_more<L: LogLink>(
     steps: u32,
 ) -> Option<(Outcome, Outcome)>
     ensures { IfSome result (λ both. (r : ℕ) (m : Moment) (H : History) (k low : ℕ) →
-        L.is_sure link.old (towards None) → L.is_honest link.old log r (m ∷ []) H → s ≡ sequence_number k → IsNear k m → IsInWindow low m → low ≤ k → k < low + 2147483648 →
+        L.is_sure link.old (towards None) → L.is_ours link.old log r (m ∷ []) H → s ≡ sequence_number k → IsNear k m → IsInWindow low m → low ≤ k → k < low + 2147483648 →
         All IsLoggable (log_at m H).entries → (m.newest + 1) - max k m.oldest < steps → both.0.why ≢ why.Memory →
         (both.1.why ≡ why.Memory) ⊎ ((both.1.items.items ≡ []) × (both.1.next ≡ both.0.next) × (both.1.why ≡ why.CaughtUp))) }
 {

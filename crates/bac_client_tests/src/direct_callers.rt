@@ -15,7 +15,8 @@ ghost use Rattle.bac_apdu.specs.Npdu.{Place};
 ghost use Rattle.bac_apdu.specs.Route.{IsWay};
 ghost use Rattle.bac_link.specs.Path.{back, towards};
 ghost use Rattle.bac_link.specs.Requests.{request_octets};
-ghost use Rattle.bac_walk.specs.Near.{AreInWindow, IsNear};
+ghost use Rattle.bac_link.specs.Moments.{AreInWindow};
+ghost use Rattle.bac_walk.specs.Near.{IsNear};
 ghost use Rattle.bac_walk.specs.Rests.{Misses, rest_all};
 ghost use Rattle.bac_walk.specs.declared.outcome.Why.TheVariants as why;
 ghost use Rattle.bac_direct.specs.Ahead.{history_ahead, IsThere, log_with, moment_of, moments_ahead, placed, placed_all};
@@ -32,7 +33,7 @@ use bac_wire::{Datagram, ObjectId};
 use std::alloc::Global;
 use std::test::Fail;
 
-/// A link's question for the records of a log of a device brings the honest reply of that log, and
+/// A link's question for the records of a log of a device brings the reply of that log, and
 /// changes nothing.
 pub fn questions_bring_replies()
     ensures { (d : State) (source : Option Place) (n : ℕ) (log : Log) (invoke : ℕ) (extent : AnyExtent) →

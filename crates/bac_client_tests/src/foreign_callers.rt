@@ -5,7 +5,7 @@ ghost use Rattle.std.specs.Prelude.{ℕ, ◌≡◌, ◌+◌, ◌<◌, ◌≤◌,
 ghost use Rattle.bac_log.specs.TrendLog.{sequence_number};
 ghost use Rattle.bac_link.specs.Delivery.{DeliversTo};
 ghost use Rattle.bac_link.specs.Path.{towards};
-ghost use Rattle.bac_walk.specs.Spoken.{SpeaksFor};
+ghost use Rattle.bac_link.specs.Honest.{IsHonestWhere};
 ghost use Rattle.bac_walk.specs.declared.outcome.WalkFault.{WalkFault as WalkFaultOf};
 ghost use Rattle.bac_walk.specs.declared.outcome.WalkFault.TheVariants as fault;
 ghost use Rattle.bac_walk.specs.declared.outcome.Why.TheVariants as why;
@@ -15,7 +15,7 @@ ghost use Rattle.bac_client_tests.specs.Foreign.{all_held, held, history, log as
 use crate::direct_link::brought;
 use bac_link::{Item, LogLink, Lost, Transactions};
 use bac_log::{Datum, Entry};
-use bac_walk::{Outcome, Walk, Why, brought_is_delivered, collect, links_speak};
+use bac_walk::{Outcome, Walk, Why, brought_is_delivered, collect, links_are_honest};
 use bac_wire::{Datagram, Date4, ObjectId, Time4};
 use std::alloc::Global;
 use std::test::Fail;
@@ -88,12 +88,12 @@ pub(crate) fn reply_to(question: &[u8]) -> Option<Datagram>
     }
 }
 
-/// It isn't claimed to be honest, which is of logs of our own: what is proved over it follows from
+/// It isn't claimed to be ours: what is proved over it follows from
 /// what it answers.
 impl LogLink for ForeignLink {
     ghost failures = { λ link. link.failures };
 
-    ghost is_honest = { λ link id r M H. ⊥ };
+    ghost is_ours = { λ link id r M H. ⊥ };
 
     ghost lacks = { λ link id. ⊥ };
 
@@ -115,7 +115,7 @@ impl LogLink for ForeignLink {
 
     ghost serves = { λ link id r M H h. absurd h };
 
-    ghost tells_honestly = { λ old new octets answer id r M H extent path invoke h is asked. absurd h };
+    ghost tells_ours = { λ old new octets answer id r M H extent path invoke h is asked. absurd h };
 
     ghost keeps_itself = { λ link. tt };
 
@@ -144,9 +144,9 @@ pub fn records_of_another_device(
 }
 
 /// To each question of a walk of its log, from whatever number on or for the oldest, the device
-/// answers by the standard, or the ask is lost: the link speaks for its log.
-pub fn another_device_speaks()
-    ensures { (low : ℕ) → SpeaksFor {S = ForeignLinkOf} (λ old octets answer new. IsSaid octets answer) (towards None) log_one history low
+/// answers by the standard, or the ask is lost: the link is honest for its log.
+pub fn another_device_is_honest()
+    ensures { (low : ℕ) → IsHonestWhere {S = ForeignLinkOf} (λ old octets answer new. IsSaid octets answer) (towards None) log_one history low
         (λ link M. held ∷ [] ≡ M) }
 {}
 
@@ -166,7 +166,7 @@ pub fn walk_of_another_device(
         × ((e : WalkFaultOf) → result.why ≡ why.Fault e → e ≡ fault.Lost) }
 {
     // For the prover alone: the law that the contract follows from.
-    links_speak::<ForeignLink>();
+    links_are_honest::<ForeignLink>();
     collect(alloc, link, transactions, walk, steps)
 }
 

@@ -9,7 +9,7 @@ use crate::foreign_callers::{FROM_9, reply_to};
 use bac_link::Transactions;
 use bac_ports::{Heard, Port, SocketFault, UdpLink};
 use bac_query::{Fetched, QueryFault, fetch_log};
-use bac_walk::{Walk, Why, spoken_is_delivered};
+use bac_walk::{Walk, Why, honest_is_delivered};
 use bac_wire::{Datagram, ObjectId};
 use std::alloc::Global;
 use std::io::Write;
@@ -82,7 +82,7 @@ pub fn printed_of_another_device<W: Write>(
         PrintsHeld done (W.contents out.old) (W.contents out.new))) }
 {
     // For the prover alone: the law that the contract follows from.
-    spoken_is_delivered::<UdpLink<ForeignPort>>();
+    honest_is_delivered::<UdpLink<ForeignPort>>();
     let walk = Walk::from_number(log, 7)?;
     let mut transactions = Transactions::new(retries);
     let mut link = UdpLink::new(port, DEVICE);

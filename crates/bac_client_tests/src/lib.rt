@@ -18,13 +18,13 @@ mod foreign_port;
 #[cfg(test)]
 mod full_log;
 #[cfg(test)]
+mod honest_callers;
+#[cfg(test)]
 mod link;
 #[cfg(test)]
 mod link_callers;
 #[cfg(test)]
 mod routed_link;
-#[cfg(test)]
-mod spoken_callers;
 #[cfg(test)]
 mod walk;
 #[cfg(test)]

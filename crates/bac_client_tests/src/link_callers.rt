@@ -52,7 +52,7 @@ pub fn no_answer_is_taken_twice<L: LogLink>(
     Some((early, late))
 }
 
-/// Over a sure link that is honest for a log, a question for its records from a number on brings
+/// Over a sure link that is ours for a log, a question for its records from a number on brings
 /// the reply of the next moment.
 pub fn records_from<L: LogLink>(
     link: &mut L,
@@ -60,9 +60,9 @@ pub fn records_from<L: LogLink>(
     log: ObjectId,
     from: u32,
 ) -> Result<Datagram, ExchangeFault>
-    ensures replied { (r : ℕ) (M : List Moment) (H : History) → L.is_honest link.old log r M H → L.is_sure link.old (towards transactions.old.route) →
-        IsOkAnd result (λ d. ((invoke : ℕ) × IsReply r (now M) H log (by_number from (pos 100)) (towards transactions.old.route) invoke d) × L.is_honest link.new log r (later M) H) }
-    ensures lost { (r : ℕ) (M : List Moment) (H : History) → L.is_honest link.old log r M H →
+    ensures replied { (r : ℕ) (M : List Moment) (H : History) → L.is_ours link.old log r M H → L.is_sure link.old (towards transactions.old.route) →
+        IsOkAnd result (λ d. ((invoke : ℕ) × IsReply r (now M) H log (by_number from (pos 100)) (towards transactions.old.route) invoke d) × L.is_ours link.new log r (later M) H) }
+    ensures lost { (r : ℕ) (M : List Moment) (H : History) → L.is_ours link.old log r M H →
         OnErr result (RisesBy (transactions.old.retries + 1) (L.failures link.old) (L.failures link.new)) }
 {
     // For the prover alone, both: their numbers are small enough for a request.

@@ -10,7 +10,8 @@ ghost use Rattle.bac_link.specs.Path.{towards};
 ghost use Rattle.bac_link.specs.Requests.{request_octets};
 ghost use Rattle.bac_walk.specs.declared.outcome.Why.TheVariants as why;
 ghost use Rattle.bac_walk.specs.Collects.{MissingWhy};
-ghost use Rattle.bac_walk.specs.Near.{AreInWindow, IsNear};
+ghost use Rattle.bac_link.specs.Moments.{AreInWindow};
+ghost use Rattle.bac_walk.specs.Near.{IsNear};
 ghost use Rattle.bac_walk.specs.Rests.{Misses, rest_all};
 ghost use Rattle.bac_walk.specs.Told.{ToldFault};
 ghost use Rattle.bac_walk.specs.Walks.{question_of};
@@ -22,7 +23,7 @@ use bac_walk::{Outcome, Walk, collect, replies_are_loggable, rests_all};
 use bac_wire::ObjectId;
 use std::alloc::Global;
 
-/// Over every honest link whose moments lie within half of the count, steps from number s on
+/// Over every link of ours whose moments lie within half of the count, steps from number s on
 /// deliver the records from its ordinal on that the log holds when each is reached, and the link
 /// has that many moments less.
 pub fn records_from<L: LogLink>(
@@ -32,10 +33,10 @@ pub fn records_from<L: LogLink>(
     s: u32,
     steps: u32,
 ) -> Option<Outcome>
-    ensures { IfSome result (λ outcome. (r : ℕ) (M : List Moment) (H : History) (k low : ℕ) → L.is_honest link.old log r M H → s ≡ sequence_number k →
+    ensures { IfSome result (λ outcome. (r : ℕ) (M : List Moment) (H : History) (k low : ℕ) → L.is_ours link.old log r M H → s ≡ sequence_number k →
         AreInWindow low M → low ≤ k → k < low + 2147483648 →
         (count : ℕ) × (t : ℕ) × (outcome.next ≡ sequence_number t) × DeliversTo H k outcome.items.items t M count
-        × L.is_honest link.new log r (after_answers count M) H) }
+        × L.is_ours link.new log r (after_answers count M) H) }
 {
     let Some(mut walk) = Walk::from_number(log, s) else {
         return None;
@@ -54,7 +55,7 @@ pub fn all_records_from<L: LogLink>(
     steps: u32,
 ) -> Option<Outcome>
     ensures { IfSome result (λ outcome. (r : ℕ) (m : Moment) (H : History) (k : ℕ) →
-        L.is_sure link.old (towards None) → L.is_honest link.old log r (m ∷ []) H → s ≡ sequence_number k → IsNear k m →
+        L.is_sure link.old (towards None) → L.is_ours link.old log r (m ∷ []) H → s ≡ sequence_number k → IsNear k m →
         (m.newest + 1) - max k m.oldest < steps →
         (outcome.why ≡ why.Memory) ⊎ (outcome.items.items ≡ (rest_all H m k).items)) }
 {

@@ -42,12 +42,12 @@ IsTold result d t = (result_ok result ≡ datagram_in t.0) × (d ≡ t.1)
 
 -- ---- over a log of the device
 
-honest : (rounds : ℕ) (lost : Bool) (p new : State) (rest : List LinkEvent) (source : Option Place) (id : Id) (r : ℕ) (M : List Moment) (H : History) (extent : Extent) (invoke : ℕ) (octets : List ℕ) (result : Result (List ℕ) Lost)
+ours : (rounds : ℕ) (lost : Bool) (p new : State) (rest : List LinkEvent) (source : Option Place) (id : Id) (r : ℕ) (M : List Moment) (H : History) (extent : Extent) (invoke : ℕ) (octets : List ℕ) (result : Result (List ℕ) Lost)
     → IsStillAhead rounds lost p rest id r M H → IsQuestion id extent (back (towards source)) invoke octets → IsTold result new (telling p lost octets)
     → IsAsked (λ N. IsAhead new rest id r N H) r M H id extent (back (towards source)) invoke result
-honest rounds true p new rest source id r M H extent invoke octets (Ok datagram) a asks t = absurd (no_datagram datagram t.0)
-honest rounds true p new rest source id r M H extent invoke octets (Err lost) a asks t = (rounds, subst (λ (d : State). LiesAhead rounds d rest id r M H) (sym t.1) a)
-honest rounds false p new rest source id r M H extent invoke octets (Ok datagram) a asks t =
+ours rounds true p new rest source id r M H extent invoke octets (Ok datagram) a asks t = absurd (no_datagram datagram t.0)
+ours rounds true p new rest source id r M H extent invoke octets (Err lost) a asks t = (rounds, subst (λ (d : State). LiesAhead rounds d rest id r M H) (sym t.1) a)
+ours rounds false p new rest source id r M H extent invoke octets (Ok datagram) a asks t =
     let said = log_answered rounds p rest source id r (later M) H extent invoke octets a.1 asks in
     let text = datagram_to source (records_ack p.reply_size invoke id extent (log_with p id.instance)) in
     let is : datagram ≡ text = same_datagram datagram text (t.0 ∙ ap (λ (x : Option Reply × State). datagram_in x.0) said) in
@@ -55,7 +55,7 @@ honest rounds false p new rest source id r M H extent invoke octets (Ok datagram
       subst (λ (o : List ℕ). IsReply r (now M) H id extent (back (towards source)) invoke o) (sym is) (log_replied rounds p rest source id r (later M) H (now M) extent invoke asks.3.1 a.1 a.0),
       (rounds, subst (λ (d : State). LiesAhead rounds d rest id r (later M) H) (sym left) a.1),
     )
-honest rounds false p new rest source id r M H extent invoke octets (Err lost) a asks t =
+ours rounds false p new rest source id r M H extent invoke octets (Err lost) a asks t =
     let said = log_answered rounds p rest source id r (later M) H extent invoke octets a.1 asks in
     absurd (no_datagram _ (sym (t.0 ∙ ap (λ (x : Option Reply × State). datagram_in x.0) said)))
 
@@ -81,7 +81,7 @@ asked_by false d new events rest id r M H extent path invoke octets result on so
     let way : path ≡ back (towards path.source) = stays_here path id extent invoke octets asks on in
     subst (λ (es : List LinkEvent). IsAsked (λ N. IsAhead new es id r N H) r M H id extent path invoke result) (sym over)
     (subst (λ (q : Path). IsAsked (λ N. IsAhead new p.rest id r N H) r M H id extent q invoke result) (sym way)
-    (honest a.0 p.lost p.device new p.rest path.source id r M H extent invoke octets result (still_ahead a.0 d events id r M H sound a.1)
+    (ours a.0 p.lost p.device new p.rest path.source id r M H extent invoke octets result (still_ahead a.0 d events id r M H sound a.1)
     (subst (λ (q : Path). IsQuestion id extent q invoke octets) way asks) (said, left)))
 
 pub asked : (d new : State) (events rest : List LinkEvent) (id : Id) (r : ℕ) (M : List Moment) (H : History) (extent : Extent) (path : Path) (invoke : ℕ) (octets : List ℕ) (result : Result (List ℕ) Lost)

@@ -1,4 +1,4 @@
--- An honest reply fits a datagram with any route.
+-- A reply of ours fits a datagram with any route.
 use Rattle.std.proofs.Common.{ℕ, ◌+◌, ◌≤◌, List, length, arith}
 use Rattle.std.specs.Prelude.{All}
 use Rattle.bac_wire.specs.Primitive.{Id}

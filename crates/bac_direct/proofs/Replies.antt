@@ -1,4 +1,4 @@
--- The device's answers to a link's questions are honest replies.
+-- The device's answers to a link's questions are replies of ours.
 use Rattle.std.proofs.Common.{◌≡◌, refl, ap, sym, subst, ◌∙◌, arith, ℕ, ◌+◌, ◌-◌, ◌≤◌, min, nat_lt, false, pos, negsuc, List, [], ◌∷◌, ◌++◌, take, drop, length, Option, Some, None, length-append}
 use Rattle.std.specs.Prelude.{All}
 use Rattle.std.proofs.Math.Seq.{drop-append_seam, take-append_seam}
@@ -57,7 +57,7 @@ reply_again place apdu way valid short =
 
 -- ---- the ACK with records
 
--- it is the one that a link's honest reply has
+-- it is the one that a reply of ours has
 pub ack_is : (limit invoke : ℕ) (id : Id) (extent : Extent) (log : Log) → records_ack limit invoke id extent log ≡ Complex false invoke read_range_service (reply_parameters id log extent limit)
 unfolding reply_parameters
 ack_is limit invoke id extent log = refl
@@ -137,7 +137,7 @@ log_answered rounds d events source id r M H extent invoke octets a asks =
     ∙ ap (λ (m : Apdu). (Some (reply (back_to source) m), d)) (records_fit d.reply_size invoke (log_id n) extent log (log_is d n a.sound a.there) (omega (arith, a.sound.least_reply)))
     ∙ ap (λ (i : Id). (Some (reply (back_to source) (records_ack d.reply_size invoke i extent log)), d)) (sym (log_id_is id a.kind))
 
--- it is an honest reply of the log's moment
+-- it is a reply of ours of the log's moment
 pub log_replied : (rounds : ℕ) (d : State) (events : List LinkEvent) (source : Option Place) (id : Id) (r : ℕ) (M : List Moment) (H : History) (m : Moment) (extent : Extent) (invoke : ℕ) → IsWay source → LiesAhead rounds d events id r M H
     → m ≡ placed rounds (moment_of (log_with d id.instance)) → IsReply r m H id extent (back (towards source)) invoke (datagram_to source (log_reply d id extent invoke))
 log_replied rounds d events source id r M H m extent invoke way a first =

@@ -10,7 +10,7 @@ ghost use Rattle.bac_link.specs.Links.{IsAsked, IsAskedOfNone, IsQuestion, Rises
 ghost use Rattle.bac_link.specs.Path.{Path};
 ghost use Rattle.bac_direct.specs.Ahead.{history_ahead, IsAhead, IsThere, Lacks, LiesAhead, moments_ahead, placed_all};
 ghost use Rattle.bac_direct.specs.Events.{datagram_in, failures_after, goes_on, happens, IsAnswered, meets, played, told};
-ghost use Rattle.bac_direct.specs.Telling.{IsHonestAsk};
+ghost use Rattle.bac_direct.specs.Telling.{IsOurAsk};
 ghost use Rattle.bac_objects.specs.Sound.{IsSound};
 
 use crate::event::LinkEvent;
@@ -93,9 +93,9 @@ impl<'a> DirectLink<'a> {
         ensures device { result.device.now ≡ device.old }
         ensures events { result.events.now ≡ events.now }
         ensures failures { result.failures ≡ 0 }
-        // It is honest for each log of the device, at the moments that the events lead to, however
+        // It is ours for each log of the device, at the moments that the events lead to, however
         // many whole rounds of numbers further on.
-        ensures honest { (n rounds : ℕ) → IsThere device.old n →
+        ensures ours { (n rounds : ℕ) → IsThere device.old n →
             LiesAhead rounds result.device.now result.events.now (log_id n) device.old.reply_size
             (placed_all rounds (moments_ahead device.old n events.now)) (history_ahead rounds device.old n events.now) }
         // It lacks every other log.
@@ -147,7 +147,7 @@ impl<'a> LogLink for DirectLink<'a> {
 
     ghost failures = { λ link. link.failures };
 
-    ghost is_honest = { λ link id r M H. IsAhead link.device.now link.events.now id r M H };
+    ghost is_ours = { λ link id r M H. IsAhead link.device.now link.events.now id r M H };
 
     ghost lacks = { λ link id. Lacks link.device.now id };
 
@@ -155,10 +155,10 @@ impl<'a> LogLink for DirectLink<'a> {
 
     ghost keeps = { λ a b. (a.device.now ≡ b.device.now) × (a.device.ghost_name ≡ b.device.ghost_name) };
 
-    // The device's answer after the next events; so it is honest.
+    // The device's answer after the next events; so it is ours.
     ghost asks = { λ old octets answer new.
         IsAnswered old.device.now old.events.now octets answer new.device.now new.events.now
-        × IsHonestAsk (λ id r M H. IsAhead old.device.now old.events.now id r M H)
+        × IsOurAsk (λ id r M H. IsAhead old.device.now old.events.now id r M H)
         (λ id r M H. IsAhead new.device.now new.events.now id r M H) octets answer };
 
     /// Plays events up to and with the next answer or loss, and lets the device answer. `Lost` if
@@ -167,7 +167,7 @@ impl<'a> LogLink for DirectLink<'a> {
     fn ask(&mut self, request: &[u8]) -> Result<Datagram, Lost>
         ensures never_falls { self.old.failures ≤ self.new.failures }
         ensures lost { OnErr result (RisesBy 1 self.old.failures self.new.failures) }
-        ensures honest { (id : Id) (r : ℕ) (M : List Moment) (H : History) (extent : AnyExtent) (path : Path) (invoke : ℕ) →
+        ensures ours { (id : Id) (r : ℕ) (M : List Moment) (H : History) (extent : AnyExtent) (path : Path) (invoke : ℕ) →
             IsAhead self.old.device.now self.old.events.now id r M H → IsQuestion id extent path invoke request.now →
             IsAsked (λ N. IsAhead self.new.device.now self.new.events.now id r N H) r M H id extent path invoke result }
         ensures lacking { (id : Id) (extent : AnyExtent) (path : Path) (invoke : ℕ) →
@@ -180,7 +180,7 @@ impl<'a> LogLink for DirectLink<'a> {
             (self.old.events.now ≡ []) × (path.dest ≡ None) → IsQuestion id extent path invoke request.now →
             (self.old.device.now ≡ self.new.device.now) × (self.old.device.ghost_name ≡ self.new.device.ghost_name) }
         ensures asked { IsAnswered self.old.device.now self.old.events.now request.now result self.new.device.now self.new.events.now
-            × IsHonestAsk (λ id r M H. IsAhead self.old.device.now self.old.events.now id r M H)
+            × IsOurAsk (λ id r M H. IsAhead self.old.device.now self.old.events.now id r M H)
             (λ id r M H. IsAhead self.new.device.now self.new.events.now id r M H) request.now result }
         // What it makes of the device, and the answer, exactly.
         ensures reply { result_ok result ≡ datagram_in (told (meets self.old.device.now self.old.events.now request.now) request.now).0 }
@@ -200,7 +200,7 @@ impl<'a> LogLink for DirectLink<'a> {
 
     ghost serves = { λ link id r M H h. h.1.served };
 
-    ghost tells_honestly = { λ old new octets answer id r M H extent path invoke ahead is told.
+    ghost tells_ours = { λ old new octets answer id r M H extent path invoke ahead is told.
         told.1 id r M H extent path invoke ahead is };
 
     ghost keeps_itself = { λ link. (refl, refl) };

@@ -13,7 +13,7 @@ ghost use Rattle.bac_objects.specs.Sampling.{log_id};
 ghost use Rattle.bac_device.specs.Answer.{records_ack, records_said};
 ghost use Rattle.bac_device.specs.Logs.{question_octets};
 ghost use Rattle.bac_device.specs.Reply.{datagram_to};
-ghost use Rattle.bac_link.specs.Links.{HasReply, TellsHonestly, question, reply_parameters};
+ghost use Rattle.bac_link.specs.Links.{HasReply, TellsOurs, question, reply_parameters};
 ghost use Rattle.bac_link.specs.Path.{back, towards};
 ghost use Rattle.bac_link.specs.Requests.{request_octets};
 ghost use Rattle.bac_direct.specs.Ahead.{IsAhead};
@@ -29,7 +29,7 @@ pub fn questions_are_the_devices()
         request_octets (back (towards source)) invoke (question (log_id n) extent) ≡ question_octets source invoke n extent }
 {}
 
-/// What a device answers by a log is the honest reply of that log: the same ACK, and as a datagram
+/// What a device answers by a log is the reply of that log: the same ACK, and as a datagram
 /// one that a client reads as it.
 pub fn replies_are_the_devices()
     ensures ack { (limit invoke : ℕ) (id : Id) (extent : AnyExtent) (log : Log) →
@@ -40,21 +40,21 @@ pub fn replies_are_the_devices()
 {}
 
 /// What a device answers over a link straight to it, after the events before, says already that the
-/// link is honest.
-pub fn device_answers_tell_honestly()
-    ensures { TellsHonestly
+/// link is ours.
+pub fn device_answers_tell_ours()
+    ensures { TellsOurs
         (λ (old : DirectLink) octets answer (new : DirectLink).
         IsAnswered old.device.now old.events.now octets answer new.device.now new.events.now)
         (λ (link : DirectLink) id r M H. IsAhead link.device.now link.events.now id r M H) }
 {}
 
-/// A router in front of a link doesn't hide that: what it passes on says that the link is honest, if
+/// A router in front of a link doesn't hide that: what it passes on says that the link is ours, if
 /// the asks of the link behind it do.
-pub fn routed_asks_tell_honestly<L: LogLink>()
+pub fn routed_asks_tell_ours<L: LogLink>()
     ensures { (far near : Place) → IsRoute far → IsRoute near →
-        TellsHonestly L.asks (λ link id r M H. L.is_honest link id r M H) →
-        TellsHonestly (λ old octets answer new. PassesOn L.asks far near (handed_on far near octets) old answer new)
-        (λ link id r M H. L.is_honest link id r M H) }
+        TellsOurs L.asks (λ link id r M H. L.is_ours link id r M H) →
+        TellsOurs (λ old octets answer new. PassesOn L.asks far near (handed_on far near octets) old answer new)
+        (λ link id r M H. L.is_ours link id r M H) }
 {}
 
 /// A question has a DNET or an SNET, and never both: what a router hands on was for the place behind

@@ -10,7 +10,7 @@ ghost use Rattle.bac_link.specs.Links.{IsAsked, IsAskedOfNone, IsQuestion, Rises
 ghost use Rattle.bac_link.specs.Path.{Path};
 ghost use Rattle.bac_direct.specs.Events.{one_more};
 ghost use Rattle.bac_direct.specs.Routing.{handed_on, is_for, PassesOn};
-ghost use Rattle.bac_direct.specs.Telling.{IsHonestAsk};
+ghost use Rattle.bac_direct.specs.Telling.{IsOurAsk};
 
 use bac_apdu::{Frame, Npdu, Route, read_frame, read_npdu, write_datagram};
 use bac_link::{LogLink, Lost};
@@ -50,9 +50,9 @@ impl<L: LogLink> RoutedLink<L> {
         ensures near { self.new.near ≡ self.old.near }
         ensures idle { handed_on self.old.far self.old.near request.now ≡ None → IsErr result × (self.new.inner ≡ self.old.inner) }
         ensures passes { PassesOn L.asks self.old.far self.old.near (handed_on self.old.far self.old.near request.now) self.old.inner result self.new.inner }
-        ensures honest { (id : Id) (r : ℕ) (M : List Moment) (H : History) (extent : AnyExtent) (path : Path) (invoke : ℕ) →
-            L.is_honest self.old.inner id r M H → IsQuestion id extent path invoke request.now →
-            IsAsked (λ N. L.is_honest self.new.inner id r N H) r M H id extent path invoke result }
+        ensures ours { (id : Id) (r : ℕ) (M : List Moment) (H : History) (extent : AnyExtent) (path : Path) (invoke : ℕ) →
+            L.is_ours self.old.inner id r M H → IsQuestion id extent path invoke request.now →
+            IsAsked (λ N. L.is_ours self.new.inner id r N H) r M H id extent path invoke result }
         ensures lacking { (id : Id) (extent : AnyExtent) (path : Path) (invoke : ℕ) →
             L.lacks self.old.inner id → IsQuestion id extent path invoke request.now →
             IsAskedOfNone path invoke result × L.lacks self.new.inner id }
@@ -74,7 +74,7 @@ impl<L: LogLink> RoutedLink<L> {
 impl<L: LogLink> LogLink for RoutedLink<L> {
     ghost failures = { λ link. link.failures };
 
-    ghost is_honest = { λ link id r M H. L.is_honest link.inner id r M H };
+    ghost is_ours = { λ link id r M H. L.is_ours link.inner id r M H };
 
     ghost lacks = { λ link id. L.lacks link.inner id };
 
@@ -82,10 +82,10 @@ impl<L: LogLink> LogLink for RoutedLink<L> {
 
     ghost keeps = { λ a b. L.keeps a.inner b.inner };
 
-    // What is passed on is asked behind it; so it is honest wherever that link is.
+    // What is passed on is asked behind it; so it is ours wherever that link is.
     ghost asks = { λ old octets answer new.
         PassesOn L.asks old.far old.near (handed_on old.far old.near octets) old.inner answer new.inner
-        × IsHonestAsk (λ id r M H. L.is_honest old.inner id r M H) (λ id r M H. L.is_honest new.inner id r M H)
+        × IsOurAsk (λ id r M H. L.is_ours old.inner id r M H) (λ id r M H. L.is_ours new.inner id r M H)
         octets answer };
 
     /// Asks the inner link with `near` as SNET and SADR in place of `far`, and gives its reply with
@@ -95,9 +95,9 @@ impl<L: LogLink> LogLink for RoutedLink<L> {
     fn ask(&mut self, request: &[u8]) -> Result<Datagram, Lost>
         ensures never_falls { self.old.failures ≤ self.new.failures }
         ensures lost { OnErr result (RisesBy 1 self.old.failures self.new.failures) }
-        ensures honest { (id : Id) (r : ℕ) (M : List Moment) (H : History) (extent : AnyExtent) (path : Path) (invoke : ℕ) →
-            L.is_honest self.old.inner id r M H → IsQuestion id extent path invoke request.now →
-            IsAsked (λ N. L.is_honest self.new.inner id r N H) r M H id extent path invoke result }
+        ensures ours { (id : Id) (r : ℕ) (M : List Moment) (H : History) (extent : AnyExtent) (path : Path) (invoke : ℕ) →
+            L.is_ours self.old.inner id r M H → IsQuestion id extent path invoke request.now →
+            IsAsked (λ N. L.is_ours self.new.inner id r N H) r M H id extent path invoke result }
         ensures lacking { (id : Id) (extent : AnyExtent) (path : Path) (invoke : ℕ) →
             L.lacks self.old.inner id → IsQuestion id extent path invoke request.now →
             IsAskedOfNone path invoke result × L.lacks self.new.inner id }
@@ -108,7 +108,7 @@ impl<L: LogLink> LogLink for RoutedLink<L> {
             ⊥ → IsQuestion id extent path invoke request.now → L.keeps self.old.inner self.new.inner }
         ensures passes { PassesOn L.asks self.old.far self.old.near (handed_on self.old.far self.old.near request.now) self.old.inner result self.new.inner }
         ensures asked { PassesOn L.asks self.old.far self.old.near (handed_on self.old.far self.old.near request.now) self.old.inner result self.new.inner
-            × IsHonestAsk (λ id r M H. L.is_honest self.old.inner id r M H) (λ id r M H. L.is_honest self.new.inner id r M H) request.now result }
+            × IsOurAsk (λ id r M H. L.is_ours self.old.inner id r M H) (λ id r M H. L.is_ours self.new.inner id r M H) request.now result }
         // Its failures are its own, and its places stay.
         ensures failures { OnErr result (self.new.failures ≡ one_more self.old.failures) }
         ensures stays { OnOk result (self.new.failures ≡ self.old.failures) }
@@ -127,8 +127,8 @@ impl<L: LogLink> LogLink for RoutedLink<L> {
 
     ghost serves = { λ link id r M H h. L.serves link.inner id r M H h };
 
-    ghost tells_honestly = { λ old new octets answer id r M H extent path invoke honest is passed.
-        passed.1 id r M H extent path invoke honest is };
+    ghost tells_ours = { λ old new octets answer id r M H extent path invoke ours is passed.
+        passed.1 id r M H extent path invoke ours is };
 
     ghost keeps_itself = { λ link. L.keeps_itself link.inner };
 

@@ -26,9 +26,14 @@ first_held H m s u [] some are = absurd (omega arith)
 first_held H m s u (Gap f b ∷ items) some are = absurd are
 first_held H m s u (Logged k e ∷ items) some are = are.1
 
+pub held_length : (H : History) (m : Moment) (s u : ℕ) (items : List Item) → AreHeld H m s items u → u ≡ s + length items
+held_length H m s u [] are = omega (arith, are)
+held_length H m s u (Gap f b ∷ items) are = absurd are
+held_length H m s u (Logged k e ∷ items) are = omega (arith, held_length H m (s + 1) u items are.3)
+
 -- ---- each number once
 
-CoversEach-append : (s t u : ℕ) (xs ys : List Item) → CoversEach s xs t → CoversEach t ys u → CoversEach s (xs ++ ys) u
+pub CoversEach-append : (s t u : ℕ) (xs ys : List Item) → CoversEach s xs t → CoversEach t ys u → CoversEach s (xs ++ ys) u
 CoversEach-append s t u [] ys first rest = let P : ℕ → Type 0 = λ n. CoversEach n ys u in subst P first rest
 CoversEach-append s t u (Gap f b ∷ xs) ys first rest = (first.0, first.1, first.2, first.3, CoversEach-append first.0 t u xs ys first.4 rest)
 CoversEach-append s t u (Logged k e ∷ xs) ys first rest = (first.0, CoversEach-append (s + 1) t u xs ys first.1 rest)
@@ -82,12 +87,13 @@ split_of (x ∷ xs) ys (y ∷ before) z after h =
       | inr r ↦ let e = r.1 in inr (r.0, cc, r.2)
     ]
 
-record BringsUpTo (H : History) (m : Moment) (s shown : ℕ) (e : Entry) (items : List Item) : Type 0 where
-  k : ℕ
-  shows : shown ≡ sequence_number k
-  holds : Holds m k
-  entry : IsEntry H k e
-  are : Brings H m s items (k + 1)
+-- of what one answer brings, the items up to an entry bring the walk up to it
+pub record BringsUpTo (H : History) (m : Moment) (s shown : ℕ) (e : Entry) (items : List Item) : Type 0 where
+  pub k : ℕ
+  pub shows : shown ≡ sequence_number k
+  pub holds : Holds m k
+  pub entry : IsEntry H k e
+  pub are : Brings H m s items (k + 1)
 
 held_cut : (H : History) (m : Moment) (s u shown : ℕ) (e : Entry) (before after : List Item) → AreHeld H m s (before ++ Logged shown e ∷ after) u →
     (k : ℕ) × (shown ≡ sequence_number k) × Holds m k × IsEntry H k e × AreHeld H m s (before ++ Logged shown e ∷ []) (k + 1)
@@ -96,7 +102,7 @@ held_cut H m s u shown e (Gap f b ∷ before) after are = absurd are
 held_cut H m s u shown e (Logged l d ∷ before) after are =
     let rest = held_cut H m (s + 1) u shown e before after are.3 in (rest.0, rest.1, rest.2, rest.3, (are.0, are.1, are.2, rest.4))
 
-brings_cut : (H : History) (m : Moment) (s u shown : ℕ) (e : Entry) (before after : List Item) → Brings H m s (before ++ Logged shown e ∷ after) u →
+pub brings_cut : (H : History) (m : Moment) (s u shown : ℕ) (e : Entry) (before after : List Item) → Brings H m s (before ++ Logged shown e ∷ after) u →
     BringsUpTo H m s shown e (before ++ Logged shown e ∷ [])
 brings_cut H m s u shown e [] after are =
     let c = held_cut H m s u shown e [] after are in record { k = c.0; shows = c.1; holds = c.2; entry = c.3; are = c.4 }

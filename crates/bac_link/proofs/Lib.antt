@@ -3,3 +3,4 @@ pub mod Delivers
 pub mod Verdicts
 pub mod Tries
 pub mod Client
+pub mod Honest

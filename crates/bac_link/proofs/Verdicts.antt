@@ -23,10 +23,10 @@ question_short id extent invoke = omega (arith, range_apdu_short (record { objec
 pub question_fits : (id : Id) (extent : Extent) → IsTooLong (question id extent) → ⊥
 question_fits id extent long = omega (arith, long, question_short id extent 0)
 
--- an honest reply answers the question
-pub honest_answers : (r : ℕ) (log : Log) (id : Id) (extent : Extent) (place : Option Place) (invoke : ℕ) (octets datagram : List ℕ) →
+-- a reply of ours answers the question
+pub our_answers : (r : ℕ) (log : Log) (id : Id) (extent : Extent) (place : Option Place) (invoke : ℕ) (octets datagram : List ℕ) →
     IsQuestion id extent (towards place) invoke octets → HasReply r log id extent (towards place) invoke datagram → answers_to octets datagram ≡ true
-honest_answers r log id extent place invoke octets datagram asks h =
+our_answers r log id extent place invoke octets datagram asks h =
     rw asks.0 (ack_answers place invoke (question id extent) datagram read_range_service (reply_parameters id log extent r) asks.3.0 (question_short id extent invoke) h)
 
 -- and so does the Error of a device without the log
@@ -35,10 +35,10 @@ pub unknown_answers : (id : Id) (extent : Extent) (place : Option Place) (invoke
 unknown_answers id extent place invoke octets datagram asks h =
     rw asks.0 (error_answers place invoke (question id extent) datagram read_range_service 1 31 asks.3.0 (question_short id extent invoke) h)
 
--- an honest reply is the ACK of the question
-pub honest_verdict : (r : ℕ) (log : Log) (id : Id) (extent : Extent) (path : Path) (invoke : ℕ) (datagram : List ℕ) →
+-- a reply of ours is the ACK of the question
+pub our_verdict : (r : ℕ) (log : Log) (id : Id) (extent : Extent) (path : Path) (invoke : ℕ) (datagram : List ℕ) →
     HasReply r log id extent path invoke datagram → verdict_of (question id extent) (apdu_in datagram) ≡ Ack
-honest_verdict r log id extent path invoke datagram h = ap (λ m. verdict_of (question id extent) (option_map (λ message. message.1) m)) h
+our_verdict r log id extent path invoke datagram h = ap (λ m. verdict_of (question id extent) (option_map (λ message. message.1) m)) h
 
 pub rises_more : (k a b c : ℕ) → RisesBy k a b → RisesBy 1 b c → RisesBy (k + 1) a c
 rises_more k a b c p q = omega (arith, p, q)

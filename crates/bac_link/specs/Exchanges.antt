@@ -89,11 +89,11 @@ Leaves r old (Err fault.BadReply) new = new ≡ closed (begun_with r old)
 Leaves r old (Err (fault.Refused refusal)) new = new ≡ closed (begun_with r old)
 Leaves r old (Ok datagram) new = new ≡ closed (begun_with r old)
 
--- ---- over an honest link
+-- ---- over a link of ours
 
--- A question of a link that is honest: its replies have at most so many octets, and are given at these moments of a log
+-- A question over a link of ours: its replies have at most so many octets, and are given at these moments of a log
 -- with this history; the log, what is asked of it, and by which way.
-pub record HonestQuestion : Type 0 where
+pub record OurQuestion : Type 0 where
   pub reply_size : ℕ
   pub moments : List Moment
   pub history : History
@@ -107,11 +107,11 @@ pub record Failures : Type 0 where
   pub after : ℕ
 
 -- a datagram is the reply of the next moment to it, under this invoke ID
-abbrev pub IsNextReply : HonestQuestion → ℕ → List ℕ → Type 0
+abbrev pub IsNextReply : OurQuestion → ℕ → List ℕ → Type 0
 IsNextReply q invoke datagram = IsReply q.reply_size (now q.moments) q.history q.log q.extent q.path invoke datagram
 
 -- that reply, or Lost if the count of failures rose by more than the retries, and nothing else
-abbrev pub IsExchanged : (List Moment → Type 0) → HonestQuestion → ℕ → Failures → Result (List ℕ) ExchangeFault → Type 0
+abbrev pub IsExchanged : (List Moment → Type 0) → OurQuestion → ℕ → Failures → Result (List ℕ) ExchangeFault → Type 0
 IsExchanged stays q retries failures (Ok datagram) =
     ((invoke : ℕ) × IsNextReply q invoke datagram) × stays (later q.moments)
 IsExchanged stays q retries failures (Err fault.Lost) =
@@ -147,8 +147,8 @@ IsTried {S = S} asks octets old (Some datagram) new = asks old octets (Ok datagr
 IsTried {S = S} asks octets old None new =
     (answer : Result (List ℕ) Loss) × asks old octets answer new × IsNoAnswer octets answer
 
--- over an honest link: the reply of the next moment, or a failure
-abbrev pub IsHeard : (List Moment → Type 0) → HonestQuestion → ℕ → Failures → Option (List ℕ) → Type 0
+-- over a link of ours: the reply of the next moment, or a failure
+abbrev pub IsHeard : (List Moment → Type 0) → OurQuestion → ℕ → Failures → Option (List ℕ) → Type 0
 IsHeard stays q invoke failures (Some datagram) = IsNextReply q invoke datagram × stays (later q.moments)
 IsHeard stays q invoke failures None = RisesBy 1 failures.before failures.after × stays q.moments
 

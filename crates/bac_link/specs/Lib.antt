@@ -7,5 +7,9 @@ pub mod Delivery
 pub mod Laws
 pub mod Moments
 pub mod Links
+pub mod Ordinals
+pub mod Heard
+pub mod Standard
+pub mod Honest
 pub mod Exchanges
 pub mod Client

@@ -61,7 +61,7 @@ IsUnknown path invoke datagram = message_in datagram ≡ Some (back path, Error 
 abbrev pub RisesBy : ℕ → ℕ → ℕ → Type 0
 RisesBy k old new = min (old + k) 18446744073709551615 ≤ new
 
--- of an honest link: the reply of the next moment, which is then used up; a loss leaves the moments
+-- of a link of ours: the reply of the next moment, which is then used up; a loss leaves the moments
 abbrev pub IsAsked : (List Moment → Type 0) →
     ℕ → List Moment → History → Id → Extent → Path → ℕ → Result (List ℕ) Lost → Type 0
 IsAsked stays r M H id extent path invoke (Ok datagram) =
@@ -75,10 +75,10 @@ IsAskedOfNone path invoke (Err lost) = Unit {0}
 
 -- ---- what an ask is
 
--- What an honest link's ask brings follows already from what the link says that an ask is.
-abbrev pub TellsHonestly : {S : Type 0} → (S → List ℕ → Result (List ℕ) Lost → S → Type 0) →
+-- What an ask of a link of ours brings follows already from what the link says that an ask is.
+abbrev pub TellsOurs : {S : Type 0} → (S → List ℕ → Result (List ℕ) Lost → S → Type 0) →
     (S → Id → ℕ → List Moment → History → Type 0) → Type 0
-TellsHonestly {S = S} asks honest =
+TellsOurs {S = S} asks ours =
     (old new : S) (octets : List ℕ) (answer : Result (List ℕ) Lost) (id : Id) (r : ℕ) (M : List Moment) (H : History)
-    (extent : Extent) (path : Path) (invoke : ℕ) → honest old id r M H → IsQuestion id extent path invoke octets →
-    asks old octets answer new → IsAsked (λ N. honest new id r N H) r M H id extent path invoke answer
+    (extent : Extent) (path : Path) (invoke : ℕ) → ours old id r M H → IsQuestion id extent path invoke octets →
+    asks old octets answer new → IsAsked (λ N. ours new id r N H) r M H id extent path invoke answer

@@ -102,9 +102,9 @@ fn heard<L: LogLink>(link: &mut L, request: &[u8]) -> Option<Datagram>
     ensures never_falls { L.failures link.old ≤ L.failures link.new }
     ensures answers { IfSome result (λ d. answers_to request.now d ≡ true) }
     ensures tried { IsTried L.asks request.now link.old result link.new }
-    ensures honest { (id : Id) (r : ℕ) (M : List Moment) (H : History) (extent : AnyExtent) (place : Option Place) (invoke : ℕ) →
-        L.is_honest link.old id r M H → IsQuestion id extent (towards place) invoke request.now →
-        IsHeard (λ N. L.is_honest link.new id r N H)
+    ensures ours { (id : Id) (r : ℕ) (M : List Moment) (H : History) (extent : AnyExtent) (place : Option Place) (invoke : ℕ) →
+        L.is_ours link.old id r M H → IsQuestion id extent (towards place) invoke request.now →
+        IsHeard (λ N. L.is_ours link.new id r N H)
         (record { reply_size = r; moments = M; history = H; log = id; extent = extent; path = towards place }) invoke
         (record { before = L.failures link.old; after = L.failures link.new }) result
         × (L.is_sure link.old (towards place) → IsSome result) }
@@ -146,10 +146,10 @@ pub fn exchange<L: LogLink>(
     ensures too_long { (result ≡ Err ExchangeFault.TooLong) ↔ IsTooLong request.now }
     ensures leaves { Leaves request.now transactions.old result transactions.new }
     ensures never_falls { L.failures link.old ≤ L.failures link.new }
-    // Over an honest link: the reply of the next moment, or Lost after more failures than retries.
-    ensures honest { (id : Id) (r : ℕ) (M : List Moment) (H : History) (extent : AnyExtent) →
-        L.is_honest link.old id r M H → AsksFor id extent request.now →
-        IsExchanged (λ N. L.is_honest link.new id r N H)
+    // Over a link of ours: the reply of the next moment, or Lost after more failures than retries.
+    ensures ours { (id : Id) (r : ℕ) (M : List Moment) (H : History) (extent : AnyExtent) →
+        L.is_ours link.old id r M H → AsksFor id extent request.now →
+        IsExchanged (λ N. L.is_ours link.new id r N H)
         (record { reply_size = r; moments = M; history = H; log = id; extent = extent; path = towards transactions.old.route })
         transactions.old.retries (record { before = L.failures link.old; after = L.failures link.new }) result
         × (L.is_sure link.old (towards transactions.old.route) → IsNotLost result) }

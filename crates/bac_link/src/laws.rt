@@ -1,9 +1,14 @@
 //! Laws of what a walk delivers, on lists alone, and of requests and links. Each function does
 //! nothing: what it ensures is the law.
 
+ghost use Rattle.std.specs.Prelude.{◌≡◌, ℕ, List};
+ghost use Rattle.bac_wire.specs.Primitive.{Id};
 ghost use Rattle.bac_link.specs.Client.{AnswersTellApart, CallsAreEvents};
+ghost use Rattle.bac_link.specs.Delivery.{History, Moment};
+ghost use Rattle.bac_link.specs.Honest.{IsHonest, IsHonestWhere, HonestWhereItStands};
 ghost use Rattle.bac_link.specs.Laws.{CanBeJoined, CanBeResumed, DeliversEachOnce};
-ghost use Rattle.bac_link.specs.Links.{TellsHonestly};
+ghost use Rattle.bac_link.specs.Links.{TellsOurs};
+ghost use Rattle.bac_link.specs.Path.{Path};
 
 use crate::link::LogLink;
 
@@ -22,9 +27,18 @@ pub fn can_be_joined()
     ensures { CanBeJoined }
 {}
 
-/// Over every link: what an ask is says already what an honest link brings.
-pub fn asks_tell_honestly<L: LogLink>()
-    ensures { TellsHonestly L.asks (λ link id r M H. L.is_honest link id r M H) }
+/// Over every link: what an ask is says already what a link of ours brings.
+pub fn asks_tell_ours<L: LogLink>()
+    ensures { TellsOurs L.asks (λ link id r M H. L.is_ours link id r M H) }
+{}
+
+/// Where each ask is answered by the standard a link is honest, as long as it is asked: from the
+/// moments on that any function tells of it, or at which it is ours. And where it is honest each ask
+/// is so answered.
+pub fn links_are_honest<L: LogLink>()
+    ensures told { (moments : L → List Moment) → HonestWhereItStands L.asks (λ link M. moments link ≡ M) }
+    ensures ours { (log : Id) (r : ℕ) (H : History) → HonestWhereItStands L.asks (λ link M. L.is_ours link log r M H) }
+    ensures goes_on { (path : Path) (log : Id) (H : History) (low : ℕ) → IsHonestWhere L.asks path log H low (λ link M. IsHonest L.asks path log H low link M) }
 {}
 
 /// `receive` and `timeout` are the steps of the client, which an exchange over a port runs, too.

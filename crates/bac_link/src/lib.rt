@@ -22,8 +22,8 @@ pub use answer::{Answer, answers, read_datagram};
 pub use exchanges::{ExchangeFault, Refusal, Verdict, exchange, judge};
 pub use item::Item;
 pub use laws::{
-    answers_tell_requests_apart, asks_tell_honestly, calls_are_events, can_be_joined,
-    can_be_resumed, delivers_each_once,
+    answers_tell_requests_apart, asks_tell_ours, calls_are_events, can_be_joined, can_be_resumed,
+    delivers_each_once, links_are_honest,
 };
 pub use link::{LogLink, Lost};
 pub use request::Request;

@@ -4,7 +4,7 @@ ghost use Rattle.std.specs.Prelude.{ℕ, ◌≤◌, List, Result, IsOk, OnErr};
 ghost use Rattle.bac_wire.specs.Primitive.{Id};
 ghost use Rattle.bac_apdu.specs.declared.service.extent.Extent.{Extent as AnyExtent};
 ghost use Rattle.bac_link.specs.Delivery.{History, Moment};
-ghost use Rattle.bac_link.specs.Links.{IsAsked, IsAskedOfNone, IsQuestion, RisesBy, TellsHonestly};
+ghost use Rattle.bac_link.specs.Links.{IsAsked, IsAskedOfNone, IsQuestion, RisesBy, TellsOurs};
 ghost use Rattle.bac_link.specs.Moments.{AreServed};
 ghost use Rattle.bac_link.specs.Path.{Path};
 ghost use Rattle.bac_link.specs.declared.link.Lost.{Lost as LostOf};
@@ -17,7 +17,9 @@ pub struct Lost;
 
 /// Carries a request to a device and brings its answer, or loses either.
 ///
-/// What a link must promise to be *honest* for a trend log: a question for the log's records (a
+/// A link is *honest* for a trend log if what comes over it to the questions for the log's records
+/// says by the standard what one log holds; that is said of `asks`, and needs nothing of the link.
+/// It is *ours* for a log if a device of this project answers: a question for the log's records (a
 /// ReadRange of its Log_Buffer, as [`Transactions::begin`](crate::Transactions::begin) gives it, or
 /// as a router hands it on) is answered as that log answers it at some moment, with as many records
 /// as a reply of the link's size holds, and the reply arrives unchanged; or it is lost, and the
@@ -25,15 +27,15 @@ pub struct Lost;
 /// and never go back. Nothing is promised of other requests, of when an answer comes, or of how
 /// often one is lost.
 ///
-/// That a link is honest is a premise of what is proved over it. A socket is not claimed to be:
-/// datagrams there may be altered, repeated, or sent by someone else.
+/// Either is a premise of what is proved over a link. A socket is claimed to be neither: datagrams
+/// there may be altered, repeated, or sent by someone else.
 pub trait LogLink {
     /// How many asks have failed, up to the greatest `u64`, where the count stays.
     ghost failures: { Self → ℕ };
 
-    /// For this log it is honest: with replies of at most so many octets, at these moments, the
+    /// For this log it is ours: with replies of at most so many octets, at these moments, the
     /// last of which stays, of a log with this history.
-    ghost is_honest: { Self → Id → ℕ → List Moment → History → Type 0 };
+    ghost is_ours: { Self → Id → ℕ → List Moment → History → Type 0 };
 
     /// It knows no log of this identifier.
     ghost lacks: { Self → Id → Type 0 };
@@ -53,9 +55,9 @@ pub trait LogLink {
         ensures asked { asks self.old request.now result self.new }
         ensures never_falls { failures self.old ≤ failures self.new }
         ensures lost { OnErr result (RisesBy 1 (failures self.old) (failures self.new)) }
-        ensures honest { (id : Id) (r : ℕ) (M : List Moment) (H : History) (extent : AnyExtent) (path : Path) (invoke : ℕ) →
-            is_honest self.old id r M H → IsQuestion id extent path invoke request.now →
-            IsAsked (λ N. is_honest self.new id r N H) r M H id extent path invoke result }
+        ensures ours { (id : Id) (r : ℕ) (M : List Moment) (H : History) (extent : AnyExtent) (path : Path) (invoke : ℕ) →
+            is_ours self.old id r M H → IsQuestion id extent path invoke request.now →
+            IsAsked (λ N. is_ours self.new id r N H) r M H id extent path invoke result }
         ensures lacking { (id : Id) (extent : AnyExtent) (path : Path) (invoke : ℕ) →
             lacks self.old id → IsQuestion id extent path invoke request.now →
             IsAskedOfNone path invoke result × lacks self.new id }
@@ -68,11 +70,11 @@ pub trait LogLink {
     /// A reply has room for a record at least, and the moments are those of one log, whose history
     /// has their entries.
     ghost serves: { (link : Self) (id : Id) (r : ℕ) (M : List Moment) (H : History) →
-        is_honest link id r M H → AreServed r M H };
+        is_ours link id r M H → AreServed r M H };
 
-    /// What an ask is says already what an honest link brings.
-    ghost tells_honestly: { TellsHonestly (λ old octets answer new. asks old octets answer new)
-        (λ link id r M H. is_honest link id r M H) };
+    /// What an ask is says already what a link of ours brings.
+    ghost tells_ours: { TellsOurs (λ old octets answer new. asks old octets answer new)
+        (λ link id r M H. is_ours link id r M H) };
 
     /// What nothing happens to is kept.
     ghost keeps_itself: { (link : Self) → keeps link link };

@@ -4,7 +4,7 @@
 //! [`Sockets`] open ports: [`UdpSockets`] are the system's. A [`UdpLink`] is a link to one peer
 //! over any port: it sends a request once and takes the first datagram from the peer that answers
 //! it (specs/Asking). Nothing is claimed of what a socket gives, so a [`UdpLink`] isn't claimed to
-//! be honest for any log.
+//! be ours for any log.
 #![tactic(auto)]
 
 mod laws;

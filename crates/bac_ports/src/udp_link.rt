@@ -15,7 +15,7 @@ pub const RECEIVES: u32 = 16;
 /// A link to one peer over a port. An ask sends the request once, and passes over datagrams from
 /// others and those that don't answer it.
 ///
-/// It isn't claimed to be honest for any log: whoever can send datagrams with the peer's address
+/// It isn't claimed to be ours for any log: whoever can send datagrams with the peer's address
 /// answers in its place.
 #[derive(Debug, Drop)]
 pub struct UdpLink<P> {
@@ -72,7 +72,7 @@ impl<P: Port> UdpLink<P> {
 impl<P: Port> LogLink for UdpLink<P> {
     ghost failures = { λ link. link.failures };
 
-    ghost is_honest = { λ link id r M H. ⊥ };
+    ghost is_ours = { λ link id r M H. ⊥ };
 
     ghost lacks = { λ link id. ⊥ };
 
@@ -99,7 +99,7 @@ impl<P: Port> LogLink for UdpLink<P> {
 
     ghost serves = { λ link id r M H h. absurd h };
 
-    ghost tells_honestly = { λ old new octets answer id r M H extent path invoke h is asked. absurd h };
+    ghost tells_ours = { λ old new octets answer id r M H extent path invoke h is asked. absurd h };
 
     ghost keeps_itself = { λ link. refl };
 

@@ -103,8 +103,8 @@ more_lines items more text old mid new same first rest =
 pub delivered : (was is : ℕ → List Moment → History → Type 0) (retries old new : ℕ) (before after : WalkPlace) (n steps : ℕ) (ended : Ended) (items : List Item)
     (result : Fetching) → n ≤ steps → IsRun was is retries old new before after n ended items → ((t : ℕ) → after.next ≡ sequence_number t → NextIs result t) →
     Delivers was before steps items result
-delivered was is retries old new before after n steps ended items result le run next = λ r M H s honest at near.
-    let h = headline_of was is retries old new before after n ended items run r M H s honest at (fewer_steps r H M before.fresh s n steps le near) in (h.0, h.1, h.2, h.3, next h.2 h.4, h.5)
+delivered was is retries old new before after n steps ended items result le run next = λ r M H s ours at near.
+    let h = headline_of was is retries old new before after n ended items run r M H s ours at (fewer_steps r H M before.fresh s n steps le near) in (h.0, h.1, h.2, h.3, next h.2 h.4, h.5)
 
 -- the number that was printed is the walk's
 pub next_is : (why : Why) (next : ℕ) (after : ℕ) (result : Fetching) (old new : Held) → next ≡ after → PrintsEnd why next result old new →
@@ -138,19 +138,16 @@ run_later : (was is : ℕ → List Moment → History → Type 0) (retries old n
     IsRun was is retries old new before after n ended items → IsRun was (λ r M H. Unit {0}) retries old more before after n ended items
 run_later was is retries old new more before after n ended items le run = (
   run.0,
-  λ r M H s honest at near.
-      let a = run.1 r M H s honest at near in (
+  λ r M H s ours at near.
+      let a = run.1 r M H s ours at near in (
         a.0,
         a.1,
         a.2,
         record {
-          covers = a.3.covers;
           all = a.3.all;
-          each = a.3.each;
+          leads = a.3.leads;
           twice_steps = a.3.twice_steps;
           twice_batches = a.3.twice_batches;
-          paced = a.3.paced;
-          whole = a.3.whole;
           end = ended_later ended before.fresh a.1 M a.0 n retries old new more le a.3.end;
         },
         tt,

@@ -134,7 +134,7 @@ learns_both asks path retries link mid left walk after steps n items ended resul
           ended,
           after,
           tells_ends here us steps n ended after result old new few covers,
-          ((run.0, λ r M H s honest. absurd honest), less, many),
+          ((run.0, λ r M H s ours. absurd ours), less, many),
           told,
         ),
       ),
@@ -274,7 +274,7 @@ over_step f asks other maps items path retries failures more old new sink left w
     (
       put_items again,
       λ on. sym (filled_whole items sink again left ended none as_well on) ∙ filled_whole items sink calls left ended none taken on,
-      (run.0, λ r M H s honest. absurd honest),
+      (run.0, λ r M H s ours. absurd ours),
       omega (arith, put_length again, less, gaps),
       λ limit. omega (arith, put_length again, enough limit),
     ),

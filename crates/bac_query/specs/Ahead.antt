@@ -66,7 +66,7 @@ PrintsLeft left (Err (Exchange fault)) old new = ⊥
 
 -- ---- a run
 
--- of a link that is claimed to be honest for no log
+-- of a link that is claimed to be ours for no log
 abbrev pub never : ℕ → List Moment → History → Type 0
 never r M H = ⊥
 
@@ -112,7 +112,7 @@ FetchesAhead {S = S} asks path retries link walk steps result left old new =
     × TellsRun (λ cause. IsLeftAhead asks path retries mid after left cause) items steps n ended after result old new
     × IsHeadline walk came items ended after
 
--- The items are those of a run of this walk, at most so many steps, over a link that nobody claims to be honest; the
+-- The items are those of a run of this walk, at most so many steps, over a link that nobody claims to be ours; the
 -- last exchange over the link told why it ended.
 abbrev pub PrintsRun : {S : Type 0} → (S → List ℕ → Result (List ℕ) Lost → S → Type 0) →
     Path → ℕ → WalkPlace → ℕ → Fetching → ℕ → ℕ → S → Held → Held → Type 0

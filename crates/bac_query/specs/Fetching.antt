@@ -8,9 +8,11 @@ use Rattle.bac_link.specs.declared.item.Item.{Item}
 use Rattle.bac_link.specs.declared.link.Lost.{Lost}
 use Rattle.bac_query.specs.Ends.{end_line}
 use Rattle.bac_query.specs.Items.{items_text}
-use Rattle.bac_walk.specs.Came.{Came, Brought, AreSaidAt, NeverGoesBack, answers_of}
+use Rattle.bac_link.specs.Moments.{NeverGoesBack}
+use Rattle.bac_walk.specs.Came.{Came, Brought, AreSaidAt, answers_of}
 use Rattle.bac_walk.specs.Collects.{IsCaughtUp}
-use Rattle.bac_walk.specs.Near.{AreInWindow, StaysNear}
+use Rattle.bac_link.specs.Moments.{AreInWindow}
+use Rattle.bac_walk.specs.Near.{StaysNear}
 use Rattle.bac_walk.specs.Place.{WalkPlace}
 use Rattle.bac_walk.specs.Outcomes.{IsRunOf}
 use Rattle.bac_walk.specs.Sinks.{IsRun}
@@ -50,7 +52,7 @@ abbrev pub NextIs : Fetching → ℕ → Type 0
 NextIs (Ok fetched) t = fetched.next ≡ sequence_number t
 NextIs (Err fault) t = Unit {0}
 
--- over an honest link the items of so many steps are the records that the log holds when each is reached, from the
+-- over a link of ours the items of so many steps are the records that the log holds when each is reached, from the
 -- walk's place up to the number that comes next
 abbrev pub Delivers : (ℕ → List Moment → History → Type 0) → WalkPlace → ℕ → List Item → Fetching → Type 0
 Delivers was walk steps items result =
@@ -75,7 +77,7 @@ EndsAs items steps n ended after (Err Memory) old new = (why : Why) × (next : �
 EndsAs items steps n ended after (Err (Exchange fault)) old new = ⊥
 
 -- The items are those of a run of n steps of the walk, over any link: each step brought at most 100 records and one
--- gap, and a record at least if all were whole. Over an honest link they are what its answers brought.
+-- gap, and a record at least if all were whole. Over a link of ours they are what its answers brought.
 abbrev pub IsFetched : (ℕ → List Moment → History → Type 0) →
     ℕ → ℕ → ℕ → WalkPlace → WalkPlace → ℕ → Ended → List Item → Type 0
 IsFetched was retries old new before after n ended items =

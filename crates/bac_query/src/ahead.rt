@@ -133,7 +133,7 @@ impl<'a, P: Port, W: Write> Ahead<'a, P, W> {
 impl<'a, P: Port, W: Write> LogLink for Ahead<'a, P, W> {
     ghost failures = { λ ahead. ahead.link.now.failures };
 
-    ghost is_honest = { λ ahead id r M H. ⊥ };
+    ghost is_ours = { λ ahead id r M H. ⊥ };
 
     ghost lacks = { λ ahead id. ⊥ };
 
@@ -161,7 +161,7 @@ impl<'a, P: Port, W: Write> LogLink for Ahead<'a, P, W> {
 
     ghost serves = { λ ahead id r M H h. absurd h };
 
-    ghost tells_honestly = { λ old new octets answer id r M H extent path invoke h is asked. absurd h };
+    ghost tells_ours = { λ old new octets answer id r M H extent path invoke h is asked. absurd h };
 
     ghost keeps_itself = { λ ahead. refl };
 

@@ -47,11 +47,11 @@ pub fn fetch_log<L: LogLink, W: Write>(
     out: &mut W,
 ) -> Result<Fetched, QueryFault>
     // What is printed are the lines of items, and the line that says how their run ended: so many
-    // steps, or what the last exchange told. Over an honest link the items are what the log holds.
+    // steps, or what the last exchange told. Over a link of ours the items are what the log holds.
     ensures printed { (items : List Item) × PrintsItems items result (W.contents out.old) (W.contents out.new)
-        × Delivers (λ r M H. L.is_honest link.old walk.log r M H) walk steps items result
+        × Delivers (λ r M H. L.is_ours link.old walk.log r M H) walk steps items result
         × ((n : ℕ) × (ended : EndedOf) × (after : WalkPlace) × EndsAs items steps n ended after result (W.contents out.old) (W.contents out.new)
-        × IsFetched (λ r M H. L.is_honest link.old walk.log r M H) transactions.old.retries (L.failures link.old) (L.failures link.new) walk after n ended items
+        × IsFetched (λ r M H. L.is_ours link.old walk.log r M H) transactions.old.retries (L.failures link.old) (L.failures link.new) walk after n ended items
         × Told L.asks (towards transactions.old.route) transactions.old.retries ended after link.new) }
     // Over any link, whoever answers, they are the lines of what the replies brought that came over
     // it from here on; and if these say what one log holds, of what it held.
@@ -89,7 +89,7 @@ fn deliver_lines<L: LogLink>(
     ensures told { Told L.asks (towards transactions.old.route) transactions.old.retries result walk.new link.new }
     ensures log { walk.new.log ≡ walk.old.log }
     ensures step { (items : List Item) × (result ≢ Ended.Stopped → lines.new.text.items ≡ items_text items)
-        × IsRun (λ r M H. L.is_honest link.old walk.old.log r M H) (λ r M H. L.is_honest link.new walk.old.log r M H)
+        × IsRun (λ r M H. L.is_ours link.old walk.old.log r M H) (λ r M H. L.is_ours link.new walk.old.log r M H)
         transactions.old.retries (L.failures link.old) (L.failures link.new) walk.old walk.new 1 result items
         × (length items ≤ 101) × (result ≡ Ended.StepLimit → 1 ≤ length items) }
     ensures came { (items : List Item) × (result ≢ Ended.Stopped → lines.new.text.items ≡ items_text items)

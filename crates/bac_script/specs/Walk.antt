@@ -9,7 +9,7 @@ use Rattle.bac_objects.specs.Sampling.{log_of}
 use Rattle.bac_objects.specs.State as device
 use Rattle.bac_query.specs.Ends.{end_line}
 use Rattle.bac_query.specs.Items.{items_text}
-use Rattle.bac_walk.specs.Ordinals.{distance}
+use Rattle.bac_link.specs.Ordinals.{distance}
 use Rattle.bac_walk.specs.Place.{WalkPlace, walk_at, walk_from_oldest}
 use Rattle.bac_walk.specs.Rests.{Rested, rest, end_missing}
 use Rattle.bac_walk.specs.declared.outcome.Ended.{Ended}

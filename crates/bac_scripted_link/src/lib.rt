@@ -27,11 +27,11 @@ impl<'a> ScriptedLink<'a> {
     }
 }
 
-/// It is honest for no log, and nothing is said of what it answers: tests look at that.
+/// It is ours for no log, and nothing is said of what it answers: tests look at that.
 impl LogLink for ScriptedLink<'_> {
     ghost failures = { λ link. link.failures };
 
-    ghost is_honest = { λ link id r M H. ⊥ };
+    ghost is_ours = { λ link id r M H. ⊥ };
 
     ghost lacks = { λ link id. ⊥ };
 
@@ -56,7 +56,7 @@ impl LogLink for ScriptedLink<'_> {
 
     ghost serves = { λ link id r M H h. absurd h };
 
-    ghost tells_honestly = { λ old new octets answer id r M H extent path invoke h is asked. absurd h };
+    ghost tells_ours = { λ old new octets answer id r M H extent path invoke h is asked. absurd h };
 
     ghost keeps_itself = { λ link. tt };
 

@@ -3,4 +3,4 @@ mod Explained
 mod Logged
 mod Silence
 mod Unfound
-mod Spoken
+mod Honest

@@ -16,7 +16,7 @@ use Rattle.bac_tools.specs.declared.fault.Fault.TheVariants.{Flawed}
 use Rattle.bac_walk.specs.Came.{AreSaidAt, Brought, Came}
 use Rattle.bac_walk.specs.Delivers.{NoneFrom}
 use Rattle.bac_walk.specs.Flaws.{ToldFlaw}
-use Rattle.bac_walk.specs.Near.{IsInWindow}
+use Rattle.bac_link.specs.Moments.{IsInWindow}
 use Rattle.bac_walk.specs.Place.{WalkPlace}
 use Rattle.bac_walk.specs.declared.flaw.ReplyFlaw.{ReplyFlaw}
 use Rattle.bac_walk.specs.declared.outcome.Ended.{Ended}

@@ -11,23 +11,23 @@ ghost use Rattle.bac_link.specs.declared.item.Item.{Item};
 ghost use Rattle.bac_query.specs.Fetching.{PrintsItems};
 ghost use Rattle.bac_query.specs.Ends.{end_line};
 ghost use Rattle.bac_query.specs.Items.{items_text};
-ghost use Rattle.bac_walk.specs.Came.{NeverGoesBack};
-ghost use Rattle.bac_walk.specs.Spoken.{Speaks};
+ghost use Rattle.bac_link.specs.Moments.{NeverGoesBack};
+ghost use Rattle.bac_link.specs.Honest.{IsHonest};
 ghost use Rattle.bac_walk.specs.declared.outcome.WalkFault.{WalkFault as WalkFaultOf};
 ghost use Rattle.bac_walk.specs.declared.outcome.WalkFault.TheVariants.{Lost as Loss};
 ghost use Rattle.bac_walk.specs.Collects.{start_of};
-ghost use Rattle.bac_walk.specs.Near.{AreInWindow};
+ghost use Rattle.bac_link.specs.Moments.{AreInWindow};
 
 use bac_link::{ExchangeFault, LogLink, Request, Transactions};
 use bac_query::{Fetched, QueryFault, fetch_log, write_property};
 use bac_walk::{
-    Walk, Why, collected_is_delivered, links_speak, spoken_is_delivered, windows_are_near,
+    Walk, Why, collected_is_delivered, honest_is_delivered, links_are_honest, windows_are_near,
 };
 use bac_wire::ObjectId;
 use std::alloc::Global;
 use std::io::Write;
 
-/// Over an honest link, what is fetched from the oldest record on begins at the oldest record that
+/// Over a link of ours, what is fetched from the oldest record on begins at the oldest record that
 /// the log holds when the first reply with records is given: none of those is left out.
 pub fn fetched_from_the_oldest<L: LogLink, W: Write>(
     alloc: Global,
@@ -37,7 +37,7 @@ pub fn fetched_from_the_oldest<L: LogLink, W: Write>(
     out: &mut W,
 ) -> Option<Result<Fetched, QueryFault>>
     ensures { IfSome result (λ fetched. (r : ℕ) (M : List Moment) (H : History) (low : ℕ) →
-        L.is_honest link.old log r M H → AreInWindow low M →
+        L.is_ours link.old log r M H → AreInWindow low M →
         (items : List Item) × (answers : List (List Item)) × (t : ℕ)
         × PrintsItems items fetched (W.contents out.old) (W.contents out.new)
         × DeliversTo H (start_of true 1 M answers) items t M (length answers)) }
@@ -68,7 +68,7 @@ pub fn written_until_lost<L: LogLink, W: Write>(
     write_property(link, transactions, asked, out)
 }
 
-/// Over a link that speaks for a log by the standard, whatever records it holds: what is printed from
+/// Over a link that is honest for a log, whatever records it holds: what is printed from
 /// number s on, if no write was refused, are the lines of the records that the log holds when each is
 /// reached, each once, in rising order, with the gaps before them, and the end line; and the only
 /// fault that it tells is a loss.
@@ -81,7 +81,7 @@ pub fn printed_by_the_standard<L: LogLink, W: Write>(
     out: &mut W,
 ) -> Option<Result<Fetched, QueryFault>>
     ensures { IfSome result (λ fetched. IfOk fetched (λ done. (M : List Moment) (H : History) (k low : ℕ) →
-        Speaks L.asks (towards None) log H low link.old M → s ≡ sequence_number k →
+        IsHonest L.asks (towards None) log H low link.old M → s ≡ sequence_number k →
         0 < length M → NeverGoesBack M → AreInWindow low M → low ≤ k → k < low + 2147483648 →
         (items : List Item) × (a : ℕ) × (t : ℕ) × (done.next ≡ sequence_number t)
         × DeliversTo H k items t M a
@@ -89,8 +89,8 @@ pub fn printed_by_the_standard<L: LogLink, W: Write>(
         × ((e : WalkFaultOf) → done.why ≡ Why.Fault e → e ≡ Loss))) }
 {
     // For the prover alone, both: laws that the contract follows from.
-    spoken_is_delivered::<L>();
-    links_speak::<L>();
+    honest_is_delivered::<L>();
+    links_are_honest::<L>();
     let walk = Walk::from_number(log, s)?;
     let mut transactions = Transactions::new(3);
     Some(fetch_log(alloc, link, &mut transactions, walk, steps, out))

@@ -8,7 +8,7 @@ use Rattle.bac_log.specs.declared.entry.Entry.{Entry}
 use Rattle.bac_log.specs.Select.{numbered, selected, is_asked, greatest}
 use Rattle.bac_log.specs.TrendLog.{Log, oldest, sequence_number}
 use Rattle.bac_log.proofs.Runs.{filter_run}
-use Rattle.bac_walk.specs.Ordinals.{distance}
+use Rattle.bac_link.specs.Ordinals.{distance}
 use Rattle.bac_walk.proofs.Shown.{distance-number, distance-behind}
 
 -- among the ordinals held, those of the hundred numbers from that of an ordinal which is near

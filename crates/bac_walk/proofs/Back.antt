@@ -3,9 +3,9 @@ use Rattle.std.proofs.Common.{ℕ, ◌+◌, ◌-◌, ◌≤◌, List, [], ◌∷
 use Rattle.bac_link.specs.Delivery.{History, Moment}
 use Rattle.bac_link.specs.Moments.{AreMoments}
 use Rattle.bac_log.specs.TrendLog.{sequence_number}
-use Rattle.bac_walk.specs.Came.{NeverGoesBack}
-use Rattle.bac_walk.specs.Ordinals.{distance}
-use Rattle.bac_walk.specs.Spoken.{MomentsNeverGoBack, NumbersHaveOrdinals}
+use Rattle.bac_link.specs.Moments.{NeverGoesBack}
+use Rattle.bac_link.specs.Ordinals.{distance}
+use Rattle.bac_walk.specs.Honest.{MomentsNeverGoBack, NumbersHaveOrdinals}
 use Rattle.bac_walk.proofs.Held.{Follows-all, Rises, Sound}
 
 back : (H : History) (capacity : ℕ) (start : Moment) (M : List Moment) → capacity ≤ 65535 → Sound H start → AreMoments capacity start M → NeverGoesBack M

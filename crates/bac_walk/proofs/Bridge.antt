@@ -177,7 +177,7 @@ module _ (m : Moment) (H : History) (sound : IsMoment H.logged m) (within : m.ne
       ∙ packed-numbered r wanted f (entries_from H f c)
       ∙ ap (λ (l : List Entry). numbered f l) (take_min n c (drop (f - (H.logged + 1)) H.entries) ∙ ap (λ k. entries_from H f k) least)
 
-  -- the records and the first number of an honest reply are the whole reply of the moment
+  -- the records and the first number of a reply of ours are the whole reply of the moment
   pub answer_is : (r : ℕ) (wanted : Wanted) → IsNearTo wanted m → 44 ≤ r → IsAnswer r m H wanted (first_of r (log_at m H) (extent_of wanted)) (records_of r (log_at m H) (extent_of wanted))
   answer_is r wanted near room =
       let f : ℕ = first_asked wanted m in

@@ -1,7 +1,7 @@
 -- What came over a link: turns, and the steps that they make.
 use Rattle.std.proofs.Common.{◌≡◌, ℕ, ◌<◌, Bool, true, false, not, ◌&&◌, ◌||◌, ◌==◌, if◌then◌else◌, Option, Some, None, Result, Ok, Err, List, [], ◌∷◌, length, map, refl, sym, ap, subst, arith, inr, append-nil}
 use Rattle.std.proofs.lemmas.List.{length-append}
-use Rattle.bac_walk.specs.Ordinals.{is_ahead}
+use Rattle.bac_link.specs.Ordinals.{is_ahead}
 use Rattle.bac_link.specs.declared.exchanges.ExchangeFault.{ExchangeFault}
 use Rattle.bac_link.specs.declared.item.Item.{Item}
 use Rattle.bac_link.specs.declared.request.Request.{Request}
@@ -12,9 +12,10 @@ use Rattle.bac_link.specs.Path.{Path}
 use Rattle.bac_log.specs.declared.entry.Entry.{Entry}
 use Rattle.bac_walk.specs.Came.{Came, Asks, Comes, CameTurn, Brought, EndsBy, AreOf, restarted}
 use Rattle.bac_walk.specs.Collects.{asks_next, batches, finished, step_ended, step_items}
-use Rattle.bac_walk.specs.Heard.{AckParameters}
+use Rattle.bac_link.specs.Heard.{AckParameters}
 use Rattle.bac_walk.specs.Place.{WalkPlace}
-use Rattle.bac_walk.specs.Replied.{heard_in, progress_of}
+use Rattle.bac_link.specs.Heard.{heard_in}
+use Rattle.bac_walk.specs.Replied.{progress_of}
 use Rattle.bac_walk.specs.Walks.{asks_oldest_now, is_past, fits, gap_items, item_of, items_in, question_of, verdict, Refuse, Ask, End, Bring, IsTaken, IsTakenFrom}
 use Rattle.bac_walk.specs.declared.batch.Batch.{Batch}
 use Rattle.bac_walk.specs.declared.batch.Numbered.{Numbered}

@@ -2,7 +2,7 @@
 use Rattle.std.proofs.Common.{◌≡◌, ℕ, zero, suc, ◌+◌, ◌-◌, ◌<◌, ◌≤◌, ◌⊎◌, ◌||◌, inl, inr, Bool, true, false, Result, Ok, Err, List, [], ◌∷◌, length, drop, ◌++◌, refl, sym, ap, subst, ◌∙◌, arith, append_assoc, append-nil}
 use Rattle.bac_link.proofs.Delivers.{joined, resumed}
 use Rattle.bac_link.specs.declared.item.Item.TheVariants.{Logged}
-use Rattle.bac_walk.specs.Ordinals.{number_after}
+use Rattle.bac_link.specs.Ordinals.{number_after}
 use Rattle.bac_walk.specs.declared.outcome.Ended.{Ended}
 use Rattle.bac_walk.specs.declared.outcome.Ended.TheVariants.{CaughtUp as IsUp, StepLimit, Stopped, Fault}
 use Rattle.bac_walk.proofs.Shown.{after-number}
@@ -12,15 +12,16 @@ use Rattle.bac_link.specs.declared.link.Lost.{Lost as Loss}
 use Rattle.bac_link.specs.Delivery.{History, Moment, Brings, Leads, DeliversTo, now, later, items_of}
 use Rattle.bac_link.specs.Path.{Path}
 use Rattle.bac_log.specs.TrendLog.{sequence_number}
-use Rattle.bac_walk.specs.Came.{Came, Comes, Brought, AreSaidAt, AreOf, NeverGoesBack, EndsBy, EndsEmpty, BroughtIsDelivered, CameIsDelivered, SaidIsTaken, answers_of, asked_by, restarted}
+use Rattle.bac_link.specs.Moments.{NeverGoesBack}
+use Rattle.bac_walk.specs.Came.{Came, Comes, Brought, AreSaidAt, AreOf, EndsBy, EndsEmpty, BroughtIsDelivered, CameIsDelivered, SaidIsTaken, answers_of, restarted}
 use Rattle.bac_walk.specs.Collects.{batches, turn_items, IsCaughtUp}
 use Rattle.bac_walk.specs.Delivers.{NoneFrom}
-use Rattle.bac_walk.specs.Near.{IsInWindow, AreInWindow}
+use Rattle.bac_link.specs.Moments.{IsInWindow, AreInWindow}
 use Rattle.bac_walk.specs.Place.{WalkPlace}
-use Rattle.bac_walk.specs.Replied.{heard_in}
-use Rattle.bac_walk.specs.Standard.{HoldsNumber, IsSaidAt}
+use Rattle.bac_link.specs.Heard.{heard_in}
+use Rattle.bac_link.specs.Standard.{HoldsNumber, IsSaidAt}
 use Rattle.bac_walk.specs.Turns.{base}
-use Rattle.bac_walk.specs.Walks.{asks_oldest_now}
+use Rattle.bac_walk.specs.Walks.{asks_oldest_now, asked_by}
 use Rattle.bac_walk.specs.declared.outcome.Progress.{Progress}
 use Rattle.bac_walk.specs.declared.outcome.Progress.TheVariants.{Batch as BatchOf, AskOldest, CaughtUp}
 use Rattle.bac_walk.proofs.Brought.{full_batch}

@@ -18,10 +18,10 @@ use Rattle.bac_walk.specs.declared.flaw.ReplyFlaw.TheVariants as flaw
 use Rattle.bac_walk.specs.declared.outcome.BadReply.{BadReply as NotTaken}
 use Rattle.bac_walk.specs.declared.outcome.WalkFault.TheVariants.{BadReply}
 use Rattle.bac_walk.specs.Flaws.{ack_flaw, apdu_flaw, extent_flaw, head_flaw, items_flaw, span_flaw, ToldFlaw, FlawsAreRefused, BadRepliesHaveFlaws}
-use Rattle.bac_walk.specs.Heard.{heard_at, heard_if, heard_with, is_of_log, records_in}
+use Rattle.bac_link.specs.Heard.{heard_at, heard_if, heard_with, is_of_log, records_in}
 use Rattle.bac_walk.specs.Place.{WalkPlace}
-use Rattle.bac_walk.specs.Replied.{heard_from}
-use Rattle.bac_walk.specs.Takes.{parameters_in}
+use Rattle.bac_link.specs.Heard.{heard_from}
+use Rattle.bac_link.specs.Heard.{parameters_in}
 use Rattle.bac_walk.specs.Told.{HasAsked, IsFault}
 use Rattle.bac_walk.specs.Walks.{asks_oldest_now, fits, is_past, question_of, NextAct, Refuse, Ask, End, Bring, verdict as act_on, IsTaken, IsTakenFrom}
 use Rattle.bac_walk.proofs.Told.{Asking}

@@ -1,29 +1,23 @@
 -- Why a run ended, and that its numbers go on: from what came alone.
-use Rattle.std.proofs.Common.{◌≡◌, ℕ, Bool, true, false, ◌+◌, Ok, List, [], ◌∷◌, ◌++◌, length, refl, sym, ap, subst, ◌∙◌, arith, append_assoc, ◌⊎◌, inl, inr}
+use Rattle.std.proofs.Common.{◌≡◌, ℕ, Bool, true, false, Ok, List, [], ◌∷◌, ◌++◌, length, refl, sym, ap, subst, ◌∙◌, arith, append_assoc, ◌⊎◌, inl, inr}
 use Rattle.bac_link.specs.declared.item.Item.{Item}
-use Rattle.bac_link.specs.declared.item.Item.TheVariants.{Gap, Logged}
+use Rattle.bac_link.specs.declared.item.Item.TheVariants.{Logged}
 use Rattle.bac_link.specs.Delivery.{items_of}
 use Rattle.bac_link.specs.Path.{Path}
-use Rattle.bac_log.specs.declared.entry.Entry.{Entry}
-use Rattle.bac_log.specs.TrendLog.{sequence_number}
 use Rattle.bac_walk.specs.declared.outcome.Ended.{Ended}
 use Rattle.bac_walk.specs.declared.outcome.Ended.TheVariants.{CaughtUp, StepLimit, Stopped, Fault}
 use Rattle.bac_walk.specs.declared.outcome.Progress.{Progress}
 use Rattle.bac_walk.specs.declared.outcome.Progress.TheVariants.{Batch as BatchOf, AskOldest, CaughtUp as IsUp}
 use Rattle.bac_walk.specs.Came.{Came, Asks, AreOf, Comes, EndsBy, EndsEmpty, answers_of, restarted}
 use Rattle.bac_walk.specs.Collects.{Goes, turn_items}
-use Rattle.bac_walk.specs.Delivers.{end_of}
 use Rattle.bac_walk.specs.Follows.{BroughtGoes, BroughtTells}
-use Rattle.bac_walk.specs.Ordinals.{distance, number_after}
 use Rattle.bac_walk.specs.Place.{WalkPlace}
-use Rattle.bac_walk.specs.Replied.{heard_in}
+use Rattle.bac_link.specs.Heard.{heard_in}
 use Rattle.bac_walk.specs.Told.{Told, ToldUp}
-use Rattle.bac_walk.specs.Turns.{Covers}
 use Rattle.bac_walk.specs.Walks.{asks_oldest_now, IsTakenFrom}
 use Rattle.bac_walk.proofs.Brought.{full_batch}
 use Rattle.bac_walk.proofs.Came.{Asking}
-use Rattle.bac_walk.proofs.Goes.{join_goes, stays_goes, turn_goes}
-use Rattle.bac_walk.proofs.Shown.{after-number}
+use Rattle.bac_walk.proofs.Goes.{cut_goes, join_goes, stays_goes, turn_goes}
 use Rattle.bac_walk.proofs.Told.{asks_here, up_here}
 
 -- ---- why it ended
@@ -84,35 +78,6 @@ replies_go asks path retries old new w here (c ∷ came) comes s =
     subst P (sym comes.6) (λ u. turn_goes w u (heard_in w.log c.datagram) comes.2 next comes.5) in
     join_goes w.fresh w.next c.items next.fresh next.next (items_of (answers_of came)) here.fresh here.next first
     (λ u. replies_go asks path retries comes.0 new next here came comes.7 u) s
-
--- of what covers the numbers up to a place, the items up to a record cover them up to the number after its own
-cut_covers : (s t k : ℕ) (e : Entry) (before after : List Item) → Covers s (before ++ Logged k e ∷ after) t →
-    (number_after k 1 ≡ sequence_number (end_of s before + 1)) × Covers s (before ++ Logged k e ∷ []) (end_of s before + 1)
-cut_covers s t k e [] after h = (ap (λ n. number_after n 1) h.0 ∙ after-number s 1, (h.0, refl))
-cut_covers s t k e (Gap f b ∷ before) after h =
-    let rest = cut_covers (s + distance f b) t k e before after h.2 in (rest.0, (h.0, h.1, rest.1))
-cut_covers s t k e (Logged l d ∷ before) after h =
-    let rest = cut_covers (s + 1) t k e before after h.1 in (rest.0, (h.0, rest.1))
-
-cut_goes : (fresh : Bool) (before s : ℕ) (xs : List Item) (k : ℕ) (e : Entry) (after : List Item) (left : Bool) (next : ℕ) →
-    Goes fresh before s (xs ++ Logged k e ∷ after) left next → Goes fresh before s (xs ++ Logged k e ∷ []) false (number_after k 1)
-cut_goes false before s [] k e after left next goes = (
-  (λ at. let all = goes.0 at in let cut = cut_covers s all.0 k e [] after all.2 in (s + 1, cut.0, cut.1)),
-  refl,
-)
-cut_goes false before s (x ∷ xs) k e after left next goes = (
-  (λ at. let all = goes.0 at in let cut = cut_covers s all.0 k e (x ∷ xs) after all.2 in (_, cut.0, cut.1)),
-  refl,
-)
-cut_goes true before s [] k e after left next goes = (
-  (λ at. let all = goes.0 at in let cut = cut_covers s all.0 k e [] after all.2 in (s + 1, cut.0, cut.1)),
-  refl,
-)
-cut_goes true before s (Gap f b ∷ xs) k e after left next goes = absurd goes
-cut_goes true before s (Logged l d ∷ xs) k e after left next goes = (
-  (λ at. let all = goes.0 at in let cut = cut_covers s all.0 k e (Logged l d ∷ xs) after all.2 in (_, cut.0, cut.1)),
-  refl,
-)
 
 whole_goes : (fresh : Bool) (before : ℕ) (here after : WalkPlace) (whole items : List Item) → restarted after ≡ restarted here → items ≡ whole →
     ((s : ℕ) → Goes fresh before s whole here.fresh here.next) → (s : ℕ) → Goes fresh before s items after.fresh after.next

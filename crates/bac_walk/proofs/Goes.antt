@@ -5,37 +5,38 @@ use Rattle.std.proofs.lemmas.Bool.{ltb-true, ltb-false, and_parts}
 use Rattle.bac_link.specs.declared.item.Item.{Item}
 use Rattle.bac_link.specs.declared.item.Item.TheVariants.{Gap, Logged}
 use Rattle.bac_walk.specs.Place.{WalkPlace}
-use Rattle.bac_walk.specs.Heard.{AckParameters}
+use Rattle.bac_link.specs.Heard.{AckParameters}
 use Rattle.bac_wire.specs.Primitive.{Id}
 use Rattle.bac_walk.specs.declared.outcome.WalkFault.{WalkFault}
 use Rattle.bac_walk.specs.declared.outcome.Progress.{Progress}
 use Rattle.bac_walk.specs.declared.outcome.Progress.TheVariants.{Batch as BatchOf, AskOldest, CaughtUp}
 use Rattle.bac_walk.specs.declared.outcome.Step.{Step}
 use Rattle.bac_log.specs.TrendLog.{sequence_number}
-use Rattle.bac_walk.specs.Ordinals.{is_number, distance, number_after}
-use Rattle.bac_walk.specs.Turns.{Covers}
+use Rattle.bac_link.specs.Laws.{CoversEach}
+use Rattle.bac_link.specs.Ordinals.{is_number, distance, number_after}
+use Rattle.bac_link.proofs.Delivers.{CoversEach-append}
 use Rattle.bac_walk.specs.Walks.{shown_from, brought, asks_oldest_now, is_past, fits, items_in, NextAct, Refuse, Ask, End, Bring, verdict, IsTaken, IsTakenFrom}
 use Rattle.bac_walk.specs.Collects.{Goes, turn_items, asks_next, finished, step_items}
-use Rattle.bac_walk.proofs.Shown.{Covers-numbered, after-number, shown_numbered, number-distance}
-use Rattle.bac_walk.proofs.Cuts.{Covers-append}
+use Rattle.bac_walk.proofs.Shown.{covers_numbered, after-number, shown_numbered, number-distance}
+use Rattle.bac_walk.proofs.Cuts.{covers_cut}
 
 -- entries with the numbers from that of ordinal s on
 covers_shown : (s shown : ℕ) (es : List Entry) → shown ≡ sequence_number s →
-    (number_after shown (length es) ≡ sequence_number (s + length es)) × Covers s (shown_from shown es) (s + length es)
+    (number_after shown (length es) ≡ sequence_number (s + length es)) × CoversEach s (shown_from shown es) (s + length es)
 covers_shown s shown es is =
-    let P : List Item → Type 0 = λ xs. Covers s xs (s + length es) in
-    let Q : ℕ → Type 0 = λ n. (number_after n (length es) ≡ sequence_number (s + length es)) × Covers s (shown_from n es) (s + length es) in
-    subst Q (sym is) (after-number s (length es), subst P (sym (shown_numbered s es)) (Covers-numbered s es))
+    let P : List Item → Type 0 = λ xs. CoversEach s xs (s + length es) in
+    let Q : ℕ → Type 0 = λ n. (number_after n (length es) ≡ sequence_number (s + length es)) × CoversEach s (shown_from n es) (s + length es) in
+    subst Q (sym is) (after-number s (length es), subst P (sym (shown_numbered s es)) (covers_numbered s es))
 
 -- a batch of a walk that isn't one from the oldest entry any more
 goes_on : (next first s : ℕ) (e : Entry) (es : List Entry) (lt : Bool) → nat_lt 0 (distance next first) ≡ lt → is_number first ≡ true →
     next ≡ sequence_number s →
     (t : ℕ) × (number_after first (length (e ∷ es)) ≡ sequence_number t)
-    × Covers s ((if lt then Gap next first ∷ [] else []) ++ shown_from first (e ∷ es)) t
+    × CoversEach s ((if lt then Gap next first ∷ [] else []) ++ shown_from first (e ∷ es)) t
 goes_on next first s e es true is shows here =
     let far : first ≡ sequence_number (s + distance next first) = number-distance next first s shows here in
     let rest = covers_shown (s + distance next first) first (e ∷ es) far in
-    (_, rest.0, (here, ltb-true 0 (distance next first) is, rest.1))
+    (_, rest.0, (s + distance next first, omega (arith, ltb-true 0 (distance next first) is), here, far, rest.1))
 goes_on next first s e es false is shows here =
     let none : distance next first ≤ 0 = ltb-false 0 (distance next first) is in
     let same : s + distance next first ≡ s = omega (arith, none) in
@@ -178,7 +179,7 @@ join_goes false before (x ∷ xs) mid_fresh mid [] after next first rest s =
 join_goes false before (x ∷ xs) mid_fresh mid (y ∷ ys) after next first rest s =
     let R : Bool → Type 0 = λ b. (u : ℕ) → Goes b mid u (y ∷ ys) after next in
     let more = subst R (first s).1 rest in
-    ((λ here. let a = (first s).0 here in let b = (more a.0).0 a.1 in (b.0, b.1, Covers-append s a.0 b.0 (x ∷ xs) (y ∷ ys) a.2 b.2)), (more s).1)
+    ((λ here. let a = (first s).0 here in let b = (more a.0).0 a.1 in (b.0, b.1, CoversEach-append s a.0 b.0 (x ∷ xs) (y ∷ ys) a.2 b.2)), (more s).1)
 join_goes true before (Gap f u ∷ xs) mid_fresh mid ys after next first rest s = absurd (first s)
 join_goes true before (Logged k e ∷ xs) mid_fresh mid [] after next first rest s =
     let left = left_goes mid_fresh mid s after next (rest s) in
@@ -189,4 +190,22 @@ join_goes true before (Logged k e ∷ xs) mid_fresh mid [] after next first rest
 join_goes true before (Logged k e ∷ xs) mid_fresh mid (y ∷ ys) after next first rest s =
     let R : Bool → Type 0 = λ b. (u : ℕ) → Goes b mid u (y ∷ ys) after next in
     let more = subst R (first s).1 rest in
-    ((λ here. let a = (first s).0 here in let b = (more a.0).0 a.1 in (b.0, b.1, Covers-append s a.0 b.0 (Logged k e ∷ xs) (y ∷ ys) a.2 b.2)), (more s).1)
+    ((λ here. let a = (first s).0 here in let b = (more a.0).0 a.1 in (b.0, b.1, CoversEach-append s a.0 b.0 (Logged k e ∷ xs) (y ∷ ys) a.2 b.2)), (more s).1)
+
+-- up to a record the items go to the number after its own
+cut_shown : (s t k : ℕ) (e : Entry) (before after : List Item) → CoversEach s (before ++ Logged k e ∷ after) t →
+    (u : ℕ) × (number_after k 1 ≡ sequence_number u) × CoversEach s (before ++ Logged k e ∷ []) u
+cut_shown s t k e before after covers =
+    let cut = covers_cut s t k e before after covers in (cut.0 + 1, ap (λ n. number_after n 1) cut.1 ∙ after-number cut.0 1, cut.2)
+
+pub cut_goes : (fresh : Bool) (before s : ℕ) (xs : List Item) (k : ℕ) (e : Entry) (after : List Item) (left : Bool) (next : ℕ) →
+    Goes fresh before s (xs ++ Logged k e ∷ after) left next → Goes fresh before s (xs ++ Logged k e ∷ []) false (number_after k 1)
+cut_goes false before s [] k e after left next goes =
+    ((λ at. let all = goes.0 at in cut_shown s all.0 k e [] after all.2), refl)
+cut_goes false before s (x ∷ xs) k e after left next goes =
+    ((λ at. let all = goes.0 at in cut_shown s all.0 k e (x ∷ xs) after all.2), refl)
+cut_goes true before s [] k e after left next goes =
+    ((λ at. let all = goes.0 at in cut_shown s all.0 k e [] after all.2), refl)
+cut_goes true before s (Gap f b ∷ xs) k e after left next goes = absurd goes
+cut_goes true before s (Logged l d ∷ xs) k e after left next goes =
+    ((λ at. let all = goes.0 at in cut_shown s all.0 k e (Logged l d ∷ xs) after all.2), refl)

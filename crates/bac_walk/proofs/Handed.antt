@@ -2,7 +2,7 @@
 use Rattle.std.proofs.Common.{◌≡◌, ℕ, suc, Bool, true, false, ◌+◌, ◌<◌, ◌≤◌, inl, inr, Option, Some, None, Result, Ok, Err, List, [], ◌∷◌, ◌++◌, length, map, refl, sym, ap, subst, ◌∙◌, arith, length-append, append-nil, append_assoc}
 use Rattle.bac_log.specs.declared.entry.Entry.{Entry}
 use Rattle.bac_link.specs.declared.item.Item.{Item}
-use Rattle.bac_link.specs.declared.item.Item.TheVariants.{Gap, Logged}
+use Rattle.bac_link.specs.declared.item.Item.TheVariants.{Logged}
 use Rattle.bac_walk.specs.declared.batch.Gap.{Gap as GapOf}
 use Rattle.bac_walk.specs.declared.batch.Numbered.{Numbered}
 use Rattle.bac_walk.specs.declared.batch.Batch.{Batch}
@@ -13,17 +13,16 @@ use Rattle.bac_walk.specs.declared.outcome.WalkFault.{WalkFault}
 use Rattle.bac_walk.specs.declared.outcome.Ended.{Ended}
 use Rattle.bac_walk.specs.declared.outcome.Ended.TheVariants.{CaughtUp, StepLimit, Stopped, Fault}
 use Rattle.bac_log.specs.TrendLog.{sequence_number}
-use Rattle.bac_walk.specs.Ordinals.{distance, number_after}
-use Rattle.bac_link.specs.Delivery.{History, Moment, now, later}
+use Rattle.bac_link.specs.Ordinals.{number_after}
+use Rattle.bac_link.specs.Delivery.{History, Moment, now, later, Brings}
 use Rattle.bac_link.specs.Laws.{after_answers}
+use Rattle.bac_link.proofs.Delivers.{brings_cut}
 use Rattle.bac_walk.specs.Near.{IsNearStep}
-use Rattle.bac_walk.specs.Turns.{Covers, IsBatch}
-use Rattle.bac_walk.specs.Delivers.{end_of}
 use Rattle.bac_walk.specs.Walks.{gap_items, item_of, items_in}
-use Rattle.bac_walk.specs.Collects.{Goes, Collected, IsFreshAfter, FoundEnd, FoundStep, batches, step_items, step_ended, is_fresh_after}
+use Rattle.bac_walk.specs.Collects.{Goes, Collected, LeadsInSteps, start_of, IsFreshAfter, FoundEnd, FoundStep, batches, step_items, step_ended, is_fresh_after}
 use Rattle.bac_walk.specs.Sinks.{Call, put_items, gaps, Takes, PutAll, IsRun, Delivery}
 use Rattle.bac_walk.specs.Handing.{walk_after, ended_after, HandedOn}
-use Rattle.bac_walk.proofs.Cuts.{Covers-cut, IsBatch-cut}
+use Rattle.bac_walk.proofs.Goes.{cut_goes}
 use Rattle.bac_walk.proofs.Shown.{after-number}
 use Rattle.bac_walk.proofs.Joins.{step_fresh, whole_some}
 use Rattle.bac_walk.proofs.Near.{at_once}
@@ -84,43 +83,6 @@ put_up_to puts old gap (x ∷ xs) n new put =
           record { before = x ∷ rest.before; last = rest.last; after = rest.after; is = ap (λ l. x ∷ l) rest.is; shown = rest.shown; takes = inr (more.0, more.1, rest.takes) }
     ]
 
--- an entry shows the number of the ordinal where it stands
-pub shows : (s t k : ℕ) (e : Entry) (before after : List Item) → Covers s (before ++ Logged k e ∷ after) t → k ≡ sequence_number (end_of s before)
-shows s t k e [] after h = h.0
-shows s t k e (Gap f b ∷ before) after h = shows (s + distance f b) t k e before after h.2
-shows s t k e (Logged l d ∷ before) after h = shows (s + 1) t k e before after h.1
-
--- what is left of the items of any answer
-cut_goes : (fresh : Bool) (before s k : ℕ) (e : Entry) (pre post : List Item) (after : Bool) (next : ℕ) →
-    Goes fresh before s (pre ++ Logged k e ∷ post) after next → Goes fresh before s (pre ++ Logged k e ∷ []) after (number_after k 1)
-cut_goes false before s k e [] post after next goes = (
-  (λ here. let t = goes.0 here in
-      (s + 1, ap (λ n. number_after n 1) (shows s t.0 k e [] post t.2) ∙ after-number s 1, Covers-cut s t.0 k e [] post t.2)),
-  goes.1,
-)
-cut_goes true before s k e [] post after next goes = (
-  (λ here. let t = goes.0 here in
-      (s + 1, ap (λ n. number_after n 1) (shows s t.0 k e [] post t.2) ∙ after-number s 1, Covers-cut s t.0 k e [] post t.2)),
-  goes.1,
-)
-cut_goes false before s k e (p ∷ pre) post after next goes = (
-  (λ here. let t = goes.0 here in (
-    end_of s (p ∷ pre) + 1,
-    ap (λ n. number_after n 1) (shows s t.0 k e (p ∷ pre) post t.2) ∙ after-number (end_of s (p ∷ pre)) 1,
-    Covers-cut s t.0 k e (p ∷ pre) post t.2,
-  )),
-  goes.1,
-)
-cut_goes true before s k e (Gap f b ∷ pre) post after next goes = absurd goes
-cut_goes true before s k e (Logged l d ∷ pre) post after next goes = (
-  (λ here. let t = goes.0 here in (
-    end_of s (Logged l d ∷ pre) + 1,
-    ap (λ n. number_after n 1) (shows s t.0 k e (Logged l d ∷ pre) post t.2) ∙ after-number (end_of s (Logged l d ∷ pre)) 1,
-    Covers-cut s t.0 k e (Logged l d ∷ pre) post t.2,
-  )),
-  goes.1,
-)
-
 -- the first item of a batch that was cut
 first_of : (pre : List Item) (z : Item) → (y : Item) × (ys : List Item) × (pre ++ z ∷ [] ≡ y ∷ ys)
 first_of [] z = (z, [], refl)
@@ -136,17 +98,29 @@ record CutRun (r : ℕ) (H : History) (M : List Moment) (fresh : Bool) (next ret
   run : Collected r H M fresh next 1 retries old new items t Stopped cut
 
 -- one batch, from an ordinal
-cut_batch : (H : History) (m : Moment) (s0 t k : ℕ) (e : Entry) (pre post : List Item) (x : Item) (b : List Item) (y : Item) (ys : List Item) →
-    (x ∷ b) ≡ pre ++ Logged k e ∷ post → pre ++ Logged k e ∷ [] ≡ y ∷ ys → Covers s0 (pre ++ Logged k e ∷ post) t → IsBatch H m s0 (x ∷ b) →
-    Covers s0 (y ∷ ys) (end_of s0 pre + 1) × IsBatch H m s0 (y ∷ ys) × ((y ∷ ys) ++ post ≡ x ∷ b) × (number_after k 1 ≡ sequence_number (end_of s0 pre + 1))
-cut_batch H m s0 t k e pre post x b y ys is cut covers batch =
-    let P : List Item → Type 0 = λ l. IsBatch H m s0 l in
-    let Q : List Item → Type 0 = λ l. Covers s0 l (end_of s0 pre + 1) in (
-      subst Q cut (Covers-cut s0 t k e pre post covers),
-      subst P cut (IsBatch-cut H m s0 k e pre post (subst P is batch)).0,
-      ap (λ l. l ++ post) (sym cut) ∙ append_assoc pre (Logged k e ∷ []) post ∙ sym is,
-      ap (λ n. number_after n 1) (shows s0 t k e pre post covers) ∙ after-number (end_of s0 pre) 1,
+cut_batch : (H : History) (m : Moment) (s t k : ℕ) (e : Entry) (pre post : List Item) (batch reply : List Item) (y : Item) (ys : List Item) →
+    batch ≡ pre ++ Logged k e ∷ post → pre ++ Logged k e ∷ [] ≡ y ∷ ys → Brings H m s batch t → batch ≡ reply →
+    (u : ℕ) × (number_after k 1 ≡ sequence_number u) × Brings H m s (y ∷ ys) u × ((dropped : List Item) × ((y ∷ ys) ++ dropped ≡ reply))
+cut_batch H m s t k e pre post batch reply y ys is cut brings whole =
+    let P : List Item → Type 0 = λ l. Brings H m s l t in
+    let c = brings_cut H m s t k e pre post (subst P is brings) in
+    let Q : List Item → Type 0 = λ l. Brings H m s l (c.k + 1) in (
+      c.k + 1,
+      ap (λ n. number_after n 1) c.shows ∙ after-number c.k 1,
+      subst Q cut c.are,
+      (post, ap (λ l. l ++ post) (sym cut) ∙ append_assoc pre (Logged k e ∷ []) post ∙ sym is ∙ whole),
     )
+
+-- a run begins where it did
+same_first : (fresh : Bool) (next : ℕ) (M : List Moment) (x y : Item) (b ys : List Item) →
+    start_of fresh next M ((x ∷ b) ∷ []) ≡ start_of fresh next M ((y ∷ ys) ∷ [])
+same_first true next M x y b ys = refl
+same_first false next M x y b ys = refl
+
+same_second : (fresh : Bool) (next : ℕ) (M : List Moment) (x y : Item) (b ys : List Item) →
+    start_of fresh next M ([] ∷ (x ∷ b) ∷ []) ≡ start_of fresh next M ([] ∷ (y ∷ ys) ∷ [])
+same_second true next M x y b ys = refl
+same_second false next M x y b ys = refl
 
 cut_run : (r : ℕ) (H : History) (M : List Moment) (fresh : Bool) (next retries old new t k : ℕ) (e : Entry) (pre post : List Item) (answers : List (List Item)) →
     Collected r H M fresh next 1 retries old new (pre ++ Logged k e ∷ post) t StepLimit answers →
@@ -157,87 +131,43 @@ cut_run r H M fresh next retries old new t k e pre post ([] ∷ []) run = absurd
 cut_run r H M fresh next retries old new t k e pre post ([] ∷ [] ∷ answers) run = absurd run.end.1
 cut_run r H M fresh next retries old new t k e pre post ((x ∷ b) ∷ z ∷ answers) run = absurd (omega (arith, run.end.0, whole_some z answers run.end.1))
 cut_run r H M fresh next retries old new t k e pre post ([] ∷ (x ∷ b) ∷ z ∷ answers) run = absurd (omega (arith, run.end.0, whole_some z answers run.end.1))
-cut_run r H M true next retries old new t k e pre post ((x ∷ b) ∷ []) run =
-    let f = first_of pre (Logged k e) in
-    let c = cut_batch H (now M) (now M).oldest t k e pre post x b f.0 f.1 (sym (append-nil (x ∷ b)) ∙ run.all) f.2 run.covers run.each.0 in
-    let P : List Item → Type 0 = λ l. CutRun r H M true next retries old new k l ((x ∷ b) ∷ []) in
-    subst P (sym f.2) (record {
-      t = end_of (now M).oldest pre + 1;
-      shown = c.3;
-      cut = (f.0 ∷ f.1) ∷ [];
+cut_run r H M fresh next retries old new t k e pre post ((x ∷ b) ∷ []) run =
+    let (y, ys, same) = first_of pre (Logged k e) in
+    let c = cut_batch H (now M) (start_of fresh next M ((x ∷ b) ∷ [])) run.leads.0 k e pre post (x ∷ b) _ y ys
+    (sym (append-nil (x ∷ b)) ∙ run.all) same run.leads.1 run.leads.2 in
+    let P : List Item → Type 0 = λ l. CutRun r H M fresh next retries old new k l ((x ∷ b) ∷ []) in
+    let Q : ℕ → Type 0 = λ n. LeadsInSteps Stopped r H M false n ((y ∷ ys) ∷ []) c.0 in
+    subst P (sym same) (record {
+      t = c.0;
+      shown = c.1;
+      cut = (y ∷ ys) ∷ [];
       count = refl;
       some = omega arith;
       run = record {
-        covers = c.0;
-        all = append-nil (f.0 ∷ f.1);
-        each = (c.1, tt);
+        all = append-nil (y ∷ ys);
+        leads = subst Q (same_first fresh next M x y b ys) (c.0, c.2, c.3, refl);
         twice_steps = omega arith;
         twice_batches = omega arith;
-        paced = tt;
-        whole = (post, c.2 ∙ run.whole);
         end = (omega arith, omega arith, tt);
       };
     })
-cut_run r H M false next retries old new t k e pre post ((x ∷ b) ∷ []) run =
-    let f = first_of pre (Logged k e) in
-    let c = cut_batch H (now M) next t k e pre post x b f.0 f.1 (sym (append-nil (x ∷ b)) ∙ run.all) f.2 run.covers run.each.0 in
-    let P : List Item → Type 0 = λ l. CutRun r H M false next retries old new k l ((x ∷ b) ∷ []) in
-    subst P (sym f.2) (record {
-      t = end_of next pre + 1;
-      shown = c.3;
-      cut = (f.0 ∷ f.1) ∷ [];
+cut_run r H M fresh next retries old new t k e pre post ([] ∷ (x ∷ b) ∷ []) run =
+    let (y, ys, same) = first_of pre (Logged k e) in
+    let c = cut_batch H (now (later M)) (start_of fresh next M ([] ∷ (x ∷ b) ∷ [])) run.leads.1.0 k e pre post (x ∷ b) _ y ys
+    (sym (append-nil (x ∷ b)) ∙ run.all) same run.leads.1.1 run.leads.1.2 in
+    let P : List Item → Type 0 = λ l. CutRun r H M fresh next retries old new k l ([] ∷ (x ∷ b) ∷ []) in
+    let Q : ℕ → Type 0 = λ n. LeadsInSteps Stopped r H M false n ([] ∷ (y ∷ ys) ∷ []) c.0 in
+    subst P (sym same) (record {
+      t = c.0;
+      shown = c.1;
+      cut = [] ∷ (y ∷ ys) ∷ [];
       count = refl;
       some = omega arith;
       run = record {
-        covers = c.0;
-        all = append-nil (f.0 ∷ f.1);
-        each = (c.1, tt);
+        all = append-nil (y ∷ ys);
+        leads = subst Q (same_second fresh next M x y b ys) (run.leads.0, (c.0, c.2, c.3, refl));
         twice_steps = omega arith;
         twice_batches = omega arith;
-        paced = tt;
-        whole = (post, c.2 ∙ run.whole);
-        end = (omega arith, omega arith, tt);
-      };
-    })
-cut_run r H M true next retries old new t k e pre post ([] ∷ (x ∷ b) ∷ []) run =
-    let f = first_of pre (Logged k e) in
-    let c = cut_batch H (now (later M)) (now (later M)).oldest t k e pre post x b f.0 f.1 (sym (append-nil (x ∷ b)) ∙ run.all) f.2 run.covers run.each.0 in
-    let P : List Item → Type 0 = λ l. CutRun r H M true next retries old new k l ([] ∷ (x ∷ b) ∷ []) in
-    subst P (sym f.2) (record {
-      t = end_of (now (later M)).oldest pre + 1;
-      shown = c.3;
-      cut = [] ∷ (f.0 ∷ f.1) ∷ [];
-      count = refl;
-      some = omega arith;
-      run = record {
-        covers = c.0;
-        all = append-nil (f.0 ∷ f.1);
-        each = (c.1, tt);
-        twice_steps = omega arith;
-        twice_batches = omega arith;
-        paced = (run.paced.0, tt);
-        whole = (post, c.2 ∙ run.whole);
-        end = (omega arith, omega arith, tt);
-      };
-    })
-cut_run r H M false next retries old new t k e pre post ([] ∷ (x ∷ b) ∷ []) run =
-    let f = first_of pre (Logged k e) in
-    let c = cut_batch H (now (later M)) next t k e pre post x b f.0 f.1 (sym (append-nil (x ∷ b)) ∙ run.all) f.2 run.covers run.each.0 in
-    let P : List Item → Type 0 = λ l. CutRun r H M false next retries old new k l ([] ∷ (x ∷ b) ∷ []) in
-    subst P (sym f.2) (record {
-      t = end_of next pre + 1;
-      shown = c.3;
-      cut = [] ∷ (f.0 ∷ f.1) ∷ [];
-      count = refl;
-      some = omega arith;
-      run = record {
-        covers = c.0;
-        all = append-nil (f.0 ∷ f.1);
-        each = (c.1, tt);
-        twice_steps = omega arith;
-        twice_batches = omega arith;
-        paced = (run.paced.0, tt);
-        whole = (post, c.2 ∙ run.whole);
         end = (omega arith, omega arith, tt);
       };
     })
@@ -256,31 +186,19 @@ run_of_step : (was is : ℕ → List Moment → History → Type 0) (retries old
     IsStep was is retries old new before after z → IsRun was is retries old new before after 1 (step_ended z) (step_items z)
 run_of_step was is retries old new before after z step = (
   step.0,
-  λ r M H s honest next near.
-      let run = step.1 r M H s honest next (at_once r H M before.fresh s 1 retries old (omega arith) near) in
+  λ r M H s ours next near.
+      let run = step.1 r M H s ours next (at_once r H M before.fresh s 1 retries old (omega arith) near) in
       (run.0, run.1, run.2, run.3, run.4, step_fresh r H M before.fresh after.fresh s retries old new run.1 z run.0 run.3 run.5),
 )
-
--- a batch ends what is special about a walk from the oldest record
-old_after : (fresh : Bool) (before s k : ℕ) (e : Entry) (pre post : List Item) (after : Bool) (next : ℕ) →
-    Goes fresh before s (pre ++ Logged k e ∷ post) after next → after ≡ false
-old_after true before s k e [] post after next goes = goes.1
-old_after true before s k e (Gap f b ∷ pre) post after next goes = absurd goes
-old_after true before s k e (Logged n d ∷ pre) post after next goes = goes.1
-old_after false before s k e [] post after next goes = goes.1
-old_after false before s k e (x ∷ pre) post after next goes = goes.1
 
 -- a step whose batch was cut
 run_of_cut : (was is : ℕ → List Moment → History → Type 0) (retries old new k : ℕ) (e : Entry) (before after : WalkPlace) (pre post : List Item) →
     IsRun was is retries old new before after 1 StepLimit (pre ++ Logged k e ∷ post) →
     IsRun was is retries old new before (record { log = after.log; next = number_after k 1; fresh = false; asks_oldest = false }) 1 Stopped (pre ++ Logged k e ∷ [])
 run_of_cut was is retries old new k e before after pre post run = (
-  (λ s.
-      let P : Bool → Type 0 = λ f. Goes before.fresh before.next s (pre ++ Logged k e ∷ []) f (number_after k 1) in
-      subst P (old_after before.fresh before.next s k e pre post after.fresh after.next (run.0 s))
-      (cut_goes before.fresh before.next s k e pre post after.fresh after.next (run.0 s))),
-  (λ r M H s honest next near.
-      let whole = run.1 r M H s honest next near in
+  (λ s. cut_goes before.fresh before.next s pre k e post after.fresh after.next (run.0 s)),
+  (λ r M H s ours next near.
+      let whole = run.1 r M H s ours next near in
       let c = cut_run r H M before.fresh s retries old new whole.1 k e pre post whole.0 whole.3 in
       let P : ℕ → Type 0 = λ a. is r (after_answers a M) H in
       let some : 0 < batches whole.0 = omega (arith, whole.3.end.0) in

@@ -9,7 +9,7 @@ use Rattle.bac_apdu.specs.FormReading.{form_at}
 use Rattle.bac_apdu.specs.Service.ReadRangeAck.{read_range_ack, ack_parameters, range_ack_in, range_ack_of, read_range_ack_at}
 use Rattle.bac_apdu.specs.declared.service.read_range_ack.ReadRangeAck.{ReadRangeAck}
 use Rattle.bac_log.specs.declared.entry.Entry.{Entry}
-use Rattle.bac_walk.specs.Heard.{heard_at, heard_if, heard_of, heard_with, is_of_log, records_in}
+use Rattle.bac_link.specs.Heard.{heard_at, heard_if, heard_of, heard_with, is_of_log, records_in}
 use Rattle.std.specs.Option.{option_map}
 use Rattle.bac_apdu.proofs.Named.{range_ack_shown}
 

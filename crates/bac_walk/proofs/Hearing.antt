@@ -1,7 +1,7 @@
 -- An answer that a walk hears in a datagram, with its records still octets.
 use Rattle.std.proofs.Common.{ℕ, List, Option, Ok}
 use Rattle.bac_link.specs.Delivery.{History, Moment, now, later}
-use Rattle.bac_walk.specs.Heard.{AckParameters}
+use Rattle.bac_link.specs.Heard.{AckParameters}
 use Rattle.bac_walk.specs.Place.{WalkPlace}
 use Rattle.bac_walk.specs.declared.outcome.Progress.TheVariants.{AskOldest, CaughtUp}
 use Rattle.bac_walk.specs.declared.reply.Turned.{Turned}

@@ -1,76 +1,275 @@
--- An honest link answers by the standard.
-use Rattle.std.proofs.Common.{◌≡◌, ℕ, ◌+◌, ◌<◌, ◌≤◌, Bool, true, false, if◌then◌else◌, Option, Result, Ok, Err, List, refl, sym, ap, subst, ◌∙◌, arith}
-use Rattle.bac_wire.specs.Canon.{IsValid}
-use Rattle.bac_wire.specs.Primitive.{Id, Object}
-use Rattle.bac_apdu.specs.Npdu.{Place}
+-- What comes over a link that is honest for a log.
+use Rattle.std.proofs.Common.{◌≡◌, ℕ, zero, suc, ◌+◌, ◌<◌, ◌≤◌, Bool, true, false, ◌==◌, if◌then◌else◌, Option, Some, None, Result, Ok, Err, List, [], ◌∷◌, ◌++◌, length, refl, sym, ap, subst, ◌∙◌, inl, inr, arith}
+use Rattle.bac_wire.specs.Primitive.{Id}
+use Rattle.bac_apdu.specs.Apdu.{Apdu, Confirmed, Unconfirmed, Simple, Complex, SegmentAck, Error, Reject, Abort}
 use Rattle.bac_apdu.specs.declared.service.extent.Extent.{Extent}
+use Rattle.bac_link.specs.declared.exchanges.ExchangeFault.{ExchangeFault}
 use Rattle.bac_link.specs.declared.link.Lost.{Lost as Loss}
-use Rattle.bac_link.specs.Delivery.{History, Moment, now}
-use Rattle.bac_link.specs.Links.{question, IsAsked, IsQuestion, IsReply, TellsHonestly}
-use Rattle.bac_link.specs.Moments.{AreServed, log_at}
-use Rattle.bac_link.specs.Path.{towards}
-use Rattle.bac_link.specs.Requests.{request_octets}
-use Rattle.bac_link.proofs.Verdicts.{honest_answers}
+use Rattle.bac_link.specs.declared.exchanges.Verdict.{Verdict}
+use Rattle.bac_link.specs.declared.exchanges.Verdict.TheVariants as verdict
+use Rattle.bac_link.specs.Datagrams.{apdu_in}
+use Rattle.bac_link.specs.Delivery.{History, Moment, DeliversTo, now, later}
+use Rattle.bac_link.specs.Exchanges.{Answers, IsNoAnswer, Unanswered, verdict_of}
+use Rattle.bac_link.specs.Laws.{after_answers}
+use Rattle.bac_link.proofs.Delivers.{joined}
+use Rattle.bac_link.specs.Links.{question}
+use Rattle.bac_link.specs.Path.{Path}
 use Rattle.bac_log.specs.TrendLog.{sequence_number}
-use Rattle.bac_walk.specs.Came.{IsNearOf, asked_at, asked_by}
-use Rattle.bac_walk.specs.Near.{IsNear, IsInWindow}
+use Rattle.bac_link.specs.Moments.{NeverGoesBack}
+use Rattle.bac_walk.specs.Came.{Came, Asks, Comes, AreSaidAt, Brought, BroughtInto, EndsBy, restarted}
+use Rattle.bac_link.specs.Heard.{AckParameters}
+use Rattle.bac_link.specs.Moments.{AreInWindow}
 use Rattle.bac_walk.specs.Place.{WalkPlace}
-use Rattle.bac_walk.specs.Replies.{FromOrdinal, FromOldest as FromTheOldest}
-use Rattle.bac_walk.specs.Spoken.{HonestSpeaks, IsSaidOrLost}
-use Rattle.bac_walk.specs.Standard.{Asked, FromNumber, FromOldest, IsSaidAt}
-use Rattle.bac_walk.specs.Walks.{asks_oldest_now, question_of, wanted_at}
-use Rattle.bac_walk.proofs.Asking.{asks_at, ranged_of}
-use Rattle.bac_walk.proofs.Came.{Asking, window_now}
-use Rattle.bac_walk.proofs.Held.{Sound, Sound-now}
-use Rattle.bac_walk.proofs.Own.{own_said}
-use Rattle.bac_walk.proofs.Turns.{or_left}
+use Rattle.bac_link.specs.Heard.{heard_from, heard_in}
+use Rattle.bac_walk.specs.Honest.{DeliversSaid, IsHonestEnd, HonestIsDelivered}
+use Rattle.bac_link.specs.Honest.{IsSaidOrLost, IsHonest, IsHonestWhere, asked_octets}
+use Rattle.bac_link.proofs.Honest.{goes_on}
+use Rattle.bac_link.specs.Standard.{IsSaidAt}
+use Rattle.bac_link.specs.Heard.{parameters_in}
+use Rattle.bac_walk.specs.Walks.{asked_by, question_of}
+use Rattle.bac_walk.proofs.Asking.{asked_in}
+use Rattle.bac_walk.specs.declared.outcome.Ended.{Ended}
+use Rattle.bac_walk.specs.declared.outcome.Ended.TheVariants.{CaughtUp as IsUp, StepLimit, Stopped, Fault}
+use Rattle.bac_walk.specs.declared.outcome.Progress.{Progress}
+use Rattle.bac_walk.specs.declared.outcome.Progress.TheVariants.{Batch as BatchOf, AskOldest, CaughtUp}
+use Rattle.bac_walk.specs.declared.outcome.WalkFault.TheVariants.{Lost, Refused, BadReply}
+use Rattle.bac_walk.specs.Delivers.{NoneFrom}
+use Rattle.bac_walk.proofs.Joins.{after_answers-add}
+use Rattle.bac_walk.proofs.Window.{stays_in_window}
+use Rattle.bac_walk.proofs.Came.{Asking, answers_came, back_later, brought_delivers, brought_ran, some_later, window_later, window_now}
+use Rattle.bac_link.specs.declared.item.Item.{Item}
+use Rattle.bac_walk.specs.Meant.{Means}
+use Rattle.bac_walk.specs.Outcomes.{IsRunOf}
+use Rattle.bac_walk.specs.Sinks.{Call, Takes, is_stopped, put_items}
+use Rattle.bac_walk.specs.Told.{ended_of}
+use Rattle.bac_walk.specs.declared.batch.Gap.{Gap as GapOf}
+use Rattle.bac_walk.specs.declared.batch.Numbered.{Numbered}
+use Rattle.bac_walk.specs.declared.outcome.Why.{Why}
+use Rattle.bac_walk.specs.declared.outcome.Why.TheVariants.{CaughtUp as WasUp, StepLimit as WasLimit, Fault as WasFault, Memory}
+use Rattle.bac_walk.proofs.Standard.{said_means}
 
-asks_same : (w : WalkPlace) (s : ℕ) → w.next ≡ sequence_number s → asked_at (wanted_at w s) ≡ asked_by w
-asks_same w s next = at (asks_oldest_now w)
+-- ---- what a reply by the standard is to its question
+
+acked : (log : Id) (extent : Extent) (invoke service : ℕ) (parameters : List ℕ) (b : Bool) → (service == 26) ≡ b → (h : AckParameters) →
+    heard_from log (if b then Some parameters else None) ≡ Some h → verdict_of (question log extent) (Some (Complex false invoke service parameters)) ≡ verdict.Ack
+acked log extent invoke service parameters true is h heard = rw is refl
+acked log extent invoke service parameters false is h heard = absurd (cc)
+
+is_ack : (log : Id) (extent : Extent) (o : Option Apdu) (h : AckParameters) → heard_from log (parameters_in o) ≡ Some h → verdict_of (question log extent) o ≡ verdict.Ack
+is_ack log extent None h heard = absurd (cc)
+is_ack log extent (Some (Confirmed segmented size invoke service parameters)) h heard = absurd (cc)
+is_ack log extent (Some (Unconfirmed service parameters)) h heard = absurd (cc)
+is_ack log extent (Some (Simple invoke service)) h heard = absurd (cc)
+is_ack log extent (Some (Complex true invoke service parameters)) h heard = absurd (cc)
+is_ack log extent (Some (Complex false invoke service parameters)) h heard = acked log extent invoke service parameters (service == 26) refl h heard
+is_ack log extent (Some (SegmentAck invoke)) h heard = absurd (cc)
+is_ack log extent (Some (Error invoke service class code)) h heard = absurd (cc)
+is_ack log extent (Some (Reject invoke reason)) h heard = absurd (cc)
+is_ack log extent (Some (Abort by_server invoke reason)) h heard = absurd (cc)
+
+-- ---- an exchange
+
+-- what holds where a walk is asked for
+record Here (low : ℕ) (log : Id) (M : List Moment) (w : WalkPlace) : Type 0 where
+  ordinal : ℕ
+  log_is : w.log ≡ log
+  next : w.next ≡ sequence_number ordinal
+  some : 0 < length M
+  window : AreInWindow low M
+  at : w.fresh ≡ false → (low ≤ ordinal) × (ordinal < low + 2147483648)
+
+abbrev asked_for : Path → ℕ → WalkPlace → List ℕ
+asked_for path invoke w = asked_octets path invoke w.log (asked_by w)
+
+-- what one ask of the walk's question brings
+one_ask : {S : Type 0} (asks : Asking S) (stands : S → List Moment → Type 0) (path : Path) (log : Id) (H : History) (low : ℕ) (M : List Moment) (w : WalkPlace) (invoke : ℕ) (old new : S) (answer : Result (List ℕ) Loss) →
+    IsHonestWhere asks path log H low stands → Here low log M w → stands old M → asks old (asked_for path invoke w) answer new →
+    IsSaidOrLost (λ N. stands new N) M H w.log (asked_by w) (asked_for path invoke w) answer
+one_ask asks stands path log H low M w invoke old new answer honest here at asked =
+    let P : Id → Type 0 = λ i. asks old (asked_octets path invoke i (asked_by w)) answer new in
+    let Q : Id → Type 0 = λ i. IsSaidOrLost (λ N. stands new N) M H i (asked_by w) (asked_octets path invoke i (asked_by w)) answer in
+    subst Q (sym here.log_is) (honest old new M (asked_by w) invoke answer at here.some here.window (asked_in w low here.ordinal here.next here.at) (subst P here.log_is asked))
+
+unanswered : {S : Type 0} (asks : Asking S) (stands : S → List Moment → Type 0) (path : Path) (log : Id) (H : History) (low : ℕ) (M : List Moment) (w : WalkPlace) (invoke n : ℕ) (old mid : S) →
+    IsHonestWhere asks path log H low stands → Here low log M w → stands old M → Unanswered asks (asked_for path invoke w) n old mid → stands mid M
+unanswered asks stands path log H low M w invoke zero old mid honest here at none = subst (λ x. stands x M) (sym none) at
+unanswered asks stands path log H low M w invoke (suc n) old mid honest here at (before, answer, first, asked, none) =
+    let at_before = unanswered asks stands path log H low M w invoke n old before honest here at first in
+    last answer (one_ask asks stands path log H low M w invoke before mid answer honest here at_before asked) none
   where
-    at : (b : Bool) → asked_at (if b then FromTheOldest else FromOrdinal s) ≡ (if b then FromOldest else FromNumber w.next)
-    at true = refl
-    at false = ap FromNumber (sym next)
+    last : (answer : Result (List ℕ) Loss) → IsSaidOrLost (λ N. stands mid N) M H w.log (asked_by w) (asked_for path invoke w) answer → IsNoAnswer (asked_for path invoke w) answer → stands mid M
+    last (Ok datagram) said none = said.1 none
+    last (Err lost) said none = said
 
-near_of : (w : WalkPlace) (s : ℕ) (m : Moment) → (w.fresh ≡ false → IsNear s m) → IsNearOf (wanted_at w s) m
-near_of w s m near = at (asks_oldest_now w) refl
-  where
-    at : (b : Bool) → asks_oldest_now w ≡ b → IsNearOf (if b then FromTheOldest else FromOrdinal s) m
-    at true is = tt
-    at false is = near (or_left w.fresh w.asks_oldest is)
+answered : {S : Type 0} (asks : Asking S) (stands : S → List Moment → Type 0) (path : Path) (log : Id) (H : History) (low : ℕ) (M : List Moment) (w : WalkPlace) (invoke retries : ℕ) (v : Verdict) (old : S) (datagram : List ℕ) (new : S) →
+    IsHonestWhere asks path log H low stands → Here low log M w → stands old M → Answers asks path invoke (question w.log (question_of w)) retries v old datagram new →
+    IsSaidAt (now M) H w.log (asked_by w) datagram × stands new (later M) × (v ≡ verdict.Ack)
+answered asks stands path log H low M w invoke retries v old datagram new honest here at (tries, mid, few, first, asked, is) =
+    let at_mid = unanswered asks stands path log H low M w invoke tries old mid honest here at first in
+    let said = (one_ask asks stands path log H low M w invoke mid new (Ok datagram) honest here at_mid asked).0 is.0 in
+    (said.0, said.1, sym is.1 ∙ is_ack w.log (question_of w) (apdu_in datagram) said.0.heard said.0.reads)
 
-in_window : (H : History) (m : Moment) (low s : ℕ) → Sound H m → IsInWindow low m → (low ≤ s) × (s < low + 2147483648) → IsNear s m
-in_window H m low s sound window at = record {
-  above = omega (arith, sound.close, window.newest, at.0);
-  below = omega (arith, window.oldest, at.1);
+-- ---- replies
+
+after_reply : (H : History) (low : ℕ) (log : Id) (M : List Moment) (w next : WalkPlace) (p : Progress) → (here : Here low log M w) → Means H (now M) low here.ordinal w p next →
+    Here low log (later M) next
+after_reply H low log M w next (BatchOf b) here means = record {
+  ordinal = means.0;
+  log_is = ap (λ (v : WalkPlace). v.log) means.2 ∙ here.log_is;
+  next = ap (λ (v : WalkPlace). v.next) means.2;
+  some = some_later M here.some;
+  window = window_later low M here.window;
+  at = λ f. (means.3, means.4);
+}
+after_reply H low log M w next AskOldest here means = record {
+  ordinal = here.ordinal;
+  log_is = ap (λ (v : WalkPlace). v.log) means.2 ∙ here.log_is;
+  next = ap (λ (v : WalkPlace). v.next) means.2 ∙ here.next;
+  some = some_later M here.some;
+  window = window_later low M here.window;
+  at = λ f. here.at (sym (ap (λ (v : WalkPlace). v.fresh) means.2) ∙ f);
+}
+after_reply H low log M w next CaughtUp here means = record {
+  ordinal = here.ordinal;
+  log_is = ap (λ (v : WalkPlace). v.log) means.2 ∙ here.log_is;
+  next = ap (λ (v : WalkPlace). v.next) means.2 ∙ here.next;
+  some = some_later M here.some;
+  window = window_later low M here.window;
+  at = λ f. here.at (sym (ap (λ (v : WalkPlace). v.fresh) means.2) ∙ f);
 }
 
-said_by : (r : ℕ) (M : List Moment) (H : History) (log : Id) (place : Option Place) (low s : ℕ) (w : WalkPlace) (invoke : ℕ) (datagram : List ℕ) →
-    AreServed r M H → IsValid (Object log) → w.log ≡ log → w.next ≡ sequence_number s → IsInWindow low (now M) → (w.fresh ≡ false → (low ≤ s) × (s < low + 2147483648)) →
-    IsReply r (now M) H log (question_of w) (towards place) invoke datagram → IsSaidAt (now M) H w.log (asked_by w) datagram
-said_by r M H log place low s w invoke datagram served valid log_is next window at reply =
-    let P : Extent → Type 0 = λ x. IsReply r (now M) H log x (towards place) invoke datagram in
-    let near : w.fresh ≡ false → IsNear s (now M) = λ f. in_window H (now M) low s (Sound-now r M H served) window (at f) in
-    let said = own_said r M H log (wanted_at w s) (towards place) invoke datagram served valid (near_of w s (now M) near) (subst P (asks_at w s next) reply) in
-    let Q : Asked → Type 0 = λ a. IsSaidAt (now M) H log a datagram in
-    let R : Id → Type 0 = λ i. IsSaidAt (now M) H i (asked_by w) datagram in
-    subst R (sym log_is) (subst Q (asks_same w s next) said)
+honest_comes : {S : Type 0} (asks : Asking S) (stands : S → List Moment → Type 0) (path : Path) (retries : ℕ) (log : Id) (H : History) (low : ℕ) (came : List Came) (M : List Moment) (old new : S) (w after : WalkPlace) →
+    IsHonestWhere asks path log H low stands → Here low log M w → stands old M → Comes asks path retries old w came after new →
+    AreSaidAt H M came × stands new (after_answers (length came) M) × Here low log (after_answers (length came) M) after
+honest_comes asks stands path retries log H low [] M old new w after honest here at comes =
+    (tt, subst (λ x. stands x M) (sym comes.1) at, subst (λ v. Here low log M v) (sym comes.0) here)
+honest_comes asks stands path retries log H low (c ∷ came) M old new w after honest here at (mid, next, p, place, asked, taken, is, rest) =
+    let said = answered asks stands path log H low M w asked.0 retries verdict.Ack old c.datagram mid honest here at asked.1 in
+    let means = said_means H (now M) low here.ordinal w (heard_in w.log c.datagram) said.0.heard (Ok p) next said.0.reads (window_now low M here.some here.window) here.next here.at said.0.counts said.0.says taken in
+    let more = honest_comes asks stands path retries log H low came (later M) mid new next after honest (after_reply H low log M w next p here means) said.1 rest in
+    let P : WalkPlace → Type 0 = λ v. IsSaidAt (now M) H v.log (asked_by v) c.datagram in
+    ((subst P (sym place) said.0, more.0), more.1, more.2)
 
-pub honest_speaks : {S : Type 0} (asks : Asking S) (honest : S → Id → ℕ → List Moment → History → Type 0) →
-    ((link : S) (id : Id) (r : ℕ) (M : List Moment) (H : History) → honest link id r M H → AreServed r M H) → TellsHonestly asks honest → HonestSpeaks asks honest
-honest_speaks {S = S} asks honest serves tells = λ place log r H low way valid old new M w s invoke answer stands log_is next some window at asked.
-    let octets : List ℕ = request_octets (towards place) invoke (question w.log (question_of w)) in
-    let is : IsQuestion log (question_of w) (towards place) invoke octets =
-    (ap (λ i. request_octets (towards place) invoke (question i (question_of w))) log_is, ranged_of w (omega (arith, next)), valid, (way, tt)) in
-    answered place log r H low old new M w s invoke answer octets (serves old log r M H stands) valid log_is next (window_now low M some window) at is
-    (tells old new octets answer log r M H (question_of w) (towards place) invoke stands is asked)
-  where
-    answered : (place : Option Place) (log : Id) (r : ℕ) (H : History) (low : ℕ) (old new : S) (M : List Moment) (w : WalkPlace) (s invoke : ℕ) (answer : Result (List ℕ) Loss) (octets : List ℕ) →
-        AreServed r M H → IsValid (Object log) → w.log ≡ log → w.next ≡ sequence_number s → IsInWindow low (now M) → (w.fresh ≡ false → (low ≤ s) × (s < low + 2147483648)) →
-        IsQuestion log (question_of w) (towards place) invoke octets →
-        IsAsked (λ N. honest new log r N H) r M H log (question_of w) (towards place) invoke answer → IsSaidOrLost (λ N. honest new log r N H) M H w octets answer
-    answered place log r H low old new M w s invoke (Ok datagram) octets served valid log_is next window at is told = (
-      λ yes. (said_by r M H log place low s w invoke datagram served valid log_is next window at told.0, told.1),
-      λ other. absurd (let e = sym (honest_answers r (log_at (now M) H) log (question_of w) place invoke octets datagram is told.0.1) ∙ other in cc),
+-- ---- a run
+
+ended_honest : {S : Type 0} (asks : Asking S) (stands : S → List Moment → Type 0) (path : Path) (retries steps : ℕ) (log : Id) (H : History) (low : ℕ) (came : List Came) (M : List Moment) (here after : WalkPlace) (mid new : S) (ended : Ended) →
+    IsHonestWhere asks path log H low stands → Here low log M here → stands mid M → EndsBy asks path retries steps came here mid ended after new → stands new M × IsHonestEnd ended
+ended_honest asks stands path retries steps log H low came M here after mid new IsUp honest is at ends = (subst (λ x. stands x M) (sym ends.3) at, tt)
+ended_honest asks stands path retries steps log H low came M here after mid new StepLimit honest is at ends = (subst (λ x. stands x M) (sym ends.3) at, tt)
+ended_honest asks stands path retries steps log H low came M here after mid new Stopped honest is at ends = (subst (λ x. stands x M) (sym ends.3) at, tt)
+ended_honest asks stands path retries steps log H low came M here after mid new (Fault Lost) honest is at (few, (result, asked, lost), place) =
+    let P : Result (List ℕ) ExchangeFault → Type 0 = λ r. Asks asks path retries mid here r new in
+    let a = subst P lost asked in
+    (unanswered asks stands path log H low M here a.0 (retries + 1) mid new honest is at a.1, tt)
+ended_honest asks stands path retries steps log H low came M here after mid new (Fault (Refused refusal)) honest is at (few, (result, asked, refused), place) =
+    let P : Result (List ℕ) ExchangeFault → Type 0 = λ r. Asks asks path retries mid here r new in
+    let a = subst P refused asked in
+    let said = answered asks stands path log H low M here a.0 retries (verdict.Refused refusal) mid a.1.0 new honest is at a.1.1 in
+    absurd (let e = said.2 in cc)
+ended_honest asks stands path retries steps log H low came M here after mid new (Fault BadReply) honest is at (few, (result, asked, bad), place) =
+    let P : Result (List ℕ) ExchangeFault → Type 0 = λ r. Asks asks path retries mid here r new in
+    elim bad [
+      | inl unread ↦
+          let a = subst P unread asked in
+          let said = answered asks stands path log H low M here a.0 retries verdict.BadReply mid a.1.0 new honest is at a.1.1 in
+          absurd (let e = said.2 in cc)
+      | inr (datagram, why, ok, taken) ↦
+          let a = subst P ok asked in
+          let said = answered asks stands path log H low M here a.0 retries verdict.Ack mid datagram new honest is at a.1 in
+          absurd (said_means H (now M) low is.ordinal here (heard_in here.log datagram) said.0.heard (Err why) here said.0.reads (window_now low M is.some is.window) is.next is.at said.0.counts said.0.says taken)
+    ]
+
+pub honest_delivers : {S : Type 0} (asks : Asking S) (stands : S → List Moment → Type 0) → HonestIsDelivered asks stands
+honest_delivers asks stands = λ path retries old new w after steps came items ended H M low s honest at run next some back window in_window.
+    let here : Here low w.log M (restarted w) = record { ordinal = s; log_is = refl; next = next; some = some; window = window; at = in_window } in
+    let all = honest_comes asks stands path retries w.log H low came M old run.1 (restarted w) run.0 honest here at run.2 in
+    let end = ended_honest asks stands path retries steps w.log H low came (after_answers (length came) M) run.0 after run.1 new ended honest all.2 all.1 run.3 in
+    (brought_delivers asks path retries old new w after steps came items ended H M low s run all.0 next some back window in_window, all.0, end.0, end.1)
+
+-- ---- what a run delivers
+
+as_ended : (why : Why) (steps n : ℕ) (ended : Ended) → IsRunOf why steps n ended → ended ≡ ended_of why
+as_ended WasUp steps n ended run = run.1
+as_ended WasLimit steps n ended run = run.1
+as_ended (WasFault e) steps n ended run = run.1
+as_ended Memory steps n ended run = run.1
+
+pub delivers_said : {S : Type 0} (asks : Asking S) (path : Path) (retries : ℕ) (old new : S) (w after : WalkPlace) (steps : ℕ) (items : List Item) (ended : Ended) →
+    (came : List Came) × Brought asks path retries old w steps came items ended after new → DeliversSaid asks path old w items ended after new
+delivers_said {S = S} asks path retries old new w after steps items ended (came, run) = λ H M s low honest next some back window at.
+    let here : Here low w.log M (restarted w) = record { ordinal = s; log_is = refl; next = next; some = some; window = window; at = at } in
+    let stands : S → List Moment → Type 0 = λ link N. IsHonest asks path w.log H low link N in
+    let goes = goes_on asks path w.log H low in
+    let all = honest_comes asks stands path retries w.log H low came M old run.1 (restarted w) run.0 goes here honest run.2 in
+    let end = ended_honest asks stands path retries steps w.log H low came (after_answers (length came) M) run.0 after run.1 new ended goes all.2 all.1 run.3 in
+    let ran = brought_ran asks path retries old new w after steps came items ended H M low s run all.0 next some back window at in (
+      ran.0,
+      length came,
+      ran.1,
+      ran.2,
+      ran.3,
+      ran.4,
+      (
+        end.0,
+        λ moments told is.
+            let at_moments : S → List Moment → Type 0 = λ link N. moments link ≡ N in
+            let b = honest_comes asks at_moments path retries w.log H low came M old run.1 (restarted w) run.0 told here is run.2 in
+            (ended_honest asks at_moments path retries steps w.log H low came (after_answers (length came) M) run.0 after run.1 new ended told b.2 b.1 run.3).0,
+      ),
+      (λ up. let caught = ran.5 up in (caught.0, omega (arith, caught.1, answers_came came), caught.3)),
+      end.1,
     )
-    answered place log r H low old new M w s invoke (Err lost) octets served valid log_is next window at is told = told
+
+pub delivers_run : {S : Type 0} (asks : Asking S) (path : Path) (retries : ℕ) (old new : S) (w after : WalkPlace) (steps : ℕ) (items : List Item) (why : Why) →
+    (n : ℕ) × (ended : Ended) × IsRunOf why steps n ended × ((came : List Came) × Brought asks path retries old w n came items ended after new) →
+    DeliversSaid asks path old w items (ended_of why) after new
+delivers_run asks path retries old new w after steps items why (n, ended, run, brought) =
+    let P : Ended → Type 0 = λ e. DeliversSaid asks path old w items e after new in
+    subst P (as_ended why steps n ended run) (delivers_said asks path retries old new w after n items ended brought)
+
+pub into_said : {S T : Type 0} (asks : Asking S) (path : Path) (retries : ℕ) (puts : T → Option GapOf → Numbered → Bool → T → Type 0) (old new : S) (sink left : T) (w after : WalkPlace) (steps : ℕ) (ended : Ended) →
+    BroughtInto asks path retries puts old sink w steps ended after left new →
+    (calls : List Call) × Takes puts sink calls (is_stopped ended) left × DeliversSaid asks path old w (put_items calls) ended after new
+into_said asks path retries puts old new sink left w after steps ended (calls, takes, few, gaps, brought) =
+    (calls, takes, delivers_said asks path retries old new w after steps (put_items calls) ended brought)
+
+-- ---- one run, and another from where it ended
+
+some_after : (count : ℕ) (M : List Moment) → 0 < length M → 0 < length (after_answers count M)
+some_after zero M some = some
+some_after (suc count) M some = some_after count (later M) (some_later M some)
+
+back_after : (count : ℕ) (M : List Moment) → NeverGoesBack M → NeverGoesBack (after_answers count M)
+back_after zero M back = back
+back_after (suc count) M back = back_after count (later M) (back_later M back)
+
+pub said_joins : {S : Type 0} (asks : Asking S) (path : Path) (old half new : S) (w mid resumed after : WalkPlace) (xs ys : List Item) (e f : Ended) →
+    DeliversSaid asks path old w xs e mid half → DeliversSaid asks path half resumed ys f after new → resumed.log ≡ w.log → resumed.next ≡ mid.next → resumed.fresh ≡ false → w.fresh ≡ false →
+    DeliversSaid asks path old w (xs ++ ys) f after new
+said_joins {S = S} asks path old half new w mid resumed after xs ys e f first second log_is next_is by_number had_number = λ H M s low honest next some back window at.
+    let a = first H M s low honest next some back window at in
+    let P : ℕ → Type 0 = λ n. DeliversTo H n xs a.2 M a.1 in
+    let one = subst P (a.3 had_number) a.5 in
+    let place = stays_in_window H M low s a.2 a.1 xs some window (at had_number).0 (at had_number).1 one in
+    let left : List Moment = after_answers a.1 M in
+    let R : Id → Type 0 = λ i. IsHonest asks path i H low half left in
+    let b = second H left a.2 low (subst R (sym log_is) a.6.0) (next_is ∙ a.4) (some_after a.1 M some) (back_after a.1 M back) place.2 (λ old. (place.0, place.1)) in
+    let E : ℕ → Type 0 = λ n. DeliversTo H n ys b.2 left b.1 in
+    let two = subst E (b.3 by_number) b.5 in
+    let K : Id → Type 0 = λ i. IsHonest asks path i H low new (after_answers b.1 left) in
+    let L : List Moment → Type 0 = λ N. IsHonest asks path w.log H low new N in
+    let T : Id → Type 0 = λ i. (moments : S → List Moment) → IsHonestWhere asks path i H low (λ link N. moments link ≡ N) → moments half ≡ left → moments new ≡ after_answers b.1 left in
+    let both = sym (after_answers-add a.1 b.1 M) in (
+      s,
+      a.1 + b.1,
+      b.2,
+      (λ old. refl),
+      b.4,
+      joined H s a.2 b.2 a.1 b.1 M xs ys one two,
+      (subst L both (subst K log_is b.6.0), (λ moments told is. subst T log_is b.6.1 moments told (a.6.1 moments told is) ∙ both)),
+      (λ up.
+          let c = b.7 up in
+          let G : List Moment → Type 0 = λ N. NoneFrom b.2 (now N) in
+          (a.1 + c.0, omega (arith, c.1), subst G (sym (after_answers-add a.1 c.0 M)) c.2)),
+      b.8,
+    )

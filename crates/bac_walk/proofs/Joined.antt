@@ -9,10 +9,10 @@ use Rattle.bac_log.specs.declared.entry.Entry.{Entry}
 use Rattle.bac_walk.specs.Came.{Came, Comes, Brought, BroughtInto, EndsBy, EndsEmpty, EndsFull, AreOf, answers_of, restarted}
 use Rattle.bac_walk.specs.Collects.{batches, step_ended, step_items, turn_items}
 use Rattle.bac_walk.specs.Handing.{walk_after, ended_after, HandedOn}
-use Rattle.bac_walk.specs.Heard.{AckParameters}
-use Rattle.bac_walk.specs.Ordinals.{number_after}
+use Rattle.bac_link.specs.Heard.{AckParameters}
+use Rattle.bac_link.specs.Ordinals.{number_after}
 use Rattle.bac_walk.specs.Place.{WalkPlace}
-use Rattle.bac_walk.specs.Replied.{heard_in}
+use Rattle.bac_link.specs.Heard.{heard_in}
 use Rattle.bac_walk.specs.Sinks.{PutAll, is_stopped, put_items}
 use Rattle.bac_walk.specs.Walks.{gap_items, item_of, items_in, verdict, NextAct, Refuse, Ask, End, Bring, IsTaken, IsTakenFrom}
 use Rattle.bac_walk.specs.declared.batch.Batch.{Batch}

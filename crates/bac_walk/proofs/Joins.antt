@@ -9,10 +9,9 @@ use Rattle.bac_walk.specs.declared.outcome.Ended.{Ended}
 use Rattle.bac_walk.specs.declared.outcome.Ended.TheVariants.{CaughtUp, StepLimit, Stopped, Fault}
 use Rattle.bac_link.specs.Delivery.{History, Moment, now, later, items_of}
 use Rattle.bac_link.specs.Laws.{after_answers}
-use Rattle.bac_walk.specs.Turns.{Covers}
-use Rattle.bac_walk.specs.Delivers.{end_of, AreAnswers, NoneFrom}
-use Rattle.bac_walk.specs.Collects.{IsOfReply, AreWhole, batches, IsWhole, IsPaced, start_of, IsEnded, Collected, IsFreshAfter, step_items, step_ended, is_fresh_after}
-use Rattle.bac_walk.proofs.Cuts.{Covers-append, Covers-end, items_of-append, end_of-append, AreAnswers-append}
+use Rattle.bac_walk.specs.Delivers.{NoneFrom}
+use Rattle.bac_walk.specs.Collects.{IsOfReply, LeadsInSteps, batches, IsWhole, start_of, IsEnded, Collected, IsFreshAfter, step_items, step_ended, is_fresh_after}
+use Rattle.bac_walk.proofs.Cuts.{items_of-append}
 
 pub batches-append : (xs ys : List (List Item)) → batches (xs ++ ys) ≡ batches xs + batches ys
 batches-append [] ys = omega arith
@@ -33,58 +32,35 @@ whole_twice ([] ∷ [] ∷ xs) h = absurd h
 whole_twice ([] ∷ (x ∷ b) ∷ xs) h = omega (arith, whole_twice xs h)
 whole_twice ((x ∷ b) ∷ xs) h = omega (arith, whole_twice xs h)
 
-IsPaced-append : (why : Ended) (M : List Moment) (s : ℕ) (xs ys : List (List Item)) → IsWhole xs → IsPaced StepLimit M s xs →
-    IsPaced why (after_answers (length xs) M) (end_of s (items_of xs)) ys → IsPaced why M s (xs ++ ys)
-IsPaced-append why M s [] ys whole first rest = rest
-IsPaced-append why M s ([] ∷ []) ys whole first rest = absurd whole
-IsPaced-append why M s ([] ∷ [] ∷ xs) ys whole first rest = absurd whole
-IsPaced-append why M s ([] ∷ (x ∷ b) ∷ xs) ys whole first rest = (
-  first.0,
-  IsPaced-append why (later (later M)) (end_of s (x ∷ b)) xs ys whole first.1
-      (let P : ℕ → Type 0 = λ n. IsPaced why (after_answers (length xs) (later (later M))) n ys in
-      subst P (end_of-append s (x ∷ b) (items_of xs)) rest),
-)
-IsPaced-append why M s ((x ∷ b) ∷ xs) ys whole first rest =
-    IsPaced-append why (later M) (end_of s (x ∷ b)) xs ys whole first
-    (let P : ℕ → Type 0 = λ n. IsPaced why (after_answers (length xs) (later M)) n ys in
-    subst P (end_of-append s (x ∷ b) (items_of xs)) rest)
+-- the whole of a reply is of it in any run, whatever comes after it
+whole_of : (ended : Ended) (xs ys : List (List Item)) (items reply : List Item) → IsOfReply xs StepLimit items reply → IsOfReply (xs ++ ys) ended items reply
+whole_of ended (z ∷ xs) ys items reply is = is
+whole_of ended [] (y ∷ ys) items reply is = is
+whole_of CaughtUp [] [] items reply is = is
+whole_of StepLimit [] [] items reply is = is
+whole_of Stopped [] [] items reply is = ([], append-nil items ∙ is)
+whole_of (Fault e) [] [] items reply is = is
 
--- the whole of a reply is of it in any run
-whole_of : (why : Ended) (xs ys : List Item) → xs ≡ ys → IsOfReply why xs ys
-whole_of CaughtUp xs ys is = is
-whole_of StepLimit xs ys is = is
-whole_of Stopped xs ys is = ([], append-nil xs ∙ is)
-whole_of (Fault e) xs ys is = is
-
--- whole replies after whole replies
-AreWhole-append : (why : Ended) (r : ℕ) (H : History) (M : List Moment) (s : ℕ) (xs ys : List (List Item)) → IsWhole xs → AreWhole StepLimit r H M false s xs →
-    AreWhole why r H (after_answers (length xs) M) false (end_of s (items_of xs)) ys → AreWhole why r H M false s (xs ++ ys)
-AreWhole-append why r H M s [] ys whole first rest = rest
-AreWhole-append why r H M s ([] ∷ []) ys whole first rest = absurd whole
-AreWhole-append why r H M s ([] ∷ [] ∷ xs) ys whole first rest = absurd whole
-AreWhole-append why r H M s ([] ∷ (x ∷ b) ∷ []) [] whole first rest = whole_of why _ _ first
-AreWhole-append why r H M s ([] ∷ (x ∷ b) ∷ []) (y ∷ ys) whole first rest = (
-  first,
-  (let P : ℕ → Type 0 = λ n. AreWhole why r H (later (later M)) false n (y ∷ ys) in
-      subst P (ap (λ l. end_of s l) (append-nil (x ∷ b))) rest),
-)
-AreWhole-append why r H M s ([] ∷ (x ∷ b) ∷ z ∷ xs) ys whole first rest = (
+-- whole steps, and others after them
+LeadsInSteps-append : (ended : Ended) (r : ℕ) (H : History) (M : List Moment) (s t u : ℕ) (xs ys : List (List Item)) → IsWhole xs →
+    LeadsInSteps StepLimit r H M false s xs t → LeadsInSteps ended r H (after_answers (length xs) M) false t ys u → LeadsInSteps ended r H M false s (xs ++ ys) u
+LeadsInSteps-append ended r H M s t u [] ys whole first rest = let P : ℕ → Type 0 = λ n. LeadsInSteps ended r H M false n ys u in subst P first rest
+LeadsInSteps-append ended r H M s t u ([] ∷ []) ys whole first rest = absurd whole
+LeadsInSteps-append ended r H M s t u ([] ∷ [] ∷ xs) ys whole first rest = absurd whole
+LeadsInSteps-append ended r H M s t u ([] ∷ (x ∷ b) ∷ xs) ys whole first rest = (
   first.0,
-  AreWhole-append why r H (later (later M)) (end_of s (x ∷ b)) (z ∷ xs) ys whole first.1
-      (let P : ℕ → Type 0 = λ n. AreWhole why r H (after_answers (length (z ∷ xs)) (later (later M))) false n ys in
-      subst P (end_of-append s (x ∷ b) (items_of (z ∷ xs))) rest),
+  (
+    first.1.0,
+    first.1.1,
+    whole_of ended xs ys (x ∷ b) _ first.1.2,
+    LeadsInSteps-append ended r H (later (later M)) first.1.0 t u xs ys whole first.1.3 rest,
+  ),
 )
-AreWhole-append why r H M s ((x ∷ b) ∷ []) [] whole first rest = whole_of why _ _ first
-AreWhole-append why r H M s ((x ∷ b) ∷ []) (y ∷ ys) whole first rest = (
-  first,
-  (let P : ℕ → Type 0 = λ n. AreWhole why r H (later M) false n (y ∷ ys) in
-      subst P (ap (λ l. end_of s l) (append-nil (x ∷ b))) rest),
-)
-AreWhole-append why r H M s ((x ∷ b) ∷ z ∷ xs) ys whole first rest = (
+LeadsInSteps-append ended r H M s t u ((x ∷ b) ∷ xs) ys whole first rest = (
   first.0,
-  AreWhole-append why r H (later M) (end_of s (x ∷ b)) (z ∷ xs) ys whole first.1
-      (let P : ℕ → Type 0 = λ n. AreWhole why r H (after_answers (length (z ∷ xs)) (later M)) false n ys in
-      subst P (end_of-append s (x ∷ b) (items_of (z ∷ xs))) rest),
+  first.1,
+  whole_of ended xs ys (x ∷ b) _ first.2,
+  LeadsInSteps-append ended r H (later M) first.0 t u xs ys whole first.3 rest,
 )
 
 pub whole_some : (y : List Item) (ys : List (List Item)) → IsWhole (y ∷ ys) → 0 < batches (y ∷ ys)
@@ -156,23 +132,12 @@ join_some : (r : ℕ) (H : History) (M : List Moment) (fresh : Bool) (next i j r
 join_some r H M fresh next i j retries old mid new items more t u why x xs ys first rest up =
     let whole : IsWhole (x ∷ xs) = first.end.1 in
     let start : start_of fresh next M ((x ∷ xs) ++ ys) ≡ start_of fresh next M (x ∷ xs) = start_of-append fresh next M x xs ys whole in
-    let end : end_of (start_of fresh next M (x ∷ xs)) (items_of (x ∷ xs)) ≡ t =
-    ap (λ n. end_of (start_of fresh next M (x ∷ xs)) n) first.all ∙ Covers-end (start_of fresh next M (x ∷ xs)) t items first.covers in
-    let C : ℕ → Type 0 = λ n. Covers n (items ++ more) u in
-    let E : ℕ → Type 0 = λ n. AreAnswers H M n ((x ∷ xs) ++ ys) in
-    let F : ℕ → Type 0 = λ n. AreAnswers H (after_answers (length (x ∷ xs)) M) n ys in
-    let W : ℕ → Type 0 = λ n. AreWhole why r H (after_answers (length (x ∷ xs)) M) false n ys in
-    let X : ℕ → Type 0 = λ n. AreWhole why r H M false n ((x ∷ xs) ++ ys) in
-    let Y : ℕ → Type 0 = λ n. IsPaced why M n ((x ∷ xs) ++ ys) in
-    let G : ℕ → Type 0 = λ n. IsPaced why (after_answers (length (x ∷ xs)) M) n ys in
+    let P : ℕ → Type 0 = λ n. LeadsInSteps why r H M false n ((x ∷ xs) ++ ys) u in
     record {
-      covers = subst C (sym start) (Covers-append (start_of fresh next M (x ∷ xs)) t u items more first.covers rest.covers);
       all = items_of-append (x ∷ xs) ys ∙ ap (λ n. n ++ items_of ys) first.all ∙ ap (λ n. items ++ n) rest.all;
-      each = subst E (sym start) (AreAnswers-append H M (start_of fresh next M (x ∷ xs)) (x ∷ xs) ys first.each (subst F (sym end) rest.each));
+      leads = subst P (sym start) (LeadsInSteps-append why r H M (start_of fresh next M (x ∷ xs)) t u (x ∷ xs) ys whole first.leads rest.leads);
       twice_steps = omega (arith, length-append (x ∷ xs) ys, first.twice_steps, rest.twice_steps);
       twice_batches = omega (arith, length-append (x ∷ xs) ys, batches-append (x ∷ xs) ys, whole_twice (x ∷ xs) whole, rest.twice_batches);
-      whole = subst X (sym start) (AreWhole-append why r H M (start_of fresh next M (x ∷ xs)) (x ∷ xs) ys whole first.whole (subst W (sym end) rest.whole));
-      paced = subst Y (sym start) (IsPaced-append why M (start_of fresh next M (x ∷ xs)) (x ∷ xs) ys whole first.paced (subst G (sym end) rest.paced));
       end = ended_after why fresh false u M (x ∷ xs) ys i j retries old mid new (λ h. absurd (omega (arith, h, whole_some x xs whole))) first.end.0 whole up rest.end;
     }
 
@@ -183,17 +148,14 @@ join_none : (r : ℕ) (H : History) (M : List Moment) (fresh : Bool) (next i j r
     Collected r H M fresh t j retries mid new more u why ys → old ≤ mid →
     Collected r H M fresh next (i + j) retries old new (items ++ more) u why ys
 join_none r H M fresh next i j retries old mid new [] more t u why ys first rest up =
-    let same : t ≡ next = first.covers ∙ start_of-nil fresh next M in
+    let same : t ≡ next = first.leads ∙ start_of-nil fresh next M in
     let S : ℕ → Type 0 = λ n. Collected r H M fresh n j retries mid new more u why ys in
     let moved = subst S same rest in
     record {
-      covers = moved.covers;
       all = moved.all;
-      each = moved.each;
+      leads = moved.leads;
       twice_steps = omega (arith, moved.twice_steps);
       twice_batches = moved.twice_batches;
-      paced = moved.paced;
-      whole = moved.whole;
       end = ended_after why fresh fresh u M [] ys i j retries old mid new (λ h. refl) first.end.0 tt up moved.end;
     }
 join_none r H M fresh next i j retries old mid new (x ∷ items) more t u why ys first rest up = absurd (let e = first.all in cc)
@@ -226,26 +188,20 @@ fresh_join fresh mid_fresh new_fresh xs ys first rest = record {
 pub at_limit : (r : ℕ) (H : History) (M : List Moment) (fresh : Bool) (s i retries old new tries was is : ℕ) (items : List Item) (t : ℕ) (answers : List (List Item)) →
     Collected r H M fresh s i retries old new items t StepLimit answers → Collected r H M fresh s i tries was is items t StepLimit answers
 at_limit r H M fresh s i retries old new tries was is items t answers run = record {
-  covers = run.covers;
   all = run.all;
-  each = run.each;
+  leads = run.leads;
   twice_steps = run.twice_steps;
   twice_batches = run.twice_batches;
-  paced = run.paced;
-  whole = run.whole;
   end = run.end;
 }
 
 -- a run of no steps
 pub no_steps : (r : ℕ) (H : History) (M : List Moment) (fresh : Bool) (next retries old : ℕ) → Collected r H M fresh next 0 retries old old [] next StepLimit []
 no_steps r H M fresh next retries old = record {
-  covers = sym (start_of-nil fresh next M);
   all = refl;
-  each = tt;
+  leads = sym (start_of-nil fresh next M);
   twice_steps = omega arith;
   twice_batches = omega arith;
-  paced = tt;
-  whole = tt;
   end = (refl, tt);
 }
 
@@ -253,13 +209,10 @@ no_steps r H M fresh next retries old = record {
 pub ended_early : (r : ℕ) (H : History) (M : List Moment) (fresh : Bool) (next i n retries old new : ℕ) (items : List Item) (t : ℕ) (why : Ended) (xs : List (List Item)) →
     why ≢ StepLimit → i ≤ n → Collected r H M fresh next i retries old new items t why xs → Collected r H M fresh next n retries old new items t why xs
 ended_early r H M fresh next i n retries old new items t why xs not_limit le run = record {
-  covers = run.covers;
   all = run.all;
-  each = run.each;
+  leads = run.leads;
   twice_steps = omega (arith, run.twice_steps);
   twice_batches = run.twice_batches;
-  paced = run.paced;
-  whole = run.whole;
   end = early why fresh t M xs i n retries old new not_limit le run.end;
 }
   where

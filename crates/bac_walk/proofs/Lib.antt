@@ -9,7 +9,7 @@ pub mod Heards
 pub mod WalkTakes
 pub mod Held
 pub mod Near
-pub mod HonestReply
+pub mod OurReply
 pub mod Shown
 pub mod Turns
 pub mod Asking
@@ -32,8 +32,8 @@ pub mod Brought
 pub mod Own
 pub mod Joined
 pub mod Counted
-pub mod Spoken
 pub mod Honest
+pub mod Ours
 pub mod Back
 pub mod Window
 pub mod Loggable

@@ -2,15 +2,14 @@
 use Rattle.std.proofs.Common.{◌≡◌, ℕ, zero, suc, Bool, true, false, ◌+◌, ◌<◌, ◌≤◌, List, [], ◌∷◌, ◌++◌, length, refl, sym, ap, subst, ◌∙◌, arith, length-append}
 use Rattle.bac_link.specs.declared.item.Item.{Item}
 use Rattle.bac_link.specs.declared.item.Item.TheVariants.{Gap, Logged}
-use Rattle.bac_link.specs.Delivery.{History, Moment, now, later, items_of, Brings, Leads}
+use Rattle.bac_link.specs.Delivery.{History, Moment, now, later, Brings, Leads}
 use Rattle.bac_link.specs.Laws.{after_answers}
 use Rattle.bac_link.specs.Moments.{AreServed}
 use Rattle.bac_link.proofs.Delivers.{after_one, held_end, first_held}
 use Rattle.bac_walk.specs.declared.outcome.Ended.TheVariants.{StepLimit}
 use Rattle.bac_walk.specs.Collects.{batches, start_of, Collected, IsFreshAfter}
-use Rattle.bac_walk.specs.Delivers.{end_of}
-use Rattle.bac_walk.specs.Near.{IsNear, IsNearStep, StaysNear, IsInWindow, AreInWindow}
-use Rattle.bac_walk.proofs.Cuts.{Covers-end}
+use Rattle.bac_link.specs.Moments.{IsInWindow, AreInWindow}
+use Rattle.bac_walk.specs.Near.{IsNear, IsNearStep, StaysNear}
 use Rattle.bac_walk.proofs.Headline.{leads}
 use Rattle.bac_walk.proofs.Held.{Sound, AllSound, all_sound}
 use Rattle.bac_walk.proofs.Joins.{after_answers-add, at_limit, batches-append, join, no_steps}
@@ -76,19 +75,11 @@ rest_at H m s t ((x ∷ xs) ∷ answers) sound near goes =
     let all = stays_within H m goes.0 t answers goes.2 one.0 one.1 in
     near_within H m t sound all.0 all.1
 
-run_leads : (r : ℕ) (H : History) (M : List Moment) (fresh : Bool) (s steps retries old new t : ℕ) (items : List Item) (answers : List (List Item)) →
-    Collected r H M fresh s steps retries old new items t StepLimit answers → Leads H M (start_of fresh s M answers) answers t
-run_leads r H M fresh s steps retries old new t items answers run =
-    let b = start_of fresh s M answers in
-    let end : end_of b (items_of answers) ≡ t = ap (λ l. end_of b l) run.all ∙ Covers-end b t items run.covers in
-    let P : ℕ → Type 0 = λ u. Leads H M b answers u in
-    subst P end (leads H M b answers run.each)
-
 pub rest_near : (r : ℕ) (H : History) (m : Moment) (fresh : Bool) (s steps : ℕ) → AreServed r (m ∷ []) H → (fresh ≡ false → IsNear s m) → StaysNear r H (m ∷ []) fresh s steps
 rest_near r H m fresh s steps served near = λ i retries old new t items answers lt run not_fresh.
     let P : List Moment → Type 0 = λ N. IsNearStep t N in
     let close : IsNear t m = rest_at H m (start_of fresh s (m ∷ []) answers) t answers (all_sound r (m ∷ []) H served).0
-    (λ none. begins fresh (near (not_fresh none)) (not_fresh none) answers) (run_leads r H (m ∷ []) fresh s i retries old new t items answers run) in
+    (λ none. begins fresh (near (not_fresh none)) (not_fresh none) answers) (leads StepLimit r H (m ∷ []) false _ t answers run.leads) in
     subst P (sym (after_one (length answers) m)) (close, λ none. close)
   where
     begins : (b : Bool) → IsNear s m → b ≡ false → (answers : List (List Item)) → IsNear (start_of b s (m ∷ []) answers) m
@@ -147,7 +138,7 @@ pub windows_near : (r : ℕ) (H : History) (M : List Moment) (low s steps : ℕ)
 windows_near r H M low s steps fresh served are at = λ i retries old new t items answers lt run not_fresh.
     let w = windowed r H M low served are in
     let begins = start_in H low M fresh s answers w at not_fresh in
-    let place = leads_within H low M (start_of fresh s M answers) t answers w begins.0 begins.1 (run_leads r H M fresh s i retries old new t items answers run) in
+    let place = leads_within H low M (start_of fresh s M answers) t answers w begins.0 begins.1 (leads StepLimit r H M false _ t answers run.leads) in
     let N : List Moment = after_answers (length answers) M in
     let v = windowed_after H low (length answers) M w in (
       near_in H low t (now N) (windowed_now H low N v) place.0 place.1,

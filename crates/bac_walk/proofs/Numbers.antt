@@ -2,7 +2,7 @@
 use Rattle.std.proofs.Common.{◌≡◌, ℕ, suc, List, [], ◌∷◌, length, map, refl, ap, ◌∙◌}
 use Rattle.bac_log.specs.declared.entry.Entry.{Entry}
 use Rattle.bac_walk.specs.declared.batch.Numbered.{Numbered}
-use Rattle.bac_walk.specs.Ordinals.{number_after}
+use Rattle.bac_link.specs.Ordinals.{number_after}
 use Rattle.bac_walk.specs.Walks.{with_numbers, shown_from, item_of}
 
 pub map-with_numbers : (k : ℕ) (es : List Entry) → map item_of (with_numbers k es) ≡ shown_from k es

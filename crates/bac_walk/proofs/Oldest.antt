@@ -12,7 +12,8 @@ use Rattle.bac_log.specs.declared.entry.Entry.{Entry}
 use Rattle.bac_log.specs.Entry.{IsLoggable}
 use Rattle.bac_log.specs.Select.{HeldEntry, numbered, selected, is_asked, is_newer, first_newer, in_interval_at}
 use Rattle.bac_log.specs.TrendLog.{Log, oldest}
-use Rattle.bac_walk.specs.Replies.{first_date, first_time, IsShown}
+use Rattle.bac_link.specs.Standard.{first_date, first_time}
+use Rattle.bac_walk.specs.Replies.{IsShown}
 use Rattle.bac_log.proofs.Runs.{filter_run}
 
 abbrev pub from_oldest : Extent

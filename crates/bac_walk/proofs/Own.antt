@@ -4,27 +4,26 @@ use Rattle.std.proofs.lemmas.Bool.{cases_lt}
 use Rattle.bac_wire.specs.Primitive.{Id}
 use Rattle.bac_log.specs.declared.entry.Entry.{Entry}
 use Rattle.bac_log.specs.TrendLog.{sequence_number}
-use Rattle.bac_link.specs.Delivery.{History, Moment, Holds, now}
+use Rattle.bac_link.specs.Delivery.{History, Moment, Holds, AreHeld, now}
 use Rattle.bac_link.specs.Moments.{entries_from}
-use Rattle.bac_walk.specs.Came.{IsNearOf, OwnIsSaid, asked_at}
-use Rattle.bac_walk.specs.Heard.{AckParameters}
+use Rattle.bac_walk.specs.Came.{IsNearOf, OwnIsSaid}
+use Rattle.bac_link.specs.Heard.{AckParameters}
 use Rattle.bac_walk.specs.Near.{IsNear}
-use Rattle.bac_walk.specs.Ordinals.{distance}
-use Rattle.bac_walk.specs.Replied.{heard_in}
-use Rattle.bac_walk.specs.Replies.{Wanted, FromOrdinal, FromOldest, IsAnswer, asked_count, how_many}
-use Rattle.bac_walk.specs.Standard.{HoldsNumber, AreHeldFrom, SaysAt, IsSaidAt}
+use Rattle.bac_link.specs.Ordinals.{distance}
+use Rattle.bac_link.specs.Heard.{heard_in}
+use Rattle.bac_walk.specs.Replies.{Wanted, FromOrdinal, FromOldest, IsAnswer, asked_at, asked_count, how_many}
+use Rattle.bac_link.specs.Standard.{HoldsNumber, AreHeldFrom, SaysAt, IsSaidAt}
 use Rattle.bac_walk.specs.Takes.{Says}
-use Rattle.bac_walk.specs.Turns.{AreRecords}
 use Rattle.bac_walk.specs.Walks.{numbered}
 use Rattle.bac_walk.proofs.Bridge.{IsNearTo}
 use Rattle.bac_walk.proofs.Held.{Sound, Sound-now, In-now}
-use Rattle.bac_walk.proofs.HonestReply.{says_in}
+use Rattle.bac_walk.proofs.OurReply.{says_in}
 use Rattle.bac_walk.proofs.Shown.{distance-number, records}
 use Rattle.bac_walk.proofs.Turns.{entries_count}
 
-held_of : (H : History) (m : Moment) (k : ℕ) (es : List Entry) → AreRecords H m k (numbered k es) → AreHeldFrom H m k es
-held_of H m k [] are = tt
-held_of H m k (e ∷ es) are = (are.1, are.2, held_of H m (k + 1) es are.3)
+held_of : (H : History) (m : Moment) (k u : ℕ) (es : List Entry) → AreHeld H m k (numbered k es) u → AreHeldFrom H m k es
+held_of H m k u [] are = tt
+held_of H m k u (e ∷ es) are = (are.1, are.2, held_of H m (k + 1) u es are.3)
 
 -- what is held under the number of a near ordinal is that ordinal
 held_near : (H : History) (m : Moment) (s : ℕ) → Sound H m → IsNear s m → HoldsNumber m (sequence_number s) → Holds m s
@@ -45,8 +44,8 @@ says_of r m H (FromOrdinal s) first (e ∷ es) sound within near answer =
     let same : length (entries_from H f (how_many r H (FromOrdinal s) m)) ≡ how_many r H (FromOrdinal s) m =
     entries_count H m f (how_many r H (FromOrdinal s) m) sound within (omega arith) (λ h. omega (arith, answer.most)) in
     let n : length (e ∷ es) ≡ how_many r H (FromOrdinal s) m = ap length answer.entries ∙ same in
-    let Q : List Entry → Type 0 = λ xs. AreRecords H m f (numbered f xs) in
-    let are = held_of H m f (e ∷ es) (subst Q (sym answer.entries) (records H m f (how_many r H (FromOrdinal s) m) (omega (arith, sound.above)) (omega arith) (omega (arith, n, same, answer.most)))) in (
+    let Q : List Entry → Type 0 = λ xs. AreHeld H m f (numbered f xs) (f + length xs) in
+    let are = held_of H m f (f + length (e ∷ es)) (e ∷ es) (subst Q (sym answer.entries) (records H m f (how_many r H (FromOrdinal s) m) (omega (arith, sound.above)) (omega arith) (omega (arith, n, same, answer.most)))) in (
       f,
       (answer.first_is (omega (arith, n)), omega (arith, n, answer.most), are),
       elim (cases_lt s m.oldest) [
@@ -68,8 +67,8 @@ says_of r m H FromOldest first (e ∷ es) sound within near answer =
     let same : length (entries_from H m.oldest (how_many r H FromOldest m)) ≡ how_many r H FromOldest m =
     entries_count H m m.oldest (how_many r H FromOldest m) sound within (omega arith) (λ h. omega (arith, answer.most)) in
     let n : length (e ∷ es) ≡ how_many r H FromOldest m = ap length answer.entries ∙ same in
-    let Q : List Entry → Type 0 = λ xs. AreRecords H m m.oldest (numbered m.oldest xs) in
-    let are = held_of H m m.oldest (e ∷ es) (subst Q (sym answer.entries) (records H m m.oldest (how_many r H FromOldest m) sound.above (omega arith) (omega (arith, n, same, answer.most)))) in
+    let Q : List Entry → Type 0 = λ xs. AreHeld H m m.oldest (numbered m.oldest xs) (m.oldest + length xs) in
+    let are = held_of H m m.oldest (m.oldest + length (e ∷ es)) (e ∷ es) (subst Q (sym answer.entries) (records H m m.oldest (how_many r H FromOldest m) sound.above (omega arith) (omega (arith, n, same, answer.most)))) in
     (answer.first_is (omega (arith, n)), omega (arith, n, answer.most), are)
 
 near_of : (wanted : Wanted) (m : Moment) → IsNearOf wanted m → IsNearTo wanted m

@@ -9,15 +9,12 @@ use Rattle.bac_walk.specs.declared.outcome.Ended.TheVariants.{CaughtUp}
 use Rattle.bac_log.specs.TrendLog.{sequence_number}
 use Rattle.bac_link.specs.Delivery.{History, Moment}
 use Rattle.bac_link.specs.Moments.{IsMoment, AreServed, log_at, entries_from}
-use Rattle.bac_walk.specs.Delivers.{end_of}
 use Rattle.bac_walk.specs.Turns.{whole_reply, reply_count}
 use Rattle.bac_walk.specs.Rests.{Rested, rest_from, rest_all}
-use Rattle.bac_walk.proofs.Cuts.{Covers-end}
-use Rattle.bac_walk.proofs.Shown.{records}
 use Rattle.bac_log.specs.Entry.{IsLoggable}
 use Rattle.bac_walk.proofs.Bridge.{fitting_some, fitting_most, cut_loggable}
 use Rattle.bac_walk.proofs.Held.{Sound-now, In-now}
-use Rattle.bac_walk.proofs.Turns.{gapped, entries_count}
+use Rattle.bac_walk.proofs.Turns.{entries_count}
 use Rattle.bac_walk.specs.Walks.{numbered}
 
 take-more : (c d : ℕ) (xs : List Entry) → take (c + d) xs ≡ take c xs ++ take d (drop c xs)
@@ -87,10 +84,10 @@ count_some r H m s far served loggable is held =
     at true e = (omega (arith, held), omega (arith, held))
     at false e = let near = ltb-false _ _ e in (omega (arith, near, held), omega (arith, near, held))
 
-pub rests_all : (r : ℕ) (H : History) (m : Moment) (s steps : ℕ) → AreServed r (m ∷ []) H → All IsLoggable (log_at m H).entries → m.oldest < s + 4294967295 →
+pub rests_all : (r : ℕ) (H : History) (m : Moment) (s steps : ℕ) → AreServed r (m ∷ []) H → All IsLoggable (log_at m H).entries →
     (m.newest + 1) - max s m.oldest < steps → rest_from r H m s steps ≡ rest_all H m s
-rests_all r H m s zero served loggable near enough = absurd (omega arith)
-rests_all r H m s (suc n) served loggable near enough = by_end (λ u ge lt. rests_all r H m u n served loggable (omega (arith, ge)) lt) (nat_lt m.newest (max s m.oldest)) refl
+rests_all r H m s zero served loggable enough = absurd (omega arith)
+rests_all r H m s (suc n) served loggable enough = by_end (λ u ge lt. rests_all r H m u n served loggable lt) (nat_lt m.newest (max s m.oldest)) refl
   where
     by_end : ((u : ℕ) → m.oldest ≤ u → (m.newest + 1) - max u m.oldest < n → rest_from r H m u n ≡ rest_all H m u) → (past : Bool) → nat_lt m.newest (max s m.oldest) ≡ past → rest_from r H m s (suc n) ≡ rest_all H m s
     by_end again true is = rw is refl
@@ -104,13 +101,8 @@ rests_all r H m s (suc n) served loggable near enough = by_end (λ u ge lt. rest
         let count = count_some r H m s far served loggable refl held in
         let es = entries_from H b c in
         let long : length es ≡ c = entries_count H m b c sound within (omega arith) (λ h. count.1) in
-        let both = gapped H m s es (nat_lt s m.oldest) refl near (omega (arith, long, count.0))
-        (records H m b c (omega (arith, sound.above)) (omega arith) (omega (arith, count.1, long))) in
-        let end : end_of s (whole_reply r H m far s) ≡ b + c =
-        Covers-end s (b + length es) (whole_reply r H m far s) both.1 ∙ ap (λ k. b + k) long in
         let left = after_some H m b c (nat_lt m.newest (max (b + c) m.oldest)) refl (omega (arith, sound.above)) (omega arith) count.1 count.0 in
-        let next : rest_from r H m (end_of s (whole_reply r H m far s)) n ≡ rest_all H m (b + c) =
-        ap (λ k. rest_from r H m k n) end ∙ again (b + c) (omega arith) (omega (arith, count.0)) in
+        let next : rest_from r H m (b + c) n ≡ rest_all H m (b + c) = again (b + c) (omega arith) (omega (arith, count.0)) in
         let G : List Item = (if nat_lt s m.oldest then Gap (sequence_number s) (sequence_number m.oldest) ∷ [] else []) in
         let sum : c + ((m.newest + 1) - (b + c)) ≡ (m.newest + 1) - b = omega (arith, count.1) in
         let joined : whole_reply r H m far s ++ (rest_all H m (b + c)).items ≡ G ++ numbered b (entries_from H b ((m.newest + 1) - b)) =
@@ -121,7 +113,7 @@ rests_all r H m s (suc n) served loggable near enough = by_end (λ u ge lt. rest
         ∙ ap (λ l. G ++ numbered b l) (sym (entries-split H b c ((m.newest + 1) - (b + c)) (omega (arith, sound.above))))
         ∙ ap (λ k. G ++ numbered b (entries_from H b k)) sum in
         let more : Rested → Rested = λ x. record { items = whole_reply r H m far s ++ x.items; next = x.next; ended = x.ended } in
-        let one : more (rest_from r H m (end_of s (whole_reply r H m far s)) n) ≡ more (rest_all H m (b + c)) = ap more next in
+        let one : more (rest_from r H m (b + c) n) ≡ more (rest_all H m (b + c)) = ap more next in
         let two : more (rest_all H m (b + c)) ≡ record { items = G ++ numbered b (entries_from H b ((m.newest + 1) - b)); next = m.newest + 1; ended = CaughtUp } =
         ap (λ (l : List Item). record { items = l; next = (rest_all H m (b + c)).next; ended = (rest_all H m (b + c)).ended }) joined
         ∙ ap (λ (k : ℕ). record { items = G ++ numbered b (entries_from H b ((m.newest + 1) - b)); next = k; ended = (rest_all H m (b + c)).ended }) (sym left.1)

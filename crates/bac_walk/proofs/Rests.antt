@@ -8,43 +8,60 @@ use Rattle.bac_walk.specs.declared.outcome.Ended.TheVariants.{CaughtUp, StepLimi
 use Rattle.bac_walk.specs.declared.outcome.WalkFault.{WalkFault}
 use Rattle.bac_walk.specs.declared.outcome.WalkFault.TheVariants.{Lost, Refused, BadReply}
 use Rattle.bac_log.specs.TrendLog.{sequence_number}
-use Rattle.bac_link.specs.Delivery.{History, Moment, Holds, now, later, items_of}
+use Rattle.bac_link.specs.Delivery.{History, Moment, Holds, now, later, items_of, Brings}
 use Rattle.bac_link.specs.Moments.{entries_from}
-use Rattle.bac_link.proofs.Delivers.{after_one}
-use Rattle.bac_walk.specs.Turns.{Covers, AreRecords, IsBatch, NoneOfHundred, whole_reply, reply_count}
-use Rattle.bac_walk.specs.Delivers.{end_of, AreAnswers, NoneFrom}
+use Rattle.bac_link.proofs.Delivers.{after_one, held_length, first_held}
+use Rattle.bac_walk.specs.Turns.{NoneOfHundred, whole_reply, reply_count}
+use Rattle.bac_walk.specs.Delivers.{NoneFrom}
 use Rattle.bac_walk.specs.Walks.{items_in, numbered}
+use Rattle.bac_log.specs.declared.entry.Entry.{Entry}
 use Rattle.bac_walk.specs.declared.outcome.Step.{Step}
 use Rattle.bac_walk.specs.declared.outcome.Step.TheVariants.{Batch as StepOf, CaughtUp as NoStep}
-use Rattle.bac_walk.specs.Collects.{Collected, IsEnded, FoundEnd, FoundStep, step_items, step_ended, batches, IsWhole, IsPaced, start_of, AreWhole}
-use Rattle.bac_walk.proofs.Cuts.{end_of-append, Covers-end}
+use Rattle.bac_walk.specs.Collects.{Collected, IsEnded, FoundEnd, FoundStep, step_items, step_ended, batches, IsWhole, IsOfReply, LeadsInSteps, start_of}
 use Rattle.bac_walk.proofs.Bridge.{fitting_most}
+use Rattle.bac_walk.proofs.Shown.{length-numbered}
 use Rattle.bac_walk.specs.Rests.{Rested, rest_from, rest_oldest, rest, IsRest}
 
 -- the first entry of a batch is held
-first_record : (H : History) (m : Moment) (k : ℕ) (items : List Item) → 0 < length items → AreRecords H m k items → Holds m k
-first_record H m k [] some are = absurd (omega arith)
-first_record H m k (Gap f b ∷ items) some are = absurd are
-first_record H m k (Logged n e ∷ items) some are = are.1
+batch_held : (H : History) (m : Moment) (s u : ℕ) (items : List Item) → 0 < length items → Brings H m s items u → Holds m (max s m.oldest)
+batch_held H m s u [] some brings = absurd (omega arith)
+batch_held H m s u (Gap f b ∷ items) some brings =
+    let held = first_held H m m.oldest u items brings.3 brings.4 in (omega arith, omega (arith, held.1, brings.1))
+batch_held H m s u (Logged n e ∷ items) some brings = (omega arith, omega (arith, brings.1.0, brings.1.1))
 
-first_held : (H : History) (m : Moment) (s : ℕ) (items : List Item) → IsBatch H m s items → Holds m (max s m.oldest)
-first_held H m s [] batch = absurd batch
-first_held H m s (Gap f b ∷ items) batch =
-    let held = first_record H m m.oldest items batch.4 batch.5 in
-    (omega arith, omega (arith, held.1, batch.2, batch.3))
-first_held H m s (Logged n e ∷ items) batch = (omega arith, omega (arith, batch.1.0, batch.1.1))
+-- as many entries as fit are there
+entries_all : (H : History) (f c n : ℕ) → c ≤ length (entries_from H f n) → length (entries_from H f c) ≡ c
+entries_all H f c n le =
+    let xs = drop (f - (H.logged + 1)) H.entries in omega (arith, le, length-take c xs, length-take n xs)
 
--- a whole reply that is a batch has an entry
-counted : (H : History) (m : Moment) (r s : ℕ) (by_oldest : Bool) (c : ℕ) (lt : Bool) → reply_count r H m by_oldest s ≡ c → nat_lt s m.oldest ≡ lt →
-    IsBatch H m s (whole_reply r H m by_oldest s) → 0 < reply_count r H m by_oldest s
-counted H m r s by_oldest (suc c) lt is1 is2 batch = omega (arith, is1)
-counted H m r s by_oldest zero true is1 is2 batch =
-    let P : ℕ → Bool → Type 0 = λ n b. IsBatch H m s ((if b then Gap (sequence_number s) (sequence_number m.oldest) ∷ [] else []) ++ numbered (max s m.oldest) (entries_from H (max s m.oldest) n)) in
-    let none = subst (λ n. P n true) is1 (subst (λ b. P (reply_count r H m by_oldest s) b) is2 batch) in
-    absurd (omega (arith, none.4))
-counted H m r s by_oldest zero false is1 is2 batch =
-    let P : ℕ → Bool → Type 0 = λ n b. IsBatch H m s ((if b then Gap (sequence_number s) (sequence_number m.oldest) ∷ [] else []) ++ numbered (max s m.oldest) (entries_from H (max s m.oldest) n)) in
-    absurd (subst (λ n. P n false) is1 (subst (λ b. P (reply_count r H m by_oldest s) b) is2 batch))
+numbered_end : (H : History) (m : Moment) (s u k : ℕ) (es : List Entry) → Brings H m s (numbered k es) u → u ≡ s + length es
+numbered_end H m s u k [] brings = omega (arith, brings)
+numbered_end H m s u k (e ∷ es) brings = omega (arith, held_length H m s u (numbered k (e ∷ es)) brings, length-numbered k (e ∷ es))
+
+-- where entries bring a walk, with the gap before them
+reply_end : (H : History) (m : Moment) (s u : ℕ) (es : List Entry) (lt : Bool) → nat_lt s m.oldest ≡ lt →
+    Brings H m s ((if lt then Gap (sequence_number s) (sequence_number m.oldest) ∷ [] else []) ++ numbered (max s m.oldest) es) u →
+    0 < length ((if lt then Gap (sequence_number s) (sequence_number m.oldest) ∷ [] else []) ++ numbered (max s m.oldest) es) →
+    (0 < length es) × (u ≡ max s m.oldest + length es)
+reply_end H m s u es true is brings some =
+    let many = length-numbered (max s m.oldest) es in
+    (omega (arith, brings.3, many), omega (arith, brings.1, held_length H m m.oldest u (numbered (max s m.oldest) es) brings.4, many))
+reply_end H m s u es false is brings some =
+    let ge : m.oldest ≤ s = ltb-false s m.oldest is in
+    (omega (arith, some, length-numbered (max s m.oldest) es), omega (arith, numbered_end H m s u (max s m.oldest) es brings, ge))
+
+-- where a whole reply brings it, and that it has an entry
+whole_end : (r : ℕ) (H : History) (m : Moment) (by_oldest : Bool) (s u : ℕ) (items : List Item) → 0 < length items → Brings H m s items u →
+    items ≡ whole_reply r H m by_oldest s → (0 < reply_count r H m by_oldest s) × (u ≡ max s m.oldest + reply_count r H m by_oldest s)
+whole_end r H m by_oldest s u items some brings is =
+    let f = max s m.oldest in
+    let c = reply_count r H m by_oldest s in
+    let n = (min ((if by_oldest then max s m.oldest else s) + 99) m.newest + 1) - max s m.oldest in
+    let all : length (entries_from H f c) ≡ c = entries_all H f c n (fitting_most r f (entries_from H f n)) in
+    let P : List Item → Type 0 = λ xs. Brings H m s xs u × (0 < length xs) in
+    let both = subst P is (brings, some) in
+    let end = reply_end H m s u (entries_from H f c) (nat_lt s m.oldest) refl both.0 both.1 in
+    (omega (arith, end.0, all), omega (arith, end.1, all))
 
 count_most : (r : ℕ) (H : History) (m : Moment) (by_oldest : Bool) (s : ℕ) →
     reply_count r H m by_oldest s ≤ (min ((if by_oldest then max s m.oldest else s) + 99) m.newest + 1) - max s m.oldest
@@ -53,32 +70,32 @@ count_most r H m by_oldest s =
     omega (arith, fitting_most r (max s m.oldest) (entries_from H (max s m.oldest) c), length-take c (drop (max s m.oldest - (H.logged + 1)) H.entries))
 
 -- a batch that the question by number brought, and one that the question for the oldest brought
-near_first : (H : History) (m : Moment) (r s : ℕ) (items : List Item) → IsBatch H m s items → items ≡ whole_reply r H m false s →
-    nat_lt (s + 99) (max s m.oldest) ≡ false
-near_first H m r s items batch is =
-    let P : List Item → Type 0 = λ xs. IsBatch H m s xs in
-    let some = counted H m r s false (reply_count r H m false s) (nat_lt s m.oldest) refl refl (subst P is batch) in
-    le-ltb (s + 99) (max s m.oldest) (omega (arith, some, count_most r H m false s))
+near_first : (r : ℕ) (H : History) (m : Moment) (s u : ℕ) (items : List Item) → 0 < length items → Brings H m s items u →
+    items ≡ whole_reply r H m false s → nat_lt (s + 99) (max s m.oldest) ≡ false
+near_first r H m s u items some brings is =
+    le-ltb (s + 99) (max s m.oldest) (omega (arith, (whole_end r H m false s u items some brings is).0, count_most r H m false s))
 
-far_first : (H : History) (m : Moment) (s : ℕ) (items : List Item) → IsBatch H m s items → NoneOfHundred s m →
+far_first : (H : History) (m : Moment) (s u : ℕ) (items : List Item) → 0 < length items → Brings H m s items u → NoneOfHundred s m →
     (b : Bool) → nat_lt (s + 99) (max s m.oldest) ≡ b → b ≡ true
-far_first H m s items batch none true is = refl
-far_first H m s items batch none false is =
+far_first H m s u items some brings none true is = refl
+far_first H m s u items some brings none false is =
     let le : max s m.oldest ≤ s + 99 = ltb-false _ _ is in
-    absurd (none (max s m.oldest) (omega arith) (omega (arith, le)) (first_held H m s items batch))
+    absurd (none (max s m.oldest) (omega arith) (omega (arith, le)) (batch_held H m s u items some brings))
 
 -- one step of a walk over one moment
-rest_step : (r : ℕ) (H : History) (m : Moment) (s n : ℕ) (batch more : List Item) (t : ℕ) (why : Ended) (b : Bool) →
-    IsBatch H m s batch → nat_lt (s + 99) (max s m.oldest) ≡ b → batch ≡ whole_reply r H m b s →
-    record { items = more; next = t; ended = why } ≡ rest_from r H m (end_of s batch) n →
+rest_step : (r : ℕ) (H : History) (m : Moment) (s u n : ℕ) (batch more : List Item) (t : ℕ) (why : Ended) (b : Bool) →
+    0 < length batch → Brings H m s batch u → nat_lt (s + 99) (max s m.oldest) ≡ b → batch ≡ whole_reply r H m b s →
+    record { items = more; next = t; ended = why } ≡ rest_from r H m u n →
     record { items = batch ++ more; next = t; ended = why } ≡ rest_from r H m s (suc n)
-rest_step r H m s n batch more t why b is far whole rest =
-    let held : nat_lt m.newest (max s m.oldest) ≡ false = le-ltb m.newest (max s m.oldest) (first_held H m s batch is).1 in
-    let same : batch ≡ whole_reply r H m (nat_lt (s + 99) (max s m.oldest)) s = whole ∙ ap (λ x. whole_reply r H m x s) (sym far) in
-    let after : List Item → Rested = λ xs. (let next = rest_from r H m (end_of s xs) n in record { items = xs ++ next.items; next = next.next; ended = next.ended }) in
-    let one : record { items = batch ++ more; next = t; ended = why } ≡ after batch =
+rest_step r H m s u n batch more t why b some brings far whole rest =
+    let held : nat_lt m.newest (max s m.oldest) ≡ false = le-ltb m.newest (max s m.oldest) (batch_held H m s u batch some brings).1 in
+    let end : u ≡ max s m.oldest + reply_count r H m b s = (whole_end r H m b s u batch some brings whole).1 in
+    let after : ℕ → List Item → Rested = λ k xs. (let next = rest_from r H m k n in record { items = xs ++ next.items; next = next.next; ended = next.ended }) in
+    let one : record { items = batch ++ more; next = t; ended = why } ≡ after u batch =
     ap (λ (x : Rested). record { items = batch ++ x.items; next = x.next; ended = x.ended }) rest in
-    one ∙ ap after same ∙ rw held refl
+    let two : after u batch ≡ after (max s m.oldest + reply_count r H m b s) (whole_reply r H m b s) = ap (λ k. after k batch) end ∙ ap (after _) whole in
+    let by : Bool → Rested = λ c. after (max s m.oldest + reply_count r H m c s) (whole_reply r H m c s) in
+    one ∙ two ∙ ap by (sym far) ∙ rw held refl
 
 -- nothing is left
 rest_end : (r : ℕ) (H : History) (m : Moment) (s n : ℕ) (b : Bool) → nat_lt m.newest (max s m.oldest) ≡ b → NoneFrom s m →
@@ -95,14 +112,20 @@ Ends StepLimit m t answers steps = (batches answers ≡ steps) × IsWhole answer
 Ends (Fault e) m t answers steps = ⊥
 Ends Stopped m t answers steps = ⊥
 
-stops : (r : ℕ) (H : History) (m : Moment) (s steps : ℕ) (why : Ended) → Ends why m s [] steps →
+stops_at : (r : ℕ) (H : History) (m : Moment) (s steps : ℕ) (why : Ended) → Ends why m s [] steps →
     record { items = []; next = s; ended = why } ≡ rest_from r H m s steps
-stops r H m s zero CaughtUp ends = absurd (omega (arith, ends.0))
-stops r H m s (suc n) CaughtUp ends = rest_end r H m s n _ refl ends.1
-stops r H m s zero StepLimit ends = refl
-stops r H m s (suc n) StepLimit ends = absurd (omega (arith, ends.0))
-stops r H m s steps (Fault e) ends = absurd ends
-stops r H m s steps Stopped ends = absurd ends
+stops_at r H m s zero CaughtUp ends = absurd (omega (arith, ends.0))
+stops_at r H m s (suc n) CaughtUp ends = rest_end r H m s n _ refl ends.1
+stops_at r H m s zero StepLimit ends = refl
+stops_at r H m s (suc n) StepLimit ends = absurd (omega (arith, ends.0))
+stops_at r H m s steps (Fault e) ends = absurd ends
+stops_at r H m s steps Stopped ends = absurd ends
+
+stops : (r : ℕ) (H : History) (m : Moment) (s t steps : ℕ) (why : Ended) → t ≡ s → Ends why m t [] steps →
+    record { items = []; next = t; ended = why } ≡ rest_from r H m s steps
+stops r H m s t steps why is ends =
+    let P : ℕ → Type 0 = λ n. Ends why m n [] steps in
+    ap (λ (n : ℕ). record { items = []; next = n; ended = why }) is ∙ stops_at r H m s steps why (subst P is ends)
 
 -- the ends of a run whose first answers are left out
 ends_more : (why : Ended) (m : Moment) (t n : ℕ) (x : Item) (xs : List Item) (answers : List (List Item)) →
@@ -139,41 +162,35 @@ some_step (Fault e) m t answers some ends = ends
 some_step Stopped m t answers some ends = ends
 
 -- a batch of a run that wasn't stopped is the whole of a reply
-whole_head : (why : Ended) (r : ℕ) (H : History) (m : Moment) (b : Bool) (s t steps : ℕ) (x : Item) (xs : List Item) (answers all : List (List Item)) →
-    Ends why m t all steps → AreWhole why r H (m ∷ []) b s ((x ∷ xs) ∷ answers) →
-    ((x ∷ xs) ≡ whole_reply r H m b s) × AreWhole why r H (m ∷ []) false (end_of s (x ∷ xs)) answers
-whole_head CaughtUp r H m b s t steps x xs [] all ends whole = (whole, tt)
-whole_head StepLimit r H m b s t steps x xs [] all ends whole = (whole, tt)
-whole_head Stopped r H m b s t steps x xs [] all ends whole = absurd ends
-whole_head (Fault e) r H m b s t steps x xs [] all ends whole = absurd ends
-whole_head why r H m b s t steps x xs (y ∷ answers) all ends whole = whole
+whole_head : (why : Ended) (m : Moment) (t steps : ℕ) (answers all : List (List Item)) (items reply : List Item) →
+    Ends why m t all steps → IsOfReply answers why items reply → items ≡ reply
+whole_head why m t steps (y ∷ answers) all items reply ends is = is
+whole_head CaughtUp m t steps [] all items reply ends is = is
+whole_head StepLimit m t steps [] all items reply ends is = is
+whole_head Stopped m t steps [] all items reply ends is = absurd ends
+whole_head (Fault e) m t steps [] all items reply ends is = absurd ends
 
-pub rests : (r : ℕ) (H : History) (m : Moment) (why : Ended) (s steps : ℕ) (answers : List (List Item)) →
-    AreAnswers H (m ∷ []) s answers → IsPaced why (m ∷ []) s answers → AreWhole why r H (m ∷ []) false s answers →
-    Ends why m (end_of s (items_of answers)) answers steps →
-    record { items = items_of answers; next = end_of s (items_of answers); ended = why } ≡ rest_from r H m s steps
-rests r H m why s steps [] each paced whole ends = stops r H m s steps why ends
-rests r H m why s steps ([] ∷ []) each paced whole ends = stops r H m s steps why (ends_none why m s steps ends)
-rests r H m why s steps ([] ∷ [] ∷ []) each paced whole ends = stops r H m s steps why (ends_two why m s steps [] refl ends)
-rests r H m why s steps ([] ∷ [] ∷ a ∷ answers) each paced whole ends = absurd (let e = paced.1 in cc)
-rests r H m why s zero ([] ∷ (x ∷ xs) ∷ answers) each paced whole ends = absurd (some_step why m _ _ (omega arith) ends)
-rests r H m why s (suc n) ([] ∷ (x ∷ xs) ∷ answers) each paced whole ends =
-    let joined : end_of s ((x ∷ xs) ++ items_of answers) ≡ end_of (end_of s (x ∷ xs)) (items_of answers) = end_of-append s (x ∷ xs) (items_of answers) in
-    let E : ℕ → Type 0 = λ t. Ends why m t answers n in
-    let R : ℕ → Type 0 = λ t. record { items = (x ∷ xs) ++ items_of answers; next = t; ended = why } ≡ rest_from r H m s (suc n) in
-    subst R (sym joined)
-    (rest_step r H m s n (x ∷ xs) (items_of answers) (end_of (end_of s (x ∷ xs)) (items_of answers)) why true each.0
-    (far_first H m s (x ∷ xs) each.0 paced.0 _ refl) (whole_head why r H m true s _ _ x xs answers _ ends whole).0
-    (rests r H m why (end_of s (x ∷ xs)) n answers each.1 paced.1 (whole_head why r H m true s _ _ x xs answers _ ends whole).1 (subst E joined (ends_idle why m _ n x xs answers ends))))
-rests r H m why s zero ((x ∷ xs) ∷ answers) each paced whole ends = absurd (some_step why m _ _ (omega arith) ends)
-rests r H m why s (suc n) ((x ∷ xs) ∷ answers) each paced whole ends =
-    let joined : end_of s ((x ∷ xs) ++ items_of answers) ≡ end_of (end_of s (x ∷ xs)) (items_of answers) = end_of-append s (x ∷ xs) (items_of answers) in
-    let E : ℕ → Type 0 = λ t. Ends why m t answers n in
-    let R : ℕ → Type 0 = λ t. record { items = (x ∷ xs) ++ items_of answers; next = t; ended = why } ≡ rest_from r H m s (suc n) in
-    subst R (sym joined)
-    (rest_step r H m s n (x ∷ xs) (items_of answers) (end_of (end_of s (x ∷ xs)) (items_of answers)) why false each.0
-    (near_first H m r s (x ∷ xs) each.0 (whole_head why r H m false s _ _ x xs answers _ ends whole).0) (whole_head why r H m false s _ _ x xs answers _ ends whole).0
-    (rests r H m why (end_of s (x ∷ xs)) n answers each.1 paced (whole_head why r H m false s _ _ x xs answers _ ends whole).1 (subst E joined (ends_more why m _ n x xs answers ends))))
+pub rests : (r : ℕ) (H : History) (m : Moment) (why : Ended) (s t steps : ℕ) (answers : List (List Item)) →
+    LeadsInSteps why r H (m ∷ []) false s answers t → Ends why m t answers steps →
+    record { items = items_of answers; next = t; ended = why } ≡ rest_from r H m s steps
+rests r H m why s t steps [] leads ends = stops r H m s t steps why leads ends
+rests r H m why s t steps ([] ∷ []) leads ends = stops r H m s t steps why leads.1 (ends_none why m t steps ends)
+rests r H m why s t steps ([] ∷ [] ∷ []) leads ends = stops r H m s t steps why leads.1.2 (ends_two why m t steps [] refl ends)
+rests r H m why s t steps ([] ∷ [] ∷ a ∷ answers) leads ends = absurd (let e = leads.1.0 in cc)
+rests r H m why s t zero ([] ∷ (x ∷ xs) ∷ answers) leads ends = absurd (some_step why m t ([] ∷ (x ∷ xs) ∷ answers) (omega arith) ends)
+rests r H m why s t (suc n) ([] ∷ (x ∷ xs) ∷ answers) leads ends =
+    let u = leads.1.0 in
+    let brings = leads.1.1 in
+    let whole = whole_head why m t (suc n) answers ([] ∷ (x ∷ xs) ∷ answers) (x ∷ xs) _ ends leads.1.2 in
+    rest_step r H m s u n (x ∷ xs) (items_of answers) t why true (omega arith) brings
+    (far_first H m s u (x ∷ xs) (omega arith) brings leads.0 _ refl) whole (rests r H m why u t n answers leads.1.3 (ends_idle why m t n x xs answers ends))
+rests r H m why s t zero ((x ∷ xs) ∷ answers) leads ends = absurd (some_step why m t ((x ∷ xs) ∷ answers) (omega arith) ends)
+rests r H m why s t (suc n) ((x ∷ xs) ∷ answers) leads ends =
+    let u = leads.0 in
+    let brings = leads.1 in
+    let whole = whole_head why m t (suc n) answers ((x ∷ xs) ∷ answers) (x ∷ xs) _ ends leads.2 in
+    rest_step r H m s u n (x ∷ xs) (items_of answers) t why false (omega arith) brings
+    (near_first r H m s u (x ∷ xs) (omega arith) brings whole) whole (rests r H m why u t n answers leads.3 (ends_more why m t n x xs answers ends))
 
 ends_of : (why : Ended) (m : Moment) (fresh : Bool) (t : ℕ) (answers : List (List Item)) (steps retries old new : ℕ) → FoundEnd why → why ≢ Stopped →
     IsEnded why fresh t (m ∷ []) answers steps retries old new → Ends why m t answers steps
@@ -188,14 +205,11 @@ ends_of (Fault BadReply) m fresh t answers steps retries old new found on end = 
 
 -- from an ordinal
 rest_at : (r : ℕ) (H : History) (m : Moment) (s steps : ℕ) (items : List Item) (t shown : ℕ) (why : Ended) (answers : List (List Item)) →
-    Covers s items t → items_of answers ≡ items → AreAnswers H (m ∷ []) s answers → IsPaced why (m ∷ []) s answers →
-    AreWhole why r H (m ∷ []) false s answers → Ends why m t answers steps → shown ≡ sequence_number t →
+    items_of answers ≡ items → LeadsInSteps why r H (m ∷ []) false s answers t → Ends why m t answers steps → shown ≡ sequence_number t →
     IsRest (rest_from r H m s steps) items shown why
-rest_at r H m s steps items t shown why answers covers all each paced whole ends is =
-    let end : end_of s (items_of answers) ≡ t = ap (λ l. end_of s l) all ∙ Covers-end s t items covers in
-    let E : ℕ → Type 0 = λ n. Ends why m n answers steps in
-    let eq = rests r H m why s steps answers each paced whole (subst E (sym end) ends) in
-    (sym all ∙ ap (λ (x : Rested). x.items) eq, is ∙ ap sequence_number (sym end ∙ ap (λ (x : Rested). x.next) eq), ap (λ (x : Rested). x.ended) eq)
+rest_at r H m s steps items t shown why answers all leads ends is =
+    let eq = rests r H m why s t steps answers leads ends in
+    (sym all ∙ ap (λ (x : Rested). x.items) eq, is ∙ ap sequence_number (ap (λ (x : Rested). x.next) eq), ap (λ (x : Rested). x.ended) eq)
 
 -- where a walk from the oldest entry begins
 start_none : (next : ℕ) (M : List Moment) (answers : List (List Item)) → batches answers ≡ 0 → start_of true next M answers ≡ next
@@ -208,10 +222,20 @@ start_some next m [] some = absurd (omega arith)
 start_some next m ([] ∷ answers) some = start_some next m answers some
 start_some next m ((x ∷ xs) ∷ answers) some = refl
 
-some_held : (H : History) (m : Moment) (s : ℕ) (answers : List (List Item)) → 0 < batches answers → AreAnswers H (m ∷ []) s answers → m.oldest ≤ m.newest
-some_held H m s [] some each = absurd (omega arith)
-some_held H m s ([] ∷ answers) some each = some_held H m s answers some each
-some_held H m s ((x ∷ xs) ∷ answers) some each = let held = first_held H m s (x ∷ xs) each.0 in omega (arith, held.0, held.1)
+some_held : (why : Ended) (r : ℕ) (H : History) (m : Moment) (by_oldest : Bool) (s t : ℕ) (answers : List (List Item)) → 0 < batches answers →
+    LeadsInSteps why r H (m ∷ []) by_oldest s answers t → m.oldest ≤ m.newest
+some_held why r H m by_oldest s t [] some leads = absurd (omega arith)
+some_held why r H m false s t ([] ∷ answers) some leads = some_held why r H m true s t answers some leads.1
+some_held why r H m true s t ([] ∷ answers) some leads = absurd (omega (arith, some, ap batches leads.0))
+some_held why r H m by_oldest s t ((x ∷ xs) ∷ answers) some leads =
+    let held = batch_held H m s leads.0 (x ∷ xs) (omega arith) leads.1 in omega (arith, held.0, held.1)
+
+idle_stays : (why : Ended) (r : ℕ) (H : History) (M : List Moment) (by_oldest : Bool) (s t : ℕ) (answers : List (List Item)) → batches answers ≡ 0 →
+    LeadsInSteps why r H M by_oldest s answers t → t ≡ s
+idle_stays why r H M by_oldest s t [] none leads = leads
+idle_stays why r H M false s t ([] ∷ answers) none leads = idle_stays why r H (later M) true s t answers none leads.1
+idle_stays why r H M true s t ([] ∷ answers) none leads = leads.2
+idle_stays why r H M by_oldest s t ((x ∷ xs) ∷ answers) none leads = absurd (omega (arith, none))
 
 no_items_of : (answers : List (List Item)) → batches answers ≡ 0 → items_of answers ≡ []
 no_items_of [] none = refl
@@ -243,22 +267,18 @@ oldest_at : (r : ℕ) (H : History) (m : Moment) (s steps retries old new : ℕ)
     IsRest (rest_oldest r H m s steps) items shown why
 oldest_at r H m s steps retries old new items t shown why answers zero none found on run is =
     let nothing : items ≡ [] = sym run.all ∙ no_items_of answers none in
-    let P : List Item → Type 0 = λ l. Covers (start_of true s (m ∷ []) answers) l t in
-    let same : t ≡ s = subst P nothing run.covers ∙ start_none s (m ∷ []) answers none in
+    let same : t ≡ s = idle_stays why r H (m ∷ []) false _ t answers none run.leads ∙ start_none s (m ∷ []) answers none in
     let Q : List Item → Type 0 = λ l. IsRest (rest_oldest r H m s steps) l shown why in
     subst Q (sym nothing) (idle_oldest r H m s steps t shown retries old new why answers found on none same is run.end)
 oldest_at r H m s steps retries old new items t shown why answers (suc n) count found on run is =
     let some : 0 < batches answers = omega (arith, count) in
     let start : start_of true s (m ∷ []) answers ≡ m.oldest = start_some s m answers some in
     let ends = ends_of why m true t answers steps retries old new found on run.end in
-    let A : ℕ → Type 0 = λ u. Covers u items t in
-    let B : ℕ → Type 0 = λ u. AreAnswers H (m ∷ []) u answers in
-    let C : ℕ → Type 0 = λ u. IsPaced why (m ∷ []) u answers in
-    let D : ℕ → Type 0 = λ u. AreWhole why r H (m ∷ []) false u answers in
+    let A : ℕ → Type 0 = λ u. LeadsInSteps why r H (m ∷ []) false u answers t in
     let R : Rested → Type 0 = λ x. IsRest x items shown why in
-    let each = subst B start run.each in
-    subst R (rest_some r H m s steps (some_steps steps refl some ends) (some_held H m m.oldest answers some each))
-    (rest_at r H m m.oldest steps items t shown why answers (subst A start run.covers) run.all each (subst C start run.paced) (subst D start run.whole) ends is)
+    let leads = subst A start run.leads in
+    subst R (rest_some r H m s steps (some_steps steps refl some ends) (some_held why r H m false m.oldest t answers some leads))
+    (rest_at r H m m.oldest steps items t shown why answers run.all leads ends is)
   where
     some_steps : (k : ℕ) → k ≡ steps → 0 < batches answers → Ends why m t answers steps → 0 < steps
     some_steps zero is some ends =
@@ -269,7 +289,7 @@ pub rested : (r : ℕ) (H : History) (m : Moment) (fresh : Bool) (s steps retrie
     FoundEnd why → why ≢ Stopped → Collected r H (m ∷ []) fresh s steps retries old new items t why answers → shown ≡ sequence_number t →
     IsRest (rest r H m fresh s steps) items shown why
 rested r H m false s steps retries old new items t shown why answers found on run is =
-    rest_at r H m s steps items t shown why answers run.covers run.all run.each run.paced run.whole (ends_of why m false t answers steps retries old new found on run.end) is
+    rest_at r H m s steps items t shown why answers run.all run.leads (ends_of why m false t answers steps retries old new found on run.end) is
 rested r H m true s steps retries old new items t shown why answers found on run is =
     oldest_at r H m s steps retries old new items t shown why answers (batches answers) refl found on run is
 

@@ -10,23 +10,21 @@ use Rattle.bac_walk.specs.declared.outcome.Why.{Why}
 use Rattle.bac_walk.specs.declared.outcome.Why.TheVariants.{CaughtUp as WasUp, StepLimit as WasLimit, Fault as WasFault, Memory}
 use Rattle.bac_walk.specs.Outcomes.{IsRunOf, why_of}
 use Rattle.bac_log.specs.TrendLog.{sequence_number}
-use Rattle.bac_link.specs.Delivery.{History, Moment, items_of, Leads, DeliversTo}
+use Rattle.bac_link.specs.Delivery.{History, Moment, DeliversTo}
 use Rattle.bac_link.specs.Laws.{after_answers}
 use Rattle.bac_walk.specs.Near.{StaysNear}
 use Rattle.bac_walk.specs.Walks.{gap_items, item_of}
-use Rattle.bac_walk.specs.Delivers.{end_of}
 use Rattle.bac_walk.specs.Collects.{start_of, Collected}
 use Rattle.bac_walk.specs.Sinks.{Call, put_items, gaps, Takes, is_stopped, IsRun, Delivery}
 use Rattle.bac_walk.proofs.Joins.{join, fresh_join, no_steps, ended_early, after_answers-add}
 use Rattle.bac_walk.proofs.Goes.{join_goes, stays_goes}
-use Rattle.bac_walk.proofs.Cuts.{Covers-end}
 use Rattle.bac_walk.proofs.Headline.{leads}
 use Rattle.bac_walk.proofs.Near.{fewer_steps, next_steps}
 
 pub no_run : (was : ℕ → List Moment → History → Type 0) (retries old : ℕ) (w : WalkPlace) → IsRun was was retries old old w w 0 StepLimit []
 no_run was retries old w = (
   (λ s. stays_goes w.fresh w.next s),
-  (λ r M H s honest next near. ([], s, next, no_steps r H M w.fresh s retries old, honest, record { none = λ h. refl; some = λ h. absurd (omega arith) })),
+  (λ r M H s ours next near. ([], s, next, no_steps r H M w.fresh s retries old, ours, record { none = λ h. refl; some = λ h. absurd (omega arith) })),
 )
 
 pub join_runs : (was mid is : ℕ → List Moment → History → Type 0) (retries old half new : ℕ) (before middle after : WalkPlace) (i j : ℕ) (ended : Ended) (xs ys : List Item) →
@@ -34,8 +32,8 @@ pub join_runs : (was mid is : ℕ → List Moment → History → Type 0) (retri
     IsRun was is retries old new before after (i + j) ended (xs ++ ys)
 join_runs was mid is retries old half new before middle after i j ended xs ys first rest up = (
   (λ s. join_goes before.fresh before.next xs middle.fresh middle.next ys after.fresh after.next first.0 rest.0 s),
-  (λ r M H s honest next near.
-      let a = first.1 r M H s honest next (fewer_steps r H M before.fresh s i (i + j) (omega arith) near) in
+  (λ r M H s ours next near.
+      let a = first.1 r M H s ours next (fewer_steps r H M before.fresh s i (i + j) (omega arith) near) in
       let b = rest.1 r (after_answers (length a.0) M) H a.1 a.4 a.2
       (next_steps r H M before.fresh middle.fresh s i j retries old half a.1 xs a.0 near a.3 a.5) in
       let P : List Moment → Type 0 = λ N. is r N H in
@@ -60,8 +58,8 @@ pub run_early : (was is : ℕ → List Moment → History → Type 0) (retries o
     ended ≢ StepLimit → i ≤ n → IsRun was is retries old new before after i ended xs → IsRun was is retries old new before after n ended xs
 run_early was is retries old new before after i n ended xs not_limit le run = (
   run.0,
-  (λ r M H s honest next near.
-      let a = run.1 r M H s honest next (fewer_steps r H M before.fresh s i n le near) in
+  (λ r M H s ours next near.
+      let a = run.1 r M H s ours next (fewer_steps r H M before.fresh s i n le near) in
       (a.0, a.1, a.2, ended_early r H M before.fresh s i n retries old new xs a.1 ended a.0 not_limit le a.3, a.4, a.5)),
 )
 
@@ -157,7 +155,7 @@ not_stopped StepLimit on = λ e. cc
 not_stopped Stopped on = absurd (cc)
 not_stopped (Fault f) on = λ e. cc
 
--- what a run over an honest link delivers
+-- what a run over a link of ours delivers
 pub start_old : (fresh : Bool) (s : ℕ) (M : List Moment) (answers : List (List Item)) → fresh ≡ false → start_of fresh s M answers ≡ s
 start_old true s M answers old = absurd (cc)
 start_old false s M answers old = refl
@@ -165,15 +163,12 @@ start_old false s M answers old = refl
 pub collected_delivers : (r : ℕ) (H : History) (M : List Moment) (fresh : Bool) (s steps retries old new : ℕ) (items : List Item) (t : ℕ) (ended : Ended) (answers : List (List Item)) →
     Collected r H M fresh s steps retries old new items t ended answers → DeliversTo H (start_of fresh s M answers) items t M (length answers)
 collected_delivers r H M fresh s steps retries old new items t ended answers run =
-    let b = start_of fresh s M answers in
-    let end : end_of b (items_of answers) ≡ t = ap (λ l. end_of b l) run.all ∙ Covers-end b t items run.covers in
-    let P : ℕ → Type 0 = λ u. Leads H M b answers u in
-    (answers, refl, run.all, subst P end (leads H M b answers run.each))
+    (answers, refl, run.all, leads ended r H M false (start_of fresh s M answers) t answers run.leads)
 
 pub headline_of : (was is : ℕ → List Moment → History → Type 0) (retries old new : ℕ) (before after : WalkPlace) (n : ℕ) (ended : Ended) (items : List Item) →
     IsRun was is retries old new before after n ended items → (r : ℕ) (M : List Moment) (H : History) (s : ℕ) → was r M H → before.next ≡ sequence_number s →
     StaysNear r H M before.fresh s n → (b : ℕ) × (a : ℕ) × (t : ℕ) × (before.fresh ≡ false → b ≡ s) × (after.next ≡ sequence_number t) × DeliversTo H b items t M a × is r (after_answers a M) H
-headline_of was is retries old new before after n ended items run r M H s honest next near =
-    let c = run.1 r M H s honest next near in
+headline_of was is retries old new before after n ended items run r M H s ours next near =
+    let c = run.1 r M H s ours next near in
     let b = start_of before.fresh s M c.0 in
     (b, length c.0, c.1, start_old before.fresh s M c.0, c.2, collected_delivers r H M before.fresh s n retries old new items c.1 ended c.0 c.3, c.4)

@@ -4,10 +4,10 @@ use Rattle.std.proofs.lemmas.Bool.{leb-true, leb-false, lt-ltb, le-ltb, le-leb, 
 use Rattle.std.proofs.lemmas.List.{take-append-drop}
 use Rattle.bac_log.specs.declared.entry.Entry.{Entry}
 use Rattle.bac_log.specs.TrendLog.{sequence_number}
-use Rattle.bac_link.specs.Delivery.{History, Moment}
+use Rattle.bac_link.specs.Delivery.{History, Moment, AreHeld}
+use Rattle.bac_link.specs.Laws.{CoversEach}
 use Rattle.bac_link.specs.Moments.{entries_from}
-use Rattle.bac_walk.specs.Ordinals.{is_number, distance, number_after, is_ahead}
-use Rattle.bac_walk.specs.Turns.{AreRecords, Covers}
+use Rattle.bac_link.specs.Ordinals.{is_number, distance, number_after, is_ahead}
 use Rattle.bac_walk.specs.Walks.{shown_from, numbered}
 use Rattle.bac_link.specs.declared.item.Item.TheVariants.{Logged}
 
@@ -55,23 +55,25 @@ get_at (x ∷ xs) zero e rest h = (cc, cc)
 get_at [] (suc i) e rest h = absurd (cc)
 get_at (x ∷ xs) (suc i) e rest h = get_at xs i e rest h
 
-pub records_at : (H : History) (m : Moment) (es : List Entry) (k : ℕ) (rest : List Entry) →
+records_at : (H : History) (m : Moment) (es : List Entry) (k : ℕ) (rest : List Entry) →
     H.logged < k → m.oldest ≤ k → k + length es ≤ m.newest + 1 →
-    drop (k - (H.logged + 1)) H.entries ≡ es ++ rest → AreRecords H m k (numbered k es)
-records_at H m [] k rest above oldest newest are = tt
+    drop (k - (H.logged + 1)) H.entries ≡ es ++ rest → AreHeld H m k (numbered k es) (k + length es)
+records_at H m [] k rest above oldest newest are = omega arith
 records_at H m (e ∷ es) k rest above oldest newest are =
     let here = get_at H.entries (k - (H.logged + 1)) e (es ++ rest) are in
-    let next : suc (k - (H.logged + 1)) ≡ (k + 1) - (H.logged + 1) = omega arith in (
+    let next : suc (k - (H.logged + 1)) ≡ (k + 1) - (H.logged + 1) = omega arith in
+    let end : (k + 1) + length es ≡ k + suc (length es) = omega arith in
+    let P : ℕ → Type 0 = λ n. drop n H.entries ≡ es ++ rest in
+    let Q : ℕ → Type 0 = λ n. AreHeld H m (k + 1) (numbered (k + 1) es) n in (
       refl,
       (oldest, omega arith),
       (above, here.0),
-      records_at H m es (k + 1) rest (omega arith) (omega arith) (omega arith)
-          (let P : ℕ → Type 0 = λ n. drop n H.entries ≡ es ++ rest in subst P next here.1),
+      subst Q end (records_at H m es (k + 1) rest (omega arith) (omega arith) (omega arith) (subst P next here.1)),
     )
 
 pub records : (H : History) (m : Moment) (k c : ℕ) →
     H.logged < k → m.oldest ≤ k → k + length (entries_from H k c) ≤ m.newest + 1 →
-    AreRecords H m k (numbered k (entries_from H k c))
+    AreHeld H m k (numbered k (entries_from H k c)) (k + length (entries_from H k c))
 records H m k c above oldest newest =
     records_at H m (entries_from H k c) k (drop c (drop (k - (H.logged + 1)) H.entries)) above oldest newest
     (sym (take-append-drop c (drop (k - (H.logged + 1)) H.entries)))
@@ -80,9 +82,9 @@ pub length-numbered : (k : ℕ) (es : List Entry) → length (numbered k es) ≡
 length-numbered k [] = refl
 length-numbered k (e ∷ es) = ap suc (length-numbered (k + 1) es)
 
-pub Covers-numbered : (k : ℕ) (es : List Entry) → Covers k (numbered k es) (k + length es)
-Covers-numbered k [] = omega arith
-Covers-numbered k (e ∷ es) =
-    let P : ℕ → Type 0 = λ n. Covers (k + 1) (numbered (k + 1) es) n in
+pub covers_numbered : (k : ℕ) (es : List Entry) → CoversEach k (numbered k es) (k + length es)
+covers_numbered k [] = omega arith
+covers_numbered k (e ∷ es) =
+    let P : ℕ → Type 0 = λ n. CoversEach (k + 1) (numbered (k + 1) es) n in
     let same : (k + 1) + length es ≡ k + suc (length es) = omega arith in
-    (refl, subst P same (Covers-numbered (k + 1) es))
+    (refl, subst P same (covers_numbered (k + 1) es))

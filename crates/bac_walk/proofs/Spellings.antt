@@ -9,7 +9,7 @@ use Rattle.bac_apdu.specs.Service.ReadRangeAck.{range_ack_of, read_range_ack_at}
 use Rattle.bac_apdu.specs.declared.service.read_range_ack.ReadRangeAck.{ReadRangeAck}
 use Rattle.bac_log.specs.declared.entry.Entry.{Entry}
 use Rattle.bac_log.specs.RecordReading.{entry_at, entries_at}
-use Rattle.bac_walk.specs.Heard.{records_in}
+use Rattle.bac_link.specs.Heard.{records_in}
 use Rattle.bac_walk.specs.Walks.{with_numbers}
 use Rattle.bac_walk.specs.Spelled.{item_data, data_in, spelled, records_from, all_or_none, IsWhole}
 use Rattle.bac_walk.proofs.Counting.{ok_of}

@@ -1,25 +1,24 @@
 -- What a reply by the standard means to a walk.
 use Rattle.std.proofs.Common.{◌≡◌, ℕ, suc, max, Bool, true, false, not, ◌+◌, ◌<◌, ◌≤◌, ◌⊎◌, inl, inr, if◌then◌else◌, nat_lt, nat_le, Option, Some, Result, Ok, Err, List, [], ◌∷◌, ◌++◌, length, refl, sym, ap, subst, ◌∙◌, arith}
-use Rattle.std.proofs.lemmas.Bool.{cases_lt, ltb-true, ltb-false, leb-true, leb-false, le-ltb, le-leb, not-true, not-false}
+use Rattle.std.proofs.lemmas.Bool.{cases_lt, leb-true, leb-false, le-ltb, le-leb, not-true, not-false}
 use Rattle.bac_link.specs.declared.item.Item.{Item}
 use Rattle.bac_link.specs.declared.item.Item.TheVariants.{Gap}
 use Rattle.bac_link.specs.Delivery.{History, Moment, AreHeld, Brings}
 use Rattle.bac_log.specs.declared.entry.Entry.{Entry}
 use Rattle.bac_log.specs.TrendLog.{sequence_number}
-use Rattle.bac_walk.specs.Came.{asked_by}
-use Rattle.bac_walk.specs.Heard.{AckParameters}
+use Rattle.bac_link.specs.Heard.{AckParameters}
 use Rattle.bac_walk.specs.Meant.{MeansOf}
-use Rattle.bac_walk.specs.Near.{IsInWindow}
-use Rattle.bac_walk.specs.Ordinals.{distance, number_after, is_ahead}
+use Rattle.bac_link.specs.Moments.{IsInWindow}
+use Rattle.bac_link.specs.Ordinals.{distance, number_after, is_ahead}
 use Rattle.bac_walk.specs.Place.{WalkPlace}
-use Rattle.bac_walk.specs.Standard.{Asked, FromNumber, FromOldest, HoldsNumber, AreHeldFrom, AreFrom, SaysAt}
+use Rattle.bac_link.specs.Standard.{Asked, FromNumber, FromOldest, HoldsNumber, AreHeldFrom, AreFrom, SaysAt}
 use Rattle.bac_walk.specs.Turns.{base}
-use Rattle.bac_walk.specs.Walks.{shown_from, gap_of, asks_oldest_now, is_past, fits, items_in, NextAct, Bring, End, Ask, verdict, IsTaken, IsTakenFrom, numbered}
+use Rattle.bac_walk.specs.Walks.{shown_from, gap_of, asked_by, asks_oldest_now, is_past, fits, items_in, NextAct, Bring, End, Ask, verdict, IsTaken, IsTakenFrom, numbered}
 use Rattle.bac_walk.specs.declared.outcome.BadReply.{BadReply}
 use Rattle.bac_walk.specs.declared.outcome.Progress.{Progress}
 use Rattle.bac_walk.specs.declared.outcome.Progress.TheVariants.{Batch as BatchOf, AskOldest, CaughtUp}
-use Rattle.bac_walk.proofs.Shown.{number-is, distance-number, distance-behind, after-number, ahead-number, shown_numbered, length-numbered}
-use Rattle.bac_walk.proofs.Turns.{gap_same, or_left, both_true, last_false}
+use Rattle.bac_walk.proofs.Shown.{number-is, distance-number, distance-behind, after-number, ahead-number, shown_numbered}
+use Rattle.bac_walk.proofs.Turns.{gapped, gap_same, or_left, both_true, last_false}
 use Rattle.bac_walk.proofs.WalkTakes.{verdict-bring}
 
 -- ---- entries
@@ -40,25 +39,6 @@ rest_within H m k (e ∷ es) le are = omega (arith, rest_within H m (k + 1) es a
 held_within : (H : History) (m : Moment) (k : ℕ) (es : List Entry) → 0 < length es → AreHeldFrom H m k es → (m.oldest ≤ k) × (k + length es ≤ m.newest + 1)
 held_within H m k [] some are = absurd (omega arith)
 held_within H m k (e ∷ es) some are = (are.0.0, rest_within H m k es are.0.1 are.2)
-
-plain : (H : History) (m : Moment) (k : ℕ) (es : List Entry) → 0 < length es → AreHeldFrom H m k es → Brings H m k (numbered k es) (k + length es)
-plain H m k [] some are = absurd (omega arith)
-plain H m k (e ∷ es) some are = held_items H m k (e ∷ es) are
-
--- with the gap before them
-gapped : (H : History) (m : Moment) (s : ℕ) (es : List Entry) (lt : Bool) → nat_lt s m.oldest ≡ lt → 0 < length es →
-    AreHeldFrom H m (max s m.oldest) es →
-    Brings H m s ((if lt then Gap (sequence_number s) (sequence_number m.oldest) ∷ [] else []) ++ numbered (max s m.oldest) es) (max s m.oldest + length es)
-gapped H m s es true is some are =
-    let lt : s < m.oldest = ltb-true s m.oldest is in
-    let top : max s m.oldest ≡ m.oldest = omega arith in
-    let P : ℕ → Type 0 = λ n. AreHeld H m n (numbered (max s m.oldest) es) (max s m.oldest + length es) in
-    (refl, lt, refl, omega (arith, some, length-numbered (max s m.oldest) es), subst P top (held_items H m (max s m.oldest) es are))
-gapped H m s es false is some are =
-    let ge : m.oldest ≤ s = ltb-false s m.oldest is in
-    let same : max s m.oldest ≡ s = omega arith in
-    let P : ℕ → Type 0 = λ n. Brings H m n (numbered (max s m.oldest) es) (max s m.oldest + length es) in
-    subst P same (plain H m (max s m.oldest) es some are)
 
 -- ---- one reply
 
@@ -83,7 +63,7 @@ bring H m low s u w es (Ok (BatchOf b)) after window from taken some are gap =
     × (low ≤ t) × (t < low + 2147483648) in
     subst B (sym from) (
       f + length es,
-      subst P (sym items) (gapped H m u es (nat_lt u m.oldest) refl some are),
+      subst P (sym items) (gapped H m u (f + length es) es (nat_lt u m.oldest) refl some (held_items H m f es are)),
       taken.1 ∙ ap (λ (n : ℕ). record { log = w.log; next = n; fresh = false; asks_oldest = false }) next,
       omega (arith, window.oldest, in_log.0),
       omega (arith, window.newest, in_log.1),

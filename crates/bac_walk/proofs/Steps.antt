@@ -9,10 +9,10 @@ use Rattle.bac_walk.specs.declared.outcome.WalkFault.{WalkFault}
 use Rattle.bac_walk.specs.declared.outcome.WalkFault.TheVariants.{Lost, Refused, BadReply}
 use Rattle.bac_walk.specs.declared.outcome.Ended.TheVariants.{CaughtUp, StepLimit, Fault}
 use Rattle.bac_log.specs.TrendLog.{sequence_number}
-use Rattle.bac_link.specs.Delivery.{History, Moment, now, later}
+use Rattle.bac_link.specs.Delivery.{History, Moment, now, later, Brings}
 use Rattle.bac_link.specs.Laws.{after_answers}
 use Rattle.bac_link.specs.Moments.{AreServed}
-use Rattle.bac_walk.specs.Turns.{Covers, IsBatch, whole_reply, NoneOfHundred}
+use Rattle.bac_walk.specs.Turns.{whole_reply, NoneOfHundred}
 use Rattle.bac_link.specs.Links.{RisesBy}
 use Rattle.bac_walk.specs.Collects.{Collected, asks_next, finished, step_items, step_ended, is_fresh_after}
 use Rattle.bac_walk.specs.Turned.{IsTurned}
@@ -20,57 +20,45 @@ use Rattle.bac_walk.proofs.Held.{Rises, Rises-later}
 use Rattle.bac_walk.specs.Walks.{asks_oldest_now}
 
 pub one_batch : (r : ℕ) (H : History) (M : List Moment) (fresh : Bool) (next retries old new : ℕ) (items : List Item) (t : ℕ) →
-    IsBatch H (now M) (if fresh then (now M).oldest else next) items →
-    Covers (if fresh then (now M).oldest else next) items t → items ≡ whole_reply r H (now M) false (if fresh then (now M).oldest else next) →
+    Brings H (now M) (if fresh then (now M).oldest else next) items t → 0 < length items →
+    items ≡ whole_reply r H (now M) false (if fresh then (now M).oldest else next) →
     Collected r H M fresh next 1 retries old new items t StepLimit (items ∷ [])
-one_batch r H M fresh next retries old new [] t batch covers whole = absurd batch
-one_batch r H M true next retries old new (x ∷ xs) t batch covers whole = record {
-  covers = covers;
+one_batch r H M fresh next retries old new [] t brings some whole = absurd (omega arith)
+one_batch r H M true next retries old new (x ∷ xs) t brings some whole = record {
   all = append-nil (x ∷ xs);
-  each = (batch, tt);
+  leads = (t, brings, whole, refl);
   twice_steps = omega arith;
   twice_batches = omega arith;
-  paced = tt;
-  whole = whole;
   end = (refl, tt);
 }
-one_batch r H M false next retries old new (x ∷ xs) t batch covers whole = record {
-  covers = covers;
+one_batch r H M false next retries old new (x ∷ xs) t brings some whole = record {
   all = append-nil (x ∷ xs);
-  each = (batch, tt);
+  leads = (t, brings, whole, refl);
   twice_steps = omega arith;
   twice_batches = omega arith;
-  paced = tt;
-  whole = whole;
   end = (refl, tt);
 }
 
 pub idle_batch : (r : ℕ) (H : History) (M : List Moment) (next retries old new : ℕ) (items : List Item) (t : ℕ) →
-    NoneOfHundred next (now M) → IsBatch H (now (later M)) next items → Covers next items t →
+    NoneOfHundred next (now M) → Brings H (now (later M)) next items t → 0 < length items →
     items ≡ whole_reply r H (now (later M)) true next →
     Collected r H M false next 1 retries old new items t StepLimit ([] ∷ items ∷ [])
-idle_batch r H M next retries old new [] t none batch covers whole = absurd batch
-idle_batch r H M next retries old new (x ∷ xs) t none batch covers whole = record {
-  covers = covers;
+idle_batch r H M next retries old new [] t none brings some whole = absurd (omega arith)
+idle_batch r H M next retries old new (x ∷ xs) t none brings some whole = record {
   all = append-nil (x ∷ xs);
-  each = (batch, tt);
+  leads = (none, (t, brings, whole, refl));
   twice_steps = omega arith;
   twice_batches = omega arith;
-  paced = (none, tt);
-  whole = whole;
   end = (refl, tt);
 }
 
 pub none_held : (r : ℕ) (H : History) (M : List Moment) (next retries old new : ℕ) → (now M).newest < (now M).oldest →
     Collected r H M true next 1 retries old new [] next CaughtUp ([] ∷ [])
 none_held r H M next retries old new none = record {
-  covers = refl;
   all = refl;
-  each = tt;
   twice_steps = omega arith;
   twice_batches = omega arith;
-  paced = (λ k low high held. omega (arith, held.0, held.1));
-  whole = tt;
+  leads = (λ k low high held. omega (arith, held.0, held.1), refl);
   end = (omega arith, (0, omega arith, refl, (λ k low held. omega (arith, held.0, held.1)), λ f b. none));
 }
 
@@ -79,23 +67,17 @@ pub none_left : (r : ℕ) (H : History) (M : List Moment) (next retries old new 
     ((now (later M)).newest < (now (later M)).oldest) ⊎ ((now (later M)).oldest < next) →
     Collected r H M false next 1 retries old new [] next CaughtUp ([] ∷ [] ∷ [])
 none_left r H M next retries old new none rises (inl empty) = record {
-  covers = refl;
   all = refl;
-  each = tt;
   twice_steps = omega arith;
   twice_batches = omega arith;
-  paced = (none, refl, refl);
-  whole = tt;
+  leads = (none, (refl, refl, refl));
   end = (omega arith, (1, omega arith, refl, (λ k low held. omega (arith, held.0, held.1)), λ f b. absurd (cc)));
 }
 none_left r H M next retries old new none rises (inr past) = record {
-  covers = refl;
   all = refl;
-  each = tt;
   twice_steps = omega arith;
   twice_batches = omega arith;
-  paced = (none, refl, refl);
-  whole = tt;
+  leads = (none, (refl, refl, refl));
   end = (
     omega arith,
     (
@@ -112,23 +94,17 @@ none_left r H M next retries old new none rises (inr past) = record {
 pub lost_first : (r : ℕ) (H : History) (M : List Moment) (fresh : Bool) (next retries old new : ℕ) → RisesBy (retries + 1) old new →
     Collected r H M fresh next 1 retries old new [] next (Fault Lost) []
 lost_first r H M true next retries old new rises = record {
-  covers = refl;
   all = refl;
-  each = tt;
   twice_steps = omega arith;
   twice_batches = omega arith;
-  paced = tt;
-  whole = tt;
+  leads = refl;
   end = rises;
 }
 lost_first r H M false next retries old new rises = record {
-  covers = refl;
   all = refl;
-  each = tt;
   twice_steps = omega arith;
   twice_batches = omega arith;
-  paced = tt;
-  whole = tt;
+  leads = refl;
   end = rises;
 }
 
@@ -136,17 +112,14 @@ pub lost_second : (r : ℕ) (H : History) (M : List Moment) (next retries old mi
     old ≤ mid → RisesBy (retries + 1) mid new →
     Collected r H M false next 1 retries old new [] next (Fault Lost) ([] ∷ [])
 lost_second r H M next retries old mid new none first rises = record {
-  covers = refl;
   all = refl;
-  each = tt;
   twice_steps = omega arith;
   twice_batches = omega arith;
-  paced = none;
-  whole = tt;
+  leads = (none, refl);
   end = omega arith;
 }
 
--- what a step over an honest link ensures
+-- what a step over a link of ours ensures
 abbrev pub Stepped : (List Moment → Type 0) → ℕ → History → List Moment → Bool → ℕ → ℕ → ℕ → ℕ → Result Progress WalkFault → WalkPlace → Type 0
 Stepped stays r H M fresh s retries old new p after =
     (answers : List (List Item)) × (t : ℕ) × (after.next ≡ sequence_number t)

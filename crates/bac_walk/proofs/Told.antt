@@ -24,10 +24,11 @@ use Rattle.bac_walk.specs.declared.reply.Turned.{Turned}
 use Rattle.bac_walk.specs.declared.reply.Turned.TheVariants as turned
 use Rattle.bac_walk.specs.Collects.{asks_next, finished, step_ended}
 use Rattle.bac_walk.specs.Handing.{HandedOn, ended_after}
-use Rattle.bac_walk.specs.Heard.{AckParameters}
+use Rattle.bac_link.specs.Heard.{AckParameters}
 use Rattle.bac_walk.specs.Outcomes.{why_of}
 use Rattle.bac_walk.specs.Place.{WalkPlace}
-use Rattle.bac_walk.specs.Replied.{heard_in, progress_of}
+use Rattle.bac_link.specs.Heard.{heard_in}
+use Rattle.bac_walk.specs.Replied.{progress_of}
 use Rattle.bac_walk.specs.Told.{HasAsked, ToldFault, ToldUp, ToldTurn, Told, ended_of}
 use Rattle.bac_walk.specs.Walks.{asks_oldest_now, is_past, fits, question_of, verdict, NextAct, Refuse, Ask, End, Bring, IsTaken, IsTakenFrom}
 

@@ -1,5 +1,5 @@
--- What one honest answer means to a walk.
-use Rattle.std.proofs.Common.{◌≡◌, ℕ, zero, suc, max, Bool, true, false, not, ◌&&◌, ◌||◌, ◌+◌, ◌-◌, ◌<◌, ◌≤◌, ◌⊎◌, inl, inr, if◌then◌else◌, nat_lt, nat_le, Option, Some, None, Result, Ok, Err, List, [], ◌∷◌, ◌++◌, length, drop, refl, sym, ap, subst, ◌∙◌, arith, length-take, length-drop}
+-- What one answer of ours means to a walk.
+use Rattle.std.proofs.Common.{◌≡◌, ℕ, zero, suc, max, Bool, true, false, not, ◌&&◌, ◌||◌, ◌+◌, ◌-◌, ◌<◌, ◌≤◌, ◌⊎◌, inl, inr, if◌then◌else◌, nat_lt, nat_le, Option, Some, None, Result, Ok, Err, List, [], ◌∷◌, ◌++◌, length, drop, refl, sym, ap, subst, ◌∙◌, arith, length-take, length-drop, length-append}
 use Rattle.std.proofs.lemmas.Bool.{ltb-true, ltb-false, leb-true, leb-false, lt-ltb, le-ltb, le-leb, or_parts, not-true, not-false}
 use Rattle.bac_link.specs.declared.item.Item.{Item}
 use Rattle.bac_link.specs.declared.item.Item.TheVariants.{Gap}
@@ -9,46 +9,41 @@ use Rattle.bac_walk.specs.declared.outcome.Progress.{Progress}
 use Rattle.bac_walk.specs.declared.outcome.Progress.TheVariants.{Batch as BatchOf, AskOldest, CaughtUp}
 use Rattle.bac_log.specs.declared.entry.Entry.{Entry}
 use Rattle.bac_log.specs.TrendLog.{sequence_number}
-use Rattle.bac_link.specs.Delivery.{History, Moment, now}
+use Rattle.bac_link.specs.Delivery.{History, Moment, now, AreHeld, Brings}
 use Rattle.bac_link.specs.Moments.{AreServed, entries_from}
 use Rattle.bac_walk.specs.Replies.{Wanted, FromOrdinal, FromOldest, how_many, asked_count, fitting}
 use Rattle.bac_walk.specs.Replies.{IsAnswer}
-use Rattle.bac_walk.specs.Heard.{AckParameters}
+use Rattle.bac_link.specs.Heard.{AckParameters}
 use Rattle.bac_walk.specs.Walks.{shown_from, gap_of, asks_oldest_now, wanted_at, is_past, fits, items_in, NextAct, Bring, End, Ask, verdict, IsTaken, IsTakenFrom, numbered}
 use Rattle.bac_walk.specs.Near.{IsNear}
 use Rattle.bac_walk.specs.Takes.{Says}
-use Rattle.bac_walk.specs.Turns.{Covers, AreRecords, IsBatch, NoneOfHundred, base, reply_count, whole_reply, IsTurn}
-use Rattle.bac_walk.specs.Ordinals.{distance, number_after, is_ahead}
-use Rattle.bac_walk.proofs.Shown.{number-is, distance-number, after-number, ahead-number, shown_numbered, records, length-numbered, Covers-numbered}
+use Rattle.bac_walk.specs.Turns.{NoneOfHundred, base, reply_count, whole_reply, IsTurn}
+use Rattle.bac_link.specs.Ordinals.{distance, number_after, is_ahead}
+use Rattle.bac_walk.proofs.Shown.{number-is, distance-number, after-number, ahead-number, shown_numbered, records, length-numbered}
 use Rattle.bac_walk.proofs.Held.{Sound, Sound-now, In-now}
 use Rattle.bac_walk.proofs.WalkTakes.{verdict-bring}
 
--- entries of the ordinals from f on are a batch, with the gap before them
-records_batch : (H : History) (m : Moment) (f : ℕ) (es : List Entry) → 0 < length es → AreRecords H m f (numbered f es) →
-    IsBatch H m f (numbered f es)
-records_batch H m f [] some are = absurd (omega arith)
-records_batch H m f (e ∷ es) some are = are
+-- entries of the ordinals from f on bring a walk past them, with the gap before them
+brings_held : (H : History) (m : Moment) (f u : ℕ) (es : List Entry) → AreHeld H m f (numbered f es) u → Brings H m f (numbered f es) u
+brings_held H m f u [] are = are
+brings_held H m f u (e ∷ es) are = are
 
-pub gapped : (H : History) (m : Moment) (s : ℕ) (es : List Entry) (lt : Bool) → nat_lt s m.oldest ≡ lt → m.oldest < s + 4294967295 →
-    0 < length es → AreRecords H m (max s m.oldest) (numbered (max s m.oldest) es) →
-    IsBatch H m s ((if lt then Gap (sequence_number s) (sequence_number m.oldest) ∷ [] else []) ++ numbered (max s m.oldest) es)
-    × Covers s ((if lt then Gap (sequence_number s) (sequence_number m.oldest) ∷ [] else []) ++ numbered (max s m.oldest) es) (max s m.oldest + length es)
-gapped H m s es true is near some are =
+pub gapped : (H : History) (m : Moment) (s u : ℕ) (es : List Entry) (lt : Bool) → nat_lt s m.oldest ≡ lt →
+    0 < length es → AreHeld H m (max s m.oldest) (numbered (max s m.oldest) es) u →
+    Brings H m s ((if lt then Gap (sequence_number s) (sequence_number m.oldest) ∷ [] else []) ++ numbered (max s m.oldest) es) u
+gapped H m s u es true is some are =
     let lt : s < m.oldest = ltb-true s m.oldest is in
     let top : max s m.oldest ≡ m.oldest = omega arith in
-    let long : distance (sequence_number s) (sequence_number m.oldest) ≡ m.oldest - s = distance-number s m.oldest (omega arith) near in
-    let end : s + distance (sequence_number s) (sequence_number m.oldest) ≡ m.oldest = omega (arith, long) in
-    let some_gone : 0 < distance (sequence_number s) (sequence_number m.oldest) = omega (arith, long) in
-    let P : ℕ → Type 0 = λ n. AreRecords H m n (numbered (max s m.oldest) es) in
-    let Q : ℕ → Type 0 = λ n. Covers n (numbered (max s m.oldest) es) (max s m.oldest + length es) in (
-      (refl, refl, some_gone, end, omega (arith, length-numbered (max s m.oldest) es), subst P top are),
-      (refl, some_gone, subst Q (top ∙ sym end) (Covers-numbered (max s m.oldest) es)),
-    )
-gapped H m s es false is near some are =
+    let P : ℕ → Type 0 = λ n. AreHeld H m n (numbered (max s m.oldest) es) u in
+    (refl, lt, refl, omega (arith, length-numbered (max s m.oldest) es), subst P top are)
+gapped H m s u es false is some are =
     let ge : m.oldest ≤ s = ltb-false s m.oldest is in
     let same : max s m.oldest ≡ s = omega arith in
-    let P : ℕ → Type 0 = λ n. IsBatch H m n (numbered (max s m.oldest) es) × Covers n (numbered (max s m.oldest) es) (max s m.oldest + length es) in
-    subst P same (records_batch H m (max s m.oldest) es some are, Covers-numbered (max s m.oldest) es)
+    let P : ℕ → Type 0 = λ n. Brings H m n (numbered (max s m.oldest) es) u in
+    subst P same (brings_held H m (max s m.oldest) u es are)
+
+some_shown : (G : List Item) (f : ℕ) (es : List Entry) → 0 < length es → 0 < length (G ++ numbered f es)
+some_shown G f es some = omega (arith, length-append G (numbered f es), length-numbered f es)
 
 -- the gap that a walk reports
 pub gap_same : (w : WalkPlace) (s : ℕ) (m : Moment) (lt : Bool) → nat_lt s m.oldest ≡ lt → m.oldest < s + 4294967295 → w.next ≡ sequence_number s → w.fresh ≡ false →
@@ -71,29 +66,28 @@ TurnOf r H m s w (Err e) after = ⊥
 
 -- a batch that is taken
 bring : (r : ℕ) (H : History) (m : Moment) (s u : ℕ) (w : WalkPlace) (es : List Entry) (p : Result Progress BadReply) (after : WalkPlace) →
-    base w s m ≡ u → m.oldest < u + 4294967295 → IsTaken w es (Bring (sequence_number (max u m.oldest))) p after →
-    0 < length es → AreRecords H m (max u m.oldest) (numbered (max u m.oldest) es) →
+    base w s m ≡ u → IsTaken w es (Bring (sequence_number (max u m.oldest))) p after →
+    0 < length es → AreHeld H m (max u m.oldest) (numbered (max u m.oldest) es) (max u m.oldest + length es) →
     gap_of w (sequence_number (max u m.oldest)) ≡ (if nat_lt u m.oldest then Gap (sequence_number u) (sequence_number m.oldest) ∷ [] else []) →
     es ≡ entries_from H (max u m.oldest) (reply_count r H m w.asks_oldest u) → TurnOf r H m s w p after
-bring r H m s u w es (Err e) after from near taken some are gap is = absurd taken
-bring r H m s u w es (Ok AskOldest) after from near taken some are gap is = absurd taken
-bring r H m s u w es (Ok CaughtUp) after from near taken some are gap is = absurd taken
-bring r H m s u w es (Ok (BatchOf b)) after from near taken some are gap is =
+bring r H m s u w es (Err e) after from taken some are gap is = absurd taken
+bring r H m s u w es (Ok AskOldest) after from taken some are gap is = absurd taken
+bring r H m s u w es (Ok CaughtUp) after from taken some are gap is = absurd taken
+bring r H m s u w es (Ok (BatchOf b)) after from taken some are gap is =
     let f = max u m.oldest in
     let G : List Item = (if nat_lt u m.oldest then Gap (sequence_number u) (sequence_number m.oldest) ∷ [] else []) in
     let items : items_in b ≡ G ++ numbered f es =
     taken.0 ∙ ap (λ g. g ++ shown_from (sequence_number f) es) gap ∙ ap (λ x. G ++ x) (shown_numbered f es) in
-    let both = gapped H m u es (nat_lt u m.oldest) refl near some are in
-    let P : List Item → Type 0 = λ xs. IsBatch H m u xs in
-    let Q : List Item → Type 0 = λ xs. Covers u xs (f + length es) in
     let next : number_after (sequence_number f) (length es) ≡ sequence_number (f + length es) = after-number f (length es) in
-    let B : ℕ → Type 0 = λ n. (t : ℕ) × IsBatch H m n (items_in b) × Covers n (items_in b) t
+    let P : List Item → Type 0 = λ xs. Brings H m u xs (f + length es) × (0 < length xs) in
+    let both = subst P (sym items) (gapped H m u (f + length es) es (nat_lt u m.oldest) refl some are, some_shown G f es some) in
+    let C : ℕ → Type 0 = λ n. (t : ℕ) × Brings H m n (items_in b) t × (0 < length (items_in b))
     × (after ≡ record { log = w.log; next = sequence_number t; fresh = false; asks_oldest = false })
     × (items_in b ≡ whole_reply r H m w.asks_oldest n) in
-    subst B (sym from) (
+    subst C (sym from) (
       f + length es,
-      subst P (sym items) both.0,
-      subst Q (sym items) both.1,
+      both.0,
+      both.1,
       taken.1 ∙ ap (λ (n : ℕ). record { log = w.log; next = n; fresh = false; asks_oldest = false }) next,
       items ∙ ap (λ x. G ++ numbered f x) is,
     )
@@ -178,33 +172,33 @@ by_number H m r s w first count (e ∷ es) p after sound within room few by next
     let v : verdict w first count (e ∷ es) ≡ Bring (sequence_number f) =
     ap (λ o. verdict w o count (e ∷ es)) here ∙ verdict-bring w (sequence_number f) count (e ∷ es) (omega arith) past counted fitting_in in
     let P : NextAct → Type 0 = λ u. IsTaken w (e ∷ es) u p after in
-    let Q : List Entry → Type 0 = λ xs. AreRecords H m f (numbered f xs) in
+    let Q : List Entry → Type 0 = λ xs. AreHeld H m f (numbered f xs) (f + length xs) in
     let old : w.fresh ≡ false = or_left w.fresh w.asks_oldest by in
     let asks : w.asks_oldest ≡ false = (or_parts w.fresh w.asks_oldest by).1 in
     let E : Bool → Type 0 = λ b. (e ∷ es) ≡ entries_from H f (reply_count r H m b s) in
-    bring r H m s s w (e ∷ es) p after (rw old refl) (omega (arith, near.above)) (subst P v taken) (omega arith)
+    bring r H m s s w (e ∷ es) p after (rw old refl) (subst P v taken) (omega arith)
     (subst Q (sym is) (records H m f (reply_count r H m false s) (omega (arith, sound.above)) (omega arith) (omega (arith, n, same, few))))
     (gap_same w s m (nat_lt s m.oldest) refl (omega (arith, near.above)) next old) (subst E (sym asks) is)
 
 -- entries from the oldest, which lie behind the walk or are its next batch
 oldest_batch : (r : ℕ) (H : History) (m : Moment) (s u : ℕ) (w : WalkPlace) (e : Entry) (es : List Entry) (p : Result Progress BadReply) (after : WalkPlace) →
-    base w s m ≡ u → m.oldest < u + 4294967295 → u ≤ m.oldest → (w.asks_oldest ≡ false → u ≡ m.oldest) →
+    base w s m ≡ u → u ≤ m.oldest → (w.asks_oldest ≡ false → u ≡ m.oldest) →
     gap_of w (sequence_number (max u m.oldest)) ≡ (if nat_lt u m.oldest then Gap (sequence_number u) (sequence_number m.oldest) ∷ [] else []) →
-    AreRecords H m m.oldest (numbered m.oldest (e ∷ es)) → (e ∷ es) ≡ entries_from H m.oldest (how_many r H FromOldest m) →
+    AreHeld H m m.oldest (numbered m.oldest (e ∷ es)) (m.oldest + length (e ∷ es)) → (e ∷ es) ≡ entries_from H m.oldest (how_many r H FromOldest m) →
     IsTaken w (e ∷ es) (Bring (sequence_number m.oldest)) p after → TurnOf r H m s w p after
-oldest_batch r H m s u w e es p after from near le asks gap are is taken =
+oldest_batch r H m s u w e es p after from le asks gap are is taken =
     let top : m.oldest ≡ max u m.oldest = omega arith in
     let P : ℕ → Type 0 = λ f. IsTaken w (e ∷ es) (Bring (sequence_number f)) p after in
-    let Q : ℕ → Type 0 = λ f. AreRecords H m f (numbered f (e ∷ es)) in
+    let Q : ℕ → Type 0 = λ f. AreHeld H m f (numbered f (e ∷ es)) (f + length (e ∷ es)) in
     let R : ℕ → Type 0 = λ f. (e ∷ es) ≡ entries_from H f (how_many r H FromOldest m) in
     let S : ℕ → Type 0 = λ c. (e ∷ es) ≡ entries_from H (max u m.oldest) c in
-    bring r H m s u w (e ∷ es) p after from near (subst P top taken) (omega arith) (subst Q top are) gap
+    bring r H m s u w (e ∷ es) p after from (subst P top taken) (omega arith) (subst Q top are) gap
     (subst S (sym (count_same r H m w.asks_oldest u le asks)) (subst R top is))
 
 oldest_some : (r : ℕ) (H : History) (m : Moment) (s : ℕ) (w : WalkPlace) (count : ℕ) (e : Entry) (es : List Entry) (p : Result Progress BadReply) (after : WalkPlace) →
     w.next ≡ sequence_number s → asks_oldest_now w ≡ true → (past fresh : Bool) → is_past w (sequence_number m.oldest) ≡ past → w.fresh ≡ fresh →
     (w.fresh ≡ false → IsNear s m) → length (e ∷ es) ≤ 100 → count ≡ length (e ∷ es) →
-    AreRecords H m m.oldest (numbered m.oldest (e ∷ es)) → (e ∷ es) ≡ entries_from H m.oldest (how_many r H FromOldest m) →
+    AreHeld H m m.oldest (numbered m.oldest (e ∷ es)) (m.oldest + length (e ∷ es)) → (e ∷ es) ≡ entries_from H m.oldest (how_many r H FromOldest m) →
     IsTaken w (e ∷ es) (verdict w (Some (sequence_number m.oldest)) count (e ∷ es)) p after → TurnOf r H m s w p after
 oldest_some r H m s w count e es p after next by true fresh past is_fresh near few counted are is taken =
     let v : verdict w (Some (sequence_number m.oldest)) count (e ∷ es) ≡ End = rw past refl in
@@ -220,7 +214,7 @@ oldest_some r H m s w count e es p after next by false true past is_fresh near f
     let v : verdict w (Some (sequence_number m.oldest)) count (e ∷ es) ≡ Bring (sequence_number m.oldest) = verdict-bring w (sequence_number m.oldest) count (e ∷ es) (omega arith) past counted fitting_in in
     let P : NextAct → Type 0 = λ u. IsTaken w (e ∷ es) u p after in
     let none : nat_lt m.oldest m.oldest ≡ false = le-ltb m.oldest m.oldest (omega arith) in
-    oldest_batch r H m s m.oldest w e es p after (rw is_fresh refl) (omega arith) (omega arith) (λ h. refl) (rw (is_fresh, none) refl) are is (subst P v taken)
+    oldest_batch r H m s m.oldest w e es p after (rw is_fresh refl) (omega arith) (λ h. refl) (rw (is_fresh, none) refl) are is (subst P v taken)
 oldest_some r H m s w count e es p after next by false false past is_fresh near few counted are is taken =
     let close = near is_fresh in
     let hundred : nat_le (length (e ∷ es)) 100 ≡ true = le-leb _ _ few in
@@ -231,7 +225,7 @@ oldest_some r H m s w count e es p after next by false false past is_fresh near 
     sym (ahead-number s m.oldest close.below close.above) ∙ ap (λ n. is_ahead n (sequence_number m.oldest)) (sym next)
     ∙ not-false _ (last_false (asks_oldest_now w) (not w.fresh) (not (is_ahead w.next (sequence_number m.oldest))) past by (ap not is_fresh)) in
     let asks : w.asks_oldest ≡ true = sym (or_second w.fresh w.asks_oldest is_fresh) ∙ by in
-    oldest_batch r H m s s w e es p after (rw is_fresh refl) (omega (arith, close.above)) (leb-true s m.oldest ahead) (λ h. absurd (cc))
+    oldest_batch r H m s s w e es p after (rw is_fresh refl) (leb-true s m.oldest ahead) (λ h. absurd (cc))
     (gap_same w s m (nat_lt s m.oldest) refl (omega (arith, close.above)) next is_fresh) are is (subst P v taken)
 
 -- the same for a question from the oldest
@@ -255,7 +249,7 @@ by_oldest H m r s w first count (e ∷ es) p after sound within room few by next
     let n : length (e ∷ es) ≡ how_many r H FromOldest m = ap length is ∙ same in
     let here : first ≡ Some (sequence_number m.oldest) = some (omega (arith, n)) in
     let P : Option ℕ → Type 0 = λ o. IsTaken w (e ∷ es) (verdict w o count (e ∷ es)) p after in
-    let Q : List Entry → Type 0 = λ xs. AreRecords H m m.oldest (numbered m.oldest xs) in
+    let Q : List Entry → Type 0 = λ xs. AreHeld H m m.oldest (numbered m.oldest xs) (m.oldest + length xs) in
     oldest_some r H m s w count e es p after next by (is_past w (sequence_number m.oldest)) w.fresh refl refl near (omega (arith, n, few)) counted
     (subst Q (sym is) (records H m m.oldest (how_many r H FromOldest m) sound.above (omega arith) (omega (arith, n, same, few))))
     is (subst P here taken)
@@ -275,7 +269,7 @@ turn_by H M r s w h p after false by next near served answer counted taken =
     let a = subst P q answer in
     by_number H (now M) r s w h.first h.count h.entries p after (Sound-now r M H served) (In-now r M H served) a.some a.most by next (near (or_left w.fresh w.asks_oldest by)) counted a.entries a.first_is taken
 
--- what an honest answer means
+-- what an answer of ours means
 pub turn_of : (H : History) (M : List Moment) (r s : ℕ) (w : WalkPlace) (heard : Option AckParameters) (p : Result Progress BadReply) (after : WalkPlace) →
     w.next ≡ sequence_number s → (w.fresh ≡ false → IsNear s (now M)) → AreServed r M H → Says r (now M) H (wanted_at w s) heard → IsTakenFrom w heard p after → TurnOf r H (now M) s w p after
 turn_of H M r s w None p after next near served says taken = absurd says

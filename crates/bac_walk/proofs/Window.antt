@@ -5,9 +5,10 @@ use Rattle.bac_link.specs.Delivery.{History, Moment, Leads, later, now}
 use Rattle.bac_link.specs.Laws.{after_answers}
 use Rattle.bac_link.specs.Moments.{AreServed}
 use Rattle.bac_walk.specs.Meant.{SaidMeans}
-use Rattle.bac_walk.specs.Near.{AreInWindow, StaysInWindow}
+use Rattle.bac_link.specs.Moments.{AreInWindow}
+use Rattle.bac_walk.specs.Near.{StaysInWindow}
 use Rattle.bac_walk.specs.Place.{WalkPlace}
-use Rattle.bac_walk.specs.Replied.{heard_in}
+use Rattle.bac_link.specs.Heard.{heard_in}
 use Rattle.bac_walk.specs.Sinks.{IsDelivered, IsDeliveredNear}
 use Rattle.bac_walk.proofs.Came.{some_later, window_later, window_now}
 use Rattle.bac_walk.proofs.Near.{brings_end, windows_near}
@@ -39,5 +40,5 @@ said_means = λ m H low s w after datagram p says here window at taken.
 -- in a window a walk is near wherever it comes
 pub in_window_of : (was is : ℕ → List Moment → History → Type 0) (before after : WalkPlace) (steps : ℕ) (items : List Item) →
     ((r : ℕ) (M : List Moment) (H : History) → was r M H → AreServed r M H) → IsDeliveredNear was is before after steps items → IsDelivered was is before after items
-in_window_of was is before after steps items serves near = λ r M H s low honest next window at.
-    near r M H s honest next (windows_near r H M low s steps before.fresh (serves r M H honest) window at)
+in_window_of was is before after steps items serves near = λ r M H s low ours next window at.
+    near r M H s ours next (windows_near r H M low s steps before.fresh (serves r M H ours) window at)

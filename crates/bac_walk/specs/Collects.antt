@@ -1,4 +1,4 @@
--- What a run of a walk over an honest link delivers, and how it ends.
+-- What a run of a walk over a link of ours delivers, and how it ends.
 use Rattle.std.specs.Prelude.{◌++◌, ◌≡◌, ℕ, suc, Bool, true, false, ◌+◌, ◌*◌, ◌<◌, ◌≤◌, Result, Ok, Err, List, [], ◌∷◌}
 use Rattle.std.specs.Prelude.{length, drop}
 use Rattle.bac_link.specs.declared.item.Item.{Item}
@@ -14,10 +14,10 @@ use Rattle.bac_walk.specs.declared.outcome.Ended.TheVariants.{CaughtUp, StepLimi
 use Rattle.bac_walk.specs.declared.outcome.Why.{Why}
 use Rattle.bac_walk.specs.declared.outcome.Why.TheVariants.{CaughtUp as WasUp, StepLimit as WasLimit, Fault as WasFault}
 use Rattle.bac_walk.specs.declared.outcome.Why.TheVariants.{Memory}
-use Rattle.bac_link.specs.Delivery.{History, Moment, now, later, items_of}
-use Rattle.bac_link.specs.Laws.{moment_at}
-use Rattle.bac_walk.specs.Turns.{Covers, NoneOfHundred, whole_reply}
-use Rattle.bac_walk.specs.Delivers.{end_of, AreAnswers, NoneFrom}
+use Rattle.bac_link.specs.Delivery.{History, Moment, now, later, items_of, Brings}
+use Rattle.bac_link.specs.Laws.{moment_at, CoversEach}
+use Rattle.bac_walk.specs.Turns.{NoneOfHundred, whole_reply}
+use Rattle.bac_walk.specs.Delivers.{NoneFrom}
 use Rattle.bac_link.specs.Links.{RisesBy}
 use Rattle.bac_link.specs.declared.item.Item.TheVariants.{Gap, Logged}
 use Rattle.bac_log.specs.TrendLog.{sequence_number}
@@ -37,32 +37,27 @@ IsWhole ([] ∷ [] ∷ answers) = ⊥
 IsWhole ([] ∷ (x ∷ xs) ∷ answers) = IsWhole answers
 IsWhole ((x ∷ xs) ∷ answers) = IsWhole answers
 
--- none is held of the hundred numbers that were asked for, wherever an answer without a batch comes first or
--- right after a batch; two such answers in a row are the last two, and the walk is caught up
-abbrev pub IsPaced : Ended → List Moment → ℕ → List (List Item) → Type 0
-IsPaced why M s [] = Unit {0}
-IsPaced why M s ([] ∷ []) = NoneOfHundred s (now M)
-IsPaced why M s ([] ∷ [] ∷ answers) = NoneOfHundred s (now M) × (answers ≡ []) × (why ≡ CaughtUp)
-IsPaced why M s ([] ∷ (x ∷ xs) ∷ answers) =
-    NoneOfHundred s (now M) × IsPaced why (later (later M)) (end_of s (x ∷ xs)) answers
-IsPaced why M s ((x ∷ xs) ∷ answers) = IsPaced why (later M) (end_of s (x ∷ xs)) answers
+-- the items of a batch that came before these answers: the whole of a reply, but that a run that was stopped ends with
+-- the record that stopped it
+abbrev pub IsOfReply : List (List Item) → Ended → List Item → List Item → Type 0
+IsOfReply (y ∷ answers) ended items reply = items ≡ reply
+IsOfReply [] CaughtUp items reply = items ≡ reply
+IsOfReply [] StepLimit items reply = items ≡ reply
+IsOfReply [] Stopped items reply = (dropped : List Item) × (items ++ dropped ≡ reply)
+IsOfReply [] (Fault e) items reply = items ≡ reply
 
--- the items of one reply: all of them, or in a run that was stopped those up to the record that stopped it
-abbrev pub IsOfReply : Ended → List Item → List Item → Type 0
-IsOfReply CaughtUp items reply = items ≡ reply
-IsOfReply StepLimit items reply = items ≡ reply
-IsOfReply Stopped items reply = (dropped : List Item) × (items ++ dropped ≡ reply)
-IsOfReply (Fault e) items reply = items ≡ reply
-
--- each batch is the whole of one reply, but for the last of a run that was stopped; after an answer without a batch
--- the oldest entries are asked for
-abbrev pub AreWhole : Ended → ℕ → History → List Moment → Bool → ℕ → List (List Item) → Type 0
-AreWhole ended r H M by_oldest s [] = Unit {0}
-AreWhole ended r H M by_oldest s ([] ∷ answers) = AreWhole ended r H (later M) true s answers
-AreWhole ended r H M by_oldest s ((x ∷ xs) ∷ []) = IsOfReply ended (x ∷ xs) (whole_reply r H (now M) by_oldest s)
-AreWhole ended r H M by_oldest s ((x ∷ xs) ∷ y ∷ answers) =
-    ((x ∷ xs) ≡ whole_reply r H (now M) by_oldest s)
-    × AreWhole ended r H (later M) false (end_of s (x ∷ xs)) (y ∷ answers)
+-- Step by step the answers of a run lead from ordinal s to t. A step asks by number. If that brings nothing, none is
+-- held of the hundred numbers that were asked for, and the oldest are asked for; if these bring nothing either, the run
+-- ends, caught up. A batch is the whole of a reply.
+abbrev pub LeadsInSteps : Ended → ℕ → History → List Moment → Bool → ℕ → List (List Item) → ℕ → Type 0
+LeadsInSteps ended r H M by_oldest s [] t = t ≡ s
+LeadsInSteps ended r H M false s ([] ∷ answers) t =
+    NoneOfHundred s (now M) × LeadsInSteps ended r H (later M) true s answers t
+LeadsInSteps ended r H M true s ([] ∷ answers) t = (answers ≡ []) × (ended ≡ CaughtUp) × (t ≡ s)
+LeadsInSteps ended r H M by_oldest s ((x ∷ xs) ∷ answers) t =
+    (u : ℕ) × Brings H (now M) s (x ∷ xs) u
+    × IsOfReply answers ended (x ∷ xs) (whole_reply r H (now M) by_oldest s)
+    × LeadsInSteps ended r H (later M) false u answers t
 
 -- the ordinal where a run begins: that of the next number, or for a walk from the oldest entry at the oldest of its
 -- first batch's moment
@@ -89,17 +84,14 @@ IsEnded (Fault Lost) fresh t M answers steps retries old new = RisesBy (retries 
 IsEnded (Fault (Refused refusal)) fresh t M answers steps retries old new = ⊥
 IsEnded (Fault BadReply) fresh t M answers steps retries old new = ⊥
 
--- what the answers of a run of at most so many steps over an honest link brought, and how it ended. The walk was at
+-- what the answers of a run of at most so many steps over a link of ours brought, and how it ended. The walk was at
 -- ordinal next, and is at t
 pub record Collected (r : ℕ) (H : History) (M : List Moment) (fresh : Bool) (next : ℕ) (steps retries old new : ℕ)
     (items : List Item) (t : ℕ) (ended : Ended) (answers : List (List Item)) : Type 0 where
-  pub covers : Covers (start_of fresh next M answers) items t
   pub all : items_of answers ≡ items
-  pub each : AreAnswers H M (start_of fresh next M answers) answers
+  pub leads : LeadsInSteps ended r H M false (start_of fresh next M answers) answers t
   pub twice_steps : length answers ≤ 2 * steps
   pub twice_batches : length answers ≤ 2 * batches answers + 2
-  pub paced : IsPaced ended M (start_of fresh next M answers) answers
-  pub whole : AreWhole ended r H M false (start_of fresh next M answers) answers
   pub end : IsEnded ended fresh t M answers steps retries old new
 
 -- a walk from the oldest entry is one until its first batch
@@ -151,10 +143,10 @@ turn_items (Err e) = []
 abbrev pub Goes : Bool → ℕ → ℕ → List Item → Bool → ℕ → Type 0
 Goes fresh before s [] after next = (next ≡ before) × (after ≡ fresh)
 Goes false before s (x ∷ xs) after next =
-    (before ≡ sequence_number s → (t : ℕ) × (next ≡ sequence_number t) × Covers s (x ∷ xs) t) × (after ≡ false)
+    (before ≡ sequence_number s → (t : ℕ) × (next ≡ sequence_number t) × CoversEach s (x ∷ xs) t) × (after ≡ false)
 Goes true before s (Gap first until ∷ xs) after next = ⊥
 Goes true before s (Logged shown entry ∷ xs) after next =
-    (shown ≡ sequence_number s → (t : ℕ) × (next ≡ sequence_number t) × Covers s (Logged shown entry ∷ xs) t)
+    (shown ≡ sequence_number s → (t : ℕ) × (next ≡ sequence_number t) × CoversEach s (Logged shown entry ∷ xs) t)
     × (after ≡ false)
 
 -- a turn and a step that aren't lost, and those of a log that the device doesn't have

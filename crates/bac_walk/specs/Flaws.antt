@@ -18,9 +18,9 @@ use Rattle.bac_walk.specs.declared.flaw.ReplyFlaw.{ReplyFlaw}
 use Rattle.bac_walk.specs.declared.flaw.ReplyFlaw.TheVariants as flaw
 use Rattle.bac_walk.specs.declared.outcome.BadReply.{BadReply as NotTaken}
 use Rattle.bac_walk.specs.declared.outcome.WalkFault.TheVariants.{BadReply}
-use Rattle.bac_walk.specs.Heard.{is_of_log, records_in, same_id}
+use Rattle.bac_link.specs.Heard.{is_of_log, records_in, same_id}
 use Rattle.bac_walk.specs.Place.{WalkPlace}
-use Rattle.bac_walk.specs.Replied.{heard_in}
+use Rattle.bac_link.specs.Heard.{heard_in}
 use Rattle.bac_walk.specs.Told.{ToldFault}
 use Rattle.bac_walk.specs.Walks.{fits, is_past, question_of, IsTakenFrom}
 

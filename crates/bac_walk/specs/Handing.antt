@@ -8,7 +8,7 @@ use Rattle.bac_walk.specs.declared.outcome.Step.{Step}
 use Rattle.bac_walk.specs.declared.outcome.Step.TheVariants.{Batch as StepOf, CaughtUp as NoStep}
 use Rattle.bac_walk.specs.declared.outcome.Ended.{Ended}
 use Rattle.bac_walk.specs.declared.outcome.Ended.TheVariants.{CaughtUp, StepLimit, Stopped, Fault}
-use Rattle.bac_walk.specs.Ordinals.{number_after}
+use Rattle.bac_link.specs.Ordinals.{number_after}
 use Rattle.bac_walk.specs.Sinks.{PutAll}
 
 -- where the walk is after a batch whose record of this number was refused, and how the step ended

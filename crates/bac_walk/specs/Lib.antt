@@ -1,6 +1,4 @@
-pub mod Ordinals
 pub mod Place
-pub mod Heard
 pub mod Replies
 pub mod Walks
 pub mod Reads
@@ -19,9 +17,8 @@ pub mod Handing
 pub mod Kept
 pub mod Told
 pub mod Runs
-pub mod Standard
 pub mod Came
-pub mod Spoken
+pub mod Honest
 pub mod Meant
 pub mod Follows
 pub mod Flaws

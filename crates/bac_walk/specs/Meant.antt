@@ -2,13 +2,12 @@
 use Rattle.std.specs.Prelude.{◌≡◌, ℕ, true, false, ◌+◌, ◌<◌, ◌≤◌, ◌⊎◌, Result, Ok, Err, List}
 use Rattle.bac_link.specs.Delivery.{History, Moment, Brings}
 use Rattle.bac_log.specs.TrendLog.{sequence_number}
-use Rattle.bac_walk.specs.Came.{asked_by}
-use Rattle.bac_walk.specs.Near.{IsInWindow}
+use Rattle.bac_link.specs.Moments.{IsInWindow}
 use Rattle.bac_walk.specs.Place.{WalkPlace}
-use Rattle.bac_walk.specs.Replied.{heard_in}
-use Rattle.bac_walk.specs.Standard.{HoldsNumber, IsSaidAt}
+use Rattle.bac_link.specs.Heard.{heard_in}
+use Rattle.bac_link.specs.Standard.{HoldsNumber, IsSaidAt}
 use Rattle.bac_walk.specs.Turns.{base}
-use Rattle.bac_walk.specs.Walks.{asks_oldest_now, items_in, IsTakenFrom}
+use Rattle.bac_walk.specs.Walks.{asks_oldest_now, asked_by, items_in, IsTakenFrom}
 use Rattle.bac_walk.specs.declared.outcome.BadReply.{BadReply}
 use Rattle.bac_walk.specs.declared.outcome.Progress.{Progress}
 use Rattle.bac_walk.specs.declared.outcome.Progress.TheVariants.{Batch as BatchOf, AskOldest, CaughtUp}

@@ -1,9 +1,9 @@
 -- How near a walk is to its log. Numbers come round, so they tell ordinals apart within half of the count only.
-use Rattle.std.specs.Prelude.{◌≡◌, ℕ, Bool, false, ◌+◌, ◌<◌, ◌≤◌, List, [], ◌∷◌, length}
+use Rattle.std.specs.Prelude.{◌≡◌, ℕ, Bool, false, ◌+◌, ◌<◌, ◌≤◌, List, length}
 use Rattle.bac_link.specs.declared.item.Item.{Item}
 use Rattle.bac_link.specs.Delivery.{History, Moment, DeliversTo, now, later}
 use Rattle.bac_link.specs.Laws.{after_answers}
-use Rattle.bac_link.specs.Moments.{AreServed}
+use Rattle.bac_link.specs.Moments.{AreServed, AreInWindow}
 use Rattle.bac_walk.specs.declared.outcome.Ended.TheVariants.{StepLimit}
 use Rattle.bac_walk.specs.Collects.{batches, Collected}
 use Rattle.bac_walk.specs.Turns.{NoneOfHundred}
@@ -24,17 +24,6 @@ StaysNear r H M fresh s steps = (i retries old new t : ℕ) (items : List Item) 
     i < steps → Collected r H M fresh s i retries old new items t StepLimit answers →
     (batches answers ≡ 0 → fresh ≡ false) →
     IsNearStep t (after_answers (length answers) M)
-
--- A plain premise that is enough: all that is logged or held at any of the moments lies within half of the count from
--- one ordinal on.
-pub record IsInWindow (low : ℕ) (m : Moment) : Type 0 where
-  pub oldest : low ≤ m.oldest
-  pub newest : m.newest + 1 < low + 2147483648
-
--- this holds at each of the moments
-abbrev pub AreInWindow : ℕ → List Moment → Type 0
-AreInWindow low [] = Unit {0}
-AreInWindow low (m ∷ M) = IsInWindow low m × AreInWindow low M
 
 -- and so does the ordinal where the walk begins, unless that is the oldest entry
 abbrev pub WindowsAreNear : Type 0

@@ -4,7 +4,7 @@ use Rattle.bac_wire.specs.Primitive.{Id}
 use Rattle.bac_wire.specs.declared.fault.WireFault.{WireFault}
 use Rattle.bac_log.specs.declared.entry.Entry.{Entry}
 use Rattle.bac_walk.specs.declared.read.Said.{Said}
-use Rattle.bac_walk.specs.Heard.{AckParameters, heard_at, records_in}
+use Rattle.bac_link.specs.Heard.{AckParameters, heard_at, records_in}
 use Rattle.bac_walk.specs.Spelled.{data_in}
 
 -- how many records there are, if all octets are records

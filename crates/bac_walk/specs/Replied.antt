@@ -1,7 +1,5 @@
 -- What a walk made of a reply whose records are still octets.
-use Rattle.std.specs.Prelude.{◌≡◌, ℕ, List, Option, Some, None, Result, Ok, Err}
-use Rattle.bac_wire.specs.Primitive.{Id}
-use Rattle.bac_link.specs.Datagrams.{apdu_in}
+use Rattle.std.specs.Prelude.{◌≡◌, ℕ, List, Option, Result, Ok, Err}
 use Rattle.bac_walk.specs.declared.batch.Gap.{Gap as GapOf}
 use Rattle.bac_walk.specs.declared.batch.Batch.{Batch}
 use Rattle.bac_walk.specs.declared.outcome.BadReply.{BadReply}
@@ -18,8 +16,7 @@ use Rattle.bac_walk.specs.declared.reply.Turned.TheVariants as turned
 use Rattle.bac_walk.specs.declared.reply.Replied.{Replied}
 use Rattle.bac_walk.specs.declared.reply.Replied.TheVariants as replied
 use Rattle.bac_walk.specs.Place.{WalkPlace}
-use Rattle.bac_walk.specs.Heard.{AckParameters, heard_at}
-use Rattle.bac_walk.specs.Takes.{parameters_in}
+use Rattle.bac_link.specs.Heard.{heard_at}
 use Rattle.bac_walk.specs.Walks.{IsTakenFrom}
 use Rattle.bac_walk.specs.Spelled.{IsWhole, data_in, data_held, records_from}
 
@@ -41,15 +38,6 @@ IsJudged old ack (Ok (verdict.Records gap first items)) new =
     (whole : IsWhole first (data_in ack))
     × IsTakenFrom old (heard_at old.log ack) (Ok (BatchOf (batch_from gap first (data_in ack) whole))) new
     × (items.now ≡ data_in ack)
-
--- what a walk hears in a datagram
-abbrev pub heard_from : Id → Option (List ℕ) → Option AckParameters
-heard_from log None = None
-heard_from log (Some parameters) = heard_at log parameters
-
--- the same of a whole datagram: it says something only as an unsegmented ACK of ReadRange
-abbrev pub heard_in : Id → List ℕ → Option AckParameters
-heard_in log datagram = heard_from log (parameters_in (apdu_in datagram))
 
 -- the same with the records of a reply decoded
 abbrev pub progress_of : {E : Type 0} → Result Turned E → Result Progress E

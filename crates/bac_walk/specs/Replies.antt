@@ -1,24 +1,14 @@
 -- What a log answers to the questions of a walk, at a moment.
-use Rattle.std.specs.Prelude.{◌≡◌, ℕ, ◌+◌, ◌-◌, ◌<◌, ◌≤◌, min, max, nat_le, Option, Some, List, length, take, pos, All}
+use Rattle.std.specs.Prelude.{◌≡◌, ℕ, ◌+◌, ◌-◌, ◌<◌, ◌≤◌, min, max, nat_le, Option, Some, List, length, take, All}
 use Rattle.bac_log.specs.Entry.{IsLoggable}
 use Rattle.bac_log.specs.TrendLog.{Log, sequence_number}
-use Rattle.bac_wire.specs.declared.stamp.Date4.{Date4}
-use Rattle.bac_wire.specs.declared.stamp.Time4.{Time4}
 use Rattle.bac_apdu.specs.declared.service.extent.Extent.{Extent}
-use Rattle.bac_apdu.specs.declared.service.extent.Extent.TheVariants.{ByNumber, ByTime}
 use Rattle.bac_log.specs.declared.entry.Entry.{Entry}
 use Rattle.bac_log.specs.Ack.{ack_length}
 use Rattle.bac_log.specs.Select.{greatest}
 use Rattle.bac_link.specs.Delivery.{History, Moment}
 use Rattle.bac_link.specs.Moments.{entries_from}
-
--- 1900-01-01T00:00:00.00
-abbrev pub first_date : Date4
-first_date = record { year = 0; month = 1; day = 1; weekday = 1 }
-
--- its time
-abbrev pub first_time : Time4
-first_time = record { hour = 0; minute = 0; second = 0; hundredth = 0 }
+use Rattle.bac_link.specs.Standard.{Asked, FromNumber, FromOldest as FromTheOldest, extent_asked}
 
 -- what a walk asks for: the hundred ordinals from one on, which is asked for by its number, or a hundred entries from
 -- the oldest held on
@@ -26,10 +16,14 @@ pub data Wanted : Type 0 where
   FromOrdinal : ℕ → Wanted
   FromOldest : Wanted
 
--- as an extent of ReadRange (clause 15.8): by sequence number, or by time after the first moment, a hundred records
+-- as a question: an ordinal is asked for by its number
+abbrev pub asked_at : Wanted → Asked
+asked_at (FromOrdinal s) = FromNumber (sequence_number s)
+asked_at FromOldest = FromTheOldest
+
+-- the extent of that
 abbrev pub extent_of : Wanted → Extent
-extent_of (FromOrdinal s) = ByNumber (sequence_number s) (pos 100)
-extent_of FromOldest = ByTime first_date first_time (pos 100)
+extent_of wanted = extent_asked (asked_at wanted)
 
 -- the first and the last ordinal that are held and asked for; if the first is above the last, there is none
 abbrev pub first_asked : Wanted → Moment → ℕ

@@ -15,9 +15,7 @@ use Rattle.bac_log.specs.TrendLog.{sequence_number}
 use Rattle.bac_link.specs.Delivery.{History, Moment}
 use Rattle.bac_link.specs.Moments.{IsMoment, AreServed, log_at, entries_from}
 use Rattle.bac_link.specs.declared.item.Item.TheVariants.{Gap, Logged}
-use Rattle.bac_walk.specs.Delivers.{end_of}
-use Rattle.bac_walk.specs.Near.{IsNear}
-use Rattle.bac_walk.specs.Turns.{whole_reply}
+use Rattle.bac_walk.specs.Turns.{whole_reply, reply_count}
 use Rattle.bac_walk.specs.Walks.{numbered}
 
 -- what such a walk delivers, the ordinal that it comes to, and why it ends
@@ -33,9 +31,9 @@ rest_from r H m s (suc steps) =
     if nat_lt m.newest (max s m.oldest)
     then record { items = []; next = s; ended = CaughtUp }
     else
-    (let batch = whole_reply r H m (nat_lt (s + 99) (max s m.oldest)) s in
-    let more = rest_from r H m (end_of s batch) steps in
-    record { items = batch ++ more.items; next = more.next; ended = more.ended })
+    (let by_oldest = nat_lt (s + 99) (max s m.oldest) in
+    let more = rest_from r H m (max s m.oldest + reply_count r H m by_oldest s) steps in
+    record { items = whole_reply r H m by_oldest s ++ more.items; next = more.next; ended = more.ended })
 
 -- a walk from the oldest entry, at the ordinal s of its number
 abbrev pub rest_oldest : ℕ → History → Moment → ℕ → ℕ → Rested
@@ -82,10 +80,10 @@ rest_all H m s =
       ended = CaughtUp;
     }
 
--- with more steps than entries held from there on, a walk near a log that doesn't change delivers all of them
+-- with more steps than entries held from there on, a walk of a log that doesn't change delivers all of them
 abbrev pub RestsAll : Type 0
 RestsAll = (r : ℕ) (H : History) (m : Moment) (s steps : ℕ) →
-    AreServed r (m ∷ []) H → All IsLoggable (log_at m H).entries → IsNear s m →
+    AreServed r (m ∷ []) H → All IsLoggable (log_at m H).entries →
     (m.newest + 1) - max s m.oldest < steps → rest_from r H m s steps ≡ rest_all H m s
 
 -- stopped after any entry and resumed at the next number, it delivers exactly what was left

@@ -18,19 +18,19 @@ CollectedIsDelivered =
     Collected r H M fresh s steps retries old new items t ended answers →
     DeliversTo H (start_of fresh s M answers) items t M (length answers)
 
--- a run over links that are honest so delivers its items
+-- a run over links of ours so delivers its items
 abbrev pub RunsDeliver : {L : Type 0} → (L → Id → ℕ → List Moment → History → Type 0) → Type 0
-RunsDeliver {L = L} honest =
+RunsDeliver {L = L} ours =
     (link left : L) (log : Id) (retries old new : ℕ) (before after : WalkPlace) (steps : ℕ) (ended : Ended)
-    (items : List Item) → IsRun (honest link log) (honest left log) retries old new before after steps ended items →
-    IsDeliveredNear (honest link log) (honest left log) before after steps items
+    (items : List Item) → IsRun (ours link log) (ours left log) retries old new before after steps ended items →
+    IsDeliveredNear (ours link log) (ours left log) before after steps items
 
 -- A run whose steps were all whole, and one from where it ended, are together one run of as many steps: what both
 -- brought, ended as the second.
 abbrev pub RunsJoin : {L : Type 0} → (L → Id → ℕ → List Moment → History → Type 0) → Type 0
-RunsJoin {L = L} honest =
+RunsJoin {L = L} ours =
     (link half left : L) (log : Id) (retries old mid new : ℕ) (before middle after : WalkPlace) (steps more : ℕ)
     (ended : Ended) (first rest : List Item) → old ≤ mid →
-    IsRun (honest link log) (honest half log) retries old mid before middle steps StepLimit first →
-    IsRun (honest half log) (honest left log) retries mid new middle after more ended rest →
-    IsRun (honest link log) (honest left log) retries old new before after (steps + more) ended (first ++ rest)
+    IsRun (ours link log) (ours half log) retries old mid before middle steps StepLimit first →
+    IsRun (ours half log) (ours left log) retries mid new middle after more ended rest →
+    IsRun (ours link log) (ours left log) retries old new before after (steps + more) ended (first ++ rest)

@@ -10,7 +10,8 @@ use Rattle.bac_walk.specs.declared.outcome.Ended.TheVariants.{CaughtUp, StepLimi
 use Rattle.bac_log.specs.TrendLog.{sequence_number}
 use Rattle.bac_link.specs.Delivery.{History, Moment, DeliversTo}
 use Rattle.bac_link.specs.Laws.{after_answers}
-use Rattle.bac_walk.specs.Near.{AreInWindow, StaysNear}
+use Rattle.bac_link.specs.Moments.{AreInWindow}
+use Rattle.bac_walk.specs.Near.{StaysNear}
 use Rattle.bac_walk.specs.Walks.{gap_items, item_of}
 use Rattle.bac_walk.specs.Collects.{Goes, Collected, IsFreshAfter}
 
@@ -57,7 +58,7 @@ is_stopped Stopped = true
 is_stopped (Fault e) = false
 
 -- a run of at most so many steps: over any link its items cover all from the walk's number up to the new one; over one
--- that was honest, wherever the walk stays near, they are what its answers brought, and it is honest still
+-- that was ours, wherever the walk stays near, they are what its answers brought, and it is ours still
 abbrev pub IsRun : (ℕ → List Moment → History → Type 0) →
     (ℕ → List Moment → History → Type 0) → ℕ → ℕ → ℕ → WalkPlace → WalkPlace → ℕ → Ended → List Item → Type 0
 IsRun was is retries old new before after steps ended items =
@@ -78,8 +79,8 @@ Delivery {S = S} puts sink left was is retries old new before after steps ended 
     × IsRun was is retries old new before after steps ended (put_items calls)
     × (ended ≡ StepLimit → steps ≤ length calls)
 
--- Over a link that was honest, at moments within half of the count: from the ordinal of its number on, or from that of
--- the oldest record if it begins there, so many answers deliver the items, and the link is honest still.
+-- Over a link that was ours, at moments within half of the count: from the ordinal of its number on, or from that of
+-- the oldest record if it begins there, so many answers deliver the items, and the link is ours still.
 abbrev pub IsDelivered : (ℕ → List Moment → History → Type 0) →
     (ℕ → List Moment → History → Type 0) → WalkPlace → WalkPlace → List Item → Type 0
 IsDelivered was is before after items =

@@ -5,8 +5,8 @@ use Rattle.bac_apdu.specs.Service.ReadRangeAck.{RangeAck, read_range_ack_at}
 use Rattle.bac_log.specs.declared.entry.Entry.{Entry}
 use Rattle.bac_link.specs.Datagrams.{apdu_in}
 use Rattle.bac_walk.specs.declared.batch.Numbered.{Numbered}
-use Rattle.bac_walk.specs.Heard.{records_in}
-use Rattle.bac_walk.specs.Takes.{parameters_in}
+use Rattle.bac_link.specs.Heard.{records_in}
+use Rattle.bac_link.specs.Heard.{parameters_in}
 use Rattle.bac_walk.specs.Walks.{with_numbers}
 
 -- the item data of an ACK, and no octets if there is none

@@ -17,7 +17,7 @@ use Rattle.bac_walk.specs.declared.outcome.Why.{Why}
 use Rattle.bac_walk.specs.declared.outcome.Why.TheVariants.{CaughtUp as WasUp, StepLimit as WasLimit, Fault as WasFault}
 use Rattle.bac_walk.specs.declared.outcome.Why.TheVariants.{Memory}
 use Rattle.bac_walk.specs.Place.{WalkPlace}
-use Rattle.bac_walk.specs.Replied.{heard_in}
+use Rattle.bac_link.specs.Heard.{heard_in}
 use Rattle.bac_walk.specs.Walks.{asks_oldest_now, question_of, IsTakenFrom}
 
 -- the question of a walk that is here was asked last, by an exchange with this result

@@ -1,4 +1,4 @@
--- What a turn over an honest link is.
+-- What a turn over a link of ours is.
 use Rattle.std.specs.Prelude.{ℕ, ◌≡◌, ◌+◌, Result, Ok, Err, List}
 use Rattle.bac_walk.specs.declared.outcome.WalkFault.{WalkFault}
 use Rattle.bac_walk.specs.declared.outcome.WalkFault.TheVariants.{Lost, Refused, BadReply}

@@ -1,40 +1,16 @@
--- What one honest answer means to a walk.
+-- What one answer of ours means to a walk.
 use Rattle.std.specs.Prelude.{◌++◌, min, max, ◌-◌, nat_lt, ◌≡◌, ℕ, Bool, true, false, ◌+◌, ◌<◌, ◌≤◌, ◌⊎◌, if◌then◌else◌}
 use Rattle.std.specs.Prelude.{List, [], ◌∷◌, length}
 use Rattle.bac_log.specs.TrendLog.{sequence_number}
 use Rattle.bac_link.specs.declared.item.Item.{Item}
-use Rattle.bac_link.specs.declared.item.Item.TheVariants.{Gap, Logged}
+use Rattle.bac_link.specs.declared.item.Item.TheVariants.{Gap}
 use Rattle.bac_walk.specs.Place.{WalkPlace}
 use Rattle.bac_walk.specs.declared.outcome.Progress.{Progress}
 use Rattle.bac_walk.specs.declared.outcome.Progress.TheVariants.{Batch as BatchOf, AskOldest, CaughtUp as IsUp}
 use Rattle.bac_walk.specs.Replies.{fitting}
-use Rattle.bac_link.specs.Delivery.{History, Moment, Holds, IsEntry}
+use Rattle.bac_link.specs.Delivery.{History, Moment, Holds, Brings}
 use Rattle.bac_link.specs.Moments.{entries_from}
-use Rattle.bac_walk.specs.Ordinals.{distance}
 use Rattle.bac_walk.specs.Walks.{items_in, asks_oldest_now, numbered}
-
--- read in order, the items cover the ordinals s up to t - 1, each once; a gap isn't empty
-abbrev pub Covers : ℕ → List Item → ℕ → Type 0
-Covers s [] t = t ≡ s
-Covers s (Gap first before ∷ items) t =
-    (first ≡ sequence_number s) × (0 < distance first before) × Covers (s + distance first before) items t
-Covers s (Logged shown entry ∷ items) t = (shown ≡ sequence_number s) × Covers (s + 1) items t
-
--- the entries of the ordinals from s on, each held at the moment
-abbrev pub AreRecords : History → Moment → ℕ → List Item → Type 0
-AreRecords H m s [] = Unit {0}
-AreRecords H m s (Gap first before ∷ items) = ⊥
-AreRecords H m s (Logged shown entry ∷ items) =
-    (shown ≡ sequence_number s) × Holds m s × IsEntry H s entry × AreRecords H m (s + 1) items
-
--- one batch: entries held at the moment, at least one. If they don't begin at s, a gap comes first: it shows
--- the oldest held as its end, and is just so long
-abbrev pub IsBatch : History → Moment → ℕ → List Item → Type 0
-IsBatch H m s [] = ⊥
-IsBatch H m s (Gap first before ∷ items) =
-    (first ≡ sequence_number s) × (before ≡ sequence_number m.oldest) × (0 < distance first before)
-    × (s + distance first before ≡ m.oldest) × (0 < length items) × AreRecords H m m.oldest items
-IsBatch H m s (Logged shown entry ∷ items) = AreRecords H m s (Logged shown entry ∷ items)
 
 -- no entry of these hundred numbers is held
 abbrev pub NoneOfHundred : ℕ → Moment → Type 0
@@ -61,7 +37,7 @@ base w s m = if w.fresh then m.oldest else s
 -- one answer and what the walk makes of it
 abbrev pub IsTurn : ℕ → History → Moment → ℕ → WalkPlace → Progress → WalkPlace → Type 0
 IsTurn r H m s w (BatchOf b) after =
-    (t : ℕ) × IsBatch H m (base w s m) (items_in b) × Covers (base w s m) (items_in b) t
+    (t : ℕ) × Brings H m (base w s m) (items_in b) t × (0 < length (items_in b))
     × (after ≡ record { log = w.log; next = sequence_number t; fresh = false; asks_oldest = false })
     × (items_in b ≡ whole_reply r H m w.asks_oldest (base w s m))
 IsTurn r H m s w AskOldest after =

@@ -1,13 +1,13 @@
 -- What a walk asks, and what it makes of an answer.
 use Rattle.std.specs.Prelude.{◌≡◌, ℕ, Bool, true, false, ◌+◌, nat_lt, nat_le, not, ◌&&◌, ◌||◌, ◌==◌, if◌then◌else◌}
-use Rattle.std.specs.Prelude.{Option, Some, None, Result, Ok, Err, List, [], ◌∷◌, ◌++◌, length, map, pos}
+use Rattle.std.specs.Prelude.{Option, Some, None, Result, Ok, Err, List, [], ◌∷◌, ◌++◌, length, map}
 use Rattle.bac_apdu.specs.declared.service.extent.Extent.{Extent}
-use Rattle.bac_apdu.specs.declared.service.extent.Extent.TheVariants.{ByNumber, ByTime}
 use Rattle.bac_log.specs.declared.entry.Entry.{Entry}
 use Rattle.bac_log.specs.TrendLog.{sequence_number}
-use Rattle.bac_walk.specs.Replies.{Wanted, FromOrdinal, FromOldest, first_date, first_time}
-use Rattle.bac_walk.specs.Heard.{AckParameters}
-use Rattle.bac_walk.specs.Ordinals.{is_number, distance, number_after, is_ahead}
+use Rattle.bac_link.specs.Standard.{Asked, FromNumber, FromOldest as FromTheOldest, extent_asked}
+use Rattle.bac_walk.specs.Replies.{Wanted, FromOrdinal, FromOldest}
+use Rattle.bac_link.specs.Heard.{AckParameters}
+use Rattle.bac_link.specs.Ordinals.{is_number, distance, number_after, is_ahead}
 use Rattle.bac_link.specs.declared.item.Item.{Item}
 use Rattle.bac_link.specs.declared.item.Item.TheVariants.{Gap, Logged}
 use Rattle.bac_walk.specs.Place.{WalkPlace}
@@ -22,12 +22,15 @@ use Rattle.bac_walk.specs.declared.outcome.Progress.TheVariants.{Batch as BatchO
 abbrev pub asks_oldest_now : WalkPlace → Bool
 asks_oldest_now w = w.fresh || w.asks_oldest
 
--- the extent that is asked for: a hundred from the next number on, or a hundred from the oldest on, as those newer than
--- 1900-01-01T00:00:00.00
-abbrev pub question_of : WalkPlace → Extent
-question_of w = if asks_oldest_now w then ByTime first_date first_time (pos 100) else ByNumber w.next (pos 100)
+-- what a walk that is here asks for
+abbrev pub asked_by : WalkPlace → Asked
+asked_by w = if asks_oldest_now w then FromTheOldest else FromNumber w.next
 
--- what that is when the walk is at ordinal s
+-- the extent of that
+abbrev pub question_of : WalkPlace → Extent
+question_of w = extent_asked (asked_by w)
+
+-- what is asked for when the walk is at ordinal s
 abbrev pub wanted_at : WalkPlace → ℕ → Wanted
 wanted_at w s = if asks_oldest_now w then FromOldest else FromOrdinal s
 

@@ -6,7 +6,8 @@ ghost use Rattle.bac_link.specs.Delivery.{History, Moment, DeliversTo};
 ghost use Rattle.bac_link.specs.Path.{towards};
 ghost use Rattle.bac_link.specs.Laws.{after_answers};
 ghost use Rattle.bac_walk.specs.declared.outcome.Ended.{Ended as EndedOf};
-ghost use Rattle.bac_walk.specs.Near.{AreInWindow, IsNear, StaysNear};
+ghost use Rattle.bac_link.specs.Moments.{AreInWindow};
+ghost use Rattle.bac_walk.specs.Near.{IsNear, StaysNear};
 ghost use Rattle.bac_walk.specs.Sinks.{IsRun};
 ghost use Rattle.bac_walk.specs.Collects.{MissingWhy};
 ghost use Rattle.bac_walk.specs.Kept.{IsKept};
@@ -14,7 +15,7 @@ ghost use Rattle.bac_walk.specs.Outcomes.{IsRunOf};
 ghost use Rattle.bac_walk.specs.Rests.{rest, Rests, Misses};
 ghost use Rattle.bac_walk.specs.Told.{Told, ended_of};
 ghost use Rattle.bac_walk.specs.Came.{Came, Brought};
-ghost use Rattle.bac_walk.specs.Spoken.{DeliversSaid};
+ghost use Rattle.bac_walk.specs.Honest.{DeliversSaid};
 
 use crate::batch::{Gap, Numbered};
 use crate::outcome::{Ended, Outcome, Why};
@@ -85,34 +86,35 @@ pub fn collect<L: LogLink>(
     ensures brought { (n : ℕ) × (ended : EndedOf) × IsRunOf result.why steps n ended
         × ((came : List Came) × Brought L.asks (towards transactions.old.route) transactions.old.retries link.old walk.old n came
         result.items.items ended walk.new link.new) }
-    // Over an honest link it delivers the records from its number on that the log holds when each
-    // is reached, each once, in rising order, with one exact gap for what is gone. The number is
-    // that of ordinal s; it and all moments lie within half of the count from one ordinal on.
-    ensures headline { (r : ℕ) (M : List Moment) (H : History) (s low : ℕ) →
-        L.is_honest link.old walk.old.log r M H → walk.old.next ≡ sequence_number s →
+    // The headline: over a link that is honest for the log, whatever records it holds and however it
+    // encodes them, it delivers the records from its number on that the log holds when each is
+    // reached, each once, in rising order, with one exact gap for what is gone; and the only fault
+    // is a loss. The number is that of ordinal s; it and all moments lie within half of the count
+    // from one ordinal on.
+    ensures headline { DeliversSaid L.asks (towards transactions.old.route) link.old walk.old result.items.items (ended_of result.why) walk.new link.new }
+    // Over a link of ours it does so too, and the link is ours still, at the moments that are left.
+    ensures ours { (r : ℕ) (M : List Moment) (H : History) (s low : ℕ) →
+        L.is_ours link.old walk.old.log r M H → walk.old.next ≡ sequence_number s →
         AreInWindow low M → (walk.old.fresh ≡ false → (low ≤ s) × (s < low + 2147483648)) →
         (b : ℕ) × (a : ℕ) × (t : ℕ) × (walk.old.fresh ≡ false → b ≡ s) × (walk.new.next ≡ sequence_number t)
-        × DeliversTo H b result.items.items t M a × L.is_honest link.new walk.old.log r (after_answers a M) H }
+        × DeliversTo H b result.items.items t M a × L.is_ours link.new walk.old.log r (after_answers a M) H }
     // So it does if the walk is near its log wherever these steps bring it: less than half of the
     // count away from the oldest record held.
     ensures near { (r : ℕ) (M : List Moment) (H : History) (s : ℕ) →
-        L.is_honest link.old walk.old.log r M H → walk.old.next ≡ sequence_number s →
+        L.is_ours link.old walk.old.log r M H → walk.old.next ≡ sequence_number s →
         StaysNear r H M walk.old.fresh s steps →
         (b : ℕ) × (a : ℕ) × (t : ℕ) × (walk.old.fresh ≡ false → b ≡ s) × (walk.new.next ≡ sequence_number t)
-        × DeliversTo H b result.items.items t M a × L.is_honest link.new walk.old.log r (after_answers a M) H }
-    // So it does over a link that speaks for the log by the standard, whatever records it holds and
-    // however it encodes them; and the only fault is then a loss.
-    ensures said { DeliversSaid L.asks (towards transactions.old.route) link.old walk.old result.items.items (ended_of result.why) walk.new link.new }
+        × DeliversTo H b result.items.items t M a × L.is_ours link.new walk.old.log r (after_answers a M) H }
     // It is a run of so many steps, or of fewer that had no memory for the next, of which nothing
-    // was asked: over any link, and over an honest one with all that its answers brought and how it
+    // was asked: over any link, and over one of ours with all that its answers brought and how it
     // ended.
     ensures delivers { (n : ℕ) × (ended : EndedOf) × IsRunOf result.why steps n ended
-        × IsRun (λ r M H. L.is_honest link.old walk.old.log r M H) (λ r M H. L.is_honest link.new walk.old.log r M H)
+        × IsRun (λ r M H. L.is_ours link.old walk.old.log r M H) (λ r M H. L.is_ours link.new walk.old.log r M H)
         transactions.old.retries (L.failures link.old) (L.failures link.new) walk.old walk.new n ended result.items.items
         × (length result.items.items ≤ 101 * n) × (transactions.new.begun ≤ transactions.old.begun + 2 * n) }
     // Over a link that loses nothing, of a log that doesn't change, or that the link lacks.
     ensures resting { (r : ℕ) (m : Moment) (H : History) (s : ℕ) →
-        L.is_sure link.old (towards transactions.old.route) → L.is_honest link.old walk.old.log r (m ∷ []) H → walk.old.next ≡ sequence_number s →
+        L.is_sure link.old (towards transactions.old.route) → L.is_ours link.old walk.old.log r (m ∷ []) H → walk.old.next ≡ sequence_number s →
         (walk.old.fresh ≡ false → IsNear s m) →
         Rests (rest r H m walk.old.fresh s steps) steps result.items.items result.next result.why }
     ensures missing { L.lacks link.old walk.old.log → L.is_sure link.old (towards transactions.old.route) →

@@ -2,6 +2,7 @@
 ghost use Rattle.std.specs.Prelude.{◌≡◌, ℕ, List};
 ghost use Rattle.bac_wire.specs.Primitive.{Id};
 ghost use Rattle.bac_link.specs.Delivery.{History, Moment};
+ghost use Rattle.bac_link.specs.Honest.{IsHonest};
 ghost use Rattle.bac_link.specs.Path.{Path};
 ghost use Rattle.bac_walk.specs.Came.{BroughtIsDelivered, CameIsDelivered, LostIsAsked, NothingCame, OwnIsSaid, SaidIsTaken};
 ghost use Rattle.bac_walk.specs.Flaws.{BadRepliesHaveFlaws, FlawsAreRefused};
@@ -10,8 +11,8 @@ ghost use Rattle.bac_walk.specs.Meant.{SaidMeans};
 ghost use Rattle.bac_walk.specs.Near.{StaysInWindow, WindowsAreNear};
 ghost use Rattle.bac_walk.specs.Rests.{RestsAll, RestResumes};
 ghost use Rattle.bac_walk.specs.Runs.{CollectedIsDelivered, RunsDeliver, RunsJoin};
-ghost use Rattle.bac_walk.specs.Spoken.{HonestSpeaks, MomentsNeverGoBack, NumbersHaveOrdinals, RepliesAreLoggable};
-ghost use Rattle.bac_walk.specs.Spoken.{Speaks, SpeaksFor, SpeaksWhereItStands, SpokenIsDelivered};
+ghost use Rattle.bac_walk.specs.Honest.{OursAreHonest, MomentsNeverGoBack, NumbersHaveOrdinals, RepliesAreLoggable};
+ghost use Rattle.bac_walk.specs.Honest.{HonestIsDelivered};
 
 use bac_link::LogLink;
 
@@ -45,15 +46,15 @@ pub fn collected_is_delivered()
     ensures { CollectedIsDelivered }
 {}
 
-/// Over every link: what a run brought while the link was honest is delivered.
+/// Over every link: what a run brought while the link was ours is delivered.
 pub fn runs_deliver<L: LogLink>()
-    ensures { RunsDeliver (λ link id r M H. L.is_honest link id r M H) }
+    ensures { RunsDeliver (λ link id r M H. L.is_ours link id r M H) }
 {}
 
 /// Over every link: a run whose steps were all whole, and one that goes on from where it ended, are
 /// together one run of as many steps, which brought what both brought.
 pub fn runs_join<L: LogLink>()
-    ensures { RunsJoin (λ link id r M H. L.is_honest link id r M H) }
+    ensures { RunsJoin (λ link id r M H. L.is_ours link id r M H) }
 {}
 
 /// A reply of our own device is one by the standard.
@@ -105,35 +106,26 @@ pub fn nothing_came<L: LogLink>()
     ensures { NothingCame L.asks }
 {}
 
-/// Over a link that speaks for the log of a walk, from any moments on, at those that any function
-/// tells of it, or at those at which it is honest: a run delivers what the log holds when each reply
+/// Over a link that is honest for the log of a walk, from any moments on, at those that a function
+/// tells of it, or at those at which it is ours: a run delivers what the log holds when each reply
 /// is given, and ends with no fault but a loss.
-pub fn spoken_is_delivered<L: LogLink>()
-    ensures told { (moments : L → List Moment) → SpokenIsDelivered L.asks (λ link M. moments link ≡ M) }
-    ensures honest { (log : Id) (r : ℕ) (H : History) → SpokenIsDelivered L.asks (λ link M. L.is_honest link log r M H) }
-    ensures speaking { (path : Path) (log : Id) (H : History) (low : ℕ) → SpokenIsDelivered L.asks (λ link M. Speaks L.asks path log H low link M) }
+pub fn honest_is_delivered<L: LogLink>()
+    ensures told { (moments : L → List Moment) → HonestIsDelivered L.asks (λ link M. moments link ≡ M) }
+    ensures ours { (log : Id) (r : ℕ) (H : History) → HonestIsDelivered L.asks (λ link M. L.is_ours link log r M H) }
+    ensures honest { (path : Path) (log : Id) (H : History) (low : ℕ) → HonestIsDelivered L.asks (λ link M. IsHonest L.asks path log H low link M) }
 {}
 
-/// Where each ask is answered by the standard a link speaks, as long as it is asked: from the moments
-/// on that any function tells of it, or at which it is honest. And where it speaks each ask is so
-/// answered.
-pub fn links_speak<L: LogLink>()
-    ensures told { (moments : L → List Moment) → SpeaksWhereItStands L.asks (λ link M. moments link ≡ M) }
-    ensures honest { (log : Id) (r : ℕ) (H : History) → SpeaksWhereItStands L.asks (λ link M. L.is_honest link log r M H) }
-    ensures goes_on { (path : Path) (log : Id) (H : History) (low : ℕ) → SpeaksFor L.asks path log H low (λ link M. Speaks L.asks path log H low link M) }
+/// A link is honest for each log for which it is ours.
+pub fn ours_are_honest<L: LogLink>()
+    ensures { OursAreHonest L.asks (λ link id r M H. L.is_ours link id r M H) }
 {}
 
-/// A link speaks for each log for which it is honest.
-pub fn honest_speaks<L: LogLink>()
-    ensures { HonestSpeaks L.asks (λ link id r M H. L.is_honest link id r M H) }
-{}
-
-/// Over an honest link that brought a reply, all that its log holds at the next moment is loggable.
+/// Over a link of ours that brought a reply, all that its log holds at the next moment is loggable.
 pub fn replies_are_loggable<L: LogLink>()
-    ensures { RepliesAreLoggable L.asks (λ link id r M H. L.is_honest link id r M H) }
+    ensures { RepliesAreLoggable L.asks (λ link id r M H. L.is_ours link id r M H) }
 {}
 
-/// The moments of an honest link never go back.
+/// The moments of a link of ours never go back.
 pub fn moments_never_go_back()
     ensures { MomentsNeverGoBack }
 {}

@@ -4,7 +4,7 @@
 //! A [`Walk`] is a place in a log. It asks for the records from its next number on, and if none of
 //! them is held, for the oldest ([`Walk::question`], [`Walk::take`], [`Walk::step`]). [`deliver`]
 //! puts record after record into a [`Sink`], with a gap before each that doesn't follow its
-//! predecessor; [`collect`] keeps them. Over an honest link they deliver exactly the records that
+//! predecessor; [`collect`] keeps them. Over a link of ours they deliver exactly the records that
 //! the log holds when each is reached, each once, in rising order.
 #![tactic(auto)]
 
@@ -20,15 +20,16 @@ mod sink;
 mod step;
 mod walk;
 
+pub use bac_link::links_are_honest;
 pub use batch::{Batch, Gap, Numbered};
 pub use flaw::ReplyFlaw;
 pub use kept::collect;
 pub use laws::{
     bad_replies_have_flaws, brought_goes_on, brought_is_delivered, brought_tells_why,
-    came_is_delivered, collected_is_delivered, flaws_are_refused, honest_speaks, links_speak,
-    lost_is_asked, moments_never_go_back, nothing_came, numbers_have_ordinals, own_is_said,
-    replies_are_loggable, rest_resumes, rests_all, runs_deliver, runs_join,
-    runs_stay_in_their_window, said_is_taken, said_means, spoken_is_delivered, windows_are_near,
+    came_is_delivered, collected_is_delivered, flaws_are_refused, honest_is_delivered,
+    lost_is_asked, moments_never_go_back, nothing_came, numbers_have_ordinals, ours_are_honest,
+    own_is_said, replies_are_loggable, rest_resumes, rests_all, runs_deliver, runs_join,
+    runs_stay_in_their_window, said_is_taken, said_means, windows_are_near,
 };
 pub use outcome::{BadReply, Ended, Outcome, Progress, Step, WalkFault, Why};
 pub use resume::stop_and_resume;

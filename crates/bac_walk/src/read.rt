@@ -2,10 +2,10 @@
 ghost use Rattle.std.specs.Prelude.{◌≡◌};
 ghost use Rattle.bac_wire.specs.OptionChain.{GivesSome};
 ghost use Rattle.bac_link.specs.Datagrams.{apdu_in};
-ghost use Rattle.bac_walk.specs.Takes.{parameters_in};
+ghost use Rattle.bac_link.specs.Heard.{parameters_in};
 ghost use Rattle.std.specs.Result.{result_ok};
 ghost use Rattle.bac_log.specs.RecordReading.{entry_at};
-ghost use Rattle.bac_walk.specs.Heard.{is_of_log, records_in, same_id};
+ghost use Rattle.bac_link.specs.Heard.{is_of_log, records_in, same_id};
 ghost use Rattle.bac_walk.specs.Reads.{IsCounted, IsSaid};
 ghost use Rattle.bac_walk.specs.Spelled.{LiesAt, data_held, data_in};
 ghost use Rattle.bac_apdu.specs.Service.ReadRangeAck.{range_ack_of};

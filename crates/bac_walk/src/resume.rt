@@ -6,9 +6,9 @@ ghost use Rattle.bac_link.specs.Delivery.{History, Moment, DeliversTo};
 ghost use Rattle.bac_link.specs.Path.{towards};
 ghost use Rattle.bac_walk.specs.Came.{BroughtInto};
 ghost use Rattle.bac_walk.specs.Place.{WalkPlace, walk_at};
-ghost use Rattle.bac_walk.specs.Near.{AreInWindow};
+ghost use Rattle.bac_link.specs.Moments.{AreInWindow};
 ghost use Rattle.bac_walk.specs.Sinks.{Call, Takes, put_items, is_stopped};
-ghost use Rattle.bac_walk.specs.Spoken.{DeliversSaid};
+ghost use Rattle.bac_walk.specs.Honest.{DeliversSaid};
 
 use crate::outcome::Ended;
 use crate::sink::{Sink, deliver};
@@ -16,7 +16,7 @@ use crate::walk::Walk;
 use bac_link::{LogLink, Transactions};
 
 /// A walk into one sink, and a new walk from the number where it ended into another. Over any link a
-/// walk that ends at its step limit put a record at least for each step; over an honest one, all of
+/// walk that ends at its step limit put a record at least for each step; over one of ours, all of
 /// whose moments lie within half of the count, the two together deliver as one.
 pub fn stop_and_resume<L: LogLink, S: Sink, R: Sink>(
     link: &mut L,
@@ -31,12 +31,12 @@ pub fn stop_and_resume<L: LogLink, S: Sink, R: Sink>(
         × Takes S.puts sink.old first (is_stopped result.0) sink.new × Takes R.puts rest.old second (is_stopped result.1) rest.new
         × (result.0 ≡ Ended.StepLimit → steps ≤ length first) × (result.1 ≡ Ended.StepLimit → more ≤ length second)
         × ((r : ℕ) (M : List Moment) (H : History) (s low : ℕ) →
-        walk.old.fresh ≡ false → L.is_honest link.old walk.old.log r M H → walk.old.next ≡ sequence_number s →
+        walk.old.fresh ≡ false → L.is_ours link.old walk.old.log r M H → walk.old.next ≡ sequence_number s →
         AreInWindow low M → low ≤ s → s < low + 2147483648 →
         (a : ℕ) × (t : ℕ) × (walk.new.next ≡ sequence_number t) × DeliversTo H s (put_items first ++ put_items second) t M a) }
-    // So do they over a link that speaks for the log by the standard, unless the first walk was one
+    // So do they over a link that is honest for the log, unless the first walk was one
     // from the oldest record.
-    ensures said { walk.old.fresh ≡ false → (first : List Call) × (second : List Call)
+    ensures headline { walk.old.fresh ≡ false → (first : List Call) × (second : List Call)
         × Takes S.puts sink.old first (is_stopped result.0) sink.new × Takes R.puts rest.old second (is_stopped result.1) rest.new
         × DeliversSaid L.asks (towards transactions.old.route) link.old walk.old (put_items first ++ put_items second) result.1 walk.new link.new }
     // Over any link: what came to the first walk, and to the second, which began at the number, and

@@ -14,7 +14,7 @@ ghost use Rattle.bac_walk.specs.Spelled.{IsWhole, records_from};
 ghost use Rattle.bac_walk.specs.Collects.{FoundEnd, MissingEnd};
 ghost use Rattle.bac_walk.specs.Told.{Told};
 ghost use Rattle.bac_walk.specs.Came.{BroughtInto};
-ghost use Rattle.bac_walk.specs.Spoken.{DeliversSaid};
+ghost use Rattle.bac_walk.specs.Honest.{DeliversSaid};
 
 use crate::batch::{Gap, Numbered};
 use crate::outcome::{Ended, WalkFault};
@@ -59,28 +59,29 @@ pub fn deliver<L: LogLink, S: Sink>(
     ensures told { Told L.asks (towards transactions.old.route) transactions.old.retries result walk.new link.new }
     // Over any link: what came, and that what is put is what these replies brought.
     ensures brought { BroughtInto L.asks (towards transactions.old.route) transactions.old.retries S.puts link.old sink.old walk.old steps result walk.new sink.new link.new }
-    // Over an honest link it delivers the records from its number on that the log holds when each
-    // is reached, each once, in rising order, with one exact gap for what is gone.
+    // The headline: over a link that is honest for the log, whatever records it holds and however it
+    // encodes them, it delivers the records from its number on that the log holds when each is
+    // reached, each once, in rising order, with one exact gap for what is gone; and the only fault
+    // is a loss.
     ensures headline { (calls : List Call) × Takes S.puts sink.old calls (is_stopped result) sink.new
-        × IsDelivered (λ r M H. L.is_honest link.old walk.old.log r M H) (λ r M H. L.is_honest link.new walk.old.log r M H)
+        × DeliversSaid L.asks (towards transactions.old.route) link.old walk.old (put_items calls) result walk.new link.new }
+    // Over a link of ours it does so too, and the link is ours still, at the moments that are left.
+    ensures ours { (calls : List Call) × Takes S.puts sink.old calls (is_stopped result) sink.new
+        × IsDelivered (λ r M H. L.is_ours link.old walk.old.log r M H) (λ r M H. L.is_ours link.new walk.old.log r M H)
         walk.old walk.new (put_items calls) }
     // So it does if the walk is near its log wherever these steps bring it.
     ensures near { (calls : List Call) × Takes S.puts sink.old calls (is_stopped result) sink.new
-        × IsDeliveredNear (λ r M H. L.is_honest link.old walk.old.log r M H) (λ r M H. L.is_honest link.new walk.old.log r M H)
+        × IsDeliveredNear (λ r M H. L.is_ours link.old walk.old.log r M H) (λ r M H. L.is_ours link.new walk.old.log r M H)
         walk.old walk.new steps (put_items calls) }
-    // So it does over a link that speaks for the log by the standard, whatever records it holds and
-    // however it encodes them; and the only fault is then a loss.
-    ensures said { (calls : List Call) × Takes S.puts sink.old calls (is_stopped result) sink.new
-        × DeliversSaid L.asks (towards transactions.old.route) link.old walk.old (put_items calls) result walk.new link.new }
     // It is a run of so many steps, with all that its answers brought and how it ended.
     ensures delivers { Delivery S.puts sink.old sink.new
-        (λ r M H. L.is_honest link.old walk.old.log r M H) (λ r M H. L.is_honest link.new walk.old.log r M H)
+        (λ r M H. L.is_ours link.old walk.old.log r M H) (λ r M H. L.is_ours link.new walk.old.log r M H)
         transactions.old.retries (L.failures link.old) (L.failures link.new) walk.old walk.new steps result }
     // Over a link that loses nothing, nothing is lost, and asking changes nothing.
     ensures sure { L.is_sure link.old (towards transactions.old.route) → L.is_sure link.new (towards transactions.new.route) }
     ensures kept { L.is_sure link.old (towards transactions.old.route) → L.keeps link.old link.new }
     ensures answered { (r : ℕ) (M : List Moment) (H : History) (s : ℕ) →
-        L.is_sure link.old (towards transactions.old.route) → L.is_honest link.old walk.old.log r M H → walk.old.next ≡ sequence_number s →
+        L.is_sure link.old (towards transactions.old.route) → L.is_ours link.old walk.old.log r M H → walk.old.next ≡ sequence_number s →
         StaysNear r H M walk.old.fresh s steps → FoundEnd result }
     // A device without the log says so.
     ensures lacking { L.lacks link.old walk.old.log →
@@ -111,12 +112,12 @@ fn deliver_step<L: LogLink, S: Sink>(
     ensures told { Told L.asks (towards transactions.old.route) transactions.old.retries result walk.new link.new }
     ensures brought { BroughtInto L.asks (towards transactions.old.route) transactions.old.retries S.puts link.old sink.old walk.old 1 result walk.new sink.new link.new }
     ensures delivers { Delivery S.puts sink.old sink.new
-        (λ r M H. L.is_honest link.old walk.old.log r M H) (λ r M H. L.is_honest link.new walk.old.log r M H)
+        (λ r M H. L.is_ours link.old walk.old.log r M H) (λ r M H. L.is_ours link.new walk.old.log r M H)
         transactions.old.retries (L.failures link.old) (L.failures link.new) walk.old walk.new 1 result }
     ensures sure { L.is_sure link.old (towards transactions.old.route) → L.is_sure link.new (towards transactions.new.route) }
     ensures kept { L.is_sure link.old (towards transactions.old.route) → L.keeps link.old link.new }
     ensures answered { (r : ℕ) (M : List Moment) (H : History) (s : ℕ) →
-        L.is_sure link.old (towards transactions.old.route) → L.is_honest link.old walk.old.log r M H → walk.old.next ≡ sequence_number s →
+        L.is_sure link.old (towards transactions.old.route) → L.is_ours link.old walk.old.log r M H → walk.old.next ≡ sequence_number s →
         StaysNear r H M walk.old.fresh s 1 → FoundEnd result }
     ensures lacking { L.lacks link.old walk.old.log →
         MissingEnd 1 result × (sink.new ≡ sink.old) × (walk.new.next ≡ walk.old.next) × L.lacks link.new walk.old.log }

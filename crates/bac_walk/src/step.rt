@@ -9,11 +9,12 @@ ghost use Rattle.bac_walk.specs.Near.{IsNear, IsNearStep};
 ghost use Rattle.bac_walk.specs.Turned.{IsTurned};
 ghost use Rattle.bac_walk.specs.Rests.{rest, IsRest};
 ghost use Rattle.bac_log.specs.TrendLog.{sequence_number};
-ghost use Rattle.bac_walk.specs.Replied.{IsSame, heard_in, progress_of, step_of};
+ghost use Rattle.bac_link.specs.Heard.{heard_in};
+ghost use Rattle.bac_walk.specs.Replied.{IsSame, progress_of, step_of};
 ghost use Rattle.bac_walk.specs.Spelled.{data_held, records_from};
 ghost use Rattle.bac_walk.specs.Told.{Told, ToldTurn};
 ghost use Rattle.bac_walk.specs.Came.{Came, CameTurn, Brought};
-ghost use Rattle.bac_walk.specs.Spoken.{DeliversSaid};
+ghost use Rattle.bac_walk.specs.Honest.{DeliversSaid};
 ghost use Rattle.bac_walk.specs.Walks.{IsTakenFrom};
 
 use crate::batch::Batch;
@@ -64,15 +65,15 @@ impl Walk {
         ensures sure { L.is_sure link.old (towards transactions.old.route) → L.is_sure link.new (towards transactions.new.route) }
         ensures kept { L.is_sure link.old (towards transactions.old.route) → L.keeps link.old link.new }
         ensures answered { (r : ℕ) (M : List Moment) (H : History) →
-            L.is_sure link.old (towards transactions.old.route) → L.is_honest link.old self.old.log r M H → FoundTurn (progress_of result) }
+            L.is_sure link.old (towards transactions.old.route) → L.is_ours link.old self.old.log r M H → FoundTurn (progress_of result) }
         ensures lacking { L.lacks link.old self.old.log →
             MissingTurn (progress_of result) × L.lacks link.new self.old.log × (L.is_sure link.old (towards transactions.old.route) → FoundTurn (progress_of result)) }
         ensures told { ToldTurn L.asks (towards transactions.old.route) transactions.old.retries self.old (progress_of result) self.new link.new }
         ensures came { CameTurn L.asks (towards transactions.old.route) transactions.old.retries link.old self.old (progress_of result) self.new link.new }
         ensures goes { (s : ℕ) → Goes self.old.fresh self.old.next s (turn_items (progress_of result)) self.new.fresh self.new.next }
-        ensures honest { (r : ℕ) (M : List Moment) (H : History) (s : ℕ) →
-            L.is_honest link.old self.old.log r M H → self.old.next ≡ sequence_number s → (self.old.fresh ≡ false → IsNear s (now M)) →
-            IsTurned (λ N. L.is_honest link.new self.old.log r N H) r M H s self.old
+        ensures ours { (r : ℕ) (M : List Moment) (H : History) (s : ℕ) →
+            L.is_ours link.old self.old.log r M H → self.old.next ≡ sequence_number s → (self.old.fresh ≡ false → IsNear s (now M)) →
+            IsTurned (λ N. L.is_ours link.new self.old.log r N H) r M H s self.old
             transactions.old.retries (L.failures link.old) (L.failures link.new) (progress_of result) self.new }
     {
         let question = self.question();
@@ -105,11 +106,11 @@ impl Walk {
         ensures sure { L.is_sure link.old (towards transactions.old.route) → L.is_sure link.new (towards transactions.new.route) }
         ensures kept { L.is_sure link.old (towards transactions.old.route) → L.keeps link.old link.new }
         ensures answered { (r : ℕ) (M : List Moment) (H : History) (s : ℕ) →
-            L.is_sure link.old (towards transactions.old.route) → L.is_honest link.old self.old.log r M H → self.old.next ≡ sequence_number s →
+            L.is_sure link.old (towards transactions.old.route) → L.is_ours link.old self.old.log r M H → self.old.next ≡ sequence_number s →
             (self.old.fresh ≡ false → IsNearStep s M) → FoundStep result }
         // Over a log that doesn't change it is one step of a walk of it.
         ensures resting { (r : ℕ) (m : Moment) (H : History) (s : ℕ) →
-            L.is_sure link.old (towards transactions.old.route) → L.is_honest link.old self.old.log r (m ∷ []) H → self.old.next ≡ sequence_number s →
+            L.is_sure link.old (towards transactions.old.route) → L.is_ours link.old self.old.log r (m ∷ []) H → self.old.next ≡ sequence_number s →
             (self.old.fresh ≡ false → IsNear s m) →
             IsRest (rest r H m self.old.fresh s 1) (step_items result) self.new.next (step_ended result) }
         // A device without the log says so.
@@ -122,22 +123,22 @@ impl Walk {
         ensures brought { (came : List Came) × Brought L.asks (towards transactions.old.route) transactions.old.retries link.old self.old 1 came
             (step_items result) (step_ended result) self.new link.new }
         ensures goes { (s : ℕ) → Goes self.old.fresh self.old.next s (step_items result) self.new.fresh self.new.next }
-        // Over an honest link it delivers the next records that the log holds, with the gap before
-        // them.
-        ensures headline { (r : ℕ) (M : List Moment) (H : History) (s : ℕ) →
-            L.is_honest link.old self.old.log r M H → self.old.next ≡ sequence_number s → (self.old.fresh ≡ false → IsNearStep s M) →
+        // So it does over a link of ours, if the walk is near at each answer.
+        ensures near { (r : ℕ) (M : List Moment) (H : History) (s : ℕ) →
+            L.is_ours link.old self.old.log r M H → self.old.next ≡ sequence_number s → (self.old.fresh ≡ false → IsNearStep s M) →
             (b : ℕ) × (a : ℕ) × (t : ℕ) × (self.old.fresh ≡ false → b ≡ s) × (self.new.next ≡ sequence_number t)
-            × DeliversTo H b (step_items result) t M a × L.is_honest link.new self.old.log r (after_answers a M) H }
-        // So it does over a link that speaks for the log by the standard.
-        ensures said { DeliversSaid L.asks (towards transactions.old.route) link.old self.old (step_items result) (step_ended result) self.new link.new }
+            × DeliversTo H b (step_items result) t M a × L.is_ours link.new self.old.log r (after_answers a M) H }
+        // Over a link that is honest for the log it delivers the next records that the log holds,
+        // with the gap before them.
+        ensures headline { DeliversSaid L.asks (towards transactions.old.route) link.old self.old (step_items result) (step_ended result) self.new link.new }
         // The walk is at ordinal s before the step, near its log, and at t after it.
-        ensures honest { (r : ℕ) (M : List Moment) (H : History) (s : ℕ) →
-            L.is_honest link.old self.old.log r M H → self.old.next ≡ sequence_number s → (self.old.fresh ≡ false → IsNearStep s M) →
+        ensures ours { (r : ℕ) (M : List Moment) (H : History) (s : ℕ) →
+            L.is_ours link.old self.old.log r M H → self.old.next ≡ sequence_number s → (self.old.fresh ≡ false → IsNearStep s M) →
             (answers : List (List Item)) × (t : ℕ) × (self.new.next ≡ sequence_number t)
             × Collected r H M self.old.fresh s 1
             transactions.old.retries (L.failures link.old) (L.failures link.new)
             (step_items result) t (step_ended result) answers
-            × L.is_honest link.new self.old.log r (after_answers (length answers) M) H
+            × L.is_ours link.new self.old.log r (after_answers (length answers) M) H
             × (self.new.fresh ≡ is_fresh_after self.old.fresh result) }
     {
         decoded(self.reply(link, transactions))
@@ -158,7 +159,7 @@ impl Walk {
         ensures sure { L.is_sure link.old (towards transactions.old.route) → L.is_sure link.new (towards transactions.new.route) }
         ensures kept { L.is_sure link.old (towards transactions.old.route) → L.keeps link.old link.new }
         ensures answered { (r : ℕ) (M : List Moment) (H : History) (s : ℕ) →
-            L.is_sure link.old (towards transactions.old.route) → L.is_honest link.old self.old.log r M H → self.old.next ≡ sequence_number s →
+            L.is_sure link.old (towards transactions.old.route) → L.is_ours link.old self.old.log r M H → self.old.next ≡ sequence_number s →
             (self.old.fresh ≡ false → IsNearStep s M) → FoundStep (step_of result) }
         ensures lacking { L.lacks link.old self.old.log → MissingStep (step_of result) × L.lacks link.new self.old.log }
         ensures refused { L.lacks link.old self.old.log → L.is_sure link.old (towards transactions.old.route) → FoundStep (step_of result) }
@@ -166,13 +167,13 @@ impl Walk {
         ensures brought { (came : List Came) × Brought L.asks (towards transactions.old.route) transactions.old.retries link.old self.old 1 came
             (step_items (step_of result)) (step_ended (step_of result)) self.new link.new }
         ensures goes { (s : ℕ) → Goes self.old.fresh self.old.next s (step_items (step_of result)) self.new.fresh self.new.next }
-        ensures honest { (r : ℕ) (M : List Moment) (H : History) (s : ℕ) →
-            L.is_honest link.old self.old.log r M H → self.old.next ≡ sequence_number s → (self.old.fresh ≡ false → IsNearStep s M) →
+        ensures ours { (r : ℕ) (M : List Moment) (H : History) (s : ℕ) →
+            L.is_ours link.old self.old.log r M H → self.old.next ≡ sequence_number s → (self.old.fresh ≡ false → IsNearStep s M) →
             (answers : List (List Item)) × (t : ℕ) × (self.new.next ≡ sequence_number t)
             × Collected r H M self.old.fresh s 1
             transactions.old.retries (L.failures link.old) (L.failures link.new)
             (step_items (step_of result)) t (step_ended (step_of result)) answers
-            × L.is_honest link.new self.old.log r (after_answers (length answers) M) H
+            × L.is_ours link.new self.old.log r (after_answers (length answers) M) H
             × (self.new.fresh ≡ is_fresh_after self.old.fresh (step_of result)) }
     {
         self.restart();

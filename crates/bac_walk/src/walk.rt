@@ -1,9 +1,9 @@
 //! A walk of a log: which question comes next, and what an answer brings.
 ghost use Rattle.std.specs.Prelude.{ℕ, ◌≡◌, ◌+◌, ◌^◌, ◌<◌, ◌≤◌, ◌↔◌, true, false, length, IfSome, IsSome};
-ghost use Rattle.bac_walk.specs.Heard.{heard_at};
+ghost use Rattle.bac_link.specs.Heard.{heard_at};
 ghost use Rattle.bac_link.specs.Links.{AsksFor};
 ghost use Rattle.bac_link.specs.Requests.{IsTooLong};
-ghost use Rattle.bac_walk.specs.Ordinals.{distance, number_after, is_ahead};
+ghost use Rattle.bac_link.specs.Ordinals.{distance, number_after, is_ahead};
 ghost use Rattle.bac_walk.specs.Place.{WalkPlace, IsWalk, walk_at, walk_from_oldest};
 ghost use Rattle.bac_walk.specs.Walks.{asks_oldest_now, question_of, is_past, fits, gap_items, gap_of, IsTakenFrom};
 ghost use Rattle.bac_walk.specs.Replied.{IsJudged};

@@ -22,12 +22,12 @@ use Rattle.bac_link.specs.Path.{towards}
 use Rattle.bac_link.specs.Requests.{request_octets}
 use Rattle.bac_link.proofs.Datagrams.{request_again}
 use Rattle.bac_link.proofs.Verdicts.{question_short}
-use Rattle.bac_walk.specs.Heard.{AckParameters}
+use Rattle.bac_link.specs.Heard.{AckParameters}
 use Rattle.bac_walk.specs.Replies.{Wanted, extent_of}
 use Rattle.bac_walk.specs.Takes.{Says}
-use Rattle.bac_walk.specs.Replied as replied
+use Rattle.bac_link.specs.Heard as heard
 use Rattle.bac_walk.proofs.Bridge.{IsNearTo}
-use Rattle.bac_walk.proofs.HonestReply.{says_in}
+use Rattle.bac_walk.proofs.OurReply.{says_in}
 use Rattle.bac_direct.specs.Ahead.{IsThere, LiesAhead, history_ahead, log_with, moment_of, moments_ahead, placed, placed_all}
 use Rattle.bac_direct.proofs.Ahead.{ahead_new}
 use Rattle.bac_direct.proofs.Replies.{back_to, log_answered, log_id_is, log_replied}
@@ -104,7 +104,7 @@ served_at rounds H n d here = record {
 }
 
 heard_same : (id : Id) (octets : List ℕ) (o : Option Apdu) (j : ℕ) (parameters : List ℕ) → message_in octets ≡ Some (towards None, Complex false j read_range_service parameters) →
-    replied.heard_in id octets ≡ heard_in id (answer_in (apdu_in octets))
+    heard.heard_in id octets ≡ heard_in id (answer_in (apdu_in octets))
 heard_same id octets o j parameters said = rw said refl
 
 pub says_now : (rounds : ℕ) (H : History) (d : State) (id : Id) (wanted : Wanted) (invoke : ℕ) → id.kind ≡ 20 → IsValid (Object id) → InHistory rounds H id.instance d → IsNearTo wanted (placed rounds (moment_of (log_with d id.instance))) →

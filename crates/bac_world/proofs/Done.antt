@@ -7,13 +7,11 @@ use Rattle.bac_link.specs.declared.item.Item.{Item}
 use Rattle.bac_link.specs.Delivery.{History, Moment, Brings, Leads, items_of}
 use Rattle.bac_link.specs.Laws.{moment_at}
 use Rattle.bac_walk.specs.Collects.{batches, start_of}
-use Rattle.bac_walk.specs.Delivers.{NoneFrom, end_of}
+use Rattle.bac_walk.specs.Delivers.{NoneFrom}
 use Rattle.bac_walk.specs.Near.{IsNear}
 use Rattle.bac_walk.specs.Place.{WalkPlace}
-use Rattle.bac_walk.specs.Turns.{Covers, IsBatch, NoneOfHundred}
+use Rattle.bac_walk.specs.Turns.{NoneOfHundred}
 use Rattle.bac_walk.specs.Walks.{asks_oldest_now}
-use Rattle.bac_walk.proofs.Cuts.{Covers-end, one_answer}
-use Rattle.bac_walk.proofs.Headline.{leads}
 use Rattle.bac_walk.proofs.Came.{or_true}
 use Rattle.std.proofs.Common.{append-nil}
 use Rattle.bac_world.specs.Network.{restarted}
@@ -224,14 +222,6 @@ caught_after H M fresh s began waits done (Some n) k b c w from =
     let lt : c.0 < began = c.3 w in
     (c.0, c.1, c.2, λ w. absurd (cc), c.4, led_before H M fresh s c.1 done c.0 k (b ∷ []) (omega arith) c.5, c.6)
 
--- what one answer brings
-brings : (H : History) (m : Moment) (s t : ℕ) (b : List Item) → IsBatch H m s b → Covers s b t → Brings H m s b t
-brings H m s t b batch covers =
-    let led = leads H (m ∷ []) s (b ∷ []) (one_answer H (m ∷ []) s b batch) in
-    let end : led.0 ≡ t = sym led.2 ∙ ap (λ xs. end_of s xs) (append-nil b) ∙ Covers-end s t b covers in
-    let P : ℕ → Type 0 = λ u. Brings H m s b u in
-    subst P end led.1
-
 start_after : (fresh : Bool) (s : ℕ) (M : List Moment) (done more : List (List Item)) → (fresh ≡ true → 0 < batches done) → start_of fresh s M (done ++ more) ≡ start_of fresh s M done
 start_after false s M done more some = refl
 start_after true s M done more some = start_of-more s M done more (some refl)
@@ -240,10 +230,10 @@ start_after true s M done more some = start_of-more s M done more (some refl)
 done_more : (H : History) (M : List Moment) (fresh : Bool) (s began : ℕ) (waits : Bool) (walk after : WalkPlace) (items : List Item) (caught : Option ℕ)
     (done : List (List Item)) (t u p : ℕ) (b : List Item) → DonePart H M fresh s began waits walk items caught done t →
     waits ≡ true → began ≤ p → p < length M → walk.fresh ≡ false → after.fresh ≡ false → after.asks_oldest ≡ false → after.next ≡ sequence_number u →
-    IsBatch H (moment_at M p) t b → Covers t b u →
+    Brings H (moment_at M p) t b u → 0 < length b →
     DonePart H M fresh s began false after (items ++ b) caught (done ++ (idle (p - length done) ++ b ∷ [])) u
-done_more H M fresh s began waits walk after items caught done t u p [] d w from below old f a next batch covers = absurd batch
-done_more H M fresh s began waits walk after items caught done t u p (x ∷ b) d w from below old f a next batch covers =
+done_more H M fresh s began waits walk after items caught done t u p [] d w from below old f a next brings some = absurd (omega arith)
+done_more H M fresh s began waits walk after items caught done t u p (x ∷ b) d w from below old f a next brings some =
     let k = p - length done in
     let place : p ≡ length done + k = omega (arith, d.behind w) in
     let begin = start_of fresh s M done in
@@ -253,7 +243,7 @@ done_more H M fresh s began waits walk after items caught done t u p (x ∷ b) d
     record {
       short = omega (arith, length-after done k (x ∷ b));
       behind = λ w. absurd (cc);
-      led = subst P (sym same) (Leads-after H M begin t k done (x ∷ b) u d.led (subst Q place (brings H (moment_at M p) t u (x ∷ b) batch covers)));
+      led = subst P (sym same) (Leads-after H M begin t k done (x ∷ b) u d.led (subst Q place brings));
       all = items_of-after done k (x ∷ b) ∙ ap (λ l. l ++ x ∷ b) d.all;
       next = next;
       early = λ g. absurd (cc);
@@ -267,16 +257,16 @@ done_more H M fresh s began waits walk after items caught done t u p (x ∷ b) d
 done_first : (H : History) (M : List Moment) (s began : ℕ) (waits : Bool) (walk after : WalkPlace) (caught : Option ℕ) (t u p : ℕ) (b : List Item) →
     DonePart H M true s began waits walk [] caught [] t →
     waits ≡ true → began ≤ p → p < length M → after.fresh ≡ false → after.asks_oldest ≡ false → after.next ≡ sequence_number u →
-    IsBatch H (moment_at M p) (moment_at M p).oldest b → Covers (moment_at M p).oldest b u →
+    Brings H (moment_at M p) (moment_at M p).oldest b u → 0 < length b →
     DonePart H M true s began false after b caught (idle p ++ b ∷ []) u
-done_first H M s began waits walk after caught t u p [] d w from below f a next batch covers = absurd batch
-done_first H M s began waits walk after caught t u p (x ∷ b) d w from below f a next batch covers =
+done_first H M s began waits walk after caught t u p [] d w from below f a next brings some = absurd (omega arith)
+done_first H M s began waits walk after caught t u p (x ∷ b) d w from below f a next brings some =
     let same : start_of true s M (idle p ++ (x ∷ b) ∷ []) ≡ (moment_at M p).oldest = start_of-first s M p x b in
     let P : ℕ → Type 0 = λ n. Leads H M n (idle p ++ (x ∷ b) ∷ []) u in
     record {
       short = omega (arith, length-after [] p (x ∷ b));
       behind = λ w. absurd (cc);
-      led = subst P (sym same) (one_after H M (moment_at M p).oldest p (x ∷ b) u (brings H (moment_at M p) (moment_at M p).oldest u (x ∷ b) batch covers));
+      led = subst P (sym same) (one_after H M (moment_at M p).oldest p (x ∷ b) u brings);
       all = items_of-after [] p (x ∷ b);
       next = next;
       early = λ g. absurd (cc);
@@ -289,11 +279,11 @@ done_first H M s began waits walk after caught t u p (x ∷ b) d w from below f 
 pub done_batch : (H : History) (M : List Moment) (fresh : Bool) (s began : ℕ) (waits : Bool) (walk after : WalkPlace) (items : List Item) (caught : Option ℕ)
     (done : List (List Item)) (t u p : ℕ) (b : List Item) → DonePart H M fresh s began waits walk items caught done t →
     waits ≡ true → began ≤ p → p < length M → (first : Bool) → walk.fresh ≡ first → after.fresh ≡ false → after.asks_oldest ≡ false → after.next ≡ sequence_number u →
-    IsBatch H (moment_at M p) (if first then (moment_at M p).oldest else t) b → Covers (if first then (moment_at M p).oldest else t) b u →
+    Brings H (moment_at M p) (if first then (moment_at M p).oldest else t) b u → 0 < length b →
     (more : List (List Item)) × DonePart H M fresh s began false after (items ++ b) caught more u
-done_batch H M fresh s began waits walk after items caught done t u p b d w from below false is f a next batch covers =
-    (done ++ (idle (p - length done) ++ b ∷ []), done_more H M fresh s began waits walk after items caught done t u p b d w from below is f a next batch covers)
-done_batch H M fresh s began waits walk after items caught done t u p b d w from below true is f a next batch covers =
+done_batch H M fresh s began waits walk after items caught done t u p b d w from below false is f a next brings some =
+    (done ++ (idle (p - length done) ++ b ∷ []), done_more H M fresh s began waits walk after items caught done t u p b d w from below is f a next brings some)
+done_batch H M fresh s began waits walk after items caught done t u p b d w from below true is f a next brings some =
     let early = d.early is in
     let none : items ≡ [] = sym d.all ∙ ap items_of early.1 in
     let P : Bool → Type 0 = λ v. DonePart H M v s began waits walk items caught done t in
@@ -303,7 +293,7 @@ done_batch H M fresh s began waits walk after items caught done t u p b d w from
     let T : List Item → Type 0 = λ l. DonePart H M true s began false after (l ++ b) caught (idle p ++ b ∷ []) u in (
       idle p ++ b ∷ [],
       subst S (sym early.0) (subst T (sym none)
-          (done_first H M s began waits walk after caught t u p b (subst R none (subst Q early.1 (subst P early.0 d))) w from below f a next batch covers)),
+          (done_first H M s began waits walk after caught t u p b (subst R none (subst Q early.1 (subst P early.0 d))) w from below f a next brings some)),
     )
 
 -- ---- all answers of a run

@@ -15,7 +15,7 @@ use Rattle.bac_link.specs.Laws.{moment_at}
 use Rattle.bac_link.specs.Moments.{IsMoment, entries_from}
 use Rattle.bac_link.specs.Transactions.{is_awaited}
 use Rattle.bac_link.specs.declared.transactions.Pending.{Pending}
-use Rattle.bac_walk.specs.Heard.{AckParameters}
+use Rattle.bac_link.specs.Heard.{AckParameters}
 use Rattle.bac_walk.specs.Walks.{NextAct, Bring, Refuse, Ask, End, verdict}
 use Rattle.bac_direct.specs.Ahead.{IsThere, log_with, logged_since, moment_of, placed, turn}
 use Rattle.bac_direct.specs.declared.event.LinkEvent.TheVariants as link

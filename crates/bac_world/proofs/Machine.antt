@@ -8,7 +8,7 @@ use Rattle.bac_link.specs.declared.transactions.Pending.{Pending}
 use Rattle.bac_link.specs.declared.transactions.Transactions.{Transactions}
 use Rattle.bac_link.specs.Datagrams.{answer_in, apdu_in}
 use Rattle.bac_log.specs.declared.entry.Entry.{Entry}
-use Rattle.bac_walk.specs.Heard.{AckParameters}
+use Rattle.bac_link.specs.Heard.{AckParameters}
 use Rattle.bac_walk.specs.Walks.{NextAct, Bring, Refuse, verdict}
 use Rattle.bac_walk.specs.Walks as walks
 use Rattle.bac_world.specs.Machine.{RunsTheClient, beginning, client_events, client_events_all, coming, delivering, sent_of, sent_to, to_device}

@@ -4,14 +4,14 @@ use Rattle.std.proofs.lemmas.Bool.{and_parts}
 use Rattle.bac_link.specs.declared.item.Item.{Item}
 use Rattle.bac_log.specs.declared.entry.Entry.{Entry}
 use Rattle.bac_log.specs.TrendLog.{sequence_number}
-use Rattle.bac_link.specs.Delivery.{History, Moment, now}
+use Rattle.bac_link.specs.Delivery.{History, Moment, now, Brings}
 use Rattle.bac_link.specs.Moments.{AreServed}
 use Rattle.bac_walk.specs.Near.{IsNear}
 use Rattle.bac_walk.specs.Place.{WalkPlace}
-use Rattle.bac_walk.specs.Heard.{AckParameters}
-use Rattle.bac_walk.specs.Ordinals.{distance, number_after}
+use Rattle.bac_link.specs.Heard.{AckParameters}
+use Rattle.bac_link.specs.Ordinals.{distance, number_after}
 use Rattle.bac_walk.specs.Takes.{Says}
-use Rattle.bac_walk.specs.Turns.{Covers, IsBatch, NoneOfHundred, base}
+use Rattle.bac_walk.specs.Turns.{NoneOfHundred, base}
 use Rattle.bac_walk.specs.Walks.{asks_oldest_now, brought, fits, gap_items, gap_of, is_past, item_of, items_in, verdict, wanted_at, with_numbers, IsTaken, NextAct, Bring, Refuse, Ask, End}
 use Rattle.bac_walk.specs.declared.batch.Batch.{Batch}
 use Rattle.bac_walk.specs.declared.batch.Gap.{Gap as GapOf}
@@ -26,7 +26,7 @@ VerdictOf H m s w Refuse es = ⊥
 VerdictOf H m s w Ask es = (asks_oldest_now w ≡ false) × NoneOfHundred s m
 VerdictOf H m s w End es = (asks_oldest_now w ≡ true) × ((m.newest < m.oldest) ⊎ ((w.fresh ≡ false) × (m.oldest < s)))
 VerdictOf H m s w (Bring f) es =
-    (t : ℕ) × IsBatch H m (base w s m) (brought w f es) × Covers (base w s m) (brought w f es) t × (number_after f (length es) ≡ sequence_number t)
+    (t : ℕ) × Brings H m (base w s m) (brought w f es) t × (0 < length (brought w f es)) × (number_after f (length es) ≡ sequence_number t)
 
 -- ---- records that are brought are 1 to 100
 
@@ -88,6 +88,6 @@ verdict_of H M r s w h (Bring f) is next near served says =
     ap (λ g. g ++ map item_of (with_numbers f h.entries)) (gap_same w f test refl) ∙ ap (λ l. gap_of w f ++ l) (map-with_numbers f h.entries) in
     let P : NextAct → Type 0 = λ u. IsTaken w h.entries u (Ok (BatchOf b)) after in
     let turn = turn_of H M r s w (Some h) (Ok (BatchOf b)) after next near served says (subst P (sym is) (same, refl)) in
-    let Q : List Item → Type 0 = λ xs. IsBatch H (now M) (base w s (now M)) xs in
-    let R : List Item → Type 0 = λ xs. Covers (base w s (now M)) xs turn.0 in
+    let Q : List Item → Type 0 = λ xs. Brings H (now M) (base w s (now M)) xs turn.0 in
+    let R : List Item → Type 0 = λ xs. 0 < length xs in
     (turn.0, subst Q same turn.1, subst R same turn.2, ap (λ (p : WalkPlace). p.next) turn.3)

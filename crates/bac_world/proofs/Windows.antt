@@ -8,7 +8,8 @@ use Rattle.bac_link.specs.declared.item.Item.TheVariants.{Gap, Logged}
 use Rattle.bac_link.specs.Delivery.{History, Moment, Brings, Leads, later}
 use Rattle.bac_link.proofs.Delivers.{held_end, first_held}
 use Rattle.bac_walk.specs.Collects.{batches, start_of}
-use Rattle.bac_walk.specs.Near.{IsNear, IsInWindow, AreInWindow}
+use Rattle.bac_link.specs.Moments.{IsInWindow, AreInWindow}
+use Rattle.bac_walk.specs.Near.{IsNear}
 use Rattle.bac_direct.specs.Ahead.{log_with, moment_of, placed}
 use Rattle.bac_world.specs.declared.event.WorldEvent.{WorldEvent}
 use Rattle.bac_world.specs.declared.event.WorldEvent.TheVariants as event

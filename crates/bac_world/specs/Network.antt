@@ -21,8 +21,8 @@ use Rattle.bac_link.specs.declared.item.Item.{Item}
 use Rattle.bac_link.specs.declared.request.Request.{Request}
 use Rattle.bac_link.specs.declared.transactions.Pending.{Pending}
 use Rattle.bac_link.specs.declared.transactions.Transactions.{Transactions}
-use Rattle.bac_walk.specs.Heard.{AckParameters, heard_at}
-use Rattle.bac_walk.specs.Ordinals.{number_after}
+use Rattle.bac_link.specs.Heard.{AckParameters, heard_at}
+use Rattle.bac_link.specs.Ordinals.{number_after}
 use Rattle.bac_walk.specs.Place.{WalkPlace}
 use Rattle.bac_walk.specs.Walks.{NextAct, Bring, Refuse, brought, verdict}
 use Rattle.bac_walk.specs.Walks as walks

@@ -14,7 +14,8 @@ use Rattle.bac_device.specs.Answer.{answer}
 use Rattle.bac_device.specs.declared.reply.Reply.{Reply}
 use Rattle.bac_walk.specs.Collects.{batches, start_of}
 use Rattle.bac_walk.specs.Delivers.{NoneFrom}
-use Rattle.bac_walk.specs.Near.{IsNear, AreInWindow}
+use Rattle.bac_link.specs.Moments.{AreInWindow}
+use Rattle.bac_walk.specs.Near.{IsNear}
 use Rattle.bac_walk.specs.Place.{WalkPlace}
 use Rattle.bac_walk.specs.Walks as walks
 use Rattle.bac_wire.specs.Canon.{IsValid}

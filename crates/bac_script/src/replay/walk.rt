@@ -63,7 +63,7 @@ fn walk_over<L: LogLink>(
     steps: u32,
 ) -> Result<Vec<u8>, AllocError>
     ensures rests { (r : ℕ) (m : Moment) (H : History) (s : ℕ) →
-        L.is_sure link.old (towards transactions.old.route) → L.is_honest link.old walk.old.log r (m ∷ []) H → walk.old.next ≡ sequence_number s →
+        L.is_sure link.old (towards transactions.old.route) → L.is_ours link.old walk.old.log r (m ∷ []) H → walk.old.next ≡ sequence_number s →
         (walk.old.fresh ≡ false → IsNear s m) →
         IfOk result (λ text. text.items ≡ rested_text (rest r H m walk.old.fresh s steps)) }
     ensures missing { L.lacks link.old walk.old.log → L.is_sure link.old (towards transactions.old.route) →

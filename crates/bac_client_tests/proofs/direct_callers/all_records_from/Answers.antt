@@ -32,14 +32,14 @@ returns-clause-records c = λ k there here near more.
     let is = (c.in-Some.ensures {u = tt}).some in
     let kind = ((c.in-Some.ensures {u = tt}).is_some.0 refl).1 in
     let id : c.args.log ≡ log_id n = ap (λ k. let i : Id = record { kind = k; instance = n } in i) kind in
-    let ahead = c.new-link.ensures.honest n 0 there in
+    let ahead = c.new-link.ensures.ours n 0 there in
     let K : Id → Type 0 = λ i. IsAhead c.new-link.result.device.now c.new-link.result.events.now i r (m ∷ []) H in
     let R : Bool → Type 0 = λ f. Rests (rest r H m f k c.args.steps) c.args.steps c.collect.result.items.items c.collect.result.next c.collect.result.why in
     let sound : IsSound d = subst IsSound c.new-link.ensures.device ahead.sound in
     let is_log : IsLog log = subst IsLog (sym (ap (λ (o : Option Log). unwrap_or o (empty_log 1 0)) there.1)) (sound.logs n there.0 there.1) in
     let loggable : All IsLoggable (log_at m H).entries = subst (λ (es : List Entry). All IsLoggable es) (sym (held_now log) ∙ ap (λ (x : Moment). (log_at x (history_of log)).entries) zero ∙ ap (λ (h : History). (log_at m h).entries) same) is_log.loggable in
     let close : IsNear k m = subst (λ (x : Moment). IsNear k x) zero near in
-    let whole = c.rests_all.ensures r H m k c.args.steps ahead.served loggable close (subst (λ (x : Moment). (x.newest + 1) - max k x.oldest < c.args.steps) zero (enough log k c.args.steps more)) in
+    let whole = c.rests_all.ensures r H m k c.args.steps ahead.served loggable (subst (λ (x : Moment). (x.newest + 1) - max k x.oldest < c.args.steps) zero (enough log k c.args.steps more)) in
     let all : held_from log k ≡ (rest_all H m k).items = sym (held_all log k) ∙ ap (λ (x : Moment). (rest_all (history_of log) x k).items) zero ∙ ap (λ (h : History). (rest_all h m k).items) same in
     elim (subst R (ap (λ (w : WalkPlace). w.fresh) is) (c.collect.ensures.resting r m H k (c.new-link.ensures.events, ap (λ (t : Transactions). t.route) c.new-transactions.ensures) (subst K (sym (ap (λ (w : WalkPlace). w.log) is ∙ id)) (0, ahead)) (ap (λ (w : WalkPlace). w.next) is ∙ here) (λ old. close))) [
       | inl memory ↦ inl memory

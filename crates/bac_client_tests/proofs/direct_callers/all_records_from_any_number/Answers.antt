@@ -17,5 +17,5 @@ returns c = λ some kind there more.
       near.0,
       near.1,
       near.2,
-      c.in_ok-outcome.ensures r m H near.0 (c.new-link.ensures.events, refl) (subst K (sym id) (1, c.new-link.ensures.honest n 1 there)) near.1 near.2 (omega (arith, more)),
+      c.in_ok-outcome.ensures r m H near.0 (c.new-link.ensures.events, refl) (subst K (sym id) (1, c.new-link.ensures.ours n 1 there)) near.1 near.2 (omega (arith, more)),
     )

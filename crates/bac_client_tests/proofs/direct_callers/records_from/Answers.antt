@@ -19,7 +19,7 @@ returns-clause-delivers c = λ rounds k low there here window above below.
     let id : c.args.log ≡ log_id n = ap (λ k. let i : Id = record { kind = k; instance = n } in i) kind in
     let log = ap (λ (w : WalkPlace). w.log) is in
     let K : Id → Type 0 = λ i. IsAhead c.new-link.result.device.now c.new-link.result.events.now i r M H in
-    let ahead = c.new-link.ensures.honest n rounds there in
-    let a = c.collect.ensures.headline r M H k low (subst K (sym (log ∙ id)) (rounds, ahead)) (ap (λ (w : WalkPlace). w.next) is ∙ here) window (λ old. (above, below)) in
+    let ahead = c.new-link.ensures.ours n rounds there in
+    let a = c.collect.ensures.ours r M H k low (subst K (sym (log ∙ id)) (rounds, ahead)) (ap (λ (w : WalkPlace). w.next) is ∙ here) window (λ old. (above, below)) in
     let P : ℕ → Type 0 = λ j. DeliversTo H j c.collect.result.items.items a.2 M a.1 in
     (a.1, a.2, c.collect.ensures.next ∙ a.4, subst P (a.3 (ap (λ (w : WalkPlace). w.fresh) is)) a.5)

@@ -7,7 +7,7 @@ use Rattle.bac_direct.specs.Ahead.{IsThere, history_ahead, moments_ahead, placed
 use Rattle.bac_direct.specs.declared.event.LinkEvent.{LinkEvent}
 use Rattle.bac_direct.specs.declared.event.LinkEvent.TheVariants.{Sample, Handle, Answer, Lose}
 use Rattle.bac_client_tests.proofs.Day.{day_is}
-use Rattle.bac_walk.specs.Near.{AreInWindow}
+use Rattle.bac_link.specs.Moments.{AreInWindow}
 use Rattle.bac_client_tests.specs.Day.{day, day_moments, plant}
 use Rattle.bac_client_tests.proofs.direct_callers.records_of_a_day.Goals as goal
 

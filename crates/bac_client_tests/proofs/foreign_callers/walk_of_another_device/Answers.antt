@@ -6,4 +6,4 @@ use Rattle.bac_client_tests.proofs.foreign_callers.walk_of_another_device.Goals 
 pub returns : goal.returns
 returns c = λ s low near log_is next below at.
     walk_delivers c.args.link.now c.collect.new.link c.args.transactions.now.route c.args.walk.now c.collect.new.walk c.collect.result.items.items c.collect.result.why low s
-    (c.links_speak.ensures.told (λ link. held ∷ [])) c.collect.ensures.said near log_is next below at
+    (c.links_are_honest.ensures.told (λ link. held ∷ [])) c.collect.ensures.headline near log_is next below at

@@ -9,21 +9,21 @@ use Rattle.bac_client_tests.proofs.Loggable.{all_loggable}
 use Rattle.bac_client_tests.proofs.walk_callers.all_records_from.Goals as goal
 
 pub returns : goal.returns
-returns g c = λ r m H k sure honest here near enough.
+returns g c = λ r m H k sure ours here near enough.
     let is = (c.in-Some.ensures {u = tt}).some in
     let log = ap (λ (w : WalkPlace). w.log) is in
-    let K : Id → Type 0 = λ n. g.L.LogLink.is_honest c.args.link.now n r (m ∷ []) H in
+    let K : Id → Type 0 = λ n. g.L.LogLink.is_ours c.args.link.now n r (m ∷ []) H in
     let S : Option Far → Type 0 = λ way. g.L.LogLink.is_sure c.args.link.now (towards way) in
     let R : Bool → Type 0 = λ f. Rests (rest r H m f k c.args.steps) c.args.steps c.collect.result.items.items c.collect.result.next c.collect.result.why in
     let run = c.collect.ensures.brought in
-    elim (subst R (ap (λ (w : WalkPlace). w.fresh) is) (c.collect.ensures.resting r m H k (subst S (sym (ap (λ (t : Transactions). t.route) c.new-transactions.ensures)) sure) (subst K (sym log) honest) (ap (λ (w : WalkPlace). w.next) is ∙ here) (λ old. near))) [
+    elim (subst R (ap (λ (w : WalkPlace). w.fresh) is) (c.collect.ensures.resting r m H k (subst S (sym (ap (λ (t : Transactions). t.route) c.new-transactions.ensures)) sure) (subst K (sym log) ours) (ap (λ (w : WalkPlace). w.next) is ∙ here) (λ old. near))) [
       | inl memory ↦ inl memory
       | inr rests ↦
-          elim (all_loggable g.L.LogLink.asks (λ link id r M H. g.L.LogLink.is_honest link id r M H) c.replies_are_loggable.ensures c.new-transactions.result.route c.new-transactions.result.retries c.args.steps run.0 run.3.0
+          elim (all_loggable g.L.LogLink.asks (λ link id r M H. g.L.LogLink.is_ours link id r M H) c.replies_are_loggable.ensures c.new-transactions.result.route c.new-transactions.result.retries c.args.steps run.0 run.3.0
           c.collect.result.items.items run.1 c.collect.result.why c.in-Some.walk c.collect.new.walk c.args.link.now c.collect.new.link c.args.log c.args.s r k m H
           (ap (λ (t : Transactions). t.route) c.new-transactions.ensures) is here
-          (omega (arith, c.kind-kind.ensures.value, c.kind-kind.ensures.bound), omega (arith, c.instance-instance.ensures.value, c.instance-instance.ensures.bound)) honest (omega (arith, enough)) rests.2 run.2 run.3.1) [
+          (omega (arith, c.kind-kind.ensures.value, c.kind-kind.ensures.bound), omega (arith, c.instance-instance.ensures.value, c.instance-instance.ensures.bound)) ours (omega (arith, enough)) rests.2 run.2 run.3.1) [
             | inl memory ↦ inl memory
-            | inr loggable ↦ inr (rests.0 ∙ ap (λ (x : Rested). x.items) (c.rests_all.ensures r H m k c.args.steps (g.met.L.LogLink.serves c.args.link.now c.args.log r (m ∷ []) H honest) loggable near enough))
+            | inr loggable ↦ inr (rests.0 ∙ ap (λ (x : Rested). x.items) (c.rests_all.ensures r H m k c.args.steps (g.met.L.LogLink.serves c.args.link.now c.args.log r (m ∷ []) H ours) loggable enough))
           ]
     ]

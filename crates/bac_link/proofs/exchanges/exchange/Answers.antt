@@ -9,42 +9,42 @@ use Rattle.bac_link.specs.Moments.{log_at}
 use Rattle.bac_link.specs.Path.{towards}
 use Rattle.bac_link.specs.Exchanges.{Unanswered}
 use Rattle.bac_link.proofs.Tries.{answered_by, one_more}
-use Rattle.bac_link.proofs.Verdicts.{question_fits, honest_verdict, rises_more}
+use Rattle.bac_link.proofs.Verdicts.{question_fits, our_verdict, rises_more}
 use Rattle.bac_link.proofs.exchanges.exchange.Goals as goal
 
-pub returns-in_default-clause-honest : goal.returns-in_default-clause-honest
-returns-in_default-clause-honest g c = λ id r M H extent h asks. absurd (question_fits id extent (subst IsTooLong asks.0 ((c.in_default.ensures {u = tt}).full.0 refl)))
+pub returns-in_default-clause-ours : goal.returns-in_default-clause-ours
+returns-in_default-clause-ours g c = λ id r M H extent h asks. absurd (question_fits id extent (subst IsTooLong asks.0 ((c.in_default.ensures {u = tt}).full.0 refl)))
 
 pub returns-in_default-clause-lacking : goal.returns-in_default-clause-lacking
 returns-in_default-clause-lacking g c = λ id extent h asks. absurd (question_fits id extent (subst IsTooLong asks.0 ((c.in_default.ensures {u = tt}).full.0 refl)))
 
-pub returns-in-Ack-clause-honest : goal.returns-in-Ack-clause-honest
-returns-in-Ack-clause-honest g c = λ id r M H extent h asks.
-    let i = c.loop-tried.invariant.honest id r M H extent h asks in
+pub returns-in-Ack-clause-ours : goal.returns-in-Ack-clause-ours
+returns-in-Ack-clause-ours g c = λ id r M H extent h asks.
+    let i = c.loop-tried.invariant.ours id r M H extent h asks in
     let n = next_invoke c.args.transactions.now.invoke in
     let route = c.args.transactions.now.route in
     let is : IsQuestion id extent (towards route) n c.octets.result.now = (c.octets.ensures.value ∙ (c.in-Ok.ensures {u = tt}).datagram ∙ ap (request_octets (towards route) n) asks.0, asks.1, asks.2, ((c.in-Ok.ensures {u = tt}).way, tt)) in
-    let a = (c.in-Some.ensures {u = tt}).honest id r M H extent route n i.1 is in
+    let a = (c.in-Some.ensures {u = tt}).ours id r M H extent route n i.1 is in
     (((n, a.0.0), a.0.1), λ sure. tt)
 
-pub returns-in-Refused-clause-honest : goal.returns-in-Refused-clause-honest
-returns-in-Refused-clause-honest g c = λ id r M H extent h asks.
-    let i = c.loop-tried.invariant.honest id r M H extent h asks in
+pub returns-in-Refused-clause-ours : goal.returns-in-Refused-clause-ours
+returns-in-Refused-clause-ours g c = λ id r M H extent h asks.
+    let i = c.loop-tried.invariant.ours id r M H extent h asks in
     let n = next_invoke c.args.transactions.now.invoke in
     let route = c.args.transactions.now.route in
     let is : IsQuestion id extent (towards route) n c.octets.result.now = (c.octets.ensures.value ∙ (c.in-Ok.ensures {u = tt}).datagram ∙ ap (request_octets (towards route) n) asks.0, asks.1, asks.2, ((c.in-Ok.ensures {u = tt}).way, tt)) in
-    let a = (c.in-Some.ensures {u = tt}).honest id r M H extent route n i.1 is in
-    let v = honest_verdict r (log_at (now M) H) id extent (towards route) n c.in-Some.reply a.0.0.1 in
+    let a = (c.in-Some.ensures {u = tt}).ours id r M H extent route n i.1 is in
+    let v = our_verdict r (log_at (now M) H) id extent (towards route) n c.in-Some.reply a.0.0.1 in
     absurd (cc (v, asks.0, c.octets-in-Some.ensures.value, c.in-Refused.ensures {u = tt}))
 
-pub returns-in-BadReply-clause-honest : goal.returns-in-BadReply-clause-honest
-returns-in-BadReply-clause-honest g c = λ id r M H extent h asks.
-    let i = c.loop-tried.invariant.honest id r M H extent h asks in
+pub returns-in-BadReply-clause-ours : goal.returns-in-BadReply-clause-ours
+returns-in-BadReply-clause-ours g c = λ id r M H extent h asks.
+    let i = c.loop-tried.invariant.ours id r M H extent h asks in
     let n = next_invoke c.args.transactions.now.invoke in
     let route = c.args.transactions.now.route in
     let is : IsQuestion id extent (towards route) n c.octets.result.now = (c.octets.ensures.value ∙ (c.in-Ok.ensures {u = tt}).datagram ∙ ap (request_octets (towards route) n) asks.0, asks.1, asks.2, ((c.in-Ok.ensures {u = tt}).way, tt)) in
-    let a = (c.in-Some.ensures {u = tt}).honest id r M H extent route n i.1 is in
-    let v = honest_verdict r (log_at (now M) H) id extent (towards route) n c.in-Some.reply a.0.0.1 in
+    let a = (c.in-Some.ensures {u = tt}).ours id r M H extent route n i.1 is in
+    let v = our_verdict r (log_at (now M) H) id extent (towards route) n c.in-Some.reply a.0.0.1 in
     absurd (cc (v, asks.0, c.octets-in-Some.ensures.value, c.in-BadReply.ensures {u = tt}))
 
 pub loop-tried-preserved : goal.loop-tried-preserved
@@ -66,10 +66,10 @@ loop-tried-preserved g c =
           let is : IsQuestion id extent (towards route) n c.octets.result.now = (c.octets.ensures.value ∙ (c.in-Ok.ensures {u = tt}).datagram ∙ ap (request_octets (towards route) n) asks.0, asks.1, asks.2, ((c.in-Ok.ensures {u = tt}).way, tt)) in
           g.met.L.LogLink.keeps_on c.args.link.now c.loop-tried.link c.heard.new.link
           (c.loop-tried.invariant.kept id extent s asks) (heard.kept id extent route n (c.loop-tried.invariant.sure (towards route) s) is);
-      honest = λ id r M H extent h asks.
-          let i = c.loop-tried.invariant.honest id r M H extent h asks in
+      ours = λ id r M H extent h asks.
+          let i = c.loop-tried.invariant.ours id r M H extent h asks in
           let is : IsQuestion id extent (towards route) n c.octets.result.now = (c.octets.ensures.value ∙ (c.in-Ok.ensures {u = tt}).datagram ∙ ap (request_octets (towards route) n) asks.0, asks.1, asks.2, ((c.in-Ok.ensures {u = tt}).way, tt)) in
-          let a = heard.honest id r M H extent route n i.1 is in
+          let a = heard.ours id r M H extent route n i.1 is in
           (rises_more c.loop-tried.tried before mid after i.0 a.0.0, a.0.1, λ s. absurd (false≢true (a.1 (c.loop-tried.invariant.sure (towards route) s))));
       lacking = λ id extent h asks.
           let i = c.loop-tried.invariant.lacking id extent h asks in
@@ -78,9 +78,9 @@ loop-tried-preserved g c =
           (rises_more c.loop-tried.tried before mid after i.0 a.0, a.1, λ s. absurd (false≢true (a.2 (c.loop-tried.invariant.sure (towards route) s))));
     }
 
-pub returns-clause-honest : goal.returns-clause-honest
-returns-clause-honest g c = λ id r M H extent h asks.
-    let i = c.loop-tried.invariant.honest id r M H extent h asks in
+pub returns-clause-ours : goal.returns-clause-ours
+returns-clause-ours g c = λ id r M H extent h asks.
+    let i = c.loop-tried.invariant.ours id r M H extent h asks in
     let kept = ap (λ (t : Transactions). t.retries) (c.in-Ok.ensures {u = tt}).passed in (
       (omega (arith, i.0, c.loop-tried.auto.tried-end, c.loop-tried-test.false, c.from-tries.ensures, c.retries.ensures, kept), i.1),
       λ s. omega (arith, i.2 s, c.loop-tried.auto.tried-end, c.loop-tried-test.false),

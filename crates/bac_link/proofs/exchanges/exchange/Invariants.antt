@@ -17,8 +17,8 @@ invariant-loop-tried g l = record {
   never_falls : g.L.LogLink.failures l.fn.link ≤ g.L.LogLink.failures l.link;
   sure : (path : Path) → g.L.LogLink.is_sure l.fn.link path → g.L.LogLink.is_sure l.link path;
   kept : (id : Id) (extent : Extent) → g.L.LogLink.is_sure l.fn.link (towards l.fn.transactions.route) → AsksFor id extent l.fn.request → g.L.LogLink.keeps l.fn.link l.link;
-  honest : (id : Id) (r : ℕ) (M : List Moment) (H : History) (extent : Extent) → g.L.LogLink.is_honest l.fn.link id r M H → AsksFor id extent l.fn.request →
-      RisesBy l.tried (g.L.LogLink.failures l.fn.link) (g.L.LogLink.failures l.link) × g.L.LogLink.is_honest l.link id r M H
+  ours : (id : Id) (r : ℕ) (M : List Moment) (H : History) (extent : Extent) → g.L.LogLink.is_ours l.fn.link id r M H → AsksFor id extent l.fn.request →
+      RisesBy l.tried (g.L.LogLink.failures l.fn.link) (g.L.LogLink.failures l.link) × g.L.LogLink.is_ours l.link id r M H
       × (g.L.LogLink.is_sure l.fn.link (towards l.fn.transactions.route) → l.tried ≡ 0);
   lacking : (id : Id) (extent : Extent) → g.L.LogLink.lacks l.fn.link id → AsksFor id extent l.fn.request →
       RisesBy l.tried (g.L.LogLink.failures l.fn.link) (g.L.LogLink.failures l.link) × g.L.LogLink.lacks l.link id

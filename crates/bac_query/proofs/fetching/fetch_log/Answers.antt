@@ -21,7 +21,7 @@ use Rattle.bac_query.proofs.fetching.fetch_log.Goals as goal
 
 pub loop-done-init : goal.loop-done-init
 loop-done-init g c =
-    let was : ℕ → List Moment → History → Type 0 = λ r M H. g.L.LogLink.is_honest c.args.link.now c.args.walk.log r M H in
+    let was : ℕ → List Moment → History → Type 0 = λ r M H. g.L.LogLink.is_ours c.args.link.now c.args.walk.log r M H in
     record {
       printed = ([], refl, refl, omega arith, Appends-nil _, no_run was c.args.transactions.now.retries (g.L.LogLink.failures c.args.link.now) c.args.walk, refl, omega arith, omega arith);
       came = ([], Appends-nil _, no_brought g.L.LogLink.asks (towards c.args.transactions.now.route) c.args.transactions.now.retries c.args.link.now c.args.walk);
@@ -30,8 +30,8 @@ loop-done-init g c =
 pub returns-in-Stopped-clause-printed : goal.returns-in-Stopped-clause-printed
 returns-in-Stopped-clause-printed g c =
     let v = c.loop-done.invariant.printed in
-    let was : ℕ → List Moment → History → Type 0 = λ r M H. g.L.LogLink.is_honest c.args.link.now c.args.walk.log r M H in
-    let is : ℕ → List Moment → History → Type 0 = λ r M H. g.L.LogLink.is_honest c.loop-done.link c.args.walk.log r M H in (
+    let was : ℕ → List Moment → History → Type 0 = λ r M H. g.L.LogLink.is_ours c.args.link.now c.args.walk.log r M H in
+    let is : ℕ → List Moment → History → Type 0 = λ r M H. g.L.LogLink.is_ours c.loop-done.link c.args.walk.log r M H in (
       v.0,
       ended_by v.0 why.Memory c.next_number-before.result c.end.result _ _ _ v.4 c.end.ensures.prints,
       delivered was is _ _ _ c.args.walk c.loop-done.walk c.loop-done.done c.args.steps StepLimit v.0 c.end.result (omega arith) v.5
@@ -52,9 +52,9 @@ pub returns-in_err-print-clause-printed : goal.returns-in_err-print-clause-print
 returns-in_err-print-clause-printed g c =
     let v = c.loop-done.invariant.printed in
     let step = c.deliver_lines.ensures.step in
-    let was : Id → ℕ → List Moment → History → Type 0 = λ id r M H. g.L.LogLink.is_honest c.args.link.now id r M H in
-    let mid : Id → ℕ → List Moment → History → Type 0 = λ id r M H. g.L.LogLink.is_honest c.loop-done.link id r M H in
-    let is : Id → ℕ → List Moment → History → Type 0 = λ id r M H. g.L.LogLink.is_honest c.deliver_lines.new.link id r M H in
+    let was : Id → ℕ → List Moment → History → Type 0 = λ id r M H. g.L.LogLink.is_ours c.args.link.now id r M H in
+    let mid : Id → ℕ → List Moment → History → Type 0 = λ id r M H. g.L.LogLink.is_ours c.loop-done.link id r M H in
+    let is : Id → ℕ → List Moment → History → Type 0 = λ id r M H. g.L.LogLink.is_ours c.deliver_lines.new.link id r M H in
     let same = c.deref.ensures.value ∙ step.1 c.in_default.not-Stopped in
     let run = run_on was mid is c.args.walk.log c.loop-done.walk.log c.args.transactions.now.retries c.loop-done.transactions.retries
     (g.L.LogLink.failures c.args.link.now) (g.L.LogLink.failures c.loop-done.link) (g.L.LogLink.failures c.deliver_lines.new.link)
@@ -86,9 +86,9 @@ pub returns-in-Some-clause-printed : goal.returns-in-Some-clause-printed
 returns-in-Some-clause-printed g c =
     let v = c.loop-done.invariant.printed in
     let step = c.deliver_lines.ensures.step in
-    let was : Id → ℕ → List Moment → History → Type 0 = λ id r M H. g.L.LogLink.is_honest c.args.link.now id r M H in
-    let mid : Id → ℕ → List Moment → History → Type 0 = λ id r M H. g.L.LogLink.is_honest c.loop-done.link id r M H in
-    let is : Id → ℕ → List Moment → History → Type 0 = λ id r M H. g.L.LogLink.is_honest c.deliver_lines.new.link id r M H in
+    let was : Id → ℕ → List Moment → History → Type 0 = λ id r M H. g.L.LogLink.is_ours c.args.link.now id r M H in
+    let mid : Id → ℕ → List Moment → History → Type 0 = λ id r M H. g.L.LogLink.is_ours c.loop-done.link id r M H in
+    let is : Id → ℕ → List Moment → History → Type 0 = λ id r M H. g.L.LogLink.is_ours c.deliver_lines.new.link id r M H in
     let same = c.deref.ensures.value ∙ step.1 c.in_default.not-Stopped in
     let run = run_on was mid is c.args.walk.log c.loop-done.walk.log c.args.transactions.now.retries c.loop-done.transactions.retries
     (g.L.LogLink.failures c.args.link.now) (g.L.LogLink.failures c.loop-done.link) (g.L.LogLink.failures c.deliver_lines.new.link)
@@ -119,9 +119,9 @@ pub loop-done-preserved : goal.loop-done-preserved
 loop-done-preserved g c =
     let v = c.loop-done.invariant.printed in
     let step = c.deliver_lines.ensures.step in
-    let was : Id → ℕ → List Moment → History → Type 0 = λ id r M H. g.L.LogLink.is_honest c.args.link.now id r M H in
-    let mid : Id → ℕ → List Moment → History → Type 0 = λ id r M H. g.L.LogLink.is_honest c.loop-done.link id r M H in
-    let is : Id → ℕ → List Moment → History → Type 0 = λ id r M H. g.L.LogLink.is_honest c.deliver_lines.new.link id r M H in
+    let was : Id → ℕ → List Moment → History → Type 0 = λ id r M H. g.L.LogLink.is_ours c.args.link.now id r M H in
+    let mid : Id → ℕ → List Moment → History → Type 0 = λ id r M H. g.L.LogLink.is_ours c.loop-done.link id r M H in
+    let is : Id → ℕ → List Moment → History → Type 0 = λ id r M H. g.L.LogLink.is_ours c.deliver_lines.new.link id r M H in
     let same = c.deref.ensures.value ∙ step.1 c.in_default.not-Stopped in
     let run = run_on was mid is c.args.walk.log c.loop-done.walk.log c.args.transactions.now.retries c.loop-done.transactions.retries
     (g.L.LogLink.failures c.args.link.now) (g.L.LogLink.failures c.loop-done.link) (g.L.LogLink.failures c.deliver_lines.new.link)
@@ -159,8 +159,8 @@ loop-done-preserved g c =
 pub returns-clause-printed : goal.returns-clause-printed
 returns-clause-printed g c =
     let v = c.loop-done.invariant.printed in
-    let was : ℕ → List Moment → History → Type 0 = λ r M H. g.L.LogLink.is_honest c.args.link.now c.args.walk.log r M H in
-    let is : ℕ → List Moment → History → Type 0 = λ r M H. g.L.LogLink.is_honest c.loop-done.link c.args.walk.log r M H in (
+    let was : ℕ → List Moment → History → Type 0 = λ r M H. g.L.LogLink.is_ours c.args.link.now c.args.walk.log r M H in
+    let is : ℕ → List Moment → History → Type 0 = λ r M H. g.L.LogLink.is_ours c.loop-done.link c.args.walk.log r M H in (
       v.0,
       ended_by v.0 why.StepLimit c.next_number-2.result c.end-2.result _ _ _ v.4 c.end-2.ensures.prints,
       delivered was is _ _ _ c.args.walk c.loop-done.walk c.loop-done.done c.args.steps StepLimit v.0 c.end-2.result (omega arith) v.5

@@ -14,7 +14,7 @@ invariant-loop-done g l = record {
   printed : (items : List Item) × (l.walk.log ≡ l.fn.walk.log) × (l.transactions.retries ≡ l.fn.transactions.retries)
       × (g.L.LogLink.failures l.fn.link ≤ g.L.LogLink.failures l.link)
       × Appends (g.W.Write.contents l.fn.out) (g.W.Write.contents l.out) (items_text items)
-      × IsRun (λ r M H. g.L.LogLink.is_honest l.fn.link l.fn.walk.log r M H) (λ r M H. g.L.LogLink.is_honest l.link l.fn.walk.log r M H)
+      × IsRun (λ r M H. g.L.LogLink.is_ours l.fn.link l.fn.walk.log r M H) (λ r M H. g.L.LogLink.is_ours l.link l.fn.walk.log r M H)
       l.fn.transactions.retries (g.L.LogLink.failures l.fn.link) (g.L.LogLink.failures l.link) l.fn.walk l.walk l.done StepLimit items
       × (l.transactions.route ≡ l.fn.transactions.route) × (length items ≤ 101 * l.done) × (l.done ≤ length items);
   came : (items : List Item) × Appends (g.W.Write.contents l.fn.out) (g.W.Write.contents l.out) (items_text items)

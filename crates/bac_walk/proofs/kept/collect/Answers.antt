@@ -24,7 +24,7 @@ use Rattle.bac_walk.specs.Place.{WalkPlace}
 use Rattle.bac_walk.proofs.Told.{Asking}
 use Rattle.bac_link.specs.Path.{Path, towards}
 use Rattle.bac_walk.proofs.Rests.{rested}
-use Rattle.bac_walk.proofs.Spoken.{delivers_run}
+use Rattle.bac_walk.proofs.Honest.{delivers_run}
 use Rattle.bac_walk.proofs.kept.collect.Goals as goal
 
 abbrev room : Kept → ℕ
@@ -48,7 +48,7 @@ step_joined asks path way retries tries old half new before kept after w mid lef
 
 pub loop-done-init : goal.loop-done-init
 loop-done-init g c =
-    let was : ℕ → List Moment → History → Type 0 = λ r M H. g.L.LogLink.is_honest c.args.link.now c.args.walk.now.log r M H in
+    let was : ℕ → List Moment → History → Type 0 = λ r M H. g.L.LogLink.is_ours c.args.link.now c.args.walk.now.log r M H in
     let P : List Item → Type 0 = λ l. IsRun was was c.args.transactions.now.retries (g.L.LogLink.failures c.args.link.now) (g.L.LogLink.failures c.args.link.now)
     c.args.walk.now c.args.walk.now 0 StepLimit l in
     record {
@@ -72,8 +72,8 @@ loop-done-init g c =
 
 pub returns-then-not-make_room-clause-delivers : goal.returns-then-not-make_room-clause-delivers
 returns-then-not-make_room-clause-delivers g c =
-    let P : List Item → Type 0 = λ l. IsRun (λ r M H. g.L.LogLink.is_honest c.args.link.now c.args.walk.now.log r M H)
-    (λ r M H. g.L.LogLink.is_honest c.loop-done.link c.args.walk.now.log r M H) c.args.transactions.now.retries
+    let P : List Item → Type 0 = λ l. IsRun (λ r M H. g.L.LogLink.is_ours c.args.link.now c.args.walk.now.log r M H)
+    (λ r M H. g.L.LogLink.is_ours c.loop-done.link c.args.walk.now.log r M H) c.args.transactions.now.retries
     (g.L.LogLink.failures c.args.link.now) (g.L.LogLink.failures c.loop-done.link) c.args.walk.now c.loop-done.walk c.loop-done.done StepLimit l in (
       c.loop-done.done,
       StepLimit,
@@ -85,15 +85,15 @@ returns-then-not-make_room-clause-delivers g c =
 
 pub returns-in-Some-clause-delivers : goal.returns-in-Some-clause-delivers
 returns-in-Some-clause-delivers g c =
-    let was : ℕ → List Moment → History → Type 0 = λ r M H. g.L.LogLink.is_honest c.args.link.now c.args.walk.now.log r M H in
-    let mid : ℕ → List Moment → History → Type 0 = λ r M H. g.L.LogLink.is_honest c.loop-done.link c.args.walk.now.log r M H in
-    let is : ℕ → List Moment → History → Type 0 = λ r M H. g.L.LogLink.is_honest c.deliver-ended.new.link c.args.walk.now.log r M H in
+    let was : ℕ → List Moment → History → Type 0 = λ r M H. g.L.LogLink.is_ours c.args.link.now c.args.walk.now.log r M H in
+    let mid : ℕ → List Moment → History → Type 0 = λ r M H. g.L.LogLink.is_ours c.loop-done.link c.args.walk.now.log r M H in
+    let is : ℕ → List Moment → History → Type 0 = λ r M H. g.L.LogLink.is_ours c.deliver-ended.new.link c.args.walk.now.log r M H in
     let put = c.deliver-ended.ensures.delivers in
     let all = kept_all room items_in_sink c.make_room.new.kept put.0 (is_stopped c.deliver-ended.result) c.deliver-ended.new.sink put.1
     (omega (arith, put.2, put.3, c.make_room.ensures.room (cc))) in
     let more : length c.deliver-ended.new.sink.items.items ≡ length c.loop-done.kept.items.items + (length put.0 + gaps put.0) =
     omega (arith, ap length all.1, length-append c.make_room.new.kept.items.items (put_items put.0), put_length put.0, ap length c.make_room.ensures.items) in
-    let P : Id → Type 0 = λ n. IsRun (λ r M H. g.L.LogLink.is_honest c.loop-done.link n r M H) (λ r M H. g.L.LogLink.is_honest c.deliver-ended.new.link n r M H)
+    let P : Id → Type 0 = λ n. IsRun (λ r M H. g.L.LogLink.is_ours c.loop-done.link n r M H) (λ r M H. g.L.LogLink.is_ours c.deliver-ended.new.link n r M H)
     c.loop-done.transactions.retries (g.L.LogLink.failures c.loop-done.link) (g.L.LogLink.failures c.deliver-ended.new.link)
     c.loop-done.walk c.deliver-ended.new.walk 1 c.deliver-ended.result (put_items put.0) in
     let Q : ℕ → Type 0 = λ n. IsRun mid is n (g.L.LogLink.failures c.loop-done.link) (g.L.LogLink.failures c.deliver-ended.new.link)
@@ -119,14 +119,14 @@ returns-in-Some-clause-delivers g c =
     )
 
 pub returns-in-Some-clause-resting : goal.returns-in-Some-clause-resting
-returns-in-Some-clause-resting g c r m H s sure honest next near =
-    let was : ℕ → List Moment → History → Type 0 = λ r M H. g.L.LogLink.is_honest c.args.link.now c.args.walk.now.log r M H in
-    let mid : ℕ → List Moment → History → Type 0 = λ r M H. g.L.LogLink.is_honest c.loop-done.link c.args.walk.now.log r M H in
-    let is : ℕ → List Moment → History → Type 0 = λ r M H. g.L.LogLink.is_honest c.deliver-ended.new.link c.args.walk.now.log r M H in
+returns-in-Some-clause-resting g c r m H s sure ours next near =
+    let was : ℕ → List Moment → History → Type 0 = λ r M H. g.L.LogLink.is_ours c.args.link.now c.args.walk.now.log r M H in
+    let mid : ℕ → List Moment → History → Type 0 = λ r M H. g.L.LogLink.is_ours c.loop-done.link c.args.walk.now.log r M H in
+    let is : ℕ → List Moment → History → Type 0 = λ r M H. g.L.LogLink.is_ours c.deliver-ended.new.link c.args.walk.now.log r M H in
     let put = c.deliver-ended.ensures.delivers in
     let all = kept_all room items_in_sink c.make_room.new.kept put.0 (is_stopped c.deliver-ended.result) c.deliver-ended.new.sink put.1
     (omega (arith, put.2, put.3, c.make_room.ensures.room (cc))) in
-    let P : Id → Type 0 = λ n. IsRun (λ r M H. g.L.LogLink.is_honest c.loop-done.link n r M H) (λ r M H. g.L.LogLink.is_honest c.deliver-ended.new.link n r M H)
+    let P : Id → Type 0 = λ n. IsRun (λ r M H. g.L.LogLink.is_ours c.loop-done.link n r M H) (λ r M H. g.L.LogLink.is_ours c.deliver-ended.new.link n r M H)
     c.loop-done.transactions.retries (g.L.LogLink.failures c.loop-done.link) (g.L.LogLink.failures c.deliver-ended.new.link)
     c.loop-done.walk c.deliver-ended.new.walk 1 c.deliver-ended.result (put_items put.0) in
     let Q : ℕ → Type 0 = λ n. IsRun mid is n (g.L.LogLink.failures c.loop-done.link) (g.L.LogLink.failures c.deliver-ended.new.link)
@@ -144,15 +144,15 @@ returns-in-Some-clause-resting g c r m H s sure honest next near =
     let early = run_early was is c.args.transactions.now.retries (g.L.LogLink.failures c.args.link.now) (g.L.LogLink.failures c.deliver-ended.new.link)
     c.args.walk.now c.deliver-ended.new.walk (c.loop-done.done + 1) c.args.steps c.deliver-ended.result c.deliver-ended.new.sink.items.items
     (not_limit c.deliver-ended.result c.in-Some.why some) (omega arith) run in
-    let stays = rest_near r H m c.args.walk.now.fresh s c.args.steps (g.met.L.LogLink.serves c.args.link.now c.args.walk.now.log r (m ∷ []) H honest) near in
-    let half = c.loop-done.invariant.run.1 r (m ∷ []) H s honest next (fewer_steps r H (m ∷ []) c.args.walk.now.fresh s c.loop-done.done c.args.steps (omega arith) stays) in
-    let N : Id → Type 0 = λ n. g.L.LogLink.is_honest c.loop-done.link n r (after_answers (length half.0) (m ∷ [])) H in
+    let stays = rest_near r H m c.args.walk.now.fresh s c.args.steps (g.met.L.LogLink.serves c.args.link.now c.args.walk.now.log r (m ∷ []) H ours) near in
+    let half = c.loop-done.invariant.run.1 r (m ∷ []) H s ours next (fewer_steps r H (m ∷ []) c.args.walk.now.fresh s c.loop-done.done c.args.steps (omega arith) stays) in
+    let N : Id → Type 0 = λ n. g.L.LogLink.is_ours c.loop-done.link n r (after_answers (length half.0) (m ∷ [])) H in
     let found = c.deliver-ended.ensures.answered r (after_answers (length half.0) (m ∷ [])) H half.1 (c.loop-done.invariant.sure sure)
     (subst N (sym c.loop-done.invariant.log) half.4) half.2
     (next_step r H (m ∷ []) c.args.walk.now.fresh c.loop-done.walk.fresh s c.loop-done.done c.args.transactions.now.retries
     (g.L.LogLink.failures c.args.link.now) (g.L.LogLink.failures c.loop-done.link) half.1 c.loop-done.kept.items.items half.0
     (fewer_steps r H (m ∷ []) c.args.walk.now.fresh s (c.loop-done.done + 1) c.args.steps (omega arith) stays) half.3 half.5) in
-    let whole = early.1 r (m ∷ []) H s honest next stays in
+    let whole = early.1 r (m ∷ []) H s ours next stays in
     let rests = rested r H m c.args.walk.now.fresh s c.args.steps c.args.transactions.now.retries (g.L.LogLink.failures c.args.link.now)
     (g.L.LogLink.failures c.deliver-ended.new.link) c.deliver-ended.new.sink.items.items whole.1 c.deliver-ended.new.walk.next c.deliver-ended.result whole.0
     found (not_stopped c.deliver-ended.result all.0) whole.3 whole.2 in
@@ -161,15 +161,15 @@ returns-in-Some-clause-resting g c r m H s sure honest next near =
 
 pub loop-done-preserved : goal.loop-done-preserved
 loop-done-preserved g c =
-    let was : ℕ → List Moment → History → Type 0 = λ r M H. g.L.LogLink.is_honest c.args.link.now c.args.walk.now.log r M H in
-    let mid : ℕ → List Moment → History → Type 0 = λ r M H. g.L.LogLink.is_honest c.loop-done.link c.args.walk.now.log r M H in
-    let is : ℕ → List Moment → History → Type 0 = λ r M H. g.L.LogLink.is_honest c.deliver-ended.new.link c.args.walk.now.log r M H in
+    let was : ℕ → List Moment → History → Type 0 = λ r M H. g.L.LogLink.is_ours c.args.link.now c.args.walk.now.log r M H in
+    let mid : ℕ → List Moment → History → Type 0 = λ r M H. g.L.LogLink.is_ours c.loop-done.link c.args.walk.now.log r M H in
+    let is : ℕ → List Moment → History → Type 0 = λ r M H. g.L.LogLink.is_ours c.deliver-ended.new.link c.args.walk.now.log r M H in
     let put = c.deliver-ended.ensures.delivers in
     let all = kept_all room items_in_sink c.make_room.new.kept put.0 (is_stopped c.deliver-ended.result) c.deliver-ended.new.sink put.1
     (omega (arith, put.2, put.3, c.make_room.ensures.room (cc))) in
     let more : length c.deliver-ended.new.sink.items.items ≡ length c.loop-done.kept.items.items + (length put.0 + gaps put.0) =
     omega (arith, ap length all.1, length-append c.make_room.new.kept.items.items (put_items put.0), put_length put.0, ap length c.make_room.ensures.items) in
-    let P : Id → Type 0 = λ n. IsRun (λ r M H. g.L.LogLink.is_honest c.loop-done.link n r M H) (λ r M H. g.L.LogLink.is_honest c.deliver-ended.new.link n r M H)
+    let P : Id → Type 0 = λ n. IsRun (λ r M H. g.L.LogLink.is_ours c.loop-done.link n r M H) (λ r M H. g.L.LogLink.is_ours c.deliver-ended.new.link n r M H)
     c.loop-done.transactions.retries (g.L.LogLink.failures c.loop-done.link) (g.L.LogLink.failures c.deliver-ended.new.link)
     c.loop-done.walk c.deliver-ended.new.walk 1 c.deliver-ended.result (put_items put.0) in
     let Q : ℕ → Type 0 = λ n. IsRun mid is n (g.L.LogLink.failures c.loop-done.link) (g.L.LogLink.failures c.deliver-ended.new.link)
@@ -219,10 +219,10 @@ returns-clause-delivers g c =
     (c.loop-done.done, StepLimit, (all, refl), c.loop-done.invariant.run, c.loop-done.invariant.few, c.loop-done.invariant.begun)
 
 pub returns-clause-resting : goal.returns-clause-resting
-returns-clause-resting g c r m H s sure honest next near =
+returns-clause-resting g c r m H s sure ours next near =
     let all : c.loop-done.done ≡ c.args.steps = omega arith in
-    let stays = rest_near r H m c.args.walk.now.fresh s c.loop-done.done (g.met.L.LogLink.serves c.args.link.now c.args.walk.now.log r (m ∷ []) H honest) near in
-    let whole = c.loop-done.invariant.run.1 r (m ∷ []) H s honest next stays in
+    let stays = rest_near r H m c.args.walk.now.fresh s c.loop-done.done (g.met.L.LogLink.serves c.args.link.now c.args.walk.now.log r (m ∷ []) H ours) near in
+    let whole = c.loop-done.invariant.run.1 r (m ∷ []) H s ours next stays in
     let rests = rested r H m c.args.walk.now.fresh s c.loop-done.done c.args.transactions.now.retries (g.L.LogLink.failures c.args.link.now)
     (g.L.LogLink.failures c.loop-done.link) c.loop-done.kept.items.items whole.1 c.loop-done.walk.next StepLimit whole.0
     tt (λ e. cc) whole.3 whole.2 in
@@ -232,25 +232,25 @@ returns-clause-resting g c r m H s sure honest next near =
 
 pub returns-then-not-make_room-clause-near : goal.returns-then-not-make_room-clause-near
 unfolding returns-then-not-make_room-clause-delivers
-returns-then-not-make_room-clause-near g c r M H s honest next near =
+returns-then-not-make_room-clause-near g c r M H s ours next near =
     let d = returns-then-not-make_room-clause-delivers g c in
-    headline_of (λ r M H. g.L.LogLink.is_honest c.args.link.now c.args.walk.now.log r M H) (λ r M H. g.L.LogLink.is_honest c.loop-done.link c.args.walk.now.log r M H)
-    c.args.transactions.now.retries (g.L.LogLink.failures c.args.link.now) (g.L.LogLink.failures c.loop-done.link) c.args.walk.now c.loop-done.walk d.0 d.1 c.make_room.new.kept.items.items d.3 r M H s honest next
+    headline_of (λ r M H. g.L.LogLink.is_ours c.args.link.now c.args.walk.now.log r M H) (λ r M H. g.L.LogLink.is_ours c.loop-done.link c.args.walk.now.log r M H)
+    c.args.transactions.now.retries (g.L.LogLink.failures c.args.link.now) (g.L.LogLink.failures c.loop-done.link) c.args.walk.now c.loop-done.walk d.0 d.1 c.make_room.new.kept.items.items d.3 r M H s ours next
     (fewer_steps r H M c.args.walk.now.fresh s c.loop-done.done c.args.steps (omega arith) near)
 
 pub returns-in-Some-clause-near : goal.returns-in-Some-clause-near
 unfolding returns-in-Some-clause-delivers
-returns-in-Some-clause-near g c r M H s honest next near =
+returns-in-Some-clause-near g c r M H s ours next near =
     let d = returns-in-Some-clause-delivers g c in
-    headline_of (λ r M H. g.L.LogLink.is_honest c.args.link.now c.args.walk.now.log r M H) (λ r M H. g.L.LogLink.is_honest c.deliver-ended.new.link c.args.walk.now.log r M H)
-    c.args.transactions.now.retries (g.L.LogLink.failures c.args.link.now) (g.L.LogLink.failures c.deliver-ended.new.link) c.args.walk.now c.deliver-ended.new.walk d.0 d.1 c.deliver-ended.new.sink.items.items d.3 r M H s honest next near
+    headline_of (λ r M H. g.L.LogLink.is_ours c.args.link.now c.args.walk.now.log r M H) (λ r M H. g.L.LogLink.is_ours c.deliver-ended.new.link c.args.walk.now.log r M H)
+    c.args.transactions.now.retries (g.L.LogLink.failures c.args.link.now) (g.L.LogLink.failures c.deliver-ended.new.link) c.args.walk.now c.deliver-ended.new.walk d.0 d.1 c.deliver-ended.new.sink.items.items d.3 r M H s ours next near
 
 pub returns-clause-near : goal.returns-clause-near
 unfolding returns-clause-delivers
-returns-clause-near g c r M H s honest next near =
+returns-clause-near g c r M H s ours next near =
     let d = returns-clause-delivers g c in
-    headline_of (λ r M H. g.L.LogLink.is_honest c.args.link.now c.args.walk.now.log r M H) (λ r M H. g.L.LogLink.is_honest c.loop-done.link c.args.walk.now.log r M H)
-    c.args.transactions.now.retries (g.L.LogLink.failures c.args.link.now) (g.L.LogLink.failures c.loop-done.link) c.args.walk.now c.loop-done.walk d.0 d.1 c.loop-done.kept.items.items d.3 r M H s honest next
+    headline_of (λ r M H. g.L.LogLink.is_ours c.args.link.now c.args.walk.now.log r M H) (λ r M H. g.L.LogLink.is_ours c.loop-done.link c.args.walk.now.log r M H)
+    c.args.transactions.now.retries (g.L.LogLink.failures c.args.link.now) (g.L.LogLink.failures c.loop-done.link) c.args.walk.now c.loop-done.walk d.0 d.1 c.loop-done.kept.items.items d.3 r M H s ours next
     (fewer_steps r H M c.args.walk.now.fresh s c.loop-done.done c.args.steps (omega arith) near)
 
 pub returns-in-Some-clause-told : goal.returns-in-Some-clause-told
@@ -319,20 +319,20 @@ returns-clause-brought g c =
     let all : c.loop-done.done ≡ c.args.steps = omega arith in
     (c.loop-done.done, StepLimit, (all, refl), c.loop-done.invariant.brought)
 
-pub returns-then-not-make_room-clause-headline : goal.returns-then-not-make_room-clause-headline
-returns-then-not-make_room-clause-headline g c r M H s low honest next window at =
-    returns-then-not-make_room-clause-near g c r M H s honest next
-    (windows_near r H M low s c.args.steps c.args.walk.now.fresh (g.met.L.LogLink.serves c.args.link.now c.args.walk.now.log r M H honest) window at)
+pub returns-then-not-make_room-clause-ours : goal.returns-then-not-make_room-clause-ours
+returns-then-not-make_room-clause-ours g c r M H s low ours next window at =
+    returns-then-not-make_room-clause-near g c r M H s ours next
+    (windows_near r H M low s c.args.steps c.args.walk.now.fresh (g.met.L.LogLink.serves c.args.link.now c.args.walk.now.log r M H ours) window at)
 
-pub returns-in-Some-clause-headline : goal.returns-in-Some-clause-headline
-returns-in-Some-clause-headline g c r M H s low honest next window at =
-    returns-in-Some-clause-near g c r M H s honest next
-    (windows_near r H M low s c.args.steps c.args.walk.now.fresh (g.met.L.LogLink.serves c.args.link.now c.args.walk.now.log r M H honest) window at)
+pub returns-in-Some-clause-ours : goal.returns-in-Some-clause-ours
+returns-in-Some-clause-ours g c r M H s low ours next window at =
+    returns-in-Some-clause-near g c r M H s ours next
+    (windows_near r H M low s c.args.steps c.args.walk.now.fresh (g.met.L.LogLink.serves c.args.link.now c.args.walk.now.log r M H ours) window at)
 
-pub returns-clause-headline : goal.returns-clause-headline
-returns-clause-headline g c r M H s low honest next window at =
-    returns-clause-near g c r M H s honest next
-    (windows_near r H M low s c.args.steps c.args.walk.now.fresh (g.met.L.LogLink.serves c.args.link.now c.args.walk.now.log r M H honest) window at)
+pub returns-clause-ours : goal.returns-clause-ours
+returns-clause-ours g c r M H s low ours next window at =
+    returns-clause-near g c r M H s ours next
+    (windows_near r H M low s c.args.steps c.args.walk.now.fresh (g.met.L.LogLink.serves c.args.link.now c.args.walk.now.log r M H ours) window at)
 
 missing_why : (steps : ℕ) (ended : Ended) (why : Why) → 0 < steps → why_of ended ≡ Some why → MissingEnd 1 ended → MissingWhy steps why
 missing_why steps CaughtUp why some is gone = absurd gone
@@ -363,20 +363,20 @@ returns-clause-unknown g c lacks =
     let same = c.loop-done.invariant.none here.1 in
     (same.0, c.next_number-2.ensures.next ∙ same.1, omega (arith, here.1))
 
-pub returns-then-not-make_room-clause-said : goal.returns-then-not-make_room-clause-said
+pub returns-then-not-make_room-clause-headline : goal.returns-then-not-make_room-clause-headline
 unfolding returns-then-not-make_room-clause-brought
-returns-then-not-make_room-clause-said g c =
+returns-then-not-make_room-clause-headline g c =
     delivers_run g.L.LogLink.asks (towards c.args.transactions.now.route) c.args.transactions.now.retries c.args.link.now c.loop-done.link c.args.walk.now c.loop-done.walk
     c.args.steps c.make_room.new.kept.items.items Memory (returns-then-not-make_room-clause-brought g c)
 
-pub returns-in-Some-clause-said : goal.returns-in-Some-clause-said
+pub returns-in-Some-clause-headline : goal.returns-in-Some-clause-headline
 unfolding returns-in-Some-clause-brought
-returns-in-Some-clause-said g c =
+returns-in-Some-clause-headline g c =
     delivers_run g.L.LogLink.asks (towards c.args.transactions.now.route) c.args.transactions.now.retries c.args.link.now c.deliver-ended.new.link c.args.walk.now c.deliver-ended.new.walk
     c.args.steps c.deliver-ended.new.sink.items.items c.in-Some.why (returns-in-Some-clause-brought g c)
 
-pub returns-clause-said : goal.returns-clause-said
+pub returns-clause-headline : goal.returns-clause-headline
 unfolding returns-clause-brought
-returns-clause-said g c =
+returns-clause-headline g c =
     delivers_run g.L.LogLink.asks (towards c.args.transactions.now.route) c.args.transactions.now.retries c.args.link.now c.loop-done.link c.args.walk.now c.loop-done.walk
     c.args.steps c.loop-done.kept.items.items WasLimit (returns-clause-brought g c)

@@ -20,7 +20,7 @@ invariant-loop-done g l = record {
   none : l.done ≡ 0 → (l.kept.items.items ≡ []) × (l.walk.next ≡ l.fn.walk.next) × (l.walk ≡ l.fn.walk) × (l.link ≡ l.fn.link) × (l.transactions ≡ l.fn.transactions);
   many : l.done ≤ length l.kept.items.items;
   few : length l.kept.items.items ≤ 101 * l.done;
-  run : IsRun (λ r M H. g.L.LogLink.is_honest l.fn.link l.fn.walk.log r M H) (λ r M H. g.L.LogLink.is_honest l.link l.fn.walk.log r M H)
+  run : IsRun (λ r M H. g.L.LogLink.is_ours l.fn.link l.fn.walk.log r M H) (λ r M H. g.L.LogLink.is_ours l.link l.fn.walk.log r M H)
       l.fn.transactions.retries (g.L.LogLink.failures l.fn.link) (g.L.LogLink.failures l.link) l.fn.walk l.walk l.done StepLimit l.kept.items.items;
   brought : (came : List Came) × Brought g.L.LogLink.asks (towards l.fn.transactions.route) l.fn.transactions.retries l.fn.link l.fn.walk l.done came
       l.kept.items.items StepLimit l.walk l.link;

@@ -5,7 +5,7 @@ use Rattle.bac_wire.specs.declared.fault.WireFault.{WireFault}
 use Rattle.bac_wire.specs.declared.fault.WireFault.TheVariants.{Ended}
 use Rattle.bac_log.specs.declared.entry.Entry.{Entry}
 use Rattle.bac_log.specs.RecordReading.{entries_at}
-use Rattle.bac_walk.specs.Heard.{records_in}
+use Rattle.bac_link.specs.Heard.{records_in}
 use Rattle.bac_walk.proofs.Counting.{empty_read, next_ok, next_err, none_read, too_many}
 use Rattle.bac_walk.proofs.read.count_of.Goals as goal
 

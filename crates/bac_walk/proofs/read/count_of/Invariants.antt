@@ -2,7 +2,7 @@ use Rattle.std.proofs.Common.{◌≡◌, ◌+◌, ◌-◌, ◌≤◌, List, leng
 use Rattle.bac_wire.specs.declared.fault.WireFault.{WireFault}
 use Rattle.bac_log.specs.declared.entry.Entry.{Entry}
 use Rattle.bac_log.specs.RecordReading.{entries_at}
-use Rattle.bac_walk.specs.Heard.{records_in}
+use Rattle.bac_link.specs.Heard.{records_in}
 use Rattle.bac_walk.proofs.read.count_of.Given as goal
 
 -- what is still to be read makes the whole

@@ -1,5 +1,5 @@
 use Rattle.std.proofs.Common.{Some, Ok, Err, sym, ap, ◌∙◌, refl}
-use Rattle.bac_walk.specs.Heard.{records_in}
+use Rattle.bac_link.specs.Heard.{records_in}
 use Rattle.bac_walk.proofs.Heards.{heard_none, heard_other, heard_read}
 use Rattle.bac_walk.proofs.Spellings.{data_fields}
 use Rattle.bac_walk.proofs.read.said_of.Goals as goal

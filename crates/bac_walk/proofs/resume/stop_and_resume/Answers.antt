@@ -2,13 +2,13 @@ use Rattle.std.proofs.Common.{◌≡◌, ◌+◌, ℕ, sym, ap, ◌∙◌, subst
 use Rattle.bac_wire.specs.Primitive.{Id}
 use Rattle.bac_walk.specs.Place.{WalkPlace, walk_at}
 use Rattle.bac_link.specs.Path.{Path, towards}
-use Rattle.bac_walk.specs.Spoken.{DeliversSaid}
-use Rattle.bac_walk.proofs.Spoken.{said_joins}
+use Rattle.bac_walk.specs.Honest.{DeliversSaid}
+use Rattle.bac_walk.proofs.Honest.{said_joins}
 use Rattle.bac_walk.specs.Came.{BroughtInto}
 use Rattle.bac_walk.proofs.Joined.{into_same}
 use Rattle.bac_link.specs.Laws.{after_answers}
 use Rattle.bac_link.specs.Delivery.{DeliversTo}
-use Rattle.bac_walk.specs.Near.{AreInWindow}
+use Rattle.bac_link.specs.Moments.{AreInWindow}
 use Rattle.bac_walk.specs.Sinks.{put_items}
 use Rattle.bac_link.proofs.Delivers.{joined}
 use Rattle.bac_walk.proofs.Near.{windows_near, stays_in}
@@ -31,9 +31,9 @@ returns g c =
             g.R.Sink.puts c.deliver-first.new.link c.deliver-second.new.link c.args.rest.now c.deliver-second.new.sink c.in-Some.resumed c.deliver-second.new.walk c.args.more c.deliver-second.result
             (ap towards c.deliver-first.ensures.route) c.deliver-first.ensures.retries c.deliver-second.ensures.brought),
       );
-      said = λ had_number.
-          let one = c.deliver-first.ensures.said in
-          let two = c.deliver-second.ensures.said in
+      headline = λ had_number.
+          let one = c.deliver-first.ensures.headline in
+          let two = c.deliver-second.ensures.headline in
           let is = (c.in-Some.ensures {u = tt}).some in
           let D : Path → Type 0 = λ q. DeliversSaid g.L.LogLink.asks q c.deliver-first.new.link c.in-Some.resumed (put_items two.0) c.deliver-second.result c.deliver-second.new.walk c.deliver-second.new.link in (
             one.0,
@@ -52,25 +52,25 @@ returns g c =
         y.1,
         x.5,
         y.5,
-        λ r M H s low old honest next window above below.
-            let served = g.met.L.LogLink.serves c.args.link.now c.args.walk.now.log r M H honest in
+        λ r M H s low old ours next window above below.
+            let served = g.met.L.LogLink.serves c.args.link.now c.args.walk.now.log r M H ours in
             let walk : WalkPlace = c.in-Some.resumed in
             let is = (c.in-Some.ensures {u = tt}).some in
             let log = ap (λ (w : WalkPlace). w.log) is ∙ c.log.ensures.log in
             let here = ap (λ (w : WalkPlace). w.next) is ∙ c.next_number.ensures.next in
-            let a = headline_of (λ r M H. g.L.LogLink.is_honest c.args.link.now c.args.walk.now.log r M H)
-            (λ r M H. g.L.LogLink.is_honest c.deliver-first.new.link c.args.walk.now.log r M H) c.args.transactions.now.retries
+            let a = headline_of (λ r M H. g.L.LogLink.is_ours c.args.link.now c.args.walk.now.log r M H)
+            (λ r M H. g.L.LogLink.is_ours c.deliver-first.new.link c.args.walk.now.log r M H) c.args.transactions.now.retries
             (g.L.LogLink.failures c.args.link.now) (g.L.LogLink.failures c.deliver-first.new.link) c.args.walk.now c.deliver-first.new.walk
-            c.args.steps c.deliver-first.result (put_items x.0) x.4 r M H s honest next
+            c.args.steps c.deliver-first.result (put_items x.0) x.4 r M H s ours next
             (windows_near r H M low s c.args.steps c.args.walk.now.fresh served window (λ is. (above, below))) in
-            let K : Id → Type 0 = λ n. g.L.LogLink.is_honest c.deliver-first.new.link n r (after_answers a.1 M) H in
+            let K : Id → Type 0 = λ n. g.L.LogLink.is_ours c.deliver-first.new.link n r (after_answers a.1 M) H in
             let P : ℕ → Type 0 = λ n. DeliversTo H n (put_items x.0) a.2 M a.1 in
             let first = subst P (a.3 old) a.5 in
             let place = stays_in r H M low s a.2 first.0 served window above below first.3 in
             let W : ℕ → Type 0 = λ n. AreInWindow low (after_answers n M) in
             let left = subst W first.1 place.2 in
-            let b = headline_of (λ r M H. g.L.LogLink.is_honest c.deliver-first.new.link walk.log r M H)
-            (λ r M H. g.L.LogLink.is_honest c.deliver-second.new.link walk.log r M H) c.deliver-first.new.transactions.retries
+            let b = headline_of (λ r M H. g.L.LogLink.is_ours c.deliver-first.new.link walk.log r M H)
+            (λ r M H. g.L.LogLink.is_ours c.deliver-second.new.link walk.log r M H) c.deliver-first.new.transactions.retries
             (g.L.LogLink.failures c.deliver-first.new.link) (g.L.LogLink.failures c.deliver-second.new.link) walk c.deliver-second.new.walk
             c.args.more c.deliver-second.result (put_items y.0) y.4 r (after_answers a.1 M) H a.2
             (subst K (sym (log ∙ c.deliver-first.ensures.log)) a.6) (here ∙ a.4)

@@ -13,7 +13,7 @@ use Rattle.bac_walk.proofs.Window.{in_window_of}
 use Rattle.bac_walk.proofs.Joined.{no_into, into_joins, into_early, into_same}
 use Rattle.bac_walk.specs.Came.{BroughtInto}
 use Rattle.bac_link.specs.Path.{towards}
-use Rattle.bac_walk.proofs.Spoken.{into_said}
+use Rattle.bac_walk.proofs.Honest.{into_said}
 use Rattle.bac_walk.proofs.sink.deliver.Goals as goal
 
 missing_more : (n : ℕ) (ended : Ended) → ended ≢ StepLimit → 0 < n → MissingEnd 1 ended → MissingEnd n ended
@@ -33,18 +33,18 @@ loop-done-init g c = record {
   unchanged = λ h. g.met.L.LogLink.keeps_itself c.args.link.now;
   missing = λ h. (h, refl);
   none = λ h. (refl, refl, refl, refl, refl);
-  delivers = no_delivery g.S.Sink.puts c.args.sink.now (λ r M H. g.L.LogLink.is_honest c.args.link.now c.args.walk.now.log r M H)
+  delivers = no_delivery g.S.Sink.puts c.args.sink.now (λ r M H. g.L.LogLink.is_ours c.args.link.now c.args.walk.now.log r M H)
       c.args.transactions.now.retries (g.L.LogLink.failures c.args.link.now) c.args.walk.now;
   brought = no_into g.L.LogLink.asks (towards c.args.transactions.now.route) c.args.transactions.now.retries g.S.Sink.puts c.args.link.now c.args.sink.now c.args.walk.now;
 }
 
 pub returns-in_default : goal.returns-in_default
 returns-in_default g c =
-    let was : ℕ → List Moment → History → Type 0 = λ r M H. g.L.LogLink.is_honest c.args.link.now c.args.walk.now.log r M H in
-    let mid : ℕ → List Moment → History → Type 0 = λ r M H. g.L.LogLink.is_honest c.loop-done.link c.args.walk.now.log r M H in
-    let is : ℕ → List Moment → History → Type 0 = λ r M H. g.L.LogLink.is_honest c.deliver_step.new.link c.args.walk.now.log r M H in
+    let was : ℕ → List Moment → History → Type 0 = λ r M H. g.L.LogLink.is_ours c.args.link.now c.args.walk.now.log r M H in
+    let mid : ℕ → List Moment → History → Type 0 = λ r M H. g.L.LogLink.is_ours c.loop-done.link c.args.walk.now.log r M H in
+    let is : ℕ → List Moment → History → Type 0 = λ r M H. g.L.LogLink.is_ours c.deliver_step.new.link c.args.walk.now.log r M H in
     let P : Id → Type 0 = λ n. Delivery g.S.Sink.puts c.loop-done.sink c.deliver_step.new.sink
-    (λ r M H. g.L.LogLink.is_honest c.loop-done.link n r M H) (λ r M H. g.L.LogLink.is_honest c.deliver_step.new.link n r M H)
+    (λ r M H. g.L.LogLink.is_ours c.loop-done.link n r M H) (λ r M H. g.L.LogLink.is_ours c.deliver_step.new.link n r M H)
     c.loop-done.transactions.retries (g.L.LogLink.failures c.loop-done.link) (g.L.LogLink.failures c.deliver_step.new.link)
     c.loop-done.walk c.deliver_step.new.walk 1 c.deliver_step.result in
     let Q : ℕ → Type 0 = λ n. Delivery g.S.Sink.puts c.loop-done.sink c.deliver_step.new.sink mid is
@@ -72,7 +72,7 @@ returns-in_default g c =
     record {
       none = λ h. absurd (omega (arith, h));
       brought = brought;
-      said = into_said g.L.LogLink.asks (towards c.args.transactions.now.route) c.args.transactions.now.retries g.S.Sink.puts c.args.link.now c.deliver_step.new.link
+      headline = into_said g.L.LogLink.asks (towards c.args.transactions.now.route) c.args.transactions.now.retries g.S.Sink.puts c.args.link.now c.deliver_step.new.link
           c.args.sink.now c.deliver_step.new.sink c.args.walk.now c.deliver_step.new.walk c.args.steps c.deliver_step.result brought;
       told = told_same g.L.LogLink.asks (towards c.args.transactions.now.route) (towards c.loop-done.transactions.route) c.args.transactions.now.retries c.loop-done.transactions.retries
           c.deliver_step.result c.deliver_step.new.walk c.deliver_step.new.link (ap towards c.loop-done.invariant.route) c.loop-done.invariant.retries c.deliver_step.ensures.told;
@@ -82,11 +82,11 @@ returns-in_default g c =
         headline_of was is c.args.transactions.now.retries (g.L.LogLink.failures c.args.link.now) (g.L.LogLink.failures c.deliver_step.new.link)
             c.args.walk.now c.deliver_step.new.walk c.args.steps c.deliver_step.result (put_items delivers.0) delivers.4,
       );
-      headline = (
+      ours = (
         delivers.0,
         delivers.1,
         in_window_of was is c.args.walk.now c.deliver_step.new.walk c.args.steps (put_items delivers.0)
-            (λ r M H honest. g.met.L.LogLink.serves c.args.link.now c.args.walk.now.log r M H honest)
+            (λ r M H ours. g.met.L.LogLink.serves c.args.link.now c.args.walk.now.log r M H ours)
             (headline_of was is c.args.transactions.now.retries (g.L.LogLink.failures c.args.link.now) (g.L.LogLink.failures c.deliver_step.new.link)
             c.args.walk.now c.deliver_step.new.walk c.args.steps c.deliver_step.result (put_items delivers.0) delivers.4),
       );
@@ -99,9 +99,9 @@ returns-in_default g c =
       sure = λ h. c.deliver_step.ensures.sure (c.loop-done.invariant.sure h);
       kept = λ h. g.met.L.LogLink.keeps_on c.args.link.now c.loop-done.link c.deliver_step.new.link
           (c.loop-done.invariant.unchanged h) (c.deliver_step.ensures.kept (c.loop-done.invariant.sure h));
-      answered = λ r M H s sure honest next near.
-          let run = c.loop-done.invariant.delivers.4.1 r M H s honest next (fewer_steps r H M c.args.walk.now.fresh s c.loop-done.done c.args.steps (omega arith) near) in
-          let N : Id → Type 0 = λ n. g.L.LogLink.is_honest c.loop-done.link n r (after_answers (length run.0) M) H in
+      answered = λ r M H s sure ours next near.
+          let run = c.loop-done.invariant.delivers.4.1 r M H s ours next (fewer_steps r H M c.args.walk.now.fresh s c.loop-done.done c.args.steps (omega arith) near) in
+          let N : Id → Type 0 = λ n. g.L.LogLink.is_ours c.loop-done.link n r (after_answers (length run.0) M) H in
           c.deliver_step.ensures.answered r (after_answers (length run.0) M) H run.1 (c.loop-done.invariant.sure sure)
           (subst N (sym c.loop-done.invariant.log) run.4) run.2
           (next_step r H M c.args.walk.now.fresh c.loop-done.walk.fresh s c.loop-done.done c.args.transactions.now.retries
@@ -118,11 +118,11 @@ returns-in_default g c =
 
 pub loop-done-preserved : goal.loop-done-preserved
 loop-done-preserved g c =
-    let was : ℕ → List Moment → History → Type 0 = λ r M H. g.L.LogLink.is_honest c.args.link.now c.args.walk.now.log r M H in
-    let mid : ℕ → List Moment → History → Type 0 = λ r M H. g.L.LogLink.is_honest c.loop-done.link c.args.walk.now.log r M H in
-    let is : ℕ → List Moment → History → Type 0 = λ r M H. g.L.LogLink.is_honest c.deliver_step.new.link c.args.walk.now.log r M H in
+    let was : ℕ → List Moment → History → Type 0 = λ r M H. g.L.LogLink.is_ours c.args.link.now c.args.walk.now.log r M H in
+    let mid : ℕ → List Moment → History → Type 0 = λ r M H. g.L.LogLink.is_ours c.loop-done.link c.args.walk.now.log r M H in
+    let is : ℕ → List Moment → History → Type 0 = λ r M H. g.L.LogLink.is_ours c.deliver_step.new.link c.args.walk.now.log r M H in
     let P : Id → Type 0 = λ n. Delivery g.S.Sink.puts c.loop-done.sink c.deliver_step.new.sink
-    (λ r M H. g.L.LogLink.is_honest c.loop-done.link n r M H) (λ r M H. g.L.LogLink.is_honest c.deliver_step.new.link n r M H)
+    (λ r M H. g.L.LogLink.is_ours c.loop-done.link n r M H) (λ r M H. g.L.LogLink.is_ours c.deliver_step.new.link n r M H)
     c.loop-done.transactions.retries (g.L.LogLink.failures c.loop-done.link) (g.L.LogLink.failures c.deliver_step.new.link)
     c.loop-done.walk c.deliver_step.new.walk 1 c.deliver_step.result in
     let Q : ℕ → Type 0 = λ n. Delivery g.S.Sink.puts c.loop-done.sink c.deliver_step.new.sink mid is
@@ -166,7 +166,7 @@ pub returns-clause-delivers : goal.returns-clause-delivers
 returns-clause-delivers g c =
     let all : c.loop-done.done ≡ c.args.steps = omega arith in
     let P : ℕ → Type 0 = λ n. Delivery g.S.Sink.puts c.args.sink.now c.loop-done.sink
-    (λ r M H. g.L.LogLink.is_honest c.args.link.now c.args.walk.now.log r M H) (λ r M H. g.L.LogLink.is_honest c.loop-done.link c.args.walk.now.log r M H)
+    (λ r M H. g.L.LogLink.is_ours c.args.link.now c.args.walk.now.log r M H) (λ r M H. g.L.LogLink.is_ours c.loop-done.link c.args.walk.now.log r M H)
     c.args.transactions.now.retries (g.L.LogLink.failures c.args.link.now) (g.L.LogLink.failures c.loop-done.link)
     c.args.walk.now c.loop-done.walk n StepLimit in
     subst P all c.loop-done.invariant.delivers
@@ -177,20 +177,20 @@ returns-clause-near g c =
     let d = returns-clause-delivers g c in (
       d.0,
       d.1,
-      headline_of (λ r M H. g.L.LogLink.is_honest c.args.link.now c.args.walk.now.log r M H) (λ r M H. g.L.LogLink.is_honest c.loop-done.link c.args.walk.now.log r M H)
+      headline_of (λ r M H. g.L.LogLink.is_ours c.args.link.now c.args.walk.now.log r M H) (λ r M H. g.L.LogLink.is_ours c.loop-done.link c.args.walk.now.log r M H)
           c.args.transactions.now.retries (g.L.LogLink.failures c.args.link.now) (g.L.LogLink.failures c.loop-done.link) c.args.walk.now c.loop-done.walk c.args.steps StepLimit (put_items d.0) d.4,
     )
 
-pub returns-clause-headline : goal.returns-clause-headline
+pub returns-clause-ours : goal.returns-clause-ours
 unfolding returns-clause-delivers
-returns-clause-headline g c =
+returns-clause-ours g c =
     let d = returns-clause-delivers g c in
-    let was : ℕ → List Moment → History → Type 0 = λ r M H. g.L.LogLink.is_honest c.args.link.now c.args.walk.now.log r M H in
-    let is : ℕ → List Moment → History → Type 0 = λ r M H. g.L.LogLink.is_honest c.loop-done.link c.args.walk.now.log r M H in (
+    let was : ℕ → List Moment → History → Type 0 = λ r M H. g.L.LogLink.is_ours c.args.link.now c.args.walk.now.log r M H in
+    let is : ℕ → List Moment → History → Type 0 = λ r M H. g.L.LogLink.is_ours c.loop-done.link c.args.walk.now.log r M H in (
       d.0,
       d.1,
       in_window_of was is c.args.walk.now c.loop-done.walk c.args.steps (put_items d.0)
-          (λ r M H honest. g.met.L.LogLink.serves c.args.link.now c.args.walk.now.log r M H honest)
+          (λ r M H ours. g.met.L.LogLink.serves c.args.link.now c.args.walk.now.log r M H ours)
           (headline_of was is c.args.transactions.now.retries (g.L.LogLink.failures c.args.link.now) (g.L.LogLink.failures c.loop-done.link)
           c.args.walk.now c.loop-done.walk c.args.steps StepLimit (put_items d.0) d.4),
     )
@@ -202,8 +202,8 @@ returns-clause-brought g c =
     c.args.walk.now n StepLimit c.loop-done.walk c.loop-done.sink c.loop-done.link in
     subst P all c.loop-done.invariant.brought
 
-pub returns-clause-said : goal.returns-clause-said
+pub returns-clause-headline : goal.returns-clause-headline
 unfolding returns-clause-brought
-returns-clause-said g c =
+returns-clause-headline g c =
     into_said g.L.LogLink.asks (towards c.args.transactions.now.route) c.args.transactions.now.retries g.S.Sink.puts c.args.link.now c.loop-done.link
     c.args.sink.now c.loop-done.sink c.args.walk.now c.loop-done.walk c.args.steps StepLimit (returns-clause-brought g c)

@@ -17,8 +17,8 @@ invariant-loop-done g l = record {
   unchanged : g.L.LogLink.is_sure l.fn.link (towards l.fn.transactions.route) → g.L.LogLink.keeps l.fn.link l.link;
   missing : g.L.LogLink.lacks l.fn.link l.fn.walk.log → g.L.LogLink.lacks l.link l.fn.walk.log × (l.done ≡ 0);
   none : l.done ≡ 0 → (l.sink ≡ l.fn.sink) × (l.walk.next ≡ l.fn.walk.next) × (l.walk ≡ l.fn.walk) × (l.link ≡ l.fn.link) × (l.transactions ≡ l.fn.transactions);
-  delivers : Delivery g.S.Sink.puts l.fn.sink l.sink (λ r M H. g.L.LogLink.is_honest l.fn.link l.fn.walk.log r M H)
-      (λ r M H. g.L.LogLink.is_honest l.link l.fn.walk.log r M H) l.fn.transactions.retries
+  delivers : Delivery g.S.Sink.puts l.fn.sink l.sink (λ r M H. g.L.LogLink.is_ours l.fn.link l.fn.walk.log r M H)
+      (λ r M H. g.L.LogLink.is_ours l.link l.fn.walk.log r M H) l.fn.transactions.retries
       (g.L.LogLink.failures l.fn.link) (g.L.LogLink.failures l.link) l.fn.walk l.walk l.done StepLimit;
   brought : BroughtInto g.L.LogLink.asks (towards l.fn.transactions.route) l.fn.transactions.retries g.S.Sink.puts l.fn.link l.fn.sink l.fn.walk l.done StepLimit l.walk l.sink l.link;
 }

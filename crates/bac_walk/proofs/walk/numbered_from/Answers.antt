@@ -2,7 +2,7 @@ use Rattle.std.proofs.Common.{◌≡◌, ℕ, suc, ◌+◌, ◌-◌, List, [], �
 use Rattle.bac_log.specs.RecordReading.{entries_at}
 use Rattle.bac_walk.specs.declared.batch.Numbered.{Numbered}
 use Rattle.bac_walk.specs.Spelled.{spelled}
-use Rattle.bac_walk.specs.Ordinals.{number_after}
+use Rattle.bac_link.specs.Ordinals.{number_after}
 use Rattle.bac_walk.specs.Walks.{with_numbers}
 use Rattle.bac_walk.proofs.Numbers.{length-with_numbers}
 use Rattle.bac_walk.proofs.Spellings.{left_none, left_some, left_last}

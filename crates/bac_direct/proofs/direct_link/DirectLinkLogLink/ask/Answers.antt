@@ -2,13 +2,13 @@ use Rattle.std.proofs.Common.{Ok, Err, sym}
 use Rattle.bac_direct.proofs.Asks.{asked, lacked, lost, never_lost, nothing_changes}
 use Rattle.bac_direct.proofs.direct_link.DirectLinkLogLink.ask.Goals as goal
 
-pub returns-in-Some-clause-honest : goal.returns-in-Some-clause-honest
-returns-in-Some-clause-honest c = λ id r M H extent path invoke ahead asks.
+pub returns-in-Some-clause-ours : goal.returns-in-Some-clause-ours
+returns-in-Some-clause-ours c = λ id r M H extent path invoke ahead asks.
     asked c.args.self.now.device.now c.tell.new.self.device.now c.args.self.now.events.now c.tell.new.self.events.now id r M H extent path invoke c.args.request.now
     (Ok c.in-Some.datagram) c.tell.ensures.sound ahead asks c.in-Some.ensures.reply c.tell.ensures.device c.tell.ensures.events
 
-pub returns-in-None-clause-honest : goal.returns-in-None-clause-honest
-returns-in-None-clause-honest c = λ id r M H extent path invoke ahead asks.
+pub returns-in-None-clause-ours : goal.returns-in-None-clause-ours
+returns-in-None-clause-ours c = λ id r M H extent path invoke ahead asks.
     asked c.args.self.now.device.now c.tell.new.self.device.now c.args.self.now.events.now c.tell.new.self.events.now id r M H extent path invoke c.args.request.now
     (Err lost) c.tell.ensures.sound ahead asks c.in-None.ensures.reply c.tell.ensures.device c.tell.ensures.events
 

@@ -11,13 +11,13 @@ use Rattle.bac_direct.proofs.Fitting.{reply_small}
 use Rattle.bac_direct.proofs.Asks.{lost}
 use Rattle.bac_direct.proofs.routed_link.RoutedLink.pass.Goals as goal
 
-pub returns-in-Err-clause-honest : goal.returns-in-Err-clause-honest
-returns-in-Err-clause-honest g c = λ id r M H extent path invoke h asks.
+pub returns-in-Err-clause-ours : goal.returns-in-Err-clause-ours
+returns-in-Err-clause-ours g c = λ id r M H extent path invoke h asks.
     let far = c.args.self.now.far in
     let near = c.args.self.now.near in
     let q = question_handed far near path id extent invoke c.args.request.now c.in-Some.inner c.in-Some.ensures.source asks (sym c.in-Some.ensures.handed) in
     let is = subst (λ (o : List ℕ). IsQuestion id extent (back (towards (Some near))) invoke o) (sym c.octets.ensures.value) q.0 in
-    c.in-Err.ensures.honest id r M H extent (back (towards (Some near))) invoke h is
+    c.in-Err.ensures.ours id r M H extent (back (towards (Some near))) invoke h is
 
 pub returns-in-Err-clause-lacking : goal.returns-in-Err-clause-lacking
 returns-in-Err-clause-lacking g c = λ id extent path invoke h asks.
@@ -27,13 +27,13 @@ returns-in-Err-clause-lacking g c = λ id extent path invoke h asks.
     let is = subst (λ (o : List ℕ). IsQuestion id extent (back (towards (Some near))) invoke o) (sym c.octets.ensures.value) q.0 in
     (tt, (c.in-Err.ensures.lacking id extent (back (towards (Some near))) invoke h is).1)
 
-pub returns-in-Some-handed_on-clause-honest : goal.returns-in-Some-handed_on-clause-honest
-returns-in-Some-handed_on-clause-honest g c = λ id r M H extent path invoke h asks.
+pub returns-in-Some-handed_on-clause-ours : goal.returns-in-Some-handed_on-clause-ours
+returns-in-Some-handed_on-clause-ours g c = λ id r M H extent path invoke h asks.
     let far = c.args.self.now.far in
     let near = c.args.self.now.near in
     let q = question_handed far near path id extent invoke c.args.request.now c.in-Some.inner c.in-Some.ensures.source asks (sym c.in-Some.ensures.handed) in
     let is = subst (λ (o : List ℕ). IsQuestion id extent (back (towards (Some near))) invoke o) (sym c.octets.ensures.value) q.0 in
-    let a = c.in-Ok.ensures.honest id r M H extent (back (towards (Some near))) invoke h is in
+    let a = c.in-Ok.ensures.ours id r M H extent (back (towards (Some near))) invoke h is in
     let m = Complex false invoke read_range_service (reply_parameters id (log_at (now M) H) extent r) in
     let on = ap (λ (o : List ℕ). handed_on near far o) (sym c.octets-2.ensures.value) ∙ sym c.in-Some-handed_on.ensures.handed in
     let back_is = reply_back far near c.in-Ok.reply c.in-Some-handed_on.datagram m c.in-Some.ensures.dest a.0.1 on in
@@ -50,13 +50,13 @@ returns-in-Some-handed_on-clause-lacking g c = λ id extent path invoke h asks.
     let back_is = reply_back far near c.in-Ok.reply c.in-Some-handed_on.datagram (Error invoke read_range_service 1 31) c.in-Some.ensures.dest a.0 on in
     (subst (λ (p : Path). IsUnknown p invoke c.in-Some-handed_on.datagram) (sym q.1) back_is, a.1)
 
-pub returns-in-None-clause-honest : goal.returns-in-None-clause-honest
-returns-in-None-clause-honest g c = λ id r M H extent path invoke h asks.
+pub returns-in-None-clause-ours : goal.returns-in-None-clause-ours
+returns-in-None-clause-ours g c = λ id r M H extent path invoke h asks.
     let far = c.args.self.now.far in
     let near = c.args.self.now.near in
     let q = question_handed far near path id extent invoke c.args.request.now c.in-Some.inner c.in-Some.ensures.source asks (sym c.in-Some.ensures.handed) in
     let is = subst (λ (o : List ℕ). IsQuestion id extent (back (towards (Some near))) invoke o) (sym c.octets.ensures.value) q.0 in
-    let a = c.in-Ok.ensures.honest id r M H extent (back (towards (Some near))) invoke h is in
+    let a = c.in-Ok.ensures.ours id r M H extent (back (towards (Some near))) invoke h is in
     let small = reply_small r M H id extent (g.met.L.LogLink.serves c.args.self.now.inner id r M H h) a.0.0 in
     let off = ap (λ (o : List ℕ). handed_on near far o) (sym c.octets-2.ensures.value) ∙ sym c.in-None.ensures.handed in
     absurd (fits_back far near c.in-Ok.reply invoke read_range_service (reply_parameters id (log_at (now M) H) extent r) c.in-Some.ensures.dest a.0.1 small off)

@@ -1,6 +1,6 @@
 use Rattle.std.proofs.Common.{ap, sym, ◌∙◌, arith}
 use Rattle.bac_wire.specs.Primitive.{Id}
-use Rattle.bac_walk.specs.Heard.{heard_at}
+use Rattle.bac_link.specs.Heard.{heard_at}
 use Rattle.bac_walk.specs.Walks.{fits}
 use Rattle.bac_walk.specs.Spelled.{data_in}
 use Rattle.bac_walk.proofs.WalkTakes.{taken, fits_few}

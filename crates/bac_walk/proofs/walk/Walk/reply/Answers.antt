@@ -47,19 +47,19 @@ no_more : (p : Result Progress WalkFault) → asks_next p ≡ true → MissingTu
 no_more (Ok p) asks h = h
 no_more (Err e) asks h = absurd (cc)
 
-pub returns-then-not-asks_next-clause-honest : goal.returns-then-not-asks_next-clause-honest
-returns-then-not-asks_next-clause-honest g c r M H s honest next near =
+pub returns-then-not-asks_next-clause-ours : goal.returns-then-not-asks_next-clause-ours
+returns-then-not-asks_next-clause-ours g c r M H s ours next near =
     let log : c.restart.new.self.log ≡ c.args.self.now.log = ap (λ (v : WalkPlace). v.log) c.restart.ensures in
-    let P : Id → Type 0 = λ n. g.L.LogLink.is_honest c.args.link.now n r M H in
+    let P : Id → Type 0 = λ n. g.L.LogLink.is_ours c.args.link.now n r M H in
     let shown : c.restart.new.self.next ≡ sequence_number s = ap (λ (v : WalkPlace). v.next) c.restart.ensures ∙ next in
     let fresh : c.restart.new.self.fresh ≡ c.args.self.now.fresh = ap (λ (v : WalkPlace). v.fresh) c.restart.ensures in
-    let done = first_at (λ N. g.L.LogLink.is_honest c.turn-first.new.link c.restart.new.self.log r N H) r H M s
+    let done = first_at (λ N. g.L.LogLink.is_ours c.turn-first.new.link c.restart.new.self.log r N H) r H M s
     c.args.self.now c.restart.new.self c.args.transactions.now.retries (g.L.LogLink.failures c.args.link.now) (g.L.LogLink.failures c.turn-first.new.link) (progress_of c.turn-first.result) c.turn-first.new.self next c.restart.ensures
-    (c.turn-first.ensures.honest r M H s (subst P (sym log) honest) shown (λ old. (near (sym fresh ∙ old)).0)) (cc) in
+    (c.turn-first.ensures.ours r M H s (subst P (sym log) ours) shown (λ old. (near (sym fresh ∙ old)).0)) (cc) in
     let Q : Result Step WalkFault → Type 0 = λ z. Collected r H M c.args.self.now.fresh s 1
     c.args.transactions.now.retries (g.L.LogLink.failures c.args.link.now) (g.L.LogLink.failures c.turn-first.new.link)
     (step_items z) done.1 (step_ended z) done.0 in
-    let R : Id → Type 0 = λ n. g.L.LogLink.is_honest c.turn-first.new.link n r (after_answers (length done.0) M) H in
+    let R : Id → Type 0 = λ n. g.L.LogLink.is_ours c.turn-first.new.link n r (after_answers (length done.0) M) H in
     let S : Result Step WalkFault → Type 0 = λ s. c.turn-first.new.self.fresh ≡ is_fresh_after c.args.self.now.fresh s in
     (done.0, done.1, done.2, subst Q (sym c.finished.ensures) done.3, subst R log done.4, subst S (sym c.finished.ensures) done.5)
 
@@ -70,31 +70,31 @@ returns-clause-fault g c =
     let P : Result Step WalkFault → Type 0 = λ s. OnErr s (c.turn.new.self.next ≡ c.args.self.now.next) in
     subst P (sym c.finished-2.ensures) (kept _ _ _ _ next c.turn.ensures.fault)
 
-pub returns-clause-honest : goal.returns-clause-honest
-returns-clause-honest g c r M H s honest next near =
+pub returns-clause-ours : goal.returns-clause-ours
+returns-clause-ours g c r M H s ours next near =
     let log : c.restart.new.self.log ≡ c.args.self.now.log = ap (λ (v : WalkPlace). v.log) c.restart.ensures in
     let logs : c.turn-first.new.self.log ≡ c.args.self.now.log = c.turn-first.ensures.log ∙ log in
-    let P : Id → Type 0 = λ n. g.L.LogLink.is_honest c.args.link.now n r M H in
+    let P : Id → Type 0 = λ n. g.L.LogLink.is_ours c.args.link.now n r M H in
     let shown : c.restart.new.self.next ≡ sequence_number s = ap (λ (v : WalkPlace). v.next) c.restart.ensures ∙ next in
     let fresh : c.restart.new.self.fresh ≡ c.args.self.now.fresh = ap (λ (v : WalkPlace). v.fresh) c.restart.ensures in
-    let first = asked (λ N. g.L.LogLink.is_honest c.turn-first.new.link c.restart.new.self.log r N H) r H M s
+    let first = asked (λ N. g.L.LogLink.is_ours c.turn-first.new.link c.restart.new.self.log r N H) r H M s
     c.args.self.now c.restart.new.self c.args.transactions.now.retries (g.L.LogLink.failures c.args.link.now) (g.L.LogLink.failures c.turn-first.new.link) (progress_of c.turn-first.result) c.turn-first.new.self c.restart.ensures
-    (c.turn-first.ensures.honest r M H s (subst P (sym log) honest) shown (λ old. (near (sym fresh ∙ old)).0)) (cc) in
+    (c.turn-first.ensures.ours r M H s (subst P (sym log) ours) shown (λ old. (near (sym fresh ∙ old)).0)) (cc) in
     let shown_next : c.turn-first.new.self.next ≡ sequence_number s = c.turn-first.ensures.asks (cc) ∙ shown in
-    let U : Id → Type 0 = λ n. g.L.LogLink.is_honest c.turn-first.new.link n r (later M) H in
-    let V : ℕ → Type 0 = λ n. IsTurned (λ N. g.L.LogLink.is_honest c.turn.new.link c.turn-first.new.self.log r N H) r (later M) H s c.turn-first.new.self n
+    let U : Id → Type 0 = λ n. g.L.LogLink.is_ours c.turn-first.new.link n r (later M) H in
+    let V : ℕ → Type 0 = λ n. IsTurned (λ N. g.L.LogLink.is_ours c.turn.new.link c.turn-first.new.self.log r N H) r (later M) H s c.turn-first.new.self n
     (g.L.LogLink.failures c.turn-first.new.link) (g.L.LogLink.failures c.turn.new.link) (progress_of c.turn.result) c.turn.new.self in
-    let done = second_at (λ N. g.L.LogLink.is_honest c.turn.new.link c.turn-first.new.self.log r N H) r H M s
+    let done = second_at (λ N. g.L.LogLink.is_ours c.turn.new.link c.turn-first.new.self.log r N H) r H M s
     c.args.self.now c.turn-first.new.self c.args.transactions.now.retries (g.L.LogLink.failures c.args.link.now)
     (g.L.LogLink.failures c.turn-first.new.link) (g.L.LogLink.failures c.turn.new.link) (progress_of c.turn.result) c.turn.new.self
-    next (g.met.L.LogLink.serves c.args.link.now c.args.self.now.log r M H honest)
+    next (g.met.L.LogLink.serves c.args.link.now c.args.self.now.log r M H ours)
     first.0 first.1 c.turn-first.ensures.never_falls first.2
-    (subst V c.turn-first.ensures.retries (c.turn.ensures.honest r (later M) H s (subst U (sym c.turn-first.ensures.log) first.3) shown_next
+    (subst V c.turn-first.ensures.retries (c.turn.ensures.ours r (later M) H s (subst U (sym c.turn-first.ensures.log) first.3) shown_next
     (λ old. (near (or_parts c.args.self.now.fresh false first.0).0).1 first.1))) in
     let Q : Result Step WalkFault → Type 0 = λ z. Collected r H M c.args.self.now.fresh s 1
     c.args.transactions.now.retries (g.L.LogLink.failures c.args.link.now) (g.L.LogLink.failures c.turn.new.link)
     (step_items z) done.1 (step_ended z) done.0 in
-    let R : Id → Type 0 = λ n. g.L.LogLink.is_honest c.turn.new.link n r (after_answers (length done.0) M) H in
+    let R : Id → Type 0 = λ n. g.L.LogLink.is_ours c.turn.new.link n r (after_answers (length done.0) M) H in
     let S : Result Step WalkFault → Type 0 = λ s. c.turn.new.self.fresh ≡ is_fresh_after c.args.self.now.fresh s in
     (done.0, done.1, done.2, subst Q (sym c.finished-2.ensures) done.3, subst R logs done.4, subst S (sym c.finished-2.ensures) done.5)
 
@@ -115,24 +115,24 @@ returns-clause-goes g c s =
     c.finished-2.ensures (c.turn.ensures.goes s))
 
 pub returns-clause-answered : goal.returns-clause-answered
-returns-clause-answered g c r M H s sure honest next near =
+returns-clause-answered g c r M H s sure ours next near =
     let log : c.restart.new.self.log ≡ c.args.self.now.log = ap (λ (v : WalkPlace). v.log) c.restart.ensures in
-    let P : Id → Type 0 = λ n. g.L.LogLink.is_honest c.args.link.now n r M H in
+    let P : Id → Type 0 = λ n. g.L.LogLink.is_ours c.args.link.now n r M H in
     let shown : c.restart.new.self.next ≡ sequence_number s = ap (λ (v : WalkPlace). v.next) c.restart.ensures ∙ next in
     let fresh : c.restart.new.self.fresh ≡ c.args.self.now.fresh = ap (λ (v : WalkPlace). v.fresh) c.restart.ensures in
-    let first = asked (λ N. g.L.LogLink.is_honest c.turn-first.new.link c.restart.new.self.log r N H) r H M s
+    let first = asked (λ N. g.L.LogLink.is_ours c.turn-first.new.link c.restart.new.self.log r N H) r H M s
     c.args.self.now c.restart.new.self c.args.transactions.now.retries (g.L.LogLink.failures c.args.link.now) (g.L.LogLink.failures c.turn-first.new.link) (progress_of c.turn-first.result) c.turn-first.new.self c.restart.ensures
-    (c.turn-first.ensures.honest r M H s (subst P (sym log) honest) shown (λ old. (near (sym fresh ∙ old)).0)) (cc) in
-    let U : Id → Type 0 = λ n. g.L.LogLink.is_honest c.turn-first.new.link n r (later M) H in
+    (c.turn-first.ensures.ours r M H s (subst P (sym log) ours) shown (λ old. (near (sym fresh ∙ old)).0)) (cc) in
+    let U : Id → Type 0 = λ n. g.L.LogLink.is_ours c.turn-first.new.link n r (later M) H in
     found_step (progress_of c.turn.result) (step_of c.finished-2.result) c.finished-2.ensures
     (c.turn.ensures.answered r (later M) H (c.turn-first.ensures.sure sure) (subst U (sym c.turn-first.ensures.log) first.3))
 
 pub returns-then-not-asks_next-clause-answered : goal.returns-then-not-asks_next-clause-answered
-returns-then-not-asks_next-clause-answered g c r M H s sure honest next near =
-    let P : Id → Type 0 = λ n. g.L.LogLink.is_honest c.args.link.now n r M H in
+returns-then-not-asks_next-clause-answered g c r M H s sure ours next near =
+    let P : Id → Type 0 = λ n. g.L.LogLink.is_ours c.args.link.now n r M H in
     let log : c.restart.new.self.log ≡ c.args.self.now.log = ap (λ (v : WalkPlace). v.log) c.restart.ensures in
     found_step (progress_of c.turn-first.result) (step_of c.finished.result) c.finished.ensures
-    (c.turn-first.ensures.answered r M H sure (subst P (sym log) honest))
+    (c.turn-first.ensures.answered r M H sure (subst P (sym log) ours))
 
 pub returns-then-not-asks_next-clause-lacking : goal.returns-then-not-asks_next-clause-lacking
 returns-then-not-asks_next-clause-lacking g c lacks =

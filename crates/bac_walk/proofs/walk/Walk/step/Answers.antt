@@ -10,15 +10,15 @@ use Rattle.bac_walk.proofs.Sames.{same_step}
 use Rattle.bac_link.specs.Path.{towards}
 use Rattle.bac_walk.specs.Told.{Told}
 use Rattle.bac_walk.specs.Came.{Came, Brought}
-use Rattle.bac_walk.proofs.Spoken.{delivers_said}
+use Rattle.bac_walk.proofs.Honest.{delivers_said}
 use Rattle.bac_walk.proofs.walk.Walk.step.Goals as goal
 
 pub returns-clause-fault : goal.returns-clause-fault
 returns-clause-fault g c = (same_step (step_of c.reply.result) c.decoded.result c.decoded.ensures).fault c.reply.new.self.next c.args.self.now.next c.reply.ensures.fault
 
 pub returns-clause-answered : goal.returns-clause-answered
-returns-clause-answered g c r M H s sure honest next near =
-    (same_step (step_of c.reply.result) c.decoded.result c.decoded.ensures).found (c.reply.ensures.answered r M H s sure honest next near)
+returns-clause-answered g c r M H s sure ours next near =
+    (same_step (step_of c.reply.result) c.decoded.result c.decoded.ensures).found (c.reply.ensures.answered r M H s sure ours next near)
 
 pub returns-clause-lacking : goal.returns-clause-lacking
 returns-clause-lacking g c lacks =
@@ -34,10 +34,10 @@ returns-clause-goes g c s =
     let P : List Item → Type 0 = λ l. Goes c.args.self.now.fresh c.args.self.now.next s l c.reply.new.self.fresh c.reply.new.self.next in
     subst P (same_step (step_of c.reply.result) c.decoded.result c.decoded.ensures).items (c.reply.ensures.goes s)
 
-pub returns-clause-honest : goal.returns-clause-honest
-returns-clause-honest g c r M H s honest next near =
+pub returns-clause-ours : goal.returns-clause-ours
+returns-clause-ours g c r M H s ours next near =
     let same = same_step (step_of c.reply.result) c.decoded.result c.decoded.ensures in
-    let run = c.reply.ensures.honest r M H s honest next near in
+    let run = c.reply.ensures.ours r M H s ours next near in
     let P : List Item → Type 0 = λ l. Collected r H M c.args.self.now.fresh s 1 c.args.transactions.now.retries
     (g.L.LogLink.failures c.args.link.now) (g.L.LogLink.failures c.reply.new.link) l run.1 (step_ended (step_of c.reply.result)) run.0 in
     let Q : Ended → Type 0 = λ e. Collected r H M c.args.self.now.fresh s 1 c.args.transactions.now.retries
@@ -45,20 +45,20 @@ returns-clause-honest g c r M H s honest next near =
     (run.0, run.1, run.2, subst Q same.ended (subst P same.items run.3), run.4, run.5 ∙ same.fresh c.args.self.now.fresh)
 
 pub returns-clause-resting : goal.returns-clause-resting
-returns-clause-resting g c r m H s sure honest next near =
+returns-clause-resting g c r m H s sure ours next near =
     let close : c.args.self.now.fresh ≡ false → IsNearStep s (m ∷ []) = λ old. (near old, λ none. near old) in
-    let run = returns-clause-honest g c r (m ∷ []) H s honest next close in
+    let run = returns-clause-ours g c r (m ∷ []) H s ours next close in
     rested_step r H m c.args.self.now.fresh s c.args.transactions.now.retries (g.L.LogLink.failures c.args.link.now) (g.L.LogLink.failures c.reply.new.link)
-    run.1 c.reply.new.self.next c.decoded.result run.0 (returns-clause-answered g c r (m ∷ []) H s sure honest next close) run.3 run.2
+    run.1 c.reply.new.self.next c.decoded.result run.0 (returns-clause-answered g c r (m ∷ []) H s sure ours next close) run.3 run.2
 
 pub returns-clause-told : goal.returns-clause-told
 returns-clause-told g c =
     let P : Ended → Type 0 = λ e. Told g.L.LogLink.asks (towards c.args.transactions.now.route) c.args.transactions.now.retries e c.reply.new.self c.reply.new.link in
     subst P (same_step (step_of c.reply.result) c.decoded.result c.decoded.ensures).ended c.reply.ensures.told
 
-pub returns-clause-headline : goal.returns-clause-headline
-returns-clause-headline g c r M H s honest next near =
-    let run = returns-clause-honest g c r M H s honest next near in (
+pub returns-clause-near : goal.returns-clause-near
+returns-clause-near g c r M H s ours next near =
+    let run = returns-clause-ours g c r M H s ours next near in (
       start_of c.args.self.now.fresh s M run.0,
       length run.0,
       run.1,
@@ -78,8 +78,8 @@ returns-clause-brought g c =
     c.args.link.now c.args.self.now 1 came (step_items c.decoded.result) e c.reply.new.self c.reply.new.link in
     subst Q same.ended (subst P same.items c.reply.ensures.brought)
 
-pub returns-clause-said : goal.returns-clause-said
+pub returns-clause-headline : goal.returns-clause-headline
 unfolding returns-clause-brought
-returns-clause-said g c =
+returns-clause-headline g c =
     delivers_said g.L.LogLink.asks (towards c.args.transactions.now.route) c.args.transactions.now.retries c.args.link.now c.reply.new.link c.args.self.now c.reply.new.self 1
     (step_items c.decoded.result) (step_ended c.decoded.result) (returns-clause-brought g c)

@@ -1,12 +1,14 @@
--- What the parameters of an ACK say to a walk of a log.
+-- What is heard of a log in the parameters of an ACK, and in a datagram.
 use Rattle.std.specs.Prelude.{ℕ, Bool, true, false, ◌==◌, ◌&&◌, List, length, Option, Some, None, Result, if◌then◌else◌}
 use Rattle.std.specs.Result.{result_ok}
 use Rattle.bac_wire.specs.declared.fault.WireFault.{WireFault}
 use Rattle.bac_wire.specs.Primitive.{Id}
+use Rattle.bac_apdu.specs.Apdu.{Apdu, Complex}
 use Rattle.bac_apdu.specs.Service.ReadRangeAck.{RangeAck, read_range_ack_at}
 use Rattle.bac_log.specs.declared.entry.Entry.{Entry}
 use Rattle.bac_log.specs.Ack.{log_buffer}
 use Rattle.bac_log.specs.RecordReading.{entries_at}
+use Rattle.bac_link.specs.Datagrams.{apdu_in}
 
 -- the first number, the count and the records
 pub record AckParameters : Type 0 where
@@ -48,3 +50,18 @@ heard_if log (Some a) = heard_of log a
 -- and nothing, if they are no parameters of an ACK of ReadRange
 unfoldable pub heard_at : Id → List ℕ → Option AckParameters
 heard_at log bytes = heard_if log (read_range_ack_at bytes)
+
+-- the parameters of an ACK of ReadRange
+abbrev pub parameters_in : Option Apdu → Option (List ℕ)
+parameters_in (Some (Complex segmented invoke service parameters)) =
+    if segmented then None else (if service == 26 then Some parameters else None)
+parameters_in message = None
+
+-- what is heard in them, if there are any
+abbrev pub heard_from : Id → Option (List ℕ) → Option AckParameters
+heard_from log None = None
+heard_from log (Some parameters) = heard_at log parameters
+
+-- the same of a whole datagram: it says something only as an unsegmented ACK of ReadRange
+abbrev pub heard_in : Id → List ℕ → Option AckParameters
+heard_in log datagram = heard_from log (parameters_in (apdu_in datagram))

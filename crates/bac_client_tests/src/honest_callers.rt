@@ -6,7 +6,7 @@ ghost use Rattle.bac_link.specs.Delivery.{History, Moment, DeliversTo};
 ghost use Rattle.bac_walk.specs.declared.outcome.Why.TheVariants as why;
 ghost use Rattle.bac_walk.specs.declared.outcome.WalkFault.{WalkFault as WalkFaultOf};
 ghost use Rattle.bac_walk.specs.declared.outcome.WalkFault.TheVariants as fault;
-ghost use Rattle.bac_walk.specs.Near.{AreInWindow};
+ghost use Rattle.bac_link.specs.Moments.{AreInWindow};
 ghost use Rattle.bac_direct.specs.Ahead.{history_ahead, IsThere, moments_ahead, placed_all};
 
 use crate::direct_link::{brought, gap, plant, state};
@@ -14,13 +14,13 @@ use bac_device::Device;
 use bac_direct::{DirectLink, LinkEvent};
 use bac_link::{LogLink, Transactions};
 use bac_walk::{
-    Outcome, Walk, Why, collect, honest_speaks, moments_never_go_back, spoken_is_delivered,
+    Outcome, Walk, Why, collect, honest_is_delivered, moments_never_go_back, ours_are_honest,
 };
 use bac_wire::ObjectId;
 use std::alloc::Global;
 use std::test::Fail;
 
-/// Over an honest link whose moments lie within half of the count, the headline follows from what
+/// Over a link of ours whose moments lie within half of the count, the headline follows from what
 /// came: the records from the ordinal of number s on that the log holds
 /// when each is reached. The walk ends with no fault but a loss.
 pub fn records_that_came<L: LogLink>(
@@ -31,14 +31,14 @@ pub fn records_that_came<L: LogLink>(
     steps: u32,
 ) -> Option<Outcome>
     ensures { IfSome result (λ outcome. (r : ℕ) (M : List Moment) (H : History) (k low : ℕ) →
-        L.is_honest link.old log r M H → s ≡ sequence_number k →
+        L.is_ours link.old log r M H → s ≡ sequence_number k →
         AreInWindow low M → low ≤ k → k < low + 2147483648 →
         ((count : ℕ) × (t : ℕ) × (outcome.next ≡ sequence_number t) × DeliversTo H k outcome.items.items t M count)
         × ((e : WalkFaultOf) → outcome.why ≡ why.Fault e → e ≡ fault.Lost)) }
 {
     // For the prover alone, all five: laws, and numbers small enough for a request.
-    spoken_is_delivered::<L>();
-    honest_speaks::<L>();
+    honest_is_delivered::<L>();
+    ours_are_honest::<L>();
     moments_never_go_back();
     let _kind = log.kind();
     let _instance = log.instance();

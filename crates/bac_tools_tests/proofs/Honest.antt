@@ -1,4 +1,4 @@
--- What is printed of a link that speaks for a log.
+-- What is printed of a link that is honest for a log.
 use Rattle.std.specs.Io.KnownBytes.{Appends}
 use Rattle.std.specs.Prelude.{IfOk}
 use Rattle.std.proofs.Common.{◌≡◌, ℕ, ◌+◌, ◌<◌, ◌≤◌, Option, None, Result, Ok, Err, List, ◌++◌, length, refl, subst, ◌∙◌}
@@ -14,11 +14,12 @@ use Rattle.bac_query.specs.Reading.{Held}
 use Rattle.bac_query.specs.declared.fetching.Fetched.{Fetched}
 use Rattle.bac_query.specs.Ends.{end_line}
 use Rattle.bac_query.specs.Items.{items_text}
-use Rattle.bac_walk.specs.Came.{NeverGoesBack}
-use Rattle.bac_walk.specs.Near.{AreInWindow}
+use Rattle.bac_link.specs.Moments.{NeverGoesBack}
+use Rattle.bac_link.specs.Moments.{AreInWindow}
 use Rattle.bac_walk.specs.Outcomes.{IsRunOf}
 use Rattle.bac_walk.specs.Place.{WalkPlace, walk_at}
-use Rattle.bac_walk.specs.Spoken.{IsSpokenEnd, Speaks, SpeaksFor, SpokenIsDelivered}
+use Rattle.bac_link.specs.Honest.{IsHonest, IsHonestWhere}
+use Rattle.bac_walk.specs.Honest.{IsHonestEnd, HonestIsDelivered}
 use Rattle.bac_walk.specs.declared.outcome.Ended.{Ended}
 use Rattle.bac_walk.specs.declared.outcome.Ended.TheVariants.{Fault}
 use Rattle.bac_walk.specs.declared.outcome.WalkFault.{WalkFault}
@@ -32,7 +33,7 @@ ended_as why.StepLimit steps n ended e run is = absurd (cc)
 ended_as (why.Fault f) steps n ended e run is = let a = run.1 in cc
 ended_as why.Memory steps n ended e run is = absurd (cc)
 
-is_loss : (e : WalkFault) → IsSpokenEnd (Fault e) → e ≡ Lost
+is_loss : (e : WalkFault) → IsHonestEnd (Fault e) → e ≡ Lost
 is_loss Lost end = refl
 is_loss (Refused refusal) end = absurd end
 is_loss BadReply end = absurd end
@@ -44,17 +45,17 @@ PrintsSaid H M k done old new =
     × Appends old new (items_text items ++ end_line done.why done.next) × ((e : WalkFault) → done.why ≡ why.Fault e → e ≡ Lost)
 
 pub prints_said : {S : Type 0} (asks : S → List ℕ → Result (List ℕ) Loss → S → Type 0) (link left : S) (way : Option Place) (retries : ℕ) (w : WalkPlace) (log : Id) (number steps : ℕ) (result : Fetching) (old new : Held) →
-    ((path : Path) (log : Id) (H : History) (low : ℕ) → SpokenIsDelivered asks (λ l M. Speaks asks path log H low l M)) →
-    ((path : Path) (log : Id) (H : History) (low : ℕ) → SpeaksFor asks path log H low (λ l M. Speaks asks path log H low l M)) → way ≡ None → w ≡ walk_at log number →
+    ((path : Path) (log : Id) (H : History) (low : ℕ) → HonestIsDelivered asks (λ l M. IsHonest asks path log H low l M)) →
+    ((path : Path) (log : Id) (H : History) (low : ℕ) → IsHonestWhere asks path log H low (λ l M. IsHonest asks path log H low l M)) → way ≡ None → w ≡ walk_at log number →
     FetchesOver asks (towards way) retries link w steps result left old new →
-    IfOk result (λ done. (M : List Moment) (H : History) (k low : ℕ) → Speaks asks (towards None) log H low link M → number ≡ sequence_number k →
+    IfOk result (λ done. (M : List Moment) (H : History) (k low : ℕ) → IsHonest asks (towards None) log H low link M → number ≡ sequence_number k →
     0 < length M → NeverGoesBack M → AreInWindow low M → low ≤ k → k < low + 2147483648 → PrintsSaid H M k done old new)
 prints_said asks link left way retries w log number steps (Err fault) old new law goes near from over = tt
-prints_said {S = S} asks link left way retries w log number steps (Ok done) old new law goes near from over = λ M H k low speaks here some back window above below.
+prints_said {S = S} asks link left way retries w log number steps (Ok done) old new law goes near from over = λ M H k low honest here some back window above below.
     let P : Option Place → WalkPlace → Type 0 = λ y v. FetchesOver asks (towards y) retries link v steps (Ok done) left old new in
     let B : Option Place → Type 0 = λ y. P y (walk_at log number) in
     let f : P None (walk_at log number) = subst B near (subst (P way) from over) in
-    let d = law (towards None) log H low (towards None) retries link f.5 (walk_at log number) f.4 f.2 f.0 f.1 f.3 H M low k (goes (towards None) log H low) speaks f.6 here some back window (λ is. (above, below)) in
+    let d = law (towards None) log H low (towards None) retries link f.5 (walk_at log number) f.4 f.2 f.0 f.1 f.3 H M low k (goes (towards None) log H low) honest f.6 here some back window (λ is. (above, below)) in
     let D : ℕ → Type 0 = λ x. DeliversTo H x f.1 d.0.2 M d.0.1 in (
       f.1,
       d.0.1,
@@ -62,5 +63,5 @@ prints_said {S = S} asks link left way retries w log number steps (Ok done) old 
       f.7.0.1 ∙ d.0.4,
       subst D (d.0.3 refl) d.0.5,
       f.7.2,
-      λ e is. is_loss e (subst IsSpokenEnd (ended_as done.why steps f.2 f.3 e f.7.0.0 is) d.3),
+      λ e is. is_loss e (subst IsHonestEnd (ended_as done.why steps f.2 f.3 e f.7.0.0 is) d.3),
     )

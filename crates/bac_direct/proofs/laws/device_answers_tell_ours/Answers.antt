@@ -1,5 +1,5 @@
 use Rattle.bac_direct.proofs.Asks.{asked}
-use Rattle.bac_direct.proofs.laws.device_answers_tell_honestly.Goals as goal
+use Rattle.bac_direct.proofs.laws.device_answers_tell_ours.Goals as goal
 
 pub returns : goal.returns
 returns c = λ old new octets answer id r M H extent path invoke ahead asks is.

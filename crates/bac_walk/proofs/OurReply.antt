@@ -1,4 +1,4 @@
--- What a walk hears of an honest reply is the whole reply of the moment.
+-- What a walk hears of a reply of ours is the whole reply of the moment.
 use Rattle.std.proofs.Common.{suc, ◌≡◌, ℕ, ◌≤◌, true, List, [], ◌∷◌, length, Option, Some, None, Ok, refl, sym, ap, subst, ◌∙◌, arith}
 use Rattle.std.specs.Prelude.{All, IsSomeAnd}
 use Rattle.std.specs.Result.{result_ok}
@@ -20,13 +20,14 @@ use Rattle.bac_log.proofs.Records.{entries_back}
 use Rattle.bac_log.proofs.Sizes.{entry_sized}
 use Rattle.bac_walk.specs.Replies.{Wanted, extent_of, IsShown}
 use Rattle.bac_link.specs.Datagrams.{apdu_in}
-use Rattle.bac_walk.specs.Heard.{AckParameters, heard_at, heard_if, heard_of, records_in, same_id}
+use Rattle.bac_link.specs.Heard.{AckParameters, heard_at, heard_if, heard_of, records_in, same_id}
 use Rattle.bac_link.specs.Links.{IsReply, reply_parameters}
 use Rattle.bac_link.specs.Delivery.{History, Moment, now}
 use Rattle.bac_link.specs.Path.{Path}
 use Rattle.bac_link.specs.Moments.{AreServed, log_at}
-use Rattle.bac_walk.specs.Takes.{records_of, first_of, parameters_in, Says}
-use Rattle.bac_walk.specs.Replied.{heard_from, heard_in}
+use Rattle.bac_link.specs.Heard.{parameters_in}
+use Rattle.bac_walk.specs.Takes.{records_of, first_of, Says}
+use Rattle.bac_link.specs.Heard.{heard_from, heard_in}
 use Rattle.bac_walk.proofs.Bridge.{IsNearTo, shown, answer_is}
 use Rattle.bac_walk.proofs.Held.{Sound-now, In-now}
 use Rattle.bac_walk.proofs.ReadBack.{reply_reads, packed_loggable}

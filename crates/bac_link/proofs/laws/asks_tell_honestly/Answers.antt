@@ -1,4 +1,0 @@
-use Rattle.bac_link.proofs.laws.asks_tell_honestly.Goals as goal
-
-pub returns : goal.returns
-returns g c = g.met.L.LogLink.tells_honestly

@@ -1,0 +1,5 @@
+use Rattle.bac_walk.proofs.Ours.{ours_are_honest}
+use Rattle.bac_walk.proofs.laws.ours_are_honest.Goals as goal
+
+pub returns : goal.returns
+returns g c = ours_are_honest g.L.LogLink.asks (λ link id r M H. g.L.LogLink.is_ours link id r M H) g.met.L.LogLink.serves g.met.L.LogLink.tells_ours

@@ -1,0 +1,101 @@
+-- What a walk delivers over links that are honest for its log.
+use Rattle.std.specs.Prelude.{◌≡◌, ℕ, ◌+◌, ◌<◌, ◌≤◌, false, Option, Result}
+use Rattle.std.specs.Prelude.{List, ◌∷◌, length, All}
+use Rattle.bac_wire.specs.Canon.{IsValid}
+use Rattle.bac_wire.specs.Primitive.{Id, Object}
+use Rattle.bac_apdu.specs.Npdu.{Place}
+use Rattle.bac_apdu.specs.Route.{IsWay}
+use Rattle.bac_link.specs.declared.item.Item.{Item}
+use Rattle.bac_link.specs.declared.link.Lost.{Lost as Loss}
+use Rattle.bac_link.specs.Delivery.{History, Moment, DeliversTo, now}
+use Rattle.bac_link.specs.Laws.{after_answers, moment_at}
+use Rattle.bac_link.specs.Moments.{AreServed, log_at}
+use Rattle.bac_link.specs.Path.{Path, towards}
+use Rattle.bac_log.specs.Entry.{IsLoggable}
+use Rattle.bac_log.specs.TrendLog.{sequence_number}
+use Rattle.bac_walk.specs.declared.outcome.Ended.{Ended}
+use Rattle.bac_walk.specs.declared.outcome.Ended.TheVariants.{CaughtUp, StepLimit, Stopped, Fault}
+use Rattle.bac_walk.specs.declared.outcome.WalkFault.TheVariants.{Lost, Refused, BadReply}
+use Rattle.bac_link.specs.Moments.{NeverGoesBack}
+use Rattle.bac_walk.specs.Came.{Came, Comes, AreSaidAt, Brought, answers_of}
+use Rattle.bac_walk.specs.Collects.{IsCaughtUp}
+use Rattle.bac_walk.specs.Delivers.{NoneFrom}
+use Rattle.bac_link.specs.Moments.{AreInWindow}
+use Rattle.bac_walk.specs.Near.{IsNear}
+use Rattle.bac_walk.specs.Place.{WalkPlace}
+use Rattle.bac_link.specs.Honest.{IsHonest, IsHonestWhere}
+
+-- how a run over such a link ends: the device refuses nothing, and no reply is a bad one
+abbrev pub IsHonestEnd : Ended → Type 0
+IsHonestEnd CaughtUp = Unit {0}
+IsHonestEnd StepLimit = Unit {0}
+IsHonestEnd Stopped = Unit {0}
+IsHonestEnd (Fault Lost) = Unit {0}
+IsHonestEnd (Fault (Refused refusal)) = ⊥
+IsHonestEnd (Fault BadReply) = ⊥
+
+-- Over a link that is honest for the log of a walk: what a run brought is delivered, the replies are by the standard,
+-- the link stands at the moments that they left, and if the run ended with a fault, that is a loss.
+abbrev pub HonestIsDelivered : {S : Type 0} → (S → List ℕ → Result (List ℕ) Loss → S → Type 0) →
+    (S → List Moment → Type 0) → Type 0
+HonestIsDelivered {S = S} asks stands =
+    (path : Path) (retries : ℕ) (old new : S) (w after : WalkPlace) (steps : ℕ) (came : List Came) (items : List Item)
+    (ended : Ended) (H : History) (M : List Moment) (low s : ℕ) →
+    IsHonestWhere asks path w.log H low stands → stands old M →
+    Brought asks path retries old w steps came items ended after new →
+    w.next ≡ sequence_number s → 0 < length M → NeverGoesBack M → AreInWindow low M →
+    (w.fresh ≡ false → (low ≤ s) × (s < low + 2147483648)) →
+    ((b : ℕ) × (a : ℕ) × (t : ℕ) × (w.fresh ≡ false → b ≡ s) × (after.next ≡ sequence_number t)
+    × DeliversTo H b items t M a × (ended ≡ CaughtUp → IsCaughtUp w.fresh t M (answers_of came)))
+    × AreSaidAt H M came × stands new (after_answers (length came) M) × IsHonestEnd ended
+
+-- The link is honest from the moments on that so many answers left. If a function tells where it stands, by which it
+-- is honest, it stands at these.
+abbrev pub IsLeftAt : {S : Type 0} → (S → List ℕ → Result (List ℕ) Loss → S → Type 0) →
+    Path → Id → History → ℕ → S → S → List Moment → ℕ → Type 0
+IsLeftAt {S = S} asks path log H low old new M a =
+    IsHonest asks path log H low new (after_answers a M)
+    × ((moments : S → List Moment) → IsHonestWhere asks path log H low (λ link N. moments link ≡ N) → moments old ≡ M →
+    moments new ≡ after_answers a M)
+
+-- What a run delivers over a link that is honest for its log from the moments M on: from the ordinal of the walk's
+-- number on, or from the oldest, the records that the log holds when each is reached. So many answers use up as many moments;
+-- caught up, the log held nothing more at one of these answers; and the only fault is a loss.
+abbrev pub DeliversSaid : {S : Type 0} → (S → List ℕ → Result (List ℕ) Loss → S → Type 0) → Path →
+    S → WalkPlace → List Item → Ended → WalkPlace → S → Type 0
+DeliversSaid {S = S} asks path old before items ended after new =
+    (H : History) (M : List Moment) (s low : ℕ) →
+    IsHonest asks path before.log H low old M → before.next ≡ sequence_number s →
+    0 < length M → NeverGoesBack M → AreInWindow low M →
+    (before.fresh ≡ false → (low ≤ s) × (s < low + 2147483648)) →
+    (b : ℕ) × (a : ℕ) × (t : ℕ) × (before.fresh ≡ false → b ≡ s) × (after.next ≡ sequence_number t)
+    × DeliversTo H b items t M a × IsLeftAt asks path before.log H low old new M a
+    × (ended ≡ CaughtUp → (i : ℕ) × (i < a) × NoneFrom t (moment_at M i)) × IsHonestEnd ended
+
+-- a link is honest for each log for which it is ours, by every way that a request can go
+abbrev pub OursAreHonest : {S : Type 0} → (S → List ℕ → Result (List ℕ) Loss → S → Type 0) →
+    (S → Id → ℕ → List Moment → History → Type 0) → Type 0
+OursAreHonest {S = S} asks ours =
+    (place : Option Place) (log : Id) (r : ℕ) (H : History) (low : ℕ) → IsWay place →
+    IsValid (Object log) → IsHonestWhere asks (towards place) log H low (λ link M. ours link log r M H)
+
+-- Where a reply came to a walk over a link of ours, all that the log holds at the next moment is loggable: so whether
+-- it is needn't be asked of who begins the walk.
+abbrev pub RepliesAreLoggable : {S : Type 0} → (S → List ℕ → Result (List ℕ) Loss → S → Type 0) →
+    (S → Id → ℕ → List Moment → History → Type 0) → Type 0
+RepliesAreLoggable {S = S} asks ours =
+    (place : Option Place) (retries : ℕ) (old new : S) (w after : WalkPlace) (c : Came) (came : List Came)
+    (r s : ℕ) (M : List Moment) (H : History) → ours old w.log r M H → IsWay place → IsValid (Object w.log) →
+    w.next ≡ sequence_number s → Comes asks (towards place) retries old w (c ∷ came) after new →
+    All IsLoggable (log_at (now M) H).entries
+
+-- there is one moment at least of one log, and its moments never go back
+abbrev pub MomentsNeverGoBack : Type 0
+MomentsNeverGoBack = (r : ℕ) (M : List Moment) (H : History) → AreServed r M H → (0 < length M) × NeverGoesBack M
+
+-- each number is that of an ordinal near a moment, if half of the count was logged before its oldest entry: a history
+-- may be taken so many whole rounds of numbers further on
+abbrev pub NumbersHaveOrdinals : Type 0
+NumbersHaveOrdinals =
+    (n : ℕ) (m : Moment) → 0 < n → n ≤ 4294967295 → 2147483648 ≤ m.oldest →
+    (s : ℕ) × (n ≡ sequence_number s) × IsNear s m
