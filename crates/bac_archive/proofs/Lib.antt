@@ -4,3 +4,4 @@ mod QueryLemmas
 mod SpanLemmas
 mod LogLemmas
 mod NewestLemmas
+pub mod ItemsLemmas

@@ -3,3 +3,4 @@ pub mod Rows
 pub mod Archive
 pub mod Logs
 pub mod Latest
+pub mod Items

@@ -15,7 +15,7 @@ mod shape;
 mod trend_logs;
 
 pub use creation::create;
-pub use items::{Item, items_of, read_item};
+pub use items::{Item, given_are_items, items_of, read_item};
 pub use latest::{NewestItem, newest};
 pub use opening::{Refused, open};
 pub use row::Row;

@@ -1,5 +1,5 @@
 -- What a run over logs keeps, and what is told of it.
-use Rattle.std.specs.Prelude.{◌≡◌, ◌⊎◌, ◌≤◌, ℕ, max, Bool, List, [], ◌∷◌, ◌++◌, length, map}
+use Rattle.std.specs.Prelude.{◌≡◌, ◌⊎◌, ◌≤◌, ℕ, max, Bool, List, [], ◌∷◌, ◌++◌, length}
 use Rattle.std.specs.Prelude.{Option, option_map, Result, Ok, Err}
 use Rattle.std.specs.Io.KnownBytes.{Appends}
 use Rattle.std.specs.String.{string_bytes}
@@ -10,7 +10,7 @@ use Rattle.bac_walk.specs.Collects.{Goes}
 use Rattle.bac_archive.specs.Rows.{IsAppended, kept}
 use Rattle.bac_archive.specs.Logs.{HasNewLog, IsKnownAs, log_row}
 use Rattle.bac_archive.specs.declared.trend_logs.Source.{Source}
-use Rattle.bac_keep.specs.Items.{kept_row}
+use Rattle.bac_keep.specs.Items.{era, kept_rows}
 use Rattle.bac_keep.specs.Runs.{records_in, gaps_among}
 use Rattle.bac_keeper.specs.declared.end.End.{End}
 use Rattle.bac_keeper.specs.declared.fault.FileFault.{FileFault}
@@ -20,13 +20,13 @@ use Rattle.bac_keeper.specs.Lines.{summary_line}
 use Rattle.bac_keeper.specs.Starts.{IsBegun}
 use Rattle.bac_keeper.specs.Status.{file_status, walk_status}
 
--- The rows of what a run brought come to those before, in the start's log and epoch. They are as many records and gaps
--- as are told, and cover each number from the walk's on, or from that of the first record of a walk from the oldest, up
--- to the one that comes next, once.
+-- The rows of what a run brought come to those before, from the start's log and epoch on, and in the next epoch where
+-- numbers come round. They are as many records and gaps as are told, and cover each number from the walk's on, or from
+-- that of the first record of a walk from the oldest, up to the one that comes next, once.
 pub record KeepsFrom (start : Start) (old new : Database) (end : End) : Type 0 where
   pub items : List Item
   pub had_none : Bool
-  pub rows : IsAppended old new (map (kept_row start.place) items)
+  pub rows : IsAppended old new (kept_rows (era start.place) items)
   pub records_are : end.records ≡ records_in items
   pub gaps_are : end.gaps ≡ gaps_among items
   pub goes : (s : ℕ) → Goes start.walk.fresh start.walk.next s items had_none end.next

@@ -1,5 +1,6 @@
 -- Where a run over a log begins.
-use Rattle.std.specs.Prelude.{◌≡◌, ◌⊎◌, ◌+◌, ◌<◌, ℕ, true, false, List, [], Option, None, Some, String, Result, Ok, Err}
+use Rattle.std.specs.Prelude.{◌≡◌, ◌⊎◌, ◌+◌, ◌<◌, ◌==◌, if◌then◌else◌, ℕ, true, false, List, []}
+use Rattle.std.specs.Prelude.{Option, None, Some, String, Result, Ok, Err}
 use Rattle.std.specs.String.{string_bytes}
 use Rattle.sqlite_value.specs.Order.{Row as Values}
 use Rattle.bac_wire.specs.Primitive.{Id}
@@ -21,11 +22,20 @@ IsFirst log object (Ok start) = (start.place.log ≡ log) × (start.place.epoch 
     × (start.walk ≡ walk_from_oldest object) × (start.free ≡ 0) × (start.anew ≡ false)
 IsFirst log object (Err end) = ⊥
 
--- A log goes on in the epoch of its newest item, and no number up to that is taken again; one that began anew has the
--- next epoch, from the oldest record on. If the device didn't say which, nothing was kept.
+-- the epoch behind an item: its own, or the next one behind the number 4294967295
+abbrev pub epoch_behind : NewestItem → ℕ
+epoch_behind last = if last.number == 4294967295 then last.epoch + 1 else last.epoch
+
+-- the first number that may come there
+abbrev pub free_behind : NewestItem → ℕ
+free_behind last = if last.number == 4294967295 then 0 else last.number + 1
+
+-- A log goes on in the epoch of its newest item, and no number up to that is taken again; or in the next epoch, where
+-- its numbers came round. One that began anew has the next epoch, from the oldest record on. If the device didn't say
+-- which, nothing was kept.
 abbrev pub IsStart : ℕ → NewestItem → Resume → Result Start End → Type 0
-IsStart log last (GoOn walk) (Ok start) = (start.place.log ≡ log) × (start.place.epoch ≡ last.epoch) × (start.walk ≡ walk)
-    × (start.free ≡ last.number + 1) × (start.anew ≡ false)
+IsStart log last (GoOn walk) (Ok start) = (start.place.log ≡ log) × (start.place.epoch ≡ epoch_behind last)
+    × (start.walk ≡ walk) × (start.free ≡ free_behind last) × (start.anew ≡ false)
 IsStart log last (BeganAnew walk) (Ok start) = (start.place.log ≡ log) × (start.place.epoch ≡ last.epoch + 1)
     × (start.walk ≡ walk) × (start.free ≡ 0) × (start.anew ≡ true)
 IsStart log last (Fault fault) (Err end) = (end.records ≡ 0) × (end.gaps ≡ 0) × (end.why ≡ why.Fault fault) × (end.anew ≡ false)

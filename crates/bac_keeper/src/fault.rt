@@ -49,10 +49,10 @@ pub enum FileFault {
     Full,
     /// One of its logs has an address that is none.
     Address,
-    /// A log began anew as often as the file can tell.
+    /// A log began anew, or its numbers came round, as often as the file can tell.
     Epochs,
-    /// Numbers of a log came round.
-    Round,
+    /// Numbers of a log went back.
+    Back,
     /// Out of memory.
     Memory,
     /// What the database says.
@@ -122,8 +122,8 @@ impl FileFault {
             FileFault::Overlap => "its items lie over one another",
             FileFault::Full => "it has 65535 trend logs",
             FileFault::Address => "a trend log in it has an address that is none",
-            FileFault::Epochs => "a log in it began anew 32767 times",
-            FileFault::Round => "the numbers of a log came round",
+            FileFault::Epochs => "a log in it began anew, or its numbers came round, 32767 times",
+            FileFault::Back => "the numbers of a log went back",
             _ => "the database failed",
         }
     }

@@ -6,7 +6,7 @@ ghost use Rattle.sqlite.specs.Held.{state};
 ghost use Rattle.bac_archive.specs.Schema.{archive_schema};
 ghost use Rattle.bac_archive.specs.Rows.{kept};
 ghost use Rattle.bac_keeper.specs.Keeps.{KeepsBegun, KeepsLog, trend_log};
-ghost use Rattle.bac_keeper.specs.Starts.{IsBegun, IsFirst, IsStart, kept_last, octets};
+ghost use Rattle.bac_keeper.specs.Starts.{IsBegun, IsFirst, IsStart, epoch_behind, free_behind, kept_last, octets};
 
 use crate::end::{End, NotDone};
 use crate::fault::{Fault, FileFault};
@@ -109,18 +109,33 @@ fn octets_of(text: &Option<String>) -> &[u8]
     }
 }
 
+/// Where a log goes on behind its newest item, and the first number that may be kept there: behind
+/// the last number that there is, in the next epoch.
+fn behind(id: u16, last: &NewestItem) -> Result<(Place, u64), NotDone>
+    ensures { IfOk result (λ it. (it.0.log ≡ id) × (it.0.epoch ≡ epoch_behind last.now) × (it.1 ≡ free_behind last.now)) }
+{
+    if last.number == 4294967295 {
+        Ok((place_of(id, last.epoch.saturating_add(1))?, 0))
+    } else {
+        Ok((place_of(id, last.epoch)?, u64::from(last.number) + 1))
+    }
+}
+
 /// Where the rows of a run begin that goes on behind the newest item, or in a new epoch; or why the
 /// device didn't say which.
 fn start_of(id: u16, last: &NewestItem, told: Resume) -> Result<Result<Start, End>, NotDone>
     ensures { IfOk result (IsStart id last.now told) }
 {
     match told {
-        Resume::GoOn(walk) => Ok(Ok(Start {
-            place: place_of(id, last.epoch)?,
-            walk,
-            free: u64::from(last.number) + 1,
-            anew: false,
-        })),
+        Resume::GoOn(walk) => {
+            let (place, free) = behind(id, last)?;
+            Ok(Ok(Start {
+                place,
+                walk,
+                free,
+                anew: false,
+            }))
+        }
         Resume::BeganAnew(walk) => Ok(Ok(Start {
             place: place_of(id, last.epoch.saturating_add(1))?,
             walk,
@@ -170,7 +185,8 @@ fn of_not_kept(fault: NotKept) -> NotDone {
     match fault {
         NotKept::NoArchive => NotDone::File(FileFault::Foreign),
         NotKept::Refused(Refusal::Memory) => NotDone::Asking(Fault::Memory),
-        NotKept::Refused(Refusal::Round) => NotDone::File(FileFault::Round),
+        NotKept::Refused(Refusal::Back) => NotDone::File(FileFault::Back),
+        NotKept::Refused(Refusal::Epochs) => NotDone::File(FileFault::Epochs),
         NotKept::Database(error) => NotDone::File(FileFault::of(error)),
     }
 }

@@ -27,5 +27,6 @@ pub use end::NotDone;
 pub use fault::{Fault, FileFault};
 pub use keeping::keep_each;
 pub use log_words::Asking;
+pub use printing::{Shown, print_shown};
 pub use program::{is_keeping, run_keep};
 pub use wanted::Wanted;

@@ -1,6 +1,14 @@
 //! `bac kept`: what an archive keeps is printed.
 
-ghost use Rattle.std.specs.Prelude.{◌≡◌, IfOk};
+ghost use Rattle.std.specs.Prelude.{◌≡◌, false, IfOk, OnOk, List};
+ghost use Rattle.std.specs.Io.KnownBytes.{Appends, Keeps};
+ghost use Rattle.sqlite.specs.State.{HasCleanDisk};
+ghost use Rattle.sqlite.specs.Held.{state};
+ghost use Rattle.bac_archive.specs.Logs.{AreLogs};
+ghost use Rattle.bac_archive.specs.Rows.{kept};
+ghost use Rattle.bac_archive.specs.Schema.{archive_schema};
+ghost use Rattle.bac_archive.specs.declared.trend_logs.Log.{Log as LogOf};
+ghost use Rattle.bac_keeper.specs.Printed.{PrintsLog, PrintsLogs, head_line, is_chosen};
 
 use crate::archives::{close_file, opened};
 use crate::csv_lines::{write_items, write_names};
@@ -15,9 +23,10 @@ use sqlite::{Alter, Connection};
 use std::alloc::Global;
 use std::io::Write;
 
-/// Which logs are to be printed: all, those of a device, or one.
+/// Which logs are to be printed: all, those of a device, or one. Of its source the address and the
+/// instance are looked at alone.
 #[derive(Drop)]
-enum Shown {
+pub enum Shown {
     All,
     Device(Source),
     One(Source),
@@ -44,7 +53,9 @@ fn choose(alloc: Global, address: Option<&str>, instance: Option<&str>) -> Resul
 
 impl Shown {
     /// Whether a log is one of them, by its address and instance alone.
-    fn has(&self, log: &Log) -> bool {
+    fn has(&self, log: &Log) -> bool
+        ensures { result ≡ is_chosen self.now log.now }
+    {
         match self {
             Shown::All => true,
             Shown::Device(source) => source.address == log.source.address,
@@ -53,9 +64,37 @@ impl Shown {
         }
     }
 
-    fn is_one(&self) -> bool {
-        matches!(self, Shown::One(_))
+    /// Prints the line that names a log, unless it is the one that was chosen.
+    fn print_head<O: Write>(&self, alloc: Global, log: &Log, output: &mut O) -> Result<(), NotDone>
+        ensures { OnOk result (Appends (O.contents output.old) (O.contents output.new) (head_line self.now log.now)) }
+    {
+        match self {
+            Shown::One(_) => Ok(()),
+            Shown::All | Shown::Device(_) => print_head(alloc, log, output),
+        }
     }
+}
+
+/// Prints a log in lines, if it was chosen; answers whether it was.
+fn print_log<A: Alter, O: Write>(
+    alloc: Global,
+    conn: &mut Connection<A>,
+    log: &Log,
+    shown: &Shown,
+    output: &mut O,
+) -> Result<bool, NotDone>
+    ensures printed { HasCleanDisk (state A.Store conn.new) → (state A.Store conn.old).now.schema ≡ archive_schema
+        → OnOk result ((text : List _) × PrintsLog shown.now (kept (state A.Store conn.old).now.trees) log.now text × Appends (O.contents output.old) (O.contents output.new) text) }
+    ensures same { HasCleanDisk (state A.Store conn.new) → (state A.Store conn.old).now.schema ≡ archive_schema
+        → OnOk result ((state A.Store conn.new).now ≡ (state A.Store conn.old).now) }
+    ensures clean { OnOk result (HasCleanDisk (state A.Store conn.new) → HasCleanDisk (state A.Store conn.old)) }
+{
+    if !shown.has(log) {
+        return Ok(false);
+    }
+    shown.print_head(alloc, log, output)?;
+    print_items(alloc, conn, log, output)?;
+    Ok(true)
 }
 
 /// Prints each of the logs in lines; with several, each after a line that names it.
@@ -65,14 +104,14 @@ fn print_logs<A: Alter, O: Write>(
     all: &[Log],
     shown: &Shown,
     output: &mut O,
-) -> Result<usize, NotDone> {
+) -> Result<usize, NotDone>
+    ensures printed { HasCleanDisk (state A.Store conn.new) → (state A.Store conn.old).now.schema ≡ archive_schema
+        → OnOk result ((text : List _) × PrintsLogs shown.now (kept (state A.Store conn.old).now.trees) all.now text × Appends (O.contents output.old) (O.contents output.new) text) }
+    ensures clean { OnOk result (HasCleanDisk (state A.Store conn.new) → HasCleanDisk (state A.Store conn.old)) }
+{
     let mut count = 0usize;
     for log in all {
-        if shown.has(log) {
-            if !shown.is_one() {
-                print_head(alloc, log, output)?;
-            }
-            print_items(alloc, conn, log, output)?;
+        if print_log(alloc, conn, log, shown, output)? {
             count = count.saturating_add(1);
         }
     }
@@ -102,25 +141,38 @@ fn write_logs<A: Alter, O: Write>(
     }
 }
 
-/// Prints the logs that were chosen.
-fn print_shown<A: Alter, O: Write>(
+/// Prints what an archive keeps of the logs that were chosen, in lines or as CSV.
+pub fn print_shown<A: Alter, O: Write>(
     alloc: Global,
     conn: &mut Connection<A>,
     shown: &Shown,
     csv: bool,
     output: &mut O,
 ) -> Result<u8, NotDone>
-    ensures { IfOk result (λ status. status ≡ 0) }
+    ensures status { IfOk result (λ status. status ≡ 0) }
+    // The lines of the archive's logs, each of which is told once: of each that was chosen its head, and
+    // its items by their ids.
+    ensures printed { HasCleanDisk (state A.Store conn.new) → (state A.Store conn.old).now.schema ≡ archive_schema → csv ≡ false
+        → OnOk result ((all : List LogOf) × AreLogs (state A.Store conn.old).now.trees all
+        × (text : List _) × PrintsLogs shown.now (kept (state A.Store conn.old).now.trees) all text × Appends (O.contents output.old) (O.contents output.new) text) }
 {
     let all = match logs(alloc, conn) {
         Ok(all) => all,
         Err(error) => return Err(NotDone::File(FileFault::of(error))),
     };
-    let count = if csv {
-        write_logs(alloc, conn, all.as_slice(), shown, output)?
-    } else {
-        print_logs(alloc, conn, all.as_slice(), shown, output)?
-    };
+    if csv {
+        let count = write_logs(alloc, conn, all.as_slice(), shown, output)?;
+        return ended(shown, count, output);
+    }
+    let count = print_logs(alloc, conn, all.as_slice(), shown, output)?;
+    ended(shown, count, output)
+}
+
+/// What was printed goes out; that no log was chosen is told.
+fn ended<O: Write>(shown: &Shown, count: usize, output: &mut O) -> Result<u8, NotDone>
+    ensures status { IfOk result (λ status. status ≡ 0) }
+    ensures stays { Keeps (O.contents output.old) (O.contents output.new) }
+{
     if output.flush().is_err() {
         return Err(NotDone::Asking(Fault::Write));
     }

@@ -1,6 +1,8 @@
 //! The line that tells what was kept of a log.
 
-ghost use Rattle.std.specs.Prelude.{◌≡◌, ◌==◌, ◌++◌, if◌then◌else◌, OnOk};
+ghost use Rattle.std.specs.Prelude.{◌≡◌, ◌==◌, ◌++◌, if◌then◌else◌, OnOk, List, Some};
+ghost use Rattle.std.specs.Float.Ieee.{binary64};
+ghost use Rattle.ryu.specs.Parse.{parse_float};
 ghost use Rattle.bac_keeper.specs.Lines.{anew_line, counted, place_text, source_text, summary_line};
 
 use crate::end::End;
@@ -36,7 +38,9 @@ pub(crate) fn push_source(text: &mut Vec<u8>, source: &Source) -> Result<(), All
 }
 
 /// Appends the shortest text that reads back as a number.
-pub(crate) fn push_short(text: &mut Vec<u8>, value: f64) -> Result<(), AllocError> {
+pub(crate) fn push_short(text: &mut Vec<u8>, value: f64) -> Result<(), AllocError>
+    ensures { OnOk result ((short : List _) × (parse_float binary64 short ≡ Some value) × (text.new.items ≡ text.old.items ++ short)) }
+{
     text.extend_from_slice(Buffer::new().format(value).as_bytes())
 }
 
