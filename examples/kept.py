@@ -16,7 +16,7 @@ import sys
 import time
 
 import kept_cases
-from kept_devices import Device, Log, chance, lock, serve
+from kept_devices import LAST, Device, Log, chance, lock, serve
 from kept_judge import Judge
 
 SITES = 4
@@ -34,7 +34,7 @@ def hasty(words):
 
 def changed(log):
     """Something happens to a log. One that began anew keeps all until a run has seen it: no octet would
-    tell a restart whose records are gone from a gap."""
+    tell a restart whose records are gone from a gap, nor one behind a large number from numbers that come round."""
     what = chance.random()
     if log.fresh:
         log.log(chance.randrange(min(3, log.room_for - len(log.held))))
@@ -42,7 +42,7 @@ def changed(log):
         log.log(chance.choice((0, 1, 3, 20, 120)))
     elif what < 0.8:
         log.log(log.room_for + chance.randrange(50))
-    elif what < 0.9:
+    elif what < 0.9 or log.total > LAST // 2:
         log.log(chance.randrange(5))
         log.purge()
         log.log(chance.randrange(3))
@@ -83,6 +83,10 @@ def site():
                for at in range(8)]
     for device in devices:
         for log in device.logs.values():
+            # The numbers of some come round in these runs.
+            if chance.random() < 0.25:
+                log.begin(LAST - chance.randrange(1000))
+                log.fresh = False
             log.log(chance.randrange(200))
     serve(devices)
     return devices

@@ -14,22 +14,10 @@ import time
 
 from kept_devices import Device, Log, chance, lock, serve, wait_until_asked
 from kept_judge import wrongs
+from kept_rounds import one, rounds, said
 
 FOLDER = os.path.dirname(os.path.abspath(__file__))
 QUICK = ("--timeout=60", "--retries=0")
-
-
-def one(room_for=50, way=None, count=0):
-    """A device with one log, and the log."""
-    device = Device([Log(1, room_for)], "one", way)
-    device.logs[1].log(count)
-    serve([device])
-    return device, device.logs[1]
-
-
-def said(device, records, gaps, end, way=""):
-    shown = "1 record" if records == 1 else f"{records} records"
-    return f"{device.address}{way} 1 {shown} {gaps} {'gap' if gaps == 1 else 'gaps'} {end}\n"
 
 
 def run_after_run(judge, _runs):
@@ -471,4 +459,4 @@ def judgements(judge, _runs):
     judge.is_right("a broken page is seen", wrongs(broken, [device], True))
 
 
-CASES = [judgements, run_after_run, options, losses, far_away, restarts, cut_files, foreign_files, a_large_file, printed, taken_over, served]
+CASES = [judgements, run_after_run, options, losses, far_away, rounds, restarts, cut_files, foreign_files, a_large_file, printed, taken_over, served]

@@ -5,6 +5,8 @@ import shutil
 import sqlite3
 import subprocess
 
+from kept_devices import LAST
+
 
 class Judge:
     """Runs PROGRAM, and counts what is right. Its files lie in `room`; KILLS is the library of kills.c."""
@@ -92,10 +94,11 @@ def wrongs(file, devices, all_of_it):
 
 def wrong_of(log, epochs, all_of_it):
     """What is wrong with the rows of a log, or None."""
-    life = -1
+    life, next_number = -1, 1
     for epoch in sorted(epochs):
-        rows = epochs[epoch]
-        if rows[-1][1] is not None:
+        rows, before, end = epochs[epoch], life, next_number
+        # A gap goes on into the next epoch, where numbers come round.
+        if rows[-1][1] not in (None, LAST) or rows[-1][1] == LAST and epoch + 1 not in epochs:
             return f"epoch {epoch} ends with a gap"
         # Where the first record is from: a life after that of the epoch before.
         first, _, texts = next(row for row in rows if row[1] is None)
@@ -103,9 +106,10 @@ def wrong_of(log, epochs, all_of_it):
         if not found:
             return f"epoch {epoch}: no life logged {first} {texts}"
         life = found[0]
-        logged = log.lives[life]
-        dropped = log.oldest - 1 if life == len(log.lives) - 1 else max(logged, default=0)
+        logged, dropped = log.lives[life], log.gone(life)
         next_number = rows[0][0]
+        if life == before + 1 and life in log.rounds and before >= 0 and (end != LAST + 1 or next_number != 1):
+            return f"epoch {epoch} begins at {next_number} where numbers come round, and that before ends at {end - 1}"
         if any(number > dropped for number in logged if number < next_number):
             return f"epoch {epoch} begins at {next_number}, behind what is held"
         for number, last, texts in rows:

@@ -1,3 +1,6 @@
+mod Eras
 mod Taken
 mod KeptLemmas
 mod RunLemmas
+pub mod CameLemmas
+mod CoveredLemmas

@@ -1,6 +1,9 @@
 pub mod Items
 pub mod Sinks
 pub mod Kept
+pub mod Covered
 pub mod Runs
 pub mod Gathers
+pub mod Came
+pub mod Honest
 pub mod Resumption

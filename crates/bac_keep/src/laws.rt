@@ -1,5 +1,7 @@
 //! Laws of what is kept over any number of runs.
-ghost use Rattle.bac_keep.specs.Kept.{AllRunsAreKept, BeginsEmpty, KeptIsDelivered, KeptRunsJoin, OthersStay, RunsAreKept};
+ghost use Rattle.bac_keep.specs.Covered.{RunsBeginCovered, RunsGoOnCovered};
+ghost use Rattle.bac_keep.specs.Honest.{HonestIsKept, HonestRunsAreKept, KeptOverJoin};
+ghost use Rattle.bac_keep.specs.Kept.{AllRunsAreKept, BeginsEmpty, KeptIsDelivered, KeptRunsJoin, OneRowEach, OthersStay, RowsJoin, RunsAreKept};
 
 use bac_link::LogLink;
 
@@ -8,13 +10,15 @@ pub fn begins_empty()
     ensures { BeginsEmpty }
 {}
 
-/// The rows of a log and epoch that are one delivery, and those that an append adds of a run that
-/// goes on from there, are together one delivery.
+/// The rows of a log that are one delivery, from an epoch up to another, and those that an append
+/// adds of a run that goes on from there, are together one delivery. Where numbers come round, the
+/// epochs that begin were empty.
 pub fn runs_are_kept()
     ensures { RunsAreKept }
 {}
 
-/// Rows that are added to one log and epoch leave those of another.
+/// Rows that are added to some epochs of a log leave those of another log, and of epochs before and
+/// behind.
 pub fn others_stay()
     ensures { OthersStay }
 {}
@@ -28,10 +32,51 @@ pub fn all_runs_are_kept()
 /// Over every link: what a run keeps whose steps were all whole, and one that goes on from there, is
 /// what one run of as many steps keeps.
 pub fn kept_runs_join<L: LogLink>()
-    ensures { KeptRunsJoin (λ link id r M H. L.is_honest link id r M H) (λ link. L.failures link) }
+    ensures { KeptRunsJoin (λ link id r M H. L.is_ours link id r M H) (λ link. L.failures link) }
 {}
 
-/// Over every link: what a run kept while the link was honest was added, and is delivered.
+/// Over every link: what a run kept while the link was ours was added, and is delivered.
 pub fn kept_is_delivered<L: LogLink>()
-    ensures { KeptIsDelivered (λ link id r M H. L.is_honest link id r M H) (λ link. L.failures link) }
+    ensures { KeptIsDelivered (λ link id r M H. L.is_ours link id r M H) (λ link. L.failures link) }
+{}
+
+/// Items that stay in one epoch have a row each.
+pub fn one_row_each()
+    ensures { OneRowEach }
+{}
+
+/// What is kept of items, and of others behind them, is what is kept of all.
+pub fn rows_join()
+    ensures { RowsJoin }
+{}
+
+/// Over every link, whoever answers: what a run keeps of the replies that came, whose steps were all
+/// whole, and one that goes on from there, is what one run of as many steps keeps.
+pub fn kept_over_join<L: LogLink>()
+    ensures { KeptOverJoin L.asks }
+{}
+
+/// Over a link that is honest for a log, whoever answers: what a run kept was added, and is
+/// delivered, and the link is honest from the moments on that are left.
+pub fn honest_is_kept<L: LogLink>()
+    ensures { HonestIsKept L.asks }
+{}
+
+/// However many runs there were over one log, each over a link of its own that is honest for it,
+/// completed, ended by whatever, or cut by a crash: what was kept before them and what they keep is
+/// one delivery.
+pub fn honest_runs_are_kept<L: LogLink>()
+    ensures { HonestRunsAreKept L.asks }
+{}
+
+/// Over every link, whoever answers: what a first run keeps covers each number from its first one up
+/// to the one that comes next, once.
+pub fn runs_begin_covered<L: LogLink>()
+    ensures { RunsBeginCovered (λ link id r M H. L.is_ours link id r M H) (λ link. L.failures link) }
+{}
+
+/// Over every link, whoever answers: so does what is kept, with what a run adds that goes on where
+/// that ends.
+pub fn runs_go_on_covered<L: LogLink>()
+    ensures { RunsGoOnCovered (λ link id r M H. L.is_ours link id r M H) (λ link. L.failures link) }
 {}

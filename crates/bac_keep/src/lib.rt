@@ -13,7 +13,9 @@ mod texts;
 
 pub use keep::{KeptStep, NotKept, keep_step};
 pub use laws::{
-    all_runs_are_kept, begins_empty, kept_is_delivered, kept_runs_join, others_stay, runs_are_kept,
+    all_runs_are_kept, begins_empty, honest_is_kept, honest_runs_are_kept, kept_is_delivered,
+    kept_over_join, kept_runs_join, one_row_each, others_stay, rows_join, runs_are_kept,
+    runs_begin_covered, runs_go_on_covered,
 };
 pub use place::Place;
 pub use resumption::{LastRecord, Resume, resume_from};

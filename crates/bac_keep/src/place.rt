@@ -2,12 +2,12 @@
 
 ghost use Rattle.std.specs.Prelude.{◌≡◌, ◌<◌, IfSome, IsSome};
 
-/// The rows of a log since its device began anew the last time.
+/// The rows of a log since its device began anew, or its numbers came round, the last time.
 #[derive(Clone, Copy, Debug, PartialEq, Eq)]
 pub struct Place {
     /// The row of the log in the table of logs.
     pub log: u16,
-    /// How often the log began anew.
+    /// How often the log began anew, or its numbers came round.
     pub epoch: u16,
     ghost few: { epoch < 32768 },
 }

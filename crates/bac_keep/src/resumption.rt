@@ -2,7 +2,7 @@
 
 ghost use Rattle.std.specs.Prelude.{◌≡◌, ◌≤◌, ◌<◌, false, Result, IfOk};
 ghost use Rattle.bac_link.specs.Path.{towards};
-ghost use Rattle.bac_walk.specs.Ordinals.{is_ahead, number_after};
+ghost use Rattle.bac_link.specs.Ordinals.{is_ahead, number_after};
 ghost use Rattle.bac_walk.specs.Place.{walk_at, walk_from_oldest};
 ghost use Rattle.bac_walk.specs.declared.outcome.Step.{Step as StepOf};
 ghost use Rattle.bac_walk.specs.declared.outcome.WalkFault.{WalkFault as FaultOf};

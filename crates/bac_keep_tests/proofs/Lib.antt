@@ -1,1 +1,2 @@
 mod CallerLemmas
+mod OverLemmas

@@ -9,7 +9,8 @@ ghost use Rattle.bac_link.specs.Laws.{after_answers};
 ghost use Rattle.bac_archive.specs.Rows.{kept};
 ghost use Rattle.bac_walk.specs.Near.{StaysNear};
 ghost use Rattle.bac_archive.specs.Schema.{archive_schema};
-ghost use Rattle.bac_keep.specs.Kept.{IsKept, rows_at};
+ghost use Rattle.bac_keep.specs.Items.{era};
+ghost use Rattle.bac_keep.specs.Kept.{HasNoneBehind, IsKept, rows_at};
 
 use bac_archive::is_archive;
 use bac_keep::{
@@ -22,22 +23,24 @@ use bac_wire::ObjectId;
 use sqlite::{Alter, Connection};
 use std::alloc::Global;
 
-/// Over every honest link, what two steps keep of a log of which nothing was kept is one delivery,
-/// on the disk: from where the walk began up to the number that comes next.
+/// Over every link of ours, what two steps keep of a log of which nothing was kept is one delivery,
+/// on the disk: from where the walk began up to the number that comes next, in this epoch and those
+/// that begin where numbers come round, if these were empty.
 pub fn keep_two<L: LogLink, S: Alter>(
     alloc: Global,
     link: &mut L,
     transactions: &mut Transactions,
     walk: &mut Walk,
     conn: &mut Connection<S>,
-    place: Place,
+    place: &mut Place,
 ) -> Option<Ended>
-    ensures { HasCleanDisk (state S.Store conn.new) → rows_at place (kept (state S.Store conn.old).now.trees) ≡ [] → IfSome result (λ ended.
+    ensures { HasCleanDisk (state S.Store conn.new) → rows_at place.old (kept (state S.Store conn.old).now.trees) ≡ [] →
+        HasNoneBehind (era place.old) (era place.new) (kept (state S.Store conn.old).now.trees) → IfSome result (λ ended.
         ((state S.Store conn.new).committed ≡ (state S.Store conn.new).now)
-        × ((r : ℕ) (M : List Moment) (H : History) (s : ℕ) → L.is_honest link.old walk.old.log r M H → walk.old.next ≡ sequence_number s →
+        × ((r : ℕ) (M : List Moment) (H : History) (s : ℕ) → L.is_ours link.old walk.old.log r M H → walk.old.next ≡ sequence_number s →
         StaysNear r H M walk.old.fresh s 2 →
         (b : ℕ) × (t : ℕ) × (count : ℕ) × (walk.old.fresh ≡ false → b ≡ s) × (walk.new.next ≡ sequence_number t)
-        × IsKept H place (state S.Store conn.new).now.trees b t M count)) }
+        × IsKept H (era place.old) (era place.new) (state S.Store conn.new).now.trees b t M count)) }
 {
     // For the prover alone: laws that the contract follows from.
     begins_empty();
@@ -66,9 +69,9 @@ pub fn keep_two<L: LogLink, S: Alter>(
 }
 
 /// Two runs over one log, each over a link of its own, the second from where the first ended,
-/// whatever the device or the link made of that: over links that are honest, the second for the
+/// whatever the device or the link made of that: over links of ours, the second for the
 /// moments that the first left, what is kept on the disk is one delivery, from number s up to the
-/// number that comes next.
+/// number that comes next, in this epoch and those that begin where numbers come round.
 pub fn keep_again<L: LogLink, K: LogLink, S: Alter>(
     alloc: Global,
     link: &mut L,
@@ -80,11 +83,12 @@ pub fn keep_again<L: LogLink, K: LogLink, S: Alter>(
     steps: u32,
 ) -> Option<(KeptRun, KeptRun)>
     ensures { HasCleanDisk (state S.Store conn.new) → (state S.Store conn.old).now.schema ≡ archive_schema →
-        rows_at place (kept (state S.Store conn.old).now.trees) ≡ [] → IfSome result (λ runs. IfOk runs.1.end (λ why.
-        (r : ℕ) (M : List Moment) (H : History) (k : ℕ) → L.is_honest link.old log r M H → s ≡ sequence_number k → StaysNear r H M false k steps →
+        rows_at place (kept (state S.Store conn.old).now.trees) ≡ [] → IfSome result (λ runs.
+        HasNoneBehind (era place) (era runs.1.place) (kept (state S.Store conn.old).now.trees) → IfOk runs.1.end (λ why.
+        (r : ℕ) (M : List Moment) (H : History) (k : ℕ) → L.is_ours link.old log r M H → s ≡ sequence_number k → StaysNear r H M false k steps →
         (t : ℕ) × (count : ℕ) × (runs.0.next ≡ sequence_number t)
-        × (K.is_honest later.old log r (after_answers count M) H → StaysNear r H (after_answers count M) false t steps →
-        (u : ℕ) × (all : ℕ) × (runs.1.next ≡ sequence_number u) × IsKept H place (state S.Store conn.new).now.trees k u M all))) }
+        × (K.is_ours later.old log r (after_answers count M) H → StaysNear r H (after_answers count M) false t steps →
+        (u : ℕ) × (all : ℕ) × (runs.1.next ≡ sequence_number u) × IsKept H (era place) (era runs.1.place) (state S.Store conn.new).now.trees k u M all))) }
 {
     // For the prover alone: laws that the contract follows from.
     begins_empty();
@@ -115,7 +119,7 @@ pub fn keep_again<L: LogLink, K: LogLink, S: Alter>(
         &mut transactions,
         again,
         conn,
-        place,
+        first.place,
         free,
         steps,
     );

@@ -29,19 +29,19 @@ const TWO: KeptStep = KeptStep {
     ended: Ended::StepLimit,
 };
 
-fn walk_from(s: u32) -> Result<Walk, Fail> {
+pub(crate) fn walk_from(s: u32) -> Result<Walk, Fail> {
     let log = ObjectId::new(20, 1).ok_or("no such object")?;
     Ok(Walk::from_number(log, s).ok_or("no walk")?)
 }
 
 // `keep_step`, where there is an archive.
-fn keep(
+pub(crate) fn keep(
     alloc: Global,
     link: &mut ScriptedLink<'_>,
     transactions: &mut Transactions,
     walk: &mut Walk,
     conn: &mut Connection<MemStore>,
-    place: Place,
+    place: &mut Place,
     free: &mut u64,
 ) -> Result<Result<KeptStep, NotKept>, Fail> {
     if !is_archive(conn.schema()) {
@@ -53,7 +53,7 @@ fn keep(
 #[test]
 fn each_batch_is_kept_with_its_gap(rt: HostRuntime) -> Result<(), Fail> {
     let mut conn = archive(rt.alloc())?;
-    let place = Place::new(3, 2).ok_or("no place")?;
+    let mut place = Place::new(3, 2).ok_or("no place")?;
     let (one, next) = (two(1, 5), two(2, 7));
     let replies: [&[u8]; 2] = [&one, &next];
     let mut link = ScriptedLink::new(&replies);
@@ -66,7 +66,7 @@ fn each_batch_is_kept_with_its_gap(rt: HostRuntime) -> Result<(), Fail> {
         &mut transactions,
         &mut walk,
         &mut conn,
-        place,
+        &mut place,
         &mut free,
     )?;
     assert!(rt; first_step == Ok(TWO));
@@ -77,7 +77,7 @@ fn each_batch_is_kept_with_its_gap(rt: HostRuntime) -> Result<(), Fail> {
         &mut transactions,
         &mut walk,
         &mut conn,
-        place,
+        &mut place,
         &mut free,
     )?;
     assert!(rt; second == Ok(TWO));
@@ -106,9 +106,9 @@ fn each_batch_is_kept_with_its_gap(rt: HostRuntime) -> Result<(), Fail> {
 #[test]
 fn a_number_that_is_kept_is_not_kept_again(rt: HostRuntime) -> Result<(), Fail> {
     let mut conn = archive(rt.alloc())?;
-    let place = Place::new(0, 0).ok_or("no place")?;
-    let (one, again, back) = (two(1, 5), two(2, 5), two(3, 5));
-    let replies: [&[u8]; 3] = [&one, &again, &back];
+    let mut place = Place::new(0, 0).ok_or("no place")?;
+    let (one, again, lower_down) = (two(1, 5), two(2, 5), two(3, 5));
+    let replies: [&[u8]; 3] = [&one, &again, &lower_down];
     let mut link = ScriptedLink::new(&replies);
     let mut transactions = Transactions::new(0);
     let mut free = 0;
@@ -119,7 +119,7 @@ fn a_number_that_is_kept_is_not_kept_again(rt: HostRuntime) -> Result<(), Fail> 
         &mut transactions,
         &mut walk,
         &mut conn,
-        place,
+        &mut place,
         &mut free,
     )?;
     assert!(rt; kept == Ok(TWO));
@@ -131,22 +131,22 @@ fn a_number_that_is_kept_is_not_kept_again(rt: HostRuntime) -> Result<(), Fail> 
         &mut transactions,
         &mut same,
         &mut conn,
-        place,
+        &mut place,
         &mut none,
     )?;
     let taken = Error::SqliteFailure(ErrorCode::ConstraintViolation(Constraint::PrimaryKey));
     assert!(rt; twice == Err(NotKept::Database(taken)));
     let mut lower = walk_from(5)?;
-    let round = keep(
+    let back = keep(
         rt.alloc(),
         &mut link,
         &mut transactions,
         &mut lower,
         &mut conn,
-        place,
+        &mut place,
         &mut free,
     )?;
-    assert!(rt; round == Err(NotKept::Refused(Refusal::Round)));
+    assert!(rt; back == Err(NotKept::Refused(Refusal::Back)));
     assert_eq!(rt; first::<i64>(&mut conn, "SELECT count(*) FROM items")?, 2);
     Ok(())
 }
@@ -173,6 +173,7 @@ fn a_run_goes_on_where_one_was_lost(rt: HostRuntime) -> Result<(), Fail> {
         records: 4,
         gaps: 0,
         next: 9,
+        place,
         end: Ok(Why::Fault(WalkFault::Lost)),
     };
     assert!(rt; lost == first_run);
@@ -182,7 +183,7 @@ fn a_run_goes_on_where_one_was_lost(rt: HostRuntime) -> Result<(), Fail> {
         &mut transactions,
         walk_from(lost.next)?,
         &mut conn,
-        place,
+        lost.place,
         9,
         1,
     );
@@ -190,6 +191,7 @@ fn a_run_goes_on_where_one_was_lost(rt: HostRuntime) -> Result<(), Fail> {
         records: 2,
         gaps: 1,
         next: 14,
+        place,
         end: Ok(Why::StepLimit),
     };
     assert!(rt; again == second_run);
@@ -223,6 +225,7 @@ fn what_is_no_archive_is_left(rt: HostRuntime) -> Result<(), Fail> {
         records: 0,
         gaps: 0,
         next: 5,
+        place,
         end: Err(NotKept::NoArchive),
     };
     assert!(rt; run == none);

@@ -2,8 +2,12 @@
 #![tactic(auto)]
 
 #[cfg(test)]
+mod any_callers;
+#[cfg(test)]
 mod archive;
 #[cfg(test)]
 mod callers;
 #[cfg(test)]
 mod kept;
+#[cfg(test)]
+mod rounds;

@@ -1,4 +1,4 @@
-use Rattle.std.proofs.Common.{◌≡◌, ◌+◌, refl, sym, subst, ◌∙◌, arith}
+use Rattle.std.proofs.Common.{◌≡◌, ◌+◌, refl, sym, ap, subst, ◌∙◌, arith}
 use Rattle.sqlite.specs.Effect.{Database}
 use Rattle.sqlite.specs.State.{HasCleanDisk}
 use Rattle.sqlite.specs.Held.{Held, state}
@@ -8,7 +8,11 @@ use Rattle.bac_walk.specs.declared.outcome.Ended.TheVariants.{StepLimit}
 use Rattle.bac_walk.proofs.Runs.{ends_run, not_limit, goes_on as limit_reached}
 use Rattle.bac_archive.specs.Schema.{archive_schema}
 use Rattle.bac_archive.proofs.RowsLemmas.{stays}
+use Rattle.bac_keep.specs.declared.place.Place.{Place}
+use Rattle.bac_link.specs.Path.{towards}
+use Rattle.bac_keep.specs.Came.{KeepsOver}
 use Rattle.bac_keep.specs.Runs.{KeepsRun}
+use Rattle.bac_keep.proofs.CameLemmas.{over_nothing, over_then, over_early, leaves_over_more, leaves_over_then}
 use Rattle.bac_keep.proofs.RunLemmas.{keeps_nothing, keeps_then, keeps_early, leaves_more, leaves_then, tested_first}
 use Rattle.bac_keep.proofs.Taken.{goes_on}
 use Rattle.bac_keep.proofs.run.keep_log.Goals as goal
@@ -16,44 +20,50 @@ use Rattle.bac_keep.proofs.run.keep_log.Goals as goal
 pub loop-done-init : goal.loop-done-init
 loop-done-init g c = record {
   log = refl;
+  same_log = refl;
   retries = refl;
+  route = refl;
   never_falls = omega arith;
   few_records = omega arith;
   few_gaps = omega arith;
   tested = λ h. absurd (omega (arith, h));
   none = λ h. (refl, refl, refl);
-  kept = λ clean has. keeps_nothing (λ link id r M H. g.L.LogLink.is_honest link id r M H) (λ link. g.L.LogLink.failures link) c.args.place c.args.transactions.now.retries (state g.S.Store c.args.conn.now).now c.args.link.now c.args.walk has;
+  kept = λ clean has. keeps_nothing (λ link id r M H. g.L.LogLink.is_ours link id r M H) (λ link. g.L.LogLink.failures link) c.args.place c.args.transactions.now.retries (state g.S.Store c.args.conn.now).now c.args.link.now c.args.walk has;
+  brought = λ clean has. over_nothing g.L.LogLink.asks (towards c.args.transactions.now.route) c.args.transactions.now.retries c.args.place (state g.S.Store c.args.conn.now).now c.args.link.now c.args.walk has;
   committed = λ clean same. same;
+  crash_over = survives_weaker (state g.S.Store c.args.conn.now) (state g.S.Store c.args.conn.now) _ _ (λ clean db none. absurd none) (stays (state g.S.Store c.args.conn.now));
   crash = survives_weaker (state g.S.Store c.args.conn.now) (state g.S.Store c.args.conn.now) _ _ (λ clean db none. absurd none) (stays (state g.S.Store c.args.conn.now));
 }
 
 pub returns-in-Err-clause-stands : goal.returns-in-Err-clause-stands
 returns-in-Err-clause-stands g c clean is_open has =
     let early : HasCleanDisk (state g.S.Store c.loop-done.conn) = omega (arith, clean, c.keep_next.ensures.crash.clean) in
-    let P : Database → Type 0 = λ db. KeepsRun (λ link id r M H. g.L.LogLink.is_honest link id r M H) (λ link. g.L.LogLink.failures link)
-    c.args.place c.args.transactions.now.retries (state g.S.Store c.args.conn.now).now db c.args.link.now c.loop-done.link c.args.walk c.loop-done.walk c.loop-done.done StepLimit c.loop-done.records c.loop-done.gaps in (
+    let P : Database → Type 0 = λ db. KeepsRun (λ link id r M H. g.L.LogLink.is_ours link id r M H) (λ link. g.L.LogLink.failures link)
+    c.args.place c.loop-done.place c.args.transactions.now.retries (state g.S.Store c.args.conn.now).now db c.args.link.now c.loop-done.link c.args.walk c.loop-done.walk c.loop-done.done StepLimit c.loop-done.records c.loop-done.gaps in
+    let Q : Place → Type 0 = λ there. KeepsRun (λ link id r M H. g.L.LogLink.is_ours link id r M H) (λ link. g.L.LogLink.failures link)
+    c.args.place there c.args.transactions.now.retries (state g.S.Store c.args.conn.now).now (state g.S.Store c.keep_next.new.conn).now c.args.link.now c.loop-done.link c.args.walk c.loop-done.walk c.loop-done.done StepLimit c.loop-done.records c.loop-done.gaps in (
       c.loop-done.done,
       c.loop-done.link,
       c.loop-done.walk,
       omega arith,
       sym c.next_number-next.ensures.next,
-      subst P (sym (c.in-Err.ensures.neither clean is_open).0) (c.loop-done.invariant.kept early has),
+      subst Q (sym c.in-Err.ensures.stays) (subst P (sym (c.in-Err.ensures.neither clean is_open).0) (c.loop-done.invariant.kept early has)),
     )
 
 pub returns-in-Err-clause-crash : goal.returns-in-Err-clause-crash
 returns-in-Err-clause-crash g c = survives_then (state g.S.Store c.args.conn.now) (state g.S.Store c.loop-done.conn) (state g.S.Store c.keep_next.new.conn) _ _ _
-    (λ clean db it. leaves_more (λ link id r M H. g.L.LogLink.is_honest link id r M H) (λ link. g.L.LogLink.failures link)
+    (λ clean db it. leaves_more (λ link id r M H. g.L.LogLink.is_ours link id r M H) (λ link. g.L.LogLink.failures link)
     c.args.place c.args.transactions.now.retries (state g.S.Store c.args.conn.now).now c.args.link.now c.args.walk c.loop-done.done (c.args.steps) db (omega arith) it)
     (λ clean db it.
     let X : Held g.row.S.Denot → Type 0 = λ h. (state g.S.Store h).now.schema ≡ archive_schema in
     let has = tested_first X c.args.conn.now c.loop-done.conn c.loop-done.done c.loop-done.invariant.tested (λ e. (c.loop-done.invariant.none e).0) it.0 in
     let early : HasCleanDisk (state g.S.Store c.loop-done.conn) = omega (arith, clean, c.keep_next.ensures.crash.clean) in
-    leaves_more (λ link id r M H. g.L.LogLink.is_honest link id r M H) (λ link. g.L.LogLink.failures link)
+    leaves_more (λ link id r M H. g.L.LogLink.is_ours link id r M H) (λ link. g.L.LogLink.failures link)
     c.args.place c.args.transactions.now.retries (state g.S.Store c.args.conn.now).now c.args.link.now c.args.walk (c.loop-done.done + 1) (c.args.steps) db (omega arith)
-    (leaves_then (λ link id r M H. g.L.LogLink.is_honest link id r M H) (λ link. g.L.LogLink.failures link)
-    c.args.place c.args.transactions.now.retries c.loop-done.transactions.retries (state g.S.Store c.args.conn.now).now (state g.S.Store c.loop-done.conn).now it.1.0 db
+    (leaves_then (λ link id r M H. g.L.LogLink.is_ours link id r M H) (λ link. g.L.LogLink.failures link)
+    c.args.place c.loop-done.place it.1.5 c.args.transactions.now.retries c.loop-done.transactions.retries (state g.S.Store c.args.conn.now).now (state g.S.Store c.loop-done.conn).now it.1.0 db
     c.args.link.now c.loop-done.link c.keep_next.new.link c.args.walk c.loop-done.walk c.keep_next.new.walk c.loop-done.done it.1.1 c.loop-done.records c.loop-done.gaps it.1.2 it.1.3
-    c.loop-done.invariant.retries c.loop-done.invariant.never_falls (c.loop-done.invariant.kept early has) it.1.4 it.1.5))
+    c.loop-done.invariant.retries c.loop-done.invariant.never_falls (c.loop-done.invariant.kept early has) it.1.4 it.1.6))
     c.loop-done.invariant.crash c.keep_next.ensures.crash
 
 pub returns-in-Some-clause-kept : goal.returns-in-Some-clause-kept
@@ -65,35 +75,37 @@ returns-in-Some-clause-kept g c clean has =
       c.keep_next.new.walk,
       ends_run c.in-Ok.step.ended c.in-Some.why c.args.steps (goes_on c.in-Ok.step.ended c.in-Ok.ensures.few.2) some,
       sym c.next_number.ensures.next,
-      keeps_early (λ link id r M H. g.L.LogLink.is_honest link id r M H) (λ link. g.L.LogLink.failures link)
-          c.args.place c.args.transactions.now.retries (state g.S.Store c.args.conn.now).now (state g.S.Store c.keep_next.new.conn).now c.args.link.now c.keep_next.new.link c.args.walk c.keep_next.new.walk
+      keeps_early (λ link id r M H. g.L.LogLink.is_ours link id r M H) (λ link. g.L.LogLink.failures link)
+          c.args.place c.keep_next.new.place c.args.transactions.now.retries (state g.S.Store c.args.conn.now).now (state g.S.Store c.keep_next.new.conn).now c.args.link.now c.keep_next.new.link c.args.walk c.keep_next.new.walk
           (c.loop-done.done + 1) c.args.steps (c.loop-done.records + c.in-Ok.step.records) (c.loop-done.gaps + c.in-Ok.step.gaps) c.in-Ok.step.ended (not_limit c.in-Ok.step.ended c.in-Some.why some) (omega arith)
-          (keeps_then (λ link id r M H. g.L.LogLink.is_honest link id r M H) (λ link. g.L.LogLink.failures link)
-          c.args.place c.args.transactions.now.retries c.loop-done.transactions.retries (state g.S.Store c.args.conn.now).now (state g.S.Store c.loop-done.conn).now (state g.S.Store c.keep_next.new.conn).now
+          (keeps_then (λ link id r M H. g.L.LogLink.is_ours link id r M H) (λ link. g.L.LogLink.failures link)
+          c.args.place c.loop-done.place c.keep_next.new.place c.args.transactions.now.retries c.loop-done.transactions.retries (state g.S.Store c.args.conn.now).now (state g.S.Store c.loop-done.conn).now (state g.S.Store c.keep_next.new.conn).now
           c.args.link.now c.loop-done.link c.keep_next.new.link c.args.walk c.loop-done.walk c.keep_next.new.walk c.loop-done.done 1 c.in-Ok.step.ended c.loop-done.records c.loop-done.gaps c.in-Ok.step.records c.in-Ok.step.gaps
           c.loop-done.invariant.retries c.loop-done.invariant.never_falls (c.loop-done.invariant.kept early has) (c.in-Ok.ensures.kept clean).1),
     )
 
 pub returns-in-Some-clause-crash : goal.returns-in-Some-clause-crash
 returns-in-Some-clause-crash g c = survives_then (state g.S.Store c.args.conn.now) (state g.S.Store c.loop-done.conn) (state g.S.Store c.keep_next.new.conn) _ _ _
-    (λ clean db it. leaves_more (λ link id r M H. g.L.LogLink.is_honest link id r M H) (λ link. g.L.LogLink.failures link)
+    (λ clean db it. leaves_more (λ link id r M H. g.L.LogLink.is_ours link id r M H) (λ link. g.L.LogLink.failures link)
     c.args.place c.args.transactions.now.retries (state g.S.Store c.args.conn.now).now c.args.link.now c.args.walk c.loop-done.done (c.args.steps) db (omega arith) it)
     (λ clean db it.
     let X : Held g.row.S.Denot → Type 0 = λ h. (state g.S.Store h).now.schema ≡ archive_schema in
     let has = tested_first X c.args.conn.now c.loop-done.conn c.loop-done.done c.loop-done.invariant.tested (λ e. (c.loop-done.invariant.none e).0) it.0 in
     let early : HasCleanDisk (state g.S.Store c.loop-done.conn) = omega (arith, clean, c.keep_next.ensures.crash.clean) in
-    leaves_more (λ link id r M H. g.L.LogLink.is_honest link id r M H) (λ link. g.L.LogLink.failures link)
+    leaves_more (λ link id r M H. g.L.LogLink.is_ours link id r M H) (λ link. g.L.LogLink.failures link)
     c.args.place c.args.transactions.now.retries (state g.S.Store c.args.conn.now).now c.args.link.now c.args.walk (c.loop-done.done + 1) (c.args.steps) db (omega arith)
-    (leaves_then (λ link id r M H. g.L.LogLink.is_honest link id r M H) (λ link. g.L.LogLink.failures link)
-    c.args.place c.args.transactions.now.retries c.loop-done.transactions.retries (state g.S.Store c.args.conn.now).now (state g.S.Store c.loop-done.conn).now it.1.0 db
+    (leaves_then (λ link id r M H. g.L.LogLink.is_ours link id r M H) (λ link. g.L.LogLink.failures link)
+    c.args.place c.loop-done.place it.1.5 c.args.transactions.now.retries c.loop-done.transactions.retries (state g.S.Store c.args.conn.now).now (state g.S.Store c.loop-done.conn).now it.1.0 db
     c.args.link.now c.loop-done.link c.keep_next.new.link c.args.walk c.loop-done.walk c.keep_next.new.walk c.loop-done.done it.1.1 c.loop-done.records c.loop-done.gaps it.1.2 it.1.3
-    c.loop-done.invariant.retries c.loop-done.invariant.never_falls (c.loop-done.invariant.kept early has) it.1.4 it.1.5))
+    c.loop-done.invariant.retries c.loop-done.invariant.never_falls (c.loop-done.invariant.kept early has) it.1.4 it.1.6))
     c.loop-done.invariant.crash c.keep_next.ensures.crash
 
 pub loop-done-preserved : goal.loop-done-preserved
 loop-done-preserved g c = record {
   log = c.keep_next.ensures.log ∙ c.loop-done.invariant.log;
+  same_log = c.keep_next.ensures.same_log ∙ c.loop-done.invariant.same_log;
   retries = c.keep_next.ensures.retries ∙ c.loop-done.invariant.retries;
+  route = c.keep_next.ensures.route ∙ c.loop-done.invariant.route;
   never_falls = omega (arith, c.loop-done.invariant.never_falls, c.keep_next.ensures.never_falls);
   few_records = omega (arith, c.loop-done.invariant.few_records, c.in-Ok.ensures.few.0);
   few_gaps = omega (arith, c.loop-done.invariant.few_gaps, c.in-Ok.ensures.few.1);
@@ -104,27 +116,49 @@ loop-done-preserved g c = record {
   kept = λ clean has.
       let early : HasCleanDisk (state g.S.Store c.loop-done.conn) = omega (arith, clean, c.keep_next.ensures.crash.clean) in
       let limit = limit_reached c.in-Ok.step.ended (sym c.why.ensures ∙ c.in_default.is) in
-      let P : Ended → Type 0 = λ ended. KeepsRun (λ link id r M H. g.L.LogLink.is_honest link id r M H) (λ link. g.L.LogLink.failures link)
-      c.args.place c.args.transactions.now.retries (state g.S.Store c.args.conn.now).now (state g.S.Store c.keep_next.new.conn).now c.args.link.now c.keep_next.new.link c.args.walk c.keep_next.new.walk
+      let P : Ended → Type 0 = λ ended. KeepsRun (λ link id r M H. g.L.LogLink.is_ours link id r M H) (λ link. g.L.LogLink.failures link)
+      c.args.place c.keep_next.new.place c.args.transactions.now.retries (state g.S.Store c.args.conn.now).now (state g.S.Store c.keep_next.new.conn).now c.args.link.now c.keep_next.new.link c.args.walk c.keep_next.new.walk
       (c.loop-done.done + 1) ended (c.loop-done.records + c.in-Ok.step.records) (c.loop-done.gaps + c.in-Ok.step.gaps) in
-      subst P limit (keeps_then (λ link id r M H. g.L.LogLink.is_honest link id r M H) (λ link. g.L.LogLink.failures link)
-      c.args.place c.args.transactions.now.retries c.loop-done.transactions.retries (state g.S.Store c.args.conn.now).now (state g.S.Store c.loop-done.conn).now (state g.S.Store c.keep_next.new.conn).now
+      subst P limit (keeps_then (λ link id r M H. g.L.LogLink.is_ours link id r M H) (λ link. g.L.LogLink.failures link)
+      c.args.place c.loop-done.place c.keep_next.new.place c.args.transactions.now.retries c.loop-done.transactions.retries (state g.S.Store c.args.conn.now).now (state g.S.Store c.loop-done.conn).now (state g.S.Store c.keep_next.new.conn).now
       c.args.link.now c.loop-done.link c.keep_next.new.link c.args.walk c.loop-done.walk c.keep_next.new.walk c.loop-done.done 1 c.in-Ok.step.ended c.loop-done.records c.loop-done.gaps c.in-Ok.step.records c.in-Ok.step.gaps
       c.loop-done.invariant.retries c.loop-done.invariant.never_falls (c.loop-done.invariant.kept early has) (c.in-Ok.ensures.kept clean).1);
+  brought = λ clean has.
+      let early : HasCleanDisk (state g.S.Store c.loop-done.conn) = omega (arith, clean, c.keep_next.ensures.crash.clean) in
+      let limit = limit_reached c.in-Ok.step.ended (sym c.why.ensures ∙ c.in_default.is) in
+      let P : Ended → Type 0 = λ ended. KeepsOver g.L.LogLink.asks (towards c.args.transactions.now.route) c.args.transactions.now.retries c.args.place c.keep_next.new.place
+      (state g.S.Store c.args.conn.now).now (state g.S.Store c.keep_next.new.conn).now c.args.link.now c.keep_next.new.link c.args.walk c.keep_next.new.walk
+      (c.loop-done.done + 1) ended (c.loop-done.records + c.in-Ok.step.records) (c.loop-done.gaps + c.in-Ok.step.gaps) in
+      subst P limit (over_then g.L.LogLink.asks (towards c.args.transactions.now.route) (towards c.loop-done.transactions.route) c.args.transactions.now.retries c.loop-done.transactions.retries c.args.place c.loop-done.place c.keep_next.new.place
+      (state g.S.Store c.args.conn.now).now (state g.S.Store c.loop-done.conn).now (state g.S.Store c.keep_next.new.conn).now
+      c.args.link.now c.loop-done.link c.keep_next.new.link c.args.walk c.loop-done.walk c.keep_next.new.walk c.loop-done.done 1 c.in-Ok.step.ended c.loop-done.records c.loop-done.gaps c.in-Ok.step.records c.in-Ok.step.gaps
+      (ap towards c.loop-done.invariant.route) c.loop-done.invariant.retries (c.loop-done.invariant.brought early has) (c.in-Ok.ensures.brought clean));
+  crash_over = survives_then (state g.S.Store c.args.conn.now) (state g.S.Store c.loop-done.conn) (state g.S.Store c.keep_next.new.conn) _ _ _
+      (λ clean db it. leaves_over_more g.L.LogLink.asks (towards c.args.transactions.now.route) c.args.transactions.now.retries c.args.place (state g.S.Store c.args.conn.now).now c.args.link.now c.args.walk c.loop-done.done (c.loop-done.done + 1) db (omega arith) it)
+      (λ clean db it.
+      let X : Held g.row.S.Denot → Type 0 = λ h. (state g.S.Store h).now.schema ≡ archive_schema in
+      let has = tested_first X c.args.conn.now c.loop-done.conn c.loop-done.done c.loop-done.invariant.tested (λ e. (c.loop-done.invariant.none e).0) it.0 in
+      let early : HasCleanDisk (state g.S.Store c.loop-done.conn) = omega (arith, clean, c.keep_next.ensures.crash.clean) in
+      leaves_over_more g.L.LogLink.asks (towards c.args.transactions.now.route) c.args.transactions.now.retries c.args.place (state g.S.Store c.args.conn.now).now c.args.link.now c.args.walk (c.loop-done.done + 1) (c.loop-done.done + 1) db (omega arith)
+      (leaves_over_then g.L.LogLink.asks (towards c.args.transactions.now.route) (towards c.loop-done.transactions.route) c.args.transactions.now.retries c.loop-done.transactions.retries c.args.place c.loop-done.place it.1.5
+      (state g.S.Store c.args.conn.now).now (state g.S.Store c.loop-done.conn).now it.1.0 db
+      c.args.link.now c.loop-done.link c.keep_next.new.link c.args.walk c.loop-done.walk c.keep_next.new.walk c.loop-done.done it.1.1 c.loop-done.records c.loop-done.gaps it.1.2 it.1.3
+      (ap towards c.loop-done.invariant.route) c.loop-done.invariant.retries (c.loop-done.invariant.brought early has) it.1.4 it.1.6))
+      c.loop-done.invariant.crash_over c.keep_next.ensures.crash_over;
   committed = λ clean same. (c.in-Ok.ensures.kept clean).0;
   crash = survives_then (state g.S.Store c.args.conn.now) (state g.S.Store c.loop-done.conn) (state g.S.Store c.keep_next.new.conn) _ _ _
-      (λ clean db it. leaves_more (λ link id r M H. g.L.LogLink.is_honest link id r M H) (λ link. g.L.LogLink.failures link)
+      (λ clean db it. leaves_more (λ link id r M H. g.L.LogLink.is_ours link id r M H) (λ link. g.L.LogLink.failures link)
       c.args.place c.args.transactions.now.retries (state g.S.Store c.args.conn.now).now c.args.link.now c.args.walk c.loop-done.done (c.loop-done.done + 1) db (omega arith) it)
       (λ clean db it.
       let X : Held g.row.S.Denot → Type 0 = λ h. (state g.S.Store h).now.schema ≡ archive_schema in
       let has = tested_first X c.args.conn.now c.loop-done.conn c.loop-done.done c.loop-done.invariant.tested (λ e. (c.loop-done.invariant.none e).0) it.0 in
       let early : HasCleanDisk (state g.S.Store c.loop-done.conn) = omega (arith, clean, c.keep_next.ensures.crash.clean) in
-      leaves_more (λ link id r M H. g.L.LogLink.is_honest link id r M H) (λ link. g.L.LogLink.failures link)
+      leaves_more (λ link id r M H. g.L.LogLink.is_ours link id r M H) (λ link. g.L.LogLink.failures link)
       c.args.place c.args.transactions.now.retries (state g.S.Store c.args.conn.now).now c.args.link.now c.args.walk (c.loop-done.done + 1) (c.loop-done.done + 1) db (omega arith)
-      (leaves_then (λ link id r M H. g.L.LogLink.is_honest link id r M H) (λ link. g.L.LogLink.failures link)
-      c.args.place c.args.transactions.now.retries c.loop-done.transactions.retries (state g.S.Store c.args.conn.now).now (state g.S.Store c.loop-done.conn).now it.1.0 db
+      (leaves_then (λ link id r M H. g.L.LogLink.is_ours link id r M H) (λ link. g.L.LogLink.failures link)
+      c.args.place c.loop-done.place it.1.5 c.args.transactions.now.retries c.loop-done.transactions.retries (state g.S.Store c.args.conn.now).now (state g.S.Store c.loop-done.conn).now it.1.0 db
       c.args.link.now c.loop-done.link c.keep_next.new.link c.args.walk c.loop-done.walk c.keep_next.new.walk c.loop-done.done it.1.1 c.loop-done.records c.loop-done.gaps it.1.2 it.1.3
-      c.loop-done.invariant.retries c.loop-done.invariant.never_falls (c.loop-done.invariant.kept early has) it.1.4 it.1.5))
+      c.loop-done.invariant.retries c.loop-done.invariant.never_falls (c.loop-done.invariant.kept early has) it.1.4 it.1.6))
       c.loop-done.invariant.crash c.keep_next.ensures.crash;
 }
 
@@ -136,6 +170,77 @@ returns-clause-kept g c clean has =
 pub returns-clause-crash : goal.returns-clause-crash
 returns-clause-crash g c =
     survives_weaker (state g.S.Store c.args.conn.now) (state g.S.Store c.loop-done.conn) _ _
-    (λ clean db it. leaves_more (λ link id r M H. g.L.LogLink.is_honest link id r M H) (λ link. g.L.LogLink.failures link)
+    (λ clean db it. leaves_more (λ link id r M H. g.L.LogLink.is_ours link id r M H) (λ link. g.L.LogLink.failures link)
     c.args.place c.args.transactions.now.retries (state g.S.Store c.args.conn.now).now c.args.link.now c.args.walk c.loop-done.done c.args.steps db (omega arith) it)
     c.loop-done.invariant.crash
+
+pub returns-in-Err-clause-stands_over : goal.returns-in-Err-clause-stands_over
+returns-in-Err-clause-stands_over g c clean is_open has =
+    let early : HasCleanDisk (state g.S.Store c.loop-done.conn) = omega (arith, clean, c.keep_next.ensures.crash.clean) in
+    let P : Database → Type 0 = λ db. KeepsOver g.L.LogLink.asks (towards c.args.transactions.now.route) c.args.transactions.now.retries c.args.place c.loop-done.place
+    (state g.S.Store c.args.conn.now).now db c.args.link.now c.loop-done.link c.args.walk c.loop-done.walk c.loop-done.done StepLimit c.loop-done.records c.loop-done.gaps in
+    let Q : Place → Type 0 = λ there. KeepsOver g.L.LogLink.asks (towards c.args.transactions.now.route) c.args.transactions.now.retries c.args.place there
+    (state g.S.Store c.args.conn.now).now (state g.S.Store c.keep_next.new.conn).now c.args.link.now c.loop-done.link c.args.walk c.loop-done.walk c.loop-done.done StepLimit c.loop-done.records c.loop-done.gaps in (
+      c.loop-done.done,
+      c.loop-done.link,
+      c.loop-done.walk,
+      omega arith,
+      sym c.next_number-next.ensures.next,
+      subst Q (sym c.in-Err.ensures.stays) (subst P (sym (c.in-Err.ensures.neither clean is_open).0) (c.loop-done.invariant.brought early has)),
+    )
+
+pub returns-in-Err-clause-crash_over : goal.returns-in-Err-clause-crash_over
+returns-in-Err-clause-crash_over g c = survives_then (state g.S.Store c.args.conn.now) (state g.S.Store c.loop-done.conn) (state g.S.Store c.keep_next.new.conn) _ _ _
+    (λ clean db it. leaves_over_more g.L.LogLink.asks (towards c.args.transactions.now.route) c.args.transactions.now.retries c.args.place (state g.S.Store c.args.conn.now).now c.args.link.now c.args.walk c.loop-done.done (c.args.steps) db (omega arith) it)
+    (λ clean db it.
+    let X : Held g.row.S.Denot → Type 0 = λ h. (state g.S.Store h).now.schema ≡ archive_schema in
+    let has = tested_first X c.args.conn.now c.loop-done.conn c.loop-done.done c.loop-done.invariant.tested (λ e. (c.loop-done.invariant.none e).0) it.0 in
+    let early : HasCleanDisk (state g.S.Store c.loop-done.conn) = omega (arith, clean, c.keep_next.ensures.crash.clean) in
+    leaves_over_more g.L.LogLink.asks (towards c.args.transactions.now.route) c.args.transactions.now.retries c.args.place (state g.S.Store c.args.conn.now).now c.args.link.now c.args.walk (c.loop-done.done + 1) (c.args.steps) db (omega arith)
+    (leaves_over_then g.L.LogLink.asks (towards c.args.transactions.now.route) (towards c.loop-done.transactions.route) c.args.transactions.now.retries c.loop-done.transactions.retries c.args.place c.loop-done.place it.1.5
+    (state g.S.Store c.args.conn.now).now (state g.S.Store c.loop-done.conn).now it.1.0 db
+    c.args.link.now c.loop-done.link c.keep_next.new.link c.args.walk c.loop-done.walk c.keep_next.new.walk c.loop-done.done it.1.1 c.loop-done.records c.loop-done.gaps it.1.2 it.1.3
+    (ap towards c.loop-done.invariant.route) c.loop-done.invariant.retries (c.loop-done.invariant.brought early has) it.1.4 it.1.6))
+    c.loop-done.invariant.crash_over c.keep_next.ensures.crash_over
+
+pub returns-in-Some-clause-crash_over : goal.returns-in-Some-clause-crash_over
+returns-in-Some-clause-crash_over g c = survives_then (state g.S.Store c.args.conn.now) (state g.S.Store c.loop-done.conn) (state g.S.Store c.keep_next.new.conn) _ _ _
+    (λ clean db it. leaves_over_more g.L.LogLink.asks (towards c.args.transactions.now.route) c.args.transactions.now.retries c.args.place (state g.S.Store c.args.conn.now).now c.args.link.now c.args.walk c.loop-done.done (c.args.steps) db (omega arith) it)
+    (λ clean db it.
+    let X : Held g.row.S.Denot → Type 0 = λ h. (state g.S.Store h).now.schema ≡ archive_schema in
+    let has = tested_first X c.args.conn.now c.loop-done.conn c.loop-done.done c.loop-done.invariant.tested (λ e. (c.loop-done.invariant.none e).0) it.0 in
+    let early : HasCleanDisk (state g.S.Store c.loop-done.conn) = omega (arith, clean, c.keep_next.ensures.crash.clean) in
+    leaves_over_more g.L.LogLink.asks (towards c.args.transactions.now.route) c.args.transactions.now.retries c.args.place (state g.S.Store c.args.conn.now).now c.args.link.now c.args.walk (c.loop-done.done + 1) (c.args.steps) db (omega arith)
+    (leaves_over_then g.L.LogLink.asks (towards c.args.transactions.now.route) (towards c.loop-done.transactions.route) c.args.transactions.now.retries c.loop-done.transactions.retries c.args.place c.loop-done.place it.1.5
+    (state g.S.Store c.args.conn.now).now (state g.S.Store c.loop-done.conn).now it.1.0 db
+    c.args.link.now c.loop-done.link c.keep_next.new.link c.args.walk c.loop-done.walk c.keep_next.new.walk c.loop-done.done it.1.1 c.loop-done.records c.loop-done.gaps it.1.2 it.1.3
+    (ap towards c.loop-done.invariant.route) c.loop-done.invariant.retries (c.loop-done.invariant.brought early has) it.1.4 it.1.6))
+    c.loop-done.invariant.crash_over c.keep_next.ensures.crash_over
+
+pub returns-in-Some-clause-brought : goal.returns-in-Some-clause-brought
+returns-in-Some-clause-brought g c clean has =
+    let early : HasCleanDisk (state g.S.Store c.loop-done.conn) = omega (arith, clean, c.keep_next.ensures.crash.clean) in
+    let some = sym c.why.ensures ∙ c.in-Some.is in (
+      c.args.steps,
+      c.in-Ok.step.ended,
+      c.keep_next.new.walk,
+      ends_run c.in-Ok.step.ended c.in-Some.why c.args.steps (goes_on c.in-Ok.step.ended c.in-Ok.ensures.few.2) some,
+      sym c.next_number.ensures.next,
+      over_early g.L.LogLink.asks (towards c.args.transactions.now.route) c.args.transactions.now.retries c.args.place c.keep_next.new.place (state g.S.Store c.args.conn.now).now (state g.S.Store c.keep_next.new.conn).now c.args.link.now c.keep_next.new.link c.args.walk c.keep_next.new.walk
+          (c.loop-done.done + 1) c.args.steps (c.loop-done.records + c.in-Ok.step.records) (c.loop-done.gaps + c.in-Ok.step.gaps) c.in-Ok.step.ended (not_limit c.in-Ok.step.ended c.in-Some.why some) (omega arith)
+          (over_then g.L.LogLink.asks (towards c.args.transactions.now.route) (towards c.loop-done.transactions.route) c.args.transactions.now.retries c.loop-done.transactions.retries c.args.place c.loop-done.place c.keep_next.new.place
+          (state g.S.Store c.args.conn.now).now (state g.S.Store c.loop-done.conn).now (state g.S.Store c.keep_next.new.conn).now
+          c.args.link.now c.loop-done.link c.keep_next.new.link c.args.walk c.loop-done.walk c.keep_next.new.walk c.loop-done.done 1 c.in-Ok.step.ended c.loop-done.records c.loop-done.gaps c.in-Ok.step.records c.in-Ok.step.gaps
+          (ap towards c.loop-done.invariant.route) c.loop-done.invariant.retries (c.loop-done.invariant.brought early has) (c.in-Ok.ensures.brought clean)),
+    )
+
+pub returns-clause-brought : goal.returns-clause-brought
+returns-clause-brought g c clean has =
+    let all : c.loop-done.done ≡ c.args.steps = omega arith in
+    (c.loop-done.done, StepLimit, c.loop-done.walk, (all, refl), sym c.next_number-2.ensures.next, c.loop-done.invariant.brought clean has)
+
+pub returns-clause-crash_over : goal.returns-clause-crash_over
+returns-clause-crash_over g c =
+    survives_weaker (state g.S.Store c.args.conn.now) (state g.S.Store c.loop-done.conn) _ _
+    (λ clean db it. leaves_over_more g.L.LogLink.asks (towards c.args.transactions.now.route) c.args.transactions.now.retries c.args.place (state g.S.Store c.args.conn.now).now c.args.link.now c.args.walk c.loop-done.done c.args.steps db (omega arith) it)
+    c.loop-done.invariant.crash_over

@@ -3,6 +3,8 @@ use Rattle.sqlite.specs.State.{HasCleanDisk, Survives}
 use Rattle.sqlite.specs.Held.{state}
 use Rattle.bac_archive.specs.Schema.{archive_schema}
 use Rattle.bac_walk.specs.declared.outcome.Ended.TheVariants.{StepLimit}
+use Rattle.bac_link.specs.Path.{towards}
+use Rattle.bac_keep.specs.Came.{KeepsOver, LeavesOver}
 use Rattle.bac_keep.specs.Runs.{KeepsRun, LeavesRun}
 use Rattle.bac_keep.proofs.run.keep_log.Given as goal
 
@@ -10,18 +12,26 @@ use Rattle.bac_keep.proofs.run.keep_log.Given as goal
 abbrev pub invariant-loop-done : goal.invariant-loop-done
 invariant-loop-done g l = record {
   log : l.walk.log ≡ l.fn.walk.log;
+  same_log : l.place.log ≡ l.fn.place.log;
   retries : l.transactions.retries ≡ l.fn.transactions.retries;
+  route : l.transactions.route ≡ l.fn.transactions.route;
   never_falls : g.L.LogLink.failures l.fn.link ≤ g.L.LogLink.failures l.link;
   few_records : l.records ≤ 100 * l.done;
   few_gaps : l.gaps ≤ l.done;
   tested : 0 < l.done → (state g.S.Store l.fn.conn).now.schema ≡ archive_schema;
   none : l.done ≡ 0 → (l.conn ≡ l.fn.conn) × (l.link ≡ l.fn.link) × (l.records ≡ 0);
   kept : HasCleanDisk (state g.S.Store l.conn) → (state g.S.Store l.fn.conn).now.schema ≡ archive_schema →
-      KeepsRun (λ link id r M H. g.L.LogLink.is_honest link id r M H) (λ link. g.L.LogLink.failures link) l.place l.fn.transactions.retries
+      KeepsRun (λ link id r M H. g.L.LogLink.is_ours link id r M H) (λ link. g.L.LogLink.failures link) l.fn.place l.place l.fn.transactions.retries
+      (state g.S.Store l.fn.conn).now (state g.S.Store l.conn).now l.fn.link l.link l.fn.walk l.walk l.done StepLimit l.records l.gaps;
+  brought : HasCleanDisk (state g.S.Store l.conn) → (state g.S.Store l.fn.conn).now.schema ≡ archive_schema →
+      KeepsOver g.L.LogLink.asks (towards l.fn.transactions.route) l.fn.transactions.retries l.fn.place l.place
       (state g.S.Store l.fn.conn).now (state g.S.Store l.conn).now l.fn.link l.link l.fn.walk l.walk l.done StepLimit l.records l.gaps;
   committed : HasCleanDisk (state g.S.Store l.conn) → (state g.S.Store l.fn.conn).committed ≡ (state g.S.Store l.fn.conn).now →
       (state g.S.Store l.conn).committed ≡ (state g.S.Store l.conn).now;
   crash : Survives (state g.S.Store l.fn.conn) (state g.S.Store l.conn)
-      (λ trees. LeavesRun (λ link id r M H. g.L.LogLink.is_honest link id r M H) (λ link. g.L.LogLink.failures link) l.place l.fn.transactions.retries
+      (λ trees. LeavesRun (λ link id r M H. g.L.LogLink.is_ours link id r M H) (λ link. g.L.LogLink.failures link) l.fn.place l.fn.transactions.retries
+      (state g.S.Store l.fn.conn).now l.fn.link l.fn.walk l.done trees);
+  crash_over : Survives (state g.S.Store l.fn.conn) (state g.S.Store l.conn)
+      (λ trees. LeavesOver g.L.LogLink.asks (towards l.fn.transactions.route) l.fn.transactions.retries l.fn.place
       (state g.S.Store l.fn.conn).now l.fn.link l.fn.walk l.done trees);
 }

@@ -1,0 +1,236 @@
+-- What runs keep of the replies that came.
+use Rattle.std.proofs.Common.{◌≡◌, ◌≢◌, ℕ, zero, suc, ◌+◌, ◌<◌, ◌≤◌, List, [], ◌∷◌, ◌++◌, length, refl, ap, sym, subst, ◌∙◌, arith, append-nil}
+use Rattle.sqlite.specs.Effect.{Database}
+use Rattle.sqlite_trees.specs.Tree.{Trees}
+use Rattle.sqlite_value.specs.Order.{Row as Values}
+use Rattle.bac_wire.specs.Primitive.{Id}
+use Rattle.bac_link.specs.declared.item.Item.{Item}
+use Rattle.bac_link.specs.Delivery.{History, Moment, DeliversTo, Leads, items_of, later}
+use Rattle.bac_link.specs.Laws.{after_answers}
+use Rattle.bac_link.specs.Path.{Path}
+use Rattle.bac_link.proofs.Delivers.{joined, each_once}
+use Rattle.bac_walk.specs.declared.outcome.Ended.{Ended}
+use Rattle.bac_walk.specs.declared.outcome.Ended.TheVariants.{StepLimit}
+use Rattle.bac_link.specs.Moments.{NeverGoesBack}
+use Rattle.bac_walk.specs.Came.{Brought}
+use Rattle.bac_link.specs.Honest.{IsHonest}
+use Rattle.bac_link.specs.Moments.{AreInWindow}
+use Rattle.bac_walk.specs.Place.{WalkPlace}
+use Rattle.bac_walk.proofs.Came.{Asking, answers_came, back_later, brought_ran, some_later, window_later}
+use Rattle.bac_link.proofs.Honest.{goes_on}
+use Rattle.bac_walk.proofs.Honest.{honest_delivers}
+use Rattle.bac_walk.proofs.Joined.{no_brought, brought_joins, brought_early}
+use Rattle.bac_walk.proofs.Joins.{after_answers-add}
+use Rattle.bac_walk.proofs.Window.{stays_in_window}
+use Rattle.bac_archive.specs.Schema.{archive_schema}
+use Rattle.bac_archive.specs.Rows.{Adds, IsAppended, kept as kept_in}
+use Rattle.bac_archive.proofs.RowsLemmas.{adds_nothing}
+use Rattle.bac_keep.specs.declared.place.Place.{Place}
+use Rattle.bac_keep.specs.Items.{era, era_after, kept_rows}
+use Rattle.bac_keep.specs.Came.{GathersOver, KeepsOver, LeavesOver}
+use Rattle.bac_keep.specs.Honest.{GoOnOver, HonestIsKept, HonestRunsAreKept, KeptOverJoin, RanOver, reached_over}
+use Rattle.bac_keep.specs.Kept.{HasNoneBehind, IsKept}
+use Rattle.bac_keep.proofs.Eras.{rows-append, era-append, era-up}
+use Rattle.bac_keep.proofs.KeptLemmas.{runs_kept, still_none}
+use Rattle.bac_keep.proofs.RunLemmas.{appended_then, gaps-append, records-append}
+
+module _ {S : Type 0} (asks : Asking S) where
+  -- without a step nothing is kept
+  pub over_nothing : (path : Path) (retries : ℕ) (place : Place) (db : Database) (link : S) (w : WalkPlace) → db.schema ≡ archive_schema → KeepsOver asks path retries place place db db link link w w 0 StepLimit 0 0
+  over_nothing path retries place db link w has =
+      let none = no_brought asks path retries link w in
+      record {
+        items = [];
+        came = none.0;
+        rows = record { schema = has; rows = adds_nothing db.trees };
+        brought = none.1;
+        log = refl;
+        records_are = refl;
+        gaps_are = refl;
+        of_log = refl;
+        era_is = refl;
+      }
+
+  -- what a run keeps, and one that goes on from there
+  pub over_then : (path path_then : Path) (retries retries_then : ℕ) (place halfway reached : Place) (a b c : Database) (link half left : S) (before middle after : WalkPlace) (steps more : ℕ) (ended : Ended) (records gaps records_then gaps_then : ℕ) →
+      path_then ≡ path → retries_then ≡ retries →
+      KeepsOver asks path retries place halfway a b link half before middle steps StepLimit records gaps →
+      KeepsOver asks path_then retries_then halfway reached b c half left middle after more ended records_then gaps_then →
+      KeepsOver asks path retries place reached a c link left before after (steps + more) ended (records + records_then) (gaps + gaps_then)
+  over_then path path_then retries retries_then place halfway reached a b c link half left before middle after steps more ended records gaps records_then gaps_then by tries p q =
+      let P : Path → Type 0 = λ y. Brought asks y retries_then half middle more q.came q.items ended after left in
+      let N : ℕ → Type 0 = λ n. Brought asks path n half middle more q.came q.items ended after left in
+      let there = era_after (era place) p.items in
+      let more_rows = subst (λ e. IsAppended b c (kept_rows e q.items)) p.era_is q.rows in
+      let behind = subst (λ e. era reached ≡ era_after e q.items) p.era_is q.era_is in
+      let both = brought_joins asks path retries link half left before middle after steps more p.items q.items ended (p.came, p.brought) (q.came, subst N tries (subst P by q.brought)) in
+      record {
+        items = p.items ++ q.items;
+        came = both.0;
+        rows = subst (λ l. IsAppended a c l) (sym (rows-append (era place) p.items q.items)) (appended_then a b c (kept_rows (era place) p.items) (kept_rows there q.items) p.rows more_rows);
+        brought = both.1;
+        log = q.log ∙ p.log;
+        records_are = omega (arith, records-append p.items q.items, p.records_are, q.records_are);
+        gaps_are = omega (arith, gaps-append p.items q.items, p.gaps_are, q.gaps_are);
+        of_log = q.of_log ∙ p.of_log;
+        era_is = behind ∙ sym (era-append (era place) p.items q.items);
+      }
+
+  -- one step, whose rows were appended
+  pub over_one : (path : Path) (retries : ℕ) (place reached : Place) (old new : Database) (link left : S) (before after : WalkPlace) (ended : Ended) (rows : List Values) (records gaps : ℕ) → after.log ≡ before.log →
+      GathersOver asks path retries place reached rows records gaps link left before after ended → IsAppended old new rows →
+      KeepsOver asks path retries place reached old new link left before after 1 ended records gaps
+  over_one path retries place reached old new link left before after ended rows records gaps log g added = record {
+    items = g.0;
+    came = g.2.0;
+    rows = subst (λ l. IsAppended old new l) g.1 added;
+    brought = g.2.1;
+    log = log;
+    records_are = g.3;
+    gaps_are = g.4;
+    of_log = g.5;
+    era_is = g.6;
+  }
+
+  -- a run that ended early is one of more steps
+  pub over_early : (path : Path) (retries : ℕ) (place reached : Place) (old new : Database) (link left : S) (before after : WalkPlace) (n steps records gaps : ℕ) (ended : Ended) → ended ≢ StepLimit → n ≤ steps →
+      KeepsOver asks path retries place reached old new link left before after n ended records gaps → KeepsOver asks path retries place reached old new link left before after steps ended records gaps
+  over_early path retries place reached old new link left before after n steps records gaps ended not_limit le p =
+      let more = brought_early asks path retries link left before after n steps p.items ended not_limit le (p.came, p.brought) in
+      record {
+        items = p.items;
+        came = more.0;
+        rows = p.rows;
+        brought = more.1;
+        log = p.log;
+        records_are = p.records_are;
+        gaps_are = p.gaps_are;
+        of_log = p.of_log;
+        era_is = p.era_is;
+      }
+
+  pub leaves_over_more : (path : Path) (retries : ℕ) (place : Place) (old : Database) (link : S) (before : WalkPlace) (n steps : ℕ) (trees : Trees) → n ≤ steps →
+      LeavesOver asks path retries place old link before n trees → LeavesOver asks path retries place old link before steps trees
+  leaves_over_more path retries place old link before n steps trees le it = (it.0, it.1, it.2, it.3, it.4, it.5, it.6, (let few : it.3 ≤ n = it.7 in omega (arith, few)), it.8, it.9, it.10)
+
+  -- what a crash within a step leaves, after the steps before it
+  pub leaves_over_then : (path path_then : Path) (retries retries_then : ℕ) (place halfway reached : Place) (old mid db : Database) (trees : Trees) (link half left : S) (before middle after : WalkPlace) (steps : ℕ) (ended : Ended) (records gaps records_then gaps_then : ℕ) →
+      path_then ≡ path → retries_then ≡ retries →
+      KeepsOver asks path retries place halfway old mid link half before middle steps StepLimit records gaps → trees ≡ db.trees →
+      KeepsOver asks path_then retries_then halfway reached mid db half left middle after 1 ended records_then gaps_then → LeavesOver asks path retries place old link before (steps + 1) trees
+  leaves_over_then path path_then retries retries_then place halfway reached old mid db trees link half left before middle after steps ended records gaps records_then gaps_then by tries p is q = (
+    db,
+    left,
+    after,
+    steps + 1,
+    ended,
+    records + records_then,
+    gaps + gaps_then,
+    omega arith,
+    is,
+    reached,
+    over_then path path_then retries retries_then place halfway reached old mid db link half left before middle after steps 1 ended records gaps records_then gaps_then by tries p q,
+  )
+
+  -- ---- the laws
+
+  pub over_joins : KeptOverJoin asks
+  over_joins path retries place halfway reached old mid new link half left before middle after steps more ended records gaps records_then gaps_then p q =
+      over_then path path retries retries place halfway reached old mid new link half left before middle after steps more ended records gaps records_then gaps_then refl refl p q
+
+  pub honest_kept : HonestIsKept asks
+  honest_kept path retries place reached old new link left before after steps ended records gaps H M s low kept honest next some back window at =
+      let stands : S → List Moment → Type 0 = λ l N. IsHonest asks path before.log H low l N in
+      let said = honest_delivers asks stands path retries link left before after steps kept.came kept.items ended H M low s (goes_on asks path before.log H low) honest kept.brought next some back window at in
+      let ran = brought_ran asks path retries link left before after steps kept.came kept.items ended H M low s kept.brought said.1 next some back window at in (
+        ran.0,
+        ran.1,
+        ran.2,
+        ran.3,
+        kept.rows.rows,
+        kept.era_is,
+        ran.4,
+        (
+          said.2,
+          λ moments told is.
+              (honest_delivers asks (λ l N. moments l ≡ N) path retries link left before after steps kept.came kept.items ended H M low s told is kept.brought next some back window at).2,
+        ),
+        (λ up. let caught = ran.5 up in (caught.0, omega (arith, caught.1, answers_came kept.came), caught.3)),
+        said.3,
+      )
+
+-- ---- answers whose rows aren't kept
+
+nothing : ℕ → List (List Item)
+nothing zero = []
+nothing (suc n) = [] ∷ nothing n
+
+nothing-length : (n : ℕ) → length (nothing n) ≡ n
+unfolding nothing
+nothing-length zero = refl
+nothing-length (suc n) = omega (arith, nothing-length n)
+
+nothing-items : (n : ℕ) → items_of (nothing n) ≡ []
+unfolding nothing
+nothing-items zero = refl
+nothing-items (suc n) = nothing-items n
+
+nothing-leads : (H : History) (t n : ℕ) (M : List Moment) → Leads H M t (nothing n) t
+unfolding nothing
+nothing-leads H t zero M = refl
+nothing-leads H t (suc n) M = (t, refl, nothing-leads H t n (later M))
+
+-- so many answers more, of which nothing is kept
+pub waits : (H : History) (s t count n : ℕ) (M : List Moment) (items : List Item) → DeliversTo H s items t M count → DeliversTo H s items t M (count + n)
+waits H s t count n M items d =
+    let P : List Item → Type 0 = λ l. DeliversTo H s l t M (count + n) in
+    subst P (append-nil items) (joined H s t t count n M items [] d (nothing n, nothing-length n, nothing-items n, nothing-leads H t n (after_answers count M)))
+
+pub some_after : (count : ℕ) (M : List Moment) → 0 < length M → 0 < length (after_answers count M)
+some_after zero M some = some
+some_after (suc count) M some = some_after count (later M) (some_later M some)
+
+pub back_after : (count : ℕ) (M : List Moment) → NeverGoesBack M → NeverGoesBack (after_answers count M)
+back_after zero M back = back
+back_after (suc count) M back = back_after count (later M) (back_later M back)
+
+pub window_after : (low count : ℕ) (M : List Moment) → AreInWindow low M → AreInWindow low (after_answers count M)
+window_after low zero M window = window
+window_after low (suc count) M window = window_after low count (later M) (window_later low M window)
+
+reached-up : {S : Type 0} (asks : Asking S) (log : Id) (H : History) (low last : ℕ) (trees : Trees) (next : ℕ) (M : List Moment) (runs : List (RanOver S)) →
+    GoOnOver asks log H low last trees next M runs → last ≤ reached_over last runs
+reached-up asks log H low last trees next M [] on = omega arith
+reached-up asks log H low last trees next M (run ∷ runs) (kept, at, rows, id, by_number, number, honest, on) =
+    let rises = era-up (era run.place) kept.items in
+    let there = kept.era_is in
+    let rest = reached-up asks log H low (era run.reached) run.new.trees run.after.next (after_answers (length kept.came + run.unkept) M) runs on in
+    let up : last ≤ era run.reached = subst (λ e. last ≤ e) (sym there) (subst (λ e. e ≤ era_after (era run.place) kept.items) at rises) in
+    omega (arith, up, rest)
+
+pub honest_runs : {S : Type 0} (asks : Asking S) → HonestRunsAreKept asks
+honest_runs asks log H low first last old b s count M next [] was free is above below some back window on = (s, count, is, was)
+honest_runs asks log H low first last old b s count M next (run ∷ runs) was free is above below some back window (kept, here, rows, id, by_number, at, honest, on) =
+    let N : List Moment = after_answers count M in
+    let answers : ℕ = length kept.came + run.unkept in
+    let after : ℕ = era run.reached in
+    let Q : Id → Type 0 = λ i. IsHonest asks run.path i H low run.link N in
+    let d = honest_kept asks run.path run.retries run.place run.reached run.old run.new run.link run.left run.before run.after run.steps run.ended run.records run.gaps H N s low kept
+    (subst Q (sym id) honest) (at ∙ is) (some_after count M some) (back_after count M back) (window_after low count M window) (λ f. (above, below)) in
+    let D : ℕ → Type 0 = λ x. DeliversTo H x kept.items d.1 N (length kept.came) in
+    let goes = subst D (d.2 by_number) d.6 in
+    let A : Trees → Type 0 = λ x. Adds x run.new.trees (kept_rows (era run.place) kept.items) in
+    let E : ℕ → Type 0 = λ e. Adds old run.new.trees (kept_rows e kept.items) in
+    let added : Adds old run.new.trees (kept_rows last kept.items) = subst E here (subst A rows d.4) in
+    let reach : after ≡ era_after last kept.items = kept.era_is ∙ ap (λ e. era_after e kept.items) here in
+    let up = reached-up asks log H low after run.new.trees run.after.next (after_answers answers N) runs on in
+    let to_here : HasNoneBehind last after (kept_in old) = λ e lt le. free e lt (let in_reach : e ≤ reached_over after runs = omega (arith, le, up) in in_reach) in
+    let F : ℕ → Type 0 = λ e. HasNoneBehind last e (kept_in old) in
+    let K : ℕ → Type 0 = λ e. IsKept H first e run.new.trees b d.1 M (count + answers) in
+    let B : ℕ → Type 0 = λ e. HasNoneBehind e (reached_over after runs) (kept_in run.new.trees) in
+    let one = subst K (sym reach) (runs_kept H first last old run.new.trees b s d.1 count answers M kept.items was (subst F reach to_here) added (waits H s d.1 (length kept.came) run.unkept N kept.items goes)) in
+    let covers = each_once H s d.1 (length kept.came) N kept.items goes in
+    let later_free = subst B (sym reach) (still_none last (reached_over after runs) old run.new.trees s d.1 kept.items free added covers) in
+    let place_is = stays_in_window H N low s d.1 (length kept.came) kept.items (some_after count M some) (window_after low count M window) above below goes in
+    let G : List Moment → Type 0 = λ x. GoOnOver asks log H low after run.new.trees run.after.next x runs in
+    honest_runs asks log H low first after run.new.trees b d.1 (count + answers) M run.after.next runs one later_free d.3 place_is.0 place_is.1 some back window (subst G (sym (after_answers-add count answers M)) on)
