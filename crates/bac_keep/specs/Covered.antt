@@ -17,8 +17,8 @@ use Rattle.bac_keep.specs.Items.{era, era_after, kept_rows}
 use Rattle.bac_keep.specs.Kept.{HasNoneBehind, rows_at, rows_in}
 use Rattle.bac_keep.specs.Runs.{KeepsRun}
 
--- The rows of these eras, which are epochs of one log, are those of items that cover the ordinals s to t - 1, each once,
--- in rising order.
+-- The rows of these eras, which are epochs of one log, are those of items that cover the ordinals s to t - 1, each
+-- once, in rising order.
 abbrev pub IsCovered : ℕ → ℕ → Trees → ℕ → ℕ → Type 0
 IsCovered first last trees s t =
     (items : List Item) × IsPermutation (kept_rows first items) (rows_in first last (kept trees))
@@ -30,8 +30,8 @@ BeginWith s [] = Unit {0}
 BeginWith s (Gap first before ∷ items) = ⊥
 BeginWith s (Logged number entry ∷ items) = number ≡ sequence_number s
 
--- Of a log of which nothing is kept yet in an epoch, a run from a number on, or from the oldest record on, keeps rows that
--- cover each number from its first one up to the one that comes next, whoever answers.
+-- Of a log of which nothing is kept yet in an epoch, a run from a number on, or from the oldest record on, keeps rows
+-- that cover each number from its first one up to the one that comes next, whoever answers.
 abbrev pub RunsBeginCovered : {L : Type 0} → (L → Id → ℕ → List Moment → History → Type 0) → (L → ℕ) → Type 0
 RunsBeginCovered {L = L} ours failures =
     (place reached : Place) (retries : ℕ) (old new : Database) (link left : L) (before after : WalkPlace)
@@ -43,8 +43,8 @@ RunsBeginCovered {L = L} ours failures =
     × ((run.items ≡ [] → ⊥) → after.next ≡ sequence_number t)
     × IsCovered (era place) (era reached) new.trees s t
 
--- What is kept of a log, and what a run adds that goes on at the number where that ends, cover each number up to the one
--- that comes next. So the numbers of any runs, one after the other, are covered, each once, whoever answers.
+-- What is kept of a log, and what a run adds that goes on at the number where that ends, cover each number up to the
+-- one that comes next. So the numbers of any runs, one after the other, are covered, each once, whoever answers.
 abbrev pub RunsGoOnCovered : {L : Type 0} → (L → Id → ℕ → List Moment → History → Type 0) → (L → ℕ) → Type 0
 RunsGoOnCovered {L = L} ours failures =
     (first : ℕ) (place reached : Place) (retries : ℕ) (old new : Database) (link left : L) (before after : WalkPlace)

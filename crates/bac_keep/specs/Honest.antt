@@ -27,20 +27,22 @@ use Rattle.bac_keep.specs.Kept.{HasNoneBehind, IsKept}
 abbrev pub KeptOverJoin : {S : Type 0} → (S → List ℕ → Result (List ℕ) Loss → S → Type 0) → Type 0
 KeptOverJoin {S = S} asks =
     (path : Path) (retries : ℕ) (place halfway reached : Place) (old mid new : Database)
-    (link half left : S) (before middle after : WalkPlace) (steps more : ℕ) (ended : Ended) (records gaps records_then gaps_then : ℕ) →
+    (link half left : S) (before middle after : WalkPlace) (steps more : ℕ) (ended : Ended)
+    (records gaps records_then gaps_then : ℕ) →
     KeepsOver asks path retries place halfway old mid link half before middle steps StepLimit records gaps →
     KeepsOver asks path retries halfway reached mid new half left middle after more ended records_then gaps_then →
     KeepsOver asks path retries place reached old new link left before after (steps + more) ended
     (records + records_then) (gaps + gaps_then)
 
 -- What a run keeps was added, and over a link that is honest for its log from the moments M on it is delivered: from
--- the ordinal of the walk's number on, or from the oldest record if it begins there, up to that of the number that comes
--- next, by as many answers as replies came. The link is honest from the moments on that these left; caught up, the log
--- held nothing more at one of them; and the only fault is a loss.
+-- the ordinal of the walk's number on, or from the oldest record if it begins there, up to that of the number that
+-- comes next, by as many answers as replies came. The link is honest from the moments on that these left; caught up,
+-- the log held nothing more at one of them; and the only fault is a loss.
 abbrev pub HonestIsKept : {S : Type 0} → (S → List ℕ → Result (List ℕ) Loss → S → Type 0) → Type 0
 HonestIsKept {S = S} asks =
     (path : Path) (retries : ℕ) (place reached : Place) (old new : Database) (link left : S)
-    (before after : WalkPlace) (steps : ℕ) (ended : Ended) (records gaps : ℕ) (H : History) (M : List Moment) (s low : ℕ)
+    (before after : WalkPlace) (steps : ℕ) (ended : Ended) (records gaps : ℕ)
+    (H : History) (M : List Moment) (s low : ℕ)
     (kept : KeepsOver asks path retries place reached old new link left before after steps ended records gaps) →
     IsHonest asks path before.log H low link M → before.next ≡ sequence_number s →
     0 < length M → NeverGoesBack M → AreInWindow low M →
@@ -52,7 +54,8 @@ HonestIsKept {S = S} asks =
     × (ended ≡ CaughtUp → (i : ℕ) × (i < length kept.came) × NoneFrom t (moment_at M i)) × IsHonestEnd ended
 
 -- One of several runs over a log, however it ended: over a link of its own so many steps from a place on, whose rows
--- came to a database, up to the place that was reached; and how many answers were given then whose rows didn't come, before the next run.
+-- came to a database, up to the place that was reached; and how many answers were given then whose rows didn't come,
+-- before the next run.
 pub record RanOver (S : Type 0) : Type 0 where
   pub path : Path
   pub retries : ℕ
@@ -70,18 +73,20 @@ pub record RanOver (S : Type 0) : Type 0 where
   pub gaps : ℕ
   pub unkept : ℕ
 
--- Runs over one log, from this number in an era on, over the moments M: each over the rows that the one before left, from
--- the number and the era where its kept steps ended, and over a link that is honest for the log from the moments on that all answers
--- before it left.
+-- Runs over one log, from this number in an era on, over the moments M: each over the rows that the one before left,
+-- from the number and the era where its kept steps ended, and over a link that is honest for the log from the moments
+-- on that all answers before it left.
 abbrev pub GoOnOver : {S : Type 0} → (S → List ℕ → Result (List ℕ) Loss → S → Type 0) → Id → History → ℕ → ℕ →
     Trees → ℕ → List Moment → List (RanOver S) → Type 0
 GoOnOver asks log H low last trees next M [] = Unit {0}
 GoOnOver asks log H low last trees next M (run ∷ runs) =
     (kept : KeepsOver asks run.path run.retries run.place run.reached run.old run.new run.link run.left run.before
     run.after run.steps run.ended run.records run.gaps)
-    × (era run.place ≡ last) × (run.old.trees ≡ trees) × (run.before.log ≡ log) × (run.before.fresh ≡ false) × (run.before.next ≡ next)
+    × (era run.place ≡ last) × (run.old.trees ≡ trees)
+    × (run.before.log ≡ log) × (run.before.fresh ≡ false) × (run.before.next ≡ next)
     × IsHonest asks run.path log H low run.link M
-    × GoOnOver asks log H low (era run.reached) run.new.trees run.after.next (after_answers (length kept.came + run.unkept) M) runs
+    × GoOnOver asks log H low (era run.reached) run.new.trees run.after.next
+    (after_answers (length kept.came + run.unkept) M) runs
 
 -- the rows that runs leave
 abbrev pub left_over : {S : Type 0} → Trees → List (RanOver S) → Trees
@@ -99,8 +104,8 @@ next_over next [] = next
 next_over next (run ∷ runs) = next_over run.after.next runs
 
 -- However many runs there were, each completed, ended by a fault or by an error of the database, or cut by a crash:
--- over links that are honest for the log, what was kept before them and what they keep is one delivery, up to the number
--- that comes next, if the epochs were empty that begin where numbers come round.
+-- over links that are honest for the log, what was kept before them and what they keep is one delivery, up to the
+-- number that comes next, if the epochs were empty that begin where numbers come round.
 abbrev pub HonestRunsAreKept : {S : Type 0} → (S → List ℕ → Result (List ℕ) Loss → S → Type 0) → Type 0
 HonestRunsAreKept {S = S} asks =
     (log : Id) (H : History) (low first last : ℕ) (old : Trees) (b s count : ℕ) (M : List Moment) (next : ℕ)

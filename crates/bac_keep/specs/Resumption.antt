@@ -30,7 +30,8 @@ pub record KeptRecord : Type 0 where
 abbrev pub is_dated : List ℕ → Bool
 is_dated text = not (list_any (λ c. c == 42) text)
 
--- whether a date and time lies before another, both with each part; texts of one length are in the order of what they say
+-- whether a date and time lies before another, both with each part; texts of one length are in the order of what they
+-- say
 abbrev pub is_before : List ℕ → List ℕ → Bool
 is_before stamp other = is_dated stamp && (is_dated other && is_lt (slice_cmp nat_cmp stamp other))
 
@@ -56,15 +57,15 @@ abbrev pub IsToldBy : Id → KeptRecord → List Numbered → Resume → Type 0
 IsToldBy log kept [] told = ⊥
 IsToldBy log kept (held ∷ others) told = IsWhere log kept (goes_on kept held) told
 
--- What the question for the oldest records says, if the one by number found nothing: an empty log tells nothing, and goes
--- on.
+-- What the question for the oldest records says, if the one by number found nothing: an empty log tells nothing, and
+-- goes on.
 abbrev pub IsToldLast : Id → KeptRecord → Result Step WalkFault → Resume → Type 0
 IsToldLast log kept (Err fault) told = told ≡ Fault fault
 IsToldLast log kept (Ok CaughtUp) told = IsWhere log kept true told
 IsToldLast log kept (Ok (BatchOf batch)) told = IsToldBy log kept batch.entries.items told
 
--- What the question for the record that was kept last says: the records from it on, or if it isn't held the oldest behind
--- it; if there is none, the oldest of all are asked for.
+-- What the question for the record that was kept last says: the records from it on, or if it isn't held the oldest
+-- behind it; if there is none, the oldest of all are asked for.
 abbrev pub IsTold : Id → KeptRecord → Result Step WalkFault → Result Step WalkFault → Resume → Type 0
 IsTold log kept (Err fault) oldest told = told ≡ Fault fault
 IsTold log kept (Ok CaughtUp) oldest told = IsToldLast log kept oldest told

@@ -38,7 +38,8 @@ IsStart log last (GoOn walk) (Ok start) = (start.place.log ≡ log) × (start.pl
     × (start.walk ≡ walk) × (start.free ≡ free_behind last) × (start.anew ≡ false)
 IsStart log last (BeganAnew walk) (Ok start) = (start.place.log ≡ log) × (start.place.epoch ≡ last.epoch + 1)
     × (start.walk ≡ walk) × (start.free ≡ 0) × (start.anew ≡ true)
-IsStart log last (Fault fault) (Err end) = (end.records ≡ 0) × (end.gaps ≡ 0) × (end.why ≡ why.Fault fault) × (end.anew ≡ false)
+IsStart log last (Fault fault) (Err end) = (end.records ≡ 0) × (end.gaps ≡ 0)
+    × (end.why ≡ why.Fault fault) × (end.anew ≡ false)
 IsStart log last _ _ = ⊥
 
 -- the octets of a text, or none
