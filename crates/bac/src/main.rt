@@ -5,7 +5,7 @@
 use bac_keeper::{Fault as KeepFault, is_keeping, run_keep};
 use bac_tools::{Fault, SystemClock, UdpSockets, UntilRefused, run, tell};
 use std::env::Args;
-use std::io::{BufWriter, ErrorKind};
+use std::io::{BufWriter, ErrorKind, IsTerminal};
 use std::process::ExitCode;
 use std::{env, io};
 
@@ -47,11 +47,14 @@ fn started(rt: &HostRuntime) -> Result<u8, Fault> {
         return Err(Fault::Memory);
     };
     if is_keeping(&words) {
+        // A count is for somebody who looks at both.
+        let counts = rt.stdout().is_terminal() && rt.stderr().is_terminal();
         let done = run_keep(
             rt,
             &mut UdpSockets::new(rt),
             rt.alloc(),
             &words,
+            counts,
             &mut output,
             &mut rt.stderr(),
         );

@@ -10,10 +10,10 @@ use Rattle.bac_link.specs.Delivery.{History, Moment}
 use Rattle.bac_link.specs.Laws.{CoversEach}
 use Rattle.bac_link.proofs.Delivers.{CoversEach-append}
 use Rattle.bac_walk.specs.Collects.{Goes}
-use Rattle.bac_archive.specs.Rows.{kept, Adds}
+use Rattle.bac_archive.specs.Rows.{kept}
 use Rattle.bac_keep.specs.Covered.{BeginWith, RunsBeginCovered, RunsGoOnCovered}
-use Rattle.bac_keep.specs.Items.{era, era_after, kept_rows}
-use Rattle.bac_keep.specs.Kept.{HasNoneBehind, rows_at, rows_in}
+use Rattle.bac_keep.specs.Items.{era, kept_rows}
+use Rattle.bac_keep.specs.Kept.{HasNoneBehind, rows_in}
 use Rattle.bac_keep.proofs.KeptLemmas.{rows_grow}
 
 -- what goes on from the number of an ordinal covers each from there
@@ -23,7 +23,7 @@ covers_on before next s [] after goes at = (s, goes.0 ∙ at, refl)
 covers_on before next s (x ∷ xs) after goes at = goes.0 at
 
 -- what begins at a number, or at the oldest record, covers each from there, if there is anything
-covers_begun : (fresh : Bool) (before next s : ℕ) (items : List Item) (after : Bool) → Goes fresh before s items after next →
+pub covers_begun : (fresh : Bool) (before next s : ℕ) (items : List Item) (after : Bool) → Goes fresh before s items after next →
     (fresh ≡ false → before ≡ sequence_number s) → (fresh ≡ true → BeginWith s items) →
     (t : ℕ) × (items ≡ [] → next ≡ before) × ((items ≡ [] → ⊥) → next ≡ sequence_number t) × CoversEach s items t
 covers_begun fresh before next s [] after goes number begin = (s, (λ none. goes.0), (λ some. absurd (some refl)), refl)

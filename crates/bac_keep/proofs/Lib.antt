@@ -4,3 +4,4 @@ mod KeptLemmas
 mod RunLemmas
 pub mod CameLemmas
 mod CoveredLemmas
+mod NewestLemmas

@@ -7,3 +7,4 @@ pub mod Gathers
 pub mod Came
 pub mod Honest
 pub mod Resumption
+pub mod Newest

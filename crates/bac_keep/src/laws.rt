@@ -2,6 +2,7 @@
 ghost use Rattle.bac_keep.specs.Covered.{RunsBeginCovered, RunsGoOnCovered};
 ghost use Rattle.bac_keep.specs.Honest.{HonestIsKept, HonestRunsAreKept, KeptOverJoin};
 ghost use Rattle.bac_keep.specs.Kept.{AllRunsAreKept, BeginsEmpty, KeptIsDelivered, KeptRunsJoin, OneRowEach, OthersStay, RowsJoin, RunsAreKept};
+ghost use Rattle.bac_keep.specs.Newest.{KeptIsCovered, NewestEndsWhatIsKept, NewestIsLast, NoneLaterStays, RunsLeaveNoneLater};
 
 use bac_link::LogLink;
 
@@ -79,4 +80,33 @@ pub fn runs_begin_covered<L: LogLink>()
 /// that ends.
 pub fn runs_go_on_covered<L: LogLink>()
     ensures { RunsGoOnCovered (λ link id r M H. L.is_ours link id r M H) (λ link. L.failures link) }
+{}
+
+/// What is one delivery covers each number, once.
+pub fn kept_is_covered()
+    ensures { KeptIsCovered }
+{}
+
+/// What is kept of a log ends where its newest item tells: the rows that cover each number from an
+/// epoch on, up to one behind which there is no row, go on in the epoch behind that item, at the
+/// number behind its own.
+pub fn newest_ends_what_is_kept()
+    ensures { NewestEndsWhatIsKept }
+{}
+
+/// No row of a log lies in an epoch behind that of its newest item, and none at all if it has none.
+pub fn newest_is_last()
+    ensures { NewestIsLast }
+{}
+
+/// After rows of items were added from the last epoch of a log on, none lies behind the epoch that
+/// they reach.
+pub fn none_later_stays()
+    ensures { NoneLaterStays }
+{}
+
+/// Over every link, whoever answers: after a run that began in the last epoch of a log, no row lies
+/// behind the epoch that it reached.
+pub fn runs_leave_none_later<L: LogLink>()
+    ensures { RunsLeaveNoneLater (λ link id r M H. L.is_ours link id r M H) (λ link. L.failures link) }
 {}

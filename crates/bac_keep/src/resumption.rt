@@ -51,13 +51,15 @@ pub fn resume_from<L: LogLink>(
     ensures never_falls { L.failures link.old ≤ L.failures link.new }
     ensures retries { transactions.new.retries ≡ transactions.old.retries }
     ensures route { transactions.new.route ≡ transactions.old.route }
-    // No record has the number 0.
-    ensures none { last.entry.number ≡ 0 → IfOk result (λ told. IsWhere log (record { number = last.entry.number; stamp = last.entry.stamp.now; datum = last.entry.datum.now }) false told) }
+    // No record has the number 0, and nothing is asked.
+    ensures none { last.entry.number ≡ 0 → IfOk result (λ told. IsWhere log (record { number = last.entry.number; stamp = last.entry.stamp.now; datum = last.entry.datum.now }) false told
+        × (link.new ≡ link.old)) }
     // The answers came over the link, and it is what they say.
     ensures told { 0 < last.entry.number → IfOk result (λ told. (answer : Result StepOf FaultOf) × (oldest : Result StepOf FaultOf) × (half : L)
         × IsTold log (record { number = last.entry.number; stamp = last.entry.stamp.now; datum = last.entry.datum.now }) answer oldest told
         × CameTo L.asks (towards transactions.old.route) transactions.old.retries link.old (walk_at log last.entry.number) answer half
-        × (AsksOldest answer → CameTo L.asks (towards transactions.old.route) transactions.old.retries half (walk_from_oldest log) oldest link.new)) }
+        × (AsksOldest answer → CameTo L.asks (towards transactions.old.route) transactions.old.retries half (walk_from_oldest log) oldest link.new)
+        × ((AsksOldest answer → ⊥) → link.new ≡ half)) }
 {
     let Some(mut walk) = Walk::from_number(log, last.number) else {
         return Ok(Resume::BeganAnew(oldest_of(log)));

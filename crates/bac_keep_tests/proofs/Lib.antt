@@ -1,2 +1,4 @@
 mod CallerLemmas
 mod OverLemmas
+mod CrashLemmas
+mod CoveredRuns

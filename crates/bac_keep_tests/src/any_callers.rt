@@ -15,7 +15,7 @@ ghost use Rattle.bac_keep.specs.Items.{era};
 ghost use Rattle.bac_keep.specs.Kept.{HasNoneBehind, IsKept, rows_at};
 
 use bac_archive::{is_archive, newest};
-use bac_keep::{KeptRun, Place, all_runs_are_kept, begins_empty, honest_is_kept, keep_log};
+use bac_keep::{KeptRun, Place, Untold, all_runs_are_kept, begins_empty, honest_is_kept, keep_log};
 use bac_link::{LogLink, Transactions};
 use bac_walk::Walk;
 use bac_wire::ObjectId;
@@ -64,6 +64,7 @@ pub fn kept_of_any_device<L: LogLink, K: LogLink, S: Alter>(
         place,
         free,
         steps,
+        &mut Untold,
     );
     // As the program does before each run: a connection that was shut answers nothing.
     if !is_archive(conn.schema()) {
@@ -84,6 +85,7 @@ pub fn kept_of_any_device<L: LogLink, K: LogLink, S: Alter>(
         first.place,
         behind,
         steps,
+        &mut Untold,
     );
     Some((first, second))
 }

@@ -14,8 +14,8 @@ ghost use Rattle.bac_keep.specs.Kept.{HasNoneBehind, IsKept, rows_at};
 
 use bac_archive::is_archive;
 use bac_keep::{
-    KeptRun, Place, all_runs_are_kept, begins_empty, keep_log, keep_step, kept_is_delivered,
-    kept_runs_join, runs_are_kept,
+    KeptRun, Place, Untold, all_runs_are_kept, begins_empty, keep_log, keep_step,
+    kept_is_delivered, kept_runs_join, runs_are_kept,
 };
 use bac_link::{LogLink, Transactions};
 use bac_walk::{Ended, Walk};
@@ -106,6 +106,7 @@ pub fn keep_again<L: LogLink, K: LogLink, S: Alter>(
         place,
         u64::from(s),
         steps,
+        &mut Untold,
     );
     match first.end {
         Ok(_) => {}
@@ -122,6 +123,7 @@ pub fn keep_again<L: LogLink, K: LogLink, S: Alter>(
         first.place,
         free,
         steps,
+        &mut Untold,
     );
     Some((first, second))
 }

@@ -2,7 +2,7 @@
 
 use crate::archive::{archive, first};
 use bac_archive::{is_archive, open};
-use bac_keep::{KeptRun, KeptStep, NotKept, Place, Refusal, keep_log, keep_step};
+use bac_keep::{KeptRun, KeptStep, NotKept, Place, Progress, Refusal, Untold, keep_log, keep_step};
 use bac_link::Transactions;
 use bac_scripted_link::ScriptedLink;
 use bac_walk::{Ended, Walk, WalkFault, Why};
@@ -151,6 +151,18 @@ fn a_number_that_is_kept_is_not_kept_again(rt: HostRuntime) -> Result<(), Fail> 
     Ok(())
 }
 
+/// The counts that a run told.
+#[derive(Drop)]
+struct Told {
+    counts: Vec<u64>,
+}
+
+impl Progress for Told {
+    fn kept(&mut self, records: u64) {
+        let _ = self.counts.push(records);
+    }
+}
+
 #[test]
 fn a_run_goes_on_where_one_was_lost(rt: HostRuntime) -> Result<(), Fail> {
     let mut conn = archive(rt.alloc())?;
@@ -159,6 +171,9 @@ fn a_run_goes_on_where_one_was_lost(rt: HostRuntime) -> Result<(), Fail> {
     let replies: [&[u8]; 4] = [&one, &next, &[], &later];
     let mut link = ScriptedLink::new(&replies);
     let mut transactions = Transactions::new(0);
+    let mut told = Told {
+        counts: Vec::new(rt.alloc()),
+    };
     let lost = keep_log(
         rt.alloc(),
         &mut link,
@@ -168,7 +183,10 @@ fn a_run_goes_on_where_one_was_lost(rt: HostRuntime) -> Result<(), Fail> {
         place,
         5,
         10,
+        &mut told,
     );
+    // Two records, two more, and the step that was lost.
+    assert_eq!(rt; told.counts.as_slice(), [2, 4, 4].as_slice());
     let first_run = KeptRun {
         records: 4,
         gaps: 0,
@@ -186,6 +204,7 @@ fn a_run_goes_on_where_one_was_lost(rt: HostRuntime) -> Result<(), Fail> {
         lost.place,
         9,
         1,
+        &mut Untold,
     );
     let second_run = KeptRun {
         records: 2,
@@ -220,6 +239,7 @@ fn what_is_no_archive_is_left(rt: HostRuntime) -> Result<(), Fail> {
         place,
         5,
         10,
+        &mut Untold,
     );
     let none = KeptRun {
         records: 0,

@@ -2,11 +2,17 @@
 #![tactic(auto)]
 
 #[cfg(test)]
+mod after_a_crash;
+#[cfg(test)]
 mod any_callers;
 #[cfg(test)]
 mod archive;
 #[cfg(test)]
 mod callers;
+#[cfg(test)]
+mod covered_callers;
+#[cfg(test)]
+mod crashes;
 #[cfg(test)]
 mod kept;
 #[cfg(test)]

@@ -3,7 +3,7 @@
 use crate::archive::{archive, first};
 use crate::kept::{keep, walk_from};
 use bac_archive::open;
-use bac_keep::{KeptRun, KeptStep, NotKept, Place, Refusal, keep_log};
+use bac_keep::{KeptRun, KeptStep, NotKept, Place, Refusal, Untold, keep_log};
 use bac_link::Transactions;
 use bac_scripted_link::ScriptedLink;
 use bac_walk::{Ended, Why};
@@ -11,7 +11,7 @@ use sqlite::{Connection, MemStore};
 use std::test::Fail;
 
 /// An ACK with two records, the first of which has this number.
-fn two(invoke: u8, number: u32) -> [u8; 66] {
+pub(crate) fn two(invoke: u8, number: u32) -> [u8; 66] {
     let [a, b, c, d] = number.to_be_bytes();
     [
         0x81, 0x0a, 0, 0x42, 1, 0, 0x30, invoke, 0x1a, 0x0c, 5, 0, 0, 1, 0x19, 0x83, 0x3a, 5, 0xc0,
@@ -113,6 +113,7 @@ fn a_gap_over_the_round_is_two_rows(rt: HostRuntime) -> Result<(), Fail> {
         before,
         4294967290,
         1,
+        &mut Untold,
     );
     let kept = KeptRun {
         records: 2,
@@ -148,6 +149,7 @@ fn a_gap_up_to_the_round_is_one_row(rt: HostRuntime) -> Result<(), Fail> {
         before,
         4294967290,
         1,
+        &mut Untold,
     );
     assert!(rt; run.place == behind);
     assert_eq!(rt; first::<i64>(&mut conn, "SELECT count(*) FROM items")?, 3);
@@ -175,6 +177,7 @@ fn a_run_goes_on_in_the_next_epoch(rt: HostRuntime) -> Result<(), Fail> {
         before,
         0,
         1,
+        &mut Untold,
     );
     assert!(rt; (run.next, run.place) == (1, behind));
     let again = keep_log(
@@ -186,6 +189,7 @@ fn a_run_goes_on_in_the_next_epoch(rt: HostRuntime) -> Result<(), Fail> {
         run.place,
         0,
         1,
+        &mut Untold,
     );
     assert!(rt; (again.next, again.place) == (3, behind));
     assert_eq!(rt; item(&mut conn, 1)?.0, before.key(4294967295));
@@ -210,6 +214,7 @@ fn behind_the_last_epoch_nothing_is_kept(rt: HostRuntime) -> Result<(), Fail> {
         last,
         0,
         1,
+        &mut Untold,
     );
     let none = KeptRun {
         records: 0,

@@ -1,5 +1,5 @@
 -- What is kept of logs, one after the other.
-use Rattle.std.proofs.Common.{◌≡◌, inl, inr, ℕ, ◌<◌, max, false, List, [], ◌∷◌, ◌++◌, length, Result, Ok, Err, refl, sym, ap, subst, ◌∙◌, append_assoc, append-nil, length-append, arith}
+use Rattle.std.proofs.Common.{◌≡◌, inl, inr, ℕ, ◌<◌, max, false, List, [], ◌∷◌, ◌++◌, length, Option, Result, Ok, Err, IfOk, refl, sym, ap, subst, ◌∙◌, append_assoc, append-nil, length-append, arith}
 use Rattle.sqlite.specs.Effect.{Database}
 use Rattle.bac_wire.specs.Primitive.{Id}
 use Rattle.bac_archive.specs.Schema.{archive_schema}
@@ -12,22 +12,51 @@ use Rattle.bac_walk.specs.declared.outcome.WalkFault.{WalkFault}
 use Rattle.bac_keeper.specs.declared.end.End.{End}
 use Rattle.bac_keeper.specs.declared.fetching.Start.{Start}
 use Rattle.bac_keeper.specs.declared.wanted.Wanted.{Wanted}
+use Rattle.bac_apdu.specs.Npdu.{Place}
+use Rattle.bac_link.specs.Path.{towards}
+use Rattle.bac_ports.specs.declared.udp_link.UdpLink.{UdpLink}
+use Rattle.bac_keeper.specs.declared.log_words.Asking.{Asking}
+use Rattle.bac_keeper.specs.Fetched.{ComesFrom, IsAskedOn, SocketRules, link_over, own_address, socket_asks}
 use Rattle.bac_keeper.specs.Keeps.{KeepsBegun, KeepsLog, KeepsSource, KeepsAll, lines_of, greatest_status}
 use Rattle.bac_keeper.specs.Lines.{summary_line}
 use Rattle.bac_keeper.specs.Starts.{IsBegun, Tells, kept_last}
 use Rattle.bac_keeper.specs.Status.{walk_status}
 
--- what is kept of a log whose beginning changed nothing
-pub keeps_log : (log : ℕ) (object : Id) (old mid new : Database) (begun : Result Start End) (end : End) → IsBegun log object (kept old.trees) begun
-    → mid ≡ old → KeepsBegun begun mid new end → KeepsLog log object old new end
-keeps_log log object old mid new begun end is same h = (begun, is, subst (λ d. KeepsBegun begun d new end) same h)
+-- what holds of an Ok twice
+pub both_ok : {T E : Type 0} (r : Result T E) (P Q R : T → Type 0) → ((x : T) → P x → Q x → R x) → IfOk r P → IfOk r Q → IfOk r R
+both_ok (Ok x) P Q R f p q = f x p q
+both_ok (Err e) P Q R f p q = tt
+
+-- what is kept of a log whose beginning changed nothing, over the socket that was opened for it
+pub keeps_log : {S P : Type 0} (rules : SocketRules S P) (asking : Asking) (before after : S) (log : ℕ) (object : Id) (old mid new : Database) (start : Start) (end : End)
+    (port : P) (link : UdpLink P) (route : Option Place) (retries : ℕ) → rules.opens before (own_address asking.asked.local) asking.asked.timeout (Ok port) after
+    → IsAskedOn (socket_asks rules) (link_over asking.asked.address port) link → route ≡ asking.asked.route → retries ≡ asking.asked.retries
+    → IsBegun log object (kept old.trees) (Ok start) → mid ≡ old → KeepsBegun (Ok start) mid new end
+    → ComesFrom (socket_asks rules) (towards route) retries link start asking.steps mid new end → KeepsLog rules asking before after log object old new end
+keeps_log rules asking before after log object old mid new start end port link route retries opens asked way tries begun same h came = (
+  Ok start,
+  begun,
+  subst (λ d. KeepsBegun (Ok start) d new end) same h,
+  (
+    port,
+    opens,
+    (
+      link,
+      asked,
+      subst (λ d. ComesFrom (socket_asks rules) (towards asking.asked.route) asking.asked.retries link start asking.steps d new end) same
+          (subst (λ n. ComesFrom (socket_asks rules) (towards asking.asked.route) n link start asking.steps mid new end) tries
+          (subst (λ (r : Option Place). ComesFrom (socket_asks rules) (towards r) retries link start asking.steps mid new end) way came)),
+    ),
+  ),
+)
 
 log_schema : (begun : Result Start End) (old new : Database) (end : End) → KeepsBegun begun old new end → old.schema ≡ archive_schema → new.schema ≡ archive_schema
 log_schema (Ok start) old new end h has = h.rows.schema
 log_schema (Err none) old new end h has = ap (λ (d : Database). d.schema) h.0 ∙ has
 
-source_schema : (wanted : Wanted) (old new : Database) (end : End) → KeepsSource wanted old new end → old.schema ≡ archive_schema → new.schema ≡ archive_schema
-source_schema wanted old new end h has =
+source_schema : {S P : Type 0} (rules : SocketRules S P) (wanted : Wanted) (before after : S) (old new : Database) (end : End) → KeepsSource rules wanted before after old new end
+    → old.schema ≡ archive_schema → new.schema ≡ archive_schema
+source_schema rules wanted before after old new end h has =
     let known : h.known.schema ≡ archive_schema = elim h.added [
       | inl same ↦ ap (λ (d : Database). d.schema) same ∙ has
       | inr more ↦ more.schema
@@ -35,19 +64,23 @@ source_schema wanted old new end h has =
     log_schema h.kept.0 h.known new end h.kept.2 known
 
 -- runs over an archive leave one
-pub all_schema : (all : List Wanted) (old new : Database) (ends : List End) → KeepsAll all old new ends → old.schema ≡ archive_schema → new.schema ≡ archive_schema
-all_schema [] old new [] h has = ap (λ (d : Database). d.schema) h ∙ has
-all_schema [] old new (end ∷ ends) h has = absurd h
-all_schema (wanted ∷ all) old new [] h has = absurd h
-all_schema (wanted ∷ all) old new (end ∷ ends) h has = all_schema all h.0 new ends h.2 (source_schema wanted old h.0 end h.1 has)
+pub all_schema : {S P : Type 0} (rules : SocketRules S P) (all : List Wanted) (before after : S) (old new : Database) (ends : List End) → KeepsAll rules all before after old new ends
+    → old.schema ≡ archive_schema → new.schema ≡ archive_schema
+all_schema rules [] before after old new [] h has = ap (λ (d : Database). d.schema) h.0 ∙ has
+all_schema rules [] before after old new (end ∷ ends) h has = absurd h
+all_schema rules (wanted ∷ all) before after old new [] h has = absurd h
+all_schema rules (wanted ∷ all) before after old new (end ∷ ends) h has =
+    all_schema rules all h.1 after h.0 new ends h.3 (source_schema rules wanted before h.1 old h.0 end h.2 has)
 
 -- one log more
-pub one_more : (all : List Wanted) (wanted : Wanted) (old mid new : Database) (ends : List End) (end : End) → KeepsAll all old mid ends
-    → KeepsSource wanted mid new end → KeepsAll (all ++ wanted ∷ []) old new (ends ++ end ∷ [])
-one_more [] wanted old mid new [] end h one = (new, subst (λ d. KeepsSource wanted d new end) h one, refl)
-one_more [] wanted old mid new (e ∷ ends) end h one = absurd h
-one_more (w ∷ all) wanted old mid new [] end h one = absurd h
-one_more (w ∷ all) wanted old mid new (e ∷ ends) end h one = (h.0, h.1, one_more all wanted h.0 mid new ends end h.2 one)
+pub one_more : {S P : Type 0} (rules : SocketRules S P) (all : List Wanted) (wanted : Wanted) (before half after : S) (old mid new : Database) (ends : List End) (end : End)
+    → KeepsAll rules all before half old mid ends → KeepsSource rules wanted half after mid new end → KeepsAll rules (all ++ wanted ∷ []) before after old new (ends ++ end ∷ [])
+one_more rules [] wanted before half after old mid new [] end h one =
+    (new, after, subst (λ s. KeepsSource rules wanted s after old new end) h.1 (subst (λ d. KeepsSource rules wanted half after d new end) h.0 one), (refl, refl))
+one_more rules [] wanted before half after old mid new (e ∷ ends) end h one = absurd h
+one_more rules (w ∷ all) wanted before half after old mid new [] end h one = absurd h
+one_more rules (w ∷ all) wanted before half after old mid new (e ∷ ends) end h one =
+    (h.0, h.1, h.2, one_more rules all wanted h.1 half after h.0 mid new ends end h.3 one)
 
 pub lines_more : (all : List Wanted) (wanted : Wanted) (ends : List End) (end : End) → length ends ≡ length all
     → lines_of (all ++ wanted ∷ []) (ends ++ end ∷ []) ≡ lines_of all ends ++ summary_line wanted.source end

@@ -1,2 +1,6 @@
+pub mod StaysLemmas
 pub mod KeepsLemmas
 pub mod PrintedLemmas
+pub mod AskedLemmas
+pub mod CsvLemmas
+pub mod LogLinesLemmas

@@ -1,8 +1,17 @@
 -- The rows of `bac kept --csv`.
-use Rattle.std.specs.Prelude.{◌≡◌, ℕ, List, [], ◌∷◌, ◌++◌, codes, decimal, Option, None, Some}
+use Rattle.std.specs.Prelude.{◌≡◌, ℕ, true, false, List, [], ◌∷◌, ◌++◌, codes, decimal, Option, None, Some, String}
 use Rattle.std.specs.Float.Ieee.{Float, binary64}
+use Rattle.std.specs.String.{string_bytes}
 use Rattle.ryu.specs.Parse.{parse_float}
+use Rattle.csv.specs.Writing.{default_writer, row_text}
+use Rattle.sqlite_value.specs.Order.{Row as Values}
+use Rattle.bac_archive.specs.Items.{AreItems, IsItem}
 use Rattle.bac_archive.specs.declared.items.Item.{Item}
+use Rattle.bac_archive.specs.declared.trend_logs.Log.{Log}
+use Rattle.bac_keeper.specs.Lines.{place_text}
+use Rattle.bac_keeper.specs.Printed.{is_chosen}
+use Rattle.bac_keeper.specs.declared.csv_lines.Fields.{Fields}
+use Rattle.bac_keeper.specs.declared.printing.Shown.{Shown}
 
 -- the first row
 abbrev pub names : List (List ℕ)
@@ -28,3 +37,40 @@ IsValueText (Some value) text = parse_float binary64 text ≡ Some value
 abbrev pub item_fields : List ℕ → List ℕ → List ℕ → Item → List ℕ → List (List ℕ)
 item_fields address instance name item value = address ∷ instance ∷ name ∷ decimal item.epoch ∷ decimal item.number
     ∷ item.stamp.now ∷ value ∷ datum_field item.number item.last item.datum.now ∷ item.flags.now ∷ []
+
+-- the name of a log, or nothing
+abbrev pub name_text : {A : Type 0} → Option (String A) → List ℕ
+name_text None = []
+name_text (Some name) = string_bytes name
+
+-- the texts of a log that stand in each of its rows
+abbrev pub AreFieldsOf : Log → Fields → Type 0
+AreFieldsOf log fields =
+    (fields.address.items ≡ place_text log.source) × (fields.instance.items ≡ decimal log.source.instance)
+
+-- the text of the row of an item: the fields of what it says, quoted as RFC 4180 quotes them, and a line feed
+abbrev pub IsRowText : Log → Values → List ℕ → Type 0
+IsRowText log row text = (item : Item) × IsItem row item × (value : List ℕ) × IsValueText item.value value
+    × (text ≡ row_text default_writer
+    (item_fields (place_text log.source) (decimal log.source.instance) (name_text log.name) item value))
+
+-- the text of rows, one after the other
+abbrev pub AreRowTexts : Log → List Values → List ℕ → Type 0
+AreRowTexts log [] text = text ≡ []
+AreRowTexts log (row ∷ rows) text = (one : List ℕ) × (rest : List ℕ) × (text ≡ one ++ rest)
+    × IsRowText log row one × AreRowTexts log rows rest
+
+-- the text of the items of a log, a row each, by rising ids
+abbrev pub WritesItems : Log → List Values → List ℕ → Type 0
+WritesItems log items text = (rows : List Values) × AreItems log.id items rows × AreRowTexts log rows text
+
+-- the text of a log, if it is chosen
+abbrev pub WritesLog : Shown → List Values → Log → List ℕ → Type 0
+WritesLog which items log text =
+    (is_chosen which log ≡ true → WritesItems log items text) × (is_chosen which log ≡ false → text ≡ [])
+
+-- the text of logs, one after the other
+abbrev pub WritesLogs : Shown → List Values → List Log → List ℕ → Type 0
+WritesLogs which items [] text = text ≡ []
+WritesLogs which items (log ∷ logs) text = (one : List ℕ) × (rest : List ℕ) × (text ≡ one ++ rest)
+    × WritesLog which items log one × WritesLogs which items logs rest

@@ -2,6 +2,7 @@
 use Rattle.std.specs.Prelude.{◌≡◌, ◌⊎◌, ◌≤◌, ℕ, max, Bool, List, [], ◌∷◌, ◌++◌, length}
 use Rattle.std.specs.Prelude.{Option, option_map, Result, Ok, Err}
 use Rattle.std.specs.Io.KnownBytes.{Appends}
+use Rattle.std.specs.List.{All}
 use Rattle.std.specs.String.{string_bytes}
 use Rattle.sqlite.specs.Effect.{Database}
 use Rattle.bac_wire.specs.Primitive.{Id}
@@ -15,9 +16,12 @@ use Rattle.bac_keep.specs.Runs.{records_in, gaps_among}
 use Rattle.bac_keeper.specs.declared.end.End.{End}
 use Rattle.bac_keeper.specs.declared.fault.FileFault.{FileFault}
 use Rattle.bac_keeper.specs.declared.fetching.Start.{Start}
+use Rattle.bac_keeper.specs.declared.log_words.Asking.{Asking}
 use Rattle.bac_keeper.specs.declared.wanted.Wanted.{Wanted}
+use Rattle.bac_keeper.specs.Fetched.{ComesOver, SocketRules}
 use Rattle.bac_keeper.specs.Lines.{summary_line}
 use Rattle.bac_keeper.specs.Starts.{IsBegun}
+use Rattle.bac_keeper.specs.Wanted.{AsksItsSource}
 use Rattle.bac_keeper.specs.Status.{file_status, walk_status}
 
 -- The rows of what a run brought come to those before, from the start's log and epoch on, and in the next epoch where
@@ -38,29 +42,32 @@ KeepsBegun (Ok start) old new end = KeepsFrom start old new end
 KeepsBegun (Err none) old new end = (new ≡ old) × (end ≡ none)
 
 -- A run over the log of this id, which is this object of its device: where it begins, by the archive's rows and what
--- the device tells, and what it keeps from there.
-abbrev pub KeepsLog : ℕ → Id → Database → Database → End → Type 0
-KeepsLog log object old new end =
+-- the device tells, what it keeps from there, and over which socket that came.
+abbrev pub KeepsLog : {S P : Type 0} → SocketRules S P → Asking → S → S → ℕ → Id → Database → Database → End → Type 0
+KeepsLog rules asking before after log object old new end =
     (begun : Result Start End) × IsBegun log object (kept old.trees) begun × KeepsBegun begun old new end
+    × ComesOver rules asking before after begun old new end
 
 -- the Trend Log object of this instance (clause 12.25)
 abbrev pub trend_log : ℕ → Id
 trend_log instance = record { kind = 20; instance = instance }
 
 -- the log is one of the archive, or its row came to those of the logs; then what a run brought is kept under its id
-pub record KeepsSource (wanted : Wanted) (old new : Database) (end : End) : Type 0 where
+pub record KeepsSource {S P : Type 0} (rules : SocketRules S P) (wanted : Wanted) (before after : S)
+    (old new : Database) (end : End) : Type 0 where
   pub id : ℕ
   pub known : Database
   pub added : (known ≡ old) ⊎ HasNewLog old known (log_row id wanted.source (option_map string_bytes wanted.name))
   pub log : IsKnownAs known.trees id wanted.source
-  pub kept : KeepsLog id (trend_log wanted.source.instance) known new end
+  pub kept : KeepsLog rules wanted.asking before after id (trend_log wanted.source.instance) known new end
 
 -- logs are kept in their order, each run over the archive that the one before left
-abbrev pub KeepsAll : List Wanted → Database → Database → List End → Type 0
-KeepsAll [] old new [] = new ≡ old
-KeepsAll (wanted ∷ more) old new (end ∷ ends) =
-    (mid : Database) × KeepsSource wanted old mid end × KeepsAll more mid new ends
-KeepsAll _ old new _ = ⊥
+abbrev pub KeepsAll : {S P : Type 0} → SocketRules S P → List Wanted → S → S → Database → Database → List End → Type 0
+KeepsAll rules [] before after old new [] = (new ≡ old) × (after ≡ before)
+KeepsAll {S = S} rules (wanted ∷ more) before after old new (end ∷ ends) =
+    (mid : Database) × (half : S) × KeepsSource rules wanted before half old mid end
+    × KeepsAll rules more half after mid new ends
+KeepsAll rules _ before after old new _ = ⊥
 
 -- the lines of logs, in their order
 abbrev pub lines_of : List Wanted → List End → List ℕ
@@ -84,9 +91,10 @@ AreToldBy before after all kept status =
     (ends : List End) × (length ends ≡ length all) × (status ≡ greatest_status ends)
     × Appends before after (lines_of all ends) × kept ends
 
--- a line for each log that was kept, and the greatest of their statuses
+-- a line for each log that was kept, which was asked of the device that the line names, and the greatest status
 abbrev pub TellsLogs : Option (List ℕ) → Option (List ℕ) → ℕ → Type 0
-TellsLogs before after status = (all : List Wanted) × AreToldBy before after all (λ ends. Unit {0}) status
+TellsLogs before after status =
+    (all : List Wanted) × All AsksItsSource all × AreToldBy before after all (λ ends. Unit {0}) status
 
 -- What was done of the words of `bac keep` or `bac kept`, by the status: logs were kept and told; the file is no use;
 -- or help, a mistake in the words, or what a file keeps was printed.

@@ -6,6 +6,7 @@ use Rattle.sqlite_value.specs.Order.{Row as Values}
 use Rattle.bac_wire.specs.Primitive.{Id}
 use Rattle.bac_archive.specs.Latest.{HasNoItem, IsNewest}
 use Rattle.bac_archive.specs.declared.latest.NewestItem.{NewestItem}
+use Rattle.bac_keep.specs.Newest.{epoch_behind}
 use Rattle.bac_keep.specs.Resumption.{KeptRecord, IsTold, IsWhere}
 use Rattle.bac_keep.specs.declared.resumption.Resume.{Resume}
 use Rattle.bac_keep.specs.declared.resumption.Resume.TheVariants.{GoOn, BeganAnew, Fault}
@@ -22,11 +23,7 @@ IsFirst log object (Ok start) = (start.place.log ≡ log) × (start.place.epoch 
     × (start.walk ≡ walk_from_oldest object) × (start.free ≡ 0) × (start.anew ≡ false)
 IsFirst log object (Err end) = ⊥
 
--- the epoch behind an item: its own, or the next one behind the number 4294967295
-abbrev pub epoch_behind : NewestItem → ℕ
-epoch_behind last = if last.number == 4294967295 then last.epoch + 1 else last.epoch
-
--- the first number that may come there
+-- the first number that may come in the epoch behind an item
 abbrev pub free_behind : NewestItem → ℕ
 free_behind last = if last.number == 4294967295 then 0 else last.number + 1
 

@@ -1,9 +1,13 @@
 //! What is kept of logs, as CSV (RFC 4180).
 
-ghost use Rattle.std.specs.Prelude.{◌≡◌, ◌∷◌, [], decimal, false, IfOk, OnOk, List};
+ghost use Rattle.std.specs.Prelude.{◌≡◌, ◌∷◌, [], decimal, map, IfOk, OnOk, List};
 ghost use Rattle.std.specs.Io.KnownBytes.{Appends};
-ghost use Rattle.csv.specs.Writing as written;
-ghost use Rattle.bac_keeper.specs.Csv.{IsValueText, gap_text, item_fields, names};
+ghost use Rattle.csv.specs.Writing.{default_writer, row_text};
+ghost use Rattle.sqlite.specs.State.{HasCleanDisk, IsUnchanged};
+ghost use Rattle.sqlite.specs.Held.{state};
+ghost use Rattle.bac_archive.specs.Rows.{kept};
+ghost use Rattle.bac_archive.specs.Schema.{archive_schema};
+ghost use Rattle.bac_keeper.specs.Csv.{AreFieldsOf, IsRowText, IsValueText, WritesItems, gap_text, item_fields, name_text, names};
 ghost use Rattle.bac_keeper.specs.Lines.{place_text};
 
 use crate::end::NotDone;
@@ -11,9 +15,9 @@ use crate::fault::Fault;
 use crate::kept::of_error;
 use crate::summary::{push_address, push_short};
 use bac_archive::{Item, Log, items_of, read_item};
-use bac_print::push_number;
+use bac_print::{push_number, write_text};
 use csv::Writer;
-use sqlite::{Alter, Connection};
+use sqlite::{Alter, Connection, Error, ErrorCode, Row};
 use std::alloc::{AllocError, Global};
 use std::io::Write;
 
@@ -109,27 +113,50 @@ fn renew_gap(text: &mut Vec<u8>, first: u32, last: Option<u32>) -> Result<(), Al
     Ok(())
 }
 
-/// Writes the row of names.
-pub(crate) fn write_names<W: Write + Drop>(writer: &mut Writer<W>) -> Result<(), NotDone>
-    ensures { written.fields_written writer.old ≡ 0 → written.has_written writer.old ≡ false → written.writer_setup writer.old ≡ written.default_writer
-        → OnOk result (Appends (written.text_written W.contents writer.old) (written.text_written W.contents writer.new) (written.row_text written.default_writer names)) }
+/// The text of a row of these fields, in the memory of another text.
+fn row_of(mut text: Vec<u8>, fields: &[&[u8]]) -> Result<Vec<u8>, NotDone>
+    ensures { IfOk result (λ text. text.items ≡ row_text default_writer (map (λ f. f.now) fields.now)) }
 {
-    match writer.write_fields(&NAMES) {
-        Ok(()) => Ok(()),
-        Err(_error) => Err(NotDone::Asking(Fault::Write)),
+    text.clear();
+    let mut writer = Writer::from_writer(text);
+    if writer.write_fields(fields).is_err() {
+        return Err(NotDone::Asking(Fault::Memory));
+    }
+    match writer.into_inner() {
+        Ok(text) => Ok(text),
+        Err(_error) => Err(NotDone::Asking(Fault::Memory)),
     }
 }
 
-fn write_item<W: Write + Drop>(
-    writer: &mut Writer<W>,
+/// Writes a text, and gives it back.
+fn write_out<O: Write>(text: Vec<u8>, output: &mut O) -> Result<Vec<u8>, NotDone>
+    ensures { OnOk result (Appends (O.contents output.old) (O.contents output.new) text.items) }
+{
+    match write_text(output, text.as_slice()) {
+        Ok(()) => Ok(text),
+        Err(_) => Err(NotDone::Asking(Fault::Write)),
+    }
+}
+
+/// Writes the row of names.
+pub(crate) fn write_names<O: Write>(alloc: Global, output: &mut O) -> Result<(), NotDone>
+    ensures { OnOk result (Appends (O.contents output.old) (O.contents output.new) (row_text default_writer names)) }
+{
+    let text = row_of(Vec::new(alloc), &NAMES)?;
+    write_out(text, output)?;
+    Ok(())
+}
+
+/// The text of the row of an item.
+fn item_row(
+    text: Vec<u8>,
     fields: &mut Fields,
     name: &[u8],
     item: &Item<'_>,
-) -> Result<(), NotDone>
-    ensures { written.fields_written writer.old ≡ 0 → written.has_written writer.old ≡ false → written.writer_setup writer.old ≡ written.default_writer
-        → OnOk result ((value : List _) × IsValueText item.now.value value
-        × Appends (written.text_written W.contents writer.old) (written.text_written W.contents writer.new)
-        (written.row_text written.default_writer (item_fields fields.old.address.items fields.old.instance.items name.now item.now value))) }
+) -> Result<Vec<u8>, NotDone>
+    ensures log { (fields.new.address ≡ fields.old.address) × (fields.new.instance ≡ fields.old.instance) }
+    ensures text { IfOk result (λ text. (value : List _) × IsValueText item.now.value value
+        × (text.items ≡ row_text default_writer (item_fields fields.old.address.items fields.old.instance.items name.now item.now value))) }
 {
     if fields.take(item).is_err() {
         return Err(NotDone::Asking(Fault::Memory));
@@ -139,66 +166,96 @@ fn write_item<W: Write + Drop>(
     } else {
         item.datum
     };
-    write_row(writer, fields, name, item.stamp, datum, item.flags)
+    fields_row(text, fields, name, item.stamp, datum, item.flags)
 }
 
-/// Writes a row of these fields.
-fn write_row<'a, W: Write + Drop>(
-    writer: &mut Writer<W>,
+/// The text of a row of these fields.
+fn fields_row<'a>(
+    text: Vec<u8>,
     fields: &'a Fields,
     name: &'a [u8],
     stamp: &'a [u8],
     datum: &'a [u8],
     flags: &'a [u8],
-) -> Result<(), NotDone>
-    ensures { written.fields_written writer.old ≡ 0 → written.has_written writer.old ≡ false → written.writer_setup writer.old ≡ written.default_writer
-        → OnOk result (Appends (written.text_written W.contents writer.old) (written.text_written W.contents writer.new)
-        (written.row_text written.default_writer (fields.now.address.items ∷ fields.now.instance.items ∷ name.now ∷ fields.now.epoch.items ∷ fields.now.number.items
-        ∷ stamp.now ∷ fields.now.value.items ∷ datum.now ∷ flags.now ∷ []))) }
+) -> Result<Vec<u8>, NotDone>
+    ensures { IfOk result (λ text. text.items ≡ row_text default_writer (fields.now.address.items ∷ fields.now.instance.items ∷ name.now ∷ fields.now.epoch.items ∷ fields.now.number.items
+        ∷ stamp.now ∷ fields.now.value.items ∷ datum.now ∷ flags.now ∷ [])) }
 {
-    match writer.write_fields(&[
-        fields.address.as_slice(),
-        fields.instance.as_slice(),
-        name,
-        fields.epoch.as_slice(),
-        fields.number.as_slice(),
-        stamp,
-        fields.value.as_slice(),
-        datum,
-        flags,
-    ]) {
-        Ok(()) => Ok(()),
-        Err(_error) => Err(NotDone::Asking(Fault::Write)),
+    row_of(
+        text,
+        &[
+            fields.address.as_slice(),
+            fields.instance.as_slice(),
+            name,
+            fields.epoch.as_slice(),
+            fields.number.as_slice(),
+            stamp,
+            fields.value.as_slice(),
+            datum,
+            flags,
+        ],
+    )
+}
+
+/// The name of a log, or nothing.
+fn name_of(log: &Log) -> &[u8]
+    ensures { result.now ≡ name_text log.now.name }
+{
+    match &log.name {
+        Some(name) => name.as_bytes(),
+        None => b"",
     }
 }
 
+/// Writes the row of the item of a row, and gives its text back, as memory for the next.
+fn write_row<O: Write>(
+    row: &Row,
+    text: Vec<u8>,
+    fields: &mut Fields,
+    log: &Log,
+    output: &mut O,
+) -> Result<Vec<u8>, NotDone>
+    ensures log { AreFieldsOf log.now fields.old → AreFieldsOf log.now fields.new }
+    ensures text { AreFieldsOf log.now fields.old
+        → OnOk result ((text : List _) × IsRowText log.now row.now text × Appends (O.contents output.old) (O.contents output.new) text) }
+{
+    let item = match read_item(row) {
+        Ok(item) => item,
+        Err(error) => return Err(of_error(error)),
+    };
+    let text = item_row(text, fields, name_of(log), &item)?;
+    write_out(text, output)
+}
+
 /// Writes a row for each item of a log; in that of a gap the datum is `gap FIRST LAST`.
-pub(crate) fn write_items<A: Alter, W: Write + Drop>(
+pub(crate) fn write_items<A: Alter, O: Write>(
     alloc: Global,
     conn: &mut Connection<A>,
     log: &Log,
-    writer: &mut Writer<W>,
-) -> Result<(), NotDone> {
+    output: &mut O,
+) -> Result<(), NotDone>
+    // The rows of its items, in the order of their ids.
+    ensures ok { HasCleanDisk (state A.Store conn.new) → (state A.Store conn.old).now.schema ≡ archive_schema
+        → OnOk result ((text : List _) × WritesItems log.now (kept (state A.Store conn.old).now.trees) text × Appends (O.contents output.old) (O.contents output.new) text) }
+    ensures same { HasCleanDisk (state A.Store conn.new) → (state A.Store conn.old).now.schema ≡ archive_schema
+        → OnOk result (IsUnchanged (state A.Store conn.old) (state A.Store conn.new)) }
+    ensures clean { OnOk result (HasCleanDisk (state A.Store conn.new) → HasCleanDisk (state A.Store conn.old)) }
+{
     let Ok(mut fields) = Fields::of(alloc, log) else {
         return Err(NotDone::Asking(Fault::Memory));
     };
-    let name = match &log.name {
-        Some(name) => name.as_bytes(),
-        None => b"".as_slice(),
-    };
+    let mut text = Vec::new(alloc);
     let mut rows = match items_of(conn, log.id) {
         Ok(rows) => rows,
         Err(error) => return Err(of_error(error)),
     };
-    for _ in 0..u64::MAX {
-        match rows.next() {
-            Ok(Some(row)) => match read_item(row) {
-                Ok(item) => write_item(writer, &mut fields, name, &item)?,
-                Err(error) => return Err(of_error(error)),
-            },
+    'rows: for _ in 0..u64::MAX {
+        let row = match rows.next() {
+            Ok(Some(row)) => row,
             Ok(None) => return Ok(()),
             Err(error) => return Err(of_error(error)),
-        }
+        };
+        text = write_row(row, text, &mut fields, log, output)?;
     }
-    Ok(())
+    Err(of_error(Error::SqliteFailure(ErrorCode::OperationInterrupted)))
 }

@@ -1,11 +1,15 @@
 //! The trend logs in a device's Object_List.
 
+ghost use Rattle.std.specs.Prelude.{◌≡◌, IfOk, IfSome};
+ghost use Rattle.std.specs.List.{All};
+ghost use Rattle.bac_keeper.specs.Wanted.{AsksItsSource, IsAskedAs};
+
 use crate::end::NotDone;
 use crate::fault::Fault;
 use crate::fetching::connect;
 use crate::log_words::Asking;
 use crate::questions::{object_in, read, read_number, value_in};
-use crate::wanted::{Wanted, source_of};
+use crate::wanted::{Wanted, add_wanted, source_of};
 use bac_apdu::object_type::TREND_LOG;
 use bac_link::{ExchangeFault, LogLink, Transactions};
 use bac_ports::Sockets;
@@ -97,7 +101,10 @@ impl<L: LogLink> Station<L> {
 }
 
 /// How a log of the device is asked for, as another of its logs is.
-fn asked_like(like: &Asking, instance: u32) -> Result<Asking, NotDone> {
+fn asked_like(like: &Asking, instance: u32) -> Result<Asking, NotDone>
+    ensures alike { IfOk result (IsAskedAs like.now) }
+    ensures instance { IfOk result (λ asking. asking.instance ≡ instance) }
+{
     let Asked {
         address,
         local,
@@ -127,7 +134,11 @@ fn wanted_of<L: LogLink>(
     device: &mut Station<L>,
     instance: u32,
     like: &Asking,
-) -> Result<Option<Wanted>, NotDone> {
+) -> Result<Option<Wanted>, NotDone>
+    ensures asks { IfOk result (λ found. IfSome found AsksItsSource) }
+    ensures alike { IfOk result (λ found. IfSome found (λ wanted. IsAskedAs like.now wanted.asking)) }
+    ensures instance { IfOk result (λ found. IfSome found (λ wanted. wanted.asking.instance ≡ instance)) }
+{
     let Some(object) = ObjectId::new(TREND_LOG, instance) else {
         return Ok(None);
     };
@@ -148,7 +159,10 @@ pub(crate) fn discover<S: Sockets>(
     sockets: &mut S,
     alloc: Global,
     like: &Asking,
-) -> Result<Vec<Wanted>, NotDone> {
+) -> Result<Vec<Wanted>, NotDone>
+    ensures asks { IfOk result (λ all. All AsksItsSource all.items) }
+    ensures alike { IfOk result (λ all. All (λ wanted. IsAskedAs like.now wanted.asking) all.items) }
+{
     let address = like.asked.address;
     let asked = asked_like(like, 0)?.asked;
     let (link, transactions) = connect(sockets, asked)?;
@@ -168,9 +182,7 @@ pub(crate) fn discover<S: Sockets>(
             continue;
         }
         if let Some(wanted) = wanted_of(alloc, &mut device, instance, like)? {
-            if all.push(wanted).is_err() {
-                return Err(NotDone::Asking(Fault::Memory));
-            }
+            add_wanted(&mut all, wanted)?;
         }
     }
     Ok(all)

@@ -1,12 +1,16 @@
 //! The records of one log are fetched and kept.
 
 ghost use Rattle.std.specs.Prelude.{◌≡◌, ◌+◌, true, false, IfOk, IfErr, OnOk, Ok};
-ghost use Rattle.sqlite.specs.State.{HasCleanDisk};
+ghost use Rattle.sqlite.specs.State.{HasCleanDisk, Survives};
 ghost use Rattle.sqlite.specs.Held.{state};
 ghost use Rattle.bac_archive.specs.Schema.{archive_schema};
 ghost use Rattle.bac_archive.specs.Rows.{kept};
+ghost use Rattle.bac_link.specs.Path.{towards};
+ghost use Rattle.bac_keeper.specs.Fetched.{ComesFrom, IsAskedOn, link_over, own_address, socket_rules};
 ghost use Rattle.bac_keeper.specs.Keeps.{KeepsBegun, KeepsLog, trend_log};
-ghost use Rattle.bac_keeper.specs.Starts.{IsBegun, IsFirst, IsStart, epoch_behind, free_behind, kept_last, octets};
+ghost use Rattle.bac_keep.specs.Newest.{epoch_behind};
+ghost use Rattle.bac_keeper.specs.Stays.{HasAllOf};
+ghost use Rattle.bac_keeper.specs.Starts.{IsBegun, IsFirst, IsStart, free_behind, kept_last, octets};
 
 use crate::end::{End, NotDone};
 use crate::fault::{Fault, FileFault};
@@ -14,7 +18,9 @@ use crate::log_words::Asking;
 use bac_apdu::Route;
 use bac_apdu::object_type::TREND_LOG;
 use bac_archive::{NewestItem, newest};
-use bac_keep::{KeptRun, LastRecord, NotKept, Place, Refusal, Resume, keep_log, resume_from};
+use bac_keep::{
+    KeptRun, LastRecord, NotKept, Place, Progress, Refusal, Resume, keep_log, resume_from,
+};
 use bac_link::{LogLink, Transactions};
 use bac_ports::{Sockets, UdpLink};
 use bac_walk::{Walk, Why};
@@ -26,7 +32,10 @@ use std::alloc::Global;
 /// Any address of this machine, and any free port.
 const ANY: [u8; 6] = [0; 6];
 
-fn transactions_by(retries: u8, route: Option<Route>) -> Transactions {
+fn transactions_by(retries: u8, route: Option<Route>) -> Transactions
+    ensures retries { result.retries ≡ retries }
+    ensures route { result.route ≡ route }
+{
     match route {
         Some(route) => Transactions::through(retries, route),
         None => Transactions::new(retries),
@@ -37,7 +46,13 @@ fn transactions_by(retries: u8, route: Option<Route>) -> Transactions {
 pub(crate) fn connect<S: Sockets>(
     sockets: &mut S,
     asked: Asked,
-) -> Result<(UdpLink<S::Socket>, Transactions), NotDone> {
+) -> Result<(UdpLink<S::Socket>, Transactions), NotDone>
+    // Over a socket that is opened as asked, and to the device that is asked.
+    ensures opened { IfOk result (λ made. S.opens sockets.old (own_address asked.local) asked.timeout (Ok made.0.port) sockets.new) }
+    ensures link { IfOk result (λ made. made.0 ≡ link_over asked.address made.0.port) }
+    ensures retries { IfOk result (λ made. made.1.retries ≡ asked.retries) }
+    ensures route { IfOk result (λ made. made.1.route ≡ asked.route) }
+{
     let Asked {
         address,
         local,
@@ -163,11 +178,16 @@ fn where_to_start<L: LogLink, A: Alter>(
     log: ObjectId,
 ) -> Result<Result<Start, End>, NotDone>
     requires { log.kind ≡ 20 }
+    ensures retries { transactions.new.retries ≡ transactions.old.retries }
+    ensures route { transactions.new.route ≡ transactions.old.route }
+    ensures asked { OnOk result (IsAskedOn L.asks link.old link.new) }
     // By the rows of the archive, and by what the device tells.
     ensures begun { HasCleanDisk (state A.Store conn.new) → (state A.Store conn.old).now.schema ≡ archive_schema
         → IfOk result (IsBegun id log (kept (state A.Store conn.old).now.trees)) }
     ensures same { HasCleanDisk (state A.Store conn.new) → (state A.Store conn.old).now.schema ≡ archive_schema
         → OnOk result ((state A.Store conn.new).now ≡ (state A.Store conn.old).now) }
+    // Whatever comes of it, nothing is committed.
+    ensures crash { (state A.Store conn.old).now.schema ≡ archive_schema → Survives (state A.Store conn.old) (state A.Store conn.new) (λ _. ⊥) }
     ensures clean { HasCleanDisk (state A.Store conn.new) → HasCleanDisk (state A.Store conn.old) }
 {
     let last = match newest(conn, id) {
@@ -208,16 +228,23 @@ fn end_of(run: KeptRun, anew: bool) -> Result<End, NotDone>
 }
 
 /// Keeps what a log has from a start on.
-fn keep_from<L: LogLink, A: Alter>(
+fn keep_from<L: LogLink, A: Alter, P: Progress>(
     alloc: Global,
     link: &mut L,
     transactions: &mut Transactions,
     conn: &mut Connection<A>,
     start: Start,
     steps: u32,
+    progress: &mut P,
 ) -> Result<End, NotDone>
     ensures kept { HasCleanDisk (state A.Store conn.new) → (state A.Store conn.old).now.schema ≡ archive_schema
         → IfOk result (KeepsBegun (Ok start) (state A.Store conn.old).now (state A.Store conn.new).now) }
+    // In replies that came over the link.
+    ensures came { HasCleanDisk (state A.Store conn.new) → (state A.Store conn.old).now.schema ≡ archive_schema
+        → IfOk result (ComesFrom L.asks (towards transactions.old.route) transactions.old.retries link.old start steps (state A.Store conn.old).now (state A.Store conn.new).now) }
+    // Whatever comes of it, what a crash leaves then, or at any moment before, has all that was there.
+    ensures stays { HasCleanDisk (state A.Store conn.new) → (state A.Store conn.old).now.schema ≡ archive_schema
+        → Survives (state A.Store conn.old) (state A.Store conn.new) (HasAllOf (state A.Store conn.old).now.trees) }
     ensures clean { HasCleanDisk (state A.Store conn.new) → HasCleanDisk (state A.Store conn.old) }
 {
     let Start {
@@ -226,22 +253,38 @@ fn keep_from<L: LogLink, A: Alter>(
         free,
         anew,
     } = start;
-    let run = keep_log(alloc, link, transactions, walk, conn, place, free, steps);
+    let run = keep_log(
+        alloc,
+        link,
+        transactions,
+        walk,
+        conn,
+        place,
+        free,
+        steps,
+        progress,
+    );
     end_of(run, anew)
 }
 
 /// Asks a device for what is new of its log, and keeps it.
-pub(crate) fn fetch<S: Sockets, A: Alter>(
+pub(crate) fn fetch<S: Sockets, A: Alter, P: Progress>(
     alloc: Global,
     sockets: &mut S,
     conn: &mut Connection<A>,
     id: u16,
     instance: u32,
     asking: Asking,
+    progress: &mut P,
 ) -> Result<End, NotDone>
-    // The rows of what the run brought come to those before, under this log.
+    // The rows of what the run brought come to those before, under this log, and it came over a
+    // socket that was opened as asked, from the device that is asked.
     ensures kept { HasCleanDisk (state A.Store conn.new) → (state A.Store conn.old).now.schema ≡ archive_schema
-        → IfOk result (KeepsLog id (trend_log instance) (state A.Store conn.old).now (state A.Store conn.new).now) }
+        → IfOk result (KeepsLog (socket_rules S.opens S.Socket.sends S.Socket.receives) asking sockets.old sockets.new id (trend_log instance)
+        (state A.Store conn.old).now (state A.Store conn.new).now) }
+    // Whatever comes of it, what a crash leaves then, or at any moment before, has all that was there.
+    ensures stays { HasCleanDisk (state A.Store conn.new) → (state A.Store conn.old).now.schema ≡ archive_schema
+        → Survives (state A.Store conn.old) (state A.Store conn.new) (HasAllOf (state A.Store conn.old).now.trees) }
     ensures clean { HasCleanDisk (state A.Store conn.new) → HasCleanDisk (state A.Store conn.old) }
 {
     let Asking {
@@ -254,7 +297,15 @@ pub(crate) fn fetch<S: Sockets, A: Alter>(
     };
     let (mut link, mut transactions) = connect(sockets, asked)?;
     match where_to_start(alloc, &mut link, &mut transactions, conn, id, log)? {
-        Ok(start) => keep_from(alloc, &mut link, &mut transactions, conn, start, steps),
+        Ok(start) => keep_from(
+            alloc,
+            &mut link,
+            &mut transactions,
+            conn,
+            start,
+            steps,
+            progress,
+        ),
         Err(end) => Ok(end),
     }
 }

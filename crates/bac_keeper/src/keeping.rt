@@ -1,17 +1,22 @@
 //! `bac keep`: logs are added to an archive, and what is new of them is kept.
 
 ghost use Rattle.std.specs.Prelude.{◌≡◌, OnOk, IfOk, List, option_map};
+ghost use Rattle.std.specs.List.{All};
 ghost use Rattle.std.specs.String.{string_bytes};
 ghost use Rattle.std.specs.Io.KnownBytes.{Appends};
-ghost use Rattle.sqlite.specs.State.{HasCleanDisk};
+ghost use Rattle.sqlite.specs.State.{HasCleanDisk, Survives};
 ghost use Rattle.sqlite.specs.Held.{state};
 ghost use Rattle.bac_archive.specs.Schema.{archive_schema};
+ghost use Rattle.bac_keeper.specs.Fetched.{socket_rules};
 ghost use Rattle.bac_keeper.specs.Keeps.{AreToldBy, IsToldBy, KeepsAll, KeepsSource};
 ghost use Rattle.bac_keeper.specs.Lines.{anew_line, summary_line};
+ghost use Rattle.bac_keeper.specs.Wanted.{AreChosen, AreKeptLogs, AskTheirSources, AsksItsSource};
 ghost use Rattle.bac_keeper.specs.Keeps.{TellsLogs};
+ghost use Rattle.bac_keeper.specs.Stays.{HasAllOf};
 ghost use Rattle.bac_keeper.specs.declared.wanted.Wanted.{Wanted as WantedOf};
 
 use crate::archives::{close_file, opened};
+use crate::count::Count;
 use crate::discovering::discover;
 use crate::end::{End, NotDone, walk_status};
 use crate::fault::{Fault, FileFault};
@@ -19,7 +24,7 @@ use crate::fetching::fetch;
 use crate::job::Options;
 use crate::log_words::Asking;
 use crate::summary::{push_anew, push_summary};
-use crate::wanted::{Wanted, check_options, kept_log, named, named_all};
+use crate::wanted::{Wanted, add_wanted, check_options, kept_log, named, named_all};
 use bac_archive::{Source, add_log, logs};
 use bac_ports::Sockets;
 use bac_print::write_text;
@@ -44,7 +49,9 @@ fn choose(
     address: Option<&str>,
     instances: &[&str],
     options: &Options<'_>,
-) -> Result<Chosen, NotDone> {
+) -> Result<Chosen, NotDone>
+    ensures { IfOk result AskTheirSources }
+{
     let Some(address) = address else {
         check_options(alloc, options)?;
         return Ok(Chosen::Kept);
@@ -61,6 +68,10 @@ fn kept_logs<A: Alter>(
     conn: &mut Connection<A>,
     options: &Options<'_>,
 ) -> Result<Vec<Wanted>, NotDone>
+    ensures asks { IfOk result (λ all. All AsksItsSource all.items) }
+    // They are the logs of the archive.
+    ensures logs { HasCleanDisk (state A.Store conn.new) → (state A.Store conn.old).now.schema ≡ archive_schema
+        → IfOk result (λ all. AreKeptLogs (state A.Store conn.old).now.trees all.items) }
     ensures same { HasCleanDisk (state A.Store conn.new) → (state A.Store conn.old).now.schema ≡ archive_schema
         → OnOk result ((state A.Store conn.new).now ≡ (state A.Store conn.old).now) }
     ensures clean { HasCleanDisk (state A.Store conn.new) → HasCleanDisk (state A.Store conn.old) }
@@ -71,10 +82,7 @@ fn kept_logs<A: Alter>(
     };
     let mut all = Vec::new(alloc);
     for log in known {
-        let wanted = kept_log(alloc, log, options)?;
-        if all.push(wanted).is_err() {
-            return Err(NotDone::Asking(Fault::Memory));
-        }
+        add_wanted(&mut all, kept_log(alloc, log, options)?)?;
     }
     Ok(all)
 }
@@ -124,6 +132,7 @@ fn keep_one<S: Sockets, A: Alter, O: Write, E: Write>(
     conn: &mut Connection<A>,
     alloc: Global,
     wanted: Wanted,
+    counts: bool,
     output: &mut O,
     errors: &mut E,
 ) -> Result<u8, NotDone>
@@ -131,7 +140,11 @@ fn keep_one<S: Sockets, A: Alter, O: Write, E: Write>(
     // The rows of what the run brought come to those before, under the id of this log.
     ensures told { IfOk result (IsToldBy (O.contents output.old) (O.contents output.new) wanted.source (λ end.
         HasCleanDisk (state A.Store conn.new) → (state A.Store conn.old).now.schema ≡ archive_schema →
-        KeepsSource wanted (state A.Store conn.old).now (state A.Store conn.new).now end)) }
+        KeepsSource (socket_rules S.opens S.Socket.sends S.Socket.receives) wanted sockets.old sockets.new (state A.Store conn.old).now (state A.Store conn.new).now end)) }
+    // Whatever comes of it, no item and no log is lost: what is on the disk then, or is left by a
+    // crash at any moment before, is what was there or has all of it.
+    ensures stays { HasCleanDisk (state A.Store conn.new) → (state A.Store conn.old).now.schema ≡ archive_schema
+        → Survives (state A.Store conn.old) (state A.Store conn.new) (HasAllOf (state A.Store conn.old).now.trees) }
     ensures clean { HasCleanDisk (state A.Store conn.new) → HasCleanDisk (state A.Store conn.old) }
 {
     let Wanted {
@@ -143,7 +156,18 @@ fn keep_one<S: Sockets, A: Alter, O: Write, E: Write>(
         Ok(id) => id,
         Err(fault) => return Err(NotDone::File(FileFault::of_log(fault))),
     };
-    let end = fetch(alloc, sockets, conn, id, source.instance, asking)?;
+    let mut count = Count::new(alloc, &source, errors, counts);
+    let fetched = fetch(
+        alloc,
+        sockets,
+        conn,
+        id,
+        source.instance,
+        asking,
+        &mut count,
+    );
+    count.end();
+    let end = fetched?;
     if end.anew {
         tell_anew(alloc, &source, errors)?;
     }
@@ -151,24 +175,30 @@ fn keep_one<S: Sockets, A: Alter, O: Write, E: Write>(
     Ok(walk_status(end.why))
 }
 
-/// Keeps what is new of each of these logs in an archive; answers the greatest of their statuses.
+/// Keeps what is new of each of these logs in an archive; answers the greatest of their statuses. If
+/// it counts, the errors have the number of a log's records while it is fetched: for a terminal.
 pub fn keep_each<S: Sockets, A: Alter, O: Write, E: Write>(
     sockets: &mut S,
     conn: &mut Connection<A>,
     alloc: Global,
     all: Vec<Wanted>,
+    counts: bool,
     output: &mut O,
     errors: &mut E,
 ) -> Result<u8, NotDone>
     // A line tells each log, in their order; each is kept in the archive that the one before left.
     ensures told { IfOk result (AreToldBy (O.contents output.old) (O.contents output.new) all.items (λ ends.
         HasCleanDisk (state A.Store conn.new) → (state A.Store conn.old).now.schema ≡ archive_schema →
-        KeepsAll all.items (state A.Store conn.old).now (state A.Store conn.new).now ends)) }
+        KeepsAll (socket_rules S.opens S.Socket.sends S.Socket.receives) all.items sockets.old sockets.new (state A.Store conn.old).now (state A.Store conn.new).now ends)) }
+    // Whatever comes of it, no item and no log is lost: what is on the disk then, or is left by a
+    // crash at any moment before, is what was there or has all of it.
+    ensures stays { HasCleanDisk (state A.Store conn.new) → (state A.Store conn.old).now.schema ≡ archive_schema
+        → Survives (state A.Store conn.old) (state A.Store conn.new) (HasAllOf (state A.Store conn.old).now.trees) }
     ensures clean { HasCleanDisk (state A.Store conn.new) → HasCleanDisk (state A.Store conn.old) }
 {
     let mut greatest = 0u8;
     for wanted in all {
-        let status = keep_one(sockets, conn, alloc, wanted, output, errors)?;
+        let status = keep_one(sockets, conn, alloc, wanted, counts, output, errors)?;
         greatest = greatest.max(status);
     }
     Ok(greatest)
@@ -182,6 +212,10 @@ fn chosen_logs<S: Sockets, A: Alter>(
     chosen: Chosen,
     options: &Options<'_>,
 ) -> Result<Vec<Wanted>, NotDone>
+    requires { AskTheirSources chosen }
+    ensures asks { IfOk result (λ all. All AsksItsSource all.items) }
+    ensures chosen { HasCleanDisk (state A.Store conn.new) → (state A.Store conn.old).now.schema ≡ archive_schema
+        → IfOk result (λ all. AreChosen chosen (state A.Store conn.old).now.trees all.items) }
     ensures same { HasCleanDisk (state A.Store conn.new) → (state A.Store conn.old).now.schema ≡ archive_schema
         → OnOk result ((state A.Store conn.new).now ≡ (state A.Store conn.old).now) }
     ensures clean { HasCleanDisk (state A.Store conn.new) → HasCleanDisk (state A.Store conn.old) }
@@ -200,15 +234,20 @@ fn keep_chosen<S: Sockets, A: Alter, O: Write, E: Write>(
     alloc: Global,
     chosen: Chosen,
     options: &Options<'_>,
+    counts: bool,
     output: &mut O,
     errors: &mut E,
 ) -> Result<u8, NotDone>
-    ensures told { IfOk result (λ status. (all : List WantedOf) × AreToldBy (O.contents output.old) (O.contents output.new) all (λ ends.
+    requires { AskTheirSources chosen }
+    // They are asked of the devices under which they are kept.
+    ensures told { IfOk result (λ status. (all : List WantedOf) × (between : S) × All AsksItsSource all
+        × (HasCleanDisk (state A.Store conn.new) → (state A.Store conn.old).now.schema ≡ archive_schema → AreChosen chosen (state A.Store conn.old).now.trees all)
+        × AreToldBy (O.contents output.old) (O.contents output.new) all (λ ends.
         HasCleanDisk (state A.Store conn.new) → (state A.Store conn.old).now.schema ≡ archive_schema →
-        KeepsAll all (state A.Store conn.old).now (state A.Store conn.new).now ends) status) }
+        KeepsAll (socket_rules S.opens S.Socket.sends S.Socket.receives) all between sockets.new (state A.Store conn.old).now (state A.Store conn.new).now ends) status) }
 {
     let all = chosen_logs(sockets, conn, alloc, chosen, options)?;
-    keep_each(sockets, conn, alloc, all, output, errors)
+    keep_each(sockets, conn, alloc, all, counts, output, errors)
 }
 
 /// `bac keep`: opens the archive, keeps what is new of the logs that the words name, and closes it.
@@ -220,6 +259,7 @@ pub(crate) fn keep<S: Sockets, O: Write, E: Write>(
     address: Option<&str>,
     instances: &[&str],
     options: &Options<'_>,
+    counts: bool,
     output: &mut O,
     errors: &mut E,
 ) -> Result<u8, NotDone>
@@ -227,7 +267,9 @@ pub(crate) fn keep<S: Sockets, O: Write, E: Write>(
 {
     let chosen = choose(alloc, address, instances, options)?;
     let mut conn = opened(rt, file, true)?;
-    let done = keep_chosen(sockets, &mut conn, alloc, chosen, options, output, errors);
+    let done = keep_chosen(
+        sockets, &mut conn, alloc, chosen, options, counts, output, errors,
+    );
     match close_file(conn) {
         Err(fault) if done.is_ok() => Err(NotDone::File(fault)),
         _ => done,

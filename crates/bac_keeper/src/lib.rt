@@ -8,6 +8,7 @@
 
 mod archives;
 mod commands;
+mod count;
 mod csv_lines;
 mod discovering;
 mod end;
@@ -16,6 +17,7 @@ mod fetching;
 mod job;
 mod keeping;
 mod kept;
+mod laws;
 mod log_words;
 mod printing;
 mod program;
@@ -26,6 +28,7 @@ mod wanted;
 pub use end::NotDone;
 pub use fault::{Fault, FileFault};
 pub use keeping::keep_each;
+pub use laws::kept_lines_are_those_of_log;
 pub use log_words::Asking;
 pub use printing::{Shown, print_shown};
 pub use program::{is_keeping, run_keep};

@@ -1,13 +1,15 @@
 //! `bac kept`: what an archive keeps is printed.
 
-ghost use Rattle.std.specs.Prelude.{◌≡◌, false, IfOk, OnOk, List};
+ghost use Rattle.std.specs.Prelude.{◌≡◌, ◌++◌, true, false, IfOk, OnOk, List};
 ghost use Rattle.std.specs.Io.KnownBytes.{Appends, Keeps};
+ghost use Rattle.csv.specs.Writing.{default_writer, row_text};
 ghost use Rattle.sqlite.specs.State.{HasCleanDisk};
 ghost use Rattle.sqlite.specs.Held.{state};
 ghost use Rattle.bac_archive.specs.Logs.{AreLogs};
 ghost use Rattle.bac_archive.specs.Rows.{kept};
 ghost use Rattle.bac_archive.specs.Schema.{archive_schema};
 ghost use Rattle.bac_archive.specs.declared.trend_logs.Log.{Log as LogOf};
+ghost use Rattle.bac_keeper.specs.Csv.{WritesLog, WritesLogs, names};
 ghost use Rattle.bac_keeper.specs.Printed.{PrintsLog, PrintsLogs, head_line, is_chosen};
 
 use crate::archives::{close_file, opened};
@@ -18,7 +20,6 @@ use crate::job::Options;
 use crate::kept::{print_head, print_items};
 use crate::wanted::named;
 use bac_archive::{Log, Source, logs};
-use csv::Writer;
 use sqlite::{Alter, Connection};
 use std::alloc::Global;
 use std::io::Write;
@@ -118,27 +119,48 @@ fn print_logs<A: Alter, O: Write>(
     Ok(count)
 }
 
-/// Writes each of the logs as CSV.
+/// Writes a log as CSV, if it was chosen; answers whether it was.
+fn write_log<A: Alter, O: Write>(
+    alloc: Global,
+    conn: &mut Connection<A>,
+    log: &Log,
+    shown: &Shown,
+    output: &mut O,
+) -> Result<bool, NotDone>
+    ensures written { HasCleanDisk (state A.Store conn.new) → (state A.Store conn.old).now.schema ≡ archive_schema
+        → OnOk result ((text : List _) × WritesLog shown.now (kept (state A.Store conn.old).now.trees) log.now text × Appends (O.contents output.old) (O.contents output.new) text) }
+    ensures same { HasCleanDisk (state A.Store conn.new) → (state A.Store conn.old).now.schema ≡ archive_schema
+        → OnOk result ((state A.Store conn.new).now ≡ (state A.Store conn.old).now) }
+    ensures clean { OnOk result (HasCleanDisk (state A.Store conn.new) → HasCleanDisk (state A.Store conn.old)) }
+{
+    if !shown.has(log) {
+        return Ok(false);
+    }
+    write_items(alloc, conn, log, output)?;
+    Ok(true)
+}
+
+/// Writes each of the logs as CSV, behind the row of names.
 fn write_logs<A: Alter, O: Write>(
     alloc: Global,
     conn: &mut Connection<A>,
     all: &[Log],
     shown: &Shown,
     output: &mut O,
-) -> Result<usize, NotDone> {
-    let mut writer = Writer::from_writer(output);
-    write_names(&mut writer)?;
+) -> Result<usize, NotDone>
+    ensures written { HasCleanDisk (state A.Store conn.new) → (state A.Store conn.old).now.schema ≡ archive_schema
+        → OnOk result ((text : List _) × WritesLogs shown.now (kept (state A.Store conn.old).now.trees) all.now text
+        × Appends (O.contents output.old) (O.contents output.new) (row_text default_writer names ++ text)) }
+    ensures clean { OnOk result (HasCleanDisk (state A.Store conn.new) → HasCleanDisk (state A.Store conn.old)) }
+{
+    write_names(alloc, output)?;
     let mut count = 0usize;
     for log in all {
-        if shown.has(log) {
-            write_items(alloc, conn, log, &mut writer)?;
+        if write_log(alloc, conn, log, shown, output)? {
             count = count.saturating_add(1);
         }
     }
-    match writer.flush() {
-        Ok(()) => Ok(count),
-        Err(_) => Err(NotDone::Asking(Fault::Write)),
-    }
+    Ok(count)
 }
 
 /// Prints what an archive keeps of the logs that were chosen, in lines or as CSV.
@@ -155,6 +177,11 @@ pub fn print_shown<A: Alter, O: Write>(
     ensures printed { HasCleanDisk (state A.Store conn.new) → (state A.Store conn.old).now.schema ≡ archive_schema → csv ≡ false
         → OnOk result ((all : List LogOf) × AreLogs (state A.Store conn.old).now.trees all
         × (text : List _) × PrintsLogs shown.now (kept (state A.Store conn.old).now.trees) all text × Appends (O.contents output.old) (O.contents output.new) text) }
+    // As CSV the row of names, and of each of those logs that was chosen a row for each of its items.
+    ensures written { HasCleanDisk (state A.Store conn.new) → (state A.Store conn.old).now.schema ≡ archive_schema → csv ≡ true
+        → OnOk result ((all : List LogOf) × AreLogs (state A.Store conn.old).now.trees all
+        × (text : List _) × WritesLogs shown.now (kept (state A.Store conn.old).now.trees) all text
+        × Appends (O.contents output.old) (O.contents output.new) (row_text default_writer names ++ text)) }
 {
     let all = match logs(alloc, conn) {
         Ok(all) => all,

@@ -69,6 +69,7 @@ fn done<S: Sockets, O: Write, E: Write>(
     sockets: &mut S,
     alloc: Global,
     job: Job<'_>,
+    counts: bool,
     output: &mut O,
     errors: &mut E,
 ) -> Result<u8, NotDone>
@@ -88,6 +89,7 @@ fn done<S: Sockets, O: Write, E: Write>(
             address,
             instances.as_slice(),
             &options,
+            counts,
             output,
             errors,
         ),
@@ -103,11 +105,13 @@ fn done<S: Sockets, O: Write, E: Write>(
 /// Does what the words of `bac keep` or `bac kept` ask for, the first of which is the program's
 /// name, and answers the exit status. What was kept of each log, or what a file keeps, goes to the
 /// output; a file that is no use is told on the errors, and any other fault is the caller's to tell.
+/// `counts` is for a terminal: the errors have a count of records while a log is fetched.
 pub fn run_keep<S: Sockets, O: Write, E: Write>(
     rt: &HostRuntime,
     sockets: &mut S,
     alloc: Global,
     words: &[String],
+    counts: bool,
     output: &mut O,
     errors: &mut E,
 ) -> Result<u8, Fault>
@@ -122,7 +126,7 @@ pub fn run_keep<S: Sockets, O: Write, E: Write>(
         Err(WordsFault::LongNumber(word)) => return Err(Fault::LongNumber(word)),
         Err(WordsFault::Memory) => return Err(Fault::Memory),
     };
-    match done(rt, sockets, alloc, job, output, errors) {
+    match done(rt, sockets, alloc, job, counts, output, errors) {
         Ok(status) => Ok(status),
         Err(NotDone::Asking(fault)) => Err(fault),
         Err(NotDone::File(fault)) => tell_file(alloc, fault, errors),

@@ -1,5 +1,10 @@
 //! The logs that are to be fetched, and where they are.
 
+ghost use Rattle.std.specs.Prelude.{◌≡◌, IfOk, OnOk, [], ◌∷◌, ◌++◌};
+ghost use Rattle.std.specs.List.{All};
+ghost use Rattle.std.specs.String.{string_bytes};
+ghost use Rattle.bac_keeper.specs.Wanted.{AsksItsSource, IsSourceOf};
+
 use crate::end::NotDone;
 use crate::fault::{Fault, FileFault};
 use crate::job::Options;
@@ -28,7 +33,9 @@ pub(crate) fn of_words(fault: WordsFault) -> NotDone {
     }
 }
 
-fn text_of(octets: Vec<u8>) -> Result<String, AllocError> {
+fn text_of(octets: Vec<u8>) -> Result<String, AllocError>
+    ensures { IfOk result (λ text. string_bytes text ≡ octets.items) }
+{
     match String::from_utf8(octets) {
         Ok(text) => Ok(text),
         Err(_) => Err(AllocError),
@@ -36,7 +43,9 @@ fn text_of(octets: Vec<u8>) -> Result<String, AllocError> {
 }
 
 /// Where a log is that is asked for.
-pub(crate) fn source_of(alloc: Global, asked: &Asked, instance: u32) -> Result<Source, AllocError> {
+pub(crate) fn source_of(alloc: Global, asked: &Asked, instance: u32) -> Result<Source, AllocError>
+    ensures { IfOk result (IsSourceOf asked.now instance) }
+{
     let mut address = Vec::new(alloc);
     push_address(&mut address, asked.address)?;
     let mut dadr = Vec::new(alloc);
@@ -60,7 +69,9 @@ pub(crate) fn named(
     address: &str,
     instance: &str,
     options: &Options<'_>,
-) -> Result<Wanted, NotDone> {
+) -> Result<Wanted, NotDone>
+    ensures { IfOk result AsksItsSource }
+{
     let asking = match ask_as_log(alloc, address, instance, options) {
         Ok(asking) => asking,
         Err(fault) => return Err(of_words(fault)),
@@ -75,19 +86,29 @@ pub(crate) fn named(
     }
 }
 
+/// Puts a log behind others.
+pub(crate) fn add_wanted(all: &mut Vec<Wanted>, wanted: Wanted) -> Result<(), NotDone>
+    ensures { OnOk result (all.new.items ≡ all.old.items ++ wanted ∷ []) }
+{
+    match all.push(wanted) {
+        Ok(()) => Ok(()),
+        Err(_) => Err(NotDone::Asking(Fault::Memory)),
+    }
+}
+
 /// The logs of one device that words name.
 pub(crate) fn named_all(
     alloc: Global,
     address: &str,
     instances: &[&str],
     options: &Options<'_>,
-) -> Result<Vec<Wanted>, NotDone> {
+) -> Result<Vec<Wanted>, NotDone>
+    ensures { IfOk result (λ all. All AsksItsSource all.items) }
+{
     let mut all = Vec::new(alloc);
     for instance in instances {
         let wanted = named(alloc, address, instance, options)?;
-        if all.push(wanted).is_err() {
-            return Err(NotDone::Asking(Fault::Memory));
-        }
+        add_wanted(&mut all, wanted)?;
     }
     Ok(all)
 }
@@ -117,19 +138,26 @@ fn asking_at(alloc: Global, source: &Source, options: &Options<'_>) -> Result<As
     ask_as_log(alloc, &source.address, &instance, &by_router)
 }
 
-/// How a log of an archive is asked for.
-pub(crate) fn kept_log(alloc: Global, log: Log, options: &Options<'_>) -> Result<Wanted, NotDone> {
+/// How a log of an archive is asked for. Its address may be any text, but only the one that the
+/// program writes for a device names it: else its log would be kept under two addresses.
+pub(crate) fn kept_log(alloc: Global, log: Log, options: &Options<'_>) -> Result<Wanted, NotDone>
+    ensures source { IfOk result (λ wanted. wanted.source ≡ log.source) }
+    ensures asks { IfOk result AsksItsSource }
+{
     let source = log.source;
-    match asking_at(alloc, &source, options) {
-        Ok(asking) => Ok(Wanted {
+    let asking = match asking_at(alloc, &source, options) {
+        Ok(asking) => asking,
+        Err(WordsFault::Memory) => return Err(NotDone::Asking(Fault::Memory)),
+        Err(_) => return Err(NotDone::File(FileFault::Address)),
+    };
+    match source_of(alloc, &asking.asked, asking.instance) {
+        Ok(written) if written == source => Ok(Wanted {
             source,
             name: None,
             asking,
         }),
-        Err(fault) => match fault {
-            WordsFault::Memory => Err(NotDone::Asking(Fault::Memory)),
-            _other => Err(NotDone::File(FileFault::Address)),
-        },
+        Ok(_) => Err(NotDone::File(FileFault::Address)),
+        Err(_) => Err(NotDone::Asking(Fault::Memory)),
     }
 }
 

@@ -5,7 +5,7 @@ use Rattle.bac_walk.specs.declared.outcome.Step.{Step}
 use Rattle.bac_walk.specs.declared.outcome.Step.TheVariants.{CaughtUp}
 use Rattle.bac_walk.specs.declared.outcome.WalkFault.{WalkFault}
 use Rattle.bac_walk.specs.Place.{WalkPlace, walk_from_oldest}
-use Rattle.bac_keep.specs.Resumption.{CameTo, IsTold}
+use Rattle.bac_keep.specs.Resumption.{AsksOldest, CameTo, IsTold}
 use Rattle.bac_keep.proofs.resumption.resume_from.Goals as goal
 
 pub returns-in-Ok-CaughtUp-clause-told : goal.returns-in-Ok-CaughtUp-clause-told
@@ -18,6 +18,13 @@ returns-in-Ok-CaughtUp-clause-told g c some =
     (λ told it.
     let T : Result Step WalkFault → Type 0 = λ a. IsTold c.args.log (record { number = c.args.last.number; stamp = c.args.last.stamp.now; datum = c.args.last.datum.now }) a it.0 told in
     let R : Path → Type 0 = λ path. CameTo g.L.LogLink.asks path c.step.new.transactions.retries c.step.new.link (walk_from_oldest c.args.log) it.0 c.told_last.new.link in
-    let S : ℕ → Type 0 = λ n. CameTo g.L.LogLink.asks (towards c.args.transactions.now.route) n c.step.new.link (walk_from_oldest c.args.log) it.0 c.told_last.new.link in
-    (c.step.result, it.0, c.step.new.link, subst T (sym is) it.1, first, λ asks. subst S c.step.ensures.retries (subst R (ap towards c.step.ensures.route) it.2)))
+    let S : ℕ → Type 0 = λ n. CameTo g.L.LogLink.asks (towards c.args.transactions.now.route) n c.step.new.link (walk_from_oldest c.args.log) it.0 c.told_last.new.link in (
+      c.step.result,
+      it.0,
+      c.step.new.link,
+      subst T (sym is) it.1,
+      first,
+      λ asks. subst S c.step.ensures.retries (subst R (ap towards c.step.ensures.route) it.2),
+      λ none. absurd (none (subst AsksOldest (sym is) tt)),
+    ))
     c.told_last.ensures.told
