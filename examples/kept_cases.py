@@ -15,6 +15,7 @@ import time
 from kept_devices import Device, Log, chance, lock, serve, wait_until_asked
 from kept_judge import wrongs
 from kept_rounds import one, rounds, said
+from kept_terminal import terminals
 
 FOLDER = os.path.dirname(os.path.abspath(__file__))
 QUICK = ("--timeout=60", "--retries=0")
@@ -349,8 +350,21 @@ def taken_over(judge, _runs):
     judge.same("the old lines", printed, wanted)
     done = take(records, file, device.address, "1")
     judge.is_right("once", done.returncode == 1 and "it has records of this trend log already" in done.stderr, done.stderr)
-    done = take(records, file, "10.0.0.1", "7", "5", "0A")
+    done = take(records, file, "010.0.0.1:047808", "7", "5", "0A")
     judge.same("beside another log", (done.stdout, judge.ran(["kept", file, "10.0.0.1", "7"])[1]), ("41 records\n", wanted.replace(text(range(32, 61)), "")))
+    base = sqlite3.connect(file)
+    judge.same("under its one text", base.execute("SELECT address, dnet, dadr FROM logs WHERE id = 2").fetchall(), [("10.0.0.1:47808", 5, "0a")])
+    base.close()
+    for name, column, other in (("zeros", "address", "010.0.0.1:47808"), ("no port", "address", "10.0.0.1"), ("large digits", "dadr", "0A"),
+                                ("no network", "dnet", 0), ("no address", "address", "site")):
+        broken = f"{judge.room}/broken.db"
+        shutil.copyfile(file, broken)
+        base = sqlite3.connect(broken)
+        base.execute(f"UPDATE logs SET {column} = ? WHERE id = 2", (other,))
+        base.commit()
+        base.close()
+        wrong = (6, "", "file fault\na trend log in it has an address that is none\n")
+        judge.same(f"an address with {name} is refused", judge.ran(["keep", broken]), wrong)
 
 
 def served(judge, _runs):
@@ -459,4 +473,5 @@ def judgements(judge, _runs):
     judge.is_right("a broken page is seen", wrongs(broken, [device], True))
 
 
-CASES = [judgements, run_after_run, options, losses, far_away, rounds, restarts, cut_files, foreign_files, a_large_file, printed, taken_over, served]
+CASES = [judgements, run_after_run, options, losses, far_away, rounds, restarts, cut_files, foreign_files, a_large_file, printed, taken_over, served,
+         terminals]

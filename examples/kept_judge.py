@@ -36,9 +36,13 @@ class Judge:
         out, errors = process.communicate(timeout=120)
         return process.returncode, out.decode(), errors.decode()
 
+    def ending_at(self, call):
+        """The surroundings of a run that is ended before this one of its calls on files."""
+        return {**os.environ, "LD_PRELOAD": self.kills, "AT": str(call)}
+
     def ended_at(self, call, words):
-        """The same of a run that is ended before this one of its calls on files."""
-        return self.ran(words, env={**os.environ, "LD_PRELOAD": self.kills, "AT": str(call)})
+        """The same of a run that is ended so."""
+        return self.ran(words, env=self.ending_at(call))
 
     def judge(self, name, file, devices, all_of_it=False):
         found = wrongs(file, devices, all_of_it)
