@@ -5,6 +5,7 @@ pub mod Printed
 pub mod Wanted
 pub mod Starts
 pub mod Fetched
+pub mod Discovered
 pub mod Stays
 pub mod Keeps
 pub mod LogLines

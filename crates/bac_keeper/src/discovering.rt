@@ -1,20 +1,23 @@
 //! The trend logs in a device's Object_List.
 
-ghost use Rattle.std.specs.Prelude.{◌≡◌, IfOk, IfSome};
+ghost use Rattle.std.specs.Prelude.{◌≡◌, Some, IfOk, OnOk};
 ghost use Rattle.std.specs.List.{All};
+ghost use Rattle.bac_link.specs.Path.{towards};
+ghost use Rattle.bac_keeper.specs.Discovered.{AddsObject, FindsOver, FindsTo, Reads, ReadsName, ReadsNumber, ReadsObject, TellsName, name_of};
+ghost use Rattle.bac_keeper.specs.Fetched.{socket_rules};
 ghost use Rattle.bac_keeper.specs.Wanted.{AsksItsSource, IsAskedAs};
 
 use crate::end::NotDone;
 use crate::fault::Fault;
 use crate::fetching::connect;
 use crate::log_words::Asking;
-use crate::questions::{object_in, read, read_number, value_in};
+use crate::questions::{object_in, read, read_number, text_in};
 use crate::wanted::{Wanted, add_wanted, source_of};
 use bac_apdu::object_type::TREND_LOG;
 use bac_link::{ExchangeFault, LogLink, Transactions};
 use bac_ports::Sockets;
-use bac_wire::{ObjectId, Value};
-use bac_words::Asked;
+use bac_wire::{Datagram, ObjectId};
+use bac_words::{Asked, Word};
 use std::alloc::Global;
 
 /// The type of a Device object (clause 21).
@@ -44,7 +47,12 @@ impl<L: LogLink> Station<L> {
     }
 
     /// How many objects the device has.
-    fn count(&mut self, device: ObjectId) -> Result<u32, NotDone> {
+    fn count(&mut self, device: ObjectId) -> Result<u32, NotDone>
+        ensures reads { IfOk result (λ count. ReadsNumber (Reads L.asks (towards self.old.transactions.route) self.old.transactions.retries)
+            (record { object = device; property = 76; index = Some 0 }) self.old.link count self.new.link) }
+        ensures retries { OnOk result (self.new.transactions.retries ≡ self.old.transactions.retries) }
+        ensures route { OnOk result (self.new.transactions.route ≡ self.old.transactions.route) }
+    {
         match read_number(
             &mut self.link,
             &mut self.transactions,
@@ -57,8 +65,13 @@ impl<L: LogLink> Station<L> {
         }
     }
 
-    /// The type and the instance of the object at a place of the list, from 1 on.
-    fn object(&mut self, device: ObjectId, place: u32) -> Result<(u16, u32), NotDone> {
+    /// The object at a place of the list, from 1 on.
+    fn object(&mut self, device: ObjectId, place: u32) -> Result<ObjectId, NotDone>
+        ensures reads { IfOk result (λ object. ReadsObject (Reads L.asks (towards self.old.transactions.route) self.old.transactions.retries)
+            (record { object = device; property = 76; index = Some place }) self.old.link object self.new.link) }
+        ensures retries { OnOk result (self.new.transactions.retries ≡ self.old.transactions.retries) }
+        ensures route { OnOk result (self.new.transactions.route ≡ self.old.transactions.route) }
+    {
         let answer = match read(
             &mut self.link,
             &mut self.transactions,
@@ -76,27 +89,38 @@ impl<L: LogLink> Station<L> {
     }
 
     /// The name of an object, if it is a text in UTF-8.
-    fn name(&mut self, alloc: Global, object: ObjectId) -> Result<Option<String>, NotDone> {
-        let answer = match read(
+    fn name(&mut self, alloc: Global, object: ObjectId) -> Result<Option<String>, NotDone>
+        ensures reads { IfOk result (λ name. ReadsName (Reads L.asks (towards self.old.transactions.route) self.old.transactions.retries)
+            (name_of object) self.old.link name self.new.link) }
+        ensures retries { OnOk result (self.new.transactions.retries ≡ self.old.transactions.retries) }
+        ensures route { OnOk result (self.new.transactions.route ≡ self.old.transactions.route) }
+    {
+        match read(
             &mut self.link,
             &mut self.transactions,
             object,
             OBJECT_NAME,
             None,
         ) {
-            Ok(answer) => answer,
-            Err(fault) => return Err(self.fault(fault)),
-        };
-        let Some(Value::Chars { set: 0, octets }) = value_in(&answer) else {
-            return Ok(None);
-        };
-        let Ok(text) = std::str::from_utf8(octets) else {
-            return Ok(None);
-        };
-        match String::from_str(alloc, text) {
-            Ok(name) => Ok(Some(name)),
-            Err(_) => Err(NotDone::Asking(Fault::Memory)),
+            Ok(answer) => name_in(alloc, &answer),
+            Err(fault) => Err(self.fault(fault)),
         }
+    }
+}
+
+/// The name that an answer tells.
+fn name_in(alloc: Global, answer: &Datagram) -> Result<Option<String>, NotDone>
+    ensures { IfOk result (TellsName answer.now) }
+{
+    let Some(octets) = text_in(answer) else {
+        return Ok(None);
+    };
+    let Ok(text) = std::str::from_utf8(octets) else {
+        return Ok(None);
+    };
+    match String::from_str(alloc, text) {
+        Ok(name) => Ok(Some(name)),
+        Err(_) => Err(NotDone::Asking(Fault::Memory)),
     }
 }
 
@@ -128,30 +152,76 @@ fn asked_like(like: &Asking, instance: u32) -> Result<Asking, NotDone>
     })
 }
 
-/// The log of this instance.
+/// A log of the device.
 fn wanted_of<L: LogLink>(
     alloc: Global,
     device: &mut Station<L>,
-    instance: u32,
+    object: ObjectId,
     like: &Asking,
-) -> Result<Option<Wanted>, NotDone>
-    ensures asks { IfOk result (λ found. IfSome found AsksItsSource) }
-    ensures alike { IfOk result (λ found. IfSome found (λ wanted. IsAskedAs like.now wanted.asking)) }
-    ensures instance { IfOk result (λ found. IfSome found (λ wanted. wanted.asking.instance ≡ instance)) }
+) -> Result<Wanted, NotDone>
+    ensures asks { IfOk result AsksItsSource }
+    ensures alike { IfOk result (λ wanted. IsAskedAs like.now wanted.asking) }
+    ensures instance { IfOk result (λ wanted. wanted.asking.instance ≡ object.instance) }
+    ensures reads { IfOk result (λ wanted. ReadsName (Reads L.asks (towards device.old.transactions.route) device.old.transactions.retries)
+        (name_of object) device.old.link wanted.name device.new.link) }
+    ensures retries { OnOk result (device.new.transactions.retries ≡ device.old.transactions.retries) }
+    ensures route { OnOk result (device.new.transactions.route ≡ device.old.transactions.route) }
 {
-    let Some(object) = ObjectId::new(TREND_LOG, instance) else {
-        return Ok(None);
-    };
     let name = device.name(alloc, object)?;
-    let asking = asked_like(like, instance)?;
-    match source_of(alloc, &asking.asked, instance) {
-        Ok(source) => Ok(Some(Wanted {
+    let asking = asked_like(like, object.instance())?;
+    match source_of(alloc, &asking.asked, object.instance()) {
+        Ok(source) => Ok(Wanted {
             source,
             name,
             asking,
-        })),
+        }),
         Err(_) => Err(NotDone::Asking(Fault::Memory)),
     }
+}
+
+/// Adds an object of the device, if it is a trend log.
+fn add_object<L: LogLink>(
+    alloc: Global,
+    device: &mut Station<L>,
+    object: ObjectId,
+    like: &Asking,
+    all: &mut Vec<Wanted>,
+) -> Result<(), NotDone>
+    ensures asks { OnOk result (All AsksItsSource all.old.items → All AsksItsSource all.new.items) }
+    ensures alike { OnOk result (All (λ wanted. IsAskedAs like.now wanted.asking) all.old.items → All (λ wanted. IsAskedAs like.now wanted.asking) all.new.items) }
+    ensures adds { OnOk result (AddsObject (Reads L.asks (towards device.old.transactions.route) device.old.transactions.retries) object
+        device.old.link all.old.items all.new.items device.new.link) }
+    ensures retries { OnOk result (device.new.transactions.retries ≡ device.old.transactions.retries) }
+    ensures route { OnOk result (device.new.transactions.route ≡ device.old.transactions.route) }
+{
+    if object.kind() != TREND_LOG {
+        return Ok(());
+    }
+    let wanted = wanted_of(alloc, device, object, like)?;
+    add_wanted(all, wanted)?;
+    Ok(())
+}
+
+/// Adds each trend log of a device, in the order of its list.
+fn add_listed<L: LogLink>(
+    alloc: Global,
+    device: &mut Station<L>,
+    itself: ObjectId,
+    count: u32,
+    like: &Asking,
+) -> Result<Vec<Wanted>, NotDone>
+    requires { itself ≡ record { kind = 8; instance = 4194303 } }
+    ensures asks { IfOk result (λ all. All AsksItsSource all.items) }
+    ensures alike { IfOk result (λ all. All (λ wanted. IsAskedAs like.now wanted.asking) all.items) }
+    ensures finds { IfOk result (λ all. FindsTo (Reads L.asks (towards device.old.transactions.route) device.old.transactions.retries) count
+        device.old.link all.items device.new.link) }
+{
+    let mut all = Vec::new(alloc);
+    for place in 0..count {
+        let object = device.object(itself, place + 1)?;
+        add_object(alloc, device, object, like, &mut all)?;
+    }
+    Ok(all)
 }
 
 /// Each trend log of a device, asked as this one is.
@@ -162,6 +232,8 @@ pub(crate) fn discover<S: Sockets>(
 ) -> Result<Vec<Wanted>, NotDone>
     ensures asks { IfOk result (λ all. All AsksItsSource all.items) }
     ensures alike { IfOk result (λ all. All (λ wanted. IsAskedAs like.now wanted.asking) all.items) }
+    // They are those of the Object_List of the device that is asked, over a socket opened as asked.
+    ensures found { IfOk result (λ all. FindsOver (socket_rules S.opens S.Socket.sends S.Socket.receives) like.now sockets.old all.items sockets.new) }
 {
     let address = like.asked.address;
     let asked = asked_like(like, 0)?.asked;
@@ -172,18 +244,8 @@ pub(crate) fn discover<S: Sockets>(
         address,
     };
     let Some(itself) = ObjectId::new(DEVICE, ITSELF) else {
-        return Ok(Vec::new(alloc));
+        return Err(NotDone::Asking(Fault::BadValue(Word::Instance)));
     };
     let count = device.count(itself)?;
-    let mut all = Vec::new(alloc);
-    for place in 0..count {
-        let (kind, instance) = device.object(itself, place + 1)?;
-        if kind != TREND_LOG {
-            continue;
-        }
-        if let Some(wanted) = wanted_of(alloc, &mut device, instance, like)? {
-            add_wanted(&mut all, wanted)?;
-        }
-    }
-    Ok(all)
+    add_listed(alloc, &mut device, itself, count, like)
 }

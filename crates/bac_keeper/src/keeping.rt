@@ -10,6 +10,7 @@ ghost use Rattle.bac_archive.specs.Schema.{archive_schema};
 ghost use Rattle.bac_keeper.specs.Fetched.{socket_rules};
 ghost use Rattle.bac_keeper.specs.Keeps.{AreToldBy, IsToldBy, KeepsAll, KeepsSource};
 ghost use Rattle.bac_keeper.specs.Lines.{anew_line, summary_line};
+ghost use Rattle.bac_keeper.specs.Discovered.{AreFound};
 ghost use Rattle.bac_keeper.specs.Wanted.{AreChosen, AreKeptLogs, AskTheirSources, AsksItsSource};
 ghost use Rattle.bac_keeper.specs.Keeps.{TellsLogs};
 ghost use Rattle.bac_keeper.specs.Stays.{HasAllOf};
@@ -216,6 +217,8 @@ fn chosen_logs<S: Sockets, A: Alter>(
     ensures asks { IfOk result (λ all. All AsksItsSource all.items) }
     ensures chosen { HasCleanDisk (state A.Store conn.new) → (state A.Store conn.old).now.schema ≡ archive_schema
         → IfOk result (λ all. AreChosen chosen (state A.Store conn.old).now.trees all.items) }
+    // Those of a device are those of its Object_List.
+    ensures found { IfOk result (λ all. AreFound (socket_rules S.opens S.Socket.sends S.Socket.receives) chosen sockets.old all.items sockets.new) }
     ensures same { HasCleanDisk (state A.Store conn.new) → (state A.Store conn.old).now.schema ≡ archive_schema
         → OnOk result ((state A.Store conn.new).now ≡ (state A.Store conn.old).now) }
     ensures clean { HasCleanDisk (state A.Store conn.new) → HasCleanDisk (state A.Store conn.old) }
@@ -241,6 +244,7 @@ fn keep_chosen<S: Sockets, A: Alter, O: Write, E: Write>(
     requires { AskTheirSources chosen }
     // They are asked of the devices under which they are kept.
     ensures told { IfOk result (λ status. (all : List WantedOf) × (between : S) × All AsksItsSource all
+        × AreFound (socket_rules S.opens S.Socket.sends S.Socket.receives) chosen sockets.old all between
         × (HasCleanDisk (state A.Store conn.new) → (state A.Store conn.old).now.schema ≡ archive_schema → AreChosen chosen (state A.Store conn.old).now.trees all)
         × AreToldBy (O.contents output.old) (O.contents output.new) all (λ ends.
         HasCleanDisk (state A.Store conn.new) → (state A.Store conn.old).now.schema ≡ archive_schema →

@@ -1,27 +1,16 @@
-use Rattle.std.proofs.Common.{ap, ◌∙◌, Vec, Global}
-use Rattle.std.proofs.lemmas.List.Elements.{All-push, All-same}
-use Rattle.bac_keeper.specs.declared.wanted.Wanted.{Wanted}
-use Rattle.bac_keeper.specs.Wanted.{AsksItsSource, IsAskedAs}
+use Rattle.bac_keeper.specs.Fetched.{socket_rules}
+use Rattle.bac_keeper.proofs.DiscoveredLemmas.{finds_all_over}
 use Rattle.bac_keeper.proofs.discovering.discover.Goals as goal
-use Rattle.bac_keeper.proofs.discovering.discover.Goals.{in-Some-2+in_ok-add_wanted, in_default-2}
 
-pub loop-place-preserved : goal.loop-place-preserved
-loop-place-preserved g c =
-    let was = c.loop-place.invariant in
-    let before = c.loop-place.all.items in
-    let AskedAs : Wanted → Type 0 = λ wanted. IsAskedAs c.args.like.now wanted.asking in
-    elim c.match-branch-6.branch [
-      | in-Some-2+in_ok-add_wanted w ↦
-          let wanted = w.in-Some-2.wanted in
-          let now = ap (λ (v : Vec Wanted Global). v.items) w.all-is ∙ w.in_ok-add_wanted.ensures in
-          record {
-            asks = All-same AsksItsSource _ _ now (All-push AsksItsSource before wanted was.asks (rw w.in-Some-2.is at c.in_ok-wanted.ensures.asks));
-            alike = All-same AskedAs _ _ now (All-push AskedAs before wanted was.alike (rw w.in-Some-2.is at c.in_ok-wanted.ensures.alike));
-          }
-      | in_default-2 w ↦
-          let now = ap (λ (v : Vec Wanted Global). v.items) w.all-is in
-          record {
-            asks = All-same AsksItsSource _ _ now was.asks;
-            alike = All-same AskedAs _ _ now was.alike;
-          }
-    ]
+pub returns-clause-found : goal.returns-clause-found
+returns-clause-found g c =
+    let over = socket_rules g.S.Sockets.opens g.S.Socket.Port.sends g.S.Socket.Port.receives in
+    let made = c.in_ok-link.ensures in
+    let same = c.in_ok-asked.ensures.alike.0 in
+    let port = c.in_ok-link.link.port in
+    let counted = c.in_ok-count.ensures in
+    let begun = c.in_ok-link.transactions in
+    let then = c.count.new.self.transactions in
+    finds_all_over over c.args.like.now c.in_ok-asked.field-0.asked c.args.sockets.now c.connect.new.sockets port c.in_ok-link.link c.count.new.self.link c.add_listed.new.device.link
+    begun.route then.route begun.retries then.retries c.in-Some.itself c.in_ok-count.count c.add_listed.result
+    same made.opened made.link made.route counted.route made.retries counted.retries c.in-Some.ensures.some.0 counted.reads c.add_listed.ensures.finds

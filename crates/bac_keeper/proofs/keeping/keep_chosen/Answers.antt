@@ -21,6 +21,7 @@ returns g c =
             all,
             between,
             c.in_ok-all.ensures.asks,
+            c.in_ok-all.ensures.found,
             (λ clean has. c.in_ok-all.ensures.chosen (c.keep_each.ensures.clean clean) has),
             (
               told.0,
