@@ -100,7 +100,7 @@ fn items_over_one_another_are_refused(rt: HostRuntime) -> Result<(), Fail> {
 fn an_append_keeps_all_rows_or_none(rt: HostRuntime) -> Result<(), Fail> {
     let mut conn = archive(rt.alloc())?;
     let _ = conn.execute_batch(
-        "INSERT INTO logs (id, address, dnet, dadr, instance, name) VALUES (0, '192.0.2.1', 0, '', 1, 'T1')",
+        "INSERT INTO logs (id, address, dnet, dadr, instance, name) VALUES (0, '192.0.2.1', 0, '', 1, 'Zone temperature')",
     )?;
     assert!(rt; add(&mut conn, &[row(rt.alloc(), 445)?, gap(446, 449)])? == Ok(()));
     let taken = Error::SqliteFailure(ErrorCode::ConstraintViolation(Constraint::PrimaryKey));
