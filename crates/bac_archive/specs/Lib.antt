@@ -4,3 +4,4 @@ pub mod Archive
 pub mod Logs
 pub mod Latest
 pub mod Items
+pub mod Parts

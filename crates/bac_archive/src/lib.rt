@@ -9,6 +9,7 @@ mod creation;
 mod items;
 mod latest;
 mod opening;
+mod parts;
 mod row;
 mod rows;
 mod shape;
@@ -16,8 +17,9 @@ mod trend_logs;
 
 pub use creation::create;
 pub use items::{Item, given_are_items, items_of, read_item};
-pub use latest::{NewestItem, newest};
+pub use latest::{NewestItem, head_of, newest};
 pub use opening::{Refused, open};
+pub use parts::{create_part, follow_on, part_goes_on, part_has_heads, part_has_logs, parts_agree};
 pub use row::Row;
 pub use rows::{adds_join, append, leaves_the_last_commit};
 pub use shape::is_archive;

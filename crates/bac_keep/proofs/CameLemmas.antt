@@ -1,5 +1,5 @@
 -- What runs keep of the replies that came.
-use Rattle.std.proofs.Common.{◌≡◌, ◌≢◌, ℕ, zero, suc, ◌+◌, ◌<◌, ◌≤◌, List, [], ◌∷◌, ◌++◌, length, refl, ap, sym, subst, ◌∙◌, arith, append-nil}
+use Rattle.std.proofs.Common.{◌≡◌, ◌≢◌, ℕ, zero, suc, ◌+◌, ◌<◌, ◌≤◌, List, [], ◌∷◌, ◌++◌, false, length, refl, ap, sym, subst, ◌∙◌, arith, append-nil}
 use Rattle.sqlite.specs.Effect.{Database}
 use Rattle.sqlite_trees.specs.Tree.{Trees}
 use Rattle.sqlite_value.specs.Order.{Row as Values}
@@ -30,6 +30,8 @@ use Rattle.bac_keep.specs.Items.{era, era_after, kept_rows}
 use Rattle.bac_keep.specs.Came.{GathersOver, KeepsOver, LeavesOver}
 use Rattle.bac_keep.specs.Honest.{GoOnOver, HonestIsKept, HonestRunsAreKept, KeptOverJoin, RanOver, reached_over}
 use Rattle.bac_keep.specs.Kept.{HasNoneBehind, IsKept}
+use Rattle.bac_keep.specs.Turns.{WasKept}
+use Rattle.bac_log.specs.TrendLog.{sequence_number}
 use Rattle.bac_keep.proofs.Eras.{rows-append, era-append, era-up}
 use Rattle.bac_keep.proofs.KeptLemmas.{runs_kept, still_none}
 use Rattle.bac_keep.proofs.RunLemmas.{appended_then, gaps-append, records-append}
@@ -180,11 +182,15 @@ unfolding nothing
 nothing-leads H t zero M = refl
 nothing-leads H t (suc n) M = (t, refl, nothing-leads H t n (later M))
 
+-- so many answers of which nothing is kept
+pub waits_for : (H : History) (t n : ℕ) (M : List Moment) → DeliversTo H t [] t M n
+waits_for H t n M = (nothing n, nothing-length n, nothing-items n, nothing-leads H t n M)
+
 -- so many answers more, of which nothing is kept
 pub waits : (H : History) (s t count n : ℕ) (M : List Moment) (items : List Item) → DeliversTo H s items t M count → DeliversTo H s items t M (count + n)
 waits H s t count n M items d =
     let P : List Item → Type 0 = λ l. DeliversTo H s l t M (count + n) in
-    subst P (append-nil items) (joined H s t t count n M items [] d (nothing n, nothing-length n, nothing-items n, nothing-leads H t n (after_answers count M)))
+    subst P (append-nil items) (joined H s t t count n M items [] d (waits_for H t n (after_answers count M)))
 
 pub some_after : (count : ℕ) (M : List Moment) → 0 < length M → 0 < length (after_answers count M)
 some_after zero M some = some
@@ -208,9 +214,14 @@ reached-up asks log H low last trees next M (run ∷ runs) (kept, at, rows, id, 
     let up : last ≤ era run.reached = subst (λ e. last ≤ e) (sym there) (subst (λ e. e ≤ era_after (era run.place) kept.items) at rises) in
     omega (arith, up, rest)
 
-pub honest_runs : {S : Type 0} (asks : Asking S) → HonestRunsAreKept asks
-honest_runs asks log H low first last old b s count M next [] was free is above below some back window on = (s, count, is, was)
-honest_runs asks log H low first last old b s count M next (run ∷ runs) was free is above below some back window (kept, here, rows, id, by_number, at, honest, on) =
+-- one run over a link that is honest for its log, over what was kept of it
+pub honest_one : {S : Type 0} (asks : Asking S) (log : Id) (H : History) (low first last to b s count : ℕ) (M : List Moment) (next : ℕ) (run : RanOver S) (kept : WasKept asks run) →
+    IsKept H first last run.old.trees b s M count → HasNoneBehind last to (kept_in run.old.trees) → era run.reached ≤ to →
+    next ≡ sequence_number s → low ≤ s → s < low + 2147483648 → 0 < length M → NeverGoesBack M → AreInWindow low M →
+    era run.place ≡ last → run.before.log ≡ log → run.before.fresh ≡ false → run.before.next ≡ next → IsHonest asks run.path log H low run.link (after_answers count M) →
+    (t : ℕ) × (run.after.next ≡ sequence_number t) × IsKept H first (era run.reached) run.new.trees b t M (count + (length kept.came + run.unkept))
+    × HasNoneBehind (era run.reached) to (kept_in run.new.trees) × (low ≤ t) × (t < low + 2147483648)
+honest_one asks log H low first last to b s count M next run kept was free up is above below some back window here id by_number at honest =
     let N : List Moment = after_answers count M in
     let answers : ℕ = length kept.came + run.unkept in
     let after : ℕ = era run.reached in
@@ -219,18 +230,27 @@ honest_runs asks log H low first last old b s count M next (run ∷ runs) was fr
     (subst Q (sym id) honest) (at ∙ is) (some_after count M some) (back_after count M back) (window_after low count M window) (λ f. (above, below)) in
     let D : ℕ → Type 0 = λ x. DeliversTo H x kept.items d.1 N (length kept.came) in
     let goes = subst D (d.2 by_number) d.6 in
-    let A : Trees → Type 0 = λ x. Adds x run.new.trees (kept_rows (era run.place) kept.items) in
-    let E : ℕ → Type 0 = λ e. Adds old run.new.trees (kept_rows e kept.items) in
-    let added : Adds old run.new.trees (kept_rows last kept.items) = subst E here (subst A rows d.4) in
+    let E : ℕ → Type 0 = λ e. Adds run.old.trees run.new.trees (kept_rows e kept.items) in
+    let added : Adds run.old.trees run.new.trees (kept_rows last kept.items) = subst E here d.4 in
     let reach : after ≡ era_after last kept.items = kept.era_is ∙ ap (λ e. era_after e kept.items) here in
-    let up = reached-up asks log H low after run.new.trees run.after.next (after_answers answers N) runs on in
-    let to_here : HasNoneBehind last after (kept_in old) = λ e lt le. free e lt (let in_reach : e ≤ reached_over after runs = omega (arith, le, up) in in_reach) in
-    let F : ℕ → Type 0 = λ e. HasNoneBehind last e (kept_in old) in
+    let to_here : HasNoneBehind last after (kept_in run.old.trees) = λ e lt le. free e lt (let in_reach : e ≤ to = omega (arith, le, up) in in_reach) in
+    let F : ℕ → Type 0 = λ e. HasNoneBehind last e (kept_in run.old.trees) in
     let K : ℕ → Type 0 = λ e. IsKept H first e run.new.trees b d.1 M (count + answers) in
-    let B : ℕ → Type 0 = λ e. HasNoneBehind e (reached_over after runs) (kept_in run.new.trees) in
-    let one = subst K (sym reach) (runs_kept H first last old run.new.trees b s d.1 count answers M kept.items was (subst F reach to_here) added (waits H s d.1 (length kept.came) run.unkept N kept.items goes)) in
+    let B : ℕ → Type 0 = λ e. HasNoneBehind e to (kept_in run.new.trees) in
+    let one = subst K (sym reach) (runs_kept H first last run.old.trees run.new.trees b s d.1 count answers M kept.items was (subst F reach to_here) added (waits H s d.1 (length kept.came) run.unkept N kept.items goes)) in
     let covers = each_once H s d.1 (length kept.came) N kept.items goes in
-    let later_free = subst B (sym reach) (still_none last (reached_over after runs) old run.new.trees s d.1 kept.items free added covers) in
+    let later_free = subst B (sym reach) (still_none last to run.old.trees run.new.trees s d.1 kept.items free added covers) in
     let place_is = stays_in_window H N low s d.1 (length kept.came) kept.items (some_after count M some) (window_after low count M window) above below goes in
-    let G : List Moment → Type 0 = λ x. GoOnOver asks log H low after run.new.trees run.after.next x runs in
-    honest_runs asks log H low first after run.new.trees b d.1 (count + answers) M run.after.next runs one later_free d.3 place_is.0 place_is.1 some back window (subst G (sym (after_answers-add count answers M)) on)
+    (d.1, d.3, one, later_free, place_is.0, place_is.1)
+
+pub honest_runs : {S : Type 0} (asks : Asking S) → HonestRunsAreKept asks
+honest_runs asks log H low first last old b s count M next [] was free is above below some back window on = (s, count, is, was)
+honest_runs asks log H low first last old b s count M next (run ∷ runs) was free is above below some back window (kept, here, rows, id, by_number, at, honest, on) =
+    let answers : ℕ = length kept.came + run.unkept in
+    let to : ℕ = reached_over (era run.reached) runs in
+    let up = reached-up asks log H low (era run.reached) run.new.trees run.after.next (after_answers answers (after_answers count M)) runs on in
+    let W : Trees → Type 0 = λ trees. IsKept H first last trees b s M count in
+    let F : Trees → Type 0 = λ trees. HasNoneBehind last to (kept_in trees) in
+    let G : List Moment → Type 0 = λ x. GoOnOver asks log H low (era run.reached) run.new.trees run.after.next x runs in
+    let one = honest_one asks log H low first last to b s count M next run kept (subst W (sym rows) was) (subst F (sym rows) free) up is above below some back window here id by_number at honest in
+    honest_runs asks log H low first (era run.reached) run.new.trees b one.0 (count + answers) M run.after.next runs one.2 one.3 one.1 one.4 one.5 some back window (subst G (sym (after_answers-add count answers M)) on)

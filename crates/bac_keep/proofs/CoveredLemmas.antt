@@ -14,7 +14,8 @@ use Rattle.bac_archive.specs.Rows.{kept}
 use Rattle.bac_keep.specs.Covered.{BeginWith, RunsBeginCovered, RunsGoOnCovered}
 use Rattle.bac_keep.specs.Items.{era, kept_rows}
 use Rattle.bac_keep.specs.Kept.{HasNoneBehind, rows_in}
-use Rattle.bac_keep.proofs.KeptLemmas.{rows_grow}
+use Rattle.bac_keep.specs.Parts.{PartsGoOnCovered}
+use Rattle.bac_keep.proofs.KeptLemmas.{rows_grow, rows_grow_by}
 
 -- what goes on from the number of an ordinal covers each from there
 covers_on : (before next s : ℕ) (items : List Item) (after : Bool) → Goes false before s items after next → before ≡ sequence_number s →
@@ -52,3 +53,13 @@ begin_covered ours failures = λ place reached retries old new link left before 
     let there = covers_begun before.fresh before.next after.next s run.items after.fresh (run.run.0 s) number first in
     let grow = rows_grow (era place) (era place) s there.0 old.trees new.trees [] run.items empty refl (subst N run.era_is free) run.rows.rows there.3 in
     (there.0, there.1, there.2, (run.items, subst C (sym run.era_is) grow.0, run.era_is ∙ grow.1, there.3))
+
+pub parts_go_on : {L : Type 0} (ours : L → Id → ℕ → List Moment → History → Type 0) (failures : L → ℕ) → PartsGoOnCovered ours failures
+parts_go_on ours failures = λ first all place reached retries old new link left before after steps records gaps ended s t run not_fresh at free was.
+    let more = kept_rows (era place) run.items in
+    let G : Bool → Type 0 = λ b. Goes b before.next t run.items after.fresh after.next in
+    let on = covers_on before.next after.next t run.items after.fresh (subst G not_fresh (run.run.0 t)) at in
+    let N : ℕ → Type 0 = λ e. HasNoneBehind (era place) e all in
+    let grow = rows_grow_by first (era place) t on.0 all (all ++ more) was.0 run.items was.1 was.2 (subst N run.era_is free) (IsPermutation-refl (all ++ more)) on.2 in
+    let C : ℕ → Type 0 = λ e. IsPermutation (kept_rows first (was.0 ++ run.items)) (rows_in first e (all ++ more)) in
+    (on.0, on.1, (was.0 ++ run.items, subst C (sym run.era_is) grow.0, run.era_is ∙ grow.1, CoversEach-append s t on.0 was.0 run.items was.3 on.2))

@@ -5,3 +5,4 @@ mod RunLemmas
 pub mod CameLemmas
 mod CoveredLemmas
 mod NewestLemmas
+pub mod TurnLemmas

@@ -8,3 +8,5 @@ pub mod Came
 pub mod Honest
 pub mod Resumption
 pub mod Newest
+pub mod Turns
+pub mod Parts

@@ -2,6 +2,8 @@
 ghost use Rattle.bac_keep.specs.Covered.{RunsBeginCovered, RunsGoOnCovered};
 ghost use Rattle.bac_keep.specs.Honest.{HonestIsKept, HonestRunsAreKept, KeptOverJoin};
 ghost use Rattle.bac_keep.specs.Kept.{AllRunsAreKept, BeginsEmpty, KeptIsDelivered, KeptRunsJoin, OneRowEach, OthersStay, RowsJoin, RunsAreKept};
+ghost use Rattle.bac_keep.specs.Turns.{EachHasItsOwn, HonestTurnsAreKept, HonestTurnsBegin, NewestIsOwn, OwnAreOne, TurnsJoin};
+ghost use Rattle.bac_keep.specs.Parts.{PartsAreKept, PartsEndWhereNewestTells, PartsGoOnCovered};
 ghost use Rattle.bac_keep.specs.Newest.{KeptIsCovered, NewestEndsWhatIsKept, NewestIsLast, NoneLaterStays, RunsLeaveNoneLater};
 
 use bac_link::LogLink;
@@ -109,4 +111,54 @@ pub fn none_later_stays()
 /// behind the epoch that it reached.
 pub fn runs_leave_none_later<L: LogLink>()
     ensures { RunsLeaveNoneLater (λ link id r M H. L.is_ours link id r M H) (λ link. L.failures link) }
+{}
+
+/// Over every link: turns that are taken one after the other are turns of all.
+pub fn turns_join<L: LogLink>()
+    ensures { TurnsJoin L.asks }
+{}
+
+/// Over every link, whoever answers: of runs over one database that take turns, each log has the rows
+/// of what its own brought, and those that it had before.
+pub fn each_has_its_own<L: LogLink>()
+    ensures { EachHasItsOwn L.asks }
+{}
+
+/// Over every link, whoever answers: of runs over one database that take turns, those of one log, each
+/// from where the one before ended, are kept as one run is.
+pub fn own_are_one<L: LogLink>()
+    ensures { OwnAreOne L.asks }
+{}
+
+/// Of runs over one database that take turns: of each log whose links are honest, what was kept before
+/// and what its own keep is one delivery, whatever the others keep in between.
+pub fn honest_turns_are_kept<L: LogLink>()
+    ensures { HonestTurnsAreKept L.asks }
+{}
+
+/// The same of a log of which nothing is kept yet, and whose first run begins at the oldest record.
+pub fn honest_turns_begin<L: LogLink>()
+    ensures { HonestTurnsBegin L.asks }
+{}
+
+/// Which item of a log is the newest is said by the log's rows alone, whatever others come and go.
+pub fn newest_is_own()
+    ensures { NewestIsOwn }
+{}
+
+/// The newest part of an archive alone tells where the rows of all its parts end.
+pub fn parts_end_where_newest_tells()
+    ensures { PartsEndWhereNewestTells }
+{}
+
+/// Over every link, whoever answers: the rows of all parts, and what a run adds to the newest one that
+/// goes on where they end, cover each number up to the one that comes next, once.
+pub fn parts_go_on_covered<L: LogLink>()
+    ensures { PartsGoOnCovered (λ link id r M H. L.is_ours link id r M H) (λ link. L.failures link) }
+{}
+
+/// The rows of all parts that are one delivery, and those of a run that goes on from there, are one
+/// delivery.
+pub fn parts_are_kept()
+    ensures { PartsAreKept }
 {}

@@ -20,6 +20,17 @@ pub struct Pending {
     repeats: u8,
 }
 
+impl Pending {
+    fn copy(&self) -> Pending
+        ensures { result ≡ self.now }
+    {
+        Pending {
+            request: self.request.copy(),
+            repeats: self.repeats,
+        }
+    }
+}
+
 /// What is done when an answer didn't come in time.
 #[derive(Debug, Drop)]
 pub enum Timeout {
@@ -73,6 +84,37 @@ impl Transactions {
         let mut transactions = Transactions::new(retries);
         transactions.route = Some(route);
         transactions
+    }
+
+    /// The same again, with what is open.
+    pub fn copy(&self) -> Transactions
+        ensures { result ≡ self.now }
+    {
+        Transactions {
+            retries: self.retries,
+            route: self.route_copy(),
+            invoke: self.invoke,
+            begun: self.begun,
+            pending: self.pending_copy(),
+        }
+    }
+
+    fn route_copy(&self) -> Option<Route>
+        ensures { result ≡ self.now.route }
+    {
+        match self.dest() {
+            Some(far) => Route::new(far.net, far.address),
+            None => None,
+        }
+    }
+
+    fn pending_copy(&self) -> Option<Pending>
+        ensures { result ≡ self.now.pending }
+    {
+        match &self.pending {
+            Some(pending) => Some(pending.copy()),
+            None => None,
+        }
     }
 
     /// The place that requests are for.

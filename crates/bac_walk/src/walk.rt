@@ -74,6 +74,18 @@ impl Walk {
         })
     }
 
+    /// The same walk again.
+    pub fn copy(&self) -> Walk
+        ensures { result ≡ self.now }
+    {
+        Walk {
+            log: self.log,
+            next: self.next,
+            fresh: self.fresh,
+            asks_oldest: self.asks_oldest,
+        }
+    }
+
     /// The number that the walk asks for next; 1 if it begins at the oldest record and had no
     /// batch yet.
     pub fn next_number(&self) -> u32

@@ -1,0 +1,4 @@
+pub mod Mapped
+pub mod Records
+pub mod Nexts
+pub mod Dry
