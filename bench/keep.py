@@ -7,7 +7,7 @@ import subprocess
 import sys
 
 program, room, records, rows = sys.argv[1], sys.argv[2], int(sys.argv[3]), int(sys.argv[4])
-sys.path.insert(0, os.path.join(os.path.dirname(os.path.abspath(__file__)), "..", "examples"))
+sys.path.insert(0, os.path.join(os.path.dirname(os.path.abspath(__file__)), "..", "examples", "check"))
 from kept_devices import Device, Log, serve  # noqa: E402
 
 

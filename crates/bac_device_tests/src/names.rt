@@ -1,4 +1,4 @@
-//! A name that no script can give. Which other lines are refused is in examples/lines.rows.
+//! A name that no script can give. Which other lines are refused is in examples/check/lines.rows.
 
 use bac_device::{BuildFault, Device, DeviceLine, Name, ObjectLine};
 use bac_wire::Stamp;

@@ -1,5 +1,5 @@
 //! A run of datagrams, samples and clock steps in one call, which no program makes. One after the
-//! other they are in the scripts of examples/.
+//! other they are in examples/scripts.
 
 use bac_device::{ClockBack, Device, DeviceLine, Event, Name, ObjectLine, Outcome, SampleFault};
 use bac_wire::{ObjectId, Stamp};

@@ -1,6 +1,6 @@
 //! Finding devices over a port in memory: who is asked, in which order, and how it ends when a
 //! send, a receive or a write is refused. Which datagrams announce a device is in
-//! examples/finding.talk.
+//! examples/check/finding.talk.
 
 use crate::memory_port::{Coming, MemoryPort};
 use bac_apdu::WhoIs;

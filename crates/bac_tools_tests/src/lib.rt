@@ -1,6 +1,6 @@
 //! Tests of the program's crates over streams and ports in memory: the jobs of words, and the
 //! faults of readers, writers and ports that no contract can tell. What a script, a word or a
-//! datagram can show lies in examples/ as data.
+//! datagram can show lies in examples/check as data.
 #![tactic(auto)]
 
 #[cfg(test)]

@@ -1,5 +1,5 @@
 //! A link over a port in memory, and sockets of this machine. Which datagrams a link takes, and
-//! which it passes over, is in examples/asking.talk.
+//! which it passes over, is in examples/check/asking.talk.
 
 use crate::memory_port::{Coming, MemoryPort};
 use bac_link::{LogLink, Lost};

@@ -1,5 +1,5 @@
 //! The lines of a walk, written by hand. Each kind of value and of record is in
-//! examples/values-read.talk and examples/records.talk.
+//! examples/check/values-read.talk and examples/check/records.talk.
 
 use bac_log::{Datum, Entry};
 use bac_print::{push_gap, push_record};

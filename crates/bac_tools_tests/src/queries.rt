@@ -1,5 +1,5 @@
 //! What the tools print and with how many writes, over links that answer from a list and writers
-//! that refuse or take little at a time. What each answer prints is in examples/*.talk.
+//! that refuse or take little at a time. What each answer prints is in examples/check/*.talk.
 
 use bac_apdu::{ReadProperty, WriteProperty};
 use bac_link::{ExchangeFault, Request, Transactions};

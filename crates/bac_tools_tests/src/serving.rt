@@ -1,5 +1,5 @@
 //! A device that is served over a port in memory. Over sockets, and with the machine's clock, it is
-//! served by examples/edges.sh.
+//! served by examples/check/edges.sh.
 
 use crate::memory_port::{Coming, MemoryPort, MovingClock, NoClock};
 use bac_device::{Device, DeviceLine, Name, ObjectLine};

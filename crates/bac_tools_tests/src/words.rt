@@ -1,5 +1,5 @@
 //! Jobs that words come to: each tool with its defaults, and with the ends of each range. What no
-//! tool takes is in examples/words.rows.
+//! tool takes is in examples/check/words.rows.
 
 use bac_words::{Given, Job, ListFault, Stations, Word, WordsFault, read_addresses, read_words};
 use std::alloc::Global;

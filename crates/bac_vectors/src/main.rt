@@ -2,8 +2,8 @@
 //! data: `read_value 32 ff 80` is answered by `Ok((Signed(-128), 3))`.
 //!
 //! The rows are examples/vectors/*.vectors, each with the answer that the standard gives, and
-//! examples/vectors.sh compares. Only safety is proved here: what the calls answer is proved where
-//! they stand.
+//! examples/check/vectors.sh compares. Only safety is proved here: what the calls answer is proved
+//! where they stand.
 #![tactic(auto)]
 
 mod apdus;

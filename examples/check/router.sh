@@ -2,12 +2,12 @@
 # Finds, reads, writes and walks a device behind a small router (router.py), all on the loopback
 # interface: `bac serve` stands on network 7 with the address 0a01, and the tools ask the router.
 #
-#     examples/router.sh [PROGRAM]
+#     examples/check/router.sh [PROGRAM]
 #
 # PROGRAM is crates/bac/out/bac where none is given. The last line is `N passed, M failed`.
 set -u
 cd "$(dirname "$0")"
-program=$(realpath -- "${1:-../crates/bac/out/bac}")
+program=$(realpath -- "${1:-../../crates/bac/out/bac}")
 . ./limited.sh
 room=$(mktemp -d)
 server=
@@ -42,7 +42,7 @@ ended() {
 }
 
 # Replies of 50 octets hold one record each.
-sed s/1476/50/ plant.conf > "$room/small.conf"
+sed s/1476/50/ ../use/plant.conf > "$room/small.conf"
 for try in {1..50}; do
     device=127.0.0.1:$((20000 + RANDOM))
     "$program" serve "$device" < "$room/small.conf" > "$room/served" 2>&1 &

@@ -1,9 +1,9 @@
 #!/usr/bin/env python3
 """Gives a device changed datagrams through `bac replay`, and reads all of it behind them.
 
-    examples/hostile.py PROGRAM [SEED]
+    examples/check/hostile.py PROGRAM [SEED]
 
-The datagrams are those of the `rx` lines of this folder's scripts: each prefix of each, each change
+The datagrams are those of the `rx` lines of the scripts of ../scripts: each prefix of each, each change
 of one octet, and 100,000 with random changes (the seed is printed; give it again for the same run).
 Each must be answered by nothing or by a whole frame, and the program must go on. One that no
 SimpleACK answers must leave the device as it was, and an accepted write must change no object but
@@ -16,7 +16,7 @@ import subprocess
 import sys
 from concurrent.futures import ThreadPoolExecutor
 
-FOLDER = os.path.dirname(os.path.abspath(__file__))
+SCRIPTS = os.path.join(os.path.dirname(os.path.abspath(__file__)), "../scripts")
 LONGEST = 1501  # octets of a datagram
 MANY = 100_000  # random datagrams
 TOGETHER = 6_000  # datagrams of one script
@@ -43,11 +43,15 @@ class Wrong(Exception):
     pass
 
 
+def scripts():
+    return sorted(it for it in os.listdir(SCRIPTS) if it.endswith(".script"))
+
+
 def datagrams_of(*names):
     """The datagrams of the scripts with these names, each once."""
     found = {}
     for name in names:
-        with open(os.path.join(FOLDER, name), "rb") as lines:
+        with open(os.path.join(SCRIPTS, name), "rb") as lines:
             for line in lines:
                 if line.startswith(b"rx "):
                     found[bytes.fromhex(line[3:].decode())] = None
@@ -162,7 +166,7 @@ def changed_at_random(chance, base):
 
 
 def main(program, seed=None):
-    base = datagrams_of(*sorted(it for it in os.listdir(FOLDER) if it.endswith(".script")))
+    base = datagrams_of(*scripts())
     seed = int(seed) if seed else random.SystemRandom().randrange(10**9)
     print(f"seed {seed}", file=sys.stderr)
     chance = random.Random(seed)

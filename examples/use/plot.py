@@ -1,7 +1,7 @@
 #!/usr/bin/env python3
 """Draws the values of one kept log over time, as SVG:
 
-    examples/plot.py ARCHIVE ADDRESS INSTANCE > log.svg
+    examples/use/plot.py ARCHIVE ADDRESS INSTANCE > log.svg
 
 A line joins records that follow one another. None is drawn over a gap, over a record without a number, or to the
 records of a device that began anew."""

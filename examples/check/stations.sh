@@ -2,12 +2,12 @@
 # Asks 1,000 addresses of the loopback interface who is there, at each of which a station answers after
 # some milliseconds (stations.py): each answer has to be printed.
 #
-#     examples/stations.sh [PROGRAM]
+#     examples/check/stations.sh [PROGRAM]
 #
 # PROGRAM is crates/bac/out/bac where none is given. The last line is `N passed, M failed`.
 set -u
 cd "$(dirname "$0")"
-program=$(realpath -- "${1:-../crates/bac/out/bac}")
+program=$(realpath -- "${1:-../../crates/bac/out/bac}")
 . ./common.sh
 
 # stations MS TIMES SILENT: asks 1,000 stations that answer after MS milliseconds, TIMES times, but for the

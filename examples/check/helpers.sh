@@ -1,14 +1,14 @@
 #!/usr/bin/env bash
-# Checks what people take from this folder: object.sh and logs.sh over a served device, records.awk and records.gp on
+# Checks what people take from ../use: object.sh and logs.sh over a served device, records.awk and records.gp on
 # records of each kind, the completion of bac.bash in a bash on a terminal, and the units of systemd/.
 #
-#     examples/helpers.sh [PROGRAM]
+#     examples/check/helpers.sh [PROGRAM]
 #
 # PROGRAM is crates/bac/out/bac where none is given. gnuplot and systemd-analyze are used if they are there. The last
 # line is `N passed, M failed`.
 set -u
 cd "$(dirname "$0")"
-program=$(realpath -- "${1:-../crates/bac/out/bac}")
+program=$(realpath -- "${1:-../../crates/bac/out/bac}")
 . ./common.sh
 export BAC=$program
 
@@ -18,27 +18,27 @@ has() { command -v "$1" > /dev/null || { echo "$1 isn't there: what it checks is
 # ---- an object by the names of its properties, and the logs of a device
 
 # Replies of 50 octets hold a list of seven objects; this device has nine.
-{ sed s/1476/50/ plant.conf; printf 'integer %d n%d 0\n' 2 2 3 3 4 4; } > "$room/small.conf"
+{ sed s/1476/50/ ../use/plant.conf; printf 'integer %d n%d 0\n' 2 2 3 3 4 4; } > "$room/small.conf"
 served "$room/small.conf"
-./object.sh "$at" 5 1 > "$room/out" 2> "$room/err"
+../use/object.sh "$at" 5 1 > "$room/out" 2> "$room/err"
 is 'an object' "$? $(grep -c . "$room/out") $(grep 'Object_Name\|Present_Value' "$room/out" | tr -s ' ' | tr '\n' ';') $(cat "$room/err")" \
     '0 9 Object_Name "pump";Present_Value enum(0); '
-./object.sh "$at" 8 123 > "$room/out" 2> "$room/err"
+../use/object.sh "$at" 8 123 > "$room/out" 2> "$room/err"
 is 'a list that is too long for one answer' "$? $(grep Object_List "$room/out" | tr -s ' ')" \
     '0 Object_List object(8,123) object(5,1) object(19,1) object(45,1) object(20,1) object(20,2) object(45,2) object(45,3) object(45,4)'
-./object.sh "$at" 5 2 > "$room/out" 2> "$room/err"
+../use/object.sh "$at" 5 2 > "$room/out" 2> "$room/err"
 is 'an object that is not there' "$? $(cat "$room/out" "$room/err")" '3 refused: error 1 31'
-./object.sh "$at" > "$room/out" 2> "$room/err"
+../use/object.sh "$at" > "$room/out" 2> "$room/err"
 is 'words that are missing' "$? $(cat "$room/out" "$room/err")" '1 usage: object.sh ADDRESS TYPE INSTANCE [OPTION..]'
-./object.sh 127.77.77.77:9 8 123 --timeout=100 --retries=0 > "$room/out" 2> "$room/err"
+../use/object.sh 127.77.77.77:9 8 123 --timeout=100 --retries=0 > "$room/out" 2> "$room/err"
 is 'an object of nobody, with options' "$? $(cat "$room/out" "$room/err")" '2 lost'
 
 bac wp "$at" 20 2 133 0 1 --value=0
 bac wp "$at" 20 1 133 0 1 --value=0
-./logs.sh "$at" > "$room/out" 2> "$room/err"
+../use/logs.sh "$at" > "$room/out" 2> "$room/err"
 is 'the logs of a device' "$? $(sed 's/^1 \(.*\) records [1-9][0-9]* of [1-9][0-9]* /1 \1 records N of N /' "$room/out" | tr '\n' ';')$(cat "$room/err")" \
     '0 1 "pump-trend" records N of N enabled false;2 "by-hand" records 1 of 1 enabled false;'
-./logs.sh 127.77.77.77:9 --timeout=100 --retries=0 > "$room/out" 2> "$room/err"
+../use/logs.sh 127.77.77.77:9 --timeout=100 --retries=0 > "$room/out" 2> "$room/err"
 is 'the logs of nobody' "$? $(cat "$room/out" "$room/err")" $'2 lost\nno answer came from 127.77.77.77:9'
 unserved
 
@@ -54,12 +54,12 @@ typed 'bac log 10.0.0.1:47808 1 o' 'bac log 10.0.0.1:47808 1 oldest '
 typed 'bac log --retries=1 10.0.0.1:47808 1 o' 'bac log --retries=1 10.0.0.1:47808 1 oldest '
 typed 'bac log 10.0.0.1 o' 'bac log 10.0.0.1 o'
 typed 'bac log 10.0.0.1 1 1 --steps=o' 'bac log 10.0.0.1 1 1 --steps=o'
-typed 'bac serve 127.0.0.1 < plant.c' 'bac serve 127.0.0.1 < plant.conf '
-typed 'bac serve 127.0.0.1:47809 <plant.c' 'bac serve 127.0.0.1:47809 <plant.conf '
-typed 'bac replay < walk.scr' 'bac replay < walk.script '
+typed 'bac serve 127.0.0.1 < ../use/plant.c' 'bac serve 127.0.0.1 < ../use/plant.conf '
+typed 'bac serve 127.0.0.1:47809 <../use/plant.c' 'bac serve 127.0.0.1:47809 <../use/plant.conf '
+typed 'bac replay < ../scripts/walk.scr' 'bac replay < ../scripts/walk.script '
 typed 'bac log 10.0.0.1 1 1 > help' 'bac log 10.0.0.1 1 1 > helpers.sh '
-typed 'bac keep plant.c' 'bac keep plant.conf '
-typed 'bac kept plant.c' 'bac kept plant.conf '
+typed 'bac keep ../use/plant.c' 'bac keep ../use/plant.conf '
+typed 'bac kept ../use/plant.c' 'bac kept ../use/plant.conf '
 typed 'bac help ser' 'bac help serve '
 # Each option that the help of a tool names, without its last letter.
 for tool in wi rp wp log keep kept serve replay; do
@@ -67,9 +67,9 @@ for tool in wi rp wp log keep kept serve replay; do
         typed "bac $tool ${option%?}" "bac $tool $option${value:-' '}"
     done < <(sed -nE 's/^ +(-h, )?(--[a-z]+) <.*/\2 =/p; s/^ +(-h, )?(--[a-z]+)( [^<].*)?$/\2/p' "$tool.help")
 done
-is 'completion' "$(./complete.py ./bac.bash "${typed[@]}" 2>&1)" "$(printf '%s\n' "${wanted[@]}" | sed "s/' '$/ /")"
+is 'completion' "$(./complete.py ../use/bac.bash "${typed[@]}" 2>&1)" "$(printf '%s\n' "${wanted[@]}" | sed "s/' '$/ /")"
 # And no other: what is completed of an option's first letters is all that the help names.
-completed() { bash -c '. ./bac.bash; compopt() { :; }; COMP_LINE=$1 COMP_POINT=${#1}; _bac; printf "%s\n" "${COMPREPLY[@]}"' _ "$1"; }
+completed() { bash -c '. ../use/bac.bash; compopt() { :; }; COMP_LINE=$1 COMP_POINT=${#1}; _bac; printf "%s\n" "${COMPREPLY[@]}"' _ "$1"; }
 for tool in wi rp wp log keep kept serve replay; do
     is "the options of $tool" "$(completed "bac $tool --" | tr -d = | sort | tr '\n' ' ')" \
         "$(sed -nE 's/^ +(-h, )?(--[a-z]+).*/\2/p' "$tool.help" | sort | tr '\n' ' ')"
@@ -78,7 +78,7 @@ done
 # ---- records as CSV: each kind of datum; 41c80000 is 25, 3dcccccd 0.1, c0490fdb -pi, 00000001 the least,
 # c5610000 -3600
 
-awk -f records.awk > "$room/records.csv" 2> "$room/err" <<'L'
+awk -f ../use/records.awk > "$room/records.csv" 2> "$room/err" <<'L'
 gap 1 2
 3 2024-05-06T07:08:09.10 real(41c80000) 0101
 4 2024-05-06T07:08:09.10 real(3dcccccd) -
@@ -126,7 +126,7 @@ is 'the end beside it' "$(cat "$room/err")" 'caught up, next 2'
 # empty line, or a point that is none (u), where a line ends.
 
 if has gnuplot; then
-    awk -f records.awk > "$room/records.csv" 2> /dev/null <<'L'
+    awk -f ../use/records.awk > "$room/records.csv" 2> /dev/null <<'L'
 1 2024-05-06T07:08:09.10 real(41c80000) -
 2 2024-05-06T07:09:09.10 real(41d00000) -
 gap 3 4
@@ -139,9 +139,9 @@ began anew
 2 2024-05-06T07:09:09.10 enum(0) -
 caught up, next 3
 L
-    (cd "$room" && gnuplot "$OLDPWD/records.gp" 2> err && head -c 8 records.png | od -An -c | tr -d ' ') > "$room/out"
+    (cd "$room" && gnuplot "$OLDPWD/../use/records.gp" 2> err && head -c 8 records.png | od -An -c | tr -d ' ') > "$room/out"
     is 'a drawing' "$(cat "$room/out" "$room/err")" '211PNG\r\n032\n'
-    sed "s/^set terminal.*/set table 'table'/; /^set output/d; s/^set format x.*/set format x '%H:%M'/" records.gp > "$room/table.gp"
+    sed "s/^set terminal.*/set table 'table'/; /^set output/d; s/^set format x.*/set format x '%H:%M'/" ../use/records.gp > "$room/table.gp"
     (cd "$room" && gnuplot table.gp 2> err)
     is 'points, and where a line ends' "$(awk '/^#/ { next } /[0-9]/ && $NF != "u" { line = line " " $1 "=" $2; next }
         line != "" { print line; line = "" } END { if (line != "") print line }' "$room/table")" \
@@ -152,7 +152,7 @@ fi
 
 if has systemd-analyze; then
     mkdir "$room/units"
-    for unit in systemd/*; do
+    for unit in ../use/systemd/*; do
         sed "s|/usr/local/bin/bac|$program|" "$unit" > "$room/units/$(basename "$unit")"
     done
     for unit in bac-serve@plant.service bac-site@plant.service bac-site@plant.timer; do

@@ -2,12 +2,12 @@
 # Plays the rows of lines.rows (scripts of a few lines) and words.rows (words that no tool takes), and
 # compares the status, the output and what is told. What is told of a number is mended to either end of its range.
 #
-#     examples/rows.sh [PROGRAM]
+#     examples/check/rows.sh [PROGRAM]
 #
 # PROGRAM is crates/bac/out/bac where none is given. The last line is `N passed, M failed`.
 set -u
 cd "$(dirname "$0")"
-program=$(realpath -- "${1:-../crates/bac/out/bac}")
+program=$(realpath -- "${1:-../../crates/bac/out/bac}")
 . ./limited.sh
 room=$(mktemp -d)
 trap 'rm -rf "$room"' EXIT

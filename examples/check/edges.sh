@@ -3,12 +3,12 @@
 # signals, a log that fills while nobody asks, clap's text, and the sizes of answers. The waits to the
 # millisecond, each look at the clock and many signals are in faults.py.
 #
-#     examples/edges.sh [PROGRAM]
+#     examples/check/edges.sh [PROGRAM]
 #
 # PROGRAM is crates/bac/out/bac where none is given. The last line is `N passed, M failed`.
 set -u
 cd "$(dirname "$0")"
-program=$(realpath -- "${1:-../crates/bac/out/bac}")
+program=$(realpath -- "${1:-../../crates/bac/out/bac}")
 . ./common.sh
 
 # ---- waits
@@ -38,7 +38,7 @@ lasts 'rp with its three seconds' 3000 5900 rp $silent 8 123 77 --retries=0
 # A port of its two octets, high one first: Who-Is from the shell ends a server of one datagram.
 for port in 43981 47808; do
     if [ $port = 47808 ]; then at=127.77.1.$((RANDOM % 250 + 1)); else at=127.77.2.$((RANDOM % 250 + 1)):$port; fi
-    "$program" serve "$at" --count=1 < plant.conf > "$room/served" 2>&1 &
+    "$program" serve "$at" --count=1 < ../use/plant.conf > "$room/served" 2>&1 &
     server=$!
     for try in {1..50}; do
         printf '\x81\x0a\x00\x08\x01\x00\x10\x08' > "/dev/udp/${at%:*}/$port"
@@ -90,7 +90,7 @@ done
 
 # ---- the machine's clock, and a log that fills while nobody asks
 
-served plant.conf
+served ../use/plant.conf
 sleep 3.3
 bac log "$at" 1 oldest
 is 'a record each second, while nobody asked' "$([ "$(wc -l < "$room/out")" -ge 4 ] && echo yes)" yes
@@ -119,8 +119,8 @@ is 'hundredths of a second' "$([ "$(cat "$room/hundredths")" -ge 2 ] && echo yes
 # ---- signals
 
 # A server that is stopped and goes on answers, whether a log wakes it up or not.
-for configuration in plant.conf "$room/quiet.conf"; do
-    sed 's/100 0$/0 0/' plant.conf > "$room/quiet.conf"
+for configuration in ../use/plant.conf "$room/quiet.conf"; do
+    sed 's/100 0$/0 0/' ../use/plant.conf > "$room/quiet.conf"
     unserved
     served "$configuration"
     for turn in 1 2 3; do

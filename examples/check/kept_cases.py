@@ -17,7 +17,8 @@ from kept_judge import wrongs
 from kept_rounds import one, rounds, said
 from kept_terminal import terminals
 
-FOLDER = os.path.dirname(os.path.abspath(__file__))
+TOP = os.path.realpath(os.path.join(os.path.dirname(__file__), "../.."))
+USE = f"{TOP}/examples/use"
 QUICK = ("--timeout=60", "--retries=0")
 
 
@@ -290,7 +291,7 @@ def printed(judge, _runs):
     values = [value for _, value, _, _ in log.lives[0].values() if value is not None]
     kept = [row[6] for row in rows if row[1] == 1 and row[6] is not None]
     judge.is_right("values are kept", len(kept) > 50 and set(kept) <= set(values), kept[:5])
-    with open(f"{FOLDER}/../docs/ARCHIVE.md") as page:
+    with open(f"{TOP}/docs/ARCHIVE.md") as page:
         statement = re.search(r"\n    (SELECT address, trend_log, name, avg.*?;)\n", page.read(), re.S)[1]
     count = sum(row[1] == 1 and row[4] is None for row in rows)
     base = sqlite3.connect(file)
@@ -302,7 +303,7 @@ def printed(judge, _runs):
 
 def plot(judge, file, address, rows):
     """A line where record follows record, and none over a gap or a record without a number."""
-    drawn = subprocess.run([sys.executable, f"{FOLDER}/plot.py", file, address, "1"], capture_output=True, text=True)
+    drawn = subprocess.run([sys.executable, f"{USE}/plot.py", file, address, "1"], capture_output=True, text=True)
     lines, before = [[]], None
     for row in (row for row in rows if row[1] == 1):
         if row[4] or row[6] is None or row[6] in (float("inf"), float("-inf")):
@@ -328,7 +329,7 @@ def taken_over(judge, _runs):
     lines = old + "began anew: 60 records, and 21 was next\n" + "gap 1 10\n" + text(range(11, 31)) + "caught up, next 31\n" + text([31])
 
     def take(*words):
-        return subprocess.run([sys.executable, f"{FOLDER}/takeover.py", *words], capture_output=True, text=True)
+        return subprocess.run([sys.executable, f"{USE}/takeover.py", *words], capture_output=True, text=True)
 
     for name, wrong, why in (("no line of bac log", lines.replace("\n25 ", "\n25:", 1), "it is no record, gap or end of a walk: 25:"),
                              ("a number twice", lines.replace("\n15 ", "\n14 ", 1), "14 stands where 15 is next"),
@@ -375,7 +376,7 @@ def served(judge, _runs):
         nonlocal address, server
         for _try in range(50):
             at = address or f"127.0.0.1:{20000 + chance.randrange(9000)}"
-            with open(f"{FOLDER}/plant.conf") as lines:
+            with open(f"{USE}/plant.conf") as lines:
                 server = subprocess.Popen([judge.program, "serve", at], stdin=lines, stderr=subprocess.PIPE)
             if server.stderr.readline().startswith(b"serving"):
                 address = at
@@ -410,7 +411,7 @@ def served(judge, _runs):
         switched(9)
         kept("restarted, and past the old number", 10, 0, 11, anew=True)
         kept("and nothing new", 0, 0, 11)
-        site = subprocess.run(["bash", f"{FOLDER}/site.sh", f"{judge.room}/site.db"], input=f"127.77.77.77:9\n{address}\n", text=True,
+        site = subprocess.run(["bash", f"{USE}/site.sh", f"{judge.room}/site.db"], input=f"127.77.77.77:9\n{address}\n", text=True,
                               capture_output=True, env={**os.environ, "BAC": judge.program})
         right = re.fullmatch(rf"{address} 1 \d+ records? 0 gaps caught up, next \d+\n{address} 2 10 records 0 gaps caught up, next 11\n", site.stdout)
         judge.is_right("site.sh", site.returncode == 0 and right and site.stderr == "", f"{site.returncode}: {site.stdout} {site.stderr}")

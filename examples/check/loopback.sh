@@ -3,17 +3,17 @@
 # tools, each as a program of its own. A walk is stopped after each few replies and resumed at the
 # number that it printed; no record may be lost or come twice.
 #
-#     examples/loopback.sh [PROGRAM]
+#     examples/check/loopback.sh [PROGRAM]
 #
 # PROGRAM is crates/bac/out/bac where none is given. The last line is `N passed, M failed`.
 set -u
 cd "$(dirname "$0")"
-program=$(realpath -- "${1:-../crates/bac/out/bac}")
+program=$(realpath -- "${1:-../../crates/bac/out/bac}")
 . ./common.sh
 
 # ---- a server of one datagram
 
-served plant.conf --count=1
+served ../use/plant.conf --count=1
 is 'found' "$said" "I-Am 123 $at max-apdu 1476 segmentation 3 vendor 0||0"
 wait "$server"
 status=$?
@@ -38,9 +38,9 @@ is 'nobody is there to walk' "$said" 'lost, next 1||2'
 # ---- a server
 
 # Replies of 50 octets hold one record each.
-sed s/1476/50/ plant.conf > "$room/small.conf"
+sed s/1476/50/ ../use/plant.conf > "$room/small.conf"
 served "$room/small.conf"
-bac serve "$at" --count=0 < plant.conf
+bac serve "$at" --count=0 < ../use/plant.conf
 is 'an address in use' "$said" '|socket fault|2'
 bac wi "$at" --min=124 --timeout=250
 is 'another instance' "$said" '|no answer

@@ -2,7 +2,7 @@
 # Lists the trend logs of a device: for each its instance, its name, how many records it holds, how many it ever had,
 # and whether it is enabled.
 #
-#     examples/logs.sh ADDRESS [OPTION..]
+#     examples/use/logs.sh ADDRESS [OPTION..]
 #
 # The options are those of `bac rp` that say how the device is asked. Object_List is read element by element, so it may
 # be longer than an answer. `-` stands for what a log doesn't tell. The status is 0, and else that of `bac rp` for

@@ -2,12 +2,12 @@
 # A device among strangers: changed datagrams (hostile.py), scripts of line feeds alone, addresses in
 # use, and a server that is flooded while a client walks its log. Only 127.0.0.1 is spoken to.
 #
-#     examples/hostile.sh [PROGRAM [SEED]]
+#     examples/check/hostile.sh [PROGRAM [SEED]]
 #
 # PROGRAM is crates/bac/out/bac where none is given. The last line is `N passed, M failed`.
 set -u
 cd "$(dirname "$0")"
-program=$(realpath -- "${1:-../crates/bac/out/bac}")
+program=$(realpath -- "${1:-../../crates/bac/out/bac}")
 limit=1200
 . ./common.sh
 
@@ -23,7 +23,7 @@ is 'and one more' "$said" '|script too long|1'
 # ---- a flood
 
 # Replies of 50 octets: a walk of the log asks once for each record.
-sed s/1476/50/ plant.conf > "$room/small.conf"
+sed s/1476/50/ ../use/plant.conf > "$room/small.conf"
 served "$room/small.conf"
 bac rp 127.77.77.77:9 8 123 77 --local="$at" --timeout=100
 is 'an address in use' "$said" '|socket fault|2'

@@ -1,14 +1,14 @@
 #!/usr/bin/env bash
-# Gives each row of vectors/*.vectors, `CALL INPUT -> ANSWER`, to a built `bac_vectors`, which sees
+# Gives each row of ../vectors/*.vectors, `CALL INPUT -> ANSWER`, to a built `bac_vectors`, which sees
 # the call and its input alone, and compares. Lines that begin with # are comments.
 #
-#     examples/vectors.sh [PROGRAM]
+#     examples/check/vectors.sh [PROGRAM]
 #
 # PROGRAM is crates/bac_vectors/out/bac_vectors if none is given. The last line is
 # `N passed, M failed`.
 set -u
 cd "$(dirname "$0")"
-program=$(realpath -m -- "${1:-../crates/bac_vectors/out/bac_vectors}")
+program=$(realpath -m -- "${1:-../../crates/bac_vectors/out/bac_vectors}")
 . ./limited.sh
 room=$(mktemp -d)
 trap 'rm -rf "$room"' EXIT
@@ -21,7 +21,7 @@ if [ ! -x "$program" ]; then
     exit 1
 fi
 
-for file in vectors/*.vectors; do
+for file in ../vectors/*.vectors; do
     row "$file"
     grep -v -e '^#' -e '^$' "$file" > "$room/rows"
     sed 's/ -> .*//' "$room/rows" > "$room/calls"

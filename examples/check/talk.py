@@ -1,7 +1,7 @@
 #!/usr/bin/env python3
 """Plays the talks of this folder: `bac` speaks to sockets that say what the files say.
 
-    examples/talk.py PROGRAM [FILE..]
+    examples/check/talk.py PROGRAM [FILE..]
 
 Each FILE, or each *.talk of this folder, has talks of these lines:
 

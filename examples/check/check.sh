@@ -1,13 +1,13 @@
 #!/usr/bin/env bash
-# Runs a built `bac` on each script of this folder, and on words, streams and scripts that end in a
+# Runs a built `bac` on each script of ../scripts, and on words, streams and scripts that end in a
 # fault, and compares what it prints, what it tells on standard error, and its exit status.
 #
-#     examples/check.sh [PROGRAM]
+#     examples/check/check.sh [PROGRAM]
 #
 # PROGRAM is crates/bac/out/bac where none is given. The last line is `N passed, M failed`.
 set -u
 cd "$(dirname "$0")"
-program=$(realpath -- "${1:-../crates/bac/out/bac}")
+program=$(realpath -- "${1:-../../crates/bac/out/bac}")
 # All of it: the scripts that it runs have limits of their own.
 limit=7200
 . ./limited.sh
@@ -32,9 +32,9 @@ ended() {
 
 bac() { "$program" "$@" > "$room/out" 2> "$room/err"; }
 
-for script in *.script; do
+for script in ../scripts/*.script; do
     bac replay < "$script"
-    ended "$script" 0 '' "${script%.script}.out"
+    ended "$(basename "$script")" 0 '' "${script%.script}.out"
 done
 
 # What was answered before a fault stays printed.
@@ -98,11 +98,11 @@ mistaken() {
     (exit "$status")
     ended "$1" 1 $'told\n'
 }
-bac < who-is.script
+bac < ../scripts/who-is.script
 mistaken 'no word'
-bac Replay < who-is.script
+bac Replay < ../scripts/who-is.script
 mistaken 'another word'
-bac replay again < who-is.script
+bac replay again < ../scripts/who-is.script
 mistaken 'a second word'
 bac rp
 mistaken 'no words for rp'
@@ -201,7 +201,7 @@ wrong 'a list and an address' 'ADDRESS: A.B.C.D or A.B.C.D:PORT, each of A to D 
 # Configurations that are none.
 bac serve 127.0.0.1 < /dev/null
 wrong 'no device line' 'no device line'
-bac serve 127.0.0.1 < who-is.script
+bac serve 127.0.0.1 < ../scripts/who-is.script
 ended 'an event in a configuration' 1 $'line 21: bad line\n'"$event"$'\n'
 bac serve 127.0.0.1 < "$room/named"
 ended 'an event behind two objects of one name' 1 $'line 4: bad line\n'"$event"$'\n'
@@ -241,14 +241,14 @@ bac wp 127.0.0.1 5 1 85 8 0 --local=192.0.2.1
 ended 'an address of another machine for wp' 2 $'socket fault\n'
 bac log 127.0.0.1 1 1 --local=192.0.2.1
 ended 'an address of another machine for log' 2 $'socket fault\n'
-bac serve 192.0.2.1 < plant.conf
+bac serve 192.0.2.1 < ../use/plant.conf
 ended 'a server at an address of another machine' 2 $'socket fault\n'
 at=127.77.77.77:$((20000 + RANDOM))
-bac serve "$at" --count=0 < plant.conf
+bac serve "$at" --count=0 < ../use/plant.conf
 ended 'a server of no datagram' 0 "serving $at"$'\n'
-bac serve "${at%:*}" --count=0 < plant.conf
+bac serve "${at%:*}" --count=0 < ../use/plant.conf
 ended 'a server at the port of BACnet' 0 "serving ${at%:*}:47808"$'\n'
-"$program" serve "$at" --count=0 < plant.conf > "$room/out" 2> /dev/full
+"$program" serve "$at" --count=0 < ../use/plant.conf > "$room/out" 2> /dev/full
 status=$?
 : > "$room/err"
 (exit "$status")
@@ -262,11 +262,11 @@ ended 'a folder as input' 2 $'read fault\n'
 bac replay <&-
 ended 'no input' 2 $'read fault\n'
 : > "$room/out"
-"$program" replay < who-is.script > /dev/full 2> "$room/err"
+"$program" replay < ../scripts/who-is.script > /dev/full 2> "$room/err"
 ended 'a full disk' 2 $'write fault\n'
 "$program" replay < "$room/bad" > /dev/full 2> "$room/err"
 ended 'a full disk before a bad line' 2 $'write fault\n'
-"$program" replay < who-is.script >&- 2> "$room/err"
+"$program" replay < ../scripts/who-is.script >&- 2> "$room/err"
 ended 'no output' 2 $'write fault\n'
 
 : > "$room/out"
@@ -305,8 +305,8 @@ counted ./hostile.sh
 # Memory, streams and sockets that are refused.
 counted ./faults.py
 
-# The rows of vectors/, by a program of their own.
-counted ./vectors.sh ../crates/bac_vectors/out/bac_vectors
+# The rows of ../vectors, by a program of their own.
+counted ./vectors.sh ../../crates/bac_vectors/out/bac_vectors
 
 echo "$passed passed, $failed failed"
 [ "$failed" -eq 0 ]

@@ -2,7 +2,7 @@
 """Refuses memory, reads, writes and sockets to the built programs, one call after the other; sees how
 long their receives wait, and sets the clock that they look at.
 
-    examples/faults.py PROGRAM [VECTORS]
+    examples/check/faults.py PROGRAM [VECTORS]
 
 faults.c, which `$CC` or `cc` compiles, is loaded into the program and refuses its k-th call: for
 every k until a run has no k-th one. VECTORS is a built `bac_vectors`, crates/bac_vectors/out's if it
@@ -22,6 +22,7 @@ import time
 from concurrent.futures import ThreadPoolExecutor
 
 FOLDER = os.path.dirname(os.path.abspath(__file__))
+EXAMPLES = os.path.dirname(FOLDER)
 EVERY = 10**9  # calls refused, from the k-th on
 MEMORY = b"out of memory\n"
 SCRIPTS = ("walk", "resumed-walk", "source-of-each-kind")
@@ -32,7 +33,7 @@ class Wrong(Exception):
 
 
 def text_of(name):
-    with open(os.path.join(FOLDER, name), "rb") as file:
+    with open(os.path.join(EXAMPLES, name), "rb") as file:
         return file.read()
 
 
@@ -112,7 +113,7 @@ def front(whole, printed):
 
 def script_without_memory(program, name):
     """The output ends behind an event: without memory nothing of a walk is written."""
-    script, output = text_of(name + ".script"), text_of(name + ".out")
+    script, output = text_of(f"scripts/{name}.script"), text_of(f"scripts/{name}.out")
     ends = [at for at, octet in enumerate(script, 1) if octet == ord("\n")]
     fronts = {b"", *(lines_before(script, output, at) for at in ends)}
 
@@ -131,10 +132,10 @@ def words_without_memory(program):
     served = ["serve", "127.77.77.77:47813", "--count=0"]
     up = b"serving 127.77.77.77:47813\n"
     return [
-        ("memory of help", without_memory, program, ["log", "--help"], b"", 0, text_of("log.help")),
+        ("memory of help", without_memory, program, ["log", "--help"], b"", 0, text_of("check/log.help")),
         ("memory of a mistake", without_memory, program, ["rp"], b"", 1, b"", usage.errors),
         ("memory of a bad value", without_memory, program, [*rp, "1024", "1", "77"], b"", 1, b"", bad),
-        ("memory of a server", without_memory, program, served, text_of("plant.conf"), 0, b"", up),
+        ("memory of a server", without_memory, program, served, text_of("use/plant.conf"), 0, b"", up),
     ]
 
 
@@ -211,7 +212,7 @@ def lines_before(script, output, size):
 
 def reads_refused(program, name):
     """Each read refused, where each brings an octet and where it brings what it can; and interrupted."""
-    script, output = text_of(name + ".script"), text_of(name + ".out")
+    script, output = text_of(f"scripts/{name}.script"), text_of(f"scripts/{name}.out")
     if lines_before(script, output, len(script)) != output:
         raise Wrong("the script and its output don't belong together")
     run = (program, ["replay"], script)
@@ -242,7 +243,7 @@ def refused_whole(script, output):
 
 def writes_refused(program, name):
     """Each write refused, where each takes an octet: the output ends there, whatever was left to write."""
-    script, output = text_of(name + ".script"), text_of(name + ".out")
+    script, output = text_of(f"scripts/{name}.script"), text_of(f"scripts/{name}.out")
     run = (program, ["replay"], script)
 
     def refused(at, ended):
@@ -275,7 +276,7 @@ def lines_refused(program):
         (["rp", "10.0.0.1", "1024", "1", "77"], b"", 1),
         (["rp", "127.77.77.77:9", "8", "123", "77", "--timeout=1", "--retries=0"], b"", 2),
         (["replay"], b"rx 8\n", 1),
-        (["serve", "127.77.77.77:47816", "--count=0"], text_of("plant.conf"), 0),
+        (["serve", "127.77.77.77:47816", "--count=0"], text_of("use/plant.conf"), 0),
     ):
         run = (program, words, given)
         if not Ended(*run).errors:
@@ -287,7 +288,7 @@ def lines_refused(program):
 
 
 def configuration_refused(program):
-    configuration = b"".join(text_of("plant.conf").splitlines(keepends=True)[2:4])
+    configuration = b"".join(text_of("use/plant.conf").splitlines(keepends=True)[2:4])
     run = (program, ["serve", "127.77.77.77:47813", "--count=0"], configuration)
     Ended(*run).must(0, b"", b"serving 127.77.77.77:47813\n")
 
@@ -452,7 +453,7 @@ def waits(program, configuration):
     waited(["rp", at, "8", "123", "77"], b"", errno.EAGAIN, [3_000_000] * 4)
     waited(["wi", at], b"", errno.EAGAIN, [3_000_000])
     served = ["serve", "127.77.77.77:47817", "--count=1"]
-    waited(served, text_of("plant.conf"), errno.EIO, [200_000])
+    waited(served, text_of("use/plant.conf"), errno.EIO, [200_000])
     waited(served, configuration, errno.EIO, [0])
     return "done"
 
@@ -517,7 +518,7 @@ def datagrams():
     sys.path.insert(0, FOLDER)
     import hostile
 
-    return hostile.datagrams_of(*sorted(it for it in os.listdir(FOLDER) if it.endswith(".script")))
+    return hostile.datagrams_of(*hostile.scripts())
 
 
 # ---- all of them
@@ -534,9 +535,9 @@ def played(name, check, *words):
     return True
 
 
-def main(program, vectors=os.path.join(FOLDER, "../crates/bac_vectors/out/bac_vectors")):
+def main(program, vectors=os.path.join(FOLDER, "../../crates/bac_vectors/out/bac_vectors")):
     program, vectors = os.path.realpath(program), os.path.realpath(vectors)
-    configuration = text_of("plant.conf").replace(b" 100 0\n", b" 0 0\n")
+    configuration = text_of("use/plant.conf").replace(b" 100 0\n", b" 0 0\n")
     with Server(program, configuration) as server, ThreadPoolExecutor(4) as pool:
         checks = [
             *tools_without_memory(program, server.at, Peer().at),

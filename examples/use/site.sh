@@ -1,7 +1,7 @@
 #!/usr/bin/env bash
 # Finds the devices at a list of addresses, and keeps the trend logs of each in one file.
 #
-#     examples/site.sh FILE < ADDRESSES
+#     examples/use/site.sh FILE < ADDRESSES
 #
 # ADDRESSES has an address a line. Each device that answers is asked for its trend logs, which are added to FILE; from then on
 # `bac keep FILE` fetches what is new of all. $BAC is the program, or else `bac`. The status is the greatest of the runs'.
