@@ -305,6 +305,9 @@ counted ./hostile.sh
 # Memory, streams and sockets that are refused.
 counted ./faults.py
 
+# The program of the first minute beside `bac replay`.
+counted ./replay.sh
+
 # The rows of ../vectors, by a program of their own.
 counted ./vectors.sh ../../crates/bac_vectors/out/bac_vectors
 

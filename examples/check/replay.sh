@@ -1,0 +1,55 @@
+#!/usr/bin/env bash
+# Compares `bac_replay`, the program of README's first minute, with `bac replay`: the same output for each script of
+# ../scripts, and the same output and first line on standard error for scripts that end in a fault, with status 1. Then README itself: what
+# stands below its first command is what the command prints.
+#
+#     examples/check/replay.sh [PROGRAM [REPLAY]]
+#
+# They are crates/bac/out/bac and crates/bac_replay/out/bac_replay where none is given. The last line is
+# `N passed, M failed`.
+set -u
+cd "$(dirname "$0")" || exit 1
+program=$(realpath -- "${1:-../../crates/bac/out/bac}")
+set -- "$program" "$(realpath -m -- "${2:-../../crates/bac_replay/out/bac_replay}")"
+. ./common.sh
+replay=$2
+
+if [ ! -x "$replay" ]; then
+    echo "bac_replay isn't built: 'rt run' in crates/bac_replay does it"
+    echo '0 passed, 1 failed'
+    exit 1
+fi
+
+# alike NAME: both programs with what $room/script holds
+alike() {
+    "$program" replay < "$room/script" > "$room/out" 2> "$room/err"
+    status=$?
+    "$replay" < "$room/script" > "$room/small" 2> "$room/told"
+    is "$1" "$? $(head -n 1 "$room/told") $(cksum < "$room/small")" "$status $(head -n 1 "$room/err") $(cksum < "$room/out")"
+}
+
+for script in ../scripts/*.script; do
+    cp "$script" "$room/script"
+    alike "$(basename "$script")"
+done
+device='device 123 plant 0 1476 2024-05-06T07:08:09.10'
+printf '%s\n' "$device" 'binary 1 pump 0' 'log 1 trend binary 1 3 0 0' 'sample 1' 'walk 1 1 10' 'rx 8' > "$room/script"
+alike 'a bad line behind a walk'
+printf '%s\n' "$device" 'binary 1 pump 0' 'binary 2 pump 0' 'sample 1' > "$room/script"
+alike 'a device that cannot be built'
+{ printf '%s\n' "$device"; yes ''; } 2> /dev/null | head -c 1048577 > "$room/script"
+alike 'a script that is too long'
+
+# README's first command, and the indented lines below it.
+first='^    \(cd crates/bac(_replay)? && rt try (-- replay )?< \.\./\.\./(examples/scripts/[a-z-]+\.script)\)$'
+script=$(sed -nE "s|$first|\\3|p" ../../README.md)
+is 'one first command' "$(grep -c . <<< "$script")" 1
+"$replay" < "../../$script" > "$room/small"
+awk -v first="$first" '$0 ~ first { found = 1; next } !found { next }
+    /^    / { print substr($0, 5); lines = 1; next } lines { exit }' ../../README.md > "$room/shown"
+is 'lines below it' "$(($(wc -l < "$room/shown") > 1))" 1
+is 'they are printed, in one piece' "$(python3 -c 'import sys
+small, shown = (open(it).read() for it in sys.argv[1:])
+print(("\n" + small).count("\n" + shown))' "$room/small" "$room/shown")" 1
+
+counted
