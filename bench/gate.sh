@@ -4,9 +4,10 @@
 # crates, for which the gate waits however many processors there are, and the ten functions whose
 # proofs take longest.
 #
-#     bench/gate.sh [CRATE..]
+#     bench/gate.sh [--page] [CRATE..]
 #
-# With names, those crates and the libraries below them. The last commit is measured, in a clone
+# With names, those crates and the libraries below them. With --page it also writes the table and the chain into
+# docs/GATE.md. The last commit is measured, in a clone
 # that is removed, one crate after the other with one job each: some hours for all. `rt` is on the
 # PATH. A log of `rt ci` has no times, so the table can't be had from one. This toolchain lets a check begin with
 # what checks of other clones on the machine kept, beside the kit: the row of a crate that did says so, and shows
@@ -20,9 +21,16 @@ git clone -q . "$room/clone"
 python3 - "$room" "$@" <<'PYTHON'
 import collections, glob, os, re, subprocess, sys, time
 
-room, names = sys.argv[1], sys.argv[2:]
+room, names = sys.argv[1], [word for word in sys.argv[2:] if word != "--page"]
+is_for_page = "--page" in sys.argv[2:]
+shown = []
 top = f"{room}/clone"
 begun_with_kept = set()
+
+
+def show(line):
+    shown.append(line)
+    print(line, flush=True)
 
 
 def crates():
@@ -63,9 +71,9 @@ def run(words, folder):
     return used.ru_utime + used.ru_stime, used.ru_maxrss / 1e6
 
 
-def has_tests(folder):
+def tests_of(folder):
     files = glob.glob(f"{folder}/src/**/*.rt", recursive=True)
-    return any("#[test]" in open(file).read() for file in files)
+    return sum(open(file).read().count("#[test]") for file in files)
 
 
 def by_function(name, begun):
@@ -88,19 +96,23 @@ def by_function(name, begun):
 
 
 def measured(name):
-    """Check, tests and edits of a crate, the number of its edits, and its peak."""
+    """Check, tests and edits of a crate, the numbers of its tests and edits, and its peak."""
     folder = f"{top}/crates/{name}"
     program = os.path.exists(f"{folder}/src/main.rt")
-    edits = len(glob.glob(f"{folder}/must-fail/*.edit"))
+    tests, edits = tests_of(folder), len(glob.glob(f"{folder}/must-fail/*.edit"))
     steps = [(["rt", "check" if program else "lib", "--jobs", "1"], folder)]
-    steps.append((["rt", "check", "--test", "--jobs", "1"], folder) if has_tests(folder) else None)
+    steps.append((["rt", "check", "--test", "--jobs", "1"], folder) if tests else None)
     steps.append((["rt", "must-fail", "--anew", name], top) if edits else None)
     taken = []
     for step in steps:
         begun = time.time()
         taken.append(run(*step) if step else (0, 0))
         dear.update(by_function(name, begun))
-    return [seconds for seconds, _ in taken], edits, max(peak for _, peak in taken)
+    return [seconds for seconds, _ in taken], (tests, edits), max(peak for _, peak in taken)
+
+
+def counted(seconds, count):
+    return f"{seconds:.0f} ({count})" if count else "-"
 
 
 uses = crates()
@@ -108,25 +120,29 @@ unknown = [name for name in names if name not in uses]
 if unknown:
     sys.exit(f"no such crate: {' '.join(unknown)}")
 order = in_order(uses, names or list(uses))
-print("| Crate | Check, s | Tests, s | Edits, s | Edits | Peak, GB |", flush=True)
-print("|---|---|---|---|---|---|", flush=True)
-sums, chain, peak, count, dear = [0, 0, 0], {}, 0, 0, collections.Counter()
+show("| Crate | Check, s | Tests, s | Wrong bodies, s | Peak, GB |")
+show("|---|---|---|---|---|")
+sums, chain, peak, counts, dear = [0, 0, 0], {}, 0, [0, 0], collections.Counter()
 for name in order:
-    seconds, edits, most = measured(name)
-    check, tests, tried = seconds
-    shown = f"`{name}`, over kept work" if name in begun_with_kept else f"`{name}`"
-    row = f"| {shown} | {check:.0f} | {tests:.0f} | {tried:.0f} | {edits} | {most:.1f} |"
-    print(row, flush=True)
+    seconds, (tests, edits), most = measured(name)
+    check, tested, tried = seconds
+    label = f"`{name}`, over kept work" if name in begun_with_kept else f"`{name}`"
+    show(f"| {label} | {check:.0f} | {counted(tested, tests)} | {counted(tried, edits)} | {most:.1f} |")
     sums = [a + b for a, b in zip(sums, seconds)]
-    peak, count = max(peak, most), count + edits
+    peak, counts = max(peak, most), [counts[0] + tests, counts[1] + edits]
     # A crate waits for the checks below it, and nothing waits for its tests and edits.
     longest = max((chain[below] for below in uses[name]), default=(0, []))
     chain[name] = (longest[0] + seconds[0], longest[1] + [name])
-check, tests, tried = sums
-print(f"| all | {check:.0f} | {tests:.0f} | {tried:.0f} | {count} | {peak:.1f} |")
-print(f"\n{sum(sums) / 60:.0f} processor minutes in all, on {os.cpu_count()} processors.")
+check, tested, tried = sums
+show(f"| all | {check:.0f} | {counted(tested, counts[0])} | {counted(tried, counts[1])} | {peak:.1f} |")
 seconds, crates_of = max(chain.values())
-print(f"The longest chain: {' '.join(crates_of)}, {seconds / 60:.0f} processor minutes of checks.")
+show(f"\nIn all {sum(sums) / 60:.0f} processor minutes. The longest chain of crates, for which the gate waits however many processors")
+show(f"there are, {seconds / 60:.0f} minutes of checks: {', '.join(crates_of)}.")
+if is_for_page:
+    page, first, last = "docs/GATE.md", "<!-- of bench/gate.sh --page -->\n", "<!-- end -->\n"
+    before, rest = open(page).read().split(first)
+    with open(page, "w") as file:
+        file.write(before + first + "\n".join(shown) + "\n" + last + rest.split(last)[1])
 print("\n| Function | Seconds |\n|---|---|")
 for function, seconds in dear.most_common(10):
     print(f"| `{function}` | {seconds:.0f} |")

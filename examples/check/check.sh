@@ -305,6 +305,8 @@ counted ./hostile.sh
 # Memory, streams and sockets that are refused.
 counted ./faults.py
 
+# What package.sh makes of it: installed, used, taken out.
+counted ./package.sh
 # The program of the first minute beside `bac replay`.
 counted ./replay.sh
 
