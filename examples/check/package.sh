@@ -25,12 +25,17 @@ done
 
 ../../package.sh "$program" "$room/once" > "$room/told" 2>&1
 is 'it is made' "$?" 0
+# Another second, other rights, another folder, zone and language.
+sleep 1.1
 (umask 077 && mkdir "$room/elsewhere" && cd / && TMPDIR=$room/elsewhere TZ=Asia/Tokyo LC_ALL=C.UTF-8 \
     "$OLDPWD/../../package.sh" "$program" "$room/twice") > /dev/null 2>&1
 is 'the same octets twice' "$(diff -r "$room/once" "$room/twice" 2>&1; echo $?)" 0
 is 'checksums' "$(cd "$room/once" && sha256sum -c SHA256SUMS 2>&1; find . -type f | wc -l)" \
     "$(cd "$room/once" && printf '%s: OK\n' *.deb *.tar.gz; echo 3)"
 package=("$room"/once/*.deb)
+is 'owners' "$({ tar --numeric-owner -tvf "$room"/once/*.tar.gz; dpkg-deb --fsys-tarfile "${package[0]}" | tar --numeric-owner -tvf -; } \
+    | awk '{ print $2 }' | sort -u)" 0/0
+is 'names in order' "$(tar -tf "$room"/once/*.tar.gz | LC_ALL=C sort -c 2>&1)" ''
 version=$(sed -nE '0,/^## /s/^## ([0-9.]+) \([0-9]{4}-[0-9]{2}-[0-9]{2}\)$/\1/p' ../../CHANGELOG.md)
 bac --version
 is 'one version' "$(dpkg-deb -f "${package[0]}" Version), $said" "$version, bac $version, ${said#*, }"
