@@ -1,5 +1,5 @@
 -- The line that says how a walk of a trend log ended.
-use Rattle.std.specs.Prelude.{ℕ, List, [], ◌∷◌, ◌++◌, codes, decimal, slice_index_or}
+use Rattle.std.specs.Prelude.{ℕ, List, [], ◌∷◌, ◌++◌, ◌==◌, ◌||◌, if◌then◌else◌, codes, decimal, slice_index_or}
 use Rattle.bac_print.specs.Causes.{abort_reasons, error_code_text, reject_reasons}
 use Rattle.bac_link.specs.declared.exchanges.Refusal.{Refusal}
 use Rattle.bac_link.specs.declared.exchanges.Refusal.TheVariants.{Error, Reject, Abort}
@@ -28,10 +28,7 @@ named (octet ∷ octets) = octet ∷ octets
 
 -- what can be done where an answer is too long for one datagram: an Abort for reason 1, 4 or 11
 unfoldable pub advice : ℕ → List ℕ
-advice 1 = too_long
-advice 4 = too_long
-advice 11 = too_long
-advice reason = []
+advice reason = if (reason == 1) || ((reason == 4) || (reason == 11)) then too_long else []
 
 -- what a refusal means, in the standard's words (clauses 18.3 to 18.10)
 unfoldable pub cause_text : Refusal → List ℕ

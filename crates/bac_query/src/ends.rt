@@ -39,6 +39,7 @@ pub fn push_refusal(text: &mut Vec<u8>, refusal: Refusal) -> Result<(), AllocErr
 }
 
 /// A name of the standard's, or that it has none.
+#[tactic(auto, unfolding(crate::specs::Ends::named))]
 fn named(name: &'static str) -> &'static str
     ensures { result.now ≡ named name.now }
 {
@@ -50,12 +51,14 @@ fn named(name: &'static str) -> &'static str
 }
 
 /// What can be done where an answer is too long for one datagram.
+#[tactic(auto, unfolding(crate::specs::Ends::advice))]
 fn advice(reason: u8) -> &'static str
     ensures { result.now ≡ advice reason }
 {
-    match reason {
-        1 | 4 | 11 => TOO_LONG,
-        _ => "",
+    if reason == 1 || reason == 4 || reason == 11 {
+        TOO_LONG
+    } else {
+        ""
     }
 }
 
