@@ -7,6 +7,8 @@ pub mod Gathers
 pub mod Came
 pub mod Honest
 pub mod Resumption
+pub mod Looks
+pub mod Courses
 pub mod Newest
 pub mod Turns
 pub mod Parts

@@ -1,9 +1,11 @@
 //! Walks of trend logs, kept in an archive: each batch is one transaction.
 #![tactic(auto)]
 
+mod courses;
 mod datum;
 mod keep;
 mod laws;
+mod look;
 mod place;
 mod progress;
 mod resumption;
@@ -12,6 +14,7 @@ mod run;
 mod sink;
 mod texts;
 
+pub use courses::{Course, Word, beginning_of, course_of};
 pub use keep::{Gathered, KeptStep, NotKept, gather, keep_gathered, keep_step};
 pub use laws::{
     all_runs_are_kept, begins_empty, each_has_its_own, honest_is_kept, honest_runs_are_kept,
@@ -21,6 +24,7 @@ pub use laws::{
     parts_go_on_covered, rows_join, runs_are_kept, runs_begin_covered, runs_go_on_covered,
     runs_leave_none_later, turns_join,
 };
+pub use look::{LastKept, Seen, look_for};
 pub use place::Place;
 pub use progress::{Progress, Untold};
 pub use resumption::{LastRecord, Resume, resume_from};
