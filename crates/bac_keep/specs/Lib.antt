@@ -1,4 +1,5 @@
 pub mod Items
+pub mod Rising
 pub mod Sinks
 pub mod Kept
 pub mod Covered
