@@ -10,6 +10,7 @@ pub mod Honest
 pub mod Resumption
 pub mod Looks
 pub mod Courses
+pub mod UpToDate
 pub mod Newest
 pub mod Turns
 pub mod Parts

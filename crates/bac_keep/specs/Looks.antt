@@ -1,5 +1,5 @@
 -- What a device still holds of a log, by the record of it that was kept last.
-use Rattle.std.specs.Prelude.{◌≡◌, ℕ, ◌==◌, ◌&&◌, Bool, if◌then◌else◌, List, [], ◌∷◌, Result, Ok, Err}
+use Rattle.std.specs.Prelude.{◌≡◌, ℕ, ◌<◌, ◌==◌, ◌&&◌, Bool, if◌then◌else◌, List, [], ◌∷◌, Result, Ok, Err}
 use Rattle.std.specs.Str.{bytes_eq}
 use Rattle.bac_print.specs.Entries.{datum_text, flags_text}
 use Rattle.bac_link.specs.Ordinals.{is_ahead}
@@ -10,7 +10,11 @@ use Rattle.bac_walk.specs.declared.outcome.WalkFault.{WalkFault}
 use Rattle.bac_keep.specs.declared.look.Seen.{Seen}
 use Rattle.bac_keep.specs.declared.look.Seen.TheVariants.{Same, Another, Later, Earlier, Nothing}
 use Rattle.bac_keep.specs.Items.{stamp_text}
-use Rattle.bac_keep.specs.Resumption.{is_before}
+use Rattle.bac_link.specs.declared.link.Lost.{Lost as Loss}
+use Rattle.bac_link.specs.Path.{Path}
+use Rattle.bac_walk.specs.Place.{walk_at, walk_from_oldest}
+use Rattle.bac_wire.specs.Primitive.{Id}
+use Rattle.bac_keep.specs.Resumption.{AsksOldest, CameTo, is_before}
 
 -- a record as it is kept: its number, and the texts of its date and time, of its datum and of its status flags
 pub record KeptAs : Type 0 where
@@ -50,3 +54,14 @@ abbrev pub IsSeen : KeptAs → Result Step WalkFault → Result Step WalkFault �
 IsSeen kept (Err fault) oldest seen = seen ≡ Err fault
 IsSeen kept (Ok CaughtUp) oldest seen = IsSeenLast kept oldest seen
 IsSeen kept (Ok (BatchOf batch)) oldest seen = IsSeenBy kept batch.entries.items seen
+
+-- The kept record of a log was looked for over a link, and this was seen, whoever answered: one of the number 0 isn't
+-- asked for.
+abbrev pub Looks : {S : Type 0} → (S → List ℕ → Result (List ℕ) Loss → S → Type 0) → Path → ℕ → S → Id → KeptAs →
+    Result Seen WalkFault → S → Type 0
+Looks {S = S} asks path retries old log kept seen new =
+    (kept.number ≡ 0 → (seen ≡ Ok Another) × (new ≡ old))
+    × (0 < kept.number → (answer : Result Step WalkFault) × (oldest : Result Step WalkFault) × (half : S)
+    × IsSeen kept answer oldest seen × CameTo asks path retries old (walk_at log kept.number) answer half
+    × (AsksOldest answer → CameTo asks path retries half (walk_from_oldest log) oldest new)
+    × ((AsksOldest answer → ⊥) → new ≡ half))
