@@ -72,13 +72,17 @@ is 'a level is written' "$said" 'written||0'
 bac rp "$at" 45 1 85
 is 'the level' "$said" '-5||0'
 bac rp "$at" 5 2 85
-is 'a binary value that is not there' "$said" '|refused: error 1 31|3'
+is 'a binary value that is not there' "$said" '|refused: error 1 31
+unknown object|3'
 bac wp "$at" 5 1 85 6 9 --value=1
-is 'priority 6' "$said" '|refused: error 2 40|3'
+is 'priority 6' "$said" '|refused: error 2 40
+write access denied|3'
 bac wp "$at" 5 1 85 8 2 --value=1
-is 'a value of another type' "$said" '|refused: error 2 9|3'
+is 'a value of another type' "$said" '|refused: error 2 9
+invalid data type|3'
 bac rp "$at" 20 2 131
-is 'records are read by ranges' "$said" '|refused: error 2 27|3'
+is 'records are read by ranges' "$said" '|refused: error 2 27
+read access denied|3'
 bac log "$at" 9 1
 is 'a log that is not there' "$said" 'refused: error 1 31, next 1||3'
 

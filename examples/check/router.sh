@@ -82,7 +82,8 @@ bac rp "$at" 8 123 77 --timeout=100 --retries=1
 is 'no way to the device' "$said" "|lost
 no answer came from $at|2"
 bac rp "$at" 5 2 85 "${far[@]}"
-is 'a binary value that is not there' "$said" '|refused: error 1 31|3'
+is 'a binary value that is not there' "$said" '|refused: error 1 31
+unknown object|3'
 bac wp "$at" 5 1 85 8 9 --value=1 "${far[@]}"
 is 'the pump is switched on' "$said" 'written||0'
 bac rp "$device" 5 1 85

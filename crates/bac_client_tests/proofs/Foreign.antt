@@ -29,6 +29,7 @@ use Rattle.bac_link.specs.declared.link.Lost.{Lost}
 use Rattle.bac_walk.specs.Came.{Asks, Came, Comes, Brought, BroughtIsDelivered, AreOf, AreSaidAt, EndsBy, EndsEmpty, answers_of}
 use Rattle.bac_walk.specs.Collects.{turn_items}
 use Rattle.bac_walk.specs.Delivers.{NoneFrom}
+use Rattle.bac_walk.proofs.Came.{start_old}
 use Rattle.bac_walk.specs.Honest.{DeliversSaid, IsHonestEnd}
 use Rattle.bac_link.specs.Honest.{IsAskedIn, IsSaidOrLost, IsHonestWhere, HonestWhereItStands, asked_octets}
 use Rattle.bac_walk.specs.Told.{ended_of}
@@ -264,7 +265,7 @@ all_delivered old new way retries w after steps n came items ended reason near f
     let d = law (towards None) retries old new (walk_at log 7) after n came items ended history (held ∷ []) 7 7 b said.0 refl (omega arith) tt
     (record { oldest = omega arith; newest = omega arith }, tt) (λ f. (omega arith, omega arith)) in
     let D : ℕ → Type 0 = λ x. DeliversTo history x items d.2 (held ∷ []) d.1 in (
-      (d.1, d.2, d.4, subst D (d.3 refl) d.5),
+      (d.1, d.2, d.4, subst D d.3 d.6),
       λ is. let e = up (λ a octets answer b. IsSaid octets answer) (towards None) retries n came b.0 after b.1 new items ended (ended_up reason steps n ended run is) b.3 b.4 in e.1 ∙ said.1 e.0,
     )
 
@@ -372,15 +373,15 @@ walk_delivers {S = S} old new way w after items reason low s stands said near lo
     let E : Why → Type 0 = λ y. IsHonestEnd (ended_of y) in (
       (
         all.0,
+        length all.2,
         all.1,
-        all.2,
-        all.3,
+        (λ old. all.3.start ∙ start_old w.fresh s (held ∷ []) all.2 old),
         all.4,
         all.5,
         (λ up.
             let caught = all.7 (ap ended_of up) in
-            let N : Moment → Type 0 = λ m. NoneFrom all.2 m in
-            beyond all.2 (subst N (always_held caught.0) caught.2)),
+            let N : Moment → Type 0 = λ m. NoneFrom all.1 m in
+            beyond all.1 (subst N (always_held caught.0) caught.3)),
       ),
       λ e is. is_loss e (subst E is all.8),
     )

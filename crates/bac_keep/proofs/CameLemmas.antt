@@ -12,11 +12,11 @@ use Rattle.bac_link.proofs.Delivers.{joined, each_once}
 use Rattle.bac_walk.specs.declared.outcome.Ended.{Ended}
 use Rattle.bac_walk.specs.declared.outcome.Ended.TheVariants.{StepLimit}
 use Rattle.bac_link.specs.Moments.{NeverGoesBack}
-use Rattle.bac_walk.specs.Came.{Brought}
+use Rattle.bac_walk.specs.Came.{Brought, answers_of}
 use Rattle.bac_link.specs.Honest.{IsHonest}
 use Rattle.bac_link.specs.Moments.{AreInWindow}
 use Rattle.bac_walk.specs.Place.{WalkPlace}
-use Rattle.bac_walk.proofs.Came.{Asking, answers_came, back_later, brought_ran, some_later, window_later}
+use Rattle.bac_walk.proofs.Came.{Asking, answers_came, back_later, brought_ran, some_later, start_old, window_later}
 use Rattle.bac_link.proofs.Honest.{goes_on}
 use Rattle.bac_walk.proofs.Honest.{honest_delivers}
 use Rattle.bac_walk.proofs.Joined.{no_brought, brought_joins, brought_early}
@@ -147,17 +147,17 @@ module _ {S : Type 0} (asks : Asking S) where
       let ran = brought_ran asks path retries link left before after steps kept.came kept.items ended H M low s kept.brought said.1 next some back window at in (
         ran.0,
         ran.1,
-        ran.2,
+        (λ old. ran.2 ∙ start_old before.fresh s M (answers_of kept.came) old),
         ran.3,
         kept.rows.rows,
         kept.era_is,
-        ran.4,
+        ran.5,
         (
           said.2,
           λ moments told is.
               (honest_delivers asks (λ l N. moments l ≡ N) path retries link left before after steps kept.came kept.items ended H M low s told is kept.brought next some back window at).2,
         ),
-        (λ up. let caught = ran.5 up in (caught.0, omega (arith, caught.1, answers_came kept.came), caught.3)),
+        (λ up. let caught = ran.6 up in (caught.0, omega (arith, caught.1, answers_came kept.came), caught.3)),
         said.3,
       )
 

@@ -5,4 +5,5 @@ mod RunLemmas
 pub mod CameLemmas
 mod CoveredLemmas
 mod NewestLemmas
+mod UpToDateLemmas
 pub mod TurnLemmas

@@ -1,4 +1,5 @@
 pub mod Items
+pub mod Rising
 pub mod Sinks
 pub mod Kept
 pub mod Covered
@@ -7,6 +8,9 @@ pub mod Gathers
 pub mod Came
 pub mod Honest
 pub mod Resumption
+pub mod Looks
+pub mod Courses
+pub mod UpToDate
 pub mod Newest
 pub mod Turns
 pub mod Parts

@@ -4,6 +4,7 @@ ghost use Rattle.bac_keep.specs.Honest.{HonestIsKept, HonestRunsAreKept, KeptOve
 ghost use Rattle.bac_keep.specs.Kept.{AllRunsAreKept, BeginsEmpty, KeptIsDelivered, KeptRunsJoin, OneRowEach, OthersStay, RowsJoin, RunsAreKept};
 ghost use Rattle.bac_keep.specs.Turns.{EachHasItsOwn, HonestTurnsAreKept, HonestTurnsBegin, NewestIsOwn, OwnAreOne, TurnsJoin};
 ghost use Rattle.bac_keep.specs.Parts.{PartsAreKept, PartsEndWhereNewestTells, PartsGoOnCovered};
+ghost use Rattle.bac_keep.specs.UpToDate.{HeldTellsCaughtUp};
 ghost use Rattle.bac_keep.specs.Newest.{KeptIsCovered, NewestEndsWhatIsKept, NewestIsLast, NoneLaterStays, RunsLeaveNoneLater};
 
 use bac_link::LogLink;
@@ -161,4 +162,10 @@ pub fn parts_go_on_covered<L: LogLink>()
 /// delivery.
 pub fn parts_are_kept()
     ensures { PartsAreKept }
+{}
+
+/// Of a log whose moments never go back: if none of a hundred numbers is held at one answer, and an
+/// older one at a later answer, the log was caught up at the first.
+pub fn held_tells_caught_up()
+    ensures { HeldTellsCaughtUp }
 {}

@@ -1,9 +1,12 @@
 //! Walks of trend logs, kept in an archive: each batch is one transaction.
 #![tactic(auto)]
 
+mod ahead;
+mod courses;
 mod datum;
 mod keep;
 mod laws;
+mod look;
 mod place;
 mod progress;
 mod resumption;
@@ -12,15 +15,18 @@ mod run;
 mod sink;
 mod texts;
 
+pub use ahead::{Ahead, NotSeen, look_ahead};
+pub use courses::{Course, Word, beginning_of, course_of};
 pub use keep::{Gathered, KeptStep, NotKept, gather, keep_gathered, keep_step};
 pub use laws::{
-    all_runs_are_kept, begins_empty, each_has_its_own, honest_is_kept, honest_runs_are_kept,
-    honest_turns_are_kept, honest_turns_begin, kept_is_covered, kept_is_delivered, kept_over_join,
-    kept_runs_join, newest_ends_what_is_kept, newest_is_last, newest_is_own, none_later_stays,
-    one_row_each, others_stay, own_are_one, parts_are_kept, parts_end_where_newest_tells,
-    parts_go_on_covered, rows_join, runs_are_kept, runs_begin_covered, runs_go_on_covered,
-    runs_leave_none_later, turns_join,
+    all_runs_are_kept, begins_empty, each_has_its_own, held_tells_caught_up, honest_is_kept,
+    honest_runs_are_kept, honest_turns_are_kept, honest_turns_begin, kept_is_covered,
+    kept_is_delivered, kept_over_join, kept_runs_join, newest_ends_what_is_kept, newest_is_last,
+    newest_is_own, none_later_stays, one_row_each, others_stay, own_are_one, parts_are_kept,
+    parts_end_where_newest_tells, parts_go_on_covered, rows_join, runs_are_kept,
+    runs_begin_covered, runs_go_on_covered, runs_leave_none_later, turns_join,
 };
+pub use look::{LastKept, Seen, look_for};
 pub use place::Place;
 pub use progress::{Progress, Untold};
 pub use resumption::{LastRecord, Resume, resume_from};

@@ -2,12 +2,13 @@
 
 ghost use Rattle.std.specs.Prelude.{◌≡◌, ◌≤◌, ◌<◌, false, Result, IfOk};
 ghost use Rattle.bac_link.specs.Path.{towards};
-ghost use Rattle.bac_link.specs.Ordinals.{is_ahead, number_after};
+ghost use Rattle.bac_link.specs.Ordinals.{number_after};
 ghost use Rattle.bac_walk.specs.Place.{walk_at, walk_from_oldest};
 ghost use Rattle.bac_walk.specs.declared.outcome.Step.{Step as StepOf};
 ghost use Rattle.bac_walk.specs.declared.outcome.WalkFault.{WalkFault as FaultOf};
 ghost use Rattle.bac_keep.specs.Resumption.{AsksOldest, CameTo, IsTold, IsToldBy, IsToldLast, IsWhere, goes_on, is_before, is_dated};
 
+use crate::courses::is_ahead;
 use crate::texts::{datum_of, stamp_of};
 use bac_link::{LogLink, Transactions};
 use bac_walk::{Batch, Numbered, Step, Walk, WalkFault};
@@ -116,7 +117,7 @@ fn told_by(
 }
 
 // A walk from the oldest record on.
-fn oldest_of(log: ObjectId) -> Walk
+pub(crate) fn oldest_of(log: ObjectId) -> Walk
     requires { log.kind ≡ 20 }
     ensures { result ≡ walk_from_oldest log }
 {
@@ -150,15 +151,8 @@ fn goes_on(alloc: Global, last: LastRecord<'_>, held: &Numbered) -> Result<bool,
     Ok(stamp.as_slice() == last.stamp && datum.as_slice() == last.datum)
 }
 
-// Whether a number is another one or lies behind it: half of the numbers do.
-fn is_ahead(number: u32, held: u32) -> bool
-    ensures { result ≡ is_ahead number held }
-{
-    (u64::from(held) + 4294967295 - u64::from(number)) % 4294967295 < 2147483648
-}
-
 // Whether a date and time lies before another, both with each part.
-fn is_before(stamp: &[u8], other: &[u8]) -> bool
+pub(crate) fn is_before(stamp: &[u8], other: &[u8]) -> bool
     ensures { result ≡ is_before stamp.now other.now }
 {
     is_dated(stamp) && is_dated(other) && stamp.cmp(other).is_lt()

@@ -4,3 +4,4 @@ pub mod Values
 pub mod Entries
 pub mod Output
 pub mod Addresses
+pub mod Causes

@@ -7,6 +7,7 @@
 #![tactic(auto)]
 
 mod addresses;
+mod causes;
 mod entries;
 mod moments;
 mod numbers;
@@ -14,6 +15,7 @@ mod output;
 mod values;
 
 pub use addresses::push_address;
+pub use causes::{abort_reason_name, error_code_name, reject_reason_name};
 pub use entries::{push_datum, push_entry, push_flags, push_gap, push_record};
 pub use moments::push_moment;
 pub use numbers::{push_hex, push_number, push_signed};

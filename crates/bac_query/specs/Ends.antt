@@ -1,5 +1,6 @@
 -- The line that says how a walk of a trend log ended.
-use Rattle.std.specs.Prelude.{ℕ, List, [], ◌∷◌, ◌++◌, codes, decimal}
+use Rattle.std.specs.Prelude.{ℕ, List, [], ◌∷◌, ◌++◌, ◌==◌, ◌||◌, if◌then◌else◌, codes, decimal, slice_index_or}
+use Rattle.bac_print.specs.Causes.{abort_reasons, error_code_text, reject_reasons}
 use Rattle.bac_link.specs.declared.exchanges.Refusal.{Refusal}
 use Rattle.bac_link.specs.declared.exchanges.Refusal.TheVariants.{Error, Reject, Abort}
 use Rattle.bac_walk.specs.declared.outcome.WalkFault.TheVariants.{Lost, Refused, BadReply}
@@ -15,6 +16,25 @@ unfoldable pub refusal_text : Refusal → List ℕ
 refusal_text (Error class code) = codes "refused: " ++ (numbered_word (codes "error") class ++ (32 ∷ decimal code))
 refusal_text (Reject reason) = codes "refused: " ++ numbered_word (codes "reject") reason
 refusal_text (Abort reason) = codes "refused: " ++ numbered_word (codes "abort") reason
+
+-- the answer to a question for an array is too long
+abbrev pub too_long : List ℕ
+too_long = codes ": the answer is too long for one datagram; an array can be read in parts, with --index=0 and on"
+
+-- a name of the standard's, or that it has none
+unfoldable pub named : List ℕ → List ℕ
+named [] = codes "the standard has no name for it"
+named (octet ∷ octets) = octet ∷ octets
+
+-- what can be done where an answer is too long for one datagram: an Abort for reason 1, 4 or 11
+unfoldable pub advice : ℕ → List ℕ
+advice reason = if (reason == 1) || ((reason == 4) || (reason == 11)) then too_long else []
+
+-- what a refusal means, in the standard's words (clauses 18.3 to 18.10)
+unfoldable pub cause_text : Refusal → List ℕ
+cause_text (Error class code) = named (error_code_text code)
+cause_text (Reject reason) = named (slice_index_or reject_reasons reason [])
+cause_text (Abort reason) = named (slice_index_or abort_reasons reason []) ++ advice reason
 
 -- why a walk ended
 unfoldable pub why_text : Why → List ℕ

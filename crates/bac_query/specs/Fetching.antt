@@ -2,7 +2,7 @@
 use Rattle.std.specs.Prelude.{◌≡◌, ℕ, false, ◌+◌, ◌*◌, ◌<◌, ◌≤◌, ◌⊎◌, List, ◌++◌, length, Result, Ok, Err}
 use Rattle.std.specs.Io.KnownBytes.{Appends, Keeps}
 use Rattle.bac_log.specs.TrendLog.{sequence_number}
-use Rattle.bac_link.specs.Delivery.{History, Moment, DeliversTo}
+use Rattle.bac_link.specs.Delivery.{History, Moment, DeliversTo, Leads}
 use Rattle.bac_link.specs.Path.{Path}
 use Rattle.bac_link.specs.declared.item.Item.{Item}
 use Rattle.bac_link.specs.declared.link.Lost.{Lost}
@@ -10,7 +10,7 @@ use Rattle.bac_query.specs.Ends.{end_line}
 use Rattle.bac_query.specs.Items.{items_text}
 use Rattle.bac_link.specs.Moments.{NeverGoesBack}
 use Rattle.bac_walk.specs.Came.{Came, Brought, AreSaidAt, answers_of}
-use Rattle.bac_walk.specs.Collects.{IsCaughtUp}
+use Rattle.bac_walk.specs.Collects.{IsCaughtUp, start_of}
 use Rattle.bac_link.specs.Moments.{AreInWindow}
 use Rattle.bac_walk.specs.Near.{StaysNear}
 use Rattle.bac_walk.specs.Place.{WalkPlace}
@@ -114,13 +114,15 @@ TellsRun left items steps n ended after (Err Memory) old new =
 TellsRun left items steps n ended after (Err (Exchange fault)) old new = ⊥
 
 -- If the replies that came say what one log holds at these moments, in order, and the log never goes back, all within
--- half of the count, then the items are what it held from the walk's number on, or from its oldest record on.
+-- half of the count, then the items are what it held from the walk's number on, or from the oldest record that it held
+-- when its first batch was given; caught up, it held nothing more at an answer after the last batch.
 abbrev pub IsHeadline : WalkPlace → List Came → List Item → Ended → WalkPlace → Type 0
 IsHeadline walk came items ended after =
     (H : History) (M : List Moment) (low s : ℕ) → AreSaidAt H M came → walk.next ≡ sequence_number s →
     0 < length M → NeverGoesBack M → AreInWindow low M →
     (walk.fresh ≡ false → (low ≤ s) × (s < low + 2147483648)) →
-    (b : ℕ) × (a : ℕ) × (t : ℕ) × (walk.fresh ≡ false → b ≡ s) × (after.next ≡ sequence_number t)
+    (b : ℕ) × (a : ℕ) × (t : ℕ) × (b ≡ start_of walk.fresh s M (answers_of came)) × (after.next ≡ sequence_number t)
+    × ((u : ℕ) × Leads H M b (answers_of came) u)
     × DeliversTo H b items t M a × (ended ≡ CaughtUp → IsCaughtUp walk.fresh t M (answers_of came))
 
 -- Fetching from a place on, over any link: replies came, one after the other, from this link on; what is printed are

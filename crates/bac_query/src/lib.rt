@@ -27,7 +27,7 @@ mod seeking;
 mod values;
 mod writing;
 
-pub use ends::{push_end, push_refusal};
+pub use ends::{push_cause, push_end, push_refusal};
 pub use fault::QueryFault;
 pub use fetching::{Fetched, fetch_log};
 pub use fetching_ahead::fetch_log_ahead;

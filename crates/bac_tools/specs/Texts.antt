@@ -5,7 +5,7 @@ use Rattle.bac_link.specs.declared.exchanges.ExchangeFault.TheVariants as exchan
 use Rattle.bac_objects.specs.declared.build.BuildFault.{BuildFault}
 use Rattle.bac_objects.specs.declared.build.BuildFault.TheVariants as build
 use Rattle.bac_print.specs.Addresses.{address_text}
-use Rattle.bac_query.specs.Ends.{refusal_text}
+use Rattle.bac_query.specs.Ends.{cause_text, refusal_text}
 use Rattle.bac_script.specs.declared.replay.fault.Refused.{Refused as Refusal}
 use Rattle.bac_script.specs.declared.replay.fault.ReplayFault.{ReplayFault}
 use Rattle.bac_script.specs.declared.replay.fault.ReplayFault.TheVariants as script
@@ -90,7 +90,7 @@ of_address line said address = (line ++ 10 ∷ []) ++ (said ++ address_text addr
 -- a fault of one question to an address
 unfoldable pub exchange_text : List ℕ → ExchangeFault → List ℕ
 exchange_text address exchange.Lost = of_address (codes "lost") (codes "no answer came from ") address
-exchange_text address (exchange.Refused refusal) = refusal_text refusal
+exchange_text address (exchange.Refused refusal) = refusal_text refusal ++ (10 ∷ cause_text refusal)
 exchange_text address exchange.BadReply = codes "bad reply"
 exchange_text address exchange.TooLong = bad_value ++ codes "the request is too long"
 

@@ -1,7 +1,8 @@
 //! What is told on standard error.
 
-ghost use Rattle.std.specs.Prelude.{◌≡◌, ◌++◌, OnOk, IfOk};
+ghost use Rattle.std.specs.Prelude.{◌≡◌, ◌++◌, ◌∷◌, OnOk, IfOk};
 ghost use Rattle.bac_print.specs.Output.{AppendsPart};
+ghost use Rattle.bac_query.specs.Ends.{cause_text, refusal_text};
 ghost use Rattle.bac_tools.specs.Run.{IsTold};
 ghost use Rattle.bac_tools.specs.Texts.{build_text, exchange_text, fault_text, long_text, of_address, range_text, refusal_lines, script_text, serving_line, told_text, unbuilt_text, word_text, wrong_text};
 
@@ -9,9 +10,9 @@ use crate::fault::Fault;
 use crate::flaw::push_reply_flaw;
 use crate::reason::{push_list, push_second_line, push_unanswered};
 use bac_device::BuildFault;
-use bac_link::ExchangeFault;
+use bac_link::{ExchangeFault, Refusal};
 use bac_print::{push_address, push_number, write_text};
-use bac_query::push_refusal;
+use bac_query::{push_cause, push_refusal};
 use bac_script::{Refused, ReplayFault};
 use bac_words::Word;
 use std::alloc::{AllocError, Global};
@@ -139,6 +140,15 @@ fn push_refused(text: &mut Vec<u8>, refused: Refused) -> Result<(), AllocError>
     push_second_line(text, refused.reason)
 }
 
+/// Appends how a device refused, and on a second line what that means.
+fn push_refused_by(text: &mut Vec<u8>, refusal: Refusal) -> Result<(), AllocError>
+    ensures { OnOk result (text.new.items ≡ text.old.items ++ (refusal_text refusal ++ (10 ∷ cause_text refusal))) }
+{
+    push_refusal(text, refusal)?;
+    text.push(b'\n')?;
+    push_cause(text, refusal)
+}
+
 /// Appends why an exchange with an address brought no ACK.
 #[tactic(auto, unfolding(crate::specs::Texts::exchange_text))]
 fn push_exchange(
@@ -150,7 +160,7 @@ fn push_exchange(
 {
     match fault {
         ExchangeFault::Lost => push_of_address(text, "lost", "no answer came from ", address),
-        ExchangeFault::Refused(refusal) => push_refusal(text, refusal),
+        ExchangeFault::Refused(refusal) => push_refused_by(text, refusal),
         ExchangeFault::BadReply => text.extend_from_slice(b"bad reply"),
         ExchangeFault::TooLong => text.extend_from_slice(b"bad value\nthe request is too long"),
     }

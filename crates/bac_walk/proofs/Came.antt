@@ -1,5 +1,5 @@
 -- What came over a link is delivered.
-use Rattle.std.proofs.Common.{◌≡◌, ℕ, zero, suc, ◌+◌, ◌-◌, ◌<◌, ◌≤◌, ◌⊎◌, ◌||◌, inl, inr, Bool, true, false, Result, Ok, Err, List, [], ◌∷◌, length, drop, ◌++◌, refl, sym, ap, subst, ◌∙◌, arith, append_assoc, append-nil}
+use Rattle.std.proofs.Common.{◌≡◌, ℕ, zero, suc, ◌+◌, ◌-◌, ◌<◌, ◌≤◌, ◌⊎◌, ◌||◌, if◌then◌else◌, inl, inr, Bool, true, false, Result, Ok, Err, List, [], ◌∷◌, length, drop, ◌++◌, refl, sym, ap, subst, ◌∙◌, arith, append_assoc, append-nil}
 use Rattle.bac_link.proofs.Delivers.{joined, resumed}
 use Rattle.bac_link.specs.declared.item.Item.TheVariants.{Logged}
 use Rattle.bac_link.specs.Ordinals.{number_after}
@@ -14,7 +14,7 @@ use Rattle.bac_link.specs.Path.{Path}
 use Rattle.bac_log.specs.TrendLog.{sequence_number}
 use Rattle.bac_link.specs.Moments.{NeverGoesBack}
 use Rattle.bac_walk.specs.Came.{Came, Comes, Brought, AreSaidAt, AreOf, EndsBy, EndsEmpty, BroughtIsDelivered, CameIsDelivered, SaidIsTaken, answers_of, restarted}
-use Rattle.bac_walk.specs.Collects.{batches, turn_items, IsCaughtUp}
+use Rattle.bac_walk.specs.Collects.{batches, turn_items, IsCaughtUp, start_of}
 use Rattle.bac_walk.specs.Delivers.{NoneFrom}
 use Rattle.bac_link.specs.Moments.{IsInWindow, AreInWindow}
 use Rattle.bac_walk.specs.Place.{WalkPlace}
@@ -71,11 +71,38 @@ UpBefore low M w t answers =
 -- what the walk delivers from where it is
 abbrev Delivers : ℕ → History → List Moment → ℕ → WalkPlace → WalkPlace → List Came → Type 0
 Delivers low H M s w after came =
-    (b : ℕ) × (t : ℕ) × (w.fresh ≡ false → b ≡ s) × (after.next ≡ sequence_number t) × Leads H M b (answers_of came) t
+    (b : ℕ) × (t : ℕ) × (b ≡ start_of w.fresh s M (answers_of came)) × (after.next ≡ sequence_number t) × Leads H M b (answers_of came) t
     × (EndsEmpty came → Up M w.fresh t (answers_of came) ⊎ UpBefore low M w t (answers_of came))
 
 base_of : (w : WalkPlace) (s : ℕ) (m : Moment) → w.fresh ≡ false → base w s m ≡ s
 base_of w s m old = rw old refl
+
+-- a walk begins with its first batch, and one from a number on at its ordinal
+start_full : (fresh : Bool) (s : ℕ) (M : List Moment) (xs : List Item) (answers : List (List Item)) → 0 < length xs →
+    (if fresh then (now M).oldest else s) ≡ start_of fresh s M (xs ∷ answers)
+start_full false s M xs answers full = refl
+start_full true s M [] answers full = absurd (omega arith)
+start_full true s M (x ∷ xs) answers full = refl
+
+start_idle : (fresh : Bool) (s : ℕ) (M : List Moment) (xs : List Item) (answers : List (List Item)) → xs ≡ [] →
+    start_of fresh s (later M) answers ≡ start_of fresh s M (xs ∷ answers)
+start_idle false s M xs answers none = refl
+start_idle true s M [] answers none = refl
+start_idle true s M (x ∷ xs) answers none = absurd (cc)
+
+pub start_old : (fresh : Bool) (s : ℕ) (M : List Moment) (answers : List (List Item)) → fresh ≡ false → start_of fresh s M answers ≡ s
+start_old false s M answers old = refl
+start_old true s M answers old = absurd (cc)
+
+start_nil : (fresh : Bool) (s : ℕ) (M : List Moment) → start_of fresh s M [] ≡ s
+start_nil false s M = refl
+start_nil true s M = refl
+
+start_at : (fresh was : Bool) (s b : ℕ) (M : List Moment) (xs : List Item) (answers : List (List Item)) → xs ≡ [] → fresh ≡ was →
+    b ≡ start_of fresh s (later M) answers → b ≡ start_of was s M (xs ∷ answers)
+start_at fresh was s b M xs answers none same at =
+    let P : Bool → Type 0 = λ f. b ≡ start_of f s (later M) answers in
+    subst P same at ∙ start_idle was s M xs answers none
 
 pub or_true : (a b : Bool) → (a || b) ≡ true → a ≡ false → b ≡ true
 or_true true b h f = absurd (cc)
@@ -108,7 +135,8 @@ with_rest H M low s w next after (BatchOf b) c came some back window means is pl
     let P : List Item → Type 0 = λ xs. Brings H (now M) (base w s (now M)) xs u in
     let Q : ℕ → Type 0 = λ n. Leads H (later M) n (answers_of came) more.1 in
     let full : 0 < length c.items = omega (arith, ap length is, full_batch b) in
-    (base w s (now M), more.1, base_of w s (now M), more.3, (u, subst P (sym is) means.1, subst Q (more.2 fresh) more.4), up full asks came more.5)
+    let begun : more.0 ≡ u = more.2 ∙ start_old next.fresh u (later M) (answers_of came) fresh in
+    (base w s (now M), more.1, start_full w.fresh s M c.items (answers_of came) full, more.3, (u, subst P (sym is) means.1, subst Q begun more.4), up full asks came more.5)
   where
     up : 0 < length c.items → next.asks_oldest ≡ false → (came : List Came) → {t : ℕ} →
         (EndsEmpty came → Up (later M) next.fresh t (answers_of came) ⊎ UpBefore low (later M) next t (answers_of came)) →
@@ -124,7 +152,7 @@ with_rest H M low s w next after AskOldest c came some back window means is plac
     let same_next : next.next ≡ w.next = ap (λ (v : WalkPlace). v.next) means.2 in
     let more = rest s (same_next ∙ here) (λ f. at (sym fresh ∙ f)) in
     let P : List Item → Type 0 = λ xs. Brings H (now M) more.0 xs more.0 in
-    (more.0, more.1, (λ f. more.2 (fresh ∙ f)), more.3, (more.0, subst P (sym is) refl, more.4), up same_next fresh came more.5)
+    (more.0, more.1, start_at next.fresh w.fresh s more.0 M c.items (answers_of came) is fresh more.2, more.3, (more.0, subst P (sym is) refl, more.4), up same_next fresh came more.5)
   where
     old : w.fresh ≡ false
     old = or_left w.fresh w.asks_oldest means.0
@@ -154,7 +182,7 @@ with_rest H M low s w next after CaughtUp c came some back window means is place
     let same_next : next.next ≡ w.next = ap (λ (v : WalkPlace). v.next) means.2 in
     let more = rest s (same_next ∙ here) (λ f. at (sym fresh ∙ f)) in
     let P : List Item → Type 0 = λ xs. Brings H (now M) more.0 xs more.0 in
-    (more.0, more.1, (λ f. more.2 (fresh ∙ f)), more.3, (more.0, subst P (sym is) refl, more.4), up came more)
+    (more.0, more.1, start_at next.fresh w.fresh s more.0 M c.items (answers_of came) is fresh more.2, more.3, (more.0, subst P (sym is) refl, more.4), up came more)
   where
     B : List (List Item) → List Item → Type 0
     B answers xs = batches (xs ∷ answers) ≡ 0
@@ -168,7 +196,7 @@ with_rest H M low s w next after CaughtUp c came some back window means is place
           | inr past ↦
               let asks : w.asks_oldest ≡ true = or_true w.fresh w.asks_oldest means.0 past.0 in
               let fresh : next.fresh ≡ false = ap (λ (v : WalkPlace). v.fresh) means.2 ∙ past.0 in
-              let t_is : more.1 ≡ s = more.4 ∙ more.2 fresh in
+              let t_is : more.1 ≡ s = more.4 ∙ more.2 ∙ start_old next.fresh s (later M) [] fresh in
               inr (asks, past.0, none, λ m gone le k low held. gone (s, (omega (arith, le, past.1), omega (arith, t_is, low, held.1)), here))
         ]
     up (d ∷ came) more ends =
@@ -187,7 +215,7 @@ came_leads : {S : Type 0} (asks : Asking S) (path : Path) (retries : ℕ) (came 
     0 < length M → NeverGoesBack M → AreInWindow low M → (w.fresh ≡ false → (low ≤ s) × (s < low + 2147483648)) →
     Delivers low H M s w after came
 came_leads asks path retries [] old new w after H M low s comes said here some back window at =
-    (s, s, (λ f. refl), ap (λ (v : WalkPlace). v.next) comes.0 ∙ here, refl, λ ends. absurd ends)
+    (s, s, sym (start_nil w.fresh s M), ap (λ (v : WalkPlace). v.next) comes.0 ∙ here, refl, λ ends. absurd ends)
 came_leads asks path retries (c ∷ came) old new w after H M low s (mid, next, p, place, asked, taken, is, rest) said here some back window at =
     let P : WalkPlace → Type 0 = λ v. IsSaidAt (now M) H v.log (asked_by v) c.datagram in
     let says = subst P place said.0 in
@@ -210,6 +238,7 @@ came_delivers asks = λ path retries old new w after came H M low s comes said h
       d.1,
       d.2,
       d.3,
+      d.4,
       (answers_of came, length_answers came, refl, d.4),
       λ asks_number ends. elim (d.5 ends) [ inl found ↦ found | inr before ↦ absurd (let e = sym asks_number ∙ before.0 in cc) ],
     )
@@ -234,12 +263,14 @@ up_to H M b t a count items d le =
 -- a run that brought this, from ordinal s
 abbrev pub Ran : WalkPlace → WalkPlace → ℕ → List Came → List Item → Ended → History → List Moment → Type 0
 Ran w after s came items ended H M =
-    (b : ℕ) × (t : ℕ) × (w.fresh ≡ false → b ≡ s) × (after.next ≡ sequence_number t)
+    (b : ℕ) × (t : ℕ) × (b ≡ start_of w.fresh s M (answers_of came)) × (after.next ≡ sequence_number t)
+    × ((u : ℕ) × Leads H M b (answers_of came) u)
     × DeliversTo H b items t M (length came) × (ended ≡ IsUp → IsCaughtUp w.fresh t M (answers_of came))
 
 abbrev CameTo : WalkPlace → WalkPlace → ℕ → List Came → History → List Moment → Type 0
 CameTo w here s came H M =
-    (b : ℕ) × (t : ℕ) × (w.fresh ≡ false → b ≡ s) × (here.next ≡ sequence_number t)
+    (b : ℕ) × (t : ℕ) × (b ≡ start_of w.fresh s M (answers_of came)) × (here.next ≡ sequence_number t)
+    × Leads H M b (answers_of came) t
     × DeliversTo H b (items_of (answers_of came)) t M (length came)
     × (false ≡ false → EndsEmpty came → IsCaughtUp w.fresh t M (answers_of came))
 
@@ -247,7 +278,7 @@ whole_run : (w here after : WalkPlace) (s : ℕ) (came : List Came) (items : Lis
     CameTo w here s came H M → restarted after ≡ restarted here → items ≡ items_of (answers_of came) → (ended ≡ IsUp → EndsEmpty came) → Ran w after s came items ended H M
 whole_run w here after s came items ended H M d place is up =
     let P : List Item → Type 0 = λ l. DeliversTo H d.0 l d.1 M (length came) in
-    (d.0, d.1, d.2, ap (λ (v : WalkPlace). v.next) place ∙ d.3, subst P (sym is) d.4, λ e. d.5 refl (up e))
+    (d.0, d.1, d.2, ap (λ (v : WalkPlace). v.next) place ∙ d.3, (d.1, d.4), subst P (sym is) d.5, λ e. d.6 refl (up e))
 
 run_ended : {S : Type 0} (asks : Asking S) (path : Path) (retries : ℕ) (new mid : S) (w here after : WalkPlace) (s steps : ℕ) (came : List Came) (items : List Item) (ended : Ended) (H : History) (M : List Moment) →
     CameTo w here s came H M → EndsBy asks path retries steps came here mid ended after new → AreOf ended came items after → Ran w after s came items ended H M
@@ -258,12 +289,13 @@ run_ended asks path retries new mid w here after s steps came items Stopped H M 
     let whole : items_of (answers_of came) ≡ before ++ Logged k e ∷ dropped =
     sym all ∙ ap (λ l. l ++ dropped) cut ∙ append_assoc before (Logged k e ∷ []) dropped in
     let P : List Item → Type 0 = λ l. DeliversTo H d.0 l d.1 M (length came) in
-    let r = resumed H d.0 d.1 (length came) k e M before dropped (subst P whole d.4) in
+    let r = resumed H d.0 d.1 (length came) k e M before dropped (subst P whole d.5) in
     let Q : List Item → Type 0 = λ l. DeliversTo H d.0 l (r.0 + 1) M (r.1 + 1) in (
       d.0,
       r.0 + 1,
       d.2,
       next ∙ ap (λ n. number_after n 1) r.2 ∙ after-number r.0 1,
+      (d.1, d.4),
       up_to H M d.0 (r.0 + 1) (r.1 + 1) (length came) items (subst Q (sym cut) r.6) (omega (arith, r.3)),
       λ e. absurd (cc),
     )
@@ -280,7 +312,15 @@ brought_ran asks path retries old new w after steps came items ended H M low s r
 pub brought_delivers : {S : Type 0} (asks : Asking S) → BroughtIsDelivered asks
 brought_delivers asks = λ path retries old new w after steps came items ended H M low s run said here some back window at.
     let ran = brought_ran asks path retries old new w after steps came items ended H M low s run said here some back window at in
-    (ran.0, length came, ran.1, ran.2, ran.3, ran.4, ran.5)
+    (ran.0, length came, ran.1, ran.2, ran.3, ran.4, ran.5, ran.6)
+
+-- the items of a run are those of its replies, but where it was stopped a front of them
+pub cut_of : (ended : Ended) (came : List Came) (items : List Item) (after : WalkPlace) → AreOf ended came items after →
+    (dropped : List Item) × (items ++ dropped ≡ items_of (answers_of came)) × ((ended ≡ Stopped → ⊥) → dropped ≡ [])
+cut_of IsUp came items after are = ([], append-nil items ∙ are, λ on. refl)
+cut_of StepLimit came items after are = ([], append-nil items ∙ are, λ on. refl)
+cut_of (Fault f) came items after are = ([], append-nil items ∙ are, λ on. refl)
+cut_of Stopped came items after are = (are.3, are.5, λ on. absurd (on refl))
 
 pub answers_came : (came : List Came) → length (answers_of came) ≡ length came
 answers_came came = length_answers came

@@ -1,5 +1,5 @@
 -- What comes over a link that is honest for a log.
-use Rattle.std.proofs.Common.{◌≡◌, ℕ, zero, suc, ◌+◌, ◌<◌, ◌≤◌, Bool, true, false, ◌==◌, if◌then◌else◌, Option, Some, None, Result, Ok, Err, List, [], ◌∷◌, ◌++◌, length, refl, sym, ap, subst, ◌∙◌, inl, inr, arith}
+use Rattle.std.proofs.Common.{◌≡◌, ℕ, zero, suc, ◌+◌, ◌<◌, ◌≤◌, Bool, true, false, ◌==◌, if◌then◌else◌, Option, Some, None, Result, Ok, Err, List, [], ◌∷◌, ◌++◌, length, length-append, drop, append_assoc, refl, sym, ap, subst, ◌∙◌, inl, inr, arith}
 use Rattle.bac_wire.specs.Primitive.{Id}
 use Rattle.bac_apdu.specs.Apdu.{Apdu, Confirmed, Unconfirmed, Simple, Complex, SegmentAck, Error, Reject, Abort}
 use Rattle.bac_apdu.specs.declared.service.extent.Extent.{Extent}
@@ -8,20 +8,22 @@ use Rattle.bac_link.specs.declared.link.Lost.{Lost as Loss}
 use Rattle.bac_link.specs.declared.exchanges.Verdict.{Verdict}
 use Rattle.bac_link.specs.declared.exchanges.Verdict.TheVariants as verdict
 use Rattle.bac_link.specs.Datagrams.{apdu_in}
-use Rattle.bac_link.specs.Delivery.{History, Moment, DeliversTo, now, later}
+use Rattle.bac_link.specs.Delivery.{History, Moment, DeliversTo, Leads, items_of, now, later}
 use Rattle.bac_link.specs.Exchanges.{Answers, IsNoAnswer, Unanswered, verdict_of}
 use Rattle.bac_link.specs.Laws.{after_answers}
-use Rattle.bac_link.proofs.Delivers.{joined}
+use Rattle.std.proofs.lemmas.Grind.{flat_map-append}
+use Rattle.bac_link.proofs.Delivers.{joined, leads-append}
 use Rattle.bac_link.specs.Links.{question}
 use Rattle.bac_link.specs.Path.{Path}
 use Rattle.bac_log.specs.TrendLog.{sequence_number}
 use Rattle.bac_link.specs.Moments.{NeverGoesBack}
-use Rattle.bac_walk.specs.Came.{Came, Asks, Comes, AreSaidAt, Brought, BroughtInto, EndsBy, restarted}
+use Rattle.bac_walk.specs.Came.{Came, Asks, Comes, AreSaidAt, Brought, BroughtInto, EndsBy, answers_of, restarted}
 use Rattle.bac_link.specs.Heard.{AckParameters}
 use Rattle.bac_link.specs.Moments.{AreInWindow}
 use Rattle.bac_walk.specs.Place.{WalkPlace}
 use Rattle.bac_link.specs.Heard.{heard_from, heard_in}
-use Rattle.bac_walk.specs.Honest.{DeliversSaid, IsHonestEnd, HonestIsDelivered}
+use Rattle.bac_walk.specs.Collects.{IsCaughtUp, batches}
+use Rattle.bac_walk.specs.Honest.{DeliversSaid, IsHonestEnd, IsLeftAt, HonestIsDelivered}
 use Rattle.bac_link.specs.Honest.{IsSaidOrLost, IsHonest, IsHonestWhere, asked_octets}
 use Rattle.bac_link.proofs.Honest.{goes_on}
 use Rattle.bac_link.specs.Standard.{IsSaidAt}
@@ -36,7 +38,7 @@ use Rattle.bac_walk.specs.declared.outcome.WalkFault.TheVariants.{Lost, Refused,
 use Rattle.bac_walk.specs.Delivers.{NoneFrom}
 use Rattle.bac_walk.proofs.Joins.{after_answers-add}
 use Rattle.bac_walk.proofs.Window.{stays_in_window}
-use Rattle.bac_walk.proofs.Came.{Asking, answers_came, back_later, brought_delivers, brought_ran, some_later, window_later, window_now}
+use Rattle.bac_walk.proofs.Came.{Asking, answers_came, back_later, brought_delivers, brought_ran, cut_of, some_later, start_old, window_later, window_now}
 use Rattle.bac_link.specs.declared.item.Item.{Item}
 use Rattle.bac_walk.specs.Meant.{Means}
 use Rattle.bac_walk.specs.Outcomes.{IsRunOf}
@@ -202,21 +204,24 @@ delivers_said {S = S} asks path retries old new w after steps items ended (came,
     let goes = goes_on asks path w.log H low in
     let all = honest_comes asks stands path retries w.log H low came M old run.1 (restarted w) run.0 goes here honest run.2 in
     let end = ended_honest asks stands path retries steps w.log H low came (after_answers (length came) M) run.0 after run.1 new ended goes all.2 all.1 run.3 in
-    let ran = brought_ran asks path retries old new w after steps came items ended H M low s run all.0 next some back window at in (
+    let ran = brought_ran asks path retries old new w after steps came items ended H M low s run all.0 next some back window at in
+    let cut = cut_of ended came items after run.4 in
+    let C : ℕ → Type 0 = λ n. DeliversTo H ran.0 items ran.1 M n in
+    let L : ℕ → Type 0 = λ n. IsLeftAt asks path w.log H low old new M n in (
       ran.0,
-      length came,
       ran.1,
-      ran.2,
+      answers_of came,
+      record { start = ran.2; reached = ran.4.0; leads = ran.4.1; dropped = cut.0; all = cut.1; whole = cut.2 },
       ran.3,
-      ran.4,
-      (
+      subst C (sym (answers_came came)) ran.5,
+      subst L (sym (answers_came came)) (
         end.0,
         λ moments told is.
             let at_moments : S → List Moment → Type 0 = λ link N. moments link ≡ N in
             let b = honest_comes asks at_moments path retries w.log H low came M old run.1 (restarted w) run.0 told here is run.2 in
             (ended_honest asks at_moments path retries steps w.log H low came (after_answers (length came) M) run.0 after run.1 new ended told b.2 b.1 run.3).0,
       ),
-      (λ up. let caught = ran.5 up in (caught.0, omega (arith, caught.1, answers_came came), caught.3)),
+      ran.6,
       end.1,
     )
 
@@ -243,33 +248,67 @@ back_after : (count : ℕ) (M : List Moment) → NeverGoesBack M → NeverGoesBa
 back_after zero M back = back
 back_after (suc count) M back = back_after count (later M) (back_later M back)
 
+-- a walk from a number on, caught up after the second of two runs, is caught up after both
+up_joined : (fresh resumed : Bool) (t count : ℕ) (M : List Moment) (xs ys : List (List Item)) → length xs ≡ count → fresh ≡ false →
+    IsCaughtUp resumed t (after_answers count M) ys → IsCaughtUp fresh t M (xs ++ ys)
+up_joined fresh resumed t count M xs ys is old up =
+    let N : List Moment → Type 0 = λ m. NoneFrom t (now m) in
+    let B : List (List Item) → Type 0 = λ l. batches l ≡ 0 in (
+      count + up.0,
+      omega (arith, length-append xs ys, up.1, is),
+      subst B (sym (drop_both xs ys count up.0 is)) up.2,
+      subst N (sym (after_answers-add count up.0 M)) up.3,
+      λ f none. absurd (let e = sym old ∙ f in cc),
+    )
+  where
+    drop_both : (xs ys : List (List Item)) (count i : ℕ) → length xs ≡ count → drop (count + i) (xs ++ ys) ≡ drop i ys
+    drop_both [] ys zero i is = let e : zero + i ≡ i = omega arith in ap (λ k. drop k ys) e
+    drop_both [] ys (suc n) i is = absurd (omega (arith, is))
+    drop_both (x ∷ xs) ys zero i is = absurd (omega (arith, is))
+    drop_both (x ∷ xs) ys (suc n) i is =
+        let e : suc n + i ≡ suc (n + i) = omega arith in
+        ap (λ k. drop k (x ∷ (xs ++ ys))) e ∙ drop_both xs ys n i (omega (arith, is))
+
 pub said_joins : {S : Type 0} (asks : Asking S) (path : Path) (old half new : S) (w mid resumed after : WalkPlace) (xs ys : List Item) (e f : Ended) →
     DeliversSaid asks path old w xs e mid half → DeliversSaid asks path half resumed ys f after new → resumed.log ≡ w.log → resumed.next ≡ mid.next → resumed.fresh ≡ false → w.fresh ≡ false →
     DeliversSaid asks path old w (xs ++ ys) f after new
 said_joins {S = S} asks path old half new w mid resumed after xs ys e f first second log_is next_is by_number had_number = λ H M s low honest next some back window at.
     let a = first H M s low honest next some back window at in
-    let P : ℕ → Type 0 = λ n. DeliversTo H n xs a.2 M a.1 in
-    let one = subst P (a.3 had_number) a.5 in
-    let place = stays_in_window H M low s a.2 a.1 xs some window (at had_number).0 (at had_number).1 one in
-    let left : List Moment = after_answers a.1 M in
+    let count : ℕ = length a.2 in
+    let P : ℕ → Type 0 = λ n. DeliversTo H n xs a.1 M count in
+    let one = subst P (a.3.start ∙ start_old w.fresh s M a.2 had_number) a.5 in
+    let place = stays_in_window H M low s a.1 count xs some window (at had_number).0 (at had_number).1 one in
+    let left : List Moment = after_answers count M in
     let R : Id → Type 0 = λ i. IsHonest asks path i H low half left in
-    let b = second H left a.2 low (subst R (sym log_is) a.6.0) (next_is ∙ a.4) (some_after a.1 M some) (back_after a.1 M back) place.2 (λ old. (place.0, place.1)) in
-    let E : ℕ → Type 0 = λ n. DeliversTo H n ys b.2 left b.1 in
-    let two = subst E (b.3 by_number) b.5 in
-    let K : Id → Type 0 = λ i. IsHonest asks path i H low new (after_answers b.1 left) in
+    let b = second H left a.1 low (subst R (sym log_is) a.6.0) (next_is ∙ a.4) (some_after count M some) (back_after count M back) place.2 (λ old. (place.0, place.1)) in
+    let more : ℕ = length b.2 in
+    let begun : b.0 ≡ a.1 = b.3.start ∙ start_old resumed.fresh a.1 left b.2 by_number in
+    let E : ℕ → Type 0 = λ n. DeliversTo H n ys b.1 left more in
+    let two = subst E begun b.5 in
+    let F : ℕ → Type 0 = λ n. Leads H left n b.2 b.3.reached in
+    let G : List Moment → Type 0 = λ N. Leads H N a.1 b.2 b.3.reached in
+    let leads = leads-append H M s a.1 b.3.reached one.0 b.2 one.3 (subst (λ n. Leads H (after_answers n M) a.1 b.2 b.3.reached) (sym one.1) (subst F begun b.3.leads)) in
+    let K : Id → Type 0 = λ i. IsHonest asks path i H low new (after_answers more left) in
     let L : List Moment → Type 0 = λ N. IsHonest asks path w.log H low new N in
-    let T : Id → Type 0 = λ i. (moments : S → List Moment) → IsHonestWhere asks path i H low (λ link N. moments link ≡ N) → moments half ≡ left → moments new ≡ after_answers b.1 left in
-    let both = sym (after_answers-add a.1 b.1 M) in (
+    let T : Id → Type 0 = λ i. (moments : S → List Moment) → IsHonestWhere asks path i H low (λ link N. moments link ≡ N) → moments half ≡ left → moments new ≡ after_answers more left in
+    let both = sym (after_answers-add count more M) in
+    let counted : length (one.0 ++ b.2) ≡ count + more = omega (arith, length-append one.0 b.2, one.1) in
+    let C : ℕ → Type 0 = λ n. DeliversTo H s (xs ++ ys) b.1 M n in
+    let Z : ℕ → Type 0 = λ n. IsLeftAt asks path w.log H low old new M n in (
       s,
-      a.1 + b.1,
-      b.2,
-      (λ old. refl),
+      b.1,
+      one.0 ++ b.2,
+      record {
+        start = sym (start_old w.fresh s M (one.0 ++ b.2) had_number);
+        reached = b.3.reached;
+        leads = leads;
+        dropped = b.3.dropped;
+        all = append_assoc xs ys b.3.dropped ∙ ap (λ l. xs ++ l) b.3.all ∙ ap (λ l. l ++ items_of b.2) (sym one.2) ∙ sym (flat_map-append (λ (l : List Item). l) one.0 b.2);
+        whole = b.3.whole;
+      },
       b.4,
-      joined H s a.2 b.2 a.1 b.1 M xs ys one two,
-      (subst L both (subst K log_is b.6.0), (λ moments told is. subst T log_is b.6.1 moments told (a.6.1 moments told is) ∙ both)),
-      (λ up.
-          let c = b.7 up in
-          let G : List Moment → Type 0 = λ N. NoneFrom b.2 (now N) in
-          (a.1 + c.0, omega (arith, c.1), subst G (sym (after_answers-add a.1 c.0 M)) c.2)),
+      subst C (sym counted) (joined H s a.1 b.1 count more M xs ys one two),
+      subst Z (sym counted) (subst L both (subst K log_is b.6.0), (λ moments told is. subst T log_is b.6.1 moments told (a.6.1 moments told is) ∙ both)),
+      (λ up. let c = b.7 up in up_joined w.fresh resumed.fresh b.1 count M one.0 b.2 one.1 had_number c),
       b.8,
     )

@@ -1,14 +1,14 @@
 -- What a walk delivers over links that are honest for its log.
-use Rattle.std.specs.Prelude.{◌≡◌, ℕ, ◌+◌, ◌<◌, ◌≤◌, false, Option, Result}
-use Rattle.std.specs.Prelude.{List, ◌∷◌, length, All}
+use Rattle.std.specs.Prelude.{◌≡◌, ℕ, ◌+◌, ◌<◌, ◌≤◌, Bool, false, Option, Result}
+use Rattle.std.specs.Prelude.{List, [], ◌∷◌, ◌++◌, length, All}
 use Rattle.bac_wire.specs.Canon.{IsValid}
 use Rattle.bac_wire.specs.Primitive.{Id, Object}
 use Rattle.bac_apdu.specs.Npdu.{Place}
 use Rattle.bac_apdu.specs.Route.{IsWay}
 use Rattle.bac_link.specs.declared.item.Item.{Item}
 use Rattle.bac_link.specs.declared.link.Lost.{Lost as Loss}
-use Rattle.bac_link.specs.Delivery.{History, Moment, DeliversTo, now}
-use Rattle.bac_link.specs.Laws.{after_answers, moment_at}
+use Rattle.bac_link.specs.Delivery.{History, Moment, DeliversTo, Leads, items_of, now}
+use Rattle.bac_link.specs.Laws.{after_answers}
 use Rattle.bac_link.specs.Moments.{AreServed, log_at}
 use Rattle.bac_link.specs.Path.{Path, towards}
 use Rattle.bac_log.specs.Entry.{IsLoggable}
@@ -18,8 +18,7 @@ use Rattle.bac_walk.specs.declared.outcome.Ended.TheVariants.{CaughtUp, StepLimi
 use Rattle.bac_walk.specs.declared.outcome.WalkFault.TheVariants.{Lost, Refused, BadReply}
 use Rattle.bac_link.specs.Moments.{NeverGoesBack}
 use Rattle.bac_walk.specs.Came.{Came, Comes, AreSaidAt, Brought, answers_of}
-use Rattle.bac_walk.specs.Collects.{IsCaughtUp}
-use Rattle.bac_walk.specs.Delivers.{NoneFrom}
+use Rattle.bac_walk.specs.Collects.{IsCaughtUp, start_of}
 use Rattle.bac_link.specs.Moments.{AreInWindow}
 use Rattle.bac_walk.specs.Near.{IsNear}
 use Rattle.bac_walk.specs.Place.{WalkPlace}
@@ -45,7 +44,8 @@ HonestIsDelivered {S = S} asks stands =
     Brought asks path retries old w steps came items ended after new →
     w.next ≡ sequence_number s → 0 < length M → NeverGoesBack M → AreInWindow low M →
     (w.fresh ≡ false → (low ≤ s) × (s < low + 2147483648)) →
-    ((b : ℕ) × (a : ℕ) × (t : ℕ) × (w.fresh ≡ false → b ≡ s) × (after.next ≡ sequence_number t)
+    ((b : ℕ) × (a : ℕ) × (t : ℕ) × (b ≡ start_of w.fresh s M (answers_of came)) × (after.next ≡ sequence_number t)
+    × ((u : ℕ) × Leads H M b (answers_of came) u)
     × DeliversTo H b items t M a × (ended ≡ CaughtUp → IsCaughtUp w.fresh t M (answers_of came)))
     × AreSaidAt H M came × stands new (after_answers (length came) M) × IsHonestEnd ended
 
@@ -58,9 +58,21 @@ IsLeftAt {S = S} asks path log H low old new M a =
     × ((moments : S → List Moment) → IsHonestWhere asks path log H low (λ link N. moments link ≡ N) → moments old ≡ M →
     moments new ≡ after_answers a M)
 
+-- What the replies to a run brought, one after the other: each what the log held at its moment, from the ordinal b on.
+-- That is the walk's, or of a walk from the oldest record the oldest that was held when the first batch was given, which
+-- so has no gap before it. The items of the run are these, but where a record was refused those up to it.
+pub record AreBroughtFrom (H : History) (M : List Moment) (fresh : Bool) (s b : ℕ) (answers : List (List Item))
+    (ended : Ended) (items : List Item) : Type 0 where
+  pub start : b ≡ start_of fresh s M answers
+  pub reached : ℕ
+  pub leads : Leads H M b answers reached
+  pub dropped : List Item
+  pub all : items ++ dropped ≡ items_of answers
+  pub whole : (ended ≡ Stopped → ⊥) → dropped ≡ []
+
 -- What a run delivers over a link that is honest for its log from the moments M on: from the ordinal of the walk's
--- number on, or from the oldest, the records that the log holds when each is reached. So many answers use up as many moments;
--- caught up, the log held nothing more at one of these answers; and the only fault is a loss.
+-- number on, or from the oldest, the records that the log holds when each is reached. So many answers use up as many
+-- moments; caught up, the log held nothing more at an answer after the last batch; and the only fault is a loss.
 abbrev pub DeliversSaid : {S : Type 0} → (S → List ℕ → Result (List ℕ) Loss → S → Type 0) → Path →
     S → WalkPlace → List Item → Ended → WalkPlace → S → Type 0
 DeliversSaid {S = S} asks path old before items ended after new =
@@ -68,9 +80,10 @@ DeliversSaid {S = S} asks path old before items ended after new =
     IsHonest asks path before.log H low old M → before.next ≡ sequence_number s →
     0 < length M → NeverGoesBack M → AreInWindow low M →
     (before.fresh ≡ false → (low ≤ s) × (s < low + 2147483648)) →
-    (b : ℕ) × (a : ℕ) × (t : ℕ) × (before.fresh ≡ false → b ≡ s) × (after.next ≡ sequence_number t)
-    × DeliversTo H b items t M a × IsLeftAt asks path before.log H low old new M a
-    × (ended ≡ CaughtUp → (i : ℕ) × (i < a) × NoneFrom t (moment_at M i)) × IsHonestEnd ended
+    (b : ℕ) × (t : ℕ) × (answers : List (List Item)) × AreBroughtFrom H M before.fresh s b answers ended items
+    × (after.next ≡ sequence_number t) × DeliversTo H b items t M (length answers)
+    × IsLeftAt asks path before.log H low old new M (length answers)
+    × (ended ≡ CaughtUp → IsCaughtUp before.fresh t M answers) × IsHonestEnd ended
 
 -- a link is honest for each log for which it is ours, by every way that a request can go
 abbrev pub OursAreHonest : {S : Type 0} → (S → List ℕ → Result (List ℕ) Loss → S → Type 0) →
