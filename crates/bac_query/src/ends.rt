@@ -9,7 +9,8 @@ use bac_walk::{WalkFault, Why};
 use std::alloc::AllocError;
 
 /// What is told where the answer to a question for an array is too long.
-const TOO_LONG: &str = ": the answer is too long for one datagram; an array can be read in parts, with --index=0 and on";
+const TOO_LONG: &str =
+    ": the answer is too long for one datagram; an array can be read in parts, with --index=0 and on";
 
 /// Appends a word and a number after a blank.
 fn push_numbered(text: &mut Vec<u8>, word: &[u8], n: u64) -> Result<(), AllocError>

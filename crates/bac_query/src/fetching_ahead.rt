@@ -1,6 +1,6 @@
 //! Fetching the records of a trend log, whose lines are printed while the next answer is waited for.
 
-ghost use Rattle.std.specs.Prelude.{◌≡◌, ◌≢◌, [], false, List, Option, None, IfOk, OnOk};
+ghost use Rattle.std.specs.Prelude.{◌≡◌, ◌≢◌, ◌≤◌, ◌+◌, ◌*◌, [], false, List, Option, None, IfOk, OnOk};
 ghost use Rattle.bac_link.specs.Path.{towards};
 ghost use Rattle.bac_link.specs.declared.item.Item.{Item as ItemOf};
 ghost use Rattle.bac_walk.specs.declared.outcome.Ended.{Ended as EndedOf};
@@ -40,6 +40,8 @@ pub fn fetch_log_ahead<P: Port, W: Write>(
     // it from here on; and if these say what one log holds, of what it held.
     ensures came { FetchesAhead (port_asks P.sends P.receives) (towards transactions.old.route) transactions.old.retries
         link.old walk steps result link.new (W.contents out.old) (W.contents out.new) }
+    // At most two transactions a step are begun.
+    ensures begun { transactions.new.begun ≤ transactions.old.begun + 2 * steps }
     // If the walk ended with a bad reply, and only then, this is wrong with that reply.
     ensures flaw { TellsFlaw (port_asks P.sends P.receives) (towards transactions.old.route) transactions.old.retries walk.log result link.new }
 {
@@ -66,6 +68,7 @@ fn fetch_told<P: Port, W: Write>(
         (W.contents ahead.old.out.now) (W.contents ahead.new.out.now) }
     ensures came { FetchesAhead (port_asks P.sends P.receives) (towards transactions.old.route) transactions.old.retries
         ahead.old.link.now walk steps result ahead.new.link.now (W.contents ahead.old.out.now) (W.contents ahead.new.out.now) }
+    ensures begun { transactions.new.begun ≤ transactions.old.begun + 2 * steps }
     ensures flaw { TellsFlaw (port_asks P.sends P.receives) (towards transactions.old.route) transactions.old.retries walk.log result ahead.new.link.now }
     ensures same_link { ahead.new.link.ghost_name ≡ ahead.old.link.ghost_name }
     ensures same_out { ahead.new.out.ghost_name ≡ ahead.old.out.ghost_name }
@@ -105,6 +108,7 @@ fn fetch<P: Port, W: Write>(
         (W.contents ahead.old.out.now) (W.contents ahead.new.out.now) }
     ensures came { FetchesAhead (port_asks P.sends P.receives) (towards transactions.old.route) transactions.old.retries
         ahead.old.link.now walk steps result ahead.new.link.now (W.contents ahead.old.out.now) (W.contents ahead.new.out.now) }
+    ensures begun { transactions.new.begun ≤ transactions.old.begun + 2 * steps }
     ensures flaw { IfOk result (λ fetched. fetched.why ≡ Why.Fault FaultOf.BadReply →
         IsBadlyFetched (port_asks P.sends P.receives) (towards transactions.old.route) transactions.old.retries walk.log fetched.next ahead.new.flaw ahead.new.link.now) }
     ensures same_link { ahead.new.link.ghost_name ≡ ahead.old.link.ghost_name }
@@ -148,6 +152,7 @@ fn turn<P: Port, W: Write>(
         ahead.old.link.now walk.old 1 items ended walk.new ahead.new.link.now }
     ensures prints { PrintsLeft ahead.old.left.now.items result (W.contents ahead.old.out.now) (W.contents ahead.new.out.now) }
     ensures well { OnOk result (ahead.new.is_refused ≡ false) }
+    ensures begun { transactions.new.begun ≤ transactions.old.begun + 2 }
     ensures flaw { IfOk result (λ ended. ended ≡ Ended.Fault FaultOf.BadReply →
         IsFlawed (port_asks P.sends P.receives) (towards transactions.old.route) transactions.old.retries walk.new ahead.new.flaw ahead.new.link.now) }
     ensures log { walk.new.log ≡ walk.old.log }
@@ -179,6 +184,7 @@ fn step<P: Port, W: Write>(
     ensures beside { PrintsOn (pending ahead.old.is_refused ahead.old.left.now.items (W.contents ahead.old.out.now))
         (pending ahead.new.is_refused ahead.new.left.now.items (W.contents ahead.new.out.now))
         × (ahead.new.link.ghost_name ≡ ahead.old.link.ghost_name) × (ahead.new.out.ghost_name ≡ ahead.old.out.ghost_name) }
+    ensures begun { transactions.new.begun ≤ transactions.old.begun + 2 }
     ensures flaw { result ≡ Ended.Fault FaultOf.BadReply →
         IsFlawed (port_asks P.sends P.receives) (towards transactions.old.route) transactions.old.retries walk.new ahead.new.flaw ahead.new.link.now }
     ensures log { walk.new.log ≡ walk.old.log }

@@ -34,6 +34,7 @@ loop-done-init g c =
       same_out = refl;
       retries = refl;
       route = refl;
+      begun = omega arith;
       log = refl;
       so_far = ([], 0, 0, link, c.args.walk, none, subst P (sym c.requires.none) none, omega arith, omega arith, c.next_number-told.ensures.next, Appends-nil old);
     }
@@ -110,7 +111,7 @@ returns-in-Err g c =
     let whole = over_joins asks path retries link mid half c.args.walk w c.loop-done.walk n k items left StepLimit first last in
     let all = fails asks path retries link mid half new c.args.walk w c.loop-done.walk c.turn.new.walk c.args.steps n k items left brought ended c.loop-done.told c.in-Err.fault failures new.failures
     old now out first last step (omega (arith, sum, c.loop-done-test.true)) one told printed (rw c.in-Err.is at c.turn.ensures.prints) in
-    record { printed = all.1; came = all.0; flaw = tt; same_link = c.turn.ensures.same_link ∙ c.loop-done.invariant.same_link; same_out = c.turn.ensures.same_out ∙ c.loop-done.invariant.same_out }
+    record { printed = all.1; came = all.0; begun = omega (arith, c.turn.ensures.begun, c.loop-done.invariant.begun, c.loop-done-test.true); flaw = tt; same_link = c.turn.ensures.same_link ∙ c.loop-done.invariant.same_link; same_out = c.turn.ensures.same_out ∙ c.loop-done.invariant.same_out }
 
 pub returns-in-Stopped-clause-printed : goal.returns-in-Stopped-clause-printed
 returns-in-Stopped-clause-printed g c =
@@ -205,7 +206,7 @@ returns-in-Some g c =
     c.turn.new.ahead.flaw c.finish.new.self.link.now new (ap towards c.loop-done.invariant.route) c.loop-done.invariant.retries (c.turn.ensures.log ∙ c.loop-done.invariant.log)
     c.next_number.ensures.next c.finish.ensures.flaw c.finish.ensures.link (flawed (ok.0 ∙ why_bad ended (some ∙ ap Some bad))) in
     let told_flaw = last_is c.turn.new.ahead.left.now.items c.in-Some.why c.next_number.result c.next_number-before.result c.finish.result _ _ N badly_told c.finish.ensures.prints in
-    record { printed = all.1; came = all.0; flaw = told_flaw; same_link = c.finish.ensures.same_link ∙ c.turn.ensures.same_link ∙ c.loop-done.invariant.same_link; same_out = c.finish.ensures.same_out ∙ c.turn.ensures.same_out ∙ c.loop-done.invariant.same_out }
+    record { printed = all.1; came = all.0; begun = omega (arith, c.turn.ensures.begun, c.loop-done.invariant.begun, c.loop-done-test.true); flaw = told_flaw; same_link = c.finish.ensures.same_link ∙ c.turn.ensures.same_link ∙ c.loop-done.invariant.same_link; same_out = c.finish.ensures.same_out ∙ c.turn.ensures.same_out ∙ c.loop-done.invariant.same_out }
 
 pub loop-done-preserved : goal.loop-done-preserved
 loop-done-preserved g c =
@@ -237,6 +238,7 @@ loop-done-preserved g c =
       same_out = c.turn.ensures.same_out ∙ c.loop-done.invariant.same_out;
       retries = c.turn.ensures.retries ∙ c.loop-done.invariant.retries;
       route = c.turn.ensures.route ∙ c.loop-done.invariant.route;
+      begun = omega (arith, c.turn.ensures.begun, c.loop-done.invariant.begun);
       log = c.turn.ensures.log ∙ c.loop-done.invariant.log;
       so_far = (
         items ++ left,

@@ -1,4 +1,4 @@
-use Rattle.std.proofs.Common.{◌≡◌, ◌+◌, ◌≤◌, ℕ, false, List}
+use Rattle.std.proofs.Common.{◌≡◌, ◌+◌, ◌*◌, ◌≤◌, ℕ, false, List}
 use Rattle.std.specs.Io.KnownBytes.{Appends}
 use Rattle.bac_link.specs.declared.item.Item.{Item}
 use Rattle.bac_link.specs.Path.{towards}
@@ -16,6 +16,7 @@ invariant-loop-done g l = record {
   same_out : l.ahead.out.ghost_name ≡ l.fn.ahead.out.ghost_name;
   retries : l.transactions.retries ≡ l.fn.transactions.retries;
   route : l.transactions.route ≡ l.fn.transactions.route;
+  begun : l.transactions.begun ≤ l.fn.transactions.begun + 2 * l.done;
   log : l.walk.log ≡ l.fn.walk.log;
   so_far : (items : List Item) × (n : ℕ) × (k : ℕ) × (mid : _) × (w : WalkPlace)
       × IsRunOver (port_asks g.P.Port.sends g.P.Port.receives) (towards l.fn.transactions.route) l.fn.transactions.retries l.fn.ahead.link.now l.fn.walk n items StepLimit w mid
