@@ -1,5 +1,6 @@
 pub mod Items
 pub mod Rising
+pub mod Causes
 pub mod Sinks
 pub mod Kept
 pub mod Covered
