@@ -121,6 +121,28 @@ def losses(judge, _runs):
                (2, said(device, 0, 0, "lost, next 156") + said(other, 1, 0, "caught up, next 5"), ""))
 
 
+def step_limits(judge, _runs):
+    """A log that ends at the step limit is told by the status, and the next run goes on to its end. A run that is
+    lost behind the last number there is names the number behind it."""
+    device, log = one(room_for=400, count=150)
+    file = f"{judge.room}/a.db"
+    status, out, errors = judge.ran(["keep", file, device.address, "1", "--steps=1"])
+    told = re.fullmatch(re.escape(device.address) + r" 1 (\d+) records? 0 gaps step limit, next (\d+)\n", out)
+    judge.is_right("one step", status == 8 and errors == "" and told and 0 < int(told[1]) <= 100
+                   and int(told[2]) == int(told[1]) + 1, (status, out, errors))
+    rest = 151 - int(told[2])
+    judge.same("and all the rest", judge.ran(["keep", file]), (0, said(device, rest, 0, "caught up, next 151"), ""))
+    judge.judge("behind a step limit", file, [device], True)
+    last, log = one(room_for=50)
+    log.begin(4294967292)
+    log.log(3)
+    other = f"{judge.room}/b.db"
+    judge.same("up to the last number", judge.ran(["keep", other, last.address, "1"])[:2],
+               (0, said(last, 3, 0, "caught up, next 1")))
+    last.answers = 0
+    judge.same("lost behind it", judge.ran(["keep", other, *QUICK]), (2, said(last, 0, 0, "lost, next 1"), ""))
+
+
 def far_away(judge, _runs):
     """The first run is lost, and then the log is 2^31 records and more away; and what is dropped there."""
     device, log = one(room_for=4)
@@ -474,5 +496,5 @@ def judgements(judge, _runs):
     judge.is_right("a broken page is seen", wrongs(broken, [device], True))
 
 
-CASES = [judgements, run_after_run, options, losses, far_away, rounds, restarts, cut_files, foreign_files, a_large_file, printed, taken_over, served,
+CASES = [judgements, run_after_run, options, losses, step_limits, far_away, rounds, restarts, cut_files, foreign_files, a_large_file, printed, taken_over, served,
          terminals]

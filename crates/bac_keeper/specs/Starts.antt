@@ -4,6 +4,7 @@ use Rattle.std.specs.Prelude.{Option, None, Some, String, Result, Ok, Err}
 use Rattle.std.specs.String.{string_bytes}
 use Rattle.sqlite_value.specs.Order.{Row as Values}
 use Rattle.bac_wire.specs.Primitive.{Id}
+use Rattle.bac_link.specs.Ordinals.{number_after}
 use Rattle.bac_archive.specs.Latest.{HasNoItem, IsNewest}
 use Rattle.bac_archive.specs.declared.latest.NewestItem.{NewestItem}
 use Rattle.bac_keep.specs.Newest.{epoch_behind}
@@ -29,14 +30,14 @@ free_behind last = if last.number == 4294967295 then 0 else last.number + 1
 
 -- A log goes on in the epoch of its newest item, and no number up to that is taken again; or in the next epoch, where
 -- its numbers came round. One that began anew has the next epoch, from the oldest record on. If the device didn't say
--- which, nothing was kept.
+-- which, nothing was kept, and the number behind the item's comes next.
 abbrev pub IsStart : ℕ → NewestItem → Resume → Result Start End → Type 0
 IsStart log last (GoOn walk) (Ok start) = (start.place.log ≡ log) × (start.place.epoch ≡ epoch_behind last)
     × (start.walk ≡ walk) × (start.free ≡ free_behind last) × (start.anew ≡ false)
 IsStart log last (BeganAnew walk) (Ok start) = (start.place.log ≡ log) × (start.place.epoch ≡ last.epoch + 1)
     × (start.walk ≡ walk) × (start.free ≡ 0) × (start.anew ≡ true)
 IsStart log last (Fault fault) (Err end) = (end.records ≡ 0) × (end.gaps ≡ 0)
-    × (end.why ≡ why.Fault fault) × (end.anew ≡ false)
+    × (end.why ≡ why.Fault fault) × (end.next ≡ number_after last.number 1) × (end.anew ≡ false)
 IsStart log last _ _ = ⊥
 
 -- the octets of a text, or none

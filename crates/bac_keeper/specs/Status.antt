@@ -6,10 +6,11 @@ use Rattle.bac_walk.specs.declared.outcome.Why.TheVariants as why
 use Rattle.bac_keeper.specs.declared.fault.FileFault.{FileFault}
 use Rattle.bac_keeper.specs.declared.fault.FileFault.TheVariants.{InUse}
 
--- of a walk, by why it ended, as `bac log` has it
+-- of a walk, by why it ended: as `bac log` has it, but one that isn't at the log's end is told, since a timer looks at
+-- nothing else
 abbrev pub walk_status : Why → ℕ
 walk_status why.CaughtUp = 0
-walk_status why.StepLimit = 0
+walk_status why.StepLimit = 8
 walk_status (why.Fault walk.Lost) = 2
 walk_status (why.Fault (walk.Refused refusal)) = 3
 walk_status (why.Fault walk.BadReply) = 4

@@ -25,7 +25,7 @@ fn file<'a>(alloc: Global) -> Arg<'a> {
 }
 
 fn with_options<'a>(alloc: Global, command: Command<'a>) -> Result<Command<'a>, AllocError> {
-    let help = "Batches of up to 100 records a log; 1000 if left out";
+    let help = "Batches of up to 100 records a log; all if left out";
     let command = command.arg(option(alloc, Word::Steps, "N", help))?;
     let help = "Wait for an answer: 1 to 60000 ms; 3000 if left out";
     let command = command.arg(option(alloc, Word::Timeout, "MS", help))?;
@@ -50,8 +50,9 @@ adds trend logs 1 and 2 of that device to site.db and fetches their records:
 Without INSTANCE it adds each trend log of the device's Object_List, and
 bac keep site.db fetches what is new of each log in the file. sqlite3 reads it.
 
-Status: the greatest of its logs' as bac log has them; 6 the file isn't an
-archive, can't be read or written, or is full; 7 another program has it open.";
+Status: the greatest of its logs' as bac log has them, but 8 for a step limit;
+6 the file isn't an archive, can't be read or written, or is full; 7 another
+program has it open.";
     let command = Command::new(alloc, "keep")
         .about(about)
         .after_help(example)

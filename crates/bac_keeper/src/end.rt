@@ -27,12 +27,13 @@ pub enum NotDone {
     File(FileFault),
 }
 
-/// The exit status of a walk that ended so.
+/// The exit status of a walk that ended so: 8 if there may be more.
 pub(crate) fn walk_status(why: Why) -> u8
     ensures { result ≡ walk_status why }
 {
     match why {
-        Why::CaughtUp | Why::StepLimit => 0,
+        Why::CaughtUp => 0,
+        Why::StepLimit => 8,
         Why::Fault(WalkFault::Lost) => 2,
         Why::Fault(WalkFault::Refused(_)) => 3,
         Why::Fault(WalkFault::BadReply) => 4,

@@ -5,6 +5,7 @@ ghost use Rattle.sqlite.specs.State.{HasCleanDisk, Survives};
 ghost use Rattle.sqlite.specs.Held.{state};
 ghost use Rattle.bac_archive.specs.Schema.{archive_schema};
 ghost use Rattle.bac_archive.specs.Rows.{kept};
+ghost use Rattle.bac_link.specs.Ordinals.{number_after};
 ghost use Rattle.bac_link.specs.Path.{towards};
 ghost use Rattle.bac_keeper.specs.Fetched.{ComesFrom, IsAskedOn, link_over, own_address, socket_rules};
 ghost use Rattle.bac_keeper.specs.Keeps.{KeepsBegun, KeepsLog, trend_log};
@@ -124,6 +125,13 @@ fn octets_of(text: &Option<String>) -> &[u8]
     }
 }
 
+/// The number behind this one: 1 behind the last that there is.
+fn number_behind(number: u32) -> u32
+    ensures { result ≡ number_after number 1 }
+{
+    if number == 4294967295 { 1 } else { number + 1 }
+}
+
 /// Where a log goes on behind its newest item, and the first number that may be kept there: behind
 /// the last number that there is, in the next epoch.
 fn behind(id: u16, last: &NewestItem) -> Result<(Place, u64), NotDone>
@@ -161,7 +169,7 @@ fn start_of(id: u16, last: &NewestItem, told: Resume) -> Result<Result<Start, En
             records: 0,
             gaps: 0,
             why: Why::Fault(fault),
-            next: last.number.saturating_add(1),
+            next: number_behind(last.number),
             anew: false,
         })),
     }

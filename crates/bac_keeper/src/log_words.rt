@@ -35,6 +35,14 @@ fn push_option(
     Ok(())
 }
 
+/// How many steps a log has: as many as it takes, if the words name none.
+fn steps_of<'a>(options: &Options<'a>) -> &'a str {
+    match options.steps {
+        Some(steps) => steps,
+        None => "4294967295",
+    }
+}
+
 /// The words of `bac log` with these options.
 fn log_words(
     alloc: Global,
@@ -45,7 +53,7 @@ fn log_words(
     let mut words = Vec::new(alloc);
     push_word(alloc, &mut words, "bac")?;
     push_word(alloc, &mut words, "log")?;
-    push_option(alloc, &mut words, Word::Steps, options.steps)?;
+    push_option(alloc, &mut words, Word::Steps, Some(steps_of(options)))?;
     push_option(alloc, &mut words, Word::Timeout, options.timeout)?;
     push_option(alloc, &mut words, Word::Local, options.local)?;
     push_option(alloc, &mut words, Word::Retries, options.retries)?;
