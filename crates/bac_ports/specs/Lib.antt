@@ -1,3 +1,4 @@
 pub mod Asking
 pub mod Port
 pub mod Client
+pub mod Sockets

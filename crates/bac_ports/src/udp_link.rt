@@ -38,6 +38,13 @@ impl<P: Port> UdpLink<P> {
         }
     }
 
+    /// The port as the asks left it, to be closed.
+    pub fn into_port(self) -> P
+        ensures { result ≡ self.port }
+    {
+        self.port
+    }
+
     /// The first half of an ask: sends a request to the peer, once, and waits for nothing.
     pub fn send(&mut self, request: &[u8]) -> Result<(), SocketFault>
         ensures sends { P.sends self.old.port request.now self.old.peer result self.new.port }

@@ -3,12 +3,12 @@ use Rattle.std.proofs.Common.{ℕ, List, Ok, Err, inl, inr}
 use Rattle.bac_link.specs.Delivery.{History, Moment}
 use Rattle.bac_link.specs.Path.{towards}
 use Rattle.bac_link.specs.declared.item.Item.{Item}
+use Rattle.bac_ports.specs.Sockets.{SocketRules, socket_asks}
 use Rattle.bac_ports.specs.declared.udp_link.UdpLink.{UdpLink}
 use Rattle.bac_print.specs.Output.{Held}
 use Rattle.bac_query.specs.Fetching.{EndsAs, Fetching, IsFetched, PrintsItems, TellsRun}
 use Rattle.bac_query.specs.declared.fault.QueryFault.TheVariants.{Exchange, Write, Memory}
 use Rattle.bac_tools.specs.Asking.{FetchesRun}
-use Rattle.bac_tools.specs.Sockets.{SocketRules, socket_asks}
 use Rattle.bac_walk.specs.Place.{WalkPlace}
 use Rattle.bac_walk.specs.Told.{Told}
 use Rattle.bac_walk.specs.declared.outcome.Ended.{Ended}

@@ -7,11 +7,11 @@ use Rattle.bac_print.specs.Output.{AppendsPart, Held}
 use Rattle.bac_objects.specs.State.{State}
 use Rattle.bac_objects.specs.declared.lines.DeviceLine.{DeviceLine}
 use Rattle.bac_objects.specs.declared.lines.ObjectLine.{ObjectLine}
+use Rattle.bac_ports.specs.Sockets.{SocketRules}
 use Rattle.bac_ports.specs.declared.port.SocketFault.{SocketFault}
 use Rattle.bac_tools.specs.Ending.{Ending}
 use Rattle.bac_script.specs.Reason.{AreNumbers}
 use Rattle.bac_tools.specs.Serving.{IsServed, IsUnbuilt}
-use Rattle.bac_tools.specs.Sockets.{SocketRules}
 use Rattle.bac_tools.specs.Streams.{Streams}
 use Rattle.bac_tools.specs.declared.fault.Fault.{Fault}
 use Rattle.bac_tools.specs.declared.fault.Fault.TheVariants.{Memory, Socket}
@@ -51,7 +51,7 @@ pub unserved : {S P C : Type 0} (rules : SocketRules S P) (tells : C → Option 
 unserved rules tells address wait count device old new result fault said errors clock (inl (p, sockets)) =
     inl (said ∙ ap Err p, ((errors, clock), sockets))
 unserved rules tells address wait count device old new result fault said errors clock (inr (p, (why, opens))) =
-    inr (Err why, opens, (said ∙ ap Err p, (errors, clock)))
+    inr (inl (why, opens, said ∙ ap Err p, (errors, clock)))
 
 -- lines that make no device are told by their numbers in the input, if its text was kept
 pub placed : (input : Held) (text : List ℕ) (device : DeviceLine) (objects : List ObjectLine) (fault : Fault) → IfSome input (λ script. text ≡ script)

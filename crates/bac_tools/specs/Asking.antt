@@ -4,6 +4,7 @@ use Rattle.bac_apdu.specs.declared.service.read_property.ReadProperty.{ReadPrope
 use Rattle.bac_link.specs.Path.{towards}
 use Rattle.bac_link.specs.declared.item.Item.{Item}
 use Rattle.bac_link.specs.declared.request.Request.{Request}
+use Rattle.bac_ports.specs.Sockets.{SocketRules, link_over, own_address, socket_asks}
 use Rattle.bac_ports.specs.declared.udp_link.UdpLink.{UdpLink}
 use Rattle.bac_print.specs.Output.{Held}
 use Rattle.bac_query.specs.Ahead.{FetchesAhead}
@@ -13,7 +14,7 @@ use Rattle.bac_query.specs.Reading.{Answer, ReadsOver, next_way}
 use Rattle.bac_query.specs.Writing.{WritesOver}
 use Rattle.bac_tools.specs.Ending.{Ending}
 use Rattle.bac_tools.specs.Faults.{of_query}
-use Rattle.bac_tools.specs.Sockets.{Opens, Outside, SocketRules, link_over, own_address, socket_asks, transactions_with}
+use Rattle.bac_tools.specs.Sockets.{Opens, Outside, transactions_with}
 use Rattle.bac_tools.specs.Status.{walk_status}
 use Rattle.bac_tools.specs.declared.fault.Fault.TheVariants.{Flawed}
 use Rattle.bac_walk.specs.Collects.{Goes}
@@ -31,13 +32,15 @@ use Rattle.bac_words.specs.declared.job.Asked.{Asked}
 abbrev pub OverLink : Type 0 → Type 0 → Type 1
 OverLink P A = UdpLink P → A → UdpLink P → Held → Held → Type 0
 
--- a socket is opened as the words say, this is done over a link to the device that they name, and its answer is the end
+-- A socket is opened as the words say, this is done over a link to the device that they name, its answer is the end, and
+-- the socket is closed as the link left it.
 abbrev pub AsksDevice : {S P A : Type 0} → SocketRules S P → Asked → OverLink P A → (A → Ending) →
     Outside S → Ending → Outside S → Type 0
 AsksDevice {P = P} {A = A} rules asked does ends old result new =
     Opens rules (own_address asked.local) asked.timeout old result new
-    (λ port. (answer : A) × (left : UdpLink P)
-    × does (link_over asked.address port) answer left old.output new.output × (result ≡ ends answer))
+    (λ port last. (answer : A) × (left : UdpLink P)
+    × does (link_over asked.address port) answer left old.output new.output × (last ≡ left.port)
+    × (result ≡ ends answer))
 
 -- ---- bac rp and wp
 

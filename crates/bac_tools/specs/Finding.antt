@@ -7,9 +7,10 @@ use Rattle.bac_query.specs.Finding.{Finds as FindsDevices, console}
 use Rattle.bac_query.specs.Hearing.{Found}
 use Rattle.bac_query.specs.declared.search.Search.{Search}
 use Rattle.bac_query.specs.Reading.{Held}
+use Rattle.bac_ports.specs.Sockets.{SocketRules, own_address}
 use Rattle.bac_tools.specs.Ending.{Ending}
 use Rattle.bac_tools.specs.Faults.{of_find}
-use Rattle.bac_tools.specs.Sockets.{Opens, Outside, SocketRules, own_address}
+use Rattle.bac_tools.specs.Sockets.{Opens, Outside}
 use Rattle.bac_tools.specs.declared.fault.Fault.TheVariants.{List as ListOf}
 use Rattle.bac_words.specs.Listing.{Lists, listed}
 use Rattle.bac_words.specs.declared.job.Stations.{Stations}
@@ -31,20 +32,22 @@ abbrev pub of_found : ℕ → Found → Ending
 of_found asked (Ok done) = Ok 0
 of_found asked (Err fault) = Err (of_find asked fault)
 
--- over this socket the request goes to each address by turns, and lines are printed of at most 4096 datagrams that come
-abbrev pub SearchesOver : {S P : Type 0} → SocketRules S P → Search → List (List ℕ) → P → Held → Ending → Held → Type 0
-SearchesOver {P = P} rules search addresses port old result new =
-    (found : Found) × (after : P)
+-- Over this socket, which that leaves so, the request goes to each address by turns, and lines are printed of at most
+-- 4096 datagrams that come.
+abbrev pub SearchesOver : {S P : Type 0} → SocketRules S P →
+    Search → List (List ℕ) → P → P → Held → Ending → Held → Type 0
+SearchesOver rules search addresses port last old result new =
+    (found : Found)
     × FindsDevices rules.sends rules.receives rules.receives_within 4096 search addresses
-    (console port old) found (console after new)
+    (console port old) found (console last new)
     × (result ≡ of_found (length addresses) found)
 
--- a socket is opened as the words say, and over it devices are found
+-- a socket is opened as the words say, over it devices are found, and it is closed
 abbrev pub Searches : {S P : Type 0} → SocketRules S P →
     Search → List (List ℕ) → Option (List ℕ) → ℕ → Outside S → Ending → Outside S → Type 0
 Searches rules search addresses local timeout old result new =
     Opens rules (own_address local) timeout old result new
-    (λ port. SearchesOver rules search addresses port old.output result new.output)
+    (λ port last. SearchesOver rules search addresses port last old.output result new.output)
 
 -- ---- stations that standard input lists
 

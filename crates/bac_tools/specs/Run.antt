@@ -9,6 +9,7 @@ use Rattle.bac_apdu.specs.Service.WriteProperty.{PropertyWrite, write_of_code}
 use Rattle.bac_apdu.specs.declared.service.read_property.ReadProperty.{ReadProperty}
 use Rattle.bac_apdu.specs.declared.service.write_property.WriteProperty.{WriteProperty}
 use Rattle.bac_link.specs.declared.request.Request.TheVariants as request
+use Rattle.bac_ports.specs.Sockets.{SocketRules}
 use Rattle.bac_print.specs.Output.{AppendsPart, Held}
 use Rattle.bac_tools.specs.Asking.{Fetches, Reads, Writes}
 use Rattle.bac_tools.specs.Ending.{Ending}
@@ -16,7 +17,7 @@ use Rattle.bac_tools.specs.Finding.{Finds, search_of}
 use Rattle.bac_tools.specs.Given.{value_of}
 use Rattle.bac_tools.specs.Playing.{Plays}
 use Rattle.bac_tools.specs.Serving.{Serves}
-use Rattle.bac_tools.specs.Sockets.{Outside, SocketRules}
+use Rattle.bac_tools.specs.Sockets.{Outside}
 use Rattle.bac_tools.specs.Status.{exit_status}
 use Rattle.bac_tools.specs.Streams.{Streams, IsIdle, IsQuiet, IsUntouched, outside_of, with_errors}
 use Rattle.bac_tools.specs.Texts.{told_text}

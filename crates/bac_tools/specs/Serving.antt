@@ -7,7 +7,7 @@ use Rattle.bac_objects.specs.Misfit.{IsMisfit}
 use Rattle.bac_objects.specs.State.{State}
 use Rattle.bac_objects.specs.declared.lines.DeviceLine.{DeviceLine}
 use Rattle.bac_objects.specs.declared.lines.ObjectLine.{ObjectLine}
-use Rattle.bac_ports.specs.Port.{Opening}
+use Rattle.bac_ports.specs.Sockets.{SocketRules}
 use Rattle.bac_print.specs.Output.{AppendsPart, Held}
 use Rattle.bac_script.specs.Configuration.{Configures}
 use Rattle.bac_script.specs.Reason.{AreNumbers, IsExplainedThere}
@@ -19,7 +19,7 @@ use Rattle.bac_script.specs.declared.replay.fault.UnfitLine.{UnfitLine}
 use Rattle.bac_serve.specs.Serving.{Done, Serves as ServesDevice, server}
 use Rattle.bac_serve.specs.Waiting.{has_interval}
 use Rattle.bac_tools.specs.Ending.{Ending}
-use Rattle.bac_tools.specs.Sockets.{IsDoneOver, SocketRules}
+use Rattle.bac_tools.specs.Sockets.{IsDoneOver}
 use Rattle.bac_tools.specs.Streams.{Streams, IsIdle, IsQuiet}
 use Rattle.bac_tools.specs.Texts.{serving_line}
 use Rattle.bac_tools.specs.declared.fault.Fault.{Fault}
@@ -56,23 +56,23 @@ abbrev pub of_served : Done → Ending
 of_served (Ok done) = Ok 0
 of_served (Err fault) = Err Socket
 
--- The device is served for so many datagrams over this socket, and a line on the errors says so.
+-- The device is served for so many datagrams over this socket, which that leaves so, and a line on the errors says so.
 abbrev pub IsServedOver : {S P C : Type 0} → SocketRules S P → (C → Option CivilTime → C → Type 0) →
-    List ℕ → ℕ → State → P → Streams S C → Ending → Streams S C → Type 0
-IsServedOver {P = P} rules tells address count device port old result new =
-    (served : Done) × (left : P) × (after : State) × AppendsPart old.errors new.errors (serving_line address)
+    List ℕ → ℕ → State → P → P → Streams S C → Ending → Streams S C → Type 0
+IsServedOver rules tells address count device port last old result new =
+    (served : Done) × (after : State) × AppendsPart old.errors new.errors (serving_line address)
     × ServesDevice rules.sends rules.receives tells count
-    (server port device old.clock) served (server left after new.clock)
+    (server port device old.clock) served (server last after new.clock)
     × (result ≡ of_served served)
 
--- One socket is opened with this address and wait. Without memory for the line that says so, none is.
+-- One socket is opened with this address and wait, and closed at the end. Without memory for the line that says so, none
+-- is.
 abbrev pub IsServed : {S P C : Type 0} → SocketRules S P → (C → Option CivilTime → C → Type 0) →
     List ℕ → ℕ → ℕ → State → Streams S C → Ending → Streams S C → Type 0
-IsServed {P = P} rules tells address wait count device old result new =
+IsServed rules tells address wait count device old result new =
     ((result ≡ Err Memory) × IsIdle old new)
-    ⊎ ((opened : Opening P) × rules.opens old.sockets address wait opened new.sockets
-    × IsDoneOver opened result (IsQuiet old new)
-    (λ port. IsServedOver rules tells address count device port old result new))
+    ⊎ IsDoneOver rules address wait old.sockets new.sockets result (IsQuiet old new)
+    (λ port last. IsServedOver rules tells address count device port last old result new)
 
 -- a fifth of a second while a log has an interval, so that it takes its samples while nobody asks; else without limit
 abbrev pub wait_of : List ObjectLine → ℕ

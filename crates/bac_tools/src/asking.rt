@@ -5,7 +5,8 @@ ghost use Rattle.bac_link.specs.Requests.{IsSendable};
 ghost use Rattle.bac_wire.specs.View.{view, IsWellFormed};
 ghost use Rattle.bac_tools.specs.Given.{value_of};
 ghost use Rattle.bac_tools.specs.Asking.{Fetches, Reads, Writes, of_end};
-ghost use Rattle.bac_tools.specs.Sockets.{link_over, outside, own_address, socket_rules, transactions_with};
+ghost use Rattle.bac_ports.specs.Sockets.{link_over, own_address, socket_rules};
+ghost use Rattle.bac_tools.specs.Sockets.{outside, transactions_with};
 
 use crate::fault::{Fault, walk_status};
 use bac_apdu::{ReadProperty, Route};
@@ -70,7 +71,7 @@ pub(crate) fn rp<S: Sockets, O: Write>(
     question: ReadProperty,
     output: &mut O,
 ) -> Result<u8, Fault>
-    ensures { Reads (socket_rules S.opens S.Socket.sends S.Socket.receives S.Socket.receives_within) asked question
+    ensures { Reads (socket_rules S.opens S.closes S.Socket.sends S.Socket.receives S.Socket.receives_within) asked question
         (outside sockets.old (O.contents output.old)) result (outside sockets.new (O.contents output.new)) }
 {
     let address = asked.address;
@@ -78,7 +79,9 @@ pub(crate) fn rp<S: Sockets, O: Write>(
         mut link,
         mut transactions,
     } = connect(sockets, asked)?;
-    match read_property(alloc, &mut link, &mut transactions, question, output) {
+    let answered = read_property(alloc, &mut link, &mut transactions, question, output);
+    sockets.close(link.into_port());
+    match answered {
         Ok(()) => Ok(0),
         Err(fault) => Err(Fault::of_query(address, fault)),
     }
@@ -92,7 +95,7 @@ pub(crate) fn wp<S: Sockets, O: Write>(
     output: &mut O,
 ) -> Result<u8, Fault>
     requires { IsSendable question.now }
-    ensures { Writes (socket_rules S.opens S.Socket.sends S.Socket.receives S.Socket.receives_within) asked question.now
+    ensures { Writes (socket_rules S.opens S.closes S.Socket.sends S.Socket.receives S.Socket.receives_within) asked question.now
         (outside sockets.old (O.contents output.old)) result (outside sockets.new (O.contents output.new)) }
 {
     let address = asked.address;
@@ -100,7 +103,9 @@ pub(crate) fn wp<S: Sockets, O: Write>(
         mut link,
         mut transactions,
     } = connect(sockets, asked)?;
-    match write_property(&mut link, &mut transactions, question, output) {
+    let answered = write_property(&mut link, &mut transactions, question, output);
+    sockets.close(link.into_port());
+    match answered {
         Ok(()) => Ok(0),
         Err(fault) => Err(Fault::of_query(address, fault)),
     }
@@ -125,7 +130,7 @@ pub(crate) fn log<S: Sockets, O: Write>(
     steps: u32,
     output: &mut O,
 ) -> Result<u8, Fault>
-    ensures { Fetches (socket_rules S.opens S.Socket.sends S.Socket.receives S.Socket.receives_within) asked walk steps
+    ensures { Fetches (socket_rules S.opens S.closes S.Socket.sends S.Socket.receives S.Socket.receives_within) asked walk steps
         (outside sockets.old (O.contents output.old)) result (outside sockets.new (O.contents output.new)) }
 {
     let address = asked.address;
@@ -133,7 +138,9 @@ pub(crate) fn log<S: Sockets, O: Write>(
         mut link,
         mut transactions,
     } = connect(sockets, asked)?;
-    match fetch_log_ahead(alloc, &mut link, &mut transactions, walk, steps, output) {
+    let fetched = fetch_log_ahead(alloc, &mut link, &mut transactions, walk, steps, output);
+    sockets.close(link.into_port());
+    match fetched {
         Ok(fetched) => ending_of(walk_status(fetched.why), fetched.flaw),
         Err(fault) => Err(Fault::of_query(address, fault)),
     }

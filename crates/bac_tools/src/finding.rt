@@ -3,7 +3,8 @@
 ghost use Rattle.std.specs.Prelude.{◌≡◌, ◌+◌, ◌≤◌, length};
 ghost use Rattle.bac_tools.specs.Faults.{of_find};
 ghost use Rattle.bac_tools.specs.Finding.{Finds, IsListWithin, Searches, limits_of};
-ghost use Rattle.bac_tools.specs.Sockets.{outside, socket_rules};
+ghost use Rattle.bac_ports.specs.Sockets.{socket_rules};
+ghost use Rattle.bac_tools.specs.Sockets.{outside};
 
 use crate::asking::ANY;
 use crate::fault::Fault;
@@ -45,14 +46,16 @@ fn search_for<S: Sockets, O: Write>(
     timeout: u32,
     output: &mut O,
 ) -> Result<u8, Fault>
-    ensures { Searches (socket_rules S.opens S.Socket.sends S.Socket.receives S.Socket.receives_within) search.now addresses.now local timeout
+    ensures { Searches (socket_rules S.opens S.closes S.Socket.sends S.Socket.receives S.Socket.receives_within) search.now addresses.now local timeout
         (outside sockets.old (O.contents output.old)) result (outside sockets.new (O.contents output.new)) }
 {
     let Ok(mut port) = sockets.open(local.unwrap_or(ANY), timeout) else {
         return Err(Fault::Socket);
     };
     let asked = addresses.as_slice();
-    match find_devices(alloc, &mut port, asked, search, output) {
+    let found = find_devices(alloc, &mut port, asked, search, output);
+    sockets.close(port);
+    match found {
         Ok(()) => Ok(0),
         Err(fault) => Err(of_find(asked.len(), fault)),
     }
@@ -111,7 +114,7 @@ pub(crate) fn wi<S: Sockets, I: Read, O: Write>(
     input: &mut I,
     output: &mut O,
 ) -> Result<u8, Fault>
-    ensures { Finds (socket_rules S.opens S.Socket.sends S.Socket.receives S.Socket.receives_within) search.now stations.now local timeout
+    ensures { Finds (socket_rules S.opens S.closes S.Socket.sends S.Socket.receives S.Socket.receives_within) search.now stations.now local timeout
         (I.remaining input.old) (I.remaining input.new)
         (outside sockets.old (O.contents output.old)) result (outside sockets.new (O.contents output.new)) }
 {

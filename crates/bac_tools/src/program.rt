@@ -6,7 +6,7 @@ ghost use Rattle.std.specs.String.{string_bytes};
 ghost use Rattle.clap.specs.Values.{kind_of};
 ghost use Rattle.bac_print.specs.Output.{AppendsPart};
 ghost use Rattle.bac_tools.specs.Run.{AnswersWords, AreWrong, AskFor, Explains, IsNoWalk, IsOutside, OnlyTells, Runs, Works, priority_of, walk_from, wrong_fault};
-ghost use Rattle.bac_tools.specs.Sockets.{socket_rules};
+ghost use Rattle.bac_ports.specs.Sockets.{socket_rules};
 ghost use Rattle.bac_tools.specs.Streams.{streams};
 ghost use Rattle.bac_words.specs.Outcome.{mistakes_of};
 ghost use Rattle.bac_words.specs.declared.job.Job.{Job as AnyJob};
@@ -76,7 +76,7 @@ fn work<S: Sockets, I: Read, O: Write, E: Write, C: Clock>(
     errors: &mut E,
     clock: &mut C,
 ) -> Result<u8, Fault>
-    ensures { Works (socket_rules S.opens S.Socket.sends S.Socket.receives S.Socket.receives_within) C.tells job
+    ensures { Works (socket_rules S.opens S.closes S.Socket.sends S.Socket.receives S.Socket.receives_within) C.tells job
         (streams (I.remaining input.old) (O.contents output.old) (E.contents errors.old) sockets.old clock.old) result
         (streams (I.remaining input.new) (O.contents output.new) (E.contents errors.new) sockets.new clock.new) }
 {
@@ -194,7 +194,7 @@ pub fn run<S: Sockets, I: Read, O: Write, E: Write, C: Clock>(
 ) -> u8
     // The tool that the words name does what they say.
     ensures done { (job : AnyJob) → AskFor (map string_bytes words.now) job →
-        Runs (socket_rules S.opens S.Socket.sends S.Socket.receives S.Socket.receives_within) C.tells job
+        Runs (socket_rules S.opens S.closes S.Socket.sends S.Socket.receives S.Socket.receives_within) C.tells job
         (streams (I.remaining input.old) (O.contents output.old) (E.contents errors.old) sockets.old clock.old) result
         (streams (I.remaining input.new) (O.contents output.new) (E.contents errors.new) sockets.new clock.new) }
     // Of words with a wrong value this is told, and nothing else is done.

@@ -4,7 +4,7 @@ ghost use Rattle.std.specs.Prelude.{◌≡◌, ◌⊎◌, Ok, Err, Some, None, I
 ghost use Rattle.bac_objects.specs.Build.{build_fault, built as built_of};
 ghost use Rattle.bac_print.specs.Output.{AppendsPart};
 ghost use Rattle.bac_tools.specs.Serving.{IsConfigured, IsUnbuilt, Serves};
-ghost use Rattle.bac_tools.specs.Sockets.{socket_rules};
+ghost use Rattle.bac_ports.specs.Sockets.{socket_rules};
 ghost use Rattle.bac_tools.specs.Streams.{streams};
 ghost use Rattle.bac_tools.specs.Texts.{serving_line};
 
@@ -102,7 +102,7 @@ pub(crate) fn serve<S: Sockets, I: Read, E: Write, C: Clock>(
     errors: &mut E,
     clock: &mut C,
 ) -> Result<u8, Fault>
-    ensures { Serves (socket_rules S.opens S.Socket.sends S.Socket.receives S.Socket.receives_within) C.tells address count
+    ensures { Serves (socket_rules S.opens S.closes S.Socket.sends S.Socket.receives S.Socket.receives_within) C.tells address count
         (streams (I.remaining input.old) None (E.contents errors.old) sockets.old clock.old) result
         (streams (I.remaining input.new) None (E.contents errors.new) sockets.new clock.new) }
 {
@@ -111,7 +111,9 @@ pub(crate) fn serve<S: Sockets, I: Read, E: Write, C: Clock>(
     let mut device = built(alloc, &configuration, text)?;
     let wait = idle_wait(&configuration.objects);
     let mut port = open_socket(sockets, alloc, address, wait, errors)?;
-    match bac_serve::serve(&mut port, &mut device, clock, count) {
+    let served = bac_serve::serve(&mut port, &mut device, clock, count);
+    sockets.close(port);
+    match served {
         Ok(()) => Ok(0),
         Err(_) => Err(Fault::Socket),
     }

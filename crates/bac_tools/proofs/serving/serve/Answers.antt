@@ -1,8 +1,8 @@
-use Rattle.std.proofs.Common.{None, Ok, ap, inl, inr, refl, ◌∙◌}
+use Rattle.std.proofs.Common.{None, ap, inl, inr, refl, ◌∙◌}
 use Rattle.std.proofs.lemmas.Result.{err_from_is_err_and}
 use Rattle.bac_tools.proofs.Parts.{placed, unserved}
 use Rattle.bac_tools.specs.Serving.{wait_of}
-use Rattle.bac_tools.specs.Sockets.{socket_rules}
+use Rattle.bac_ports.specs.Sockets.{socket_rules}
 use Rattle.bac_tools.specs.Streams.{streams}
 use Rattle.bac_tools.proofs.serving.serve.Goals as goal
 
@@ -30,7 +30,7 @@ returns-in_err-port g c =
       c.in_ok-read.ensures.ok.0,
       inr (
         c.in_ok-device.ensures.ok.0,
-        unserved (socket_rules g.S.Sockets.opens g.S.Socket.Port.sends g.S.Socket.Port.receives
+        unserved (socket_rules g.S.Sockets.opens g.S.Sockets.closes g.S.Socket.Port.sends g.S.Socket.Port.receives
             g.S.Socket.Port.receives_within) g.C.Clock.tells
             c.args.address (wait_of c.in_ok-read.read.0.objects.items) c.args.count _ (streams None None _ _ _)
             (streams None None _ _ _)
@@ -42,33 +42,39 @@ returns-in_err-port g c =
 pub returns-in-Ok : goal.returns-in-Ok
 returns-in-Ok g c =
     let up = rw (c.idle_wait-wait.ensures ∙ ap wait_of c.deref.ensures.value) at c.in_ok-port.ensures.ok in
-    let serves = rw c.in_ok-device.ensures.ok.1 at c.serve.ensures in
+    let serves = rw c.in_ok-device.ensures.ok.1 at c.serve-served.ensures in
     inr (
       c.in_ok-read.read.0,
       c.in_ok-read.ensures.ok.0,
       inr (
         c.in_ok-device.ensures.ok.0,
-        inr (
-          Ok c.in_ok-port.port,
+        inr (inr (
+          c.in_ok-port.port,
+          _,
+          c.serve-served.new.port,
           up.0,
-          (c.serve.result, c.serve.new.port, c.serve.new.device, up.1, serves, rw c.in-Ok.is refl),
-        ),
+          (c.serve-served.result, c.serve-served.new.device, up.1, serves, rw c.in-Ok.is refl),
+          c.close.ensures,
+        )),
       ),
     )
 
 pub returns : goal.returns
 returns g c =
     let up = rw (c.idle_wait-wait.ensures ∙ ap wait_of c.deref.ensures.value) at c.in_ok-port.ensures.ok in
-    let serves = rw c.in_ok-device.ensures.ok.1 at c.serve.ensures in
+    let serves = rw c.in_ok-device.ensures.ok.1 at c.serve-served.ensures in
     inr (
       c.in_ok-read.read.0,
       c.in_ok-read.ensures.ok.0,
       inr (
         c.in_ok-device.ensures.ok.0,
-        inr (
-          Ok c.in_ok-port.port,
+        inr (inr (
+          c.in_ok-port.port,
+          _,
+          c.serve-served.new.port,
           up.0,
-          (c.serve.result, c.serve.new.port, c.serve.new.device, up.1, serves, rw c.in-Err.is refl),
-        ),
+          (c.serve-served.result, c.serve-served.new.device, up.1, serves, rw c.in-Err.is refl),
+          c.close.ensures,
+        )),
       ),
     )
