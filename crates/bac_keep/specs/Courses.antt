@@ -1,5 +1,5 @@
 -- How a run goes on that keeps a log: the one rule.
-use Rattle.std.specs.Prelude.{ℕ, ◌==◌, ◌||◌, not, Bool, true, false, if◌then◌else◌, Option, None, Some}
+use Rattle.std.specs.Prelude.{ℕ, ◌==◌, ◌||◌, not, Bool, if◌then◌else◌, Option, None, Some}
 use Rattle.bac_link.specs.Ordinals.{is_ahead}
 use Rattle.bac_keep.specs.declared.look.Seen.{Seen}
 use Rattle.bac_keep.specs.declared.look.Seen.TheVariants.{Same, Another, Later, Earlier, Nothing}
