@@ -14,7 +14,8 @@ use Rattle.bac_ports.specs.declared.port.Heard.{Heard}
 use Rattle.bac_tools.specs.Faults.{of_find}
 use Rattle.bac_tools.specs.Finding.{SearchesOver, Searches, of_found, search_of}
 use Rattle.bac_tools.specs.Run.{Runs}
-use Rattle.bac_tools.specs.Sockets.{Outside, SocketRules}
+use Rattle.bac_ports.specs.Sockets.{SocketRules}
+use Rattle.bac_tools.specs.Sockets.{Outside}
 use Rattle.bac_tools.specs.Streams.{Streams}
 use Rattle.bac_tools.specs.declared.fault.Fault.TheVariants as fault
 use Rattle.bac_tools_tests.proofs.Logged.{not_told}
@@ -89,13 +90,13 @@ pub no_wi : {S P C : Type 0} (rules : SocketRules S P) (tells : C → Option Civ
     IsSilentWithin rules.receives_within → (status ≡ 0 → ⊥) × Keeps old.output new.output
 no_wi rules tells addresses min max dnet local timeout old new status (inl told) silent still =
     (λ none. not_told fault.Memory old.errors new.errors status told.0 none, told.1)
-no_wi rules tells addresses min max dnet local timeout old new status (inr (Err why, said, ((kept, (Err shut, opens, closed)), quiet), ends)) silent still =
-    (λ none. not_told why said new.errors status ends none, closed.1)
-no_wi rules tells addresses min max dnet local timeout old new status (inr (Ok done, said, ((kept, (Err shut, opens, closed)), quiet), ends)) silent still =
-    absurd (let e = closed.0 in cc)
-no_wi rules tells addresses min max dnet local timeout old new status (inr (Err why, said, ((kept, (Ok port, opens, (found, after, finds, is))), quiet), ends)) silent still =
+no_wi rules tells addresses min max dnet local timeout old new status (inr (Err why, said, ((kept, (inl (shut, opens, is_shut, closed))), quiet), ends)) silent still =
+    (λ none. not_told why said new.errors status ends none, closed)
+no_wi rules tells addresses min max dnet local timeout old new status (inr (Ok done, said, ((kept, (inl (shut, opens, is_shut, closed))), quiet), ends)) silent still =
+    absurd (let e = is_shut in cc)
+no_wi rules tells addresses min max dnet local timeout old new status (inr (Err why, said, ((kept, (inr (port, between, last, opens, (found, finds, is), closes))), quiet), ends)) silent still =
     let both = unfound rules.sends rules.receives rules.receives_within silent still 4096 _ addresses _ found _ finds in
     (λ none. not_told why said new.errors status ends none, both.1)
-no_wi rules tells addresses min max dnet local timeout old new status (inr (Ok done, said, ((kept, (Ok port, opens, (found, after, finds, is))), quiet), ends)) silent still =
+no_wi rules tells addresses min max dnet local timeout old new status (inr (Ok done, said, ((kept, (inr (port, between, last, opens, (found, finds, is), closes))), quiet), ends)) silent still =
     let both = unfound rules.sends rules.receives rules.receives_within silent still 4096 _ addresses _ found _ finds in
     absurd (found_end (length addresses) found done is both.0)
