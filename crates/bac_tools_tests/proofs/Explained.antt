@@ -1,11 +1,10 @@
 -- What `run` says of `bac log` with status 4: a bad reply came, and what is told is wrong with it.
-use Rattle.std.proofs.Common.{◌≡◌, ◌∙◌, inl, inr, ℕ, Option, Some, None, Result, Ok, Err, refl, sym, ap, subst, arith}
+use Rattle.std.proofs.Common.{◌≡◌, ◌∙◌, inl, inr, ℕ, Option, Some, None, Ok, Err, refl, sym, ap, subst, arith}
 use Rattle.bac_link.specs.Path.{Path, towards}
-use Rattle.bac_ports.specs.declared.udp_link.UdpLink.{UdpLink}
 use Rattle.bac_print.specs.Output.{AppendsPart, Held}
 use Rattle.bac_query.specs.Flaws.{TellsFlawOf}
 use Rattle.bac_query.specs.declared.fault.QueryFault.TheVariants as query
-use Rattle.bac_tools.specs.Asking.{of_end, of_fetching}
+use Rattle.bac_tools.specs.Asking.{of_end}
 use Rattle.bac_tools.specs.Run.{IsNoWalk, IsTold, Runs, walk_from}
 use Rattle.bac_ports.specs.Sockets.{SocketRules, UsesSocket, own_address, socket_asks}
 use Rattle.bac_tools.specs.Status.{exit_status, walk_status}

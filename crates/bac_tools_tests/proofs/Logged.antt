@@ -20,10 +20,9 @@ use Rattle.bac_query.specs.Ends.{end_line}
 use Rattle.bac_query.specs.Items.{items_text}
 use Rattle.bac_script.specs.declared.replay.fault.ReplayFault.{ReplayFault}
 use Rattle.bac_script.specs.declared.replay.fault.ReplayFault.TheVariants as replay
-use Rattle.bac_tools.specs.Asking.{Fetches, of_end, of_fetching}
+use Rattle.bac_tools.specs.Asking.{of_end, of_fetching}
 use Rattle.bac_tools.specs.Run.{IsTold, Runs, walk_from}
 use Rattle.bac_ports.specs.Sockets.{SocketRules, UsesSocket, link_over, own_address, socket_asks}
-use Rattle.bac_tools.specs.Sockets.{Outside}
 use Rattle.bac_tools.specs.Status.{exchange_status, exit_status, list_status, script_status, walk_status}
 use Rattle.bac_tools.specs.Streams.{Streams}
 use Rattle.bac_tools.specs.declared.fault.Fault.{Fault}

@@ -1,14 +1,13 @@
 -- Over sockets where no datagram comes none is answered; a lost answer was asked for; and a server ends with a socket
 -- fault only if a socket failed.
-use Rattle.std.proofs.Common.{◌≡◌, ◌⊎◌, ◌∙◌, inl, inr, lit<, ℕ, zero, suc, ◌+◌, ◌<◌, ◌≤◌, List, [], ◌∷◌, ◌++◌, Option, Some, None, Result, Ok, Err, refl, sym, ap, subst, append-nil, length, arith}
-use Rattle.std.specs.Io.KnownBytes.{Appends, Keeps}
+use Rattle.std.proofs.Common.{◌≡◌, ◌∙◌, inl, inr, lit<, ℕ, zero, suc, ◌+◌, ◌<◌, List, [], ◌∷◌, ◌++◌, Option, Some, None, Ok, Err, refl, sym, ap, subst, append-nil, arith}
+use Rattle.std.specs.Io.KnownBytes.{Keeps}
 use Rattle.bac_link.specs.Exchanges.{Exchanges, Unanswered}
 use Rattle.bac_link.specs.Path.{Path, towards}
 use Rattle.bac_link.specs.Requests.{next_invoke, request_octets}
 use Rattle.bac_link.specs.declared.exchanges.ExchangeFault.{ExchangeFault}
 use Rattle.bac_link.specs.declared.exchanges.ExchangeFault.TheVariants as exchange
 use Rattle.bac_link.specs.declared.item.Item.{Item}
-use Rattle.bac_link.specs.declared.link.Lost.{Lost as Loss}
 use Rattle.bac_link.specs.declared.request.Request.{Request}
 use Rattle.bac_link.specs.declared.request.Request.TheVariants as request
 use Rattle.bac_apdu.specs.declared.service.read_property.ReadProperty.{ReadProperty}
@@ -16,22 +15,21 @@ use Rattle.bac_link.specs.Datagrams.{apdu_in}
 use Rattle.bac_objects.specs.State.{State}
 use Rattle.bac_ports.specs.Asking.{Awaits}
 use Rattle.bac_ports.specs.Port.{Receiving, Sending}
-use Rattle.bac_ports.specs.declared.port.Heard.{Heard}
 use Rattle.bac_ports.specs.declared.port.SocketFault.{SocketFault}
 use Rattle.bac_ports.specs.declared.udp_link.UdpLink.{UdpLink}
 use Rattle.bac_print.specs.Output.{AppendsPart, Held}
 use Rattle.bac_query.specs.Ahead.{FetchesAhead}
 use Rattle.bac_query.specs.Fetching.{Fetching, IsEnd}
-use Rattle.bac_query.specs.Reading.{Answer, PrintsValues, Way, values_in}
+use Rattle.bac_query.specs.Reading.{Answer, PrintsValues, values_in}
 use Rattle.bac_query.specs.declared.fault.QueryFault.{QueryFault}
 use Rattle.bac_query.specs.declared.fault.QueryFault.TheVariants as query
 use Rattle.bac_query.specs.Ends.{end_line}
 use Rattle.bac_query.specs.Items.{items_text}
-use Rattle.bac_serve.specs.Serving.{Done, Server, Serves as ServesDevice, ServesNext}
-use Rattle.bac_tools.specs.Asking.{AsksDevice, Fetches, OverLink, Reads, Writes, of_answer, of_fetching}
+use Rattle.bac_serve.specs.Serving.{Server, Serves as ServesDevice, ServesNext}
+use Rattle.bac_tools.specs.Asking.{Reads, Writes, of_answer, of_fetching}
 use Rattle.bac_tools.specs.Ending.{Ending}
 use Rattle.bac_tools.specs.Run.{Ends, Runs, Works, question, walk_from}
-use Rattle.bac_tools.specs.Serving.{IsConfigured, IsServed, IsServedOver, IsUnbuilt, Serves}
+use Rattle.bac_tools.specs.Serving.{IsConfigured, IsServedOver}
 use Rattle.bac_ports.specs.Sockets.{SocketRules, UsesSocket, link_over, own_address, socket_asks}
 use Rattle.bac_tools.specs.Sockets.{Outside}
 use Rattle.bac_tools.specs.Status.{walk_status}
@@ -39,8 +37,8 @@ use Rattle.bac_tools.specs.Streams.{Streams}
 use Rattle.bac_tools.specs.declared.fault.Fault.{Fault}
 use Rattle.bac_tools.specs.declared.fault.Fault.TheVariants as fault
 use Rattle.bac_tools_tests.proofs.Logged.{cut_over, end_of, not_told}
-use Rattle.bac_tools_tests.specs.Silence.{IsSilent, LostWasAsked, NeverFails, ServersStay}
-use Rattle.bac_walk.specs.Came.{AreOf, Brought, Came, Comes, EndsBy, answers_of}
+use Rattle.bac_tools_tests.specs.Silence.{IsSilent, LostWasAsked, NeverFails}
+use Rattle.bac_walk.specs.Came.{Brought, Came}
 use Rattle.bac_walk.specs.Place.{WalkPlace}
 use Rattle.bac_walk.specs.declared.outcome.Ended.{Ended}
 use Rattle.bac_walk.specs.declared.outcome.Ended.TheVariants as ended

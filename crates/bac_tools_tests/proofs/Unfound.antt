@@ -1,21 +1,19 @@
 -- Where no datagram comes no device is found.
-use Rattle.std.proofs.Common.{◌≡◌, ◌∙◌, ℕ, Bool, true, false, List, [], ◌∷◌, ◌++◌, Option, Some, None, Ok, Err, inl, inr, refl, sym, ap, subst, append-nil, length}
+use Rattle.std.proofs.Common.{◌≡◌, ◌∙◌, ℕ, Bool, true, false, List, [], ◌∷◌, Option, Some, None, Ok, Err, inl, inr, refl, sym, subst, append-nil, length}
 use Rattle.std.specs.Io.KnownBytes.{Appends, Keeps}
 use Rattle.bac_query.specs.Announcements.{Announcement}
-use Rattle.bac_query.specs.Finding.{Console, Finds, told_of, unasked}
-use Rattle.bac_query.specs.Hearing.{Found, Held, Left, Standing}
+use Rattle.bac_query.specs.Finding.{Console, Finds, told_of}
+use Rattle.bac_query.specs.Hearing.{Found, Held}
 use Rattle.bac_query.specs.Requests.{who_is_octets}
-use Rattle.bac_query.specs.Turns.{Along, ComesTo, Fails, IsLast, Turn, Sent, Received, came_in, has_device, lines_of}
+use Rattle.bac_query.specs.Turns.{Along, Fails, IsLast, Turn, Sent, Received, came_in, has_device, lines_of}
 use Rattle.bac_query.specs.declared.find_fault.FindFault.{FindFault}
 use Rattle.bac_query.specs.declared.find_fault.FindFault.TheVariants as find
 use Rattle.bac_query.specs.declared.search.Search.{Search}
 use Rattle.bac_ports.specs.Port.{Receiving, Sending}
 use Rattle.bac_ports.specs.declared.port.Heard.{Heard}
-use Rattle.bac_tools.specs.Faults.{of_find}
-use Rattle.bac_tools.specs.Finding.{SearchesOver, Searches, of_found, search_of}
+use Rattle.bac_tools.specs.Finding.{of_found}
 use Rattle.bac_tools.specs.Run.{Runs}
 use Rattle.bac_ports.specs.Sockets.{SocketRules}
-use Rattle.bac_tools.specs.Sockets.{Outside}
 use Rattle.bac_tools.specs.Streams.{Streams}
 use Rattle.bac_tools.specs.declared.fault.Fault.TheVariants as fault
 use Rattle.bac_tools_tests.proofs.Logged.{not_told}
