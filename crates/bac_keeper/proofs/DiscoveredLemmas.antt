@@ -9,8 +9,8 @@ use Rattle.bac_words.specs.declared.job.Asked.{Asked}
 use Rattle.bac_keeper.specs.declared.end.NotDone.{NotDone}
 use Rattle.bac_keeper.specs.declared.log_words.Asking.{Asking}
 use Rattle.bac_keeper.specs.declared.wanted.Wanted.{Wanted}
-use Rattle.bac_keeper.specs.Discovered.{AddsObject, FindsOver, FindsTo, Reads, ReadsNumber, ReadsObject, list_at}
-use Rattle.bac_keeper.specs.Fetched.{SocketRules, link_over, own_address, socket_asks}
+use Rattle.bac_keeper.specs.Discovered.{AddsObject, Finds, FindsOver, FindsTo, Reads, ReadsNumber, ReadsObject, list_at}
+use Rattle.bac_ports.specs.Sockets.{SocketRules, link_over, own_address, socket_asks}
 
 -- one place more
 pub next_place : {S : Type 0} (asks : S → List ℕ → Result (List ℕ) Loss → S → Type 0) (p q r : Option Place) (m n o : ℕ)
@@ -32,43 +32,34 @@ next_place {S = S} asks p q r m n o itself object place before after link mid to
     let reads₄ = subst (λ x. ReadsObject (Reads asks (towards p) m) (list_at x) mid object told) (sym one) reads₃ in
     subst (λ x. FindsTo (Reads asks (towards p) m) x link after new) one (before, mid, found, (object, told, reads₄, adds₄))
 
--- all of them, over the socket that was opened
-pub finds_over : {S P : Type 0} (rules : SocketRules S P) (asking : Asking) (before after : S) (port : P) (link mid left : UdpLink P)
-    (q r : Option Place) (n o : ℕ) (itself : Id) (count : ℕ) (found : List Wanted)
-    → rules.opens before (own_address asking.asked.local) asking.asked.timeout (Ok port) after
-    → link ≡ link_over asking.asked.address port
-    → q ≡ asking.asked.route → r ≡ q → n ≡ asking.asked.retries → o ≡ n → itself ≡ record { kind = 8; instance = 4194303 }
-    → ReadsNumber (Reads (socket_asks rules) (towards q) n) (record { object = itself; property = 76; index = Some 0 }) link count mid
-    → FindsTo (Reads (socket_asks rules) (towards r) o) count mid found left
-    → FindsOver rules asking before found after
-finds_over {P = P} rules asking before after port link mid left q r n o itself count found opened is_link qp rq nm on is reads finds =
-    let asks = socket_asks rules in
-    let p = asking.asked.route in
-    let m = asking.asked.retries in
-    let reads₁ = subst (λ i. ReadsNumber (Reads asks (towards q) n) (record { object = i; property = 76; index = Some 0 }) link count mid) is reads in
-    let reads₂ = subst (λ x. ReadsNumber (Reads asks (towards x) n) (list_at 0) link count mid) qp reads₁ in
-    let reads₃ = subst (λ x. ReadsNumber (Reads asks (towards p) x) (list_at 0) link count mid) nm reads₂ in
-    let reads₄ = subst (λ x. ReadsNumber (Reads asks (towards p) m) (list_at 0) x count mid) is_link reads₃ in
-    let finds₁ = subst (λ x. FindsTo (Reads asks (towards x) o) count mid found left) rq finds in
-    let finds₂ = subst (λ x. FindsTo (Reads asks (towards x) o) count mid found left) qp finds₁ in
-    let finds₃ = subst (λ x. FindsTo (Reads asks (towards p) x) count mid found left) on finds₂ in
-    let finds₄ = subst (λ x. FindsTo (Reads asks (towards p) x) count mid found left) nm finds₃ in
-    (port, left, opened, (count, mid, reads₄, finds₄))
+-- all of them
+pub finds_all : {S : Type 0} (asks : S → List ℕ → Result (List ℕ) Loss → S → Type 0) (p q : Option Place) (n o : ℕ)
+    (itself : Id) (count : ℕ) (link mid left : S) (found : Result (Vec Wanted Global) NotDone)
+    → q ≡ p → o ≡ n → itself ≡ record { kind = 8; instance = 4194303 }
+    → ReadsNumber (Reads asks (towards p) n) (record { object = itself; property = 76; index = Some 0 }) link count mid
+    → IfOk found (λ all. FindsTo (Reads asks (towards q) o) count mid all.items left)
+    → IfOk found (λ all. Finds (Reads asks (towards p) n) link all.items left)
+finds_all asks p q n o itself count link mid left (Err fault) qp on is reads finds = tt
+finds_all asks p q n o itself count link mid left (Ok all) qp on is reads finds =
+    let finds₁ = subst (λ x. FindsTo (Reads asks (towards x) o) count mid all.items left) qp finds in
+    let finds₂ = subst (λ x. FindsTo (Reads asks (towards p) x) count mid all.items left) on finds₁ in
+    (count, mid, subst (λ i. ReadsNumber (Reads asks (towards p) n) (record { object = i; property = 76; index = Some 0 }) link count mid) is reads, finds₂)
 
--- the same of words that ask so, if it was done
-pub finds_all_over : {S P : Type 0} (rules : SocketRules S P) (asking : Asking) (asked : Asked) (before after : S) (port : P) (link mid left : UdpLink P)
-    (q r : Option Place) (n o : ℕ) (itself : Id) (count : ℕ) (found : Result (Vec Wanted Global) NotDone)
-    → asked ≡ asking.asked
-    → rules.opens before (own_address asked.local) asked.timeout (Ok port) after
-    → link ≡ link_over asked.address port
-    → q ≡ asked.route → r ≡ q → n ≡ asked.retries → o ≡ n → itself ≡ record { kind = 8; instance = 4194303 }
-    → ReadsNumber (Reads (socket_asks rules) (towards q) n) (record { object = itself; property = 76; index = Some 0 }) link count mid
-    → IfOk found (λ all. FindsTo (Reads (socket_asks rules) (towards r) o) count mid all.items left)
+-- the same over a socket that was opened as words ask that ask so, and closed behind it
+pub finds_over : {S P : Type 0} (rules : SocketRules S P) (asking : Asking) (asked : Asked) (before middle after : S) (port last : P)
+    (link left : UdpLink P) (route : Option Place) (retries : ℕ) (found : Result (Vec Wanted Global) NotDone)
+    → asked ≡ asking.asked → rules.opens before (own_address asked.local) asked.timeout (Ok port) middle
+    → link ≡ link_over asked.address port → route ≡ asked.route → retries ≡ asked.retries → last ≡ left.port → rules.closes middle last after
+    → IfOk found (λ all. Finds (Reads (socket_asks rules) (towards route) retries) link all.items left)
     → IfOk found (λ all. FindsOver rules asking before all.items after)
-finds_all_over {P = P} rules asking asked before after port link mid left q r n o itself count (Ok all) same opened is_link qp rq nm on is reads finds =
-    let opened₁ = subst (λ (a : Asked). rules.opens before (own_address a.local) a.timeout (Ok port) after) same opened in
+finds_over rules asking asked before middle after port last link left route retries (Err fault) same opened is_link way tries is_last closes finds = tt
+finds_over rules asking asked before middle after port last link left route retries (Ok all) same opened is_link way tries is_last closes finds =
+    let asks = socket_asks rules in
+    let opened₁ = subst (λ (a : Asked). rules.opens before (own_address a.local) a.timeout (Ok port) middle) same opened in
     let link₁ = subst (λ (a : Asked). link ≡ link_over a.address port) same is_link in
-    let route₁ = subst (λ (a : Asked). q ≡ a.route) same qp in
-    let retries₁ = subst (λ (a : Asked). n ≡ a.retries) same nm in
-    finds_over rules asking before after port link mid left q r n o itself count all.items opened₁ link₁ route₁ rq retries₁ on is reads finds
-finds_all_over rules asking asked before after port link mid left q r n o itself count (Err fault) same opened is_link qp rq nm on is reads finds = tt
+    let route₁ = subst (λ (a : Asked). route ≡ a.route) same way in
+    let retries₁ = subst (λ (a : Asked). retries ≡ a.retries) same tries in
+    let finds₁ = subst (λ (x : Option Place). Finds (Reads asks (towards x) retries) link all.items left) route₁ finds in
+    let finds₂ = subst (λ x. Finds (Reads asks (towards asking.asked.route) x) link all.items left) retries₁ finds₁ in
+    let finds₃ = subst (λ x. Finds (Reads asks (towards asking.asked.route) asking.asked.retries) x all.items left) link₁ finds₂ in
+    (port, middle, last, opened₁, (left, finds₃, is_last), closes)

@@ -14,10 +14,12 @@ use Rattle.bac_keeper.specs.declared.fetching.Start.{Start}
 use Rattle.bac_keeper.specs.declared.wanted.Wanted.{Wanted}
 use Rattle.bac_apdu.specs.Npdu.{Place}
 use Rattle.bac_link.specs.Path.{towards}
+use Rattle.bac_link.specs.declared.link.Lost.{Lost as Loss}
 use Rattle.bac_ports.specs.declared.udp_link.UdpLink.{UdpLink}
 use Rattle.bac_keeper.specs.declared.log_words.Asking.{Asking}
-use Rattle.bac_keeper.specs.Fetched.{ComesFrom, IsAskedOn, SocketRules, link_over, own_address, socket_asks}
-use Rattle.bac_keeper.specs.Keeps.{KeepsBegun, KeepsLog, KeepsSource, KeepsAll, lines_of, greatest_status}
+use Rattle.bac_ports.specs.Sockets.{SocketRules, link_over, own_address, socket_asks}
+use Rattle.bac_keeper.specs.Fetched.{ComesBegun, ComesFrom, IsAskedOn}
+use Rattle.bac_keeper.specs.Keeps.{KeepsBegun, KeepsLog, KeepsOverLink, KeepsSource, KeepsAll, lines_of, greatest_status}
 use Rattle.bac_keeper.specs.Lines.{summary_line}
 use Rattle.bac_keeper.specs.Starts.{IsBegun, Tells, kept_last}
 use Rattle.bac_keeper.specs.Status.{walk_status}
@@ -27,28 +29,42 @@ pub both_ok : {T E : Type 0} (r : Result T E) (P Q R : T → Type 0) → ((x : T
 both_ok (Ok x) P Q R f p q = f x p q
 both_ok (Err e) P Q R f p q = tt
 
--- what is kept of a log whose beginning changed nothing, over the socket that was opened for it
-pub keeps_log : {S P : Type 0} (rules : SocketRules S P) (asking : Asking) (before after : S) (log : ℕ) (object : Id) (old mid new : Database) (start : Start) (end : End)
-    (port : P) (link : UdpLink P) (route : Option Place) (retries : ℕ) → rules.opens before (own_address asking.asked.local) asking.asked.timeout (Ok port) after
-    → IsAskedOn (socket_asks rules) (link_over asking.asked.address port) link → route ≡ asking.asked.route → retries ≡ asking.asked.retries
-    → IsBegun log object (kept old.trees) (Ok start) → mid ≡ old → KeepsBegun (Ok start) mid new end
-    → ComesFrom (socket_asks rules) (towards route) retries link start asking.steps mid new end → KeepsLog rules asking before after log object old new end
-keeps_log rules asking before after log object old mid new start end port link route retries opens asked way tries begun same h came = (
+-- what is kept of a log whose beginning changed nothing, over a link
+pub keeps_begun : {L : Type 0} (asks : L → List ℕ → Result (List ℕ) Loss → L → Type 0) (way route : Option Place) (tries retries : ℕ) (link mid left : L)
+    (steps log : ℕ) (object : Id) (old between new : Database) (start : Start) (end : End)
+    → IsBegun log object (kept old.trees) (Ok start) → IsAskedOn asks link mid → route ≡ way → retries ≡ tries → between ≡ old → KeepsBegun (Ok start) between new end
+    → ComesFrom asks (towards route) retries mid left start steps between new end
+    → KeepsOverLink asks (towards way) tries link left steps log object old new end
+keeps_begun asks way route tries retries link mid left steps log object old between new start end begun asked r n same h came = (
   Ok start,
   begun,
   subst (λ d. KeepsBegun (Ok start) d new end) same h,
   (
-    port,
-    opens,
-    (
-      link,
-      asked,
-      subst (λ d. ComesFrom (socket_asks rules) (towards asking.asked.route) asking.asked.retries link start asking.steps d new end) same
-          (subst (λ n. ComesFrom (socket_asks rules) (towards asking.asked.route) n link start asking.steps mid new end) tries
-          (subst (λ (r : Option Place). ComesFrom (socket_asks rules) (towards r) retries link start asking.steps mid new end) way came)),
-    ),
+    mid,
+    asked,
+    subst (λ d. ComesFrom asks (towards way) tries mid left start steps d new end) same
+        (subst (λ m. ComesFrom asks (towards way) m mid left start steps between new end) n
+        (subst (λ (q : Option Place). ComesFrom asks (towards q) retries mid left start steps between new end) r came)),
   ),
 )
+
+-- the same over the socket that was opened for it, and closed behind it
+pub keeps_log : {S P : Type 0} (rules : SocketRules S P) (asking : Asking) (before middle after : S) (log : ℕ) (object given : Id) (old new : Database) (end : End)
+    (port last : P) (link left : UdpLink P) (route : Option Place) (retries steps : ℕ)
+    → rules.opens before (own_address asking.asked.local) asking.asked.timeout (Ok port) middle → link ≡ link_over asking.asked.address port
+    → route ≡ asking.asked.route → retries ≡ asking.asked.retries → steps ≡ asking.steps → given ≡ object → last ≡ left.port → rules.closes middle last after
+    → KeepsOverLink (socket_asks rules) (towards route) retries link left steps log given old new end → KeepsLog rules asking before after log object old new end
+keeps_log rules asking before middle after log object given old new end port last link left route retries steps opens is_link way tries many is is_last closes (begun, at_begin, keeps, comes) =
+    let asks = socket_asks rules in
+    let comes₁ = subst (λ (q : Option Place). ComesBegun asks (towards q) retries link left begun steps old new end) way comes in
+    let comes₂ = subst (λ m. ComesBegun asks (towards asking.asked.route) m link left begun steps old new end) tries comes₁ in
+    let comes₃ = subst (λ l. ComesBegun asks (towards asking.asked.route) asking.asked.retries l left begun steps old new end) is_link comes₂ in
+    let comes₄ = subst (λ m. ComesBegun asks (towards asking.asked.route) asking.asked.retries (link_over asking.asked.address port) left begun m old new end) many comes₃ in (
+      begun,
+      subst (λ (o : Id). IsBegun log o (kept old.trees) begun) is at_begin,
+      keeps,
+      (port, middle, last, opens, (left, comes₄, is_last), closes),
+    )
 
 log_schema : (begun : Result Start End) (old new : Database) (end : End) → KeepsBegun begun old new end → old.schema ≡ archive_schema → new.schema ≡ archive_schema
 log_schema (Ok start) old new end h has = h.rows.schema

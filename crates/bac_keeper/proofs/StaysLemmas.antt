@@ -11,7 +11,7 @@ use Rattle.sqlite.proofs.StateLemmas.{survives_then}
 use Rattle.bac_archive.specs.Rows.{kept, known, Adds}
 use Rattle.bac_archive.specs.Schema.{archive_schema}
 use Rattle.bac_archive.specs.Logs.{AddsLog, HasNewLog}
-use Rattle.bac_keeper.specs.Fetched.{SocketRules}
+use Rattle.bac_ports.specs.Sockets.{SocketRules}
 use Rattle.bac_keeper.specs.Keeps.{KeepsBegun, KeepsSource}
 use Rattle.bac_keeper.specs.Stays.{HasAllOf}
 use Rattle.bac_keeper.specs.declared.end.End.{End}

@@ -15,7 +15,7 @@ use Rattle.bac_wire.specs.Primitive.{Id, Primitive}
 use Rattle.bac_wire.specs.Primitive as primitive
 use Rattle.bac_wire.specs.Spelling.{Spells}
 use Rattle.bac_ports.specs.declared.udp_link.UdpLink.{UdpLink}
-use Rattle.bac_keeper.specs.Fetched.{SocketRules, link_over, own_address, socket_asks}
+use Rattle.bac_ports.specs.Sockets.{SocketRules, UsesSocket, link_over, own_address, socket_asks}
 use Rattle.bac_keeper.specs.declared.keeping.Chosen.{Chosen}
 use Rattle.bac_keeper.specs.declared.keeping.Chosen.TheVariants.{Device}
 use Rattle.bac_keeper.specs.declared.log_words.Asking.{Asking}
@@ -95,13 +95,13 @@ abbrev pub Finds : {S : Type 0} → (ReadProperty → S → List ℕ → S → T
 Finds {S = S} reads old found new =
     (count : ℕ) × (mid : S) × ReadsNumber reads (list_at 0) old count mid × FindsTo reads count mid found new
 
--- those of the device that is asked, over a socket that was opened as asked
+-- those of the device that is asked, over a socket that was opened as asked, and closed as the last question left it
 abbrev pub FindsOver : {S P : Type 0} → SocketRules S P → Asking → S → List Wanted → S → Type 0
 FindsOver {P = P} rules asking before found after =
-    (port : P) × (left : UdpLink P)
-    × rules.opens before (own_address asking.asked.local) asking.asked.timeout (Ok port) after
-    × Finds (Reads (socket_asks rules) (towards asking.asked.route) asking.asked.retries)
-    (link_over asking.asked.address port) found left
+    UsesSocket rules (own_address asking.asked.local) asking.asked.timeout before
+    (λ port last. (left : UdpLink P) × Finds (Reads (socket_asks rules) (towards asking.asked.route) asking.asked.retries)
+    (link_over asking.asked.address port) found left × (last ≡ left.port))
+    after
 
 -- the logs of a device, if those were chosen
 abbrev pub AreFound : {S P : Type 0} → SocketRules S P → Chosen → S → List Wanted → S → Type 0

@@ -6,7 +6,9 @@ use Rattle.std.specs.List.{All}
 use Rattle.std.specs.String.{string_bytes}
 use Rattle.sqlite.specs.Effect.{Database}
 use Rattle.bac_wire.specs.Primitive.{Id}
+use Rattle.bac_link.specs.Path.{Path}
 use Rattle.bac_link.specs.declared.item.Item.{Item}
+use Rattle.bac_link.specs.declared.link.Lost.{Lost as Loss}
 use Rattle.bac_walk.specs.Collects.{Goes}
 use Rattle.bac_archive.specs.Rows.{IsAppended, kept}
 use Rattle.bac_archive.specs.Logs.{HasNewLog, IsKnownAs, log_row}
@@ -18,7 +20,8 @@ use Rattle.bac_keeper.specs.declared.fault.FileFault.{FileFault}
 use Rattle.bac_keeper.specs.declared.fetching.Start.{Start}
 use Rattle.bac_keeper.specs.declared.log_words.Asking.{Asking}
 use Rattle.bac_keeper.specs.declared.wanted.Wanted.{Wanted}
-use Rattle.bac_keeper.specs.Fetched.{ComesOver, SocketRules}
+use Rattle.bac_ports.specs.Sockets.{SocketRules}
+use Rattle.bac_keeper.specs.Fetched.{ComesBegun, ComesOver}
 use Rattle.bac_keeper.specs.Lines.{summary_line}
 use Rattle.bac_keeper.specs.Starts.{IsBegun}
 use Rattle.bac_keeper.specs.Wanted.{AsksItsSource}
@@ -40,6 +43,14 @@ pub record KeepsFrom (start : Start) (old new : Database) (end : End) : Type 0 w
 abbrev pub KeepsBegun : Result Start End → Database → Database → End → Type 0
 KeepsBegun (Ok start) old new end = KeepsFrom start old new end
 KeepsBegun (Err none) old new end = (new ≡ old) × (end ≡ none)
+
+-- A run of at most so many steps over the log of this id, which is this object of its device, over a link that it leaves
+-- so: where it begins, what it keeps from there, and that it came over the link.
+abbrev pub KeepsOverLink : {S : Type 0} → (S → List ℕ → Result (List ℕ) Loss → S → Type 0) → Path → ℕ → S → S → ℕ →
+    ℕ → Id → Database → Database → End → Type 0
+KeepsOverLink asks path retries link left steps log object old new end =
+    (begun : Result Start End) × IsBegun log object (kept old.trees) begun × KeepsBegun begun old new end
+    × ComesBegun asks path retries link left begun steps old new end
 
 -- A run over the log of this id, which is this object of its device: where it begins, by the archive's rows and what
 -- the device tells, what it keeps from there, and over which socket that came.

@@ -3,8 +3,8 @@
 ghost use Rattle.std.specs.Prelude.{◌≡◌, Some, IfOk, OnOk};
 ghost use Rattle.std.specs.List.{All};
 ghost use Rattle.bac_link.specs.Path.{towards};
-ghost use Rattle.bac_keeper.specs.Discovered.{AddsObject, FindsOver, FindsTo, Reads, ReadsName, ReadsNumber, ReadsObject, TellsName, name_of};
-ghost use Rattle.bac_keeper.specs.Fetched.{socket_rules};
+ghost use Rattle.bac_keeper.specs.Discovered.{AddsObject, Finds, FindsOver, FindsTo, Reads, ReadsName, ReadsNumber, ReadsObject, TellsName, name_of};
+ghost use Rattle.bac_ports.specs.Sockets.{socket_rules};
 ghost use Rattle.bac_keeper.specs.Wanted.{AsksItsSource, IsAskedAs};
 
 use crate::end::NotDone;
@@ -224,6 +224,24 @@ fn add_listed<L: LogLink>(
     Ok(all)
 }
 
+/// Each trend log in the list of a device that is asked.
+fn find_all<L: LogLink>(
+    alloc: Global,
+    device: &mut Station<L>,
+    like: &Asking,
+) -> Result<Vec<Wanted>, NotDone>
+    ensures asks { IfOk result (λ all. All AsksItsSource all.items) }
+    ensures alike { IfOk result (λ all. All (λ wanted. IsAskedAs like.now wanted.asking) all.items) }
+    ensures finds { IfOk result (λ all. Finds (Reads L.asks (towards device.old.transactions.route) device.old.transactions.retries)
+        device.old.link all.items device.new.link) }
+{
+    let Some(itself) = ObjectId::new(DEVICE, ITSELF) else {
+        return Err(NotDone::Asking(Fault::BadValue(Word::Instance)));
+    };
+    let count = device.count(itself)?;
+    add_listed(alloc, device, itself, count, like)
+}
+
 /// Each trend log of a device, asked as this one is.
 pub(crate) fn discover<S: Sockets>(
     sockets: &mut S,
@@ -232,8 +250,9 @@ pub(crate) fn discover<S: Sockets>(
 ) -> Result<Vec<Wanted>, NotDone>
     ensures asks { IfOk result (λ all. All AsksItsSource all.items) }
     ensures alike { IfOk result (λ all. All (λ wanted. IsAskedAs like.now wanted.asking) all.items) }
-    // They are those of the Object_List of the device that is asked, over a socket opened as asked.
-    ensures found { IfOk result (λ all. FindsOver (socket_rules S.opens S.Socket.sends S.Socket.receives) like.now sockets.old all.items sockets.new) }
+    // They are those of the Object_List of the device that is asked, over a socket opened as asked,
+    // and closed behind it.
+    ensures found { IfOk result (λ all. FindsOver (socket_rules S.opens S.closes S.Socket.sends S.Socket.receives S.Socket.receives_within) like.now sockets.old all.items sockets.new) }
 {
     let address = like.asked.address;
     let asked = asked_like(like, 0)?.asked;
@@ -243,9 +262,8 @@ pub(crate) fn discover<S: Sockets>(
         transactions,
         address,
     };
-    let Some(itself) = ObjectId::new(DEVICE, ITSELF) else {
-        return Err(NotDone::Asking(Fault::BadValue(Word::Instance)));
-    };
-    let count = device.count(itself)?;
-    add_listed(alloc, &mut device, itself, count, like)
+    let found = find_all(alloc, &mut device, like);
+    let Station { link, .. } = device;
+    sockets.close(link.into_port());
+    found
 }

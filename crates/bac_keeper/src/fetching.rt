@@ -7,8 +7,9 @@ ghost use Rattle.bac_archive.specs.Schema.{archive_schema};
 ghost use Rattle.bac_archive.specs.Rows.{kept};
 ghost use Rattle.bac_link.specs.Ordinals.{number_after};
 ghost use Rattle.bac_link.specs.Path.{towards};
-ghost use Rattle.bac_keeper.specs.Fetched.{ComesFrom, IsAskedOn, link_over, own_address, socket_rules};
-ghost use Rattle.bac_keeper.specs.Keeps.{KeepsBegun, KeepsLog, trend_log};
+ghost use Rattle.bac_ports.specs.Sockets.{link_over, own_address, socket_rules};
+ghost use Rattle.bac_keeper.specs.Fetched.{ComesFrom, IsAskedOn};
+ghost use Rattle.bac_keeper.specs.Keeps.{KeepsBegun, KeepsLog, KeepsOverLink, trend_log};
 ghost use Rattle.bac_keep.specs.Newest.{epoch_behind};
 ghost use Rattle.bac_keeper.specs.Stays.{HasAllOf};
 ghost use Rattle.bac_keeper.specs.Starts.{IsBegun, IsFirst, IsStart, free_behind, kept_last, octets};
@@ -249,7 +250,7 @@ fn keep_from<L: LogLink, A: Alter, P: Progress>(
         → IfOk result (KeepsBegun (Ok start) (state A.Store conn.old).now (state A.Store conn.new).now) }
     // In replies that came over the link.
     ensures came { HasCleanDisk (state A.Store conn.new) → (state A.Store conn.old).now.schema ≡ archive_schema
-        → IfOk result (ComesFrom L.asks (towards transactions.old.route) transactions.old.retries link.old start steps (state A.Store conn.old).now (state A.Store conn.new).now) }
+        → IfOk result (ComesFrom L.asks (towards transactions.old.route) transactions.old.retries link.old link.new start steps (state A.Store conn.old).now (state A.Store conn.new).now) }
     // Whatever comes of it, what a crash leaves then, or at any moment before, has all that was there.
     ensures stays { HasCleanDisk (state A.Store conn.new) → (state A.Store conn.old).now.schema ≡ archive_schema
         → Survives (state A.Store conn.old) (state A.Store conn.new) (HasAllOf (state A.Store conn.old).now.trees) }
@@ -275,6 +276,32 @@ fn keep_from<L: LogLink, A: Alter, P: Progress>(
     end_of(run, anew)
 }
 
+/// Asks a device over a link for what is new of its log, and keeps it.
+fn fetch_over<L: LogLink, A: Alter, P: Progress>(
+    alloc: Global,
+    link: &mut L,
+    transactions: &mut Transactions,
+    conn: &mut Connection<A>,
+    id: u16,
+    log: ObjectId,
+    steps: u32,
+    progress: &mut P,
+) -> Result<End, NotDone>
+    requires { log.kind ≡ 20 }
+    ensures kept { HasCleanDisk (state A.Store conn.new) → (state A.Store conn.old).now.schema ≡ archive_schema
+        → IfOk result (KeepsOverLink L.asks (towards transactions.old.route) transactions.old.retries link.old link.new steps id log
+        (state A.Store conn.old).now (state A.Store conn.new).now) }
+    // Whatever comes of it, what a crash leaves then, or at any moment before, has all that was there.
+    ensures stays { HasCleanDisk (state A.Store conn.new) → (state A.Store conn.old).now.schema ≡ archive_schema
+        → Survives (state A.Store conn.old) (state A.Store conn.new) (HasAllOf (state A.Store conn.old).now.trees) }
+    ensures clean { HasCleanDisk (state A.Store conn.new) → HasCleanDisk (state A.Store conn.old) }
+{
+    match where_to_start(alloc, link, transactions, conn, id, log)? {
+        Ok(start) => keep_from(alloc, link, transactions, conn, start, steps, progress),
+        Err(end) => Ok(end),
+    }
+}
+
 /// Asks a device for what is new of its log, and keeps it.
 pub(crate) fn fetch<S: Sockets, A: Alter, P: Progress>(
     alloc: Global,
@@ -286,9 +313,9 @@ pub(crate) fn fetch<S: Sockets, A: Alter, P: Progress>(
     progress: &mut P,
 ) -> Result<End, NotDone>
     // The rows of what the run brought come to those before, under this log, and it came over a
-    // socket that was opened as asked, from the device that is asked.
+    // socket that was opened as asked, from the device that is asked, and closed behind it.
     ensures kept { HasCleanDisk (state A.Store conn.new) → (state A.Store conn.old).now.schema ≡ archive_schema
-        → IfOk result (KeepsLog (socket_rules S.opens S.Socket.sends S.Socket.receives) asking sockets.old sockets.new id (trend_log instance)
+        → IfOk result (KeepsLog (socket_rules S.opens S.closes S.Socket.sends S.Socket.receives S.Socket.receives_within) asking sockets.old sockets.new id (trend_log instance)
         (state A.Store conn.old).now (state A.Store conn.new).now) }
     // Whatever comes of it, what a crash leaves then, or at any moment before, has all that was there.
     ensures stays { HasCleanDisk (state A.Store conn.new) → (state A.Store conn.old).now.schema ≡ archive_schema
@@ -304,16 +331,16 @@ pub(crate) fn fetch<S: Sockets, A: Alter, P: Progress>(
         return Err(NotDone::Asking(Fault::BadValue(Word::Instance)));
     };
     let (mut link, mut transactions) = connect(sockets, asked)?;
-    match where_to_start(alloc, &mut link, &mut transactions, conn, id, log)? {
-        Ok(start) => keep_from(
-            alloc,
-            &mut link,
-            &mut transactions,
-            conn,
-            start,
-            steps,
-            progress,
-        ),
-        Err(end) => Ok(end),
-    }
+    let end = fetch_over(
+        alloc,
+        &mut link,
+        &mut transactions,
+        conn,
+        id,
+        log,
+        steps,
+        progress,
+    );
+    sockets.close(link.into_port());
+    end
 }

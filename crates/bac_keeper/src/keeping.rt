@@ -7,7 +7,7 @@ ghost use Rattle.std.specs.Io.KnownBytes.{Appends};
 ghost use Rattle.sqlite.specs.State.{HasCleanDisk, Survives};
 ghost use Rattle.sqlite.specs.Held.{state};
 ghost use Rattle.bac_archive.specs.Schema.{archive_schema};
-ghost use Rattle.bac_keeper.specs.Fetched.{socket_rules};
+ghost use Rattle.bac_ports.specs.Sockets.{socket_rules};
 ghost use Rattle.bac_keeper.specs.Keeps.{AreToldBy, IsToldBy, KeepsAll, KeepsSource};
 ghost use Rattle.bac_keeper.specs.Lines.{anew_line, summary_line};
 ghost use Rattle.bac_keeper.specs.Discovered.{AreFound};
@@ -141,7 +141,7 @@ fn keep_one<S: Sockets, A: Alter, O: Write, E: Write>(
     // The rows of what the run brought come to those before, under the id of this log.
     ensures told { IfOk result (IsToldBy (O.contents output.old) (O.contents output.new) wanted.source (λ end.
         HasCleanDisk (state A.Store conn.new) → (state A.Store conn.old).now.schema ≡ archive_schema →
-        KeepsSource (socket_rules S.opens S.Socket.sends S.Socket.receives) wanted sockets.old sockets.new (state A.Store conn.old).now (state A.Store conn.new).now end)) }
+        KeepsSource (socket_rules S.opens S.closes S.Socket.sends S.Socket.receives S.Socket.receives_within) wanted sockets.old sockets.new (state A.Store conn.old).now (state A.Store conn.new).now end)) }
     // Whatever comes of it, no item and no log is lost: what is on the disk then, or is left by a
     // crash at any moment before, is what was there or has all of it.
     ensures stays { HasCleanDisk (state A.Store conn.new) → (state A.Store conn.old).now.schema ≡ archive_schema
@@ -190,7 +190,7 @@ pub fn keep_each<S: Sockets, A: Alter, O: Write, E: Write>(
     // A line tells each log, in their order; each is kept in the archive that the one before left.
     ensures told { IfOk result (AreToldBy (O.contents output.old) (O.contents output.new) all.items (λ ends.
         HasCleanDisk (state A.Store conn.new) → (state A.Store conn.old).now.schema ≡ archive_schema →
-        KeepsAll (socket_rules S.opens S.Socket.sends S.Socket.receives) all.items sockets.old sockets.new (state A.Store conn.old).now (state A.Store conn.new).now ends)) }
+        KeepsAll (socket_rules S.opens S.closes S.Socket.sends S.Socket.receives S.Socket.receives_within) all.items sockets.old sockets.new (state A.Store conn.old).now (state A.Store conn.new).now ends)) }
     // Whatever comes of it, no item and no log is lost: what is on the disk then, or is left by a
     // crash at any moment before, is what was there or has all of it.
     ensures stays { HasCleanDisk (state A.Store conn.new) → (state A.Store conn.old).now.schema ≡ archive_schema
@@ -218,7 +218,7 @@ fn chosen_logs<S: Sockets, A: Alter>(
     ensures chosen { HasCleanDisk (state A.Store conn.new) → (state A.Store conn.old).now.schema ≡ archive_schema
         → IfOk result (λ all. AreChosen chosen (state A.Store conn.old).now.trees all.items) }
     // Those of a device are those of its Object_List.
-    ensures found { IfOk result (λ all. AreFound (socket_rules S.opens S.Socket.sends S.Socket.receives) chosen sockets.old all.items sockets.new) }
+    ensures found { IfOk result (λ all. AreFound (socket_rules S.opens S.closes S.Socket.sends S.Socket.receives S.Socket.receives_within) chosen sockets.old all.items sockets.new) }
     ensures same { HasCleanDisk (state A.Store conn.new) → (state A.Store conn.old).now.schema ≡ archive_schema
         → OnOk result ((state A.Store conn.new).now ≡ (state A.Store conn.old).now) }
     ensures clean { HasCleanDisk (state A.Store conn.new) → HasCleanDisk (state A.Store conn.old) }
@@ -244,11 +244,11 @@ fn keep_chosen<S: Sockets, A: Alter, O: Write, E: Write>(
     requires { AskTheirSources chosen }
     // They are asked of the devices under which they are kept.
     ensures told { IfOk result (λ status. (all : List WantedOf) × (between : S) × All AsksItsSource all
-        × AreFound (socket_rules S.opens S.Socket.sends S.Socket.receives) chosen sockets.old all between
+        × AreFound (socket_rules S.opens S.closes S.Socket.sends S.Socket.receives S.Socket.receives_within) chosen sockets.old all between
         × (HasCleanDisk (state A.Store conn.new) → (state A.Store conn.old).now.schema ≡ archive_schema → AreChosen chosen (state A.Store conn.old).now.trees all)
         × AreToldBy (O.contents output.old) (O.contents output.new) all (λ ends.
         HasCleanDisk (state A.Store conn.new) → (state A.Store conn.old).now.schema ≡ archive_schema →
-        KeepsAll (socket_rules S.opens S.Socket.sends S.Socket.receives) all between sockets.new (state A.Store conn.old).now (state A.Store conn.new).now ends) status) }
+        KeepsAll (socket_rules S.opens S.closes S.Socket.sends S.Socket.receives S.Socket.receives_within) all between sockets.new (state A.Store conn.old).now (state A.Store conn.new).now ends) status) }
 {
     let all = chosen_logs(sockets, conn, alloc, chosen, options)?;
     keep_each(sockets, conn, alloc, all, counts, output, errors)

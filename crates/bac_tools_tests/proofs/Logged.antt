@@ -12,7 +12,7 @@ use Rattle.bac_link.proofs.Delivers.{after_one}
 use Rattle.bac_log.specs.TrendLog.{sequence_number}
 use Rattle.bac_ports.specs.declared.udp_link.UdpLink.{UdpLink}
 use Rattle.bac_print.specs.Output.{AppendsPart, Held}
-use Rattle.bac_query.specs.Ahead.{FetchesAhead}
+use Rattle.bac_query.specs.Ahead.{FetchesAhead, IsLeftAhead}
 use Rattle.bac_query.specs.Fetching.{Fetching, IsEnd, TellsRun}
 use Rattle.bac_query.specs.declared.fault.QueryFault.TheVariants as query
 use Rattle.bac_query.proofs.Delivered.{part_of_longer}
@@ -20,9 +20,9 @@ use Rattle.bac_query.specs.Ends.{end_line}
 use Rattle.bac_query.specs.Items.{items_text}
 use Rattle.bac_script.specs.declared.replay.fault.ReplayFault.{ReplayFault}
 use Rattle.bac_script.specs.declared.replay.fault.ReplayFault.TheVariants as replay
-use Rattle.bac_tools.specs.Asking.{Fetches, of_end, of_fetching}
+use Rattle.bac_tools.specs.Asking.{of_end, of_fetching}
 use Rattle.bac_tools.specs.Run.{IsTold, Runs, walk_from}
-use Rattle.bac_tools.specs.Sockets.{Outside, SocketRules, link_over, own_address, socket_asks}
+use Rattle.bac_ports.specs.Sockets.{SocketRules, UsesSocket, link_over, own_address, socket_asks}
 use Rattle.bac_tools.specs.Status.{exchange_status, exit_status, list_status, script_status, walk_status}
 use Rattle.bac_tools.specs.Streams.{Streams}
 use Rattle.bac_tools.specs.declared.fault.Fault.{Fault}
@@ -101,14 +101,25 @@ pub end_of : (done status : ℕ) (flaw : Option ReplyFlaw) → Ok done ≡ of_en
 end_of done status None is = cc
 end_of done status (Some flaw) is = absurd cc
 
-fetched : {S P : Type 0} (rules : SocketRules S P) (asked : Asked) (walk : WalkPlace) (steps : ℕ) (port : P) (old new : Held)
-    (done : ℕ) (fetching : Fetching) (left : UdpLink P) →
+-- the link is as the replies left it
+left_there : {P : Type 0} (asks : UdpLink P → List ℕ → Result (List ℕ) Loss → UdpLink P → Type 0) (path : Path) (retries : ℕ)
+    (mid left : UdpLink P) (after : WalkPlace) (cause : Why) (last : P) → walk_status cause ≡ 0 → last ≡ left.port →
+    IsLeftAhead asks path retries mid after left cause → last ≡ mid.port
+left_there asks path retries mid left after why.CaughtUp last zero is same = is ∙ ap (λ (l : UdpLink _). l.port) same
+left_there asks path retries mid left after why.StepLimit last zero is same = is ∙ ap (λ (l : UdpLink _). l.port) same
+left_there asks path retries mid left after (why.Fault fault) last zero is same = is ∙ ap (λ (l : UdpLink _). l.port) same
+left_there asks path retries mid left after why.Memory last zero is same = absurd (omega (arith, zero))
+
+fetched : {S P : Type 0} (rules : SocketRules S P) (asked : Asked) (walk : WalkPlace) (steps : ℕ) (port last : P) (old new : Held)
+    (done : ℕ) (fetching : Fetching) (left : UdpLink P) → done ≡ 0 → last ≡ left.port →
     Over (socket_asks rules) asked walk steps (link_over asked.address port) fetching left old new →
-    Ok done ≡ of_fetching asked.address fetching → IsLogged rules asked walk port old new
-fetched rules asked walk steps port old new done (Err fault) left over is = absurd (cc)
-fetched rules asked walk steps port old new done (Ok said) left over is =
+    Ok done ≡ of_fetching asked.address fetching → IsLogged rules asked walk port last old new
+fetched rules asked walk steps port last old new done (Err fault) left zero is_last over is = absurd (cc)
+fetched rules asked walk steps port last old new done (Ok said) left zero is_last over is =
     let (came, items, n, ended, after, mid, brought, tells, headline) = over in
-    (came, items, n, ended, after, (mid, brought), (said.why, said.next, tells.2), headline)
+    let status : walk_status said.why ≡ 0 = sym (end_of done (walk_status said.why) said.flaw is) ∙ zero in
+    let there = left_there (socket_asks rules) (towards asked.route) asked.retries mid left after said.why last status is_last tells.1 in
+    (came, items, n, ended, after, (mid, brought, there), (said.why, said.next, tells.2), headline)
 
 -- ---- at rest
 
@@ -165,20 +176,21 @@ all_printed H m s t steps n count items answers fresh e after (why.Fault walk.Ba
 all_printed H m s t steps n count items answers fresh e after why.Memory next old new zero end prints delivers place up limit enough =
     absurd (omega (arith, zero))
 
-rested : {S P : Type 0} (rules : SocketRules S P) (asked : Asked) (walk : WalkPlace) (steps : ℕ) (port : P) (old new : Held)
-    (done : ℕ) (fetching : Fetching) (left : UdpLink P) → done ≡ 0 → walk.fresh ≡ false →
+rested : {S P : Type 0} (rules : SocketRules S P) (asked : Asked) (walk : WalkPlace) (steps : ℕ) (port last : P) (old new : Held)
+    (done : ℕ) (fetching : Fetching) (left : UdpLink P) → done ≡ 0 → last ≡ left.port → walk.fresh ≡ false →
     Over (socket_asks rules) asked walk steps (link_over asked.address port) fetching left old new →
-    Ok done ≡ of_fetching asked.address fetching → IsLoggedAtRest rules asked walk steps port old new
-rested rules asked walk steps port old new done (Err fault) left zero fresh over is = absurd (cc)
-rested rules asked walk steps port old new done (Ok said) left zero fresh over is =
+    Ok done ≡ of_fetching asked.address fetching → IsLoggedAtRest rules asked walk steps port last old new
+rested rules asked walk steps port last old new done (Err fault) left zero is_last fresh over is = absurd (cc)
+rested rules asked walk steps port last old new done (Ok said) left zero is_last fresh over is =
     let (came, items, n, ended, after, mid, brought, tells, headline) = over in
-    let status : walk_status said.why ≡ 0 = sym (end_of done (walk_status said.why) said.flaw is) ∙ zero in (
+    let status : walk_status said.why ≡ 0 = sym (end_of done (walk_status said.why) said.flaw is) ∙ zero in
+    let there = left_there (socket_asks rules) (towards asked.route) asked.retries mid left after said.why last status is_last tells.1 in (
       came,
       items,
       n,
       ended,
       after,
-      (mid, brought),
+      (mid, brought, there),
       λ H m low s at number window low_s s_high enough.
           (let (b, a, t, begins, place, delivers, up) = headline H (m ∷ []) low s at number (omega arith) tt (window, tt) (λ old. (low_s, s_high)) in
           let P : ℕ → Type 0 = λ k. DeliversTo H k items t (m ∷ []) a in
@@ -212,49 +224,65 @@ cut_over asks left items steps n e after (Err (query.Exchange fault)) old new te
 pub logged : {S P C : Type 0} (rules : SocketRules S P) (tells : C → Option CivilTime → C → Type 0) (asked : Asked)
     (instance steps : ℕ) (from : Option ℕ) (old new : Streams S C) (status : ℕ) →
     Runs rules tells (Log asked instance from steps) old status new → status ≡ 0 →
-    (port : P) × rules.opens old.sockets (own_address asked.local) asked.timeout (Ok port) new.sockets
-    × IsLogged rules asked (walk_from instance from) port old.output new.output
+    UsesSocket rules (own_address asked.local) asked.timeout old.sockets
+    (λ port last. IsLogged rules asked (walk_from instance from) port last old.output new.output) new.sockets
 logged rules tells asked instance steps from old new status (inl told) zero =
     absurd (not_told Memory old.errors new.errors status told.0 zero)
 logged rules tells asked instance steps from old new status (inr (Err fault, said, works, ends)) zero =
     absurd (not_told fault said new.errors status ends zero)
 logged rules tells asked instance steps from old new status (inr (Ok done, said, (inl unasked, quiet), ends)) zero =
     absurd (let e = unasked.1.1 in cc)
-logged rules tells asked instance steps from old new status (inr (Ok done, said, (inr (Err fault, opens, closed), quiet), ends)) zero =
-    absurd (let e = closed.0 in cc)
-logged rules tells asked instance steps from old new status (inr (Ok done, said, (inr (Ok port, opens, (fetching, left, over, is)), quiet), ends)) zero =
-    (port, opens, fetched rules asked (walk_from instance from) steps port old.output new.output done fetching left over.0 is)
+logged rules tells asked instance steps from old new status (inr (Ok done, said, (inr (inl (fault, opens, is_shut, closed)), quiet), ends)) zero =
+    absurd (let e = is_shut in cc)
+logged rules tells asked instance steps from old new status (inr (Ok done, said, (inr (inr (port, between, last, opens, (fetching, left, over, is_last, is), closes)), quiet), ends)) zero = (
+  port,
+  between,
+  last,
+  opens,
+  fetched rules asked (walk_from instance from) steps port last old.output new.output done fetching left (sym ends.0 ∙ zero) is_last over.0 is,
+  closes,
+)
 
 pub logged_at_rest : {S P C : Type 0} (rules : SocketRules S P) (tells : C → Option CivilTime → C → Type 0) (asked : Asked)
     (instance steps number : ℕ) (old new : Streams S C) (status : ℕ) →
     Runs rules tells (Log asked instance (Some number) steps) old status new → status ≡ 0 →
-    (port : P) × rules.opens old.sockets (own_address asked.local) asked.timeout (Ok port) new.sockets
-    × IsLoggedAtRest rules asked (walk_from instance (Some number)) steps port old.output new.output
+    UsesSocket rules (own_address asked.local) asked.timeout old.sockets
+    (λ port last. IsLoggedAtRest rules asked (walk_from instance (Some number)) steps port last old.output new.output)
+    new.sockets
 logged_at_rest rules tells asked instance steps number old new status (inl told) zero =
     absurd (not_told Memory old.errors new.errors status told.0 zero)
 logged_at_rest rules tells asked instance steps number old new status (inr (Err fault, said, works, ends)) zero =
     absurd (not_told fault said new.errors status ends zero)
 logged_at_rest rules tells asked instance steps number old new status (inr (Ok done, said, (inl unasked, quiet), ends)) zero =
     absurd (let e = unasked.1.1 in cc)
-logged_at_rest rules tells asked instance steps number old new status (inr (Ok done, said, (inr (Err fault, opens, closed), quiet), ends)) zero =
-    absurd (let e = closed.0 in cc)
-logged_at_rest rules tells asked instance steps number old new status (inr (Ok done, said, (inr (Ok port, opens, (fetching, left, over, is)), quiet), ends)) zero =
-    (port, opens, rested rules asked (walk_from instance (Some number)) steps port old.output new.output done fetching left (sym ends.0 ∙ zero) refl over.0 is)
+logged_at_rest rules tells asked instance steps number old new status (inr (Ok done, said, (inr (inl (fault, opens, is_shut, closed)), quiet), ends)) zero =
+    absurd (let e = is_shut in cc)
+logged_at_rest rules tells asked instance steps number old new status (inr (Ok done, said, (inr (inr (port, between, last, opens, (fetching, left, over, is_last, is), closes)), quiet), ends)) zero = (
+  port,
+  between,
+  last,
+  opens,
+  rested rules asked (walk_from instance (Some number)) steps port last old.output new.output done fetching left (sym ends.0 ∙ zero) is_last refl over.0 is,
+  closes,
+)
 
 pub printed_in_order : {S P C : Type 0} (rules : SocketRules S P) (tells : C → Option CivilTime → C → Type 0) (asked : Asked)
     (instance steps : ℕ) (from : Option ℕ) (old new : Streams S C) (status : ℕ) →
     Runs rules tells (Log asked instance from steps) old status new →
     Keeps old.output new.output
-    ⊎ ((port : P) × rules.opens old.sockets (own_address asked.local) asked.timeout (Ok port) new.sockets
-    × IsCut rules asked (walk_from instance from) port old.output new.output)
+    ⊎ UsesSocket rules (own_address asked.local) asked.timeout old.sockets
+    (λ port last. IsCut rules asked (walk_from instance from) port old.output new.output) new.sockets
 printed_in_order rules tells asked instance steps from old new status (inl told) = inl told.1
 printed_in_order rules tells asked instance steps from old new status (inr (result, said, (inl unasked, quiet), ends)) = inl unasked.2
-printed_in_order rules tells asked instance steps from old new status (inr (result, said, (inr (Err fault, opens, closed), quiet), ends)) =
-    inl closed.1
-printed_in_order rules tells asked instance steps from old new status (inr (result, said, (inr (Ok port, opens, (fetching, left, over, is)), quiet), ends)) =
+printed_in_order rules tells asked instance steps from old new status (inr (result, said, (inr (inl (fault, opens, is_shut, closed)), quiet), ends)) =
+    inl closed
+printed_in_order rules tells asked instance steps from old new status (inr (result, said, (inr (inr (port, between, last, opens, (fetching, left, over, is_last, is), closes)), quiet), ends)) =
     let (came, items, n, ended, after, mid, brought, printed, headline) = over.0 in
     inr (
       port,
+      between,
+      last,
       opens,
       (came, items, n, ended, after, (mid, brought), cut_over (socket_asks rules) _ items steps n ended after fetching old.output new.output printed),
+      closes,
     )

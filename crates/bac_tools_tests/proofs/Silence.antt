@@ -1,14 +1,13 @@
 -- Over sockets where no datagram comes none is answered; a lost answer was asked for; and a server ends with a socket
 -- fault only if a socket failed.
-use Rattle.std.proofs.Common.{◌≡◌, ◌⊎◌, ◌∙◌, inl, inr, lit<, ℕ, zero, suc, ◌+◌, ◌<◌, ◌≤◌, List, [], ◌∷◌, ◌++◌, Option, Some, None, Result, Ok, Err, refl, sym, ap, subst, append-nil, length, arith}
-use Rattle.std.specs.Io.KnownBytes.{Appends, Keeps}
+use Rattle.std.proofs.Common.{◌≡◌, ◌∙◌, inl, inr, lit<, ℕ, zero, suc, ◌+◌, ◌<◌, List, [], ◌∷◌, ◌++◌, Option, Some, None, Ok, Err, refl, sym, ap, subst, append-nil, arith}
+use Rattle.std.specs.Io.KnownBytes.{Keeps}
 use Rattle.bac_link.specs.Exchanges.{Exchanges, Unanswered}
 use Rattle.bac_link.specs.Path.{Path, towards}
 use Rattle.bac_link.specs.Requests.{next_invoke, request_octets}
 use Rattle.bac_link.specs.declared.exchanges.ExchangeFault.{ExchangeFault}
 use Rattle.bac_link.specs.declared.exchanges.ExchangeFault.TheVariants as exchange
 use Rattle.bac_link.specs.declared.item.Item.{Item}
-use Rattle.bac_link.specs.declared.link.Lost.{Lost as Loss}
 use Rattle.bac_link.specs.declared.request.Request.{Request}
 use Rattle.bac_link.specs.declared.request.Request.TheVariants as request
 use Rattle.bac_apdu.specs.declared.service.read_property.ReadProperty.{ReadProperty}
@@ -16,30 +15,30 @@ use Rattle.bac_link.specs.Datagrams.{apdu_in}
 use Rattle.bac_objects.specs.State.{State}
 use Rattle.bac_ports.specs.Asking.{Awaits}
 use Rattle.bac_ports.specs.Port.{Receiving, Sending}
-use Rattle.bac_ports.specs.declared.port.Heard.{Heard}
 use Rattle.bac_ports.specs.declared.port.SocketFault.{SocketFault}
 use Rattle.bac_ports.specs.declared.udp_link.UdpLink.{UdpLink}
 use Rattle.bac_print.specs.Output.{AppendsPart, Held}
 use Rattle.bac_query.specs.Ahead.{FetchesAhead}
 use Rattle.bac_query.specs.Fetching.{Fetching, IsEnd}
-use Rattle.bac_query.specs.Reading.{Answer, PrintsValues, Way, values_in}
+use Rattle.bac_query.specs.Reading.{Answer, PrintsValues, values_in}
 use Rattle.bac_query.specs.declared.fault.QueryFault.{QueryFault}
 use Rattle.bac_query.specs.declared.fault.QueryFault.TheVariants as query
 use Rattle.bac_query.specs.Ends.{end_line}
 use Rattle.bac_query.specs.Items.{items_text}
-use Rattle.bac_serve.specs.Serving.{Done, Server, Serves as ServesDevice, ServesNext}
-use Rattle.bac_tools.specs.Asking.{AsksDevice, Fetches, OverLink, Reads, Writes, of_answer, of_fetching}
+use Rattle.bac_serve.specs.Serving.{Server, Serves as ServesDevice, ServesNext}
+use Rattle.bac_tools.specs.Asking.{Reads, Writes, of_answer, of_fetching}
 use Rattle.bac_tools.specs.Ending.{Ending}
 use Rattle.bac_tools.specs.Run.{Ends, Runs, Works, question, walk_from}
-use Rattle.bac_tools.specs.Serving.{IsConfigured, IsServed, IsServedOver, IsUnbuilt, Serves}
-use Rattle.bac_tools.specs.Sockets.{Outside, SocketRules, link_over, own_address, socket_asks}
+use Rattle.bac_tools.specs.Serving.{IsConfigured, IsServedOver}
+use Rattle.bac_ports.specs.Sockets.{SocketRules, UsesSocket, link_over, own_address, socket_asks}
+use Rattle.bac_tools.specs.Sockets.{Outside}
 use Rattle.bac_tools.specs.Status.{walk_status}
 use Rattle.bac_tools.specs.Streams.{Streams}
 use Rattle.bac_tools.specs.declared.fault.Fault.{Fault}
 use Rattle.bac_tools.specs.declared.fault.Fault.TheVariants as fault
 use Rattle.bac_tools_tests.proofs.Logged.{cut_over, end_of, not_told}
-use Rattle.bac_tools_tests.specs.Silence.{IsSilent, LostWasAsked, NeverFails, ServersStay}
-use Rattle.bac_walk.specs.Came.{AreOf, Brought, Came, Comes, EndsBy, answers_of}
+use Rattle.bac_tools_tests.specs.Silence.{IsSilent, LostWasAsked, NeverFails}
+use Rattle.bac_walk.specs.Came.{Brought, Came}
 use Rattle.bac_walk.specs.Place.{WalkPlace}
 use Rattle.bac_walk.specs.declared.outcome.Ended.{Ended}
 use Rattle.bac_walk.specs.declared.outcome.Ended.TheVariants as ended
@@ -83,21 +82,21 @@ query_end address answer why result done told is good = let e = sym good ∙ is 
 no_values : {S P : Type 0} (rules : SocketRules S P) → IsSilent rules.receives → (asked : Asked) (question : ReadProperty)
     (old : Outside S) (result : Ending) (new : Outside S) → Reads rules asked question old result new →
     ((done : ℕ) → result ≡ Ok done → ⊥) × Keeps old.output new.output
-no_values rules silent asked question old result new (Err why, opens, (is, keeps)) =
+no_values rules silent asked question old result new (inl (why, opens, is, keeps)) =
     (λ done good. (let e = sym good ∙ is in cc), keeps)
-no_values rules silent asked question old result new (Ok port, opens, (answer, left, (Ok datagram, exchanged, prints), is)) =
+no_values rules silent asked question old result new (inr (port, between, last, opens, (answer, left, (Ok datagram, exchanged, prints), is_last, is), closes)) =
     absurd (none_exchanged rules silent (towards asked.route) (next_invoke 0) (request.ReadProperty question) asked.retries (link_over asked.address port) datagram left exchanged)
-no_values rules silent asked question old result new (Ok port, opens, (answer, left, (Err why, exchanged, (told, keeps)), is)) =
+no_values rules silent asked question old result new (inr (port, between, last, opens, (answer, left, (Err why, exchanged, (told, keeps)), is_last, is), closes)) =
     (λ done good. query_end asked.address answer (query.Exchange why) result done told is good, keeps)
 
 not_written : {S P : Type 0} (rules : SocketRules S P) → IsSilent rules.receives → (asked : Asked) (question : Request)
     (old : Outside S) (result : Ending) (new : Outside S) → Writes rules asked question old result new →
     ((done : ℕ) → result ≡ Ok done → ⊥) × Keeps old.output new.output
-not_written rules silent asked question old result new (Err why, opens, (is, keeps)) =
+not_written rules silent asked question old result new (inl (why, opens, is, keeps)) =
     (λ done good. (let e = sym good ∙ is in cc), keeps)
-not_written rules silent asked question old result new (Ok port, opens, (answer, left, (Ok datagram, exchanged, prints), is)) =
+not_written rules silent asked question old result new (inr (port, between, last, opens, (answer, left, (Ok datagram, exchanged, prints), is_last, is), closes)) =
     absurd (none_exchanged rules silent (towards asked.route) (next_invoke 0) question asked.retries (link_over asked.address port) datagram left exchanged)
-not_written rules silent asked question old result new (Ok port, opens, (answer, left, (Err why, exchanged, (told, keeps)), is)) =
+not_written rules silent asked question old result new (inr (port, between, last, opens, (answer, left, (Err why, exchanged, (told, keeps)), is_last, is), closes)) =
     (λ done good. query_end asked.address answer (query.Exchange why) result done told is good, keeps)
 
 pub no_rp : {S P C : Type 0} (rules : SocketRules S P) (tells : C → Option CivilTime → C → Type 0) (asked : Asked)
@@ -216,17 +215,17 @@ no_log rules tells asked instance steps from old new status (inr (result, said, 
     bad : (r : Ending) → r ≡ Err unasked.0 → Ends r said new.errors status → status ≡ 0 → ⊥
     bad (Ok done) is ends none = absurd (cc)
     bad (Err why) is ends none = not_told why said new.errors status ends none
-no_log rules tells asked instance steps from old new status (inr (Err why, said, (inr (Err shut, opens, closed), quiet), ends)) silent =
-    (λ some none. not_told why said new.errors status ends none, nothing old.output new.output closed.1)
-no_log rules tells asked instance steps from old new status (inr (Ok done, said, (inr (Err shut, opens, closed), quiet), ends)) silent =
-    absurd (let e = closed.0 in cc)
-no_log rules tells asked instance steps from old new status (inr (Err why, said, (inr (Ok port, opens, (fetching, left, over, is)), quiet), ends)) silent =
+no_log rules tells asked instance steps from old new status (inr (Err why, said, (inr (inl (shut, opens, is_shut, closed)), quiet), ends)) silent =
+    (λ some none. not_told why said new.errors status ends none, nothing old.output new.output closed)
+no_log rules tells asked instance steps from old new status (inr (Ok done, said, (inr (inl (shut, opens, is_shut, closed)), quiet), ends)) silent =
+    absurd (let e = is_shut in cc)
+no_log rules tells asked instance steps from old new status (inr (Err why, said, (inr (inr (port, between, last, opens, (fetching, left, over, is_last, is), closes)), quiet), ends)) silent =
     let (came, items, n, ended, after, mid, brought, printed, headline) = over.0 in
     let none = no_reply rules silent (towards asked.route) asked.retries n (link_over asked.address port) (walk_from instance from) came items ended after mid brought in (
       λ some zero. not_told why said new.errors status ends zero,
       end_alone items old.output new.output none.1 (cut_over (socket_asks rules) _ items steps n ended after fetching old.output new.output printed),
     )
-no_log rules tells asked instance steps from old new status (inr (Ok done, said, (inr (Ok port, opens, (fetching, left, over, is)), quiet), ends)) silent =
+no_log rules tells asked instance steps from old new status (inr (Ok done, said, (inr (inr (port, between, last, opens, (fetching, left, over, is_last, is), closes)), quiet), ends)) silent =
     let (came, items, n, ended, after, mid, brought, printed, headline) = over.0 in
     let none = no_reply rules silent (towards asked.route) asked.retries n (link_over asked.address port) (walk_from instance from) came items ended after mid brought in (
       λ some zero. no_status rules silent asked (walk_from instance from) steps (link_over asked.address port) fetching left old.output new.output done over.0 is some (sym ends.0 ∙ zero),
@@ -254,18 +253,18 @@ lost rules tells = λ asked object_type instance property index old new works. b
   where
     by : (asked : Asked) (object_type instance property : ℕ) (index : Option ℕ) (old new : Streams _ _) →
         Works rules tells (Rp asked object_type instance property index) old (Err (fault.Exchange asked.address exchange.Lost)) new →
-        (port : _) × (left : UdpLink _)
-        × rules.opens old.sockets (own_address asked.local) asked.timeout (Ok port) new.sockets
-        × Unanswered (socket_asks rules)
+        UsesSocket rules (own_address asked.local) asked.timeout old.sockets
+        (λ port last. (left : UdpLink _) × Unanswered (socket_asks rules)
         (request_octets (towards asked.route) (next_invoke 0) (request.ReadProperty (question object_type instance property index)))
-        (asked.retries + 1) (link_over asked.address port) left
+        (asked.retries + 1) (link_over asked.address port) left × (last ≡ left.port))
+        new.sockets
     by asked object_type instance property index old new (inl unasked, quiet) = absurd (let e = unasked.1.0 in cc)
-    by asked object_type instance property index old new (inr (Err shut, opens, closed), quiet) = absurd (let e = closed.0 in cc)
-    by asked object_type instance property index old new (inr (Ok port, opens, (answer, left, (Ok datagram, exchanged, prints), is)), quiet) =
+    by asked object_type instance property index old new (inr (inl (shut, opens, is_shut, closed)), quiet) = absurd (let e = is_shut in cc)
+    by asked object_type instance property index old new (inr (inr (port, between, last, opens, (answer, left, (Ok datagram, exchanged, prints), is_last, is), closes)), quiet) =
         absurd (not_lost asked.address (values_in (apdu_in datagram)) answer _ _ prints is)
-    by asked object_type instance property index old new (inr (Ok port, opens, (answer, left, (Err why, exchanged, told), is)), quiet) =
+    by asked object_type instance property index old new (inr (inr (port, between, last, opens, (answer, left, (Err why, exchanged, told), is_last, is), closes)), quiet) =
         let P : ExchangeFault → Type 0 = λ f. Exchanges (socket_asks rules) (towards asked.route) (next_invoke 0) (request.ReadProperty (question object_type instance property index)) asked.retries (link_over asked.address port) (Err f) left in
-        (port, left, opens, subst P (same_fault asked.address answer why told.0 is) exchanged)
+        (port, between, last, opens, (left, subst P (same_fault asked.address answer why told.0 is) exchanged, is_last), closes)
 
 -- ---- a server
 
@@ -306,10 +305,10 @@ configured_not input left fault.Write is e = absurd (cc)
 configured_not input left fault.Memory is e = absurd (cc)
 
 over_stays : {S P C : Type 0} (rules : SocketRules S P) (tells : C → Option CivilTime → C → Type 0) → NeverFails rules →
-    (address : List ℕ) (count : ℕ) (device : State) (port : P) (old new : Streams S C) →
-    IsServedOver rules tells address count device port old (Err fault.Socket) new → ⊥
-over_stays rules tells sure address count device port old new (Ok done, left, after, told, serves, is) = absurd (cc)
-over_stays rules tells sure address count device port old new (Err why, left, after, told, serves, is) =
+    (address : List ℕ) (count : ℕ) (device : State) (port last : P) (old new : Streams S C) →
+    IsServedOver rules tells address count device port last old (Err fault.Socket) new → ⊥
+over_stays rules tells sure address count device port last old new (Ok done, after, told, serves, is) = absurd (cc)
+over_stays rules tells sure address count device port last old new (Err why, after, told, serves, is) =
     device_stays rules.sends rules.receives tells sure.1 count _ why _ serves
 
 pub stays : {S P C : Type 0} (rules : SocketRules S P) (tells : C → Option CivilTime → C → Type 0) (address : List ℕ) (count : ℕ)
@@ -322,7 +321,7 @@ stays rules tells address count old new sure (inr (c, configured, inl (why, inr 
     let e = unbuilt.4 in absurd (cc)
 stays rules tells address count old new sure (inr (c, configured, inr (built, inl memory)), keeps) =
     let e = memory.0 in absurd (cc)
-stays rules tells address count old new sure (inr (c, configured, inr (built, inr (Err why, opens, closed))), keeps) =
+stays rules tells address count old new sure (inr (c, configured, inr (built, inr (inl (why, opens, is_shut, closed)))), keeps) =
     sure.0 old.sockets new.sockets address _ why opens
-stays rules tells address count old new sure (inr (c, configured, inr (built, inr (Ok port, opens, served))), keeps) =
-    over_stays rules tells sure address count _ port old new served
+stays rules tells address count old new sure (inr (c, configured, inr (built, inr (inr (port, between, last, opens, served, closes)))), keeps) =
+    over_stays rules tells sure address count _ port last old new served

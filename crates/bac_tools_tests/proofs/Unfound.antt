@@ -1,20 +1,19 @@
 -- Where no datagram comes no device is found.
-use Rattle.std.proofs.Common.{◌≡◌, ◌∙◌, ℕ, Bool, true, false, List, [], ◌∷◌, ◌++◌, Option, Some, None, Ok, Err, inl, inr, refl, sym, ap, subst, append-nil, length}
+use Rattle.std.proofs.Common.{◌≡◌, ◌∙◌, ℕ, Bool, true, false, List, [], ◌∷◌, Option, Some, None, Ok, Err, inl, inr, refl, sym, subst, append-nil, length}
 use Rattle.std.specs.Io.KnownBytes.{Appends, Keeps}
 use Rattle.bac_query.specs.Announcements.{Announcement}
-use Rattle.bac_query.specs.Finding.{Console, Finds, told_of, unasked}
-use Rattle.bac_query.specs.Hearing.{Found, Held, Left, Standing}
+use Rattle.bac_query.specs.Finding.{Console, Finds, told_of}
+use Rattle.bac_query.specs.Hearing.{Found, Held}
 use Rattle.bac_query.specs.Requests.{who_is_octets}
-use Rattle.bac_query.specs.Turns.{Along, ComesTo, Fails, IsLast, Turn, Sent, Received, came_in, has_device, lines_of}
+use Rattle.bac_query.specs.Turns.{Along, Fails, IsLast, Turn, Sent, Received, came_in, has_device, lines_of}
 use Rattle.bac_query.specs.declared.find_fault.FindFault.{FindFault}
 use Rattle.bac_query.specs.declared.find_fault.FindFault.TheVariants as find
 use Rattle.bac_query.specs.declared.search.Search.{Search}
 use Rattle.bac_ports.specs.Port.{Receiving, Sending}
 use Rattle.bac_ports.specs.declared.port.Heard.{Heard}
-use Rattle.bac_tools.specs.Faults.{of_find}
-use Rattle.bac_tools.specs.Finding.{SearchesOver, Searches, of_found, search_of}
+use Rattle.bac_tools.specs.Finding.{of_found}
 use Rattle.bac_tools.specs.Run.{Runs}
-use Rattle.bac_tools.specs.Sockets.{Outside, SocketRules}
+use Rattle.bac_ports.specs.Sockets.{SocketRules}
 use Rattle.bac_tools.specs.Streams.{Streams}
 use Rattle.bac_tools.specs.declared.fault.Fault.TheVariants as fault
 use Rattle.bac_tools_tests.proofs.Logged.{not_told}
@@ -89,13 +88,13 @@ pub no_wi : {S P C : Type 0} (rules : SocketRules S P) (tells : C → Option Civ
     IsSilentWithin rules.receives_within → (status ≡ 0 → ⊥) × Keeps old.output new.output
 no_wi rules tells addresses min max dnet local timeout old new status (inl told) silent still =
     (λ none. not_told fault.Memory old.errors new.errors status told.0 none, told.1)
-no_wi rules tells addresses min max dnet local timeout old new status (inr (Err why, said, ((kept, (Err shut, opens, closed)), quiet), ends)) silent still =
-    (λ none. not_told why said new.errors status ends none, closed.1)
-no_wi rules tells addresses min max dnet local timeout old new status (inr (Ok done, said, ((kept, (Err shut, opens, closed)), quiet), ends)) silent still =
-    absurd (let e = closed.0 in cc)
-no_wi rules tells addresses min max dnet local timeout old new status (inr (Err why, said, ((kept, (Ok port, opens, (found, after, finds, is))), quiet), ends)) silent still =
+no_wi rules tells addresses min max dnet local timeout old new status (inr (Err why, said, ((kept, (inl (shut, opens, is_shut, closed))), quiet), ends)) silent still =
+    (λ none. not_told why said new.errors status ends none, closed)
+no_wi rules tells addresses min max dnet local timeout old new status (inr (Ok done, said, ((kept, (inl (shut, opens, is_shut, closed))), quiet), ends)) silent still =
+    absurd (let e = is_shut in cc)
+no_wi rules tells addresses min max dnet local timeout old new status (inr (Err why, said, ((kept, (inr (port, between, last, opens, (found, finds, is), closes))), quiet), ends)) silent still =
     let both = unfound rules.sends rules.receives rules.receives_within silent still 4096 _ addresses _ found _ finds in
     (λ none. not_told why said new.errors status ends none, both.1)
-no_wi rules tells addresses min max dnet local timeout old new status (inr (Ok done, said, ((kept, (Ok port, opens, (found, after, finds, is))), quiet), ends)) silent still =
+no_wi rules tells addresses min max dnet local timeout old new status (inr (Ok done, said, ((kept, (inr (port, between, last, opens, (found, finds, is), closes))), quiet), ends)) silent still =
     let both = unfound rules.sends rules.receives rules.receives_within silent still 4096 _ addresses _ found _ finds in
     absurd (found_end (length addresses) found done is both.0)

@@ -10,7 +10,7 @@ use Rattle.bac_print.specs.Output.{AppendsPart, Held}
 use Rattle.bac_query.specs.Fetching.{IsHeadline}
 use Rattle.bac_query.specs.Ends.{end_line}
 use Rattle.bac_query.specs.Items.{items_text}
-use Rattle.bac_tools.specs.Sockets.{SocketRules, link_over, socket_asks}
+use Rattle.bac_ports.specs.Sockets.{SocketRules, link_over, socket_asks}
 use Rattle.bac_tools.specs.Texts.{told_text}
 use Rattle.bac_tools.specs.declared.fault.Fault.TheVariants.{Flawed}
 use Rattle.bac_walk.specs.Came.{AreSaidAt, Brought, Came}
@@ -32,14 +32,23 @@ CameOver {P = P} rules asked walk port came items n ended after =
     × Brought (socket_asks rules) (towards asked.route) asked.retries
     (link_over asked.address port) walk n came items ended after mid
 
+-- the same, and nothing more was done with it, which leaves it so
+abbrev pub CameAlone : {S P : Type 0} → SocketRules S P → Asked → WalkPlace → P → P → List Came → List Item → ℕ →
+    Ended → WalkPlace → Type 0
+CameAlone {P = P} rules asked walk port last came items n ended after =
+    (left : UdpLink P)
+    × Brought (socket_asks rules) (towards asked.route) asked.retries
+    (link_over asked.address port) walk n came items ended after left × (last ≡ left.port)
+
 -- ---- when all is well
 
--- Replies came over this socket, one after the other. The lines of the items that they brought are written, and the
--- line of the walk's end; and if the replies say what one log holds, the items are what it held.
-abbrev pub IsLogged : {S P : Type 0} → SocketRules S P → Asked → WalkPlace → P → Held → Held → Type 0
-IsLogged rules asked walk port old new =
+-- Replies came over this socket, one after the other, and nothing more was done with it. The lines of the items that
+-- they brought are written, and the line of the walk's end; and if the replies say what one log holds, the items are
+-- what it held.
+abbrev pub IsLogged : {S P : Type 0} → SocketRules S P → Asked → WalkPlace → P → P → Held → Held → Type 0
+IsLogged rules asked walk port last old new =
     (came : List Came) × (items : List Item) × (n : ℕ) × (ended : Ended) × (after : WalkPlace)
-    × CameOver rules asked walk port came items n ended after
+    × CameAlone rules asked walk port last came items n ended after
     × ((why : Why) × (next : ℕ) × Appends old new (items_text items ++ end_line why next))
     × IsHeadline walk came items ended after
 
@@ -52,23 +61,23 @@ PrintsAll H m s old new =
     (items : List Item) × (t : ℕ) × Brings H m s items t × NoneFrom t m
     × Appends old new (items_text items ++ end_line CaughtUp (sequence_number t))
 
--- Replies came over this socket. If they say what a log holds that doesn't change, and there were more steps than it
--- has lines from the walk's number on, all of them are printed.
-abbrev pub IsLoggedAtRest : {S P : Type 0} → SocketRules S P → Asked → WalkPlace → ℕ → P → Held → Held → Type 0
-IsLoggedAtRest rules asked walk steps port old new =
+-- Replies came over this socket, and nothing more was done with it. If they say what a log holds that doesn't change,
+-- and there were more steps than it has lines from the walk's number on, all of them are printed.
+abbrev pub IsLoggedAtRest : {S P : Type 0} → SocketRules S P → Asked → WalkPlace → ℕ → P → P → Held → Held → Type 0
+IsLoggedAtRest rules asked walk steps port last old new =
     (came : List Came) × (items : List Item) × (n : ℕ) × (ended : Ended) × (after : WalkPlace)
-    × CameOver rules asked walk port came items n ended after
+    × CameAlone rules asked walk port last came items n ended after
     × ((H : History) (m : Moment) (low s : ℕ) → AreSaidAt H (m ∷ []) came → walk.next ≡ sequence_number s →
     IsInWindow low m → low ≤ s → s < low + 2147483648 → ((m.newest + 1) - max s m.oldest) + 1 < steps →
     PrintsAll H m s old new)
 
 -- ---- when a reply is bad
 
--- The question of a walk of this log was asked last, and brought a reply with which this is wrong. It is told, or a
--- front part of it is written.
-abbrev pub IsExplained : {S P : Type 0} → SocketRules S P → Asked → WalkPlace → Held → Held → Type 0
-IsExplained {P = P} rules asked walk old new =
-    (left : UdpLink P) × (here : WalkPlace) × (flaw : ReplyFlaw) × (here.log ≡ walk.log)
+-- The question of a walk of this log was asked last before the socket was left so, and brought a reply with which this
+-- is wrong. It is told, or a front part of it is written.
+abbrev pub IsExplained : {S P : Type 0} → SocketRules S P → Asked → WalkPlace → P → Held → Held → Type 0
+IsExplained {P = P} rules asked walk last old new =
+    (left : UdpLink P) × (here : WalkPlace) × (flaw : ReplyFlaw) × (last ≡ left.port) × (here.log ≡ walk.log)
     × ToldFlaw (socket_asks rules) (towards asked.route) asked.retries here flaw left
     × AppendsPart old new (told_text (Flawed flaw))
 

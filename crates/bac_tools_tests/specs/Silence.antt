@@ -1,5 +1,5 @@
 -- Sockets over which nothing comes, and sockets that never fail.
-use Rattle.std.specs.Prelude.{ℕ, ◌+◌, List, Option, Ok, Err}
+use Rattle.std.specs.Prelude.{◌≡◌, ℕ, ◌+◌, List, Option, Ok, Err}
 use Rattle.bac_link.specs.Exchanges.{Unanswered}
 use Rattle.bac_link.specs.Path.{towards}
 use Rattle.bac_link.specs.Requests.{next_invoke, request_octets}
@@ -10,7 +10,7 @@ use Rattle.bac_ports.specs.declared.port.Heard.{Heard}
 use Rattle.bac_ports.specs.declared.port.SocketFault.{SocketFault}
 use Rattle.bac_ports.specs.declared.udp_link.UdpLink.{UdpLink}
 use Rattle.bac_tools.specs.Run.{Works, question}
-use Rattle.bac_tools.specs.Sockets.{SocketRules, link_over, own_address, socket_asks}
+use Rattle.bac_ports.specs.Sockets.{SocketRules, UsesSocket, link_over, own_address, socket_asks}
 use Rattle.bac_tools.specs.Streams.{Streams}
 use Rattle.bac_tools.specs.declared.fault.Fault.TheVariants.{Exchange, Socket}
 use Rattle.bac_wire.specs.Stamp.{CivilTime}
@@ -32,18 +32,18 @@ NeverFails {S = S} {P = P} rules =
     × ((old new : P) (fault : SocketFault) → rules.receives old (Err fault) new → ⊥)
 
 -- If `rp` tells that its answer is lost, its request was asked over the socket that was opened, once and as often again
--- as the retries say, with the same octets, and no answer came.
+-- as the retries say, with the same octets, no answer came, and nothing more was done before the socket was closed.
 abbrev pub LostWasAsked : {S P C : Type 0} → SocketRules S P → (C → Option CivilTime → C → Type 0) → Type 0
 LostWasAsked {S = S} {P = P} {C = C} rules tells =
     (asked : Asked) (object_type instance property : ℕ) (index : Option ℕ) (old new : Streams S C) →
     Works rules tells (Rp asked object_type instance property index) old
     (Err (Exchange asked.address exchange.Lost)) new →
-    (port : P) × (left : UdpLink P)
-    × rules.opens old.sockets (own_address asked.local) asked.timeout (Ok port) new.sockets
-    × Unanswered (socket_asks rules)
+    UsesSocket rules (own_address asked.local) asked.timeout old.sockets
+    (λ port last. (left : UdpLink P) × Unanswered (socket_asks rules)
     (request_octets (towards asked.route) (next_invoke 0)
     (request.ReadProperty (question object_type instance property index)))
-    (asked.retries + 1) (link_over asked.address port) left
+    (asked.retries + 1) (link_over asked.address port) left × (last ≡ left.port))
+    new.sockets
 
 -- a server doesn't end with a socket fault over sockets that never fail
 abbrev pub ServersStay : {S P C : Type 0} → SocketRules S P → (C → Option CivilTime → C → Type 0) → Type 0

@@ -1,10 +1,10 @@
 //! What a user of the program needs, proved from its public contract alone.
 
-ghost use Rattle.std.specs.Prelude.{◌≡◌, ◌⊎◌, ℕ, map, Option, Some, Ok};
+ghost use Rattle.std.specs.Prelude.{◌≡◌, ◌⊎◌, ℕ, map, Option, Some};
 ghost use Rattle.std.specs.Io.KnownBytes.{Keeps};
 ghost use Rattle.std.specs.String.{string_bytes};
 ghost use Rattle.bac_tools.specs.Run.{AskFor, walk_from};
-ghost use Rattle.bac_tools.specs.Sockets.{own_address, socket_rules};
+ghost use Rattle.bac_ports.specs.Sockets.{UsesSocket, own_address, socket_rules};
 ghost use Rattle.bac_tools_tests.specs.Logging.{IsCut, IsExplained, IsLogged, IsLoggedAtRest};
 ghost use Rattle.bac_words.specs.declared.job.Asked.{Asked as AskedOf};
 ghost use Rattle.bac_words.specs.declared.job.Job.TheVariants.{Log};
@@ -14,8 +14,9 @@ use bac_tools::{Clock, Sockets, run};
 use std::alloc::Global;
 use std::io::{Read, Write};
 
-/// If the words ask for a log and the status is 0, one socket was opened, and what is printed came
-/// over it: it is what a log held, if the replies say what one log holds.
+/// If the words ask for a log and the status is 0, one socket was opened, what is printed came over
+/// it, and nothing more was done with it until it was closed: it is what a log held, if the replies
+/// say what one log holds.
 pub fn logged<S: Sockets, I: Read, O: Write, E: Write, C: Clock>(
     sockets: &mut S,
     alloc: Global,
@@ -27,9 +28,9 @@ pub fn logged<S: Sockets, I: Read, O: Write, E: Write, C: Clock>(
 ) -> u8
     ensures { (asked : AskedOf) (instance steps : ℕ) (from : Option ℕ) →
         AskFor (map string_bytes words.now) (Log asked instance from steps) → result ≡ 0 →
-        (port : S.Socket) × S.opens sockets.old (own_address asked.local) asked.timeout (Ok port) sockets.new
-        × IsLogged (socket_rules S.opens S.Socket.sends S.Socket.receives S.Socket.receives_within) asked (walk_from instance from) port
-        (O.contents output.old) (O.contents output.new) }
+        UsesSocket (socket_rules S.opens S.closes S.Socket.sends S.Socket.receives S.Socket.receives_within) (own_address asked.local) asked.timeout
+        sockets.old (λ port last. IsLogged (socket_rules S.opens S.closes S.Socket.sends S.Socket.receives S.Socket.receives_within) asked
+        (walk_from instance from) port last (O.contents output.old) (O.contents output.new)) sockets.new }
 {
     run(sockets, alloc, words, input, output, errors, clock)
 }
@@ -47,9 +48,9 @@ pub fn logged_at_rest<S: Sockets, I: Read, O: Write, E: Write, C: Clock>(
 ) -> u8
     ensures { (asked : AskedOf) (instance steps number : ℕ) →
         AskFor (map string_bytes words.now) (Log asked instance (Some number) steps) → result ≡ 0 →
-        (port : S.Socket) × S.opens sockets.old (own_address asked.local) asked.timeout (Ok port) sockets.new
-        × IsLoggedAtRest (socket_rules S.opens S.Socket.sends S.Socket.receives S.Socket.receives_within) asked
-        (walk_from instance (Some number)) steps port (O.contents output.old) (O.contents output.new) }
+        UsesSocket (socket_rules S.opens S.closes S.Socket.sends S.Socket.receives S.Socket.receives_within) (own_address asked.local) asked.timeout
+        sockets.old (λ port last. IsLoggedAtRest (socket_rules S.opens S.closes S.Socket.sends S.Socket.receives S.Socket.receives_within) asked
+        (walk_from instance (Some number)) steps port last (O.contents output.old) (O.contents output.new)) sockets.new }
 {
     run(sockets, alloc, words, input, output, errors, clock)
 }
@@ -67,9 +68,9 @@ pub fn bad_reply_explained<S: Sockets, I: Read, O: Write, E: Write, C: Clock>(
 ) -> u8
     ensures { (asked : AskedOf) (instance steps : ℕ) (from : Option ℕ) →
         AskFor (map string_bytes words.now) (Log asked instance from steps) → result ≡ 4 →
-        (port : S.Socket) × S.opens sockets.old (own_address asked.local) asked.timeout (Ok port) sockets.new
-        × IsExplained (socket_rules S.opens S.Socket.sends S.Socket.receives S.Socket.receives_within) asked (walk_from instance from)
-        (E.contents errors.old) (E.contents errors.new) }
+        UsesSocket (socket_rules S.opens S.closes S.Socket.sends S.Socket.receives S.Socket.receives_within) (own_address asked.local) asked.timeout
+        sockets.old (λ port last. IsExplained (socket_rules S.opens S.closes S.Socket.sends S.Socket.receives S.Socket.receives_within) asked
+        (walk_from instance from) last (E.contents errors.old) (E.contents errors.new)) sockets.new }
 {
     run(sockets, alloc, words, input, output, errors, clock)
 }
@@ -88,9 +89,9 @@ pub fn printed_in_order<S: Sockets, I: Read, O: Write, E: Write, C: Clock>(
     ensures { (asked : AskedOf) (instance steps : ℕ) (from : Option ℕ) →
         AskFor (map string_bytes words.now) (Log asked instance from steps) →
         Keeps (O.contents output.old) (O.contents output.new)
-        ⊎ ((port : S.Socket) × S.opens sockets.old (own_address asked.local) asked.timeout (Ok port) sockets.new
-        × IsCut (socket_rules S.opens S.Socket.sends S.Socket.receives S.Socket.receives_within) asked (walk_from instance from) port
-        (O.contents output.old) (O.contents output.new)) }
+        ⊎ UsesSocket (socket_rules S.opens S.closes S.Socket.sends S.Socket.receives S.Socket.receives_within) (own_address asked.local) asked.timeout
+        sockets.old (λ port last. IsCut (socket_rules S.opens S.closes S.Socket.sends S.Socket.receives S.Socket.receives_within) asked
+        (walk_from instance from) port (O.contents output.old) (O.contents output.new)) sockets.new }
 {
     run(sockets, alloc, words, input, output, errors, clock)
 }
@@ -109,9 +110,9 @@ pub fn printed_until_refused<S: Sockets, I: Read, E: Write, C: Clock>(
     ensures { (asked : AskedOf) (instance steps : ℕ) (from : Option ℕ) →
         AskFor (map string_bytes words.now) (Log asked instance from steps) →
         (output.new.text.items ≡ output.old.text.items)
-        ⊎ ((port : S.Socket) × S.opens sockets.old (own_address asked.local) asked.timeout (Ok port) sockets.new
-        × IsCut (socket_rules S.opens S.Socket.sends S.Socket.receives S.Socket.receives_within) asked (walk_from instance from) port
-        (Some output.old.text.items) (Some output.new.text.items)) }
+        ⊎ UsesSocket (socket_rules S.opens S.closes S.Socket.sends S.Socket.receives S.Socket.receives_within) (own_address asked.local) asked.timeout
+        sockets.old (λ port last. IsCut (socket_rules S.opens S.closes S.Socket.sends S.Socket.receives S.Socket.receives_within) asked
+        (walk_from instance from) port (Some output.old.text.items) (Some output.new.text.items)) sockets.new }
 {
     printed_in_order(sockets, alloc, words, input, output, errors, clock)
 }

@@ -7,7 +7,7 @@ ghost use Rattle.std.specs.String.{string_bytes};
 ghost use Rattle.bac_print.specs.Output.{AppendsPart};
 ghost use Rattle.bac_query.specs.Ends.{end_line};
 ghost use Rattle.bac_tools.specs.Run.{AskFor};
-ghost use Rattle.bac_tools.specs.Sockets.{socket_rules};
+ghost use Rattle.bac_ports.specs.Sockets.{socket_rules};
 ghost use Rattle.bac_tools_tests.specs.Silence.{IsSilent, IsSilentWithin, LostWasAsked, ServersStay};
 ghost use Rattle.bac_walk.specs.declared.outcome.Why.{Why as AnyWhy};
 ghost use Rattle.bac_words.specs.declared.job.Asked.{Asked as AskedOf};
@@ -66,10 +66,10 @@ pub fn no_device_made_up<S: Sockets, I: Read, O: Write, E: Write, C: Clock>(
 
 /// `rp` tells that an answer is lost only if it asked for it as often as the words say.
 pub fn lost_was_asked<S: Sockets, C: Clock>()
-    ensures { LostWasAsked (socket_rules S.opens S.Socket.sends S.Socket.receives S.Socket.receives_within) C.tells }
+    ensures { LostWasAsked (socket_rules S.opens S.closes S.Socket.sends S.Socket.receives S.Socket.receives_within) C.tells }
 {}
 
 /// A server tells a socket fault only if a socket failed.
 pub fn servers_stay<S: Sockets, C: Clock>()
-    ensures { ServersStay (socket_rules S.opens S.Socket.sends S.Socket.receives S.Socket.receives_within) C.tells }
+    ensures { ServersStay (socket_rules S.opens S.closes S.Socket.sends S.Socket.receives S.Socket.receives_within) C.tells }
 {}

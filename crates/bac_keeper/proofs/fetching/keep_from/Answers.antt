@@ -27,7 +27,6 @@ returns-clause-came g c clean has =
     let it = rw told.0 at (c.keep_log-run.ensures.brought clean has) in
     let run = it.5 in
     record {
-      left = c.keep_log-run.new.link;
       reached = c.keep_log-run.result.place;
       after = it.2;
       took = it.0;

@@ -3,13 +3,13 @@ use Rattle.std.proofs.lemmas.Result.{IfOk-weaker}
 use Rattle.sqlite.specs.Effect.{Database}
 use Rattle.sqlite.specs.State.{HasCleanDisk}
 use Rattle.sqlite.specs.Held.{state}
-use Rattle.bac_keeper.specs.Fetched.{socket_rules}
+use Rattle.bac_ports.specs.Sockets.{socket_rules}
 use Rattle.bac_keeper.specs.Keeps.{KeepsAll}
 use Rattle.bac_keeper.proofs.keeping.keep_chosen.Goals as goal
 
 pub returns : goal.returns
 returns g c =
-    let over = socket_rules g.S.Sockets.opens g.S.Socket.Port.sends g.S.Socket.Port.receives in
+    let over = socket_rules g.S.Sockets.opens g.S.Sockets.closes g.S.Socket.Port.sends g.S.Socket.Port.receives g.S.Socket.Port.receives_within in
     let all = c.in_ok-all.all.items in
     let between = c.chosen_logs.new.sockets in
     let after = c.keep_each.new.sockets in

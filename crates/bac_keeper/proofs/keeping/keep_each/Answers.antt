@@ -5,7 +5,7 @@ use Rattle.std.specs.Io.KnownBytes.{Appends}
 use Rattle.sqlite.specs.State.{HasCleanDisk}
 use Rattle.sqlite.specs.Held.{state}
 use Rattle.bac_archive.specs.Schema.{archive_schema}
-use Rattle.bac_keeper.specs.Fetched.{socket_rules}
+use Rattle.bac_ports.specs.Sockets.{socket_rules}
 use Rattle.bac_keeper.specs.Keeps.{AreToldBy, KeepsAll, lines_of}
 use Rattle.bac_keeper.specs.Lines.{summary_line}
 use Rattle.bac_keeper.proofs.KeepsLemmas.{all_schema, greatest_more, length_more, lines_more, one_more}
@@ -17,7 +17,7 @@ loop-wanted-preserved g c =
     let was = c.loop-wanted.invariant.told in
     let it = c.in_ok-status.ensures.told in
     let wanted = c.in-Some.wanted in
-    let over = socket_rules g.S.Sockets.opens g.S.Socket.Port.sends g.S.Socket.Port.receives in
+    let over = socket_rules g.S.Sockets.opens g.S.Sockets.closes g.S.Socket.Port.sends g.S.Socket.Port.receives g.S.Socket.Port.receives_within in
     let before = c.args.sockets.now in
     let half = c.loop-wanted.sockets in
     let after = c.keep_one.new.sockets in
@@ -64,11 +64,11 @@ returns-clause-told g c =
     ∙ c.into_iter-wanted-iterator.ensures.into_iter_gives.0 in
     subst (λ l. AreToldBy (g.O.Write.contents c.args.output.now) (g.O.Write.contents c.loop-wanted.output) l
     (λ ends. HasCleanDisk (state g.A.Store c.loop-wanted.conn) → (state g.A.Store c.args.conn.now).now.schema ≡ archive_schema →
-    KeepsAll (socket_rules g.S.Sockets.opens g.S.Socket.Port.sends g.S.Socket.Port.receives) l c.args.sockets.now c.loop-wanted.sockets (state g.A.Store c.args.conn.now).now (state g.A.Store c.loop-wanted.conn).now ends) c.loop-wanted.greatest) all c.loop-wanted.invariant.told
+    KeepsAll (socket_rules g.S.Sockets.opens g.S.Sockets.closes g.S.Socket.Port.sends g.S.Socket.Port.receives g.S.Socket.Port.receives_within) l c.args.sockets.now c.loop-wanted.sockets (state g.A.Store c.args.conn.now).now (state g.A.Store c.loop-wanted.conn).now ends) c.loop-wanted.greatest) all c.loop-wanted.invariant.told
 
 pub returns-in_err-status-clause-stays : goal.returns-in_err-status-clause-stays
 returns-in_err-status-clause-stays g c clean has =
-    let over = socket_rules g.S.Sockets.opens g.S.Socket.Port.sends g.S.Socket.Port.receives in
+    let over = socket_rules g.S.Sockets.opens g.S.Sockets.closes g.S.Socket.Port.sends g.S.Socket.Port.receives g.S.Socket.Port.receives_within in
     let yielded = c.loop-wanted.yielded in
     let old = state g.A.Store c.args.conn.now in
     let mid = state g.A.Store c.loop-wanted.conn in

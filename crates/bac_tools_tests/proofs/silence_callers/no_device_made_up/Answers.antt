@@ -1,11 +1,11 @@
-use Rattle.bac_tools.specs.Sockets.{socket_rules}
+use Rattle.bac_ports.specs.Sockets.{socket_rules}
 use Rattle.bac_tools.specs.Streams.{streams}
 use Rattle.bac_tools_tests.proofs.Unfound.{no_wi}
 use Rattle.bac_tools_tests.proofs.silence_callers.no_device_made_up.Goals as goal
 
 pub returns : goal.returns
 returns g c = λ addresses min max dnet local timeout asks silent still.
-    no_wi (socket_rules g.S.Sockets.opens g.S.Socket.Port.sends g.S.Socket.Port.receives g.S.Socket.Port.receives_within) g.C.Clock.tells
+    no_wi (socket_rules g.S.Sockets.opens g.S.Sockets.closes g.S.Socket.Port.sends g.S.Socket.Port.receives g.S.Socket.Port.receives_within) g.C.Clock.tells
     addresses min max dnet local timeout
     (streams (g.I.Read.remaining c.args.input.now) (g.O.Write.contents c.args.output.now)
     (g.E.Write.contents c.args.errors.now) c.args.sockets.now c.args.clock.now)

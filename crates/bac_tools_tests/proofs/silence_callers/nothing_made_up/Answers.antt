@@ -1,11 +1,11 @@
-use Rattle.bac_tools.specs.Sockets.{socket_rules}
+use Rattle.bac_ports.specs.Sockets.{socket_rules}
 use Rattle.bac_tools.specs.Streams.{streams}
 use Rattle.bac_tools_tests.proofs.Silence.{no_log, no_rp, no_wp}
 use Rattle.bac_tools_tests.proofs.silence_callers.nothing_made_up.Goals as goal
 
 pub returns-clause-rp : goal.returns-clause-rp
 returns-clause-rp g c = λ asked object_type instance property index asks silent.
-    no_rp (socket_rules g.S.Sockets.opens g.S.Socket.Port.sends g.S.Socket.Port.receives g.S.Socket.Port.receives_within) g.C.Clock.tells
+    no_rp (socket_rules g.S.Sockets.opens g.S.Sockets.closes g.S.Socket.Port.sends g.S.Socket.Port.receives g.S.Socket.Port.receives_within) g.C.Clock.tells
     asked object_type instance property index
     (streams (g.I.Read.remaining c.args.input.now) (g.O.Write.contents c.args.output.now)
     (g.E.Write.contents c.args.errors.now) c.args.sockets.now c.args.clock.now)
@@ -15,7 +15,7 @@ returns-clause-rp g c = λ asked object_type instance property index asks silent
 
 pub returns-clause-wp : goal.returns-clause-wp
 returns-clause-wp g c = λ asked object_type instance property priority given index asks silent.
-    no_wp (socket_rules g.S.Sockets.opens g.S.Socket.Port.sends g.S.Socket.Port.receives g.S.Socket.Port.receives_within) g.C.Clock.tells
+    no_wp (socket_rules g.S.Sockets.opens g.S.Sockets.closes g.S.Socket.Port.sends g.S.Socket.Port.receives g.S.Socket.Port.receives_within) g.C.Clock.tells
     asked object_type instance property priority given index
     (streams (g.I.Read.remaining c.args.input.now) (g.O.Write.contents c.args.output.now)
     (g.E.Write.contents c.args.errors.now) c.args.sockets.now c.args.clock.now)
@@ -25,7 +25,7 @@ returns-clause-wp g c = λ asked object_type instance property priority given in
 
 pub returns-clause-log : goal.returns-clause-log
 returns-clause-log g c = λ asked instance steps from asks silent.
-    no_log (socket_rules g.S.Sockets.opens g.S.Socket.Port.sends g.S.Socket.Port.receives g.S.Socket.Port.receives_within) g.C.Clock.tells
+    no_log (socket_rules g.S.Sockets.opens g.S.Sockets.closes g.S.Socket.Port.sends g.S.Socket.Port.receives g.S.Socket.Port.receives_within) g.C.Clock.tells
     asked instance steps from
     (streams (g.I.Read.remaining c.args.input.now) (g.O.Write.contents c.args.output.now)
     (g.E.Write.contents c.args.errors.now) c.args.sockets.now c.args.clock.now)
