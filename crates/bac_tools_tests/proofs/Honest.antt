@@ -61,7 +61,7 @@ prints_said {S = S} asks link left way retries w log number steps (Ok done) old 
       d.0.1,
       d.0.2,
       f.7.0.1 ∙ d.0.4,
-      subst D (d.0.3 refl) d.0.5,
+      subst D d.0.3 d.0.6,
       f.7.2,
       λ e is. is_loss e (subst IsHonestEnd (ended_as done.why steps f.2 f.3 e f.7.0.0 is) d.3),
     )
