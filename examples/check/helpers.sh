@@ -27,8 +27,7 @@ is 'an object' "$? $(grep -c . "$room/out") $(grep 'Object_Name\|Present_Value' 
 is 'a list that is too long for one answer' "$? $(grep Object_List "$room/out" | tr -s ' ')" \
     '0 Object_List object(8,123) object(5,1) object(19,1) object(45,1) object(20,1) object(20,2) object(45,2) object(45,3) object(45,4)'
 ../use/object.sh "$at" 5 2 > "$room/out" 2> "$room/err"
-is 'an object that is not there' "$? $(cat "$room/out" "$room/err")" '3 refused: error 1 31
-unknown object'
+is 'an object that is not there' "$? $(cat "$room/out" "$room/err")" '3 refused: error 1 31'
 ../use/object.sh "$at" > "$room/out" 2> "$room/err"
 is 'words that are missing' "$? $(cat "$room/out" "$room/err")" '1 usage: object.sh ADDRESS TYPE INSTANCE [OPTION..]'
 ../use/object.sh 127.77.77.77:9 8 123 --timeout=100 --retries=0 > "$room/out" 2> "$room/err"
