@@ -31,6 +31,7 @@ use Rattle.bac_tools.specs.declared.fault.Fault.TheVariants.{NoAnswer, List as L
 use Rattle.bac_tools_tests.proofs.AtRest.{few_batches, few_lines, leads_bring}
 use Rattle.bac_tools_tests.specs.Logging.{IsCut, IsLogged, IsLoggedAtRest, PrintsAll}
 use Rattle.bac_walk.specs.Came.{AreOf, Brought, Came, EndsBy, answers_of}
+use Rattle.bac_walk.proofs.Came.{start_old}
 use Rattle.bac_walk.specs.Collects.{IsCaughtUp, batches}
 use Rattle.bac_walk.specs.Delivers.{NoneFrom}
 use Rattle.bac_walk.specs.Place.{WalkPlace}
@@ -192,10 +193,10 @@ rested rules asked walk steps port last old new done (Ok said) left zero is_last
       after,
       (mid, brought, there),
       λ H m low s at number window low_s s_high enough.
-          (let (b, a, t, begins, place, delivers, up) = headline H (m ∷ []) low s at number (omega arith) tt (window, tt) (λ old. (low_s, s_high)) in
+          (let (b, a, t, begins, place, leads, delivers, up) = headline H (m ∷ []) low s at number (omega arith) tt (window, tt) (λ old. (low_s, s_high)) in
           let P : ℕ → Type 0 = λ k. DeliversTo H k items t (m ∷ []) a in
           all_printed H m s t steps n a items (answers_of came) walk.fresh ended after said.why said.next old new status tells.0 tells.2
-          (subst P (begins fresh) delivers) place up
+          (subst P (begins ∙ start_old walk.fresh s (m ∷ []) (answers_of came) fresh) delivers) place up
           (λ limit. so_many (socket_asks rules) (towards asked.route) asked.retries n came (link_over asked.address port) walk ended items after mid limit brought)
           enough),
     )
