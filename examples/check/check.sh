@@ -142,9 +142,9 @@ wrong() {
     ended "$1" 1 $'bad value\n'"$2"$'\n'
 }
 bac rp 127.0.0.256 8 123 77
-wrong 'a host that is none' 'ADDRESS: A.B.C.D or A.B.C.D:PORT, each of A to D from 0 to 255, PORT from 1 to 65535'
+wrong 'a host that is none' 'ADDRESS: A.B.C.D or A.B.C.D:PORT, each of A to D from 0 to 255, PORT from 1 to 65535; for bac wi also with /20 to /32 behind it'
 bac rp 127.0.0.1:0 8 123 77
-wrong 'port 0' 'ADDRESS: A.B.C.D or A.B.C.D:PORT, each of A to D from 0 to 255, PORT from 1 to 65535'
+wrong 'port 0' 'ADDRESS: A.B.C.D or A.B.C.D:PORT, each of A to D from 0 to 255, PORT from 1 to 65535; for bac wi also with /20 to /32 behind it'
 bac rp 127.0.0.1 1024 123 77
 wrong 'a type that no object has' 'TYPE: a number from 0 to 1023'
 bac rp 127.0.0.1 8 4194304 77
@@ -172,7 +172,7 @@ wrong 'a word that is no text' "a word isn't UTF-8"
 
 # Addresses that standard input lists: none, a bad one (lines count with comments and empty ones), one more than a list
 # may have, more octets, a folder; `-` stands alone.
-address='a line is A.B.C.D or A.B.C.D:PORT, A to D from 0 to 255, PORT from 1 to 65535'
+address='a line is A.B.C.D or A.B.C.D:PORT, A to D from 0 to 255, PORT from 1 to 65535; /20 to /32 may stand behind it'
 bac wi - < /dev/null
 wrong 'no address in a list' 'no address'
 printf '# stations\n\n\r\n' > "$room/list"
@@ -196,7 +196,7 @@ wrong 'a list of 1,048,577 octets' 'a list has at most 1048576 octets'
 bac wi - < .
 ended 'a folder as a list' 2 $'read fault\n'
 bac wi - 127.0.0.1 < /dev/null
-wrong 'a list and an address' 'ADDRESS: A.B.C.D or A.B.C.D:PORT, each of A to D from 0 to 255, PORT from 1 to 65535'
+wrong 'a list and an address' 'ADDRESS: A.B.C.D or A.B.C.D:PORT, each of A to D from 0 to 255, PORT from 1 to 65535; for bac wi also with /20 to /32 behind it'
 
 # Configurations that are none.
 bac serve 127.0.0.1 < /dev/null
@@ -292,6 +292,8 @@ counted() {
 counted ./rows.sh
 # The tools over sockets of this machine: with a socket that says what a file says, and with a server.
 counted ./talk.py
+# What a refusal means, by the program and by its pages.
+counted ./causes.py
 counted ./loopback.sh
 counted ./stations.sh
 # A device behind a router.

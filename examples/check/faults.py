@@ -377,13 +377,18 @@ class Peer:
                 self.socket.sendto(b"\x81\x0a" + size.to_bytes(2, "big") + b"\1\0" + said, sender)
 
 
+UNANSWERED = (
+    b"no answer\naddresses asked: 1; devices that answer by broadcast are heard with --local=0.0.0.0:47808\n"
+)
+
+
 def tools_without_memory(program, at, peer):
     write = ["wp", at, "5", "1", "85", "16", "9", "--value=1"]
     silent = ["wi", "127.77.77.77:9", "--timeout=1"]
     return [
         ("memory of rp", without_memory, program, ["rp", at, "8", "123", "77"], b"", 0, b'"plant"\n'),
         ("memory of wp", without_memory, program, write, b"", 0, b"written\n"),
-        ("memory of wi", without_memory, program, silent, b"", 2, b"", b"no answer\naddresses asked: 1\n"),
+        ("memory of wi", without_memory, program, silent, b"", 2, b"", UNANSWERED),
         ("memory of log", walk_without_memory, program, ["log", peer, "1", "1"], WALKED),
         ("memory of log oldest", walk_without_memory, program, ["log", peer, "1", "oldest"], WALKED),
     ]

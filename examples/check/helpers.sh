@@ -52,6 +52,9 @@ typed 'bac --v' 'bac --version '
 typed 'bac log 10.0.0.1 1 o' 'bac log 10.0.0.1 1 oldest '
 typed 'bac log 10.0.0.1:47808 1 o' 'bac log 10.0.0.1:47808 1 oldest '
 typed 'bac log --retries=1 10.0.0.1:47808 1 o' 'bac log --retries=1 10.0.0.1:47808 1 oldest '
+typed 'bac log --retries 2 10.0.0.1 1 o' 'bac log --retries 2 10.0.0.1 1 oldest '
+typed 'bac log 10.0.0.1 --dnet 5 1 o' 'bac log 10.0.0.1 --dnet 5 1 oldest '
+typed 'bac log --retries o' 'bac log --retries o'
 typed 'bac log 10.0.0.1 o' 'bac log 10.0.0.1 o'
 typed 'bac log 10.0.0.1 1 1 --steps=o' 'bac log 10.0.0.1 1 1 --steps=o'
 typed 'bac serve 127.0.0.1 < ../use/plant.c' 'bac serve 127.0.0.1 < ../use/plant.conf '
@@ -61,6 +64,7 @@ typed 'bac log 10.0.0.1 1 1 > help' 'bac log 10.0.0.1 1 1 > helpers.sh '
 typed 'bac keep ../use/plant.c' 'bac keep ../use/plant.conf '
 typed 'bac kept ../use/plant.c' 'bac kept ../use/plant.conf '
 typed 'bac help ser' 'bac help serve '
+typed 'bac help keep' 'bac help keep '
 # Each option that the help of a tool names, without its last letter.
 for tool in wi rp wp log keep kept serve replay; do
     while read -r option value; do

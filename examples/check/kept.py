@@ -3,8 +3,8 @@
 
 RUNS runs keep the logs of four sites, each in a file of its own, while the devices of kept_devices.py log records, lose
 datagrams, purge and overwrite their logs and begin anew; most of the runs are ended by SIGKILL at any moment. Others
-are ended before each of their calls on files in turn, by KILLS, the library of kills.c. After each run the file is
-compared with what the devices logged (kept_judge.py). The cases of kept_cases.py follow. As many of all that as there
+are ended before each of their calls on files in turn, by KILLS, the library of kills.c, or have that call fail. After each
+run the file is compared with what the devices logged (kept_judge.py). The cases of kept_cases.py follow. As many of all that as there
 are cores go on at once. Prints what is wrong, and `N passed, M failed` at the end."""
 import collections
 import multiprocessing
@@ -170,6 +170,28 @@ def a_first_run_at_each_call(judge, _runs):
     return f"{call} first runs were ended at a call on files"
 
 
+def faults_at_each_call(judge, _runs):
+    """Each of a run's calls on files fails in turn, as on a bad disk: it is told, and nothing that was kept is lost."""
+    devices, file = few(), f"{judge.room}/faults.db"
+    judge.ran(whole([file, devices[0].address, "1", "2"]))
+    in_the_close = 0
+    for call in range(1, 400):
+        with lock:
+            for log in devices[0].logs.values():
+                log.log(chance.randrange(1, 4))
+        status, out, errors = judge.ran(whole([file]), env={**judge.ending_at(call), "FAILS": "yes"})
+        judge.judge(f"call {call} failed", file, devices)
+        if status == 0:
+            break
+        judge.is_right(f"call {call} failed", status == 6 and errors.startswith("file fault\n"), f"status {status}: {out} {errors}")
+        in_the_close += out.count("caught up") == 2
+    judge.is_right("calls that fail are counted", status == 0 and call > 5, f"status {status} at call {call}: {errors}")
+    # All lines were printed, so what failed is the close.
+    judge.is_right("a close that fails is told", in_the_close > 0)
+    settle(judge, f"behind {call} faults", devices, file)
+    return f"{call} calls on files failed"
+
+
 def full_disk(judge, _runs):
     """No file may grow beyond a limit."""
     devices, file, ends = few(), f"{judge.room}/full.db", collections.Counter()
@@ -213,7 +235,7 @@ def run_job(job):
 
 def main(program, room, runs, seed, kills):
     common = (program, room, seed, kills)
-    tasks = [at_each_call, a_first_run_at_each_call, full_disk, *kept_cases.CASES]
+    tasks = [at_each_call, a_first_run_at_each_call, faults_at_each_call, full_disk, *kept_cases.CASES]
     share = -(-int(runs) // SITES)
     jobs = [(at_random, f"at_random_{at}", share, common) for at in range(SITES)]
     jobs += [(task, task.__name__, 0, common) for task in tasks]

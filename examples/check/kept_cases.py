@@ -4,6 +4,7 @@ import datetime
 import io
 import os
 import re
+import select
 import shutil
 import signal
 import sqlite3
@@ -16,6 +17,7 @@ from kept_devices import Device, Log, chance, lock, serve, wait_until_asked
 from kept_judge import wrongs
 from kept_rounds import one, rounds, said
 from kept_terminal import terminals
+from kept_warehouse import warehouses
 
 TOP = os.path.realpath(os.path.join(os.path.dirname(__file__), "../.."))
 USE = f"{TOP}/examples/use"
@@ -121,6 +123,27 @@ def losses(judge, _runs):
                (2, said(device, 0, 0, "lost, next 156") + said(other, 1, 0, "caught up, next 5"), ""))
 
 
+def line_by_line(judge, _runs):
+    """The line of a log can be read while the next log's device is held back."""
+    (first, log), (second, other) = one(count=3), one(count=2)
+    file = f"{judge.room}/a.db"
+    for device in (first, second):
+        judge.ran(["keep", file, device.address, "1"])
+    log.log(1)
+    other.log(1)
+    second.open.clear()
+    before = second.asked
+    process = judge.started(["keep", file, "--timeout=60000"])
+    wait_until_asked(second, before)
+    # A line that isn't written yet would come only once the second device answers.
+    ready = select.select([process.stdout], [], [], 30)[0]
+    judge.same("a line comes before the next log", os.read(process.stdout.fileno(), 4096).decode() if ready else "nothing",
+               said(first, 1, 0, "caught up, next 5"))
+    second.open.set()
+    out, errors = process.communicate(timeout=60)
+    judge.same("and then the next one", (process.returncode, out.decode(), errors.decode()), (0, said(second, 1, 0, "caught up, next 4"), ""))
+
+
 def step_limits(judge, _runs):
     """A log that ends at the step limit is told by the status, and the next run goes on to its end. A run that is
     lost behind the last number there is names the number behind it."""
@@ -141,6 +164,45 @@ def step_limits(judge, _runs):
                (0, said(last, 3, 0, "caught up, next 1")))
     last.answers = 0
     judge.same("lost behind it", judge.ran(["keep", other, *QUICK]), (2, said(last, 0, 0, "lost, next 1"), ""))
+
+
+def words_and_names(judge, _runs):
+    """A log that is named twice is asked once; one without a name is kept as the others are."""
+    device = Device([Log(number, 50) for number in (1, 2, 3)], "three")
+    for number, log in device.logs.items():
+        log.log(number)
+    serve([device])
+    file = f"{judge.room}/a.db"
+    one_line = f"{device.address} 2 2 records 0 gaps caught up, next 3\n"
+    judge.same("a log is named twice", judge.ran(["keep", file, device.address, "2", "02", "2"]), (0, one_line, ""))
+    device.nameless, device.mute = {1}, {3}
+    every = "".join(f"{device.address} {number} {number} record{'s' * (number > 1)} 0 gaps caught up, next {number + 1}\n" for number in (1, 2, 3))
+    other = f"{judge.room}/b.db"
+    judge.same("names that are refused or lost", judge.ran(["keep", other, device.address, *QUICK]), (0, every, ""))
+    base = sqlite3.connect(other)
+    names = base.execute("SELECT instance, name FROM logs ORDER BY id").fetchall()
+    base.close()
+    judge.same("they have no name", names, [(1, None), (2, "three log 2"), (3, None)])
+
+
+def no_archive(judge, _runs):
+    """Without a device only an archive with logs is taken, and none is made."""
+    device, _log = one(count=5)
+    file = f"{judge.room}/none.db"
+    judge.same("keep without a file", judge.ran(["keep", file]), (6, "", "file fault\nthere is no such file\n"))
+    judge.is_right("none is made", not os.path.exists(file) and not os.path.exists(f"{file}-wal"), "there is one")
+    with open(file, "w"):
+        pass
+    for tool in ("keep", "kept"):
+        judge.same(f"{tool} of an empty file", judge.ran([tool, file]), (6, "", "file fault\nthere is no trend log in it\n"))
+    judge.is_right("it stays empty", os.path.getsize(file) == 0 and not os.path.exists(f"{file}-wal"), "it isn't")
+    judge.same("a device's log", judge.ran(["keep", file, device.address, "1"])[0], 0)
+    base = sqlite3.connect(file)
+    base.execute("DELETE FROM items")
+    base.execute("DELETE FROM logs")
+    base.commit()
+    base.close()
+    judge.same("an archive without logs", judge.ran(["keep", file]), (6, "", "file fault\nthere is no trend log in it\n"))
 
 
 def far_away(judge, _runs):
@@ -237,7 +299,10 @@ def foreign_files(judge, _runs):
     with open(text, "w") as it:
         it.write("not a database\n")
     names = [text, made("other.db", "CREATE TABLE people (name TEXT)", "INSERT INTO people VALUES ('Ada')"),
-             made("later.db", "UPDATE archive SET version = 2", of=file),
+             made("earlier.db", "UPDATE archive SET version = 1", of=file),
+             made("later.db", "UPDATE archive SET version = 3", of=file),
+             made("no_log.db", "DELETE FROM logs", of=file),
+             made("not_begun.db", "DELETE FROM beginnings", of=file),
              made("more.db", "CREATE TABLE people (name TEXT)", of=file),
              made("over.db", "UPDATE items SET last = (id & 4294967295) + 1, stamp = NULL WHERE id & 4294967295 = 2", of=file)]
     for name in names:
@@ -324,7 +389,7 @@ def printed(judge, _runs):
 
 
 def plot(judge, file, address, rows):
-    """A line where record follows record, and none over a gap or a record without a number."""
+    """A line where record follows record, and none over a gap or a record without a number; a title, and axes."""
     drawn = subprocess.run([sys.executable, f"{USE}/plot.py", file, address, "1"], capture_output=True, text=True)
     lines, before = [[]], None
     for row in (row for row in rows if row[1] == 1):
@@ -334,6 +399,12 @@ def plot(judge, file, address, rows):
             lines[-1].append(row[6])
     found = [len(points.split()) for points in re.findall(r'<polyline points="([^"]*)"', drawn.stdout)]
     judge.same("a plot", (drawn.returncode, found, drawn.stderr), (0, [len(line) for line in lines if line], ""))
+    texts = re.findall(r'<text x="([0-9.]+)" y="[0-9.]+"([^>]*)>([^<]*)<', drawn.stdout)
+    titles = [text for _, kind, text in texts if "font-size" in kind]
+    judge.same("its title", titles, [f'{address} trend log 1: boiler, "old" log 1'])
+    judge.is_right("its axes", sum('"end"' in kind for _, kind, _ in texts) > 1 and texts[-2][2].startswith("time, 20"), texts)
+    both = subprocess.run([sys.executable, f"{USE}/plot.py", file, address, "1", address, "2"], capture_output=True, text=True)
+    judge.same("two logs in one picture", (both.returncode, both.stdout.count('font-size="14"')), (0, 2))
 
 
 def taken_over(judge, _runs):
@@ -390,6 +461,13 @@ def taken_over(judge, _runs):
         judge.same(f"an address with {name} is refused", judge.ran(["keep", broken]), wrong)
 
 
+def site_kept(judge, addresses):
+    """The status of site.sh over these addresses, and what it printed and told."""
+    ran = subprocess.run(["bash", f"{USE}/site.sh", f"{judge.room}/site.db"], input=addresses, text=True, capture_output=True,
+                         env={**os.environ, "BAC": judge.program})
+    return ran.returncode, ran.stdout, ran.stderr
+
+
 def served(judge, _runs):
     """The device is `bac serve`: a log that is switched and purged, and a device that is restarted."""
     file, address, server = f"{judge.room}/a.db", None, None
@@ -433,10 +511,12 @@ def served(judge, _runs):
         switched(9)
         kept("restarted, and past the old number", 10, 0, 11, anew=True)
         kept("and nothing new", 0, 0, 11)
-        site = subprocess.run(["bash", f"{USE}/site.sh", f"{judge.room}/site.db"], input=f"127.77.77.77:9\n{address}\n", text=True,
-                              capture_output=True, env={**os.environ, "BAC": judge.program})
-        right = re.fullmatch(rf"{address} 1 \d+ records? 0 gaps caught up, next \d+\n{address} 2 10 records 0 gaps caught up, next 11\n", site.stdout)
-        judge.is_right("site.sh", site.returncode == 0 and right and site.stderr == "", f"{site.returncode}: {site.stdout} {site.stderr}")
+        site = site_kept(judge, f"127.77.77.77:9\n{address}\n")
+        right = re.fullmatch(rf"{address} 1 \d+ records? 0 gaps caught up, next \d+\n{address} 2 10 records 0 gaps caught up, next 11\n", site[1])
+        judge.is_right("site.sh", site[0] == 0 and right and site[2] == "", site)
+        judge.same("a site where nobody answers", site_kept(judge, "127.77.77.77:9\n"), (2, "", "no answer\naddresses asked: 1\n"))
+        site = site_kept(judge, "127.77.77\n")
+        judge.is_right("a line of a site that is no address", site[:2] == (1, "") and site[2].startswith("line 1: bad line\n"), site)
         base = sqlite3.connect(f"{judge.room}/site.db")
         judge.same("with its names", base.execute("SELECT instance, name FROM logs ORDER BY instance").fetchall(), [(1, "pump-trend"), (2, "by-hand")])
         base.close()
@@ -478,6 +558,8 @@ def judgements(judge, _runs):
         ("a record comes twice", f"INSERT INTO items SELECT id + 4294967296, last, stamp, value, datum, flags FROM items WHERE {record}", "no life logged"),
         ("a log that isn't there", f"INSERT INTO items SELECT id + (1 << 48), last, stamp, value, datum, flags FROM items WHERE {record}", "which aren't there"),
         ("rows under another log", "UPDATE items SET id = id + (1 << 47) WHERE id >> 47 = 2", "which aren't there"),
+        ("a beginning is one too high", "UPDATE beginnings SET number = number + 1 WHERE id >> 15 = 2", "is on record"),
+        ("a beginning is removed", "DELETE FROM beginnings WHERE id >> 15 = 2", "None is on record"),
         ("a log of nobody", "INSERT INTO logs (address, dnet, dadr, instance) VALUES ('10.0.0.1:1', 0, '', 1)", "no device has it"),
         ("a log is lost", "DELETE FROM logs WHERE id = 2", "isn't kept"),
     ):
@@ -496,5 +578,5 @@ def judgements(judge, _runs):
     judge.is_right("a broken page is seen", wrongs(broken, [device], True))
 
 
-CASES = [judgements, run_after_run, options, losses, step_limits, far_away, rounds, restarts, cut_files, foreign_files, a_large_file, printed, taken_over, served,
-         terminals]
+CASES = [judgements, run_after_run, options, losses, line_by_line, step_limits, words_and_names, no_archive, far_away, rounds, restarts, cut_files, foreign_files, a_large_file, printed, taken_over, served,
+         terminals, warehouses]

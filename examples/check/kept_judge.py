@@ -62,10 +62,11 @@ def rows_of(file):
         whole = base.execute("PRAGMA integrity_check").fetchall()
         if not base.execute("SELECT 1 FROM sqlite_master WHERE name = 'gaps'").fetchall():
             # A first run that ended before it made the tables.
-            return whole, [], []
+            return whole, [], [], {}
         logs = base.execute("SELECT id, address, instance FROM logs").fetchall()
         items = base.execute("SELECT id, last, stamp, value, datum, flags FROM items ORDER BY id").fetchall()
-        return whole, logs, items
+        beginnings = dict(base.execute("SELECT id, number FROM beginnings").fetchall())
+        return whole, logs, items, beginnings
     finally:
         base.close()
 
@@ -73,7 +74,7 @@ def rows_of(file):
 def wrongs(file, devices, all_of_it):
     """What is wrong with a file, a text each; if `all_of_it`, it has to have caught up."""
     try:
-        whole, logs, items = rows_of(file)
+        whole, logs, items, beginnings = rows_of(file)
     except sqlite3.Error as error:
         return [f"sqlite3: {error}"]
     if whole != [("ok",)]:
@@ -84,6 +85,10 @@ def wrongs(file, devices, all_of_it):
     by_address = {device.address: device for device in devices}
     if strangers := set(by_log) - {log_id for log_id, _, _ in logs}:
         found.append(f"items of the logs {strangers}, which aren't there")
+    for log_id, epochs in by_log.items():
+        for epoch, rows in epochs.items():
+            if (said := beginnings.get(log_id << 15 | epoch)) != rows[0][0]:
+                found.append(f"epoch {epoch} of log {log_id} begins at {rows[0][0]}, and {said} is on record")
     for log_id, address, instance in logs:
         log = by_address[address].logs.get(instance) if address in by_address else None
         wrong = wrong_of(log, by_log.get(log_id, {}), all_of_it) if log else "no device has it"

@@ -1,9 +1,10 @@
 // Ends the program that it is loaded into (LD_PRELOAD) at one of its calls on files, for kept.py: by
 // SIGKILL before the call numbered AT, counted from 1, of write, pwrite, fsync, fdatasync, ftruncate
-// and rename. What goes to the standard streams isn't counted. Where AT is 0, the count is written to
-// the file descriptor TOLD when the program ends.
+// and rename; or, where FAILS is set, that call fails and nothing is done, as on a bad disk. What goes to the standard
+// streams isn't counted. Where AT is 0, the count is written to the file descriptor TOLD when the program ends.
 #define _GNU_SOURCE
 #include <dlfcn.h>
+#include <errno.h>
 #include <signal.h>
 #include <stdio.h>
 #include <stdlib.h>
@@ -12,52 +13,56 @@
 
 static long calls;
 
-static void counts(int file) {
+// Whether this call fails.
+static int counts(int file) {
     static long at = -1;
-    if (file <= 2) return;
+    if (file <= 2) return 0;
     if (at < 0) at = atol(getenv("AT"));
-    if (++calls == at) kill(getpid(), SIGKILL);
+    if (++calls != at) return 0;
+    if (!getenv("FAILS")) kill(getpid(), SIGKILL);
+    errno = EIO;
+    return 1;
 }
 
 #define NEXT(name) ((__typeof__(name) *)dlsym(RTLD_NEXT, #name))
 
 ssize_t write(int file, const void *from, size_t size) {
-    counts(file);
+    if (counts(file)) return -1;
     return NEXT(write)(file, from, size);
 }
 
 ssize_t pwrite(int file, const void *from, size_t size, off_t at) {
-    counts(file);
+    if (counts(file)) return -1;
     return NEXT(pwrite)(file, from, size, at);
 }
 
 ssize_t pwrite64(int file, const void *from, size_t size, off64_t at) {
-    counts(file);
+    if (counts(file)) return -1;
     return NEXT(pwrite64)(file, from, size, at);
 }
 
 int fsync(int file) {
-    counts(file);
+    if (counts(file)) return -1;
     return NEXT(fsync)(file);
 }
 
 int fdatasync(int file) {
-    counts(file);
+    if (counts(file)) return -1;
     return NEXT(fdatasync)(file);
 }
 
 int ftruncate(int file, off_t size) {
-    counts(file);
+    if (counts(file)) return -1;
     return NEXT(ftruncate)(file, size);
 }
 
 int ftruncate64(int file, off64_t size) {
-    counts(file);
+    if (counts(file)) return -1;
     return NEXT(ftruncate64)(file, size);
 }
 
 int rename(const char *from, const char *to) {
-    counts(3);
+    if (counts(3)) return -1;
     return NEXT(rename)(from, to);
 }
 

@@ -27,13 +27,13 @@ is 'nobody is there to write to' "$said" "|lost
 no answer came from $at|2"
 bac wi "$at" --timeout=100
 is 'nobody answers' "$said" '|no answer
-addresses asked: 1|2'
+addresses asked: 1; devices that answer by broadcast are heard with --local=0.0.0.0:47808|2'
 printf '%s\n' 127.0.0.1:1 '# and' '' "$at" > "$room/list"
 bac wi - --timeout=100 < "$room/list"
 is 'nobody of two answers' "$said" '|no answer
-addresses asked: 2|2'
+addresses asked: 2; devices that answer by broadcast are heard with --local=0.0.0.0:47808|2'
 bac log "$at" 1 oldest --timeout=100 --retries=0
-is 'nobody is there to walk' "$said" 'lost, next 1||2'
+is 'nobody is there to walk' "$said" "lost, next 1|no answer came from $at|2"
 
 # ---- a server
 
@@ -44,11 +44,20 @@ bac serve "$at" --count=0 < ../use/plant.conf
 is 'an address in use' "$said" '|socket fault|2'
 bac wi "$at" --min=124 --timeout=250
 is 'another instance' "$said" '|no answer
-addresses asked: 1|2'
+addresses asked: 1; devices that answer by broadcast are heard with --local=0.0.0.0:47808|2'
 
 printf '127.0.0.1:1\r\n%s' "$at" > "$room/list"
 bac wi - --timeout=250 < "$room/list"
 is 'found by a list without an end of its last line' "$said" "I-Am 123 $at max-apdu 50 segmentation 3 vendor 0||0"
+# A network: of the hosts 127.0.0.1 to 127.0.0.6 one is served; as a word, and as a line with an address in front.
+bac wi "127.0.0.5:$port/29" --timeout=250
+is 'found by its network' "$said" "I-Am 123 $at max-apdu 50 segmentation 3 vendor 0||0"
+printf '127.77.77.77:9\n127.0.0.2:%s/30\n' "$port" > "$room/list"
+bac wi - --timeout=250 < "$room/list"
+is 'found by the network of a line' "$said" "I-Am 123 $at max-apdu 50 segmentation 3 vendor 0||0"
+bac wi "$at/32" --timeout=250
+is 'found as a network of one' "$said" "I-Am 123 $at max-apdu 50 segmentation 3 vendor 0||0"
+# Its first and its last address are no hosts: 127.0.0.1 is the first of these four.
 bac rp "$at" 8 123 77
 is 'the name of the device' "$said" '"plant"||0'
 bac rp "$at" 8 4194303 75
@@ -84,7 +93,7 @@ bac rp "$at" 20 2 131
 is 'records are read by ranges' "$said" '|refused: error 2 27
 read access denied|3'
 bac log "$at" 9 1
-is 'a log that is not there' "$said" 'refused: error 1 31, next 1||3'
+is 'a log that is not there' "$said" 'refused: error 1 31, next 1|unknown object|3'
 
 # ---- a log that is walked in parts
 

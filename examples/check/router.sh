@@ -69,10 +69,10 @@ bac wi "$at" --dnet=65535 --timeout=500
 is 'found on all networks' "$said" "I-Am 123 $at net 7 mac 0a01 max-apdu 50 segmentation 3 vendor 0||0"
 bac wi "$at" --dnet=8 --timeout=200
 is 'nobody on another network' "$said" '|no answer
-addresses asked: 1|2'
+addresses asked: 1; devices that answer by broadcast are heard with --local=0.0.0.0:47808|2'
 bac wi "$at" --timeout=200
 is 'a router is no device' "$said" '|no answer
-addresses asked: 1|2'
+addresses asked: 1; devices that answer by broadcast are heard with --local=0.0.0.0:47808|2'
 bac rp "$at" 8 123 77 "${far[@]}"
 is 'the name of the device' "$said" '"plant"||0'
 bac rp "$at" 8 123 77 --dnet=7 --dadr=0a02 --timeout=100 --retries=1
@@ -100,6 +100,6 @@ is 'four records' "$(cut -d ' ' -f 1 "$room/out" | head -n 4 | tr '\n' ' ')$(tai
 bac log "$at" 2 1 --steps=3 "${far[@]}"
 is 'three steps' "$(tail -n 1 "$room/out")|${said##*|}" 'step limit, next 4|0'
 bac log "$at" 2 oldest --dnet=8 --dadr=0a01 --timeout=100 --retries=0
-is 'a log on another network' "$said" 'lost, next 1||2'
+is 'a log on another network' "$said" "lost, next 1|no answer came from $at|2"
 
 ended

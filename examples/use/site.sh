@@ -3,15 +3,17 @@
 #
 #     examples/use/site.sh FILE < ADDRESSES
 #
-# ADDRESSES has an address a line. Each device that answers is asked for its trend logs, which are added to FILE; from then on
-# `bac keep FILE` fetches what is new of all. $BAC is the program, or else `bac`. The status is the greatest of the runs'.
+# ADDRESSES has an address a line, as `bac wi -` takes them. Each device that answers is asked for its trend logs, which
+# are added to FILE; from then on `bac keep FILE` fetches what is new of all. $BAC is the program, or else `bac`. The
+# status is the greatest of the runs', that of `bac wi` among them: 2 if nobody answers, 1 if a line is no address.
 set -u -o pipefail
 bac=${BAC:-bac}
 [ $# -eq 1 ] || { echo "usage: site.sh FILE < ADDRESSES" >&2; exit 1; }
 file=$1
-mapfile -t addresses < <(sed '/^[[:blank:]]*$/d')
-[ "${#addresses[@]}" -gt 0 ] || { echo "site.sh: no address" >&2; exit 1; }
-greatest=0
+found=$(mktemp)
+trap 'rm -f "$found"' EXIT
+"$bac" wi - > "$found"
+greatest=$?
 while read -r _ _ address behind net _ mac _; do
     way=()
     # A device behind a router: `I-Am 123 ADDRESS net 5 mac 07 ..`.
@@ -19,5 +21,5 @@ while read -r _ _ address behind net _ mac _; do
     "$bac" keep "$file" "$address" "${way[@]}" < /dev/null
     status=$?
     [ "$status" -le "$greatest" ] || greatest=$status
-done < <("$bac" wi "${addresses[@]}")
+done < "$found"
 exit "$greatest"

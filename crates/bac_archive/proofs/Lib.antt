@@ -1,9 +1,12 @@
 mod SchemaLemmas
 pub mod RowsLemmas
+pub mod BeginLemmas
 mod QueryLemmas
 mod SpanLemmas
 mod LogLemmas
+mod OrphanLemmas
 mod PartsLemmas
 pub mod FollowLemmas
 mod NewestLemmas
 pub mod ItemsLemmas
+mod StandingLemmas

@@ -1,7 +1,9 @@
 pub mod Schema
 pub mod Rows
+pub mod Beginnings
 pub mod Archive
 pub mod Logs
 pub mod Latest
 pub mod Items
 pub mod Parts
+pub mod Standing

@@ -1,11 +1,12 @@
 //! Records of trend logs, kept once in a database file.
 //!
-//! An archive is a database of SQLite with three tables (specs/Schema): `archive` has the version
+//! An archive is a database of SQLite with four tables (specs/Schema): `archive` has the version
 //! of the format, `logs` a row for each trend log, `items` one for each record or gap, whose key
-//! tells the log, the epoch and the number.
+//! tells the log, the epoch and the number, and `beginnings` one for each epoch of a log.
 #![tactic(auto)]
 
 mod creation;
+mod epochs;
 mod items;
 mod latest;
 mod opening;
@@ -13,14 +14,20 @@ mod parts;
 mod row;
 mod rows;
 mod shape;
+mod standing;
 mod trend_logs;
 
 pub use creation::create;
+pub use epochs::{Beginning, begin_epoch, beginnings};
 pub use items::{Item, given_are_items, items_of, read_item};
 pub use latest::{NewestItem, head_of, newest};
 pub use opening::{Refused, open};
-pub use parts::{create_part, follow_on, part_goes_on, part_has_heads, part_has_logs, parts_agree};
+pub use parts::{
+    create_part, follow_on, part_goes_on, part_has_beginnings, part_has_heads, part_has_logs,
+    parts_agree,
+};
 pub use row::Row;
 pub use rows::{adds_join, append, leaves_the_last_commit};
 pub use shape::is_archive;
+pub use standing::{Standing, part_stands, standing_of};
 pub use trend_logs::{Log, NotAdded, Source, add_log, logs};

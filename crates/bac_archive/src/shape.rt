@@ -1,10 +1,10 @@
 //! Whether a schema is an archive's.
 
 ghost use Rattle.std.specs.Prelude.{◌≡◌, ◌↔◌, [], ◌∷◌, IsTrue, None, codes, false};
-ghost use Rattle.bac_archive.specs.Schema.{archive_schema, no_schema, archive, logs, items, column as column_of, plain_table, plain_view, log_index, archive_tables, archive_views, records_text, gaps_text};
+ghost use Rattle.bac_archive.specs.Schema.{archive_schema, no_schema, archive, logs, items, beginnings, column as column_of, plain_table, plain_view, log_index, archive_tables, archive_views, first_schema, first_tables, first_views, records_text, gaps_text, epochs_text};
 ghost use Rattle.sqlite_value.specs.Keys.{plain};
 
-use crate::creation::{GAPS, RECORDS};
+use crate::creation::{EPOCHS, GAPS, RECORDS};
 use sqlite_items::Items;
 use sqlite_schema::code::Terms;
 use sqlite_schema::schema::{Column, Index, Kind, Schema, Stamps, Table, View};
@@ -40,7 +40,7 @@ fn is_no_stamp(stamps: &Stamps) -> bool
     stamps.places.is_empty() && is_no_term(&stamps.terms) && stamps.formats.is_empty()
 }
 
-fn is_first(places: &[usize]) -> bool
+fn is_first_place(places: &[usize]) -> bool
     ensures { IsTrue result ↔ (places.now ≡ 0 ∷ []) }
 {
     matches!(places, [0])
@@ -54,7 +54,7 @@ fn is_plain(table: &Table, name: &[u8], tree: u32) -> bool
     table.name.as_slice() == name
         && table.tree == tree
         && table.key == Some(0)
-        && is_first(table.primary.as_slice())
+        && is_first_place(table.primary.as_slice())
         && is_no_term(&table.checks)
         && table.references.is_empty()
         && table.computed.is_empty()
@@ -104,6 +104,15 @@ fn are_item_columns(columns: &[Column]) -> bool
         && is_column(last, b"last", Kind::Integer, false)
         && is_column(value, b"value", Kind::Real, false)
         && are_texts(stamp, datum, flags)
+}
+
+fn are_beginning_columns(columns: &[Column]) -> bool
+    ensures { IsTrue result ↔ (columns.now ≡ beginnings.columns) }
+{
+    let [id, number] = columns else {
+        return false;
+    };
+    is_column(id, b"id", Kind::Integer, false) && is_column(number, b"number", Kind::Integer, true)
 }
 
 fn are_four(places: &[usize]) -> bool
@@ -157,6 +166,15 @@ fn is_item_table(table: &Table) -> bool
         && table.orders.is_empty()
 }
 
+fn is_beginning_table(table: &Table) -> bool
+    ensures { IsTrue result ↔ (table.now ≡ record beginnings { tree = 4 }) }
+{
+    is_plain(table, b"beginnings", 4)
+        && are_beginning_columns(table.columns.as_slice())
+        && table.uniques.is_empty()
+        && table.orders.is_empty()
+}
+
 fn is_log_index(index: &Index) -> bool
     ensures { IsTrue result ↔ (index.now ≡ log_index) }
 {
@@ -179,25 +197,34 @@ fn is_view(view: &View, name: &[u8], tree: u32, sql: &[u8]) -> bool
         && !view.is_bound
 }
 
-fn is_records_view(view: &View) -> bool
-    ensures { IsTrue result ↔ (view.now ≡ plain_view (codes "records") 4 records_text) }
+fn is_records_view(view: &View, tree: u32) -> bool
+    ensures { IsTrue result ↔ (view.now ≡ plain_view (codes "records") tree records_text) }
 {
-    is_view(view, b"records", 4, RECORDS.as_bytes())
+    is_view(view, b"records", tree, RECORDS.as_bytes())
 }
 
-fn is_gaps_view(view: &View) -> bool
-    ensures { IsTrue result ↔ (view.now ≡ plain_view (codes "gaps") 5 gaps_text) }
+fn is_gaps_view(view: &View, tree: u32) -> bool
+    ensures { IsTrue result ↔ (view.now ≡ plain_view (codes "gaps") tree gaps_text) }
 {
-    is_view(view, b"gaps", 5, GAPS.as_bytes())
+    is_view(view, b"gaps", tree, GAPS.as_bytes())
+}
+
+fn is_epochs_view(view: &View) -> bool
+    ensures { IsTrue result ↔ (view.now ≡ plain_view (codes "epochs") 7 epochs_text) }
+{
+    is_view(view, b"epochs", 7, EPOCHS.as_bytes())
 }
 
 fn are_tables(tables: &[Table]) -> bool
     ensures { IsTrue result ↔ (tables.now ≡ archive_tables) }
 {
-    let [versions, known, kept] = tables else {
+    let [versions, known, kept, begun] = tables else {
         return false;
     };
-    is_archive_table(versions) && is_log_table(known) && is_item_table(kept)
+    is_archive_table(versions)
+        && is_log_table(known)
+        && is_item_table(kept)
+        && is_beginning_table(begun)
 }
 
 fn are_indexes(indexes: &[Index]) -> bool
@@ -212,10 +239,10 @@ fn are_indexes(indexes: &[Index]) -> bool
 fn are_views(views: &[View]) -> bool
     ensures { IsTrue result ↔ (views.now ≡ archive_views) }
 {
-    let [records, gaps] = views else {
+    let [records, gaps, epochs] = views else {
         return false;
     };
-    is_records_view(records) && is_gaps_view(gaps)
+    is_records_view(records, 5) && is_gaps_view(gaps, 6) && is_epochs_view(epochs)
 }
 
 /// Whether a schema is an archive's: its tables, its index and its views, and no more.
@@ -226,6 +253,34 @@ pub fn is_archive(schema: &Schema) -> bool
     are_tables(schema.tables.as_slice())
         && are_indexes(schema.indexes.as_slice())
         && are_views(schema.views.as_slice())
+}
+
+fn are_first_tables(tables: &[Table]) -> bool
+    ensures { IsTrue result ↔ (tables.now ≡ first_tables) }
+{
+    let [versions, known, kept] = tables else {
+        return false;
+    };
+    is_archive_table(versions) && is_log_table(known) && is_item_table(kept)
+}
+
+fn are_first_views(views: &[View]) -> bool
+    ensures { IsTrue result ↔ (views.now ≡ first_views) }
+{
+    let [records, gaps] = views else {
+        return false;
+    };
+    is_records_view(records, 4) && is_gaps_view(gaps, 5)
+}
+
+/// Whether a schema is that of an archive of version 1.
+#[tactic(auto, using(crate::proofs::SchemaLemmas::first_parts_are))]
+pub(crate) fn is_first(schema: &Schema) -> bool
+    ensures { IsTrue result ↔ (schema.now ≡ first_schema) }
+{
+    are_first_tables(schema.tables.as_slice())
+        && are_indexes(schema.indexes.as_slice())
+        && are_first_views(schema.views.as_slice())
 }
 
 /// Whether a schema has nothing.

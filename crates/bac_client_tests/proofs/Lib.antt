@@ -5,3 +5,4 @@ pub mod Foreign
 pub mod Honest
 pub mod Loggable
 pub mod ForeignPort
+pub mod Growing

@@ -2,3 +2,4 @@ pub mod Held
 pub mod Day
 pub mod Foreign
 pub mod ForeignPort
+pub mod Growing

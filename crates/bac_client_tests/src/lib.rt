@@ -18,6 +18,8 @@ mod foreign_port;
 #[cfg(test)]
 mod full_log;
 #[cfg(test)]
+mod growing_callers;
+#[cfg(test)]
 mod honest_callers;
 #[cfg(test)]
 mod link;

@@ -24,7 +24,7 @@ use Rattle.bac_walk.proofs.Joins.{after_answers-add}
 use Rattle.bac_walk.proofs.Window.{stays_in_window}
 use Rattle.bac_archive.specs.Schema.{archive_schema}
 use Rattle.bac_archive.specs.Rows.{Adds, IsAppended, kept as kept_in}
-use Rattle.bac_archive.proofs.RowsLemmas.{adds_nothing}
+use Rattle.bac_archive.proofs.BeginLemmas.{adds_nothing}
 use Rattle.bac_keep.specs.declared.place.Place.{Place}
 use Rattle.bac_keep.specs.Items.{era, era_after, kept_rows}
 use Rattle.bac_keep.specs.Came.{GathersOver, KeepsOver, LeavesOver}

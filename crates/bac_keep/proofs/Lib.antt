@@ -7,3 +7,5 @@ mod CoveredLemmas
 mod NewestLemmas
 mod UpToDateLemmas
 pub mod TurnLemmas
+mod BegunLemmas
+mod RoundLemmas

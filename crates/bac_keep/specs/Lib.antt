@@ -15,3 +15,4 @@ pub mod UpToDate
 pub mod Newest
 pub mod Turns
 pub mod Parts
+pub mod Begun

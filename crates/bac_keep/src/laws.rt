@@ -1,4 +1,5 @@
 //! Laws of what is kept over any number of runs.
+ghost use Rattle.bac_keep.specs.Begun.{RoundsBeginAtOne, RunsBeginAtTheirBeginning, RunsGoOnFromTheBeginning};
 ghost use Rattle.bac_keep.specs.Covered.{RunsBeginCovered, RunsGoOnCovered};
 ghost use Rattle.bac_keep.specs.Honest.{HonestIsKept, HonestRunsAreKept, KeptOverJoin};
 ghost use Rattle.bac_keep.specs.Kept.{AllRunsAreKept, BeginsEmpty, KeptIsDelivered, KeptRunsJoin, OneRowEach, OthersStay, RowsJoin, RunsAreKept};
@@ -83,6 +84,23 @@ pub fn runs_begin_covered<L: LogLink>()
 /// that ends.
 pub fn runs_go_on_covered<L: LogLink>()
     ensures { RunsGoOnCovered (λ link id r M H. L.is_ours link id r M H) (λ link. L.failures link) }
+{}
+
+/// Over every link, whoever answers: what a first run keeps of an epoch covers each number from the
+/// epoch's beginning up to the one that comes next, once.
+pub fn runs_begin_at_their_beginning<L: LogLink>()
+    ensures { RunsBeginAtTheirBeginning (λ link id r M H. L.is_ours link id r M H) (λ link. L.failures link) }
+{}
+
+/// Over every link, whoever answers: so does what is kept, with what a run adds that goes on where
+/// that ends.
+pub fn runs_go_on_from_the_beginning<L: LogLink>()
+    ensures { RunsGoOnFromTheBeginning (λ link id r M H. L.is_ours link id r M H) (λ link. L.failures link) }
+{}
+
+/// Where numbers come round, an epoch that had no beginning begins at 1.
+pub fn rounds_begin_at_one()
+    ensures { RoundsBeginAtOne }
 {}
 
 /// What is one delivery covers each number, once.

@@ -1,7 +1,7 @@
 //! Archives in memory: what is opened, what is refused, and what is kept.
 
 use bac_archive::{Refused, Row, append, is_archive, leaves_the_last_commit, open};
-use sqlite::types::FromSql;
+use sqlite::types::{FromSql, ToSql};
 use sqlite::{Connection, Constraint, Error, ErrorCode, MemStore};
 use std::alloc::Global;
 use std::test::Fail;
@@ -12,6 +12,16 @@ pub(crate) fn archive(alloc: Global) -> Result<Connection<MemStore>, Fail> {
     if open(&mut conn).is_err() {
         return Err(Fail::from("no archive"));
     }
+    Ok(conn)
+}
+
+/// An archive in memory with a log of this id.
+pub(crate) fn archive_with(alloc: Global, log: i64) -> Result<Connection<MemStore>, Fail> {
+    let mut conn = archive(alloc)?;
+    let _ = conn.execute(
+        "INSERT INTO logs (id, address, dnet, dadr, instance, name) VALUES (?1, '192.0.2.1', 0, '', 1, 'Zone temperature')",
+        &[log.to_sql()],
+    )?;
     Ok(conn)
 }
 
@@ -61,7 +71,7 @@ fn an_empty_database_becomes_an_archive_and_stays_one(rt: HostRuntime) -> Result
     let mut conn = archive(rt.alloc())?;
     assert!(rt; open(&mut conn) == Ok(()));
     leaves_the_last_commit(&conn);
-    assert_eq!(rt; first::<i64>(&mut conn, "SELECT version FROM archive")?, 1);
+    assert_eq!(rt; first::<i64>(&mut conn, "SELECT version FROM archive")?, 2);
     assert_eq!(rt; first::<i64>(&mut conn, "SELECT count(*) FROM items")?, 0);
     Ok(())
 }
@@ -75,33 +85,47 @@ fn other_databases_are_refused(rt: HostRuntime) -> Result<(), Fail> {
     let _ = more.execute_batch("CREATE TABLE note (id INTEGER PRIMARY KEY) STRICT")?;
     assert!(rt; open(&mut more) == Err(Refused::Foreign));
     let mut later = archive(rt.alloc())?;
-    let _ = later.execute_batch("UPDATE archive SET version = 2")?;
+    let _ = later.execute_batch("UPDATE archive SET version = 1")?;
     assert!(rt; open(&mut later) == Err(Refused::Version));
     let mut twice = archive(rt.alloc())?;
-    let _ = twice.execute_batch("INSERT INTO archive (version) VALUES (2)")?;
+    let _ = twice.execute_batch("INSERT INTO archive (version) VALUES (1)")?;
     assert!(rt; open(&mut twice) == Err(Refused::Version));
     Ok(())
 }
 
 #[test]
 fn items_over_one_another_are_refused(rt: HostRuntime) -> Result<(), Fail> {
-    let mut conn = archive(rt.alloc())?;
+    let mut conn = archive_with(rt.alloc(), 0)?;
     assert!(rt; add(&mut conn, &[gap(1, 4), row(rt.alloc(), 5)?])? == Ok(()));
     assert!(rt; open(&mut conn) == Ok(()));
     assert!(rt; add(&mut conn, &[row(rt.alloc(), 3)?])? == Ok(()));
     assert!(rt; open(&mut conn) == Err(Refused::Overlap));
-    let mut back = archive(rt.alloc())?;
+    let mut back = archive_with(rt.alloc(), 0)?;
     assert!(rt; add(&mut back, &[gap(7, 6)])? == Ok(()));
     assert!(rt; open(&mut back) == Err(Refused::Overlap));
     Ok(())
 }
 
 #[test]
-fn an_append_keeps_all_rows_or_none(rt: HostRuntime) -> Result<(), Fail> {
+fn items_of_no_log_and_of_no_epoch_are_refused(rt: HostRuntime) -> Result<(), Fail> {
     let mut conn = archive(rt.alloc())?;
-    let _ = conn.execute_batch(
-        "INSERT INTO logs (id, address, dnet, dadr, instance, name) VALUES (0, '192.0.2.1', 0, '', 1, 'Zone temperature')",
-    )?;
+    assert!(rt; add(&mut conn, &[row(rt.alloc(), 5)?])? == Ok(()));
+    assert!(rt; open(&mut conn) == Err(Refused::Orphan));
+    let mut begun = archive_with(rt.alloc(), 0)?;
+    assert!(rt; add(&mut begun, &[row(rt.alloc(), 5)?, row(rt.alloc(), 6)?])? == Ok(()));
+    assert_eq!(rt;
+        first::<i64>(&mut begun, "SELECT beginning FROM epochs")?,
+        5
+    );
+    assert!(rt; open(&mut begun) == Ok(()));
+    let _ = begun.execute_batch("DELETE FROM beginnings")?;
+    assert!(rt; open(&mut begun) == Err(Refused::Orphan));
+    Ok(())
+}
+
+#[test]
+fn an_append_keeps_all_rows_or_none(rt: HostRuntime) -> Result<(), Fail> {
+    let mut conn = archive_with(rt.alloc(), 0)?;
     assert!(rt; add(&mut conn, &[row(rt.alloc(), 445)?, gap(446, 449)])? == Ok(()));
     let taken = Error::SqliteFailure(ErrorCode::ConstraintViolation(Constraint::PrimaryKey));
     assert!(rt; add(&mut conn, &[row(rt.alloc(), 450)?, row(rt.alloc(), 445)?])? == Err(taken));

@@ -1,6 +1,6 @@
 //! Walks over a link that answers from a list, kept in memory.
 
-use crate::archive::{archive, first};
+use crate::archive::{archive, archive_with, first};
 use bac_archive::{is_archive, open};
 use bac_keep::{KeptRun, KeptStep, NotKept, Place, Progress, Refusal, Untold, keep_log, keep_step};
 use bac_link::Transactions;
@@ -52,7 +52,7 @@ pub(crate) fn keep(
 
 #[test]
 fn each_batch_is_kept_with_its_gap(rt: HostRuntime) -> Result<(), Fail> {
-    let mut conn = archive(rt.alloc())?;
+    let mut conn = archive_with(rt.alloc(), 3)?;
     let mut place = Place::new(3, 2).ok_or("no place")?;
     let (one, next) = (two(1, 5), two(2, 7));
     let replies: [&[u8]; 2] = [&one, &next];
@@ -165,7 +165,7 @@ impl Progress for Told {
 
 #[test]
 fn a_run_goes_on_where_one_was_lost(rt: HostRuntime) -> Result<(), Fail> {
-    let mut conn = archive(rt.alloc())?;
+    let mut conn = archive_with(rt.alloc(), 7)?;
     let place = Place::new(7, 1).ok_or("no place")?;
     let (one, next, later) = (two(1, 5), two(2, 7), two(4, 12));
     let replies: [&[u8]; 4] = [&one, &next, &[], &later];

@@ -1,6 +1,6 @@
 //! Numbers that come round, after 4294967295: the next epoch begins.
 
-use crate::archive::{archive, first};
+use crate::archive::{archive, archive_with, first};
 use crate::kept::{keep, walk_from};
 use bac_archive::open;
 use bac_keep::{KeptRun, KeptStep, NotKept, Place, Refusal, Untold, keep_log};
@@ -59,7 +59,7 @@ fn item(conn: &mut Connection<MemStore>, at: u8) -> Result<(i64, i64), Fail> {
 
 #[test]
 fn a_batch_over_the_round_is_kept_in_two_epochs(rt: HostRuntime) -> Result<(), Fail> {
-    let mut conn = archive(rt.alloc())?;
+    let mut conn = archive_with(rt.alloc(), 3)?;
     let before = Place::new(3, 2).ok_or("no place")?;
     let behind = Place::new(3, 3).ok_or("no place")?;
     let all = four(1);
@@ -97,7 +97,7 @@ fn a_batch_over_the_round_is_kept_in_two_epochs(rt: HostRuntime) -> Result<(), F
 
 #[test]
 fn a_gap_over_the_round_is_two_rows(rt: HostRuntime) -> Result<(), Fail> {
-    let mut conn = archive(rt.alloc())?;
+    let mut conn = archive_with(rt.alloc(), 3)?;
     let before = Place::new(3, 2).ok_or("no place")?;
     let behind = Place::new(3, 3).ok_or("no place")?;
     let later = two(1, 5);
@@ -133,7 +133,7 @@ fn a_gap_over_the_round_is_two_rows(rt: HostRuntime) -> Result<(), Fail> {
 
 #[test]
 fn a_gap_up_to_the_round_is_one_row(rt: HostRuntime) -> Result<(), Fail> {
-    let mut conn = archive(rt.alloc())?;
+    let mut conn = archive_with(rt.alloc(), 3)?;
     let before = Place::new(3, 2).ok_or("no place")?;
     let behind = Place::new(3, 3).ok_or("no place")?;
     let later = two(1, 1);

@@ -1,11 +1,1 @@
-pub mod Status
-pub mod Lines
-pub mod Csv
-pub mod Printed
-pub mod Wanted
-pub mod Starts
-pub mod Fetched
-pub mod Discovered
-pub mod Stays
-pub mod Keeps
-pub mod LogLines
+pub mod Done

@@ -1,12 +1,24 @@
 //! Database files are opened and closed.
 
-use crate::end::NotDone;
-use crate::fault::FileFault;
+use bac_asked::{FileFault, NotDone};
 use sqlite::{Connection, File, FileStore};
 use std::alloc::AllocError;
 use std::fs::{Files, exists, metadata};
 
-/// Opens the database at a path. If there is no file, it makes an empty one where it may.
+/// How many octets a file has, if it is there.
+fn len_of(rt: &HostRuntime, path: &str) -> Option<u64> {
+    match metadata(rt, path) {
+        Ok(found) => Some(found.len()),
+        Err(_) => None,
+    }
+}
+
+/// Whether a file is there, and has nothing in it; nor has the log beside it.
+fn has_nothing(rt: &HostRuntime, path: &str, log: &str) -> bool {
+    len_of(rt, path) == Some(0) && len_of(rt, log).unwrap_or(0) == 0
+}
+
+/// Opens the database at a path. If there is no file, or an empty one, it makes one where it may.
 fn open_file(
     rt: &HostRuntime,
     path: &str,
@@ -18,6 +30,9 @@ fn open_file(
     let Ok(log) = log_of(rt, path) else {
         return Err(FileFault::Memory);
     };
+    if !may_make && has_nothing(rt, path, log.as_str()) {
+        return Err(FileFault::NoLogs);
+    }
     let had_log = !matches!(exists(rt, log.as_str()), Ok(false));
     match Connection::open(rt, path) {
         Ok(conn) => Ok(conn),

@@ -1,21 +1,11 @@
 //! What `keep` and `kept` are asked for.
 
 use crate::commands::{CSV, FILE, command};
+use bac_asked::Options;
 use bac_words::{Word, WordsFault};
 use clap::ArgMatches;
 use clap::error::ErrorKind;
 use std::alloc::Global;
-
-/// The texts of the options of `keep`, where they were given.
-#[derive(Clone, Copy)]
-pub(crate) struct Options<'a> {
-    pub steps: Option<&'a str>,
-    pub timeout: Option<&'a str>,
-    pub local: Option<&'a str>,
-    pub retries: Option<&'a str>,
-    pub dnet: Option<&'a str>,
-    pub dadr: Option<&'a str>,
-}
 
 /// What the words ask for, as they are written.
 #[derive(Drop)]

@@ -8,28 +8,10 @@
 
 mod archives;
 mod commands;
-mod count;
-mod csv_lines;
-mod discovering;
-mod end;
-mod fault;
-mod fetching;
 mod job;
 mod keeping;
-mod kept;
-mod laws;
-mod log_words;
 mod printing;
 mod program;
-mod questions;
-mod summary;
-mod wanted;
 
-pub use end::NotDone;
-pub use fault::{Fault, FileFault};
-pub use keeping::keep_each;
-pub use laws::kept_lines_are_those_of_log;
-pub use log_words::Asking;
-pub use printing::{Shown, print_shown};
+pub use bac_asked::Fault;
 pub use program::{is_keeping, run_keep};
-pub use wanted::Wanted;

@@ -1,14 +1,13 @@
 //! The tools `keep` and `kept`.
 
 ghost use Rattle.std.specs.Prelude.{◌≡◌, ◌≤◌, IfOk};
-ghost use Rattle.bac_keeper.specs.Keeps.{IsDone};
-ghost use Rattle.bac_keeper.specs.Status.{file_status};
+ghost use Rattle.bac_keeper.specs.Done.{IsDone};
+ghost use Rattle.bac_asked.specs.Status.{file_status};
 
-use crate::end::NotDone;
-use crate::fault::{Fault, FileFault};
 use crate::job::{Job, read_job};
 use crate::keeping::keep;
 use crate::printing::kept;
+use bac_asked::{Fault, FileFault, NotDone};
 use bac_ports::Sockets;
 use bac_print::write_text;
 use bac_words::WordsFault;

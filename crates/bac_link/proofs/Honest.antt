@@ -7,7 +7,7 @@ use Rattle.bac_link.specs.Honest.{IsSaidOrLost, IsHonestFor, IsHonestWhere, IsHo
 use Rattle.bac_link.specs.Path.{Path}
 use Rattle.bac_link.specs.Standard.{Asked}
 
-abbrev Asking : Type 0 → Type 1
+abbrev pub Asking : Type 0 → Type 1
 Asking S = S → List ℕ → Result (List ℕ) Loss → S → Type 0
 
 mapped : (stays goes : List Moment → Type 0) (M : List Moment) (H : History) (log : Id) (asked : Asked) (octets : List ℕ) (answer : Result (List ℕ) Loss) →

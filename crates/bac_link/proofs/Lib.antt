@@ -4,3 +4,4 @@ pub mod Verdicts
 pub mod Tries
 pub mod Client
 pub mod Honest
+pub mod Growing

@@ -11,5 +11,6 @@ pub mod Ordinals
 pub mod Heard
 pub mod Standard
 pub mod Honest
+pub mod Growing
 pub mod Exchanges
 pub mod Client

@@ -1,10 +1,11 @@
 //! Laws of what a walk delivers, on lists alone, and of requests and links. Each function does
 //! nothing: what it ensures is the law.
 
-ghost use Rattle.std.specs.Prelude.{◌≡◌, ℕ, List};
+ghost use Rattle.std.specs.Prelude.{◌≡◌, ℕ, ◌≤◌, List};
 ghost use Rattle.bac_wire.specs.Primitive.{Id};
 ghost use Rattle.bac_link.specs.Client.{AnswersTellApart, CallsAreEvents};
 ghost use Rattle.bac_link.specs.Delivery.{History, Moment};
+ghost use Rattle.bac_link.specs.Growing.{Standing, StaysHonest, StaysHonestWhere, HistoriesGoOn, HonestStaysHonest, StandingStaysHonest};
 ghost use Rattle.bac_link.specs.Honest.{IsHonest, IsHonestWhere, HonestWhereItStands};
 ghost use Rattle.bac_link.specs.Laws.{CanBeJoined, CanBeResumed, DeliversEachOnce};
 ghost use Rattle.bac_link.specs.Links.{TellsOurs};
@@ -39,6 +40,20 @@ pub fn links_are_honest<L: LogLink>()
     ensures told { (moments : L → List Moment) → HonestWhereItStands L.asks (λ link M. moments link ≡ M) }
     ensures ours { (log : Id) (r : ℕ) (H : History) → HonestWhereItStands L.asks (λ link M. L.is_ours link log r M H) }
     ensures goes_on { (path : Path) (log : Id) (H : History) (low : ℕ) → IsHonestWhere L.asks path log H low (λ link M. IsHonest L.asks path log H low link M) }
+{}
+
+/// A link whose log goes on stays honest for so many asks more where each of them is answered by the
+/// standard: from where any function tells that it stands, for as many asks as another tells. One
+/// that is honest at moments known before stays honest, too.
+pub fn links_stay_honest<L: LogLink>()
+    ensures told { (standing : L → Standing) (most : L → ℕ) → StandingStaysHonest L.asks (λ more link at. (standing link ≡ at) × (more ≤ most link)) }
+    ensures goes_on { (path : Path) (log : Id) (low : ℕ) → StaysHonestWhere L.asks path log low (λ more link at. StaysHonest L.asks path log low more link at) }
+    ensures honest { HonestStaysHonest L.asks }
+{}
+
+/// Each history goes on to one that has the entries of any moments.
+pub fn histories_go_on()
+    ensures { HistoriesGoOn }
 {}
 
 /// `receive` and `timeout` are the steps of the client, which an exchange over a port runs, too.

@@ -23,7 +23,7 @@ pub use exchanges::{ExchangeFault, Refusal, Verdict, exchange, judge};
 pub use item::Item;
 pub use laws::{
     answers_tell_requests_apart, asks_tell_ours, calls_are_events, can_be_joined, can_be_resumed,
-    delivers_each_once, links_are_honest,
+    delivers_each_once, histories_go_on, links_are_honest, links_stay_honest,
 };
 pub use link::{LogLink, Lost};
 pub use request::Request;

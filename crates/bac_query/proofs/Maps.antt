@@ -1,8 +1,9 @@
 -- What came over a link, seen as what came over another that makes each of its asks one; and what each ask keeps.
 use Rattle.std.proofs.Common.{◌≡◌, ◌+◌, ℕ, zero, suc, Ok, Err, Result, List, [], ◌∷◌, sym, ap, subst}
 use Rattle.bac_link.specs.Exchanges.{Answers, Exchanges, Unanswered}
-use Rattle.bac_link.specs.Path.{Path}
-use Rattle.bac_link.specs.Requests.{request_octets}
+use Rattle.bac_link.specs.Path.{Path, towards}
+use Rattle.bac_link.specs.declared.transactions.Transactions.{Transactions}
+use Rattle.bac_link.specs.Requests.{next_invoke, request_octets}
 use Rattle.bac_link.specs.declared.exchanges.ExchangeFault.{ExchangeFault}
 use Rattle.bac_link.specs.declared.exchanges.ExchangeFault.TheVariants as fault
 use Rattle.bac_link.specs.declared.exchanges.Verdict.{Verdict}
@@ -10,7 +11,8 @@ use Rattle.bac_link.specs.declared.exchanges.Verdict.TheVariants as verdict
 use Rattle.bac_link.specs.declared.item.Item.{Item}
 use Rattle.bac_link.specs.declared.link.Lost.{Lost as Loss}
 use Rattle.bac_link.specs.declared.request.Request.{Request}
-use Rattle.bac_walk.specs.Came.{Asks, Brought, Came, Comes, EndsBy}
+use Rattle.bac_walk.specs.Came.{Brought, Came, Comes, EndsBy}
+use Rattle.bac_walk.specs.Transacted.{BroughtBy, ComesBy, EndsAfter, asked as asked_at}
 use Rattle.bac_walk.specs.Place.{WalkPlace}
 use Rattle.bac_walk.specs.Told.{HasAsked, Told}
 use Rattle.bac_walk.specs.declared.outcome.Ended.{Ended}
@@ -53,50 +55,46 @@ exchanges_maps f asks other maps path invoke r retries old (Err fault.Lost) new 
     unanswered_maps f asks other maps (request_octets path invoke r) (retries + 1) old new tries
 exchanges_maps f asks other maps path invoke r retries old (Err fault.TooLong) new same = ap f same
 
-asks_maps : {S T : Type 0} (f : S → T) (asks : Asking S) (other : Asking T) → Maps f asks other →
-    (path : Path) (retries : ℕ) (old : S) (w : WalkPlace) (result : Result (List ℕ) ExchangeFault) (new : S) →
-    Asks asks path retries old w result new → Asks other path retries (f old) w result (f new)
-asks_maps f asks other maps path retries old w result new (invoke, done) =
-    (invoke, exchanges_maps f asks other maps path invoke _ retries old result new done)
-
 comes_maps : {S T : Type 0} (f : S → T) (asks : Asking S) (other : Asking T) → Maps f asks other →
-    (path : Path) (retries : ℕ) (old : S) (w : WalkPlace) (came : List Came) (after : WalkPlace) (new : S) →
-    Comes asks path retries old w came after new → Comes other path retries (f old) w came after (f new)
-comes_maps f asks other maps path retries old w [] after new (at, same) = (at, ap f same)
-comes_maps f asks other maps path retries old w (c ∷ came) after new (mid, next, p, here, asked, taken, items, rest) = (
+    (came : List Came) (t last : Transactions) (old : S) (w after : WalkPlace) (new : S) →
+    ComesBy asks t old w came after last new → ComesBy other t (f old) w came after last (f new)
+comes_maps f asks other maps [] t last old w after new (at, same, left) = (at, ap f same, left)
+comes_maps f asks other maps (c ∷ came) t last old w after new (mid, next, p, here, asked, taken, items, rest) = (
   f mid,
   next,
   p,
   here,
-  asks_maps f asks other maps path retries old w (Ok c.datagram) mid asked,
+  exchanges_maps f asks other maps (towards t.route) (next_invoke t.invoke) _ t.retries old (Ok c.datagram) mid asked,
   taken,
   items,
-  comes_maps f asks other maps path retries mid next came after new rest,
+  comes_maps f asks other maps came (asked_at w t) last mid next after new rest,
 )
 
 ends_maps : {S T : Type 0} (f : S → T) (asks : Asking S) (other : Asking T) → Maps f asks other →
-    (path : Path) (retries steps : ℕ) (came : List Came) (here : WalkPlace) (mid : S) (why : Ended) (after : WalkPlace) (new : S) →
-    EndsBy asks path retries steps came here mid why after new → EndsBy other path retries steps came here (f mid) why after (f new)
-ends_maps f asks other maps path retries steps came here mid ended.CaughtUp after new e = (e.0, e.1, e.2, ap f e.3)
-ends_maps f asks other maps path retries steps came here mid ended.StepLimit after new e = (e.0, e.1, e.2, ap f e.3)
-ends_maps f asks other maps path retries steps came here mid ended.Stopped after new e = (e.0, e.1, e.2, ap f e.3)
-ends_maps f asks other maps path retries steps came here mid (ended.Fault e) after new (few, (result, asked, is), at) =
-    (few, (result, asks_maps f asks other maps path retries mid here result new asked, is), at)
+    (t last : Transactions) (steps : ℕ) (came : List Came) (here : WalkPlace) (mid : S) (why : Ended) (after : WalkPlace) (new : S) →
+    EndsAfter asks t steps came here mid why after last new → EndsAfter other t steps came here (f mid) why after last (f new)
+ends_maps f asks other maps t last steps came here mid ended.CaughtUp after new e = (e.0, e.1, e.2, ap f e.3, e.4)
+ends_maps f asks other maps t last steps came here mid ended.StepLimit after new e = (e.0, e.1, e.2, ap f e.3, e.4)
+ends_maps f asks other maps t last steps came here mid ended.Stopped after new e = (e.0, e.1, e.2, ap f e.3, e.4)
+ends_maps f asks other maps t last steps came here mid (ended.Fault e) after new (few, (result, asked, is), at, left) =
+    (few, (result, exchanges_maps f asks other maps (towards t.route) (next_invoke t.invoke) _ t.retries mid result new asked, is), at, left)
 
 -- what a run brought
 pub brought_maps : {S T : Type 0} (f : S → T) (asks : Asking S) (other : Asking T) → Maps f asks other →
-    (path : Path) (retries : ℕ) (old : S) (before : WalkPlace) (steps : ℕ) (items : List Item) (why : Ended) (after : WalkPlace) (new : S) →
-    (came : List Came) × Brought asks path retries old before steps came items why after new →
-    (came : List Came) × Brought other path retries (f old) before steps came items why after (f new)
-brought_maps f asks other maps path retries old before steps items why after new (came, (here, mid, comes, ends, are)) = (
+    (t last : Transactions) (old : S) (before : WalkPlace) (steps : ℕ) (items : List Item) (why : Ended) (after : WalkPlace) (new : S) →
+    (came : List Came) × BroughtBy asks t old before steps came items why after last new →
+    (came : List Came) × BroughtBy other t (f old) before steps came items why after last (f new)
+brought_maps f asks other maps t last old before steps items why after new (came, run) = (
   came,
-  (
-    here,
-    f mid,
-    comes_maps f asks other maps path retries old _ came here mid comes,
-    ends_maps f asks other maps path retries steps came here mid why after new ends,
-    are,
-  ),
+  record {
+    here = run.here;
+    mid = f run.mid;
+    half = run.half;
+    comes = comes_maps f asks other maps came t run.half old _ run.here run.mid run.comes;
+    ends = ends_maps f asks other maps run.half last steps came run.here run.mid why after new run.ends;
+    are = run.are;
+    few = run.few;
+  },
 )
 
 asked_maps : {S T : Type 0} (f : S → T) (asks : Asking S) (other : Asking T) → Maps f asks other →

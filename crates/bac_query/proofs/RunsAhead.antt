@@ -2,26 +2,29 @@
 use Rattle.std.proofs.Common.{Bool, true, Option, Result, [], ◌∷◌, append_assoc, append-nil, ◌≡◌, ◌≢◌, ◌+◌, ◌<◌, ◌≤◌, ℕ, false, inl, inr, Some, Ok, Err, List, ◌++◌, length, refl, sym, subst, ◌∙◌, ap, arith, length-append}
 use Rattle.std.specs.Io.KnownBytes.{Appends}
 use Rattle.std.proofs.KnownBytes.{Appends-kept, Appends-trans, Keeps-refl}
-use Rattle.bac_link.specs.Path.{Path}
+use Rattle.bac_link.specs.Path.{Path, towards}
+use Rattle.bac_link.specs.declared.transactions.Transactions.{Transactions}
 use Rattle.bac_link.specs.declared.item.Item.{Item}
 use Rattle.bac_print.specs.Output.{AppendsPart}
 use Rattle.bac_query.specs.Ends.{end_line}
 use Rattle.bac_query.specs.Items.{items_text}
 use Rattle.bac_link.specs.declared.link.Lost.{Lost as Loss}
-use Rattle.bac_walk.specs.Came.{Came, Brought, BroughtInto}
+use Rattle.bac_walk.specs.Came.{Came, Brought}
+use Rattle.bac_walk.specs.Transacted.{BroughtIntoBy}
 use Rattle.bac_walk.specs.Walks.{gap_items, item_of}
 use Rattle.bac_walk.specs.declared.batch.Gap.{Gap as GapOf}
 use Rattle.bac_walk.specs.declared.batch.Numbered.{Numbered}
 use Rattle.bac_walk.specs.Outcomes.{IsRunOf, why_of}
 use Rattle.bac_walk.specs.Place.{WalkPlace}
-use Rattle.bac_walk.specs.Sinks.{Call, Delivery, Takes, is_stopped, put_items}
+use Rattle.bac_walk.specs.Sinks.{Call, Delivery, IsRun, Takes, is_stopped, put_items}
 use Rattle.bac_walk.specs.Told.{Told}
 use Rattle.bac_walk.specs.declared.outcome.Ended.{Ended}
 use Rattle.bac_walk.specs.declared.outcome.Ended.TheVariants.{CaughtUp, StepLimit, Stopped, Fault}
 use Rattle.bac_walk.specs.declared.outcome.Why.{Why}
 use Rattle.bac_walk.specs.declared.outcome.Why.TheVariants as why
 use Rattle.bac_walk.proofs.Came.{brought_delivers}
-use Rattle.bac_walk.proofs.Joined.{brought_early, brought_joins, no_brought}
+use Rattle.bac_walk.proofs.Transacted.{brought_plain, transacted_bounded}
+use Rattle.bac_walk.proofs.TransactedRuns.{brought_early, brought_joins, no_brought}
 use Rattle.bac_walk.proofs.Runs.{join_runs, no_run, run_early}
 use Rattle.bac_walk.proofs.Keeps.{put_length}
 use Rattle.bac_walk.proofs.Told.{Asking}
@@ -37,50 +40,46 @@ use Rattle.bac_query.proofs.Delivered.{behind_first, items_text-append, not_stop
 
 -- ---- runs
 
-pub none_over : {S : Type 0} (asks : Asking S) (path : Path) (retries : ℕ) (link : S) (w : WalkPlace) → IsRunOver asks path retries link w 0 [] StepLimit w link
-none_over asks path retries link w =
-    (no_brought asks path retries link w, ([], λ on. refl, no_run never retries 0 w, omega arith, λ e. omega arith), tt)
+pub none_over : {S : Type 0} (asks : Asking S) (t : Transactions) (link : S) (w : WalkPlace) → IsRunOver asks t link w 0 [] StepLimit w t link
+none_over asks t link w =
+    (no_brought asks t link w, ([], λ on. refl, no_run never t.retries 0 w, omega arith, λ e. omega arith), tt)
 
 pub limit_on : StepLimit ≢ Stopped
 limit_on e = cc
 
-pub over_joins : {S : Type 0} (asks : Asking S) (path : Path) (retries : ℕ) (link half new : S) (w mid after : WalkPlace) (n k : ℕ) (xs ys : List Item) (ended : Ended) →
-    IsRunOver asks path retries link w n xs StepLimit mid half → IsRunOver asks path retries half mid k ys ended after new →
-    IsRunOver asks path retries link w (n + k) (xs ++ ys) ended after new
-over_joins asks path retries link half new w mid after n k xs ys ended (brought, (us, same, run, few, many), told) (more, (vs, as_well, goes, less, enough), last) =
-    let joined = length-append us vs in (
-      brought_joins asks path retries link half new w mid after n k xs ys ended brought more,
+pub over_joins : {S : Type 0} (asks : Asking S) (t u z : Transactions) (link half new : S) (w mid after : WalkPlace) (n k : ℕ) (xs ys : List Item) (ended : Ended) →
+    IsRunOver asks t link w n xs StepLimit mid u half → IsRunOver asks u half mid k ys ended after z new →
+    IsRunOver asks t link w (n + k) (xs ++ ys) ended after z new
+over_joins asks t u z link half new w mid after n k xs ys ended (brought, (us, same, run, few, many), told) (more, (vs, as_well, goes, less, enough), last) =
+    let joined = length-append us vs in
+    let leaves = transacted_bounded asks t u link half w mid n brought.0 xs StepLimit brought.1 in
+    let R : ℕ → Type 0 = λ r. IsRun never never r 0 0 mid after k ended vs in
+    let P : Path → Type 0 = λ q. Told asks q u.retries ended after new in
+    let Q : ℕ → Type 0 = λ r. Told asks (towards t.route) r ended after new in (
+      brought_joins asks t u z link half new w mid after n k xs ys ended brought more,
       (
         us ++ vs,
         λ on. ap (λ l. l ++ vs) (same limit_on) ∙ ap (λ l. xs ++ l) (as_well on),
-        join_runs never never never retries 0 0 0 w mid after n k ended us vs run goes (omega arith),
+        join_runs never never never t.retries 0 0 0 w mid after n k ended us vs run (subst R leaves.3 goes) (omega arith),
         omega (arith, joined, few, less),
         λ limit. omega (arith, joined, many refl, enough limit),
       ),
-      last,
+      subst Q leaves.3 (subst P (ap towards leaves.2) last),
     )
 
-pub over_early : {S : Type 0} (asks : Asking S) (path : Path) (retries : ℕ) (link new : S) (w after : WalkPlace) (n steps : ℕ) (xs : List Item) (ended : Ended) → ended ≢ StepLimit → n ≤ steps →
-    IsRunOver asks path retries link w n xs ended after new → IsRunOver asks path retries link w steps xs ended after new
-over_early asks path retries link new w after n steps xs ended other le (brought, (us, same, run, few, many), told) = (
-  brought_early asks path retries link new w after n steps xs ended other le brought,
+pub over_early : {S : Type 0} (asks : Asking S) (t z : Transactions) (link new : S) (w after : WalkPlace) (n steps : ℕ) (xs : List Item) (ended : Ended) → ended ≢ StepLimit → n ≤ steps →
+    IsRunOver asks t link w n xs ended after z new → IsRunOver asks t link w steps xs ended after z new
+over_early asks t z link new w after n steps xs ended other le (brought, (us, same, run, few, many), told) = (
+  brought_early asks t z link new w after n steps xs ended other le brought,
   (
     us,
     same,
-    run_early never never retries 0 0 w after n steps ended us other le run,
+    run_early never never t.retries 0 0 w after n steps ended us other le run,
     omega (arith, le, few),
     λ limit. absurd (other limit),
   ),
   told,
 )
-
--- with as many retries and by the same networks
-pub over_same : {S : Type 0} (asks : Asking S) (path way : Path) (retries tries : ℕ) (link new : S) (w after : WalkPlace) (n : ℕ) (xs : List Item) (ended : Ended) → way ≡ path → tries ≡ retries →
-    IsRunOver asks way tries link w n xs ended after new → IsRunOver asks path retries link w n xs ended after new
-over_same asks path way retries tries link new w after n xs ended same_path same_retries run =
-    let P : Path → Type 0 = λ q. IsRunOver asks q tries link w n xs ended after new in
-    let Q : ℕ → Type 0 = λ k. IsRunOver asks path k link w n xs ended after new in
-    subst Q same_retries (subst P same_path run)
 
 -- ---- what is told of them
 
@@ -102,29 +101,31 @@ tells_ends left items steps n ended after (Err Memory) old new few (cause, next,
 tells_ends left items steps n ended after (Err (Exchange fault)) old new few none = absurd none
 
 -- both that a caller learns
-abbrev pub Learns : {S : Type 0} → Asking S → Path → ℕ → S → WalkPlace → ℕ → Fetching → ℕ → ℕ → S → Held → Held → Type 0
-Learns {S = S} asks path retries link walk steps result failures more left old new =
-    FetchesAhead asks path retries link walk steps result left old new
-    × PrintsRun asks path retries walk steps result failures more left old new
+abbrev pub Learns : {S : Type 0} → Asking S → Transactions → S → WalkPlace → ℕ → Fetching → ℕ → ℕ → Transactions → S → Held → Held → Type 0
+Learns {S = S} asks t link walk steps result failures more last left old new =
+    FetchesAhead asks t link walk steps result last left old new
+    × PrintsRun asks (towards t.route) t.retries walk steps result failures more left old new
 
-learns_both : {S : Type 0} (asks : Asking S) (path : Path) (retries : ℕ) (link mid left : S) (walk after : WalkPlace) (steps n : ℕ) (items : List Item) (ended : Ended) (result : Fetching) (failures more : ℕ) (old new : Held) →
-    n ≤ steps → (run : IsRunOver asks path retries link walk n items ended after mid) → Told asks path retries ended after left →
-    TellsRun (λ cause. IsLeftAhead asks path retries mid after left cause) items steps n ended after result old new →
-    TellsRun (λ cause. IsLeftAhead asks path retries mid after left cause) run.1.0 steps n ended after result old new →
-    Learns asks path retries link walk steps result failures more left old new
-learns_both asks path retries link mid left walk after steps n items ended result failures more old new few (brought, (us, same, run, less, many), last) told tells covers =
-    let here : Why → Type 0 = λ cause. IsLeftAhead asks path retries mid after left cause in (
+learns_both : {S : Type 0} (asks : Asking S) (t u z : Transactions) (link mid left : S) (walk after : WalkPlace) (steps n : ℕ) (items : List Item) (ended : Ended) (result : Fetching) (failures more : ℕ) (old new : Held) →
+    n ≤ steps → (run : IsRunOver asks t link walk n items ended after u mid) → Told asks (towards t.route) t.retries ended after left →
+    TellsRun (λ cause. IsLeftAhead asks u mid after z left cause) items steps n ended after result old new →
+    TellsRun (λ cause. IsLeftAhead asks u mid after z left cause) run.1.0 steps n ended after result old new →
+    Learns asks t link walk steps result failures more z left old new
+learns_both asks t u z link mid left walk after steps n items ended result failures more old new few (brought, (us, same, run, less, many), last) told tells covers =
+    let here : Why → Type 0 = λ cause. IsLeftAhead asks u mid after z left cause in (
       (
         brought.0,
         items,
         n,
         ended,
         after,
+        u,
         mid,
         brought.1,
         tells,
         λ H M low s said at some back window place.
-            brought_delivers asks path retries link mid walk after n brought.0 items ended H M low s brought.1 said at some back window place,
+            brought_delivers asks (towards t.route) t.retries link mid walk after n brought.0 items ended H M low s
+            (brought_plain asks t u link mid walk after n brought.0 items ended brought.1) said at some back window place,
       ),
       (
         us,
@@ -140,25 +141,25 @@ learns_both asks path retries link mid left walk after steps n items ended resul
       ),
     )
 
-learns : {S : Type 0} (asks : Asking S) (path : Path) (retries : ℕ) (link mid left : S) (walk after : WalkPlace) (steps n : ℕ) (items : List Item) (ended : Ended) (result : Fetching) (failures more : ℕ) (old new : Held) →
-    n ≤ steps → ended ≢ Stopped → IsRunOver asks path retries link walk n items ended after mid → Told asks path retries ended after left →
-    TellsRun (λ cause. IsLeftAhead asks path retries mid after left cause) items steps n ended after result old new →
-    Learns asks path retries link walk steps result failures more left old new
-learns asks path retries link mid left walk after steps n items ended result failures more old new few on run told tells =
-    let P : List Item → Type 0 = λ l. TellsRun (λ cause. IsLeftAhead asks path retries mid after left cause) l steps n ended after result old new in
-    learns_both asks path retries link mid left walk after steps n items ended result failures more old new few run told tells (subst P (sym (run.1.1 on)) tells)
+learns : {S : Type 0} (asks : Asking S) (t u z : Transactions) (link mid left : S) (walk after : WalkPlace) (steps n : ℕ) (items : List Item) (ended : Ended) (result : Fetching) (failures more : ℕ) (old new : Held) →
+    n ≤ steps → ended ≢ Stopped → IsRunOver asks t link walk n items ended after u mid → Told asks (towards t.route) t.retries ended after left →
+    TellsRun (λ cause. IsLeftAhead asks u mid after z left cause) items steps n ended after result old new →
+    Learns asks t link walk steps result failures more z left old new
+learns asks t u z link mid left walk after steps n items ended result failures more old new few on run told tells =
+    let P : List Item → Type 0 = λ l. TellsRun (λ cause. IsLeftAhead asks u mid after z left cause) l steps n ended after result old new in
+    learns_both asks t u z link mid left walk after steps n items ended result failures more old new few run told tells (subst P (sym (run.1.1 on)) tells)
 
 -- ---- how they end
 
 -- All lines were printed; what came after them wasn't, since there was no memory for it.
-pub without_lines : {S : Type 0} (asks : Asking S) (path : Path) (retries : ℕ) (link mid new : S) (walk w after : WalkPlace) (steps n j : ℕ) (items more : List Item) (ended : Ended) (next : ℕ)
+pub without_lines : {S : Type 0} (asks : Asking S) (t u z : Transactions) (link mid new : S) (walk w after : WalkPlace) (steps n j : ℕ) (items more : List Item) (ended : Ended) (next : ℕ)
     (result : Fetching) (failures over : ℕ) (old half out : Held) →
-    IsRunOver asks path retries link walk n items StepLimit w mid → n < steps → next ≡ w.next → IsRunOver asks path retries mid w j more ended after new → j ≤ 2 →
+    IsRunOver asks t link walk n items StepLimit w u mid → n < steps → next ≡ w.next → IsRunOver asks u mid w j more ended after z new → j ≤ 2 →
     Appends old half (items_text items) → PrintsEnd why.Memory next result half out →
-    Learns asks path retries link walk steps result failures over new old out
-without_lines asks path retries link mid new walk w after steps n j items more ended next result failures over old half out run few at last two printed end =
-    learns asks path retries link mid new walk w steps n items StepLimit result failures over old out (omega (arith, few)) limit_on run tt
-    (tells_end (λ cause. IsLeftAhead asks path retries mid w new cause) items steps n StepLimit w why.Memory next result old half out (few, refl) at
+    Learns asks t link walk steps result failures over z new old out
+without_lines asks t u z link mid new walk w after steps n j items more ended next result failures over old half out run few at last two printed end =
+    learns asks t u z link mid new walk w steps n items StepLimit result failures over old out (omega (arith, few)) limit_on run tt
+    (tells_end (λ cause. IsLeftAhead asks u mid w z new cause) items steps n StepLimit w why.Memory next result old half out (few, refl) at
     (j, last.0.0, more, ended, after, two, last.0.1) printed end)
 
 -- the lines were printed, and those of more items
@@ -180,62 +181,62 @@ part_longer items more old new part =
     subst P (sym (items_text-append items more)) (part_of_longer old new (items_text items) (items_text more) part)
 
 -- a write of lines was refused, and one step more came
-pub refused_lines : {S : Type 0} (asks : Asking S) (path : Path) (retries : ℕ) (link mid new : S) (walk w after : WalkPlace) (steps n j : ℕ) (items last : List Item) (ended : Ended)
+pub refused_lines : {S : Type 0} (asks : Asking S) (t u z : Transactions) (link mid new : S) (walk w after : WalkPlace) (steps n j : ℕ) (items last : List Item) (ended : Ended)
     (result : Fetching) (failures over : ℕ) (old out : Held) →
-    IsRunOver asks path retries link walk n items StepLimit w mid → IsRunOver asks path retries mid w j last ended after new → n + j ≤ steps → result ≡ Err Write →
-    AppendsPart old out (items_text items) → Learns asks path retries link walk steps result failures over new old out
+    IsRunOver asks t link walk n items StepLimit w u mid → IsRunOver asks u mid w j last ended after z new → n + j ≤ steps → result ≡ Err Write →
+    AppendsPart old out (items_text items) → Learns asks t link walk steps result failures over z new old out
 unfolding over_joins
-refused_lines asks path retries link mid new walk w after steps n j items last ended result failures over old out first rest few is part =
-    let P : Fetching → Type 0 = λ r. Learns asks path retries link walk steps r failures over new old out in
-    let all = over_joins asks path retries link mid new walk w after n j items last ended first rest in
+refused_lines asks t u z link mid new walk w after steps n j items last ended result failures over old out first rest few is part =
+    let P : Fetching → Type 0 = λ r. Learns asks t link walk steps r failures over z new old out in
+    let all = over_joins asks t u z link mid new walk w after n j items last ended first rest in
     let Q : List Item → Type 0 = λ l. AppendsPart old out (items_text (l ++ rest.1.0)) in
-    subst P (sym is) (learns_both asks path retries link new new walk after steps (n + j) (items ++ last) ended (Err Write) failures over old out few all all.2
-    (inl (few, refl, part_longer items last old out part)) (inl (few, refl, subst Q (sym (first.1.1 limit_on)) (part_longer items rest.1.0 old out part))))
+    subst P (sym is) (learns_both asks t z z link new new walk after steps (n + j) (items ++ last) ended (Err Write) failures over old out few all all.2
+    (inl (few, (refl, refl), part_longer items last old out part)) (inl (few, (refl, refl), subst Q (sym (first.1.1 limit_on)) (part_longer items rest.1.0 old out part))))
 
 -- a step failed beside which lines were to be printed
-pub fails : {S : Type 0} (asks : Asking S) (path : Path) (retries : ℕ) (link mid half new : S) (walk w here after : WalkPlace) (steps n k : ℕ) (items left last : List Item) (ended : Ended) (told : ℕ) (fault : QueryFault)
+pub fails : {S : Type 0} (asks : Asking S) (t u v z : Transactions) (link mid half new : S) (walk w here after : WalkPlace) (steps n k : ℕ) (items left last : List Item) (ended : Ended) (told : ℕ) (fault : QueryFault)
     (failures over : ℕ) (old now out : Held) →
-    IsRunOver asks path retries link walk n items StepLimit w mid → IsRunOver asks path retries mid w k left StepLimit here half → IsRunOver asks path retries half here 1 last ended after new →
+    IsRunOver asks t link walk n items StepLimit w u mid → IsRunOver asks u mid w k left StepLimit here v half → IsRunOver asks v half here 1 last ended after z new →
     n + k < steps → k ≤ 1 → told ≡ w.next → Appends old now (items_text items) → PrintsLeft {A = Ended} left (Err fault) now out →
-    Learns asks path retries link walk steps (Err fault) failures over new old out
-fails asks path retries link mid half new walk w here after steps n k items left last ended told Write failures over old now out first second third few one at printed part =
-    refused_lines asks path retries link half new walk here after steps (n + k) 1 (items ++ left) last ended (Err Write) failures over old out
-    (over_joins asks path retries link mid half walk w here n k items left StepLimit first second) third (omega (arith, few)) refl (part_printed items left old now out printed part)
-fails asks path retries link mid half new walk w here after steps n k items left last ended told Memory failures over old now out first second third few one at printed (some, kept) =
-    without_lines asks path retries link mid new walk w after steps n (k + 1) items (left ++ last) ended told (Err Memory) failures over old out out first (omega (arith, few)) at
-    (over_joins asks path retries mid half new w here after k 1 left last ended second third) (omega (arith, one)) (Appends-kept old now out (items_text items) printed kept) (Keeps-refl out)
-fails asks path retries link mid half new walk w here after steps n k items left last ended told (Exchange fault) failures over old now out first second third few one at printed none = absurd none
+    Learns asks t link walk steps (Err fault) failures over z new old out
+fails asks t u v z link mid half new walk w here after steps n k items left last ended told Write failures over old now out first second third few one at printed part =
+    refused_lines asks t v z link half new walk here after steps (n + k) 1 (items ++ left) last ended (Err Write) failures over old out
+    (over_joins asks t u v link mid half walk w here n k items left StepLimit first second) third (omega (arith, few)) refl (part_printed items left old now out printed part)
+fails asks t u v z link mid half new walk w here after steps n k items left last ended told Memory failures over old now out first second third few one at printed (some, kept) =
+    without_lines asks t u z link mid new walk w after steps n (k + 1) items (left ++ last) ended told (Err Memory) failures over old out out first (omega (arith, few)) at
+    (over_joins asks u v z mid half new w here after k 1 left last ended second third) (omega (arith, one)) (Appends-kept old now out (items_text items) printed kept) (Keeps-refl out)
+fails asks t u v z link mid half new walk w here after steps n k items left last ended told (Exchange fault) failures over old now out first second third few one at printed none = absurd none
 
 -- a run that isn't stopped left the link as it is
-pub whole_ahead : {S : Type 0} (asks : Asking S) (path : Path) (retries : ℕ) (mid : S) (here : WalkPlace) (ended : Ended) (cause : Why) → is_stopped ended ≡ false → why_of ended ≡ Some cause →
-    IsLeftAhead asks path retries mid here mid cause
-whole_ahead asks path retries mid here ended why.CaughtUp on is = refl
-whole_ahead asks path retries mid here ended why.StepLimit on is = refl
-whole_ahead asks path retries mid here ended (why.Fault fault) on is = refl
-whole_ahead asks path retries mid here CaughtUp why.Memory on is = absurd (cc)
-whole_ahead asks path retries mid here StepLimit why.Memory on is = absurd (cc)
-whole_ahead asks path retries mid here Stopped why.Memory on is = absurd (cc)
-whole_ahead asks path retries mid here (Fault e) why.Memory on is = absurd (cc)
+pub whole_ahead : {S : Type 0} (asks : Asking S) (u : Transactions) (mid : S) (here : WalkPlace) (ended : Ended) (cause : Why) → is_stopped ended ≡ false → why_of ended ≡ Some cause →
+    IsLeftAhead asks u mid here u mid cause
+whole_ahead asks u mid here ended why.CaughtUp on is = (refl, refl)
+whole_ahead asks u mid here ended why.StepLimit on is = (refl, refl)
+whole_ahead asks u mid here ended (why.Fault fault) on is = (refl, refl)
+whole_ahead asks u mid here CaughtUp why.Memory on is = absurd (cc)
+whole_ahead asks u mid here StepLimit why.Memory on is = absurd (cc)
+whole_ahead asks u mid here Stopped why.Memory on is = absurd (cc)
+whole_ahead asks u mid here (Fault e) why.Memory on is = absurd (cc)
 
 -- the lines of the last step are printed, and the end line, as far as there is memory and no write is refused
-pub finishes : {S : Type 0} (asks : Asking S) (path : Path) (retries : ℕ) (link mid new : S) (walk w after : WalkPlace) (steps n j whole : ℕ) (items last : List Item) (ended : Ended) (cause : Why) (next told : ℕ)
+pub finishes : {S : Type 0} (asks : Asking S) (t u z : Transactions) (link mid new : S) (walk w after : WalkPlace) (steps n j whole : ℕ) (items last : List Item) (ended : Ended) (cause : Why) (next told : ℕ)
     (result : Fetching) (failures over : ℕ) (old half out : Held) →
-    IsRunOver asks path retries link walk n items StepLimit w mid → IsRunOver asks path retries mid w j last ended after new → ended ≢ Stopped →
-    IsRunOver asks path retries link walk whole (items ++ last) ended after new → whole ≤ steps → IsRunOf cause steps whole ended → IsLeftAhead asks path retries new after new cause →
+    IsRunOver asks t link walk n items StepLimit w u mid → IsRunOver asks u mid w j last ended after z new → ended ≢ Stopped →
+    IsRunOver asks t link walk whole (items ++ last) ended after z new → whole ≤ steps → IsRunOf cause steps whole ended → IsLeftAhead asks z new after z new cause →
     n + j ≤ steps → j ≤ 1 → next ≡ after.next → told ≡ w.next → Appends old half (items_text items) → PrintsLast last cause next told result half out →
-    Learns asks path retries link walk steps result failures over new old out
-finishes asks path retries link mid new walk w after steps n j whole items last ended cause next told result failures over old half out first rest on all few ends left sum one at before printed (inl (now, more, end)) =
-    learns asks path retries link new new walk after steps whole (items ++ last) ended result failures over old out few on all all.2
-    (tells_end (λ c. IsLeftAhead asks path retries new after new c) (items ++ last) steps whole ended after cause next result old now out ends at left
+    Learns asks t link walk steps result failures over z new old out
+finishes asks t u z link mid new walk w after steps n j whole items last ended cause next told result failures over old half out first rest on all few ends left sum one at before printed (inl (now, more, end)) =
+    learns asks t z z link new new walk after steps whole (items ++ last) ended result failures over old out few on all all.2
+    (tells_end (λ c. IsLeftAhead asks z new after z new c) (items ++ last) steps whole ended after cause next result old now out ends at left
     (more_printed items last old half now printed more) end)
-finishes asks path retries link mid new walk w after steps n j whole items last ended cause next told result failures over old half out first rest on all few ends left sum one at before printed (inr (inl (now, some, kept, end))) =
+finishes asks t u z link mid new walk w after steps n j whole items last ended cause next told result failures over old half out first rest on all few ends left sum one at before printed (inr (inl (now, some, kept, end))) =
     let same = ap length (rest.1.1 on) in
-    without_lines asks path retries link mid new walk w after steps n j items last ended told result failures over old now out first (omega (arith, some, same, rest.1.3, sum)) before rest (omega (arith, one))
+    without_lines asks t u z link mid new walk w after steps n j items last ended told result failures over old now out first (omega (arith, some, same, rest.1.3, sum)) before rest (omega (arith, one))
     (Appends-kept old half now (items_text items) printed kept) end
-finishes asks path retries link mid new walk w after steps n j whole items last ended cause next told result failures over old half out first rest on all few ends left sum one at before printed (inr (inr (is, part))) =
-    let P : Fetching → Type 0 = λ r. Learns asks path retries link walk steps r failures over new old out in
-    subst P (sym is) (learns asks path retries link new new walk after steps whole (items ++ last) ended (Err Write) failures over old out few on all all.2
-    (inl (few, refl, part_printed items last old half out printed part)))
+finishes asks t u z link mid new walk w after steps n j whole items last ended cause next told result failures over old half out first rest on all few ends left sum one at before printed (inr (inr (is, part))) =
+    let P : Fetching → Type 0 = λ r. Learns asks t link walk steps r failures over z new old out in
+    subst P (sym is) (learns asks t z z link new new walk after steps whole (items ++ last) ended (Err Write) failures over old out few on all all.2
+    (inl (few, (refl, refl), part_printed items last old half out printed part)))
 
 -- ---- one step
 
@@ -261,16 +262,16 @@ filled_whole items old calls new ended none taken on =
     all_filled items old calls new (subst P (not_stopped ended on) taken) ∙ ap (λ l. l ++ put_items calls) none
 
 -- what a step into such a sink brought, seen over the link below
-pub over_step : {S T K : Type 0} (f : S → T) (asks : Asking S) (other : Asking T) → Maps f asks other → (items : K → List Item) (path : Path) (retries failures more : ℕ)
+pub over_step : {S T K : Type 0} (f : S → T) (asks : Asking S) (other : Asking T) → Maps f asks other → (items : K → List Item) (t z : Transactions) (failures more : ℕ)
     (old new : S) (sink left : K) (w after : WalkPlace) (ended : Ended) → items sink ≡ [] →
-    BroughtInto asks path retries (λ s gap item taken t. Fills items s gap item taken t) old sink w 1 ended after left new →
-    Delivery (λ s gap item taken t. Fills items s gap item taken t) sink left never never retries failures more w after 1 ended → Told asks path retries ended after new →
-    (brought : List Item) × (ended ≢ Stopped → items left ≡ brought) × IsRunOver other path retries (f old) w 1 brought ended after (f new)
-over_step f asks other maps items path retries failures more old new sink left w after ended none (calls, taken, few, gap, brought) (again, as_well, less, gaps, run, enough) told = (
+    BroughtIntoBy asks t (λ s gap item taken t. Fills items s gap item taken t) old sink w 1 ended after left z new →
+    Delivery (λ s gap item taken t. Fills items s gap item taken t) sink left never never t.retries failures more w after 1 ended → Told asks (towards t.route) t.retries ended after new →
+    (brought : List Item) × (ended ≢ Stopped → items left ≡ brought) × IsRunOver other t (f old) w 1 brought ended after z (f new)
+over_step f asks other maps items t z failures more old new sink left w after ended none (calls, taken, few, gap, brought) (again, as_well, less, gaps, run, enough) told = (
   put_items calls,
   filled_whole items sink calls left ended none taken,
   (
-    brought_maps f asks other maps path retries old w 1 (put_items calls) ended after new brought,
+    brought_maps f asks other maps t z old w 1 (put_items calls) ended after new brought,
     (
       put_items again,
       λ on. sym (filled_whole items sink again left ended none as_well on) ∙ filled_whole items sink calls left ended none taken on,
@@ -278,7 +279,7 @@ over_step f asks other maps items path retries failures more old new sink left w
       omega (arith, put_length again, less, gaps),
       λ limit. omega (arith, put_length again, enough limit),
     ),
-    told_maps f asks other maps path retries ended after new told,
+    told_maps f asks other maps (towards t.route) t.retries ended after new told,
   ),
 )
 

@@ -2,7 +2,8 @@
 use Rattle.std.specs.Prelude.{◌≡◌, ◌≢◌, ℕ, ◌*◌, ◌<◌, ◌≤◌, Bool, true, false, ◌⊎◌, List, [], length, Result, Ok, Err}
 use Rattle.std.specs.Io.KnownBytes.{Appends, Keeps}
 use Rattle.bac_link.specs.Delivery.{History, Moment}
-use Rattle.bac_link.specs.Path.{Path}
+use Rattle.bac_link.specs.Path.{Path, towards}
+use Rattle.bac_link.specs.declared.transactions.Transactions.{Transactions}
 use Rattle.bac_link.specs.declared.item.Item.{Item}
 use Rattle.bac_link.specs.declared.link.Lost.{Lost}
 use Rattle.bac_ports.specs.Asking.{Asks}
@@ -10,7 +11,8 @@ use Rattle.bac_ports.specs.Port.{Receiving, Sending}
 use Rattle.bac_ports.specs.declared.udp_link.UdpLink.{UdpLink}
 use Rattle.bac_print.specs.Output.{AppendsPart}
 use Rattle.bac_query.specs.Items.{items_text}
-use Rattle.bac_walk.specs.Came.{Came, Brought}
+use Rattle.bac_walk.specs.Came.{Came}
+use Rattle.bac_walk.specs.Transacted.{BroughtBy}
 use Rattle.bac_walk.specs.Place.{WalkPlace}
 use Rattle.bac_walk.specs.Sinks.{IsRun}
 use Rattle.bac_walk.specs.Told.{Told}
@@ -70,16 +72,16 @@ PrintsLeft left (Err (Exchange fault)) old new = ⊥
 abbrev pub never : ℕ → List Moment → History → Type 0
 never r M H = ⊥
 
--- A run of at most so many steps: what it brought; and that its items, all of them if it wasn't stopped, cover all
--- between the places, and how many they are; and what it was told last.
+-- A run of at most so many steps: what it brought, by which transactions; and that its items, all of them if it wasn't
+-- stopped, cover all between the places, and how many they are; and what it was told last.
 abbrev pub IsRunOver : {S : Type 0} → (S → List ℕ → Result (List ℕ) Lost → S → Type 0) →
-    Path → ℕ → S → WalkPlace → ℕ → List Item → Ended → WalkPlace → S → Type 0
-IsRunOver {S = S} asks path retries old before n items ended after new =
-    ((came : List Came) × Brought asks path retries old before n came items ended after new)
+    Transactions → S → WalkPlace → ℕ → List Item → Ended → WalkPlace → Transactions → S → Type 0
+IsRunOver {S = S} asks first old before n items ended after last new =
+    ((came : List Came) × BroughtBy asks first old before n came items ended after last new)
     × ((covered : List Item) × (ended ≢ Stopped → covered ≡ items)
-    × IsRun never never retries 0 0 before after n ended covered
+    × IsRun never never first.retries 0 0 before after n ended covered
     × (length covered ≤ 101 * n) × (ended ≡ StepLimit → n ≤ length covered))
-    × Told asks path retries ended after new
+    × Told asks (towards first.route) first.retries ended after new
 
 -- The lines that were left, and then the end line; or without memory for those lines the end line that says so, and
 -- told is the number before them; or a write of them was refused.
@@ -89,27 +91,28 @@ PrintsLast left cause next told result old new =
     ⊎ (((mid : Held) × (0 < length left) × Keeps old mid × PrintsEnd why.Memory told result mid new)
     ⊎ ((result ≡ Err Write) × AppendsPart old new (items_text left)))
 
--- The link after a run that left the walk here and ended for this. It is as the run left it; but if there was no memory
--- for the lines of a reply, that reply came too, and the one after it, if there was memory for its records: the link is
--- at most two steps further than the lines.
+-- The link and the transactions after a run that left the walk here and ended for this. They are as the run left them;
+-- but if there was no memory for the lines of a reply, that reply came too, and the one after it, if there was memory
+-- for its records: they are at most two steps further than the lines.
 abbrev pub IsLeftAhead : {S : Type 0} → (S → List ℕ → Result (List ℕ) Lost → S → Type 0) →
-    Path → ℕ → S → WalkPlace → S → Why → Type 0
-IsLeftAhead asks path retries mid here new why.CaughtUp = new ≡ mid
-IsLeftAhead asks path retries mid here new why.StepLimit = new ≡ mid
-IsLeftAhead asks path retries mid here new (why.Fault fault) = new ≡ mid
-IsLeftAhead asks path retries mid here new why.Memory =
+    Transactions → S → WalkPlace → Transactions → S → Why → Type 0
+IsLeftAhead asks half mid here last new why.CaughtUp = (new ≡ mid) × (last ≡ half)
+IsLeftAhead asks half mid here last new why.StepLimit = (new ≡ mid) × (last ≡ half)
+IsLeftAhead asks half mid here last new (why.Fault fault) = (new ≡ mid) × (last ≡ half)
+IsLeftAhead asks half mid here last new why.Memory =
     (steps : ℕ) × (came : List Came) × (items : List Item) × (ended : Ended) × (after : WalkPlace) × (steps ≤ 2)
-    × Brought asks path retries mid here steps came items ended after new
+    × BroughtBy asks half mid here steps came items ended after last new
 
 -- Fetching from a place on, over any link, each question asked before the lines of the reply before it are printed:
--- replies came, one after the other, from this link on; what is printed are the lines of the items that they brought,
--- and the end of their run; and if they say what one log holds, those are the headline's.
+-- replies came, one after the other, from this link on, each to the next of these transactions; what is printed are the
+-- lines of the items that they brought, and the end of their run; and if they say what one log holds, those are the
+-- headline's.
 abbrev pub FetchesAhead : {S : Type 0} → (S → List ℕ → Result (List ℕ) Lost → S → Type 0) →
-    Path → ℕ → S → WalkPlace → ℕ → Fetching → S → Held → Held → Type 0
-FetchesAhead {S = S} asks path retries link walk steps result left old new =
-    (came : List Came) × (items : List Item) × (n : ℕ) × (ended : Ended) × (after : WalkPlace) × (mid : S)
-    × Brought asks path retries link walk n came items ended after mid
-    × TellsRun (λ cause. IsLeftAhead asks path retries mid after left cause) items steps n ended after result old new
+    Transactions → S → WalkPlace → ℕ → Fetching → Transactions → S → Held → Held → Type 0
+FetchesAhead {S = S} asks first link walk steps result last left old new =
+    (came : List Came) × (items : List Item) × (n : ℕ) × (ended : Ended) × (after : WalkPlace)
+    × (half : Transactions) × (mid : S) × BroughtBy asks first link walk n came items ended after half mid
+    × TellsRun (λ cause. IsLeftAhead asks half mid after last left cause) items steps n ended after result old new
     × IsHeadline walk came items ended after
 
 -- The items are those of a run of this walk, at most so many steps, over a link that nobody claims to be ours; the

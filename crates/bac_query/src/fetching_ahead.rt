@@ -37,9 +37,10 @@ pub fn fetch_log_ahead<P: Port, W: Write>(
     ensures printed { PrintsRun (port_asks P.sends P.receives) (towards transactions.old.route) transactions.old.retries
         walk steps result link.old.failures link.new.failures link.new (W.contents out.old) (W.contents out.new) }
     // Over any port, whoever answers, they are the lines of what the replies brought that came over
-    // it from here on; and if these say what one log holds, of what it held.
-    ensures came { FetchesAhead (port_asks P.sends P.receives) (towards transactions.old.route) transactions.old.retries
-        link.old walk steps result link.new (W.contents out.old) (W.contents out.new) }
+    // it from here on, each to the next transaction; and if these say what one log holds, of what it
+    // held.
+    ensures came { FetchesAhead (port_asks P.sends P.receives) transactions.old
+        link.old walk steps result transactions.new link.new (W.contents out.old) (W.contents out.new) }
     // At most two transactions a step are begun.
     ensures begun { transactions.new.begun ≤ transactions.old.begun + 2 * steps }
     // If the walk ended with a bad reply, and only then, this is wrong with that reply.
@@ -66,8 +67,8 @@ fn fetch_told<P: Port, W: Write>(
     ensures printed { PrintsRun (port_asks P.sends P.receives) (towards transactions.old.route) transactions.old.retries
         walk steps result ahead.old.link.now.failures ahead.new.link.now.failures ahead.new.link.now
         (W.contents ahead.old.out.now) (W.contents ahead.new.out.now) }
-    ensures came { FetchesAhead (port_asks P.sends P.receives) (towards transactions.old.route) transactions.old.retries
-        ahead.old.link.now walk steps result ahead.new.link.now (W.contents ahead.old.out.now) (W.contents ahead.new.out.now) }
+    ensures came { FetchesAhead (port_asks P.sends P.receives) transactions.old
+        ahead.old.link.now walk steps result transactions.new ahead.new.link.now (W.contents ahead.old.out.now) (W.contents ahead.new.out.now) }
     ensures begun { transactions.new.begun ≤ transactions.old.begun + 2 * steps }
     ensures flaw { TellsFlaw (port_asks P.sends P.receives) (towards transactions.old.route) transactions.old.retries walk.log result ahead.new.link.now }
     ensures same_link { ahead.new.link.ghost_name ≡ ahead.old.link.ghost_name }
@@ -106,8 +107,8 @@ fn fetch<P: Port, W: Write>(
     ensures printed { PrintsRun (port_asks P.sends P.receives) (towards transactions.old.route) transactions.old.retries
         walk steps result ahead.old.link.now.failures ahead.new.link.now.failures ahead.new.link.now
         (W.contents ahead.old.out.now) (W.contents ahead.new.out.now) }
-    ensures came { FetchesAhead (port_asks P.sends P.receives) (towards transactions.old.route) transactions.old.retries
-        ahead.old.link.now walk steps result ahead.new.link.now (W.contents ahead.old.out.now) (W.contents ahead.new.out.now) }
+    ensures came { FetchesAhead (port_asks P.sends P.receives) transactions.old
+        ahead.old.link.now walk steps result transactions.new ahead.new.link.now (W.contents ahead.old.out.now) (W.contents ahead.new.out.now) }
     ensures begun { transactions.new.begun ≤ transactions.old.begun + 2 * steps }
     ensures flaw { IfOk result (λ fetched. fetched.why ≡ Why.Fault FaultOf.BadReply →
         IsBadlyFetched (port_asks P.sends P.receives) (towards transactions.old.route) transactions.old.retries walk.log fetched.next ahead.new.flaw ahead.new.link.now) }
@@ -148,8 +149,8 @@ fn turn<P: Port, W: Write>(
 ) -> Result<Ended, QueryFault>
     requires { ahead.old.is_refused ≡ false }
     ensures ran { (ended : EndedOf) × (items : List ItemOf) × IfOk result (λ is. (is ≡ ended) × (ended ≢ Ended.Stopped → ahead.new.left.now.items ≡ items))
-        × IsRunOver (port_asks P.sends P.receives) (towards transactions.old.route) transactions.old.retries
-        ahead.old.link.now walk.old 1 items ended walk.new ahead.new.link.now }
+        × IsRunOver (port_asks P.sends P.receives) transactions.old
+        ahead.old.link.now walk.old 1 items ended walk.new transactions.new ahead.new.link.now }
     ensures prints { PrintsLeft ahead.old.left.now.items result (W.contents ahead.old.out.now) (W.contents ahead.new.out.now) }
     ensures well { OnOk result (ahead.new.is_refused ≡ false) }
     ensures begun { transactions.new.begun ≤ transactions.old.begun + 2 }
@@ -179,8 +180,8 @@ fn step<P: Port, W: Write>(
     reply: &mut Reply,
 ) -> Ended
     ensures ran { (items : List ItemOf) × (result ≢ Ended.Stopped → reply.new.items.items ≡ items)
-        × IsRunOver (port_asks P.sends P.receives) (towards transactions.old.route) transactions.old.retries
-        ahead.old.link.now walk.old 1 items result walk.new ahead.new.link.now }
+        × IsRunOver (port_asks P.sends P.receives) transactions.old
+        ahead.old.link.now walk.old 1 items result walk.new transactions.new ahead.new.link.now }
     ensures beside { PrintsOn (pending ahead.old.is_refused ahead.old.left.now.items (W.contents ahead.old.out.now))
         (pending ahead.new.is_refused ahead.new.left.now.items (W.contents ahead.new.out.now))
         × (ahead.new.link.ghost_name ≡ ahead.old.link.ghost_name) × (ahead.new.out.ghost_name ≡ ahead.old.out.ghost_name) }

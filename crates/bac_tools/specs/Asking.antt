@@ -4,6 +4,7 @@ use Rattle.bac_apdu.specs.declared.service.read_property.ReadProperty.{ReadPrope
 use Rattle.bac_link.specs.Path.{towards}
 use Rattle.bac_link.specs.declared.item.Item.{Item}
 use Rattle.bac_link.specs.declared.request.Request.{Request}
+use Rattle.bac_link.specs.declared.transactions.Transactions.{Transactions}
 use Rattle.bac_ports.specs.Sockets.{SocketRules, link_over, own_address, socket_asks}
 use Rattle.bac_ports.specs.declared.udp_link.UdpLink.{UdpLink}
 use Rattle.bac_print.specs.Output.{Held}
@@ -14,13 +15,11 @@ use Rattle.bac_query.specs.Reading.{Answer, ReadsOver, next_way}
 use Rattle.bac_query.specs.Writing.{WritesOver}
 use Rattle.bac_tools.specs.Ending.{Ending}
 use Rattle.bac_tools.specs.Faults.{of_query}
+use Rattle.bac_tools.specs.LogEnds.{of_why}
 use Rattle.bac_tools.specs.Sockets.{Opens, Outside, transactions_with}
-use Rattle.bac_tools.specs.Status.{walk_status}
-use Rattle.bac_tools.specs.declared.fault.Fault.TheVariants.{Flawed}
 use Rattle.bac_walk.specs.Collects.{Goes}
 use Rattle.bac_walk.specs.Place.{WalkPlace}
 use Rattle.bac_walk.specs.Told.{Told}
-use Rattle.bac_walk.specs.declared.flaw.ReplyFlaw.{ReplyFlaw}
 use Rattle.bac_walk.specs.declared.outcome.Ended.{Ended}
 use Rattle.bac_walk.specs.declared.outcome.Ended.TheVariants.{StepLimit}
 use Rattle.bac_words.specs.declared.job.Asked.{Asked}
@@ -63,14 +62,9 @@ Writes rules asked question old result new =
 
 -- ---- bac log
 
--- the status of an end, or what is wrong with the reply that it was
-abbrev pub of_end : ℕ → Option ReplyFlaw → Ending
-of_end status None = Ok status
-of_end status (Some flaw) = Err (Flawed flaw)
-
--- the line of a walk's end is printed, whatever it says; what is wrong with a bad reply is a fault
+-- the line of a walk's end is printed, whatever it says; what there is to say beside it is a fault
 abbrev pub of_fetching : List ℕ → Fetching → Ending
-of_fetching address (Ok fetched) = of_end (walk_status fetched.why) fetched.flaw
+of_fetching address (Ok fetched) = of_why address fetched.why fetched.flaw
 of_fetching address (Err fault) = Err (of_query address fault)
 
 -- The items cover the numbers from the walk's on up to the next one. Each step brought at most 100 records and one gap,
@@ -84,14 +78,17 @@ FetchesRun rules asked walk steps fetching left old new =
     × (length items ≤ 101 * n) × (ended ≡ StepLimit → n ≤ length items)
     × Told (socket_asks rules) (towards asked.route) asked.retries ended after left
 
--- A log is fetched: replies came, one after the other; what is printed are the lines of the items that they brought,
--- and the end of their run; and if they say what one log holds, those are what it held. Of a bad reply, and of nothing
--- else, it is told what is wrong with it.
+-- A log is fetched: replies came, one after the other, each to the next transaction of the client, which has begun none
+-- before, and begins two a step at most; what is printed are the lines of the items that they brought, and the end of
+-- their run; and if they say what one log holds, those are what it held. Of a bad reply, and of nothing else, it is
+-- told what is wrong with it.
 abbrev pub Fetches : {S P : Type 0} → SocketRules S P → Asked → WalkPlace → ℕ → Outside S → Ending → Outside S → Type 0
 Fetches rules asked walk steps old result new =
     AsksDevice rules asked
     (λ link fetching left had has.
-    FetchesAhead (socket_asks rules) (towards asked.route) asked.retries link walk steps fetching left had has
+    ((last : Transactions)
+    × FetchesAhead (socket_asks rules) (transactions_with asked) link walk steps fetching last left had has
+    × (last.begun ≤ 2 * steps))
     × FetchesRun rules asked walk steps fetching left had has
     × TellsFlaw (socket_asks rules) (towards asked.route) asked.retries walk.log fetching left)
     (of_fetching asked.address) old result new

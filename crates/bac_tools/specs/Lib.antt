@@ -1,6 +1,7 @@
 pub mod Ending
 pub mod Faults
 pub mod Status
+pub mod LogEnds
 pub mod Reasons
 pub mod Flaws
 pub mod Texts

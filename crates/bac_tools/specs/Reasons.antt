@@ -160,9 +160,11 @@ second_line (Some reason) = 10 ∷ reason_text reason
 
 -- ---- finding devices
 
--- nobody answered, of so many addresses
+-- nobody answered, of so many addresses; and who isn't heard at an address of one's own (Annex J.1.2)
 abbrev pub unanswered_text : ℕ → List ℕ
-unanswered_text asked = (codes "no answer" ++ 10 ∷ []) ++ (codes "addresses asked: " ++ decimal asked)
+unanswered_text asked =
+    ((codes "no answer" ++ 10 ∷ []) ++ (codes "addresses asked: " ++ decimal asked))
+    ++ codes "; devices that answer by broadcast are heard with --local=0.0.0.0:47808"
 
 -- a line of a list of addresses is bad, and why
 abbrev pub listed_badly : ℕ → List ℕ → List ℕ
@@ -171,7 +173,8 @@ listed_badly number said = codes "line " ++ (decimal number ++ ((codes ": bad li
 -- why a list of addresses isn't read
 unfoldable pub list_text : ListFault → List ℕ
 list_text (list.BadLine number) =
-    listed_badly number (codes "a line is A.B.C.D or A.B.C.D:PORT, A to D from 0 to 255, PORT from 1 to 65535")
+    listed_badly number (codes "a line is A.B.C.D or A.B.C.D:PORT, A to D from 0 to 255, PORT from 1 to 65535"
+    ++ codes "; /20 to /32 may stand behind it")
 list_text (list.TooMany number) = listed_badly number (codes "a list has at most 4096 addresses")
 list_text list.Empty = (codes "bad value" ++ 10 ∷ []) ++ codes "no address"
 list_text list.TooLong = (codes "bad value" ++ 10 ∷ []) ++ codes "a list has at most 1048576 octets"

@@ -6,7 +6,8 @@ use Rattle.bac_link.specs.declared.exchanges.ExchangeFault.TheVariants as exchan
 use Rattle.bac_tools.specs.declared.fault.Fault.{Fault}
 use Rattle.bac_tools.specs.declared.fault.Fault.TheVariants.{NotText, BadValue, LongNumber, NoDevice, Script}
 use Rattle.bac_tools.specs.declared.fault.Fault.TheVariants.{Socket, Refused}
-use Rattle.bac_tools.specs.declared.fault.Fault.TheVariants.{NoAnswer, List, Exchange, Flawed, Write, Memory}
+use Rattle.bac_tools.specs.declared.fault.Fault.TheVariants.{NoAnswer, List, Exchange, Flawed, Silent, Declined}
+use Rattle.bac_tools.specs.declared.fault.Fault.TheVariants.{Write, Memory}
 use Rattle.bac_script.specs.declared.replay.fault.ReplayFault.{ReplayFault}
 use Rattle.bac_script.specs.declared.replay.fault.ReplayFault.TheVariants as replay
 use Rattle.bac_words.specs.declared.listing.ListFault.{ListFault}
@@ -53,6 +54,8 @@ exit_status (NoAnswer asked) = 2
 exit_status (List fault) = list_status fault
 exit_status (Exchange address fault) = exchange_status fault
 exit_status (Flawed flaw) = 4
+exit_status (Silent address) = 2
+exit_status (Declined refusal) = 3
 exit_status Write = 2
 exit_status Memory = 5
 

@@ -14,7 +14,8 @@ use Rattle.bac_tools.specs.Reasons.{list_text, second_line, unanswered_text}
 use Rattle.bac_tools.specs.declared.fault.Fault.{Fault}
 use Rattle.bac_tools.specs.declared.fault.Fault.TheVariants.{NotText, BadValue, LongNumber, NoDevice, Script}
 use Rattle.bac_tools.specs.declared.fault.Fault.TheVariants.{Socket, Refused}
-use Rattle.bac_tools.specs.declared.fault.Fault.TheVariants.{NoAnswer, List as ListOf, Exchange, Flawed, Write, Memory}
+use Rattle.bac_tools.specs.declared.fault.Fault.TheVariants.{NoAnswer, List as ListOf, Exchange, Flawed}
+use Rattle.bac_tools.specs.declared.fault.Fault.TheVariants.{Silent, Declined, Write, Memory}
 use Rattle.bac_words.specs.Names.{name_of, is_option}
 use Rattle.bac_words.specs.declared.word.Word.{Word}
 use Rattle.bac_words.specs.declared.word.Word.TheVariants as word
@@ -25,11 +26,15 @@ use Rattle.bac_words.specs.declared.word.Word.TheVariants as word
 unfoldable pub word_text : Word → List ℕ
 word_text w = if is_option w then codes "--" ++ name_of w else name_of w
 
+-- the addresses that a word can have
+abbrev pub address_range : List ℕ
+address_range = codes "A.B.C.D or A.B.C.D:PORT, each of A to D from 0 to 255, PORT from 1 to 65535"
+
 -- the values that it can have
 abbrev pub range_text : Word → List ℕ
 range_text word.Tool = codes "replay, wi, rp, wp, log or serve"
-range_text word.Address = codes "A.B.C.D or A.B.C.D:PORT, each of A to D from 0 to 255, PORT from 1 to 65535"
-range_text word.Local = codes "A.B.C.D or A.B.C.D:PORT, each of A to D from 0 to 255, PORT from 1 to 65535"
+range_text word.Address = address_range ++ codes "; for bac wi also with /20 to /32 behind it"
+range_text word.Local = address_range
 range_text word.ObjectType = codes "a number from 0 to 1023"
 range_text word.Instance = codes "a number from 0 to 4194303"
 range_text word.Min = codes "a number from 0 to 4194303"
@@ -87,11 +92,20 @@ bad_value = codes "bad value" ++ 10 ∷ []
 abbrev pub of_address : List ℕ → List ℕ → List ℕ → List ℕ
 of_address line said address = (line ++ 10 ∷ []) ++ (said ++ address_text address)
 
+-- nobody answered
+abbrev pub silent : List ℕ
+silent = codes "no answer came from "
+
+-- the reply to one question doesn't serve
+abbrev pub bad_reply : List ℕ
+bad_reply =
+    (codes "bad reply" ++ 10 ∷ []) ++ codes "the reply is no ACK of this request, is in segments, or can't be read"
+
 -- a fault of one question to an address
 unfoldable pub exchange_text : List ℕ → ExchangeFault → List ℕ
-exchange_text address exchange.Lost = of_address (codes "lost") (codes "no answer came from ") address
+exchange_text address exchange.Lost = of_address (codes "lost") silent address
 exchange_text address (exchange.Refused refusal) = refusal_text refusal ++ (10 ∷ cause_text refusal)
-exchange_text address exchange.BadReply = codes "bad reply"
+exchange_text address exchange.BadReply = bad_reply
 exchange_text address exchange.TooLong = bad_value ++ codes "the request is too long"
 
 -- nothing could be sent to an address
@@ -119,6 +133,8 @@ fault_text (NoAnswer asked) = unanswered_text asked
 fault_text (ListOf fault) = list_text fault
 fault_text (Exchange address fault) = exchange_text address fault
 fault_text (Flawed flaw) = reply_text flaw
+fault_text (Silent address) = silent ++ address_text address
+fault_text (Declined refusal) = cause_text refusal
 fault_text Write = codes "write fault"
 fault_text Memory = codes "out of memory"
 

@@ -4,16 +4,17 @@ ghost use Rattle.std.specs.Prelude.{◌≡◌, None, Ok, Err, IfOk, IfErr};
 ghost use Rattle.bac_link.specs.Requests.{IsSendable};
 ghost use Rattle.bac_wire.specs.View.{view, IsWellFormed};
 ghost use Rattle.bac_tools.specs.Given.{value_of};
-ghost use Rattle.bac_tools.specs.Asking.{Fetches, Reads, Writes, of_end};
+ghost use Rattle.bac_tools.specs.Asking.{Fetches, Reads, Writes};
 ghost use Rattle.bac_ports.specs.Sockets.{link_over, own_address, socket_rules};
 ghost use Rattle.bac_tools.specs.Sockets.{outside, transactions_with};
 
-use crate::fault::{Fault, walk_status};
+use crate::fault::Fault;
+use crate::log_end::ending_of;
 use bac_apdu::{ReadProperty, Route};
 use bac_link::{Request, Transactions};
 use bac_ports::{SocketFault, Sockets, UdpLink};
 use bac_query::{fetch_log_ahead, read_property, write_property};
-use bac_walk::{ReplyFlaw, Walk};
+use bac_walk::Walk;
 use bac_wire::Value;
 use bac_words::{Asked, Given};
 use std::alloc::Global;
@@ -111,16 +112,6 @@ pub(crate) fn wp<S: Sockets, O: Write>(
     }
 }
 
-/// The status of a walk's end, or what is wrong with the reply that it was.
-fn ending_of(status: u8, flaw: Option<ReplyFlaw>) -> Result<u8, Fault>
-    ensures { result ≡ of_end status flaw }
-{
-    match flaw {
-        Some(flaw) => Err(Fault::Flawed(flaw)),
-        None => Ok(status),
-    }
-}
-
 /// Walks a log, and prints what it brings.
 pub(crate) fn log<S: Sockets, O: Write>(
     sockets: &mut S,
@@ -141,7 +132,7 @@ pub(crate) fn log<S: Sockets, O: Write>(
     let fetched = fetch_log_ahead(alloc, &mut link, &mut transactions, walk, steps, output);
     sockets.close(link.into_port());
     match fetched {
-        Ok(fetched) => ending_of(walk_status(fetched.why), fetched.flaw),
+        Ok(fetched) => ending_of(address, fetched.why, fetched.flaw),
         Err(fault) => Err(Fault::of_query(address, fault)),
     }
 }

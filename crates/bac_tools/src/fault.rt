@@ -4,7 +4,7 @@ ghost use Rattle.std.specs.Prelude.{◌≡◌};
 ghost use Rattle.bac_tools.specs.Faults.{of_query};
 ghost use Rattle.bac_tools.specs.Status.{exit_status, exchange_status, list_status, script_status, walk_status};
 
-use bac_link::ExchangeFault;
+use bac_link::{ExchangeFault, Refusal};
 use bac_query::QueryFault;
 use bac_script::{Refused, ReplayFault};
 use bac_walk::{ReplyFlaw, WalkFault, Why};
@@ -39,6 +39,10 @@ pub enum Fault {
     },
     /// This is wrong with the reply that ended a walk; that it was a bad one is on the output.
     Flawed(ReplyFlaw),
+    /// A walk ended since no answer came from this address; that it was lost is on the output.
+    Silent([u8; 6]),
+    /// A walk ended since its device refused so; that it did is on the output.
+    Declined(Refusal),
     /// The output refused a write.
     Write,
     /// Out of memory.
@@ -84,9 +88,11 @@ impl Fault {
         match self {
             Fault::NotText | Fault::BadValue(_) | Fault::LongNumber(_) | Fault::NoDevice => 1,
             Fault::Script(refused) => script_status(refused.fault),
-            Fault::Socket | Fault::Refused(_) | Fault::NoAnswer(_) | Fault::Write => 2,
+            Fault::Socket | Fault::Refused(_) | Fault::NoAnswer(_) => 2,
+            Fault::Silent(_) | Fault::Write => 2,
             Fault::List(fault) => list_status(*fault),
             Fault::Exchange { fault, .. } => exchange_status(*fault),
+            Fault::Declined(_) => 3,
             Fault::Flawed(_) => 4,
             Fault::Memory => 5,
         }

@@ -13,11 +13,13 @@ mod asking;
 mod fault;
 mod finding;
 mod flaw;
+mod log_end;
 mod playing;
 mod program;
 mod reason;
 mod serving;
 mod telling;
+mod tips;
 mod until_refused;
 
 pub use bac_ports::{Heard, Port, SocketFault, Sockets, UdpPort, UdpSockets};

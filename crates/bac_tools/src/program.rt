@@ -1,11 +1,11 @@
 //! The whole program.
 
-ghost use Rattle.std.specs.Prelude.{◌≡◌, ◌⊎◌, map, [], None, IfOk, IfErr, OnOk, OnErr};
+ghost use Rattle.std.specs.Prelude.{◌≡◌, ◌⊎◌, ℕ, List, map, [], None, IfOk, IfErr, OnOk, OnErr};
 ghost use Rattle.std.specs.Io.KnownBytes.{Appends};
 ghost use Rattle.std.specs.String.{string_bytes};
 ghost use Rattle.clap.specs.Values.{kind_of};
 ghost use Rattle.bac_print.specs.Output.{AppendsPart};
-ghost use Rattle.bac_tools.specs.Run.{AnswersWords, AreWrong, AskFor, Explains, IsNoWalk, IsOutside, OnlyTells, Runs, Works, priority_of, walk_from, wrong_fault};
+ghost use Rattle.bac_tools.specs.Run.{AnswersWords, AreWrong, AskFor, Explains, IsNoWalk, IsOutside, IsTold, OnlyTells, Runs, Works, priority_of, walk_from, wrong_fault};
 ghost use Rattle.bac_ports.specs.Sockets.{socket_rules};
 ghost use Rattle.bac_tools.specs.Streams.{streams};
 ghost use Rattle.bac_words.specs.Outcome.{mistakes_of};
@@ -18,6 +18,7 @@ use crate::finding::{limits, wi};
 use crate::playing::replay;
 use crate::serving::serve;
 use crate::telling::{say, tell};
+use crate::tips::with_true_tips;
 use bac_apdu::object_type::TREND_LOG;
 use bac_apdu::{ReadProperty, WhoIs, WriteProperty};
 use bac_link::Request;
@@ -155,6 +156,18 @@ fn show<O: Write>(text: &[u8], output: &mut O) -> Result<(), WriteRefused>
     Ok(())
 }
 
+/// Says a mistake in the words, with the tips that help.
+fn correct<E: Write>(alloc: Global, text: &str, errors: &mut E) -> u8
+    ensures { IsTold Fault.Memory (E.contents errors.old) (E.contents errors.new) result
+        ⊎ ((result ≡ 1) × ((told : List ℕ) × AppendsPart (E.contents errors.old) (E.contents errors.new) told)) }
+{
+    let Ok(told) = with_true_tips(alloc, text) else {
+        return tell(alloc, Fault::Memory, errors);
+    };
+    say(told.as_bytes(), errors);
+    1
+}
+
 /// What `clap` says of the words: help and the version on the output, mistakes on the errors.
 fn explain<O: Write, E: Write>(
     alloc: Global,
@@ -171,8 +184,7 @@ fn explain<O: Write, E: Write>(
         return tell(alloc, Fault::Memory, errors);
     };
     if error.use_stderr() {
-        say(text.as_bytes(), errors);
-        return 1;
+        return correct(alloc, text.as_str(), errors);
     }
     if show(text.as_bytes(), output).is_err() {
         return tell(alloc, Fault::Write, errors);

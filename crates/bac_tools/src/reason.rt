@@ -302,7 +302,10 @@ pub(crate) fn push_unanswered(text: &mut Vec<u8>, asked: usize) -> Result<(), Al
     ensures { OnOk result (text.new.items ≡ text.old.items ++ unanswered_text asked) }
 {
     text.extend_from_slice(b"no answer\n")?;
-    push_numbered(text, "addresses asked: ", asked)
+    push_numbered(text, "addresses asked: ", asked)?;
+    text.extend_from_slice(
+        b"; devices that answer by broadcast are heard with --local=0.0.0.0:47808",
+    )
 }
 
 /// Appends that a line of a list of addresses is bad, and why.
@@ -322,7 +325,8 @@ pub(crate) fn push_list(text: &mut Vec<u8>, fault: ListFault) -> Result<(), Allo
         ListFault::BadLine(number) => push_listed_badly(
             text,
             number,
-            "a line is A.B.C.D or A.B.C.D:PORT, A to D from 0 to 255, PORT from 1 to 65535",
+            "a line is A.B.C.D or A.B.C.D:PORT, A to D from 0 to 255, PORT from 1 to 65535; \
+             /20 to /32 may stand behind it",
         ),
         ListFault::TooMany(number) => {
             push_listed_badly(text, number, "a list has at most 4096 addresses")

@@ -4,7 +4,8 @@ ghost use Rattle.std.specs.Prelude.{◌≡◌, ◌++◌, ◌∷◌, OnOk, IfOk};
 ghost use Rattle.bac_print.specs.Output.{AppendsPart};
 ghost use Rattle.bac_query.specs.Ends.{cause_text, refusal_text};
 ghost use Rattle.bac_tools.specs.Run.{IsTold};
-ghost use Rattle.bac_tools.specs.Texts.{build_text, exchange_text, fault_text, long_text, of_address, range_text, refusal_lines, script_text, serving_line, told_text, unbuilt_text, word_text, wrong_text};
+ghost use Rattle.bac_print.specs.Addresses.{address_text};
+ghost use Rattle.bac_tools.specs.Texts.{bad_reply, build_text, exchange_text, fault_text, long_text, of_address, range_text, refusal_lines, script_text, serving_line, told_text, unbuilt_text, word_text, wrong_text};
 
 use crate::fault::Fault;
 use crate::flaw::push_reply_flaw;
@@ -24,7 +25,10 @@ fn range_of<'a>(word: Word) -> &'a str
 {
     match word {
         Word::Tool => "replay, wi, rp, wp, log or serve",
-        Word::Address | Word::Local =>
+        Word::Address =>
+            "A.B.C.D or A.B.C.D:PORT, each of A to D from 0 to 255, PORT from 1 to 65535; for bac wi \
+             also with /20 to /32 behind it",
+        Word::Local =>
             "A.B.C.D or A.B.C.D:PORT, each of A to D from 0 to 255, PORT from 1 to 65535",
         Word::ObjectType => "a number from 0 to 1023",
         Word::Instance | Word::Min => "a number from 0 to 4194303",
@@ -149,6 +153,22 @@ fn push_refused_by(text: &mut Vec<u8>, refusal: Refusal) -> Result<(), AllocErro
     push_cause(text, refusal)
 }
 
+/// Appends that the reply to one question doesn't serve.
+fn push_bad_reply(text: &mut Vec<u8>) -> Result<(), AllocError>
+    ensures { OnOk result (text.new.items ≡ text.old.items ++ bad_reply) }
+{
+    text.extend_from_slice(b"bad reply\n")?;
+    text.extend_from_slice(b"the reply is no ACK of this request, is in segments, or can't be read")
+}
+
+/// Appends what is said of an address.
+fn push_said(text: &mut Vec<u8>, said: &str, address: [u8; 6]) -> Result<(), AllocError>
+    ensures { OnOk result (text.new.items ≡ text.old.items ++ (said.now ++ address_text address)) }
+{
+    text.extend_from_slice(said.as_bytes())?;
+    push_address(text, address)
+}
+
 /// Appends why an exchange with an address brought no ACK.
 #[tactic(auto, unfolding(crate::specs::Texts::exchange_text))]
 fn push_exchange(
@@ -161,7 +181,7 @@ fn push_exchange(
     match fault {
         ExchangeFault::Lost => push_of_address(text, "lost", "no answer came from ", address),
         ExchangeFault::Refused(refusal) => push_refused_by(text, refusal),
-        ExchangeFault::BadReply => text.extend_from_slice(b"bad reply"),
+        ExchangeFault::BadReply => push_bad_reply(text),
         ExchangeFault::TooLong => text.extend_from_slice(b"bad value\nthe request is too long"),
     }
 }
@@ -188,6 +208,8 @@ fn push_fault(text: &mut Vec<u8>, fault: Fault) -> Result<(), AllocError>
         Fault::List(fault) => push_list(text, fault),
         Fault::Exchange { address, fault } => push_exchange(text, address, fault),
         Fault::Flawed(flaw) => push_reply_flaw(text, flaw),
+        Fault::Silent(address) => push_said(text, "no answer came from ", address),
+        Fault::Declined(refusal) => push_cause(text, refusal),
         Fault::Write => text.extend_from_slice(b"write fault"),
         Fault::Memory => text.extend_from_slice(b"out of memory"),
     }

@@ -1,17 +1,18 @@
 -- What `run` says of `bac log` with status 4: a bad reply came, and what is told is wrong with it.
-use Rattle.std.proofs.Common.{◌≡◌, ◌∙◌, inl, inr, ℕ, Option, Some, None, Ok, Err, refl, sym, ap, subst, arith}
+use Rattle.std.proofs.Common.{◌≡◌, ◌∙◌, inl, inr, ℕ, List, Option, Ok, Err, refl, sym, ap, subst, arith}
 use Rattle.bac_link.specs.Path.{Path, towards}
 use Rattle.bac_print.specs.Output.{AppendsPart, Held}
 use Rattle.bac_query.specs.Flaws.{TellsFlawOf}
 use Rattle.bac_query.specs.declared.fault.QueryFault.TheVariants as query
-use Rattle.bac_tools.specs.Asking.{of_end}
+use Rattle.bac_tools.specs.LogEnds.{of_why}
 use Rattle.bac_tools.specs.Run.{IsNoWalk, IsTold, Runs, walk_from}
 use Rattle.bac_ports.specs.Sockets.{SocketRules, UsesSocket, own_address, socket_asks}
-use Rattle.bac_tools.specs.Status.{exit_status, walk_status}
+use Rattle.bac_tools.specs.Status.{exit_status}
 use Rattle.bac_tools.specs.Streams.{Streams}
 use Rattle.bac_tools.specs.Texts.{told_text}
 use Rattle.bac_tools.specs.declared.fault.Fault.{Fault}
-use Rattle.bac_tools.specs.declared.fault.Fault.TheVariants.{BadValue, Flawed, Memory, Socket, Write}
+use Rattle.bac_tools.specs.declared.fault.Fault.TheVariants.{BadValue, Declined, Flawed, Memory, Silent, Socket, Write}
+use Rattle.bac_tools_tests.proofs.Settled.{end_of, told_is, unflawed, without_flaw}
 use Rattle.bac_tools_tests.specs.Logging.{IsExplained}
 use Rattle.bac_walk.specs.Flaws.{ToldFlaw}
 use Rattle.bac_walk.specs.Place.{WalkPlace}
@@ -49,47 +50,41 @@ no_walk instance from fault said old new status (inr (zero, is)) same =
 
 -- ---- the end of a walk
 
--- without a flaw the status is another
-unflawed : (status done : ℕ) (flaw : Option ReplyFlaw) → flaw ≡ None → Ok done ≡ of_end status flaw → (status ≡ 4 → ⊥) → done ≡ 4 → ⊥
-unflawed status done None none is other four = other (sym (let e : done ≡ status = cc in e) ∙ four)
-unflawed status done (Some flaw) none is other four = absurd cc
-
-no_fault : {A : Type 0} (status : ℕ) (fault : Fault) (flaw : Option ReplyFlaw) → flaw ≡ None → Err fault ≡ of_end status flaw → A
-no_fault status fault None none is = absurd cc
-no_fault status fault (Some flaw) none is = absurd cc
-
-flawed : (status done : ℕ) (flaw : Option ReplyFlaw) (told : ReplyFlaw) → flaw ≡ Some told → Ok done ≡ of_end status flaw → ⊥
-flawed status done None told some is = cc
-flawed status done (Some flaw) told some is = cc
-
-told_is : (status : ℕ) (fault : Fault) (flaw : Option ReplyFlaw) (told : ReplyFlaw) → flaw ≡ Some told → Err fault ≡ of_end status flaw → fault ≡ Flawed told
-told_is status fault None told some is = absurd cc
-told_is status fault (Some flaw) told some is = cc
-
--- a walk that ended with status 4 told its flaw
-bad_end : {S : Type 0} (asks : Asking S) (path : Path) (retries : ℕ) (log : Id) (next : ℕ) (flaw : Option ReplyFlaw) (left : S) (cause : Why) (done : ℕ) →
-    TellsFlawOf asks path retries log next flaw left cause → Ok done ≡ of_end (walk_status cause) flaw → done ≡ 4 → ⊥
-bad_end asks path retries log next flaw left why.CaughtUp done tells is = unflawed 0 done flaw tells is (λ e. omega (arith, e))
-bad_end asks path retries log next flaw left why.StepLimit done tells is = unflawed 0 done flaw tells is (λ e. omega (arith, e))
-bad_end asks path retries log next flaw left (why.Fault walk.Lost) done tells is = unflawed 2 done flaw tells is (λ e. omega (arith, e))
-bad_end asks path retries log next flaw left (why.Fault (walk.Refused refusal)) done tells is = unflawed 3 done flaw tells is (λ e. omega (arith, e))
-bad_end asks path retries log next flaw left (why.Fault walk.BadReply) done (w, own, here, (told, some, wrong)) is = λ four. flawed 4 done flaw told some is
-bad_end asks path retries log next flaw left why.Memory done tells is = unflawed 5 done flaw tells is (λ e. omega (arith, e))
+-- with status 4 and no fault told: a walk that ended so told its flaw
+bad_end : {S : Type 0} (asks : Asking S) (path : Path) (retries : ℕ) (log : Id) (next : ℕ) (address : List ℕ) (flaw : Option ReplyFlaw) (left : S)
+    (cause : Why) (done : ℕ) → TellsFlawOf asks path retries log next flaw left cause → Ok done ≡ of_why address cause flaw → done ≡ 4 → ⊥
+bad_end asks path retries log next address flaw left why.CaughtUp done tells is = λ four. omega (arith, end_of address done why.CaughtUp flaw is, four)
+bad_end asks path retries log next address flaw left why.StepLimit done tells is = λ four. omega (arith, end_of address done why.StepLimit flaw is, four)
+bad_end asks path retries log next address flaw left (why.Fault walk.Lost) done tells is =
+    λ four. omega (arith, end_of address done (why.Fault walk.Lost) flaw is, four)
+bad_end asks path retries log next address flaw left (why.Fault (walk.Refused refusal)) done tells is =
+    λ four. omega (arith, end_of address done (why.Fault (walk.Refused refusal)) flaw is, four)
+bad_end asks path retries log next address flaw left (why.Fault walk.BadReply) done (w, own, here, (told, some, wrong)) is =
+    λ four. unflawed address done (why.Fault walk.BadReply) flaw told some is
+bad_end asks path retries log next address flaw left why.Memory done tells is = λ four. omega (arith, end_of address done why.Memory flaw is, four)
 
 -- what is wrong with the reply that ended a walk of this log
 abbrev Explains : {S : Type 0} → Asking S → Path → ℕ → Id → Fault → S → Type 0
 Explains asks path retries log fault left =
     (w : WalkPlace) × (told : ReplyFlaw) × (w.log ≡ log) × ToldFlaw asks path retries w told left × (fault ≡ Flawed told)
 
-flaw_end : {S : Type 0} (asks : Asking S) (path : Path) (retries : ℕ) (log : Id) (next : ℕ) (flaw : Option ReplyFlaw) (left : S) (cause : Why) (fault : Fault) →
-    TellsFlawOf asks path retries log next flaw left cause → Err fault ≡ of_end (walk_status cause) flaw → Explains asks path retries log fault left
-flaw_end asks path retries log next flaw left why.CaughtUp fault tells is = no_fault 0 fault flaw tells is
-flaw_end asks path retries log next flaw left why.StepLimit fault tells is = no_fault 0 fault flaw tells is
-flaw_end asks path retries log next flaw left (why.Fault walk.Lost) fault tells is = no_fault 2 fault flaw tells is
-flaw_end asks path retries log next flaw left (why.Fault (walk.Refused refusal)) fault tells is = no_fault 3 fault flaw tells is
-flaw_end asks path retries log next flaw left (why.Fault walk.BadReply) fault (w, own, here, (told, some, wrong)) is =
-    (w, told, own, wrong, told_is 4 fault flaw told some is)
-flaw_end asks path retries log next flaw left why.Memory fault tells is = no_fault 5 fault flaw tells is
+flaw_end : {S : Type 0} (asks : Asking S) (path : Path) (retries : ℕ) (log : Id) (next : ℕ) (address : List ℕ) (flaw : Option ReplyFlaw) (left : S)
+    (cause : Why) (fault : Fault) (old new : Held) (status : ℕ) → TellsFlawOf asks path retries log next flaw left cause →
+    Err fault ≡ of_why address cause flaw → IsTold fault old new status → status ≡ 4 → Explains asks path retries log fault left
+flaw_end asks path retries log next address flaw left why.CaughtUp fault old new status tells is ends four =
+    absurd (let e = without_flaw address fault why.CaughtUp flaw tells is in cc)
+flaw_end asks path retries log next address flaw left why.StepLimit fault old new status tells is ends four =
+    absurd (let e = without_flaw address fault why.StepLimit flaw tells is in cc)
+flaw_end asks path retries log next address flaw left (why.Fault walk.Lost) fault old new status tells is ends four =
+    let e = without_flaw address fault (why.Fault walk.Lost) flaw tells is in
+    absurd (named_told fault (Silent address) 2 old new status (cc) refl (λ e. omega (arith, e)) ends four)
+flaw_end asks path retries log next address flaw left (why.Fault (walk.Refused refusal)) fault old new status tells is ends four =
+    let e = without_flaw address fault (why.Fault (walk.Refused refusal)) flaw tells is in
+    absurd (named_told fault (Declined refusal) 3 old new status (cc) refl (λ e. omega (arith, e)) ends four)
+flaw_end asks path retries log next address flaw left (why.Fault walk.BadReply) fault old new status (w, own, here, (told, some, wrong)) is ends four =
+    (w, told, own, wrong, told_is address fault (why.Fault walk.BadReply) flaw told some is)
+flaw_end asks path retries log next address flaw left why.Memory fault old new status tells is ends four =
+    absurd (let e = without_flaw address fault why.Memory flaw tells is in cc)
 
 -- it is told
 told_flaw : (old new : Held) (status : ℕ) (fault : Fault) (told : ReplyFlaw) → fault ≡ Flawed told → IsTold fault old new status → status ≡ 4 →
@@ -117,7 +112,7 @@ explained rules tells asked instance steps from old new status (inr (Err fault, 
 explained rules tells asked instance steps from old new status (inr (Ok done, said, (inr (inl (shut, opens, is_shut, closed)), quiet), ends)) four =
     absurd (let e = is_shut in cc)
 explained rules tells asked instance steps from old new status (inr (Err fault, said, (inr (inr (port, between, last, opens, (Ok fetched, left, over, is_last, is), closes)), quiet), ends)) four =
-    let (w, told, own, wrong, same) = flaw_end (socket_asks rules) (towards asked.route) asked.retries (walk_from instance from).log fetched.next fetched.flaw left fetched.why fault over.2 is in
+    let (w, told, own, wrong, same) = flaw_end (socket_asks rules) (towards asked.route) asked.retries (walk_from instance from).log fetched.next asked.address fetched.flaw left fetched.why fault said new.errors status over.2 is ends four in
     let Q : Held → Type 0 = λ h. AppendsPart h new.errors (told_text (Flawed told)) in (
       port,
       between,
@@ -127,7 +122,7 @@ explained rules tells asked instance steps from old new status (inr (Err fault, 
       closes,
     )
 explained rules tells asked instance steps from old new status (inr (Err fault, said, (inr (inr (port, between, last, opens, (Err (query.Exchange bad), left, over, is_last, is), closes)), quiet), ends)) four =
-    let (came, items, n, ended, after, mid, brought, printed, headline) = over.0 in
+    let (came, items, n, ended, after, half, mid, brought, printed, headline) = over.0.1 in
     absurd printed
 explained rules tells asked instance steps from old new status (inr (Err fault, said, (inr (inr (port, between, last, opens, (Err query.Write, left, over, is_last, is), closes)), quiet), ends)) four =
     absurd (named_told fault Write 2 said new.errors status (cc) refl (λ e. omega (arith, e)) ends four)
@@ -136,4 +131,4 @@ explained rules tells asked instance steps from old new status (inr (Err fault, 
 explained rules tells asked instance steps from old new status (inr (Ok done, said, (inr (inr (port, between, last, opens, (Err bad, left, over, is_last, is), closes)), quiet), ends)) four =
     absurd (cc)
 explained rules tells asked instance steps from old new status (inr (Ok done, said, (inr (inr (port, between, last, opens, (Ok fetched, left, over, is_last, is), closes)), quiet), ends)) four =
-    absurd (bad_end (socket_asks rules) (towards asked.route) asked.retries (walk_from instance from).log fetched.next fetched.flaw left fetched.why done over.2 is (sym ends.0 ∙ four))
+    absurd (bad_end (socket_asks rules) (towards asked.route) asked.retries (walk_from instance from).log fetched.next asked.address fetched.flaw left fetched.why done over.2 is (sym ends.0 ∙ four))

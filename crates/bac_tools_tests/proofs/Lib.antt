@@ -1,4 +1,5 @@
 mod AtRest
+mod Settled
 mod Explained
 mod Logged
 mod Silence

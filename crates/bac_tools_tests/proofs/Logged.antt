@@ -1,7 +1,10 @@
 -- What `run` says of `bac log`: with status 0 no fault was told, so what came over the socket is printed; if the log
 -- doesn't change, all of it; and whatever is refused, a front part of it.
-use Rattle.std.proofs.Common.{◌≡◌, ◌⊎◌, ◌∙◌, inl, inr, ℕ, ◌+◌, ◌-◌, ◌<◌, ◌≤◌, max, List, [], ◌∷◌, ◌++◌, Option, Some, None, Result, Ok, Err, false, refl, sym, ap, subst, append-nil, Bool, length, arith}
+use Rattle.std.proofs.Common.{◌≡◌, ◌⊎◌, ◌∙◌, inl, inr, ℕ, ◌+◌, ◌-◌, ◌<◌, ◌≤◌, max, List, [], ◌∷◌, ◌++◌, Option, Some, Result, Ok, Err, false, refl, sym, ap, subst, append-nil, Bool, length, arith}
 use Rattle.std.specs.Io.KnownBytes.{Appends, Keeps}
+use Rattle.bac_walk.proofs.Transacted.{brought_plain}
+use Rattle.bac_tools.specs.Sockets.{transactions_with}
+use Rattle.bac_link.specs.declared.transactions.Transactions.{Transactions}
 use Rattle.bac_link.specs.Delivery.{History, Moment, DeliversTo, Brings, items_of, now}
 use Rattle.bac_link.specs.Path.{Path, towards}
 use Rattle.bac_link.specs.declared.exchanges.ExchangeFault.{ExchangeFault}
@@ -20,22 +23,22 @@ use Rattle.bac_query.specs.Ends.{end_line}
 use Rattle.bac_query.specs.Items.{items_text}
 use Rattle.bac_script.specs.declared.replay.fault.ReplayFault.{ReplayFault}
 use Rattle.bac_script.specs.declared.replay.fault.ReplayFault.TheVariants as replay
-use Rattle.bac_tools.specs.Asking.{of_end, of_fetching}
+use Rattle.bac_tools.specs.Asking.{of_fetching}
 use Rattle.bac_tools.specs.Run.{IsTold, Runs, walk_from}
 use Rattle.bac_ports.specs.Sockets.{SocketRules, UsesSocket, link_over, own_address, socket_asks}
 use Rattle.bac_tools.specs.Status.{exchange_status, exit_status, list_status, script_status, walk_status}
 use Rattle.bac_tools.specs.Streams.{Streams}
 use Rattle.bac_tools.specs.declared.fault.Fault.{Fault}
 use Rattle.bac_tools.specs.declared.fault.Fault.TheVariants.{NotText, BadValue, LongNumber, NoDevice, Script, Socket, Refused}
-use Rattle.bac_tools.specs.declared.fault.Fault.TheVariants.{NoAnswer, List as ListOf, Exchange, Flawed, Write, Memory}
+use Rattle.bac_tools.specs.declared.fault.Fault.TheVariants.{NoAnswer, List as ListOf, Exchange, Flawed, Silent, Declined, Write, Memory}
 use Rattle.bac_tools_tests.proofs.AtRest.{few_batches, few_lines, leads_bring}
 use Rattle.bac_tools_tests.specs.Logging.{IsCut, IsLogged, IsLoggedAtRest, PrintsAll}
+use Rattle.bac_tools_tests.proofs.Settled.{end_of}
 use Rattle.bac_walk.specs.Came.{AreOf, Brought, Came, EndsBy, answers_of}
 use Rattle.bac_walk.proofs.Came.{start_old}
 use Rattle.bac_walk.specs.Collects.{IsCaughtUp, batches}
 use Rattle.bac_walk.specs.Delivers.{NoneFrom}
 use Rattle.bac_walk.specs.Place.{WalkPlace}
-use Rattle.bac_walk.specs.declared.flaw.ReplyFlaw.{ReplyFlaw}
 use Rattle.bac_walk.specs.declared.outcome.Ended.{Ended}
 use Rattle.bac_walk.specs.declared.outcome.Ended.TheVariants as ended
 use Rattle.bac_walk.specs.declared.outcome.WalkFault.TheVariants as walk
@@ -82,6 +85,8 @@ no_fault (NoAnswer asked) e = omega (arith, e)
 no_fault (ListOf fault) e = no_list fault e
 no_fault (Exchange address fault) e = no_exchange fault e
 no_fault (Flawed flaw) e = omega (arith, e)
+no_fault (Silent address) e = omega (arith, e)
+no_fault (Declined refusal) e = omega (arith, e)
 no_fault Write e = omega (arith, e)
 no_fault Memory e = omega (arith, e)
 
@@ -91,36 +96,31 @@ not_told fault old new status (inr (is, text)) zero = no_fault Memory (sym is �
 
 -- what is told of a walk over a link
 abbrev pub Over : {P : Type 0} → (UdpLink P → List ℕ → Result (List ℕ) Loss → UdpLink P → Type 0) → Asked → WalkPlace → ℕ →
-    UdpLink P → Fetching → UdpLink P → Held → Held → Type 0
-Over asks asked walk steps link fetching left old new =
-    FetchesAhead asks (towards asked.route) asked.retries link walk steps fetching left old new
+    UdpLink P → Fetching → Transactions → UdpLink P → Held → Held → Type 0
+Over asks asked walk steps link fetching end left old new =
+    FetchesAhead asks (transactions_with asked) link walk steps fetching end left old new
 
 -- ---- with status 0
 
--- no flaw is told then
-pub end_of : (done status : ℕ) (flaw : Option ReplyFlaw) → Ok done ≡ of_end status flaw → done ≡ status
-end_of done status None is = cc
-end_of done status (Some flaw) is = absurd cc
-
 -- the link is as the replies left it
-left_there : {P : Type 0} (asks : UdpLink P → List ℕ → Result (List ℕ) Loss → UdpLink P → Type 0) (path : Path) (retries : ℕ)
+left_there : {P : Type 0} (asks : UdpLink P → List ℕ → Result (List ℕ) Loss → UdpLink P → Type 0) (half end : Transactions)
     (mid left : UdpLink P) (after : WalkPlace) (cause : Why) (last : P) → walk_status cause ≡ 0 → last ≡ left.port →
-    IsLeftAhead asks path retries mid after left cause → last ≡ mid.port
-left_there asks path retries mid left after why.CaughtUp last zero is same = is ∙ ap (λ (l : UdpLink _). l.port) same
-left_there asks path retries mid left after why.StepLimit last zero is same = is ∙ ap (λ (l : UdpLink _). l.port) same
-left_there asks path retries mid left after (why.Fault fault) last zero is same = is ∙ ap (λ (l : UdpLink _). l.port) same
-left_there asks path retries mid left after why.Memory last zero is same = absurd (omega (arith, zero))
+    IsLeftAhead asks half mid after end left cause → last ≡ mid.port
+left_there asks half end mid left after why.CaughtUp last zero is same = is ∙ ap (λ (l : UdpLink _). l.port) same.0
+left_there asks half end mid left after why.StepLimit last zero is same = is ∙ ap (λ (l : UdpLink _). l.port) same.0
+left_there asks half end mid left after (why.Fault fault) last zero is same = is ∙ ap (λ (l : UdpLink _). l.port) same.0
+left_there asks half end mid left after why.Memory last zero is same = absurd (omega (arith, zero))
 
 fetched : {S P : Type 0} (rules : SocketRules S P) (asked : Asked) (walk : WalkPlace) (steps : ℕ) (port last : P) (old new : Held)
-    (done : ℕ) (fetching : Fetching) (left : UdpLink P) → done ≡ 0 → last ≡ left.port →
-    Over (socket_asks rules) asked walk steps (link_over asked.address port) fetching left old new →
+    (done : ℕ) (fetching : Fetching) (end : Transactions) (left : UdpLink P) → done ≡ 0 → last ≡ left.port →
+    Over (socket_asks rules) asked walk steps (link_over asked.address port) fetching end left old new →
     Ok done ≡ of_fetching asked.address fetching → IsLogged rules asked walk port last old new
-fetched rules asked walk steps port last old new done (Err fault) left zero is_last over is = absurd (cc)
-fetched rules asked walk steps port last old new done (Ok said) left zero is_last over is =
-    let (came, items, n, ended, after, mid, brought, tells, headline) = over in
-    let status : walk_status said.why ≡ 0 = sym (end_of done (walk_status said.why) said.flaw is) ∙ zero in
-    let there = left_there (socket_asks rules) (towards asked.route) asked.retries mid left after said.why last status is_last tells.1 in
-    (came, items, n, ended, after, (mid, brought, there), (said.why, said.next, tells.2), headline)
+fetched rules asked walk steps port last old new done (Err fault) end left zero is_last over is = absurd (cc)
+fetched rules asked walk steps port last old new done (Ok said) end left zero is_last over is =
+    let (came, items, n, ended, after, half, mid, brought, tells, headline) = over in
+    let status : walk_status said.why ≡ 0 = sym (end_of asked.address done said.why said.flaw is) ∙ zero in
+    let there = left_there (socket_asks rules) half end mid left after said.why last status is_last tells.1 in
+    (came, items, n, ended, after, (mid, half, brought, there), (said.why, said.next, tells.2), headline)
 
 -- ---- at rest
 
@@ -178,20 +178,21 @@ all_printed H m s t steps n count items answers fresh e after why.Memory next ol
     absurd (omega (arith, zero))
 
 rested : {S P : Type 0} (rules : SocketRules S P) (asked : Asked) (walk : WalkPlace) (steps : ℕ) (port last : P) (old new : Held)
-    (done : ℕ) (fetching : Fetching) (left : UdpLink P) → done ≡ 0 → last ≡ left.port → walk.fresh ≡ false →
-    Over (socket_asks rules) asked walk steps (link_over asked.address port) fetching left old new →
+    (done : ℕ) (fetching : Fetching) (end : Transactions) (left : UdpLink P) → done ≡ 0 → last ≡ left.port → walk.fresh ≡ false →
+    Over (socket_asks rules) asked walk steps (link_over asked.address port) fetching end left old new →
     Ok done ≡ of_fetching asked.address fetching → IsLoggedAtRest rules asked walk steps port last old new
-rested rules asked walk steps port last old new done (Err fault) left zero is_last fresh over is = absurd (cc)
-rested rules asked walk steps port last old new done (Ok said) left zero is_last fresh over is =
-    let (came, items, n, ended, after, mid, brought, tells, headline) = over in
-    let status : walk_status said.why ≡ 0 = sym (end_of done (walk_status said.why) said.flaw is) ∙ zero in
-    let there = left_there (socket_asks rules) (towards asked.route) asked.retries mid left after said.why last status is_last tells.1 in (
+rested rules asked walk steps port last old new done (Err fault) end left zero is_last fresh over is = absurd (cc)
+rested rules asked walk steps port last old new done (Ok said) end left zero is_last fresh over is =
+    let (came, items, n, ended, after, half, mid, begun, tells, headline) = over in
+    let brought = brought_plain (socket_asks rules) (transactions_with asked) half (link_over asked.address port) mid walk after n came items ended begun in
+    let status : walk_status said.why ≡ 0 = sym (end_of asked.address done said.why said.flaw is) ∙ zero in
+    let there = left_there (socket_asks rules) half end mid left after said.why last status is_last tells.1 in (
       came,
       items,
       n,
       ended,
       after,
-      (mid, brought, there),
+      (mid, half, begun, there),
       λ H m low s at number window low_s s_high enough.
           (let (b, a, t, begins, place, leads, delivers, up) = headline H (m ∷ []) low s at number (omega arith) tt (window, tt) (λ old. (low_s, s_high)) in
           let P : ℕ → Type 0 = λ k. DeliversTo H k items t (m ∷ []) a in
@@ -240,7 +241,7 @@ logged rules tells asked instance steps from old new status (inr (Ok done, said,
   between,
   last,
   opens,
-  fetched rules asked (walk_from instance from) steps port last old.output new.output done fetching left (sym ends.0 ∙ zero) is_last over.0 is,
+  fetched rules asked (walk_from instance from) steps port last old.output new.output done fetching over.0.0 left (sym ends.0 ∙ zero) is_last over.0.1 is,
   closes,
 )
 
@@ -263,7 +264,7 @@ logged_at_rest rules tells asked instance steps number old new status (inr (Ok d
   between,
   last,
   opens,
-  rested rules asked (walk_from instance (Some number)) steps port last old.output new.output done fetching left (sym ends.0 ∙ zero) is_last refl over.0 is,
+  rested rules asked (walk_from instance (Some number)) steps port last old.output new.output done fetching over.0.0 left (sym ends.0 ∙ zero) is_last refl over.0.1 is,
   closes,
 )
 
@@ -278,7 +279,8 @@ printed_in_order rules tells asked instance steps from old new status (inr (resu
 printed_in_order rules tells asked instance steps from old new status (inr (result, said, (inr (inl (fault, opens, is_shut, closed)), quiet), ends)) =
     inl closed
 printed_in_order rules tells asked instance steps from old new status (inr (result, said, (inr (inr (port, between, last, opens, (fetching, left, over, is_last, is), closes)), quiet), ends)) =
-    let (came, items, n, ended, after, mid, brought, printed, headline) = over.0 in
+    let (came, items, n, ended, after, half, mid, begun, printed, headline) = over.0.1 in
+    let brought = brought_plain (socket_asks rules) (transactions_with asked) half (link_over asked.address port) mid (walk_from instance from) after n came items ended begun in
     inr (
       port,
       between,

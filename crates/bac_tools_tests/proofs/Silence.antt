@@ -2,6 +2,9 @@
 -- fault only if a socket failed.
 use Rattle.std.proofs.Common.{◌≡◌, ◌∙◌, inl, inr, lit<, ℕ, zero, suc, ◌+◌, ◌<◌, List, [], ◌∷◌, ◌++◌, Option, Some, None, Ok, Err, refl, sym, ap, subst, append-nil, arith}
 use Rattle.std.specs.Io.KnownBytes.{Keeps}
+use Rattle.bac_walk.proofs.Transacted.{brought_plain}
+use Rattle.bac_tools.specs.Sockets.{transactions_with}
+use Rattle.bac_link.specs.declared.transactions.Transactions.{Transactions}
 use Rattle.bac_link.specs.Exchanges.{Exchanges, Unanswered}
 use Rattle.bac_link.specs.Path.{Path, towards}
 use Rattle.bac_link.specs.Requests.{next_invoke, request_octets}
@@ -36,7 +39,8 @@ use Rattle.bac_tools.specs.Status.{walk_status}
 use Rattle.bac_tools.specs.Streams.{Streams}
 use Rattle.bac_tools.specs.declared.fault.Fault.{Fault}
 use Rattle.bac_tools.specs.declared.fault.Fault.TheVariants as fault
-use Rattle.bac_tools_tests.proofs.Logged.{cut_over, end_of, not_told}
+use Rattle.bac_tools_tests.proofs.Logged.{cut_over, not_told}
+use Rattle.bac_tools_tests.proofs.Settled.{end_of}
 use Rattle.bac_tools_tests.specs.Silence.{IsSilent, LostWasAsked, NeverFails}
 use Rattle.bac_walk.specs.Came.{Brought, Came}
 use Rattle.bac_walk.specs.Place.{WalkPlace}
@@ -194,13 +198,14 @@ nothing (Some xs) None keeps = absurd keeps
 nothing (Some xs) (Some ys) keeps = (why.CaughtUp, 0, ([], end_line why.CaughtUp 0, refl, keeps ∙ sym (append-nil xs)))
 
 no_status : {S P : Type 0} (rules : SocketRules S P) → IsSilent rules.receives → (asked : Asked) (w : WalkPlace) (steps : ℕ)
-    (link : UdpLink P) (fetching : Fetching) (left : UdpLink P) (old new : Held) (done : ℕ) →
-    FetchesAhead (socket_asks rules) (towards asked.route) asked.retries link w steps fetching left old new →
+    (link : UdpLink P) (fetching : Fetching) (end : Transactions) (left : UdpLink P) (old new : Held) (done : ℕ) →
+    FetchesAhead (socket_asks rules) (transactions_with asked) link w steps fetching end left old new →
     Ok done ≡ of_fetching asked.address fetching → 0 < steps → done ≡ 0 → ⊥
-no_status rules silent asked w steps link (Err why) left old new done over is some none = absurd (cc)
-no_status rules silent asked w steps link (Ok fetched) left old new done over is some none =
-    let (came, items, n, ended, after, mid, brought, tells, headline) = over in
-    let e = end_of done (walk_status fetched.why) fetched.flaw is in
+no_status rules silent asked w steps link (Err why) end left old new done over is some none = absurd (cc)
+no_status rules silent asked w steps link (Ok fetched) end left old new done over is some none =
+    let (came, items, n, ended, after, half, mid, begun, tells, headline) = over in
+    let brought = brought_plain (socket_asks rules) (transactions_with asked) half link mid w after n came items ended begun in
+    let e = end_of asked.address done fetched.why fetched.flaw is in
     no_end rules silent (towards asked.route) asked.retries n steps link w came items ended after mid fetched.why fetched.next brought tells.0 some (sym e ∙ none)
 
 pub no_log : {S P C : Type 0} (rules : SocketRules S P) (tells : C → Option CivilTime → C → Type 0) (asked : Asked)
@@ -220,15 +225,17 @@ no_log rules tells asked instance steps from old new status (inr (Err why, said,
 no_log rules tells asked instance steps from old new status (inr (Ok done, said, (inr (inl (shut, opens, is_shut, closed)), quiet), ends)) silent =
     absurd (let e = is_shut in cc)
 no_log rules tells asked instance steps from old new status (inr (Err why, said, (inr (inr (port, between, last, opens, (fetching, left, over, is_last, is), closes)), quiet), ends)) silent =
-    let (came, items, n, ended, after, mid, brought, printed, headline) = over.0 in
+    let (came, items, n, ended, after, half, mid, begun, printed, headline) = over.0.1 in
+    let brought = brought_plain (socket_asks rules) (transactions_with asked) half (link_over asked.address port) mid (walk_from instance from) after n came items ended begun in
     let none = no_reply rules silent (towards asked.route) asked.retries n (link_over asked.address port) (walk_from instance from) came items ended after mid brought in (
       λ some zero. not_told why said new.errors status ends zero,
       end_alone items old.output new.output none.1 (cut_over (socket_asks rules) _ items steps n ended after fetching old.output new.output printed),
     )
 no_log rules tells asked instance steps from old new status (inr (Ok done, said, (inr (inr (port, between, last, opens, (fetching, left, over, is_last, is), closes)), quiet), ends)) silent =
-    let (came, items, n, ended, after, mid, brought, printed, headline) = over.0 in
+    let (came, items, n, ended, after, half, mid, begun, printed, headline) = over.0.1 in
+    let brought = brought_plain (socket_asks rules) (transactions_with asked) half (link_over asked.address port) mid (walk_from instance from) after n came items ended begun in
     let none = no_reply rules silent (towards asked.route) asked.retries n (link_over asked.address port) (walk_from instance from) came items ended after mid brought in (
-      λ some zero. no_status rules silent asked (walk_from instance from) steps (link_over asked.address port) fetching left old.output new.output done over.0 is some (sym ends.0 ∙ zero),
+      λ some zero. no_status rules silent asked (walk_from instance from) steps (link_over asked.address port) fetching over.0.0 left old.output new.output done over.0.1 is some (sym ends.0 ∙ zero),
       end_alone items old.output new.output none.1 (cut_over (socket_asks rules) _ items steps n ended after fetching old.output new.output printed),
     )
 
@@ -301,6 +308,8 @@ configured_not input left (fault.NoAnswer asked) is e = absurd (cc)
 configured_not input left (fault.List said) is e = absurd (cc)
 configured_not input left (fault.Exchange address said) is e = absurd (cc)
 configured_not input left (fault.Flawed flaw) is e = absurd (cc)
+configured_not input left (fault.Silent address) is e = absurd (cc)
+configured_not input left (fault.Declined refusal) is e = absurd (cc)
 configured_not input left fault.Write is e = absurd (cc)
 configured_not input left fault.Memory is e = absurd (cc)
 

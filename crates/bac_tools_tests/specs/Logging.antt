@@ -4,6 +4,7 @@ use Rattle.std.specs.Io.KnownBytes.{Appends}
 use Rattle.bac_link.specs.Delivery.{History, Moment, Brings}
 use Rattle.bac_link.specs.Path.{towards}
 use Rattle.bac_link.specs.declared.item.Item.{Item}
+use Rattle.bac_link.specs.declared.transactions.Transactions.{Transactions}
 use Rattle.bac_log.specs.TrendLog.{sequence_number}
 use Rattle.bac_ports.specs.declared.udp_link.UdpLink.{UdpLink}
 use Rattle.bac_print.specs.Output.{AppendsPart, Held}
@@ -11,9 +12,11 @@ use Rattle.bac_query.specs.Fetching.{IsHeadline}
 use Rattle.bac_query.specs.Ends.{end_line}
 use Rattle.bac_query.specs.Items.{items_text}
 use Rattle.bac_ports.specs.Sockets.{SocketRules, link_over, socket_asks}
+use Rattle.bac_tools.specs.Sockets.{transactions_with}
 use Rattle.bac_tools.specs.Texts.{told_text}
 use Rattle.bac_tools.specs.declared.fault.Fault.TheVariants.{Flawed}
 use Rattle.bac_walk.specs.Came.{AreSaidAt, Brought, Came}
+use Rattle.bac_walk.specs.Transacted.{BroughtBy}
 use Rattle.bac_walk.specs.Delivers.{NoneFrom}
 use Rattle.bac_walk.specs.Flaws.{ToldFlaw}
 use Rattle.bac_link.specs.Moments.{IsInWindow}
@@ -32,13 +35,14 @@ CameOver {P = P} rules asked walk port came items n ended after =
     × Brought (socket_asks rules) (towards asked.route) asked.retries
     (link_over asked.address port) walk n came items ended after mid
 
--- the same, and nothing more was done with it, which leaves it so
+-- the same, each to the next transaction, of which the first has the invoke ID 1; and nothing more was done with it,
+-- which leaves it so
 abbrev pub CameAlone : {S P : Type 0} → SocketRules S P → Asked → WalkPlace → P → P → List Came → List Item → ℕ →
     Ended → WalkPlace → Type 0
 CameAlone {P = P} rules asked walk port last came items n ended after =
-    (left : UdpLink P)
-    × Brought (socket_asks rules) (towards asked.route) asked.retries
-    (link_over asked.address port) walk n came items ended after left × (last ≡ left.port)
+    (left : UdpLink P) × (end : Transactions)
+    × BroughtBy (socket_asks rules) (transactions_with asked)
+    (link_over asked.address port) walk n came items ended after end left × (last ≡ left.port)
 
 -- ---- when all is well
 

@@ -126,12 +126,17 @@ fn addresses_that_nobody_answers_are_counted(rt: HostRuntime) -> Result<(), Fail
     compare(
         &rt,
         &[
-            (Fault::NoAnswer(900), 2, "no answer\naddresses asked: 900\n"),
+            (
+                Fault::NoAnswer(900),
+                2,
+                "no answer\naddresses asked: 900; devices that answer by broadcast are heard with \
+                 --local=0.0.0.0:47808\n",
+            ),
             (
                 Fault::List(ListFault::BadLine(3)),
                 1,
                 "line 3: bad line\na line is A.B.C.D or A.B.C.D:PORT, A to D from 0 to 255, PORT \
-                 from 1 to 65535\n",
+                 from 1 to 65535; /20 to /32 may stand behind it\n",
             ),
             (Fault::List(ListFault::Empty), 1, "bad value\nno address\n"),
             (Fault::List(ListFault::Read), 2, "read fault\n"),
@@ -160,13 +165,21 @@ fn what_cannot_be_mended_is_one_line(rt: HostRuntime) -> Result<(), Fail> {
 
 #[test]
 fn an_answer_that_did_not_come_is_told_with_its_address(rt: HostRuntime) -> Result<(), Fail> {
+    let address = [10, 0, 0, 1, 0xba, 0xc0];
     let lost = Fault::Exchange {
-        address: [10, 0, 0, 1, 0xba, 0xc0],
+        address,
         fault: ExchangeFault::Lost,
     };
     compare(
         &rt,
-        &[(lost, 2, "lost\nno answer came from 10.0.0.1:47808\n")],
+        &[
+            (lost, 2, "lost\nno answer came from 10.0.0.1:47808\n"),
+            (
+                Fault::Silent(address),
+                2,
+                "no answer came from 10.0.0.1:47808\n",
+            ),
+        ],
     )
 }
 

@@ -13,7 +13,7 @@ use Rattle.bac_link.specs.Delivery.{History, Moment, Brings, Leads, DeliversTo, 
 use Rattle.bac_link.specs.Path.{Path}
 use Rattle.bac_log.specs.TrendLog.{sequence_number}
 use Rattle.bac_link.specs.Moments.{NeverGoesBack}
-use Rattle.bac_walk.specs.Came.{Came, Comes, Brought, AreSaidAt, AreOf, EndsBy, EndsEmpty, BroughtIsDelivered, CameIsDelivered, SaidIsTaken, answers_of, restarted}
+use Rattle.bac_walk.specs.Came.{Came, Comes, Brought, AreSaidAt, AreOf, EndsBy, EndsEmpty, BroughtIsDelivered, CameIsDelivered, SaidIsTaken, IsCutIn, answers_of, restarted}
 use Rattle.bac_walk.specs.Collects.{batches, turn_items, IsCaughtUp, start_of}
 use Rattle.bac_walk.specs.Delivers.{NoneFrom}
 use Rattle.bac_link.specs.Moments.{IsInWindow, AreInWindow}
@@ -285,7 +285,7 @@ run_ended : {S : Type 0} (asks : Asking S) (path : Path) (retries : ℕ) (new mi
 run_ended asks path retries new mid w here after s steps came items IsUp H M d ends are = whole_run w here after s came items IsUp H M d ends.2 are (λ e. ends.0)
 run_ended asks path retries new mid w here after s steps came items StepLimit H M d ends are = whole_run w here after s came items StepLimit H M d ends.2 are (λ e. absurd (cc))
 run_ended asks path retries new mid w here after s steps came items (Fault f) H M d ends are = whole_run w here after s came items (Fault f) H M d ends.2 are (λ e. absurd (cc))
-run_ended asks path retries new mid w here after s steps came items Stopped H M d ends (before, k, e, dropped, cut, all, next, old) =
+run_ended asks path retries new mid w here after s steps came items Stopped H M d ends (before, k, e, dropped, cut, all, next, old, within) =
     let whole : items_of (answers_of came) ≡ before ++ Logged k e ∷ dropped =
     sym all ∙ ap (λ l. l ++ dropped) cut ∙ append_assoc before (Logged k e ∷ []) dropped in
     let P : List Item → Type 0 = λ l. DeliversTo H d.0 l d.1 M (length came) in
@@ -314,13 +314,14 @@ brought_delivers asks = λ path retries old new w after steps came items ended H
     let ran = brought_ran asks path retries old new w after steps came items ended H M low s run said here some back window at in
     (ran.0, length came, ran.1, ran.2, ran.3, ran.4, ran.5, ran.6)
 
--- the items of a run are those of its replies, but where it was stopped a front of them
+-- the items of a run are those of its replies, but where it was stopped those up to one of the last reply
 pub cut_of : (ended : Ended) (came : List Came) (items : List Item) (after : WalkPlace) → AreOf ended came items after →
     (dropped : List Item) × (items ++ dropped ≡ items_of (answers_of came)) × ((ended ≡ Stopped → ⊥) → dropped ≡ [])
-cut_of IsUp came items after are = ([], append-nil items ∙ are, λ on. refl)
-cut_of StepLimit came items after are = ([], append-nil items ∙ are, λ on. refl)
-cut_of (Fault f) came items after are = ([], append-nil items ∙ are, λ on. refl)
-cut_of Stopped came items after are = (are.3, are.5, λ on. absurd (on refl))
+    × (ended ≡ Stopped → IsCutIn items dropped (answers_of came))
+cut_of IsUp came items after are = ([], append-nil items ∙ are, λ on. refl, λ e. absurd (cc))
+cut_of StepLimit came items after are = ([], append-nil items ∙ are, λ on. refl, λ e. absurd (cc))
+cut_of (Fault f) came items after are = ([], append-nil items ∙ are, λ on. refl, λ e. absurd (cc))
+cut_of Stopped came items after are = (are.3, are.5, λ on. absurd (on refl), λ e. (are.0, Logged are.1 are.2, are.4, are.8))
 
 pub answers_came : (came : List Came) → length (answers_of came) ≡ length came
 answers_came came = length_answers came

@@ -17,7 +17,7 @@ use Rattle.bac_link.specs.Links.{question}
 use Rattle.bac_link.specs.Path.{Path}
 use Rattle.bac_log.specs.TrendLog.{sequence_number}
 use Rattle.bac_link.specs.Moments.{NeverGoesBack}
-use Rattle.bac_walk.specs.Came.{Came, Asks, Comes, AreSaidAt, Brought, BroughtInto, EndsBy, answers_of, restarted}
+use Rattle.bac_walk.specs.Came.{Came, Asks, Comes, AreSaidAt, Brought, BroughtInto, EndsBy, EndsWith, IsCutIn, answers_of, restarted}
 use Rattle.bac_link.specs.Heard.{AckParameters}
 use Rattle.bac_link.specs.Moments.{AreInWindow}
 use Rattle.bac_walk.specs.Place.{WalkPlace}
@@ -29,6 +29,7 @@ use Rattle.bac_link.proofs.Honest.{goes_on}
 use Rattle.bac_link.specs.Standard.{IsSaidAt}
 use Rattle.bac_link.specs.Heard.{parameters_in}
 use Rattle.bac_walk.specs.Walks.{asked_by, question_of}
+use Rattle.bac_walk.proofs.Ack.{is_ack}
 use Rattle.bac_walk.proofs.Asking.{asked_in}
 use Rattle.bac_walk.specs.declared.outcome.Ended.{Ended}
 use Rattle.bac_walk.specs.declared.outcome.Ended.TheVariants.{CaughtUp as IsUp, StepLimit, Stopped, Fault}
@@ -49,25 +50,6 @@ use Rattle.bac_walk.specs.declared.batch.Numbered.{Numbered}
 use Rattle.bac_walk.specs.declared.outcome.Why.{Why}
 use Rattle.bac_walk.specs.declared.outcome.Why.TheVariants.{CaughtUp as WasUp, StepLimit as WasLimit, Fault as WasFault, Memory}
 use Rattle.bac_walk.proofs.Standard.{said_means}
-
--- ---- what a reply by the standard is to its question
-
-acked : (log : Id) (extent : Extent) (invoke service : ℕ) (parameters : List ℕ) (b : Bool) → (service == 26) ≡ b → (h : AckParameters) →
-    heard_from log (if b then Some parameters else None) ≡ Some h → verdict_of (question log extent) (Some (Complex false invoke service parameters)) ≡ verdict.Ack
-acked log extent invoke service parameters true is h heard = rw is refl
-acked log extent invoke service parameters false is h heard = absurd (cc)
-
-is_ack : (log : Id) (extent : Extent) (o : Option Apdu) (h : AckParameters) → heard_from log (parameters_in o) ≡ Some h → verdict_of (question log extent) o ≡ verdict.Ack
-is_ack log extent None h heard = absurd (cc)
-is_ack log extent (Some (Confirmed segmented size invoke service parameters)) h heard = absurd (cc)
-is_ack log extent (Some (Unconfirmed service parameters)) h heard = absurd (cc)
-is_ack log extent (Some (Simple invoke service)) h heard = absurd (cc)
-is_ack log extent (Some (Complex true invoke service parameters)) h heard = absurd (cc)
-is_ack log extent (Some (Complex false invoke service parameters)) h heard = acked log extent invoke service parameters (service == 26) refl h heard
-is_ack log extent (Some (SegmentAck invoke)) h heard = absurd (cc)
-is_ack log extent (Some (Error invoke service class code)) h heard = absurd (cc)
-is_ack log extent (Some (Reject invoke reason)) h heard = absurd (cc)
-is_ack log extent (Some (Abort by_server invoke reason)) h heard = absurd (cc)
 
 -- ---- an exchange
 
@@ -190,7 +172,7 @@ honest_delivers asks stands = λ path retries old new w after steps came items e
 
 -- ---- what a run delivers
 
-as_ended : (why : Why) (steps n : ℕ) (ended : Ended) → IsRunOf why steps n ended → ended ≡ ended_of why
+pub as_ended : (why : Why) (steps n : ℕ) (ended : Ended) → IsRunOf why steps n ended → ended ≡ ended_of why
 as_ended WasUp steps n ended run = run.1
 as_ended WasLimit steps n ended run = run.1
 as_ended (WasFault e) steps n ended run = run.1
@@ -211,7 +193,7 @@ delivers_said {S = S} asks path retries old new w after steps items ended (came,
       ran.0,
       ran.1,
       answers_of came,
-      record { start = ran.2; reached = ran.4.0; leads = ran.4.1; dropped = cut.0; all = cut.1; whole = cut.2 },
+      record { start = ran.2; reached = ran.4.0; leads = ran.4.1; dropped = cut.0; all = cut.1; whole = cut.2; within = cut.3 },
       ran.3,
       subst C (sym (answers_came came)) ran.5,
       subst L (sym (answers_came came)) (
@@ -269,6 +251,17 @@ up_joined fresh resumed t count M xs ys is old up =
         let e : suc n + i ≡ suc (n + i) = omega arith in
         ap (λ k. drop k (x ∷ (xs ++ ys))) e ∙ drop_both xs ys n i (omega (arith, is))
 
+-- the last answer of two runs is that of the second
+ends_behind : (item : Item) (rest : List Item) (xs ys : List (List Item)) → EndsWith item rest ys → EndsWith item rest (xs ++ ys)
+ends_behind item rest [] ys ends = ends
+ends_behind item rest (x ∷ []) [] ends = absurd ends
+ends_behind item rest (x ∷ []) (y ∷ ys) ends = ends
+ends_behind item rest (x ∷ z ∷ xs) ys ends = ends_behind item rest (z ∷ xs) ys ends
+
+cut_behind : (items more rest : List Item) (xs ys : List (List Item)) → IsCutIn more rest ys → IsCutIn (items ++ more) rest (xs ++ ys)
+cut_behind items more rest xs ys (before, item, is, ends) =
+    (items ++ before, item, ap (λ l. items ++ l) is ∙ sym (append_assoc items before (item ∷ [])), ends_behind item rest xs ys ends)
+
 pub said_joins : {S : Type 0} (asks : Asking S) (path : Path) (old half new : S) (w mid resumed after : WalkPlace) (xs ys : List Item) (e f : Ended) →
     DeliversSaid asks path old w xs e mid half → DeliversSaid asks path half resumed ys f after new → resumed.log ≡ w.log → resumed.next ≡ mid.next → resumed.fresh ≡ false → w.fresh ≡ false →
     DeliversSaid asks path old w (xs ++ ys) f after new
@@ -305,6 +298,7 @@ said_joins {S = S} asks path old half new w mid resumed after xs ys e f first se
         dropped = b.3.dropped;
         all = append_assoc xs ys b.3.dropped ∙ ap (λ l. xs ++ l) b.3.all ∙ ap (λ l. l ++ items_of b.2) (sym one.2) ∙ sym (flat_map-append (λ (l : List Item). l) one.0 b.2);
         whole = b.3.whole;
+        within = λ stopped. cut_behind xs ys b.3.dropped one.0 b.2 (b.3.within stopped);
       },
       b.4,
       subst C (sym counted) (joined H s a.1 b.1 count more M xs ys one two),

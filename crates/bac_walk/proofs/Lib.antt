@@ -31,8 +31,13 @@ pub mod Came
 pub mod Brought
 pub mod Own
 pub mod Joined
+pub mod Transacted
+pub mod TransactedRuns
+pub mod Late
 pub mod Counted
+pub mod Ack
 pub mod Honest
+pub mod Growing
 pub mod Ours
 pub mod Back
 pub mod Window

@@ -17,7 +17,7 @@ use Rattle.bac_walk.specs.declared.outcome.Ended.{Ended}
 use Rattle.bac_walk.specs.declared.outcome.Ended.TheVariants.{CaughtUp, StepLimit, Stopped, Fault}
 use Rattle.bac_walk.specs.declared.outcome.WalkFault.TheVariants.{Lost, Refused, BadReply}
 use Rattle.bac_link.specs.Moments.{NeverGoesBack}
-use Rattle.bac_walk.specs.Came.{Came, Comes, AreSaidAt, Brought, answers_of}
+use Rattle.bac_walk.specs.Came.{Came, Comes, AreSaidAt, Brought, IsCutIn, answers_of}
 use Rattle.bac_walk.specs.Collects.{IsCaughtUp, start_of}
 use Rattle.bac_link.specs.Moments.{AreInWindow}
 use Rattle.bac_walk.specs.Near.{IsNear}
@@ -60,7 +60,8 @@ IsLeftAt {S = S} asks path log H low old new M a =
 
 -- What the replies to a run brought, one after the other: each what the log held at its moment, from the ordinal b on.
 -- That is the walk's, or of a walk from the oldest record the oldest that was held when the first batch was given, which
--- so has no gap before it. The items of the run are these, but where a record was refused those up to it.
+-- so has no gap before it. The items of the run are these, but where a record was refused those up to it, which lies in
+-- the last reply: the rest of that is dropped.
 pub record AreBroughtFrom (H : History) (M : List Moment) (fresh : Bool) (s b : ℕ) (answers : List (List Item))
     (ended : Ended) (items : List Item) : Type 0 where
   pub start : b ≡ start_of fresh s M answers
@@ -69,6 +70,7 @@ pub record AreBroughtFrom (H : History) (M : List Moment) (fresh : Bool) (s b : 
   pub dropped : List Item
   pub all : items ++ dropped ≡ items_of answers
   pub whole : (ended ≡ Stopped → ⊥) → dropped ≡ []
+  pub within : ended ≡ Stopped → IsCutIn items dropped answers
 
 -- What a run delivers over a link that is honest for its log from the moments M on: from the ordinal of the walk's
 -- number on, or from the oldest, the records that the log holds when each is reached. So many answers use up as many

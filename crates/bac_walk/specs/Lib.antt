@@ -18,7 +18,9 @@ pub mod Kept
 pub mod Told
 pub mod Runs
 pub mod Came
+pub mod Transacted
 pub mod Honest
+pub mod Growing
 pub mod Meant
 pub mod Follows
 pub mod Flaws

@@ -15,6 +15,8 @@ ghost use Rattle.bac_walk.specs.Outcomes.{IsRunOf};
 ghost use Rattle.bac_walk.specs.Rests.{rest, Rests, Misses};
 ghost use Rattle.bac_walk.specs.Told.{Told, ended_of};
 ghost use Rattle.bac_walk.specs.Came.{Came, Brought};
+ghost use Rattle.bac_walk.specs.Transacted.{BroughtBy};
+ghost use Rattle.bac_walk.specs.Growing.{DeliversGrowing};
 ghost use Rattle.bac_walk.specs.Honest.{DeliversSaid};
 
 use crate::batch::{Gap, Numbered};
@@ -86,12 +88,21 @@ pub fn collect<L: LogLink>(
     ensures brought { (n : ℕ) × (ended : EndedOf) × IsRunOf result.why steps n ended
         × ((came : List Came) × Brought L.asks (towards transactions.old.route) transactions.old.retries link.old walk.old n came
         result.items.items ended walk.new link.new) }
+    // Each exchange is the next of the transactions, and none is open after it: two replies a batch at
+    // most, and two more.
+    ensures transacted { (n : ℕ) × (ended : EndedOf) × IsRunOf result.why steps n ended
+        × ((came : List Came) × BroughtBy L.asks transactions.old link.old walk.old n came
+        result.items.items ended walk.new transactions.new link.new) }
     // The headline: over a link that is honest for the log, whatever records it holds and however it
     // encodes them, it delivers the records from its number on that the log holds when each is
     // reached, each once, in rising order, with one exact gap for what is gone; and the only fault
     // is a loss. The number is that of ordinal s; it and all moments lie within half of the count
     // from one ordinal on.
     ensures headline { DeliversSaid L.asks (towards transactions.old.route) link.old walk.old result.items.items (ended_of result.why) walk.new link.new }
+    // So it does over a link that stays honest while its log goes on, between any two asks, and that may
+    // lose any: for as many asks as these steps may make, and then for the asks that are left.
+    ensures growing { DeliversGrowing L.asks (towards transactions.old.route) transactions.old.retries link.old walk.old steps
+        result.items.items (ended_of result.why) walk.new link.new }
     // Over a link of ours it does so too, and the link is ours still, at the moments that are left.
     ensures ours { (r : ℕ) (M : List Moment) (H : History) (s low : ℕ) →
         L.is_ours link.old walk.old.log r M H → walk.old.next ≡ sequence_number s →

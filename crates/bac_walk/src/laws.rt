@@ -1,15 +1,18 @@
 //! Laws of what a walk delivers: on lists alone, and of runs over any link.
-ghost use Rattle.std.specs.Prelude.{◌≡◌, ℕ, List};
+ghost use Rattle.std.specs.Prelude.{◌≡◌, ℕ, ◌≤◌, List};
 ghost use Rattle.bac_wire.specs.Primitive.{Id};
 ghost use Rattle.bac_link.specs.Delivery.{History, Moment};
+ghost use Rattle.bac_link.specs.Growing.{Standing, StaysHonest};
 ghost use Rattle.bac_link.specs.Honest.{IsHonest};
 ghost use Rattle.bac_link.specs.Path.{Path};
 ghost use Rattle.bac_walk.specs.Came.{BroughtIsDelivered, CameIsDelivered, LostIsAsked, NothingCame, OwnIsSaid, SaidIsTaken};
 ghost use Rattle.bac_walk.specs.Flaws.{BadRepliesHaveFlaws, FlawsAreRefused};
 ghost use Rattle.bac_walk.specs.Follows.{BroughtGoes, BroughtTells};
+ghost use Rattle.bac_walk.specs.Growing.{GrowingIsDelivered, OursStayHonest};
 ghost use Rattle.bac_walk.specs.Meant.{SaidMeans};
 ghost use Rattle.bac_walk.specs.Near.{StaysInWindow, WindowsAreNear};
 ghost use Rattle.bac_walk.specs.Rests.{RestsAll, RestResumes};
+ghost use Rattle.bac_walk.specs.Transacted.{LateRepliesAreLeft, RepliesAnswer, TransactedIsBounded, TransactedIsBrought};
 ghost use Rattle.bac_walk.specs.Runs.{CollectedIsDelivered, RunsDeliver, RunsJoin};
 ghost use Rattle.bac_walk.specs.Honest.{OursAreHonest, MomentsNeverGoBack, NumbersHaveOrdinals, RepliesAreLoggable};
 ghost use Rattle.bac_walk.specs.Honest.{HonestIsDelivered};
@@ -84,6 +87,29 @@ pub fn brought_is_delivered<L: LogLink>()
     ensures { BroughtIsDelivered L.asks }
 {}
 
+/// What came by transactions, as `collect` and `deliver` tell it of those that they were given, came
+/// over the link.
+pub fn transacted_is_brought<L: LogLink>()
+    ensures { TransactedIsBrought L.asks }
+{}
+
+/// Of such transactions at most two a step were begun.
+pub fn transacted_is_bounded<L: LogLink>()
+    ensures { TransactedIsBounded L.asks }
+{}
+
+/// Each reply of such a run answers its own question, whose invoke ID is the next after that of the
+/// question before it.
+pub fn replies_answer<L: LogLink>()
+    ensures { RepliesAnswer L.asks }
+{}
+
+/// A reply that answers an earlier question of the run, as one that is late or was sent twice, isn't
+/// taken for a later one before 256 transactions were begun.
+pub fn late_replies_are_left<L: LogLink>()
+    ensures { LateRepliesAreLeft L.asks }
+{}
+
 /// What came tells why: whoever answers, a run as `collect` and `deliver` tell it ended by its last
 /// exchange, which told the fault, or that there is no more.
 pub fn brought_tells_why<L: LogLink>()
@@ -115,9 +141,23 @@ pub fn honest_is_delivered<L: LogLink>()
     ensures honest { (path : Path) (log : Id) (H : History) (low : ℕ) → HonestIsDelivered L.asks (λ link M. IsHonest L.asks path log H low link M) }
 {}
 
+/// The same where the log goes on and any ask may be lost: over a link that stays honest for as many
+/// asks as a run may make, from where the log stands, or from where any function tells that it
+/// does, for as many asks as another tells, a run delivers what the log holds when each reply is
+/// given, and ends with no fault but a loss.
+pub fn growing_is_delivered<L: LogLink>()
+    ensures told { (standing : L → Standing) (most : L → ℕ) → GrowingIsDelivered L.asks (λ more link at. (standing link ≡ at) × (more ≤ most link)) }
+    ensures honest { (path : Path) (log : Id) (low : ℕ) → GrowingIsDelivered L.asks (λ more link at. StaysHonest L.asks path log low more link at) }
+{}
+
 /// A link is honest for each log for which it is ours.
 pub fn ours_are_honest<L: LogLink>()
     ensures { OursAreHonest L.asks (λ link id r M H. L.is_ours link id r M H) }
+{}
+
+/// And it stays honest for it, for however many asks.
+pub fn ours_stay_honest<L: LogLink>()
+    ensures { OursStayHonest L.asks (λ link id r M H. L.is_ours link id r M H) }
 {}
 
 /// Over a link of ours that brought a reply, all that its log holds at the next moment is loggable.

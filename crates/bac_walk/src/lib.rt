@@ -26,10 +26,12 @@ pub use flaw::ReplyFlaw;
 pub use kept::collect;
 pub use laws::{
     bad_replies_have_flaws, brought_goes_on, brought_is_delivered, brought_tells_why,
-    came_is_delivered, collected_is_delivered, flaws_are_refused, honest_is_delivered,
-    lost_is_asked, moments_never_go_back, nothing_came, numbers_have_ordinals, ours_are_honest,
-    own_is_said, replies_are_loggable, rest_resumes, rests_all, runs_deliver, runs_join,
-    runs_stay_in_their_window, said_is_taken, said_means, windows_are_near,
+    came_is_delivered, collected_is_delivered, flaws_are_refused, growing_is_delivered,
+    honest_is_delivered, late_replies_are_left, lost_is_asked, moments_never_go_back, nothing_came,
+    numbers_have_ordinals, ours_are_honest, ours_stay_honest, own_is_said, replies_answer,
+    replies_are_loggable, rest_resumes, rests_all, runs_deliver, runs_join,
+    runs_stay_in_their_window, said_is_taken, said_means, transacted_is_bounded,
+    transacted_is_brought, windows_are_near,
 };
 pub use outcome::{BadReply, Ended, Outcome, Progress, Step, WalkFault, Why};
 pub use resume::stop_and_resume;

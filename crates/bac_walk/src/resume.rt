@@ -5,6 +5,8 @@ ghost use Rattle.bac_log.specs.TrendLog.{sequence_number};
 ghost use Rattle.bac_link.specs.Delivery.{History, Moment, DeliversTo};
 ghost use Rattle.bac_link.specs.Path.{towards};
 ghost use Rattle.bac_walk.specs.Came.{BroughtInto};
+ghost use Rattle.bac_link.specs.declared.transactions.Transactions.{Transactions as TransactionsOf};
+ghost use Rattle.bac_walk.specs.Transacted.{BroughtIntoBy};
 ghost use Rattle.bac_walk.specs.Place.{WalkPlace, walk_at};
 ghost use Rattle.bac_link.specs.Moments.{AreInWindow};
 ghost use Rattle.bac_walk.specs.Sinks.{Call, Takes, put_items, is_stopped};
@@ -44,6 +46,10 @@ pub fn stop_and_resume<L: LogLink, S: Sink, R: Sink>(
     ensures brought { (here : WalkPlace) × (half : L)
         × BroughtInto L.asks (towards transactions.old.route) transactions.old.retries S.puts link.old sink.old walk.old steps result.0 here sink.new half
         × BroughtInto L.asks (towards transactions.old.route) transactions.old.retries R.puts half rest.old (walk_at here.log here.next) more result.1 walk.new rest.new link.new }
+    // The second went on with the transactions as the first left them.
+    ensures transacted { (here : WalkPlace) × (half : L) × (between : TransactionsOf)
+        × BroughtIntoBy L.asks transactions.old S.puts link.old sink.old walk.old steps result.0 here sink.new between half
+        × BroughtIntoBy L.asks between R.puts half rest.old (walk_at here.log here.next) more result.1 walk.new rest.new transactions.new link.new }
 {
     let first = deliver(link, transactions, walk, steps, sink);
     let Some(resumed) = Walk::from_number(walk.log(), walk.next_number()) else {

@@ -14,6 +14,8 @@ ghost use Rattle.bac_walk.specs.Spelled.{IsWhole, records_from};
 ghost use Rattle.bac_walk.specs.Collects.{FoundEnd, MissingEnd};
 ghost use Rattle.bac_walk.specs.Told.{Told};
 ghost use Rattle.bac_walk.specs.Came.{BroughtInto};
+ghost use Rattle.bac_walk.specs.Transacted.{BroughtIntoBy};
+ghost use Rattle.bac_walk.specs.Growing.{DeliversGrowing};
 ghost use Rattle.bac_walk.specs.Honest.{DeliversSaid};
 
 use crate::batch::{Gap, Numbered};
@@ -59,12 +61,19 @@ pub fn deliver<L: LogLink, S: Sink>(
     ensures told { Told L.asks (towards transactions.old.route) transactions.old.retries result walk.new link.new }
     // Over any link: what came, and that what is put is what these replies brought.
     ensures brought { BroughtInto L.asks (towards transactions.old.route) transactions.old.retries S.puts link.old sink.old walk.old steps result walk.new sink.new link.new }
+    // Each exchange is the next of the transactions, and none is open after it: two replies a batch at
+    // most, and two more.
+    ensures transacted { BroughtIntoBy L.asks transactions.old S.puts link.old sink.old walk.old steps result walk.new sink.new transactions.new link.new }
     // The headline: over a link that is honest for the log, whatever records it holds and however it
     // encodes them, it delivers the records from its number on that the log holds when each is
     // reached, each once, in rising order, with one exact gap for what is gone; and the only fault
     // is a loss.
     ensures headline { (calls : List Call) × Takes S.puts sink.old calls (is_stopped result) sink.new
         × DeliversSaid L.asks (towards transactions.old.route) link.old walk.old (put_items calls) result walk.new link.new }
+    // So it does over a link that stays honest while its log goes on, between any two asks, and that may
+    // lose any: for as many asks as these steps may make, and then for the asks that are left.
+    ensures growing { (calls : List Call) × Takes S.puts sink.old calls (is_stopped result) sink.new
+        × DeliversGrowing L.asks (towards transactions.old.route) transactions.old.retries link.old walk.old steps (put_items calls) result walk.new link.new }
     // Over a link of ours it does so too, and the link is ours still, at the moments that are left.
     ensures ours { (calls : List Call) × Takes S.puts sink.old calls (is_stopped result) sink.new
         × IsDelivered (λ r M H. L.is_ours link.old walk.old.log r M H) (λ r M H. L.is_ours link.new walk.old.log r M H)
@@ -111,6 +120,7 @@ fn deliver_step<L: LogLink, S: Sink>(
     ensures log { walk.new.log ≡ walk.old.log }
     ensures told { Told L.asks (towards transactions.old.route) transactions.old.retries result walk.new link.new }
     ensures brought { BroughtInto L.asks (towards transactions.old.route) transactions.old.retries S.puts link.old sink.old walk.old 1 result walk.new sink.new link.new }
+    ensures transacted { BroughtIntoBy L.asks transactions.old S.puts link.old sink.old walk.old 1 result walk.new sink.new transactions.new link.new }
     ensures delivers { Delivery S.puts sink.old sink.new
         (λ r M H. L.is_ours link.old walk.old.log r M H) (λ r M H. L.is_ours link.new walk.old.log r M H)
         transactions.old.retries (L.failures link.old) (L.failures link.new) walk.old walk.new 1 result }

@@ -13,7 +13,9 @@ ghost use Rattle.bac_link.specs.Heard.{heard_in};
 ghost use Rattle.bac_walk.specs.Replied.{IsSame, progress_of, step_of};
 ghost use Rattle.bac_walk.specs.Spelled.{data_held, records_from};
 ghost use Rattle.bac_walk.specs.Told.{Told, ToldTurn};
-ghost use Rattle.bac_walk.specs.Came.{Came, CameTurn, Brought};
+ghost use Rattle.bac_walk.specs.Came.{Came, Brought};
+ghost use Rattle.bac_walk.specs.Transacted.{TurnBy, BroughtBy, asked};
+ghost use Rattle.bac_walk.specs.Growing.{DeliversGrowing};
 ghost use Rattle.bac_walk.specs.Honest.{DeliversSaid};
 ghost use Rattle.bac_walk.specs.Walks.{IsTakenFrom};
 
@@ -69,7 +71,8 @@ impl Walk {
         ensures lacking { L.lacks link.old self.old.log →
             MissingTurn (progress_of result) × L.lacks link.new self.old.log × (L.is_sure link.old (towards transactions.old.route) → FoundTurn (progress_of result)) }
         ensures told { ToldTurn L.asks (towards transactions.old.route) transactions.old.retries self.old (progress_of result) self.new link.new }
-        ensures came { CameTurn L.asks (towards transactions.old.route) transactions.old.retries link.old self.old (progress_of result) self.new link.new }
+        ensures begins { transactions.new ≡ asked self.old transactions.old }
+        ensures came { TurnBy L.asks transactions.old link.old self.old (progress_of result) self.new link.new }
         ensures goes { (s : ℕ) → Goes self.old.fresh self.old.next s (turn_items (progress_of result)) self.new.fresh self.new.next }
         ensures ours { (r : ℕ) (M : List Moment) (H : History) (s : ℕ) →
             L.is_ours link.old self.old.log r M H → self.old.next ≡ sequence_number s → (self.old.fresh ≡ false → IsNear s (now M)) →
@@ -122,6 +125,9 @@ impl Walk {
         // Over any link: what came, and that the step is what these replies make.
         ensures brought { (came : List Came) × Brought L.asks (towards transactions.old.route) transactions.old.retries link.old self.old 1 came
             (step_items result) (step_ended result) self.new link.new }
+        // Each exchange is the next of the transactions, and none is open after it.
+        ensures transacted { (came : List Came) × BroughtBy L.asks transactions.old link.old self.old 1 came
+            (step_items result) (step_ended result) self.new transactions.new link.new }
         ensures goes { (s : ℕ) → Goes self.old.fresh self.old.next s (step_items result) self.new.fresh self.new.next }
         // So it does over a link of ours, if the walk is near at each answer.
         ensures near { (r : ℕ) (M : List Moment) (H : History) (s : ℕ) →
@@ -131,6 +137,9 @@ impl Walk {
         // Over a link that is honest for the log it delivers the next records that the log holds,
         // with the gap before them.
         ensures headline { DeliversSaid L.asks (towards transactions.old.route) link.old self.old (step_items result) (step_ended result) self.new link.new }
+        // So it does over one that stays honest while its log goes on, and may lose any ask.
+        ensures growing { DeliversGrowing L.asks (towards transactions.old.route) transactions.old.retries link.old self.old 1
+            (step_items result) (step_ended result) self.new link.new }
         // The walk is at ordinal s before the step, near its log, and at t after it.
         ensures ours { (r : ℕ) (M : List Moment) (H : History) (s : ℕ) →
             L.is_ours link.old self.old.log r M H → self.old.next ≡ sequence_number s → (self.old.fresh ≡ false → IsNearStep s M) →
@@ -166,6 +175,8 @@ impl Walk {
         ensures told { Told L.asks (towards transactions.old.route) transactions.old.retries (step_ended (step_of result)) self.new link.new }
         ensures brought { (came : List Came) × Brought L.asks (towards transactions.old.route) transactions.old.retries link.old self.old 1 came
             (step_items (step_of result)) (step_ended (step_of result)) self.new link.new }
+        ensures transacted { (came : List Came) × BroughtBy L.asks transactions.old link.old self.old 1 came
+            (step_items (step_of result)) (step_ended (step_of result)) self.new transactions.new link.new }
         ensures goes { (s : ℕ) → Goes self.old.fresh self.old.next s (step_items (step_of result)) self.new.fresh self.new.next }
         ensures ours { (r : ℕ) (M : List Moment) (H : History) (s : ℕ) →
             L.is_ours link.old self.old.log r M H → self.old.next ≡ sequence_number s → (self.old.fresh ≡ false → IsNearStep s M) →

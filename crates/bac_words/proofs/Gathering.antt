@@ -3,7 +3,7 @@ use Rattle.std.proofs.Common.{◌≡◌, ℕ, List, ◌∷◌, ◌++◌, None, R
 use Rattle.clap.specs.Words.{Text}
 use Rattle.bac_words.specs.declared.word.Word.{Word}
 use Rattle.bac_words.specs.declared.word.Word.TheVariants.{Address}
-use Rattle.bac_words.specs.Addresses.{address_in}
+use Rattle.bac_words.specs.Networks.{stations_of}
 use Rattle.bac_words.specs.Rows.{addresses_in}
 
 -- what was read stands before what is read of the rest
@@ -11,7 +11,7 @@ abbrev pub ahead : List (List ℕ) → Result (List (List ℕ)) Word → Result 
 ahead done (Ok rest) = Ok (done ++ rest)
 ahead done (Err w) = Err w
 
--- a text is no address
-pub wrong : (done : List (List ℕ)) (text : Text) (texts : List Text) → address_in text ≡ None
+-- a text says no station
+pub wrong : (done : List (List ℕ)) (text : Text) (texts : List Text) → stations_of text ≡ None
     → ahead done (addresses_in (text ∷ texts)) ≡ Err Address
 wrong done text texts e = rw e refl

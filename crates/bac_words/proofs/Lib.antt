@@ -1,3 +1,4 @@
 pub mod Gathering
+pub mod Hosting
 pub mod Answering
 pub mod OnLiterals

@@ -3,6 +3,7 @@ pub mod Commands
 pub mod Numbers
 pub mod Chains
 pub mod Addresses
+pub mod Networks
 pub mod Given
 pub mod Steps
 pub mod Rows

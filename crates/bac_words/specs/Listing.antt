@@ -1,27 +1,26 @@
--- Addresses that stand in lines, one in each. Read from the end.
-use Rattle.std.specs.Prelude.{◌≡◌, ℕ, ◌+◌, ◌==◌, nat_lt, if◌then◌else◌, List, [], ◌∷◌, ◌++◌, length, Option, None, Some}
-use Rattle.std.specs.Prelude.{option_map, Result, Ok, Err}
+-- Addresses that stand in lines, one or a network in each. Read from the end.
+use Rattle.std.specs.Prelude.{◌≡◌, ℕ, ◌+◌, ◌==◌, nat_le, if◌then◌else◌, List, [], ◌∷◌, ◌++◌, length, Option, None, Some}
+use Rattle.std.specs.Prelude.{Result, Ok, Err}
 use Rattle.std.specs.Str.Lines.{strip_carriage_return}
-use Rattle.bac_words.specs.Addresses.{address_in}
+use Rattle.bac_words.specs.Networks.{stations_of}
 use Rattle.bac_words.specs.declared.listing.ListFault.{ListFault}
 use Rattle.bac_words.specs.declared.listing.ListFault.TheVariants.{BadLine, TooMany, Empty, TooLong, Read, Memory}
 
--- an address; or nothing, of an empty line and of one that begins with # (35); or neither
-abbrev pub said_in : List ℕ → Option (Option (List ℕ))
-said_in [] = Some None
-said_in (c ∷ cs) = if c == 35 then Some None else option_map (λ address. Some address) (address_in (c ∷ cs))
+-- the stations that a line says; none of an empty line and of one that begins with # (35)
+abbrev pub said_in : List ℕ → Option (List (List ℕ))
+said_in [] = Some []
+said_in (c ∷ cs) = if c == 35 then Some [] else stations_of (c ∷ cs)
 
 -- the addresses of all lines, behind those of the lines before: there has to be one
 abbrev pub all_listed : List (List ℕ) → Result (List (List ℕ)) ListFault
 all_listed [] = Err Empty
 all_listed (address ∷ more) = Ok (address ∷ more)
 
--- with what this line says, which is at most the 4096th address
-abbrev pub with_said : List (List ℕ) → ℕ → Option (Option (List ℕ)) → Result (List (List ℕ)) ListFault
+-- with the stations that this line says, which are the 4096th at most
+abbrev pub with_said : List (List ℕ) → ℕ → Option (List (List ℕ)) → Result (List (List ℕ)) ListFault
 with_said list number None = Err (BadLine number)
-with_said list number (Some None) = Ok list
-with_said list number (Some (Some address)) =
-    if nat_lt (length list) 4096 then Ok (list ++ address ∷ []) else Err (TooMany number)
+with_said list number (Some more) =
+    if nat_le (length (list ++ more)) 4096 then Ok (list ++ more) else Err (TooMany number)
 
 -- the same of the lines behind it, unless this one is at fault
 abbrev pub go_on : Result (List (List ℕ)) ListFault → (List (List ℕ) → Result (List (List ℕ)) ListFault)

@@ -1,5 +1,5 @@
 -- What the rows of a tool's matches say of a word or an option.
-use Rattle.std.specs.Prelude.{ℕ, Bool, false, List, [], ◌∷◌, length, nat_le, ◌&&◌, if◌then◌else◌, Option, None, Some}
+use Rattle.std.specs.Prelude.{ℕ, Bool, false, List, [], ◌∷◌, ◌++◌, length, nat_le, ◌&&◌, if◌then◌else◌, Option, None, Some}
 use Rattle.std.specs.Prelude.{Result, Ok, Err, option_and_then, unwrap_or, codes}
 use Rattle.std.specs.Str.{bytes_eq}
 use Rattle.std.specs.Option.{ok_or}
@@ -14,6 +14,7 @@ use Rattle.bac_words.specs.declared.word.Word.TheVariants.{Address, Local, Dnet,
 use Rattle.bac_words.specs.Names.{is_number, name_of}
 use Rattle.bac_words.specs.Numbers.{is_long, number_in}
 use Rattle.bac_words.specs.Addresses.{address_in}
+use Rattle.bac_words.specs.Networks.{stations_of}
 use Rattle.bac_words.specs.Steps.{◌>>=◌}
 
 -- what a word says, if it is there
@@ -46,13 +47,13 @@ address_at rows = ok_or (option_and_then address_in (text_at Address rows)) Addr
 abbrev pub local_at : List Row → Result (Option (List ℕ)) Word
 local_at rows = ok_or (maybe address_in (text_at Local rows)) Local
 
--- each text is an address
+-- the stations that each text says
 abbrev pub addresses_in : List Text → Result (List (List ℕ)) Word
 addresses_in [] = Ok []
 addresses_in (text ∷ texts) = do
-  address ← ok_or (address_in text) Address
-  addresses ← addresses_in texts
-  Ok (address ∷ addresses)
+  stations ← ok_or (stations_of text) Address
+  more ← addresses_in texts
+  Ok (stations ++ more)
 
 -- the one text is - (45), which stands for the lines of standard input
 abbrev pub is_input : List Text → Bool
@@ -60,7 +61,7 @@ is_input [] = false
 is_input (text ∷ []) = bytes_eq text (codes "-")
 is_input (text ∷ other ∷ more) = false
 
--- the lines of standard input, or the addresses of these texts
+-- the lines of standard input, or the stations of these texts
 abbrev pub stations_in : List Text → Result Stations Word
 stations_in texts =
     if is_input texts then Ok Input else

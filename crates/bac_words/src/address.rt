@@ -17,7 +17,7 @@ fn place(word: &[u8], mark: u8) -> Option<usize>
 }
 
 /// What stands before and after the first such octet.
-fn cut(word: &[u8], mark: u8) -> Option<(&[u8], &[u8])>
+pub(crate) fn cut(word: &[u8], mark: u8) -> Option<(&[u8], &[u8])>
     ensures { option_map (λ x. (x.0.now, x.1.now)) result ≡ cut mark word.now }
 {
     match place(word, mark) {

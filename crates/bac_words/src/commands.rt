@@ -9,13 +9,43 @@ use crate::word::Word;
 use clap::{Arg, Command};
 use std::alloc::{AllocError, Global};
 
+/// A text, and what the numbers of a refusal mean.
+macro_rules! with_refusals {
+    ($($text:literal),*) => {
+        concat!(
+            $($text,)*
+            "
+  error     1 31 unknown object; 2 32 unknown property;
+            2 42 invalid array index; 2 50 property is not an array;
+            2 27 read access denied; 2 40 write access denied;
+            2 9 invalid data type; 2 37 value out of range;
+            2 47 datatype not supported; 5 7 inconsistent parameters;
+            5 22 property is not a list; 5 29 service request denied
+  reject    0 other; 1 buffer overflow; 2 inconsistent parameters;
+            3 invalid parameter data type; 4 invalid tag;
+            5 missing required parameter; 6 parameter out of range;
+            7 too many arguments; 8 undefined enumeration;
+            9 unrecognized service
+  abort     0 other; 1 buffer overflow; 2 invalid APDU in this state;
+            3 preempted by higher priority task;
+            4 segmentation not supported; 5 security error;
+            6 insufficient security; 7 window size out of range;
+            8 application exceeded reply time; 9 out of resources;
+            10 TSM timeout; 11 APDU too long
+After abort 1, 4 or 11 the answer is too long for one datagram: an array can be
+read in parts, with --index=0 and on."
+        )
+    };
+}
+
 /// An example, and what the numbers mean that `rp` and `wp` take and print.
 macro_rules! with_numbers {
     ($example:literal) => {
-        concat!(
+        with_refusals!(
             $example,
-            "\n\n",
-            "The numbers that are typed and printed:
+            "
+
+The numbers that are typed and printed, 'error' with its class and its code:
 
   TYPE      0, 1, 2 Analog Input, Output, Value; 3, 4, 5 Binary Input, Output,
             Value; 8 Device; 13, 14, 19 Multi-state Input, Output, Value;
@@ -24,15 +54,7 @@ macro_rules! with_numbers {
             77 Object_Name; 79 Object_Type; 81 Out_Of_Service;
             85 Present_Value; 87 Priority_Array; 104 Relinquish_Default;
             111 Status_Flags; 117 Units; 131 Log_Buffer; 133 Enable;
-            134 Log_Interval; 141 Record_Count; 145 Total_Record_Count
-  error     1 31 unknown object; 2 32 unknown property;
-            2 42 invalid array index; 2 50 not an array;
-            2 27 read access denied; 2 40 write access denied;
-            2 9 invalid data type; 2 37 value out of range; 5 22 not a list
-  reject    3 invalid data type; 4 invalid tag; 5 missing parameter;
-            6 parameter out of range; 7 too many arguments;
-            9 unrecognized service
-  abort     4 segmentation not supported: too long for one datagram"
+            134 Log_Interval; 141 Record_Count; 145 Total_Record_Count"
         )
     };
 }
@@ -140,7 +162,7 @@ fn replay<'a>(alloc: Global) -> Command<'a>
     ensures { IsCommand (new_app (codes "replay")) result }
 {
     let about = "Run the script on standard input against a device in memory";
-    let example = "Example: bac replay < room.script";
+    let example = "Example: bac replay < examples/scripts/walk.script";
     tool(alloc, "replay", about, example)
 }
 
@@ -150,9 +172,13 @@ fn wi<'a>(alloc: Global) -> Result<Command<'a>, AllocError>
     let about = "Find devices: send Who-Is to each address and print each I-Am";
     let example = "Example: bac wi 192.168.1.20 192.168.1.21:47809 --min=100 --max=199
 asks both stations, and only devices 100 to 199 answer. --min alone means both.
-bac wi - < stations asks those of a file: at most 4096, an address a line.";
+bac wi 192.168.1.0/24 asks each host of that network: 20 to 32 bits, and no
+network address and no broadcast address below 31.
+bac wi - < stations asks those of a file: at most 4096, an address or a network
+a line.
+Devices that answer by broadcast are heard with --local=0.0.0.0:47808.";
     let command = tool(alloc, "wi", about, example);
-    let help = "The stations to ask: A.B.C.D or A.B.C.D:PORT (port 47808)";
+    let help = "The stations to ask: A.B.C.D[:PORT], or with /N a network";
     let command = with(command, needed_list(alloc, Word::Address, help))?;
     let help = "The lowest instance that is to answer: 0 to 4194303";
     let command = with(command, option(alloc, Word::Min, "N", help))?;
@@ -169,7 +195,11 @@ fn rp<'a>(alloc: Global) -> Result<Command<'a>, AllocError>
     let about = "Read a property and print its values, one a line";
     let example = with_numbers!(
         "Example: bac rp 192.168.1.20 8 123 77
-prints the name (property 77) of device 123 (object type 8)."
+prints the name (property 77) of device 123 (object type 8). Instance 4194303
+is any device: bac rp 192.168.1.20 8 4194303 76 lists the objects of one whose
+instance isn't known. chars(SET,HEX) is a text that isn't printed as itself:
+SET 0 is UTF-8 (with quotes or control characters), 1 DBCS, 2 JIS X 0208,
+3 UCS-4, 4 UCS-2, 5 ISO 8859-1."
     );
     let command = with_property(alloc, tool(alloc, "rp", about, example))?;
     let help = "An element of an array; 0 is the number of elements";
@@ -205,7 +235,8 @@ fn log<'a>(alloc: Global) -> Result<Command<'a>, AllocError>
     ensures { IfOk result (IsCommand log_app) }
 {
     let about = "Fetch the records of a trend log, each once";
-    let example = "Example: bac log 192.168.1.20 1 oldest
+    let example = with_refusals!(
+        "Example: bac log 192.168.1.20 1 oldest
 prints each record that trend log 1 holds, and at the end which number is next:
 
   41 2024-05-06T07:08:09.10 enum(0) 0000
@@ -215,7 +246,22 @@ prints each record that trend log 1 holds, and at the end which number is next:
 bac log 192.168.1.20 1 43 then fetches what was logged since. Begin again at
 the number that was next after 'lost' or 'step limit', too: no record is lost or
 comes twice. A line 'gap 43 50' tells the numbers that the log no longer held.
-After 'bad reply' a line on standard error says what is wrong with the reply.";
+After 'bad reply' a line on standard error says what is wrong with the reply.
+
+FLAGS are in-alarm, fault, overridden and out-of-service, each 0 or 1; or - if
+the record has none. VALUE is a number, or one of
+
+  enum(N), null    Enumerated N; Null
+  real(HEX)        a REAL, as its four octets: 41c80000 is 25
+  bits(0110)       a Bit String; bits[N] is one of N bits, more than 32
+  any[N]           a value of another type, of which the N octets aren't kept
+  status(010)      of the log: log-disabled, buffer-purged, log-interrupted
+  failure(C,D)     no value: reading it gave the error of class C and code D
+  time-change(HEX) the device's clock was set, by so many seconds (a REAL)
+
+A refusal has a line on standard error that says what it means. 'error' is
+printed with its class and its code:"
+    );
     let command = tool(alloc, "log", about, example);
     let help = "The device: A.B.C.D or A.B.C.D:PORT (port 47808)";
     let command = with(command, needed(alloc, Word::Address, help))?;
@@ -232,8 +278,8 @@ fn serve<'a>(alloc: Global) -> Result<Command<'a>, AllocError>
     ensures { IfOk result (IsCommand serve_app) }
 {
     let about = "Be the device that standard input describes, with a clock in UTC";
-    let example = "Example: bac serve 127.0.0.1:47809 < room.device
-where room.device has configuration lines of a script: device, binary, log ..";
+    let example = "Example: bac serve 127.0.0.1:47809 < examples/use/plant.conf
+where plant.conf has configuration lines of a script: device, binary, log ..";
     let command = tool(alloc, "serve", about, example);
     let help = "Our own address: A.B.C.D or A.B.C.D:PORT (port 47808)";
     let command = with(command, needed(alloc, Word::Address, help))?;

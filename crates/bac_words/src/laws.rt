@@ -14,6 +14,10 @@ pub fn lines_say_jobs()
     ensures replay { Says (codes "bac replay") (Ok Replay) }
     ensures wi { Says (codes "bac wi 10.0.0.1 10.0.0.2:258 --min=5 --timeout=60000")
         (Ok (Wi (Listed (station ∷ (10 ∷ 0 ∷ 0 ∷ 2 ∷ 1 ∷ 2 ∷ []) ∷ [])) (Some 5) None None None 60000)) }
+    ensures subnet { Says (codes "bac wi 10.0.0.1:258/30")
+        (Ok (Wi (Listed ((10 ∷ 0 ∷ 0 ∷ 1 ∷ 1 ∷ 2 ∷ []) ∷ (10 ∷ 0 ∷ 0 ∷ 2 ∷ 1 ∷ 2 ∷ []) ∷ [])) None None None None 3000)) }
+    ensures pair { Says (codes "bac wi 10.0.0.1/31")
+        (Ok (Wi (Listed ((10 ∷ 0 ∷ 0 ∷ 0 ∷ 186 ∷ 192 ∷ []) ∷ station ∷ [])) None None None None 3000)) }
     ensures input { Says (codes "bac wi - --timeout=500") (Ok (Wi Input None None None None 500)) }
     ensures rp { Says (codes "bac rp 10.0.0.1 8 123 77") (Ok (Rp by_default 8 123 77 None)) }
     ensures wp { Says (codes "bac wp 10.0.0.1 45 1 85 16 3 --value=-5")
@@ -34,6 +38,8 @@ pub fn lines_say_bad_values()
     ensures input { Says (codes "bac wi - 10.0.0.1") (Err Address) }
     ensures host { Says (codes "bac rp 10.0.0.256 8 123 77") (Err Address) }
     ensures port { Says (codes "bac rp 10.0.0.1:0 8 123 77") (Err Address) }
+    ensures network { Says (codes "bac wi 10.0.0.0/19") (Err Address) }
+    ensures one { Says (codes "bac rp 10.0.0.1/32 8 123 77") (Err Address) }
     ensures retries { Says (codes "bac rp 10.0.0.1 8 123 77 --retries=11") (Err Retries) }
     ensures from { Says (codes "bac log 10.0.0.1 7 0") (Err From) }
     ensures max { Says (codes "bac wi 10.0.0.1 --max=5") (Err Max) }

@@ -11,10 +11,12 @@ mod job;
 mod laws;
 mod listing;
 mod name;
+mod network;
 mod numbers;
 mod read;
 mod route;
 mod rows;
+mod said;
 mod tools;
 mod word;
 

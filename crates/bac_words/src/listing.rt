@@ -1,12 +1,14 @@
-//! Addresses that stand in lines, one in each.
+//! Addresses that stand in lines, one or a network in each.
 
-ghost use Rattle.std.specs.Prelude.{◌≡◌, ◌==◌, [], map, IfOk};
+ghost use Rattle.std.specs.Prelude.{◌≡◌, ◌==◌, [], map, option_map, IfOk};
 ghost use Rattle.std.specs.List.{slice_split};
 ghost use Rattle.std.specs.Str.Lines.{strip_carriage_return};
+ghost use Rattle.bac_words.specs.Networks.{said_stations};
 ghost use Rattle.bac_words.specs.Listing.{IsListed, Lists, listed as listed_in, said_in, with_said};
 
-use crate::address::address;
 use crate::addresses::Addresses;
+use crate::network::stations;
+use crate::said::Said;
 use std::alloc::{AllocError, Global};
 
 /// How many addresses a list has at most: as many datagrams `bac wi` takes.
@@ -17,7 +19,7 @@ pub const MOST_LISTED: usize = 4096;
 pub enum ListFault {
     /// This line, counted from 1, is no address.
     BadLine(usize),
-    /// The address of this line is one more than a list may have.
+    /// With this line there are more addresses than a list may have.
     TooMany(usize),
     /// There is no address.
     Empty,
@@ -46,29 +48,30 @@ fn without_return(line: &[u8]) -> &[u8]
     }
 }
 
-/// What a line says: an address, or nothing, if it is empty or begins with `#`.
-fn said(line: &[u8]) -> Option<Option<[u8; 6]>>
-    ensures { result ≡ said_in line.now }
+/// What a line says: stations, or nothing, if it is empty or begins with `#`.
+fn said(line: &[u8]) -> Option<Said>
+    ensures { option_map said_stations result ≡ said_in line.now }
 {
     if line.is_empty() || line[0] == b'#' {
-        return Some(None);
+        return Some(Said::Nothing);
     }
-    Some(Some(address(line)?))
+    stations(line)
 }
 
 /// Adds what a line with this number says.
 fn add_line(list: &mut Vec<[u8; 6]>, number: usize, line: &[u8]) -> Result<(), ListFault>
     ensures { IsListed (with_said list.old.items number (said_in line.now)) result list.new.items }
 {
-    match said(line) {
-        None => Err(ListFault::BadLine(number)),
-        Some(None) => Ok(()),
-        Some(Some(_)) if list.len() >= MOST_LISTED => Err(ListFault::TooMany(number)),
-        Some(Some(address)) => match list.push(address) {
-            Ok(()) => Ok(()),
-            Err(_) => Err(ListFault::Memory),
-        },
+    let Some(said) = said(line) else {
+        return Err(ListFault::BadLine(number));
+    };
+    if said.push_to(list).is_err() {
+        return Err(ListFault::Memory);
     }
+    if list.len() > MOST_LISTED {
+        return Err(ListFault::TooMany(number));
+    }
+    Ok(())
 }
 
 /// The addresses of these lines.
@@ -87,9 +90,9 @@ fn listed(alloc: Global, lines: &[&[u8]]) -> Result<Addresses, ListFault>
     Ok(Addresses::of(list))
 }
 
-/// The addresses of the lines of a text, one in each. A line ends with a line feed, before which a
-/// carriage return may stand; empty lines and those that begin with `#` are passed over. It is the
-/// first line that is neither, or that has an address more than 4,096, which is told.
+/// The addresses of the lines of a text, one or a network in each. A line ends with a line feed,
+/// before which a carriage return may stand; empty lines and those that begin with `#` are passed
+/// over. It is the first line that is neither, or that goes beyond 4,096 addresses, which is told.
 pub fn read_addresses(alloc: Global, text: &[u8]) -> Result<Addresses, ListFault>
     ensures { Lists (listed_in [] 1 (slice_split (λ c. c == 10) text.now)) result }
 {

@@ -9,6 +9,7 @@ use crate::address::address;
 use crate::addresses::Addresses;
 use crate::fault::WordsFault;
 use crate::job::Stations;
+use crate::network::stations;
 use crate::numbers::{is_long, number, octet, short};
 use crate::word::Word;
 use clap::ArgMatches;
@@ -113,18 +114,16 @@ pub(crate) fn local_at(matches: &ArgMatches) -> Result<Option<[u8; 6]>, Word>
     }
 }
 
-/// Each text as an address.
+/// The stations that each text says.
 fn addresses_in(alloc: Global, texts: &[&str]) -> Result<Addresses, WordsFault>
     ensures { Makes (addresses_in (map (λ text. text.now) texts.now)) result }
 {
     let mut list = Vec::new(alloc);
     for text in texts {
-        let Some(address) = address(text.as_bytes()) else {
+        let Some(said) = stations(text.as_bytes()) else {
             return Err(WordsFault::BadValue(Word::Address));
         };
-        if list.push(address).is_err() {
-            return Err(WordsFault::Memory);
-        }
+        said.push_to(&mut list)?;
     }
     Ok(Addresses::of(list))
 }

@@ -1,4 +1,4 @@
-use Rattle.std.proofs.Common.{◌≡◌, ℕ, Result, Ok, rules, sym, ap, subst}
+use Rattle.std.proofs.Common.{◌≡◌, ℕ, Result, Ok, Err, refl, rules, sym, ap, subst}
 use Rattle.std.proofs.lemmas.Result.{IfOk-weaker}
 use Rattle.bac_link.specs.Path.{Path, towards}
 use Rattle.bac_walk.specs.declared.outcome.Step.{Step}
@@ -29,3 +29,10 @@ returns-in-Ok-CaughtUp-clause-seen g c some =
       λ none. absurd (none (subst AsksOldest (sym is) tt)),
     ))
     c.look_at_oldest.ensures.seen
+
+pub returns-in-Err-clause-seen : goal.returns-in-Err-clause-seen
+returns-in-Err-clause-seen g c some =
+    let at = (c.in-Some.ensures {u = tt}).some in
+    let W : WalkPlace → Type 0 = λ w. CameTo g.L.LogLink.asks (towards c.args.transactions.now.route) c.args.transactions.now.retries c.args.link.now w c.step.result c.step.new.link in
+    let T : Result Step WalkFault → Type 0 = λ a. IsSeen (record { number = c.args.last.number; stamp = c.args.last.stamp.now; datum = c.args.last.datum.now; flags = c.args.last.flags.now }) a c.step.result (Err c.in-Err.fault) in
+    (c.step.result, c.step.result, c.step.new.link, subst T (sym c.in-Err.is) refl, subst W at (c.step.ensures.brought.0, c.step.new.self, c.step.ensures.brought.1), λ asks. absurd (subst AsksOldest c.in-Err.is asks), λ none. refl)

@@ -1,4 +1,4 @@
-use Rattle.std.proofs.Common.{◌≡◌, ℕ, Result, Ok, rules, sym, ap, subst}
+use Rattle.std.proofs.Common.{◌≡◌, ℕ, Result, Ok, refl, rules, sym, ap, subst}
 use Rattle.std.proofs.lemmas.Result.{IfOk-weaker}
 use Rattle.bac_link.specs.Path.{Path, towards}
 use Rattle.bac_walk.specs.declared.outcome.Step.{Step}
@@ -6,6 +6,7 @@ use Rattle.bac_walk.specs.declared.outcome.Step.TheVariants.{CaughtUp}
 use Rattle.bac_walk.specs.declared.outcome.WalkFault.{WalkFault}
 use Rattle.bac_walk.specs.Place.{WalkPlace, walk_from_oldest}
 use Rattle.bac_keep.specs.Resumption.{AsksOldest, CameTo, IsTold}
+use Rattle.bac_keep.specs.declared.resumption.Resume.TheVariants.{Fault}
 use Rattle.bac_keep.proofs.resumption.resume_from.Goals as goal
 
 pub returns-in-Ok-CaughtUp-clause-told : goal.returns-in-Ok-CaughtUp-clause-told
@@ -28,3 +29,10 @@ returns-in-Ok-CaughtUp-clause-told g c some =
       λ none. absurd (none (subst AsksOldest (sym is) tt)),
     ))
     c.told_last.ensures.told
+
+pub returns-in-Err-clause-told : goal.returns-in-Err-clause-told
+returns-in-Err-clause-told g c some =
+    let at = (c.in-Some.ensures {u = tt}).some in
+    let W : WalkPlace → Type 0 = λ w. CameTo g.L.LogLink.asks (towards c.args.transactions.now.route) c.args.transactions.now.retries c.args.link.now w c.step.result c.step.new.link in
+    let T : Result Step WalkFault → Type 0 = λ a. IsTold c.args.log (record { number = c.args.last.number; stamp = c.args.last.stamp.now; datum = c.args.last.datum.now }) a c.step.result (Fault c.in-Err.fault) in
+    (c.step.result, c.step.result, c.step.new.link, subst T (sym c.in-Err.is) refl, subst W at (c.step.ensures.brought.0, c.step.new.self, c.step.ensures.brought.1), λ asks. absurd (subst AsksOldest c.in-Err.is asks), λ none. refl)

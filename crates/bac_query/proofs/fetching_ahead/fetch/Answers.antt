@@ -15,19 +15,18 @@ use Rattle.bac_walk.specs.declared.outcome.WalkFault.TheVariants.{BadReply}
 use Rattle.bac_query.specs.Flaws.{IsBadlyFetched}
 use Rattle.bac_query.proofs.Delivered.{not_stopped}
 use Rattle.bac_query.proofs.Flaws.{badly, last_is, no_flaw, no_last_flaw, why_bad}
-use Rattle.bac_query.proofs.RunsAhead.{Learns, fails, finishes, limit_on, more_printed, none_over, over_early, over_joins, over_same, whole_ahead, without_lines}
+use Rattle.bac_query.proofs.RunsAhead.{Learns, fails, finishes, limit_on, more_printed, none_over, over_early, over_joins, whole_ahead, without_lines}
 use Rattle.bac_query.proofs.fetching_ahead.fetch.Goals as goal
 
 pub loop-done-init : goal.loop-done-init
 loop-done-init g c =
     let asks : Asking (UdpLink g.row.P.Denot) = port_asks g.P.Port.sends g.P.Port.receives in
-    let path = towards c.args.transactions.now.route in
-    let retries = c.args.transactions.now.retries in
+    let t = c.args.transactions.now in
     let link = c.args.ahead.now.link.now in
     let failures = link.failures in
     let old = g.W.Write.contents c.args.ahead.now.out.now in
-    let none = none_over asks path retries link c.args.walk in
-    let P : List Item → Type 0 = λ l. IsRunOver asks path retries link c.args.walk 0 l StepLimit c.args.walk link in
+    let none = none_over asks t link c.args.walk in
+    let P : List Item → Type 0 = λ l. IsRunOver asks t link c.args.walk 0 l StepLimit c.args.walk t link in
     record {
       well = c.requires.well;
       same_link = refl;
@@ -36,31 +35,30 @@ loop-done-init g c =
       route = refl;
       begun = omega arith;
       log = refl;
-      so_far = ([], 0, 0, link, c.args.walk, none, subst P (sym c.requires.none) none, omega arith, omega arith, c.next_number-told.ensures.next, Appends-nil old);
+      so_far = ([], 0, 0, t, link, c.args.walk, none, subst P (sym c.requires.none) none, omega arith, omega arith, c.next_number-told.ensures.next, Appends-nil old);
     }
 
 pub returns-in-Err-Memory-clause-printed : goal.returns-in-Err-Memory-clause-printed
 returns-in-Err-Memory-clause-printed g c =
     let asks : Asking (UdpLink g.row.P.Denot) = port_asks g.P.Port.sends g.P.Port.receives in
-    let path = towards c.args.transactions.now.route in
-    let retries = c.args.transactions.now.retries in
+    let t = c.args.transactions.now in
     let link = c.args.ahead.now.link.now in
     let failures = link.failures in
     let old = g.W.Write.contents c.args.ahead.now.out.now in
-    let (items, n, k, mid, w, first, last, sum, one, told, printed) = c.loop-done.invariant.so_far in
+    let (items, n, k, u, mid, w, first, last, sum, one, told, printed) = c.loop-done.invariant.so_far in
     let half = c.loop-done.ahead.link.now in
     let left = c.loop-done.ahead.left.now.items in
     let now = g.W.Write.contents c.loop-done.ahead.out.now in
     let new = c.turn.new.ahead.link.now in
     let out = g.W.Write.contents c.turn.new.ahead.out.now in
     let (ended, brought, is, ran) = c.turn.ensures.ran in
-    let step = over_same asks path (towards c.loop-done.transactions.route) retries c.loop-done.transactions.retries half new c.loop-done.walk c.turn.new.walk 1 brought ended
-    (ap towards c.loop-done.invariant.route) c.loop-done.invariant.retries ran in
-    let whole = over_joins asks path retries link mid half c.args.walk w c.loop-done.walk n k items left StepLimit first last in
+    let v = c.loop-done.transactions in
+    let z = c.turn.new.transactions in
+    let whole = over_joins asks t u c.loop-done.transactions link mid half c.args.walk w c.loop-done.walk n k items left StepLimit first last in
     let kept = rw (c.in-Err-Memory.is, c.in-Err-Memory.field-0-is) at c.turn.ensures.prints in
-    let P : UdpLink g.row.P.Denot → Type 0 = λ x. Learns asks path retries link c.args.walk c.args.steps c.end.result failures x.failures x old (g.W.Write.contents c.end.new.self.out.now) in
-    let rest = over_joins asks path retries mid half new w c.loop-done.walk c.turn.new.walk k 1 left brought ended last step in
-    let both = without_lines asks path retries link mid new c.args.walk w c.turn.new.walk c.args.steps n (k + 1) items (left ++ brought) ended c.loop-done.told c.end.result failures new.failures
+    let P : UdpLink g.row.P.Denot → Type 0 = λ x. Learns asks t link c.args.walk c.args.steps c.end.result failures x.failures z x old (g.W.Write.contents c.end.new.self.out.now) in
+    let rest = over_joins asks u v z mid half new w c.loop-done.walk c.turn.new.walk k 1 left brought ended last ran in
+    let both = without_lines asks t u z link mid new c.args.walk w c.turn.new.walk c.args.steps n (k + 1) items (left ++ brought) ended c.loop-done.told c.end.result failures new.failures
     old out (g.W.Write.contents c.end.new.self.out.now) first (omega (arith, sum, c.loop-done-test.true)) told rest (omega (arith, one)) (Appends-kept old now out (items_text items) printed kept.1) c.end.ensures.prints in
     let all = subst P (sym c.end.ensures.link) both in
     all.1
@@ -68,25 +66,24 @@ returns-in-Err-Memory-clause-printed g c =
 pub returns-in-Err-Memory-clause-came : goal.returns-in-Err-Memory-clause-came
 returns-in-Err-Memory-clause-came g c =
     let asks : Asking (UdpLink g.row.P.Denot) = port_asks g.P.Port.sends g.P.Port.receives in
-    let path = towards c.args.transactions.now.route in
-    let retries = c.args.transactions.now.retries in
+    let t = c.args.transactions.now in
     let link = c.args.ahead.now.link.now in
     let failures = link.failures in
     let old = g.W.Write.contents c.args.ahead.now.out.now in
-    let (items, n, k, mid, w, first, last, sum, one, told, printed) = c.loop-done.invariant.so_far in
+    let (items, n, k, u, mid, w, first, last, sum, one, told, printed) = c.loop-done.invariant.so_far in
     let half = c.loop-done.ahead.link.now in
     let left = c.loop-done.ahead.left.now.items in
     let now = g.W.Write.contents c.loop-done.ahead.out.now in
     let new = c.turn.new.ahead.link.now in
     let out = g.W.Write.contents c.turn.new.ahead.out.now in
     let (ended, brought, is, ran) = c.turn.ensures.ran in
-    let step = over_same asks path (towards c.loop-done.transactions.route) retries c.loop-done.transactions.retries half new c.loop-done.walk c.turn.new.walk 1 brought ended
-    (ap towards c.loop-done.invariant.route) c.loop-done.invariant.retries ran in
-    let whole = over_joins asks path retries link mid half c.args.walk w c.loop-done.walk n k items left StepLimit first last in
+    let v = c.loop-done.transactions in
+    let z = c.turn.new.transactions in
+    let whole = over_joins asks t u c.loop-done.transactions link mid half c.args.walk w c.loop-done.walk n k items left StepLimit first last in
     let kept = rw (c.in-Err-Memory.is, c.in-Err-Memory.field-0-is) at c.turn.ensures.prints in
-    let P : UdpLink g.row.P.Denot → Type 0 = λ x. Learns asks path retries link c.args.walk c.args.steps c.end.result failures x.failures x old (g.W.Write.contents c.end.new.self.out.now) in
-    let rest = over_joins asks path retries mid half new w c.loop-done.walk c.turn.new.walk k 1 left brought ended last step in
-    let both = without_lines asks path retries link mid new c.args.walk w c.turn.new.walk c.args.steps n (k + 1) items (left ++ brought) ended c.loop-done.told c.end.result failures new.failures
+    let P : UdpLink g.row.P.Denot → Type 0 = λ x. Learns asks t link c.args.walk c.args.steps c.end.result failures x.failures z x old (g.W.Write.contents c.end.new.self.out.now) in
+    let rest = over_joins asks u v z mid half new w c.loop-done.walk c.turn.new.walk k 1 left brought ended last ran in
+    let both = without_lines asks t u z link mid new c.args.walk w c.turn.new.walk c.args.steps n (k + 1) items (left ++ brought) ended c.loop-done.told c.end.result failures new.failures
     old out (g.W.Write.contents c.end.new.self.out.now) first (omega (arith, sum, c.loop-done-test.true)) told rest (omega (arith, one)) (Appends-kept old now out (items_text items) printed kept.1) c.end.ensures.prints in
     let all = subst P (sym c.end.ensures.link) both in
     all.0
@@ -94,48 +91,46 @@ returns-in-Err-Memory-clause-came g c =
 pub returns-in-Err : goal.returns-in-Err
 returns-in-Err g c =
     let asks : Asking (UdpLink g.row.P.Denot) = port_asks g.P.Port.sends g.P.Port.receives in
-    let path = towards c.args.transactions.now.route in
-    let retries = c.args.transactions.now.retries in
+    let t = c.args.transactions.now in
     let link = c.args.ahead.now.link.now in
     let failures = link.failures in
     let old = g.W.Write.contents c.args.ahead.now.out.now in
-    let (items, n, k, mid, w, first, last, sum, one, told, printed) = c.loop-done.invariant.so_far in
+    let (items, n, k, u, mid, w, first, last, sum, one, told, printed) = c.loop-done.invariant.so_far in
     let half = c.loop-done.ahead.link.now in
     let left = c.loop-done.ahead.left.now.items in
     let now = g.W.Write.contents c.loop-done.ahead.out.now in
     let new = c.turn.new.ahead.link.now in
     let out = g.W.Write.contents c.turn.new.ahead.out.now in
     let (ended, brought, is, ran) = c.turn.ensures.ran in
-    let step = over_same asks path (towards c.loop-done.transactions.route) retries c.loop-done.transactions.retries half new c.loop-done.walk c.turn.new.walk 1 brought ended
-    (ap towards c.loop-done.invariant.route) c.loop-done.invariant.retries ran in
-    let whole = over_joins asks path retries link mid half c.args.walk w c.loop-done.walk n k items left StepLimit first last in
-    let all = fails asks path retries link mid half new c.args.walk w c.loop-done.walk c.turn.new.walk c.args.steps n k items left brought ended c.loop-done.told c.in-Err.fault failures new.failures
-    old now out first last step (omega (arith, sum, c.loop-done-test.true)) one told printed (rw c.in-Err.is at c.turn.ensures.prints) in
+    let v = c.loop-done.transactions in
+    let z = c.turn.new.transactions in
+    let whole = over_joins asks t u c.loop-done.transactions link mid half c.args.walk w c.loop-done.walk n k items left StepLimit first last in
+    let all = fails asks t u v z link mid half new c.args.walk w c.loop-done.walk c.turn.new.walk c.args.steps n k items left brought ended c.loop-done.told c.in-Err.fault failures new.failures
+    old now out first last ran (omega (arith, sum, c.loop-done-test.true)) one told printed (rw c.in-Err.is at c.turn.ensures.prints) in
     record { printed = all.1; came = all.0; begun = omega (arith, c.turn.ensures.begun, c.loop-done.invariant.begun, c.loop-done-test.true); flaw = tt; same_link = c.turn.ensures.same_link ∙ c.loop-done.invariant.same_link; same_out = c.turn.ensures.same_out ∙ c.loop-done.invariant.same_out }
 
 pub returns-in-Stopped-clause-printed : goal.returns-in-Stopped-clause-printed
 returns-in-Stopped-clause-printed g c =
     let asks : Asking (UdpLink g.row.P.Denot) = port_asks g.P.Port.sends g.P.Port.receives in
-    let path = towards c.args.transactions.now.route in
-    let retries = c.args.transactions.now.retries in
+    let t = c.args.transactions.now in
     let link = c.args.ahead.now.link.now in
     let failures = link.failures in
     let old = g.W.Write.contents c.args.ahead.now.out.now in
-    let (items, n, k, mid, w, first, last, sum, one, told, printed) = c.loop-done.invariant.so_far in
+    let (items, n, k, u, mid, w, first, last, sum, one, told, printed) = c.loop-done.invariant.so_far in
     let half = c.loop-done.ahead.link.now in
     let left = c.loop-done.ahead.left.now.items in
     let now = g.W.Write.contents c.loop-done.ahead.out.now in
     let new = c.turn.new.ahead.link.now in
     let out = g.W.Write.contents c.turn.new.ahead.out.now in
     let (ended, brought, is, ran) = c.turn.ensures.ran in
-    let step = over_same asks path (towards c.loop-done.transactions.route) retries c.loop-done.transactions.retries half new c.loop-done.walk c.turn.new.walk 1 brought ended
-    (ap towards c.loop-done.invariant.route) c.loop-done.invariant.retries ran in
-    let whole = over_joins asks path retries link mid half c.args.walk w c.loop-done.walk n k items left StepLimit first last in
+    let v = c.loop-done.transactions in
+    let z = c.turn.new.transactions in
+    let whole = over_joins asks t u c.loop-done.transactions link mid half c.args.walk w c.loop-done.walk n k items left StepLimit first last in
     let lines = more_printed items left old now out printed (rw c.in-Ok.is at c.turn.ensures.prints) in
     let ok = rw c.in-Ok.is at is in
-    let P : UdpLink g.row.P.Denot → Type 0 = λ x. Learns asks path retries link c.args.walk c.args.steps c.end-in-Stopped.result failures x.failures x old (g.W.Write.contents c.end-in-Stopped.new.self.out.now) in
-    let both = without_lines asks path retries link half new c.args.walk c.loop-done.walk c.turn.new.walk c.args.steps (n + k) 1 (items ++ left) brought ended c.next_number-before.result
-    c.end-in-Stopped.result failures new.failures old out (g.W.Write.contents c.end-in-Stopped.new.self.out.now) whole (omega (arith, sum, c.loop-done-test.true)) c.next_number-before.ensures.next step (omega arith)
+    let P : UdpLink g.row.P.Denot → Type 0 = λ x. Learns asks t link c.args.walk c.args.steps c.end-in-Stopped.result failures x.failures z x old (g.W.Write.contents c.end-in-Stopped.new.self.out.now) in
+    let both = without_lines asks t v z link half new c.args.walk c.loop-done.walk c.turn.new.walk c.args.steps (n + k) 1 (items ++ left) brought ended c.next_number-before.result
+    c.end-in-Stopped.result failures new.failures old out (g.W.Write.contents c.end-in-Stopped.new.self.out.now) whole (omega (arith, sum, c.loop-done-test.true)) c.next_number-before.ensures.next ran (omega arith)
     lines c.end-in-Stopped.ensures.prints in
     let all = subst P (sym c.end-in-Stopped.ensures.link) both in
     all.1
@@ -143,26 +138,25 @@ returns-in-Stopped-clause-printed g c =
 pub returns-in-Stopped-clause-came : goal.returns-in-Stopped-clause-came
 returns-in-Stopped-clause-came g c =
     let asks : Asking (UdpLink g.row.P.Denot) = port_asks g.P.Port.sends g.P.Port.receives in
-    let path = towards c.args.transactions.now.route in
-    let retries = c.args.transactions.now.retries in
+    let t = c.args.transactions.now in
     let link = c.args.ahead.now.link.now in
     let failures = link.failures in
     let old = g.W.Write.contents c.args.ahead.now.out.now in
-    let (items, n, k, mid, w, first, last, sum, one, told, printed) = c.loop-done.invariant.so_far in
+    let (items, n, k, u, mid, w, first, last, sum, one, told, printed) = c.loop-done.invariant.so_far in
     let half = c.loop-done.ahead.link.now in
     let left = c.loop-done.ahead.left.now.items in
     let now = g.W.Write.contents c.loop-done.ahead.out.now in
     let new = c.turn.new.ahead.link.now in
     let out = g.W.Write.contents c.turn.new.ahead.out.now in
     let (ended, brought, is, ran) = c.turn.ensures.ran in
-    let step = over_same asks path (towards c.loop-done.transactions.route) retries c.loop-done.transactions.retries half new c.loop-done.walk c.turn.new.walk 1 brought ended
-    (ap towards c.loop-done.invariant.route) c.loop-done.invariant.retries ran in
-    let whole = over_joins asks path retries link mid half c.args.walk w c.loop-done.walk n k items left StepLimit first last in
+    let v = c.loop-done.transactions in
+    let z = c.turn.new.transactions in
+    let whole = over_joins asks t u c.loop-done.transactions link mid half c.args.walk w c.loop-done.walk n k items left StepLimit first last in
     let lines = more_printed items left old now out printed (rw c.in-Ok.is at c.turn.ensures.prints) in
     let ok = rw c.in-Ok.is at is in
-    let P : UdpLink g.row.P.Denot → Type 0 = λ x. Learns asks path retries link c.args.walk c.args.steps c.end-in-Stopped.result failures x.failures x old (g.W.Write.contents c.end-in-Stopped.new.self.out.now) in
-    let both = without_lines asks path retries link half new c.args.walk c.loop-done.walk c.turn.new.walk c.args.steps (n + k) 1 (items ++ left) brought ended c.next_number-before.result
-    c.end-in-Stopped.result failures new.failures old out (g.W.Write.contents c.end-in-Stopped.new.self.out.now) whole (omega (arith, sum, c.loop-done-test.true)) c.next_number-before.ensures.next step (omega arith)
+    let P : UdpLink g.row.P.Denot → Type 0 = λ x. Learns asks t link c.args.walk c.args.steps c.end-in-Stopped.result failures x.failures z x old (g.W.Write.contents c.end-in-Stopped.new.self.out.now) in
+    let both = without_lines asks t v z link half new c.args.walk c.loop-done.walk c.turn.new.walk c.args.steps (n + k) 1 (items ++ left) brought ended c.next_number-before.result
+    c.end-in-Stopped.result failures new.failures old out (g.W.Write.contents c.end-in-Stopped.new.self.out.now) whole (omega (arith, sum, c.loop-done-test.true)) c.next_number-before.ensures.next ran (omega arith)
     lines c.end-in-Stopped.ensures.prints in
     let all = subst P (sym c.end-in-Stopped.ensures.link) both in
     all.0
@@ -170,39 +164,38 @@ returns-in-Stopped-clause-came g c =
 pub returns-in-Some : goal.returns-in-Some
 returns-in-Some g c =
     let asks : Asking (UdpLink g.row.P.Denot) = port_asks g.P.Port.sends g.P.Port.receives in
-    let path = towards c.args.transactions.now.route in
-    let retries = c.args.transactions.now.retries in
+    let t = c.args.transactions.now in
     let link = c.args.ahead.now.link.now in
     let failures = link.failures in
     let old = g.W.Write.contents c.args.ahead.now.out.now in
-    let (items, n, k, mid, w, first, last, sum, one, told, printed) = c.loop-done.invariant.so_far in
+    let (items, n, k, u, mid, w, first, last, sum, one, told, printed) = c.loop-done.invariant.so_far in
     let half = c.loop-done.ahead.link.now in
     let left = c.loop-done.ahead.left.now.items in
     let now = g.W.Write.contents c.loop-done.ahead.out.now in
     let new = c.turn.new.ahead.link.now in
     let out = g.W.Write.contents c.turn.new.ahead.out.now in
     let (ended, brought, is, ran) = c.turn.ensures.ran in
-    let step = over_same asks path (towards c.loop-done.transactions.route) retries c.loop-done.transactions.retries half new c.loop-done.walk c.turn.new.walk 1 brought ended
-    (ap towards c.loop-done.invariant.route) c.loop-done.invariant.retries ran in
-    let whole = over_joins asks path retries link mid half c.args.walk w c.loop-done.walk n k items left StepLimit first last in
+    let v = c.loop-done.transactions in
+    let z = c.turn.new.transactions in
+    let whole = over_joins asks t u c.loop-done.transactions link mid half c.args.walk w c.loop-done.walk n k items left StepLimit first last in
     let lines = more_printed items left old now out printed (rw c.in-Ok.is at c.turn.ensures.prints) in
     let ok = rw c.in-Ok.is at is in
     let on : ended ≢ Stopped = λ e. c.in_default.not-Stopped (ok.0 ∙ e) in
     let some : why_of ended ≡ Some c.in-Some.why = sym (ap why_of ok.0) ∙ sym c.why-why.ensures ∙ c.in-Some.is in
     let end = g.W.Write.contents c.finish.new.self.out.now in
-    let P : UdpLink g.row.P.Denot → Type 0 = λ x. Learns asks path retries link c.args.walk c.args.steps c.finish.result failures x.failures x old (g.W.Write.contents c.finish.new.self.out.now) in
+    let P : UdpLink g.row.P.Denot → Type 0 = λ x. Learns asks t link c.args.walk c.args.steps c.finish.result failures x.failures z x old (g.W.Write.contents c.finish.new.self.out.now) in
     let Q : List Item → Type 0 = λ l. PrintsLast l c.in-Some.why c.next_number.result c.next_number-before.result c.finish.result out end in
-    let more = over_joins asks path retries link half new c.args.walk c.loop-done.walk c.turn.new.walk (n + k) 1 (items ++ left) brought ended whole step in
-    let early = over_early asks path retries link new c.args.walk c.turn.new.walk (n + k + 1) c.args.steps ((items ++ left) ++ brought) ended (not_limit ended c.in-Some.why some) (omega (arith, sum, c.loop-done-test.true)) more in
-    let both = finishes asks path retries link half new c.args.walk c.loop-done.walk c.turn.new.walk c.args.steps (n + k) 1 c.args.steps (items ++ left) brought ended c.in-Some.why c.next_number.result
-    c.next_number-before.result c.finish.result failures new.failures old out end whole step on early (omega arith) (ends_run ended c.in-Some.why c.args.steps (not_stopped ended on) some)
-    (whole_ahead asks path retries new c.turn.new.walk ended c.in-Some.why (not_stopped ended on) some) (omega (arith, sum, c.loop-done-test.true)) (omega arith) c.next_number.ensures.next
+    let more = over_joins asks t v z link half new c.args.walk c.loop-done.walk c.turn.new.walk (n + k) 1 (items ++ left) brought ended whole ran in
+    let early = over_early asks t z link new c.args.walk c.turn.new.walk (n + k + 1) c.args.steps ((items ++ left) ++ brought) ended (not_limit ended c.in-Some.why some) (omega (arith, sum, c.loop-done-test.true)) more in
+    let both = finishes asks t v z link half new c.args.walk c.loop-done.walk c.turn.new.walk c.args.steps (n + k) 1 c.args.steps (items ++ left) brought ended c.in-Some.why c.next_number.result
+    c.next_number-before.result c.finish.result failures new.failures old out end whole ran on early (omega arith) (ends_run ended c.in-Some.why c.args.steps (not_stopped ended on) some)
+    (whole_ahead asks z new c.turn.new.walk ended c.in-Some.why (not_stopped ended on) some) (omega (arith, sum, c.loop-done-test.true)) (omega arith) c.next_number.ensures.next
     c.next_number-before.ensures.next lines (subst Q (ok.1 on) c.finish.ensures.prints) in
     let all = subst P (sym c.finish.ensures.link) both in
     let flawed = rw c.in-Ok.is at c.turn.ensures.flaw in
-    let N : ℕ → Type 0 = λ next. IsBadlyFetched asks path retries c.args.walk.log next c.finish.new.self.flaw c.finish.new.self.link.now in
+    let N : ℕ → Type 0 = λ next. IsBadlyFetched asks (towards t.route) t.retries c.args.walk.log next c.finish.new.self.flaw c.finish.new.self.link.now in
     let badly_told = λ (bad : c.in-Some.why ≡ why.Fault BadReply).
-    badly asks path (towards c.loop-done.transactions.route) retries c.loop-done.transactions.retries c.turn.new.walk c.args.walk.log c.next_number.result c.finish.new.self.flaw
+    badly asks (towards t.route) (towards c.loop-done.transactions.route) t.retries c.loop-done.transactions.retries c.turn.new.walk c.args.walk.log c.next_number.result c.finish.new.self.flaw
     c.turn.new.ahead.flaw c.finish.new.self.link.now new (ap towards c.loop-done.invariant.route) c.loop-done.invariant.retries (c.turn.ensures.log ∙ c.loop-done.invariant.log)
     c.next_number.ensures.next c.finish.ensures.flaw c.finish.ensures.link (flawed (ok.0 ∙ why_bad ended (some ∙ ap Some bad))) in
     let told_flaw = last_is c.turn.new.ahead.left.now.items c.in-Some.why c.next_number.result c.next_number-before.result c.finish.result _ _ N badly_told c.finish.ensures.prints in
@@ -211,27 +204,26 @@ returns-in-Some g c =
 pub loop-done-preserved : goal.loop-done-preserved
 loop-done-preserved g c =
     let asks : Asking (UdpLink g.row.P.Denot) = port_asks g.P.Port.sends g.P.Port.receives in
-    let path = towards c.args.transactions.now.route in
-    let retries = c.args.transactions.now.retries in
+    let t = c.args.transactions.now in
     let link = c.args.ahead.now.link.now in
     let failures = link.failures in
     let old = g.W.Write.contents c.args.ahead.now.out.now in
-    let (items, n, k, mid, w, first, last, sum, one, told, printed) = c.loop-done.invariant.so_far in
+    let (items, n, k, u, mid, w, first, last, sum, one, told, printed) = c.loop-done.invariant.so_far in
     let half = c.loop-done.ahead.link.now in
     let left = c.loop-done.ahead.left.now.items in
     let now = g.W.Write.contents c.loop-done.ahead.out.now in
     let new = c.turn.new.ahead.link.now in
     let out = g.W.Write.contents c.turn.new.ahead.out.now in
     let (ended, brought, is, ran) = c.turn.ensures.ran in
-    let step = over_same asks path (towards c.loop-done.transactions.route) retries c.loop-done.transactions.retries half new c.loop-done.walk c.turn.new.walk 1 brought ended
-    (ap towards c.loop-done.invariant.route) c.loop-done.invariant.retries ran in
-    let whole = over_joins asks path retries link mid half c.args.walk w c.loop-done.walk n k items left StepLimit first last in
+    let v = c.loop-done.transactions in
+    let z = c.turn.new.transactions in
+    let whole = over_joins asks t u c.loop-done.transactions link mid half c.args.walk w c.loop-done.walk n k items left StepLimit first last in
     let lines = more_printed items left old now out printed (rw c.in-Ok.is at c.turn.ensures.prints) in
     let ok = rw c.in-Ok.is at is in
     let on : ended ≢ Stopped = λ e. c.in_default.not-Stopped (ok.0 ∙ e) in
     let limit : ended ≡ StepLimit = goes_on ended (sym (ap why_of ok.0) ∙ sym c.why-why.ensures ∙ c.in_default-why.is) in
-    let R : Ended → Type 0 = λ e. IsRunOver asks path retries half c.loop-done.walk 1 brought e c.turn.new.walk new in
-    let Q : List Item → Type 0 = λ l. IsRunOver asks path retries half c.loop-done.walk 1 l StepLimit c.turn.new.walk new in
+    let R : Ended → Type 0 = λ e. IsRunOver asks v half c.loop-done.walk 1 brought e c.turn.new.walk z new in
+    let Q : List Item → Type 0 = λ l. IsRunOver asks v half c.loop-done.walk 1 l StepLimit c.turn.new.walk z new in
     record {
       well = rw c.in-Ok.is at c.turn.ensures.well;
       same_link = c.turn.ensures.same_link ∙ c.loop-done.invariant.same_link;
@@ -244,10 +236,11 @@ loop-done-preserved g c =
         items ++ left,
         n + k,
         1,
+        v,
         half,
         c.loop-done.walk,
         whole,
-        subst Q (sym (ok.1 on)) (subst R limit step),
+        subst Q (sym (ok.1 on)) (subst R limit ran),
         omega (arith, sum),
         omega arith,
         c.next_number-before.ensures.next,
@@ -258,40 +251,38 @@ loop-done-preserved g c =
 pub returns-clause-printed : goal.returns-clause-printed
 returns-clause-printed g c =
     let asks : Asking (UdpLink g.row.P.Denot) = port_asks g.P.Port.sends g.P.Port.receives in
-    let path = towards c.args.transactions.now.route in
-    let retries = c.args.transactions.now.retries in
+    let t = c.args.transactions.now in
     let link = c.args.ahead.now.link.now in
     let failures = link.failures in
     let old = g.W.Write.contents c.args.ahead.now.out.now in
-    let (items, n, k, mid, w, first, last, sum, one, told, printed) = c.loop-done.invariant.so_far in
+    let (items, n, k, u, mid, w, first, last, sum, one, told, printed) = c.loop-done.invariant.so_far in
     let half = c.loop-done.ahead.link.now in
     let left = c.loop-done.ahead.left.now.items in
     let now = g.W.Write.contents c.loop-done.ahead.out.now in
-    let whole = over_joins asks path retries link mid half c.args.walk w c.loop-done.walk n k items left StepLimit first last in
+    let whole = over_joins asks t u c.loop-done.transactions link mid half c.args.walk w c.loop-done.walk n k items left StepLimit first last in
     let end = g.W.Write.contents c.finish-2.new.self.out.now in
-    let P : UdpLink g.row.P.Denot → Type 0 = λ x. Learns asks path retries link c.args.walk c.args.steps c.finish-2.result failures x.failures x old (g.W.Write.contents c.finish-2.new.self.out.now) in
-    let both = finishes asks path retries link mid half c.args.walk w c.loop-done.walk c.args.steps n k (n + k) items left StepLimit why.StepLimit c.next_number-2.result c.loop-done.told
-    c.finish-2.result failures half.failures old now end first last limit_on whole (omega (arith, sum)) (omega (arith, sum), refl) refl (omega (arith, sum)) one c.next_number-2.ensures.next told printed c.finish-2.ensures.prints in
+    let P : UdpLink g.row.P.Denot → Type 0 = λ x. Learns asks t link c.args.walk c.args.steps c.finish-2.result failures x.failures c.loop-done.transactions x old (g.W.Write.contents c.finish-2.new.self.out.now) in
+    let both = finishes asks t u c.loop-done.transactions link mid half c.args.walk w c.loop-done.walk c.args.steps n k (n + k) items left StepLimit why.StepLimit c.next_number-2.result c.loop-done.told
+    c.finish-2.result failures half.failures old now end first last limit_on whole (omega (arith, sum)) (omega (arith, sum), refl) (refl, refl) (omega (arith, sum)) one c.next_number-2.ensures.next told printed c.finish-2.ensures.prints in
     let all = subst P (sym c.finish-2.ensures.link) both in
     all.1
 
 pub returns-clause-came : goal.returns-clause-came
 returns-clause-came g c =
     let asks : Asking (UdpLink g.row.P.Denot) = port_asks g.P.Port.sends g.P.Port.receives in
-    let path = towards c.args.transactions.now.route in
-    let retries = c.args.transactions.now.retries in
+    let t = c.args.transactions.now in
     let link = c.args.ahead.now.link.now in
     let failures = link.failures in
     let old = g.W.Write.contents c.args.ahead.now.out.now in
-    let (items, n, k, mid, w, first, last, sum, one, told, printed) = c.loop-done.invariant.so_far in
+    let (items, n, k, u, mid, w, first, last, sum, one, told, printed) = c.loop-done.invariant.so_far in
     let half = c.loop-done.ahead.link.now in
     let left = c.loop-done.ahead.left.now.items in
     let now = g.W.Write.contents c.loop-done.ahead.out.now in
-    let whole = over_joins asks path retries link mid half c.args.walk w c.loop-done.walk n k items left StepLimit first last in
+    let whole = over_joins asks t u c.loop-done.transactions link mid half c.args.walk w c.loop-done.walk n k items left StepLimit first last in
     let end = g.W.Write.contents c.finish-2.new.self.out.now in
-    let P : UdpLink g.row.P.Denot → Type 0 = λ x. Learns asks path retries link c.args.walk c.args.steps c.finish-2.result failures x.failures x old (g.W.Write.contents c.finish-2.new.self.out.now) in
-    let both = finishes asks path retries link mid half c.args.walk w c.loop-done.walk c.args.steps n k (n + k) items left StepLimit why.StepLimit c.next_number-2.result c.loop-done.told
-    c.finish-2.result failures half.failures old now end first last limit_on whole (omega (arith, sum)) (omega (arith, sum), refl) refl (omega (arith, sum)) one c.next_number-2.ensures.next told printed c.finish-2.ensures.prints in
+    let P : UdpLink g.row.P.Denot → Type 0 = λ x. Learns asks t link c.args.walk c.args.steps c.finish-2.result failures x.failures c.loop-done.transactions x old (g.W.Write.contents c.finish-2.new.self.out.now) in
+    let both = finishes asks t u c.loop-done.transactions link mid half c.args.walk w c.loop-done.walk c.args.steps n k (n + k) items left StepLimit why.StepLimit c.next_number-2.result c.loop-done.told
+    c.finish-2.result failures half.failures old now end first last limit_on whole (omega (arith, sum)) (omega (arith, sum), refl) (refl, refl) (omega (arith, sum)) one c.next_number-2.ensures.next told printed c.finish-2.ensures.prints in
     let all = subst P (sym c.finish-2.ensures.link) both in
     all.0
 

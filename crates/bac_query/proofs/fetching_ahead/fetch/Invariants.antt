@@ -1,7 +1,7 @@
 use Rattle.std.proofs.Common.{◌≡◌, ◌+◌, ◌*◌, ◌≤◌, ℕ, false, List}
 use Rattle.std.specs.Io.KnownBytes.{Appends}
 use Rattle.bac_link.specs.declared.item.Item.{Item}
-use Rattle.bac_link.specs.Path.{towards}
+use Rattle.bac_link.specs.declared.transactions.Transactions.{Transactions}
 use Rattle.bac_query.specs.Items.{items_text}
 use Rattle.bac_walk.specs.Place.{WalkPlace}
 use Rattle.bac_walk.specs.declared.outcome.Ended.TheVariants.{StepLimit}
@@ -18,9 +18,9 @@ invariant-loop-done g l = record {
   route : l.transactions.route ≡ l.fn.transactions.route;
   begun : l.transactions.begun ≤ l.fn.transactions.begun + 2 * l.done;
   log : l.walk.log ≡ l.fn.walk.log;
-  so_far : (items : List Item) × (n : ℕ) × (k : ℕ) × (mid : _) × (w : WalkPlace)
-      × IsRunOver (port_asks g.P.Port.sends g.P.Port.receives) (towards l.fn.transactions.route) l.fn.transactions.retries l.fn.ahead.link.now l.fn.walk n items StepLimit w mid
-      × IsRunOver (port_asks g.P.Port.sends g.P.Port.receives) (towards l.fn.transactions.route) l.fn.transactions.retries mid w k l.ahead.left.now.items StepLimit l.walk l.ahead.link.now
+  so_far : (items : List Item) × (n : ℕ) × (k : ℕ) × (half : Transactions) × (mid : _) × (w : WalkPlace)
+      × IsRunOver (port_asks g.P.Port.sends g.P.Port.receives) l.fn.transactions l.fn.ahead.link.now l.fn.walk n items StepLimit w half mid
+      × IsRunOver (port_asks g.P.Port.sends g.P.Port.receives) half mid w k l.ahead.left.now.items StepLimit l.walk l.transactions l.ahead.link.now
       × (n + k ≡ l.done) × (k ≤ 1) × (l.told ≡ w.next)
       × Appends (g.W.Write.contents l.fn.ahead.out.now) (g.W.Write.contents l.ahead.out.now) (items_text items);
 }

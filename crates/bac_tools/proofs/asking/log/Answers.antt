@@ -1,4 +1,4 @@
-use Rattle.std.proofs.Common.{Err, ap, inr, refl}
+use Rattle.std.proofs.Common.{Err, ap, arith, inr, refl}
 use Rattle.bac_ports.specs.Sockets.{socket_rules}
 use Rattle.bac_tools.proofs.Fetched.{run_of}
 use Rattle.bac_tools.proofs.asking.log.Goals as goal
@@ -7,6 +7,7 @@ pub returns-in-Ok : goal.returns-in-Ok
 returns-in-Ok g c =
     let (opened, linked, begun) = c.in_ok-link.ensures.ok in
     let (items, prints, run) = c.fetch_log_ahead-fetched.ensures.printed in
+    let most = rw begun at c.fetch_log_ahead-fetched.ensures.begun in
     inr (
       c.in_ok-link.field-0.link.port,
       _,
@@ -16,13 +17,13 @@ returns-in-Ok g c =
         c.fetch_log_ahead-fetched.result,
         c.fetch_log_ahead-fetched.new.link,
         (
-          rw (linked, begun) at c.fetch_log_ahead-fetched.ensures.came,
+          (c.fetch_log_ahead-fetched.new.transactions, rw (linked, begun) at c.fetch_log_ahead-fetched.ensures.came, omega (arith, most)),
           run_of (socket_rules g.S.Sockets.opens g.S.Sockets.closes g.S.Socket.Port.sends g.S.Socket.Port.receives g.S.Socket.Port.receives_within)
               c.args.asked c.args.walk _ _ _ _ _ _ c.fetch_log_ahead-fetched.new.link _ _ items prints (rw (linked, begun) at run),
           rw begun at c.fetch_log_ahead-fetched.ensures.flaw,
         ),
         c.into_port.ensures,
-        rw (c.in-Ok.is, c.ending_of.ensures, c.walk_status.ensures) refl,
+        rw (c.in-Ok.is, c.ending_of.ensures) refl,
       ),
       c.close.ensures,
     )
@@ -31,6 +32,7 @@ pub returns-in-Err : goal.returns-in-Err
 returns-in-Err g c =
     let (opened, linked, begun) = c.in_ok-link.ensures.ok in
     let (items, prints, run) = c.fetch_log_ahead-fetched.ensures.printed in
+    let most = rw begun at c.fetch_log_ahead-fetched.ensures.begun in
     inr (
       c.in_ok-link.field-0.link.port,
       _,
@@ -40,7 +42,7 @@ returns-in-Err g c =
         c.fetch_log_ahead-fetched.result,
         c.fetch_log_ahead-fetched.new.link,
         (
-          rw (linked, begun) at c.fetch_log_ahead-fetched.ensures.came,
+          (c.fetch_log_ahead-fetched.new.transactions, rw (linked, begun) at c.fetch_log_ahead-fetched.ensures.came, omega (arith, most)),
           run_of (socket_rules g.S.Sockets.opens g.S.Sockets.closes g.S.Socket.Port.sends g.S.Socket.Port.receives g.S.Socket.Port.receives_within)
               c.args.asked c.args.walk _ _ _ _ _ _ c.fetch_log_ahead-fetched.new.link _ _ items prints (rw (linked, begun) at run),
           rw begun at c.fetch_log_ahead-fetched.ensures.flaw,

@@ -17,13 +17,17 @@ use Rattle.bac_walk.proofs.Runs.{headline_of, join_run, no_run, run_early, ends_
 use Rattle.bac_walk.proofs.Near.{fewer_steps, next_step, rest_near, windows_near}
 use Rattle.bac_walk.proofs.Keeps.{kept_all, put_length}
 use Rattle.bac_walk.proofs.Told.{told_same, told_why}
-use Rattle.bac_walk.proofs.Joined.{no_brought, brought_joins, brought_early, into_same}
-use Rattle.bac_walk.specs.Came.{Came, Brought, BroughtInto}
+use Rattle.bac_walk.proofs.TransactedRuns.{no_brought, brought_joins, brought_early}
+use Rattle.bac_walk.proofs.Transacted.{brought_plain}
+use Rattle.bac_walk.specs.Came.{Came}
+use Rattle.bac_walk.specs.Transacted.{BroughtBy, BroughtIntoBy}
 use Rattle.bac_walk.specs.Kept.{IsKept}
 use Rattle.bac_walk.specs.Place.{WalkPlace}
 use Rattle.bac_walk.proofs.Told.{Asking}
-use Rattle.bac_link.specs.Path.{Path, towards}
+use Rattle.bac_link.specs.Path.{towards}
+use Rattle.bac_link.specs.declared.transactions.Transactions.{Transactions}
 use Rattle.bac_walk.proofs.Rests.{rested}
+use Rattle.bac_walk.proofs.Growing.{growing_run}
 use Rattle.bac_walk.proofs.Honest.{delivers_run}
 use Rattle.bac_walk.proofs.kept.collect.Goals as goal
 
@@ -34,17 +38,16 @@ abbrev items_in_sink : Kept → List Item
 items_in_sink k = k.items.items
 
 -- what came to this step, behind what came before it
-step_joined : {S : Type 0} (asks : Asking S) (path way : Path) (retries tries : ℕ) (old half new : S) (before kept after : Kept) (w mid left : WalkPlace) (n : ℕ) (ended : Ended) →
-    way ≡ path → tries ≡ retries → kept.items.items ≡ before.items.items → length kept.items.items + 101 ≤ vec_capacity kept.items →
-    (came : List Came) × Brought asks path retries old w n came before.items.items StepLimit mid half →
-    BroughtInto asks way tries (λ a gap x taken b. IsKept (room a) (items_in_sink a) gap x taken (room b) (items_in_sink b)) half kept mid 1 ended left after new →
-    (came : List Came) × Brought asks path retries old w (n + 1) came after.items.items ended left new
-step_joined asks path way retries tries old half new before kept after w mid left n ended same_path same_retries same wide first step =
-    let one = into_same asks path way retries tries (λ a gap x taken b. IsKept (room a) (items_in_sink a) gap x taken (room b) (items_in_sink b)) half new kept after mid left 1 ended same_path same_retries step in
+step_joined : {S : Type 0} (asks : Asking S) (t between last : Transactions) (old half new : S) (before kept after : Kept) (w mid left : WalkPlace) (n : ℕ) (ended : Ended) →
+    kept.items.items ≡ before.items.items → length kept.items.items + 101 ≤ vec_capacity kept.items →
+    (came : List Came) × BroughtBy asks t old w n came before.items.items StepLimit mid between half →
+    BroughtIntoBy asks between (λ a gap x taken b. IsKept (room a) (items_in_sink a) gap x taken (room b) (items_in_sink b)) half kept mid 1 ended left after last new →
+    (came : List Came) × BroughtBy asks t old w (n + 1) came after.items.items ended left last new
+step_joined asks t between last old half new before kept after w mid left n ended same wide first one =
     let all = kept_all room items_in_sink kept one.0 (is_stopped ended) after one.1 (omega (arith, one.2, one.3, wide)) in
     let is : before.items.items ++ put_items one.0 ≡ after.items.items = ap (λ l. l ++ put_items one.0) (sym same) ∙ sym all.1 in
-    let P : List Item → Type 0 = λ l. (came : List Came) × Brought asks path retries old w (n + 1) came l ended left new in
-    subst P is (brought_joins asks path retries old half new w mid left n 1 before.items.items (put_items one.0) ended first one.4)
+    let P : List Item → Type 0 = λ l. (came : List Came) × BroughtBy asks t old w (n + 1) came l ended left last new in
+    subst P is (brought_joins asks t between last old half new w mid left n 1 before.items.items (put_items one.0) ended first one.4)
 
 pub loop-done-init : goal.loop-done-init
 loop-done-init g c =
@@ -64,10 +67,10 @@ loop-done-init g c =
       many = omega arith;
       few = search rules;
       run = subst P (search rules) (no_run was c.args.transactions.now.retries (g.L.LogLink.failures c.args.link.now) c.args.walk.now);
-      brought =
-          let B : List Item → Type 0 = λ l. (came : List Came) × Brought g.L.LogLink.asks (towards c.args.transactions.now.route) c.args.transactions.now.retries c.args.link.now c.args.walk.now 0 came
-          l StepLimit c.args.walk.now c.args.link.now in
-          subst B (search rules) (no_brought g.L.LogLink.asks (towards c.args.transactions.now.route) c.args.transactions.now.retries c.args.link.now c.args.walk.now);
+      transacted =
+          let B : List Item → Type 0 = λ l. (came : List Came) × BroughtBy g.L.LogLink.asks c.args.transactions.now c.args.link.now c.args.walk.now 0 came
+          l StepLimit c.args.walk.now c.args.transactions.now c.args.link.now in
+          subst B (search rules) (no_brought g.L.LogLink.asks c.args.transactions.now c.args.link.now c.args.walk.now);
     }
 
 pub returns-then-not-make_room-clause-delivers : goal.returns-then-not-make_room-clause-delivers
@@ -204,13 +207,13 @@ loop-done-preserved g c =
       many = omega (arith, more, put.5 limit, c.loop-done.invariant.many);
       few = omega (arith, more, put.2, put.3, c.loop-done.invariant.few);
       run = subst S limit run;
-      brought =
-          let B : Ended → Type 0 = λ e. (came : List Came) × Brought g.L.LogLink.asks (towards c.args.transactions.now.route) c.args.transactions.now.retries c.args.link.now c.args.walk.now
-          (c.loop-done.done + 1) came c.deliver-ended.new.sink.items.items e c.deliver-ended.new.walk c.deliver-ended.new.link in
-          subst B limit (step_joined g.L.LogLink.asks (towards c.args.transactions.now.route) (towards c.loop-done.transactions.route) c.args.transactions.now.retries c.loop-done.transactions.retries
+      transacted =
+          let B : Ended → Type 0 = λ e. (came : List Came) × BroughtBy g.L.LogLink.asks c.args.transactions.now c.args.link.now c.args.walk.now
+          (c.loop-done.done + 1) came c.deliver-ended.new.sink.items.items e c.deliver-ended.new.walk c.deliver-ended.new.transactions c.deliver-ended.new.link in
+          subst B limit (step_joined g.L.LogLink.asks c.args.transactions.now c.loop-done.transactions c.deliver-ended.new.transactions
           c.args.link.now c.loop-done.link c.deliver-ended.new.link c.loop-done.kept c.make_room.new.kept c.deliver-ended.new.sink c.args.walk.now c.loop-done.walk c.deliver-ended.new.walk
-          c.loop-done.done c.deliver-ended.result (ap towards c.loop-done.invariant.route) c.loop-done.invariant.retries c.make_room.ensures.items (c.make_room.ensures.room (cc))
-          c.loop-done.invariant.brought c.deliver-ended.ensures.brought);
+          c.loop-done.done c.deliver-ended.result c.make_room.ensures.items (c.make_room.ensures.room (cc))
+          c.loop-done.invariant.transacted c.deliver-ended.ensures.transacted);
     }
 
 pub returns-clause-delivers : goal.returns-clause-delivers
@@ -291,14 +294,14 @@ returns-in-Some-clause-limit g c is = absurd (why_limit c.deliver-ended.result (
 pub returns-clause-limit : goal.returns-clause-limit
 returns-clause-limit g c is = omega (arith, c.loop-done.invariant.many)
 
-pub returns-then-not-make_room-clause-brought : goal.returns-then-not-make_room-clause-brought
-returns-then-not-make_room-clause-brought g c =
-    let B : List Item → Type 0 = λ l. (came : List Came) × Brought g.L.LogLink.asks (towards c.args.transactions.now.route) c.args.transactions.now.retries c.args.link.now c.args.walk.now
-    c.loop-done.done came l StepLimit c.loop-done.walk c.loop-done.link in
-    (c.loop-done.done, StepLimit, (omega arith, refl), subst B (sym c.make_room.ensures.items) c.loop-done.invariant.brought)
+pub returns-then-not-make_room-clause-transacted : goal.returns-then-not-make_room-clause-transacted
+returns-then-not-make_room-clause-transacted g c =
+    let B : List Item → Type 0 = λ l. (came : List Came) × BroughtBy g.L.LogLink.asks c.args.transactions.now c.args.link.now c.args.walk.now
+    c.loop-done.done came l StepLimit c.loop-done.walk c.loop-done.transactions c.loop-done.link in
+    (c.loop-done.done, StepLimit, (omega arith, refl), subst B (sym c.make_room.ensures.items) c.loop-done.invariant.transacted)
 
-pub returns-in-Some-clause-brought : goal.returns-in-Some-clause-brought
-returns-in-Some-clause-brought g c =
+pub returns-in-Some-clause-transacted : goal.returns-in-Some-clause-transacted
+returns-in-Some-clause-transacted g c =
     let put = c.deliver-ended.ensures.delivers in
     let all = kept_all room items_in_sink c.make_room.new.kept put.0 (is_stopped c.deliver-ended.result) c.deliver-ended.new.sink put.1
     (omega (arith, put.2, put.3, c.make_room.ensures.room (cc))) in
@@ -306,18 +309,18 @@ returns-in-Some-clause-brought g c =
       c.args.steps,
       c.deliver-ended.result,
       ends_run c.deliver-ended.result c.in-Some.why c.args.steps all.0 some,
-      brought_early g.L.LogLink.asks (towards c.args.transactions.now.route) c.args.transactions.now.retries c.args.link.now c.deliver-ended.new.link c.args.walk.now c.deliver-ended.new.walk
+      brought_early g.L.LogLink.asks c.args.transactions.now c.deliver-ended.new.transactions c.args.link.now c.deliver-ended.new.link c.args.walk.now c.deliver-ended.new.walk
           (c.loop-done.done + 1) c.args.steps c.deliver-ended.new.sink.items.items c.deliver-ended.result (not_limit c.deliver-ended.result c.in-Some.why some) (omega arith)
-          (step_joined g.L.LogLink.asks (towards c.args.transactions.now.route) (towards c.loop-done.transactions.route) c.args.transactions.now.retries c.loop-done.transactions.retries
+          (step_joined g.L.LogLink.asks c.args.transactions.now c.loop-done.transactions c.deliver-ended.new.transactions
           c.args.link.now c.loop-done.link c.deliver-ended.new.link c.loop-done.kept c.make_room.new.kept c.deliver-ended.new.sink c.args.walk.now c.loop-done.walk c.deliver-ended.new.walk
-          c.loop-done.done c.deliver-ended.result (ap towards c.loop-done.invariant.route) c.loop-done.invariant.retries c.make_room.ensures.items (c.make_room.ensures.room (cc))
-          c.loop-done.invariant.brought c.deliver-ended.ensures.brought),
+          c.loop-done.done c.deliver-ended.result c.make_room.ensures.items (c.make_room.ensures.room (cc))
+          c.loop-done.invariant.transacted c.deliver-ended.ensures.transacted),
     )
 
-pub returns-clause-brought : goal.returns-clause-brought
-returns-clause-brought g c =
+pub returns-clause-transacted : goal.returns-clause-transacted
+returns-clause-transacted g c =
     let all : c.loop-done.done ≡ c.args.steps = omega arith in
-    (c.loop-done.done, StepLimit, (all, refl), c.loop-done.invariant.brought)
+    (c.loop-done.done, StepLimit, (all, refl), c.loop-done.invariant.transacted)
 
 pub returns-then-not-make_room-clause-ours : goal.returns-then-not-make_room-clause-ours
 returns-then-not-make_room-clause-ours g c r M H s low ours next window at =
@@ -363,11 +366,23 @@ returns-clause-unknown g c lacks =
     let same = c.loop-done.invariant.none here.1 in
     (same.0, c.next_number-2.ensures.next ∙ same.1, omega (arith, here.1))
 
+pub returns-then-not-make_room-clause-brought : goal.returns-then-not-make_room-clause-brought
+unfolding returns-then-not-make_room-clause-transacted
+returns-then-not-make_room-clause-brought g c =
+    let run = returns-then-not-make_room-clause-transacted g c in
+    (run.0, run.1, run.2, (run.3.0, brought_plain g.L.LogLink.asks c.args.transactions.now c.loop-done.transactions c.args.link.now c.loop-done.link c.args.walk.now c.loop-done.walk run.0 run.3.0 c.make_room.new.kept.items.items run.1 run.3.1))
+
 pub returns-then-not-make_room-clause-headline : goal.returns-then-not-make_room-clause-headline
 unfolding returns-then-not-make_room-clause-brought
 returns-then-not-make_room-clause-headline g c =
     delivers_run g.L.LogLink.asks (towards c.args.transactions.now.route) c.args.transactions.now.retries c.args.link.now c.loop-done.link c.args.walk.now c.loop-done.walk
     c.args.steps c.make_room.new.kept.items.items Memory (returns-then-not-make_room-clause-brought g c)
+
+pub returns-in-Some-clause-brought : goal.returns-in-Some-clause-brought
+unfolding returns-in-Some-clause-transacted
+returns-in-Some-clause-brought g c =
+    let run = returns-in-Some-clause-transacted g c in
+    (run.0, run.1, run.2, (run.3.0, brought_plain g.L.LogLink.asks c.args.transactions.now c.deliver-ended.new.transactions c.args.link.now c.deliver-ended.new.link c.args.walk.now c.deliver-ended.new.walk run.0 run.3.0 c.deliver-ended.new.sink.items.items run.1 run.3.1))
 
 pub returns-in-Some-clause-headline : goal.returns-in-Some-clause-headline
 unfolding returns-in-Some-clause-brought
@@ -375,8 +390,32 @@ returns-in-Some-clause-headline g c =
     delivers_run g.L.LogLink.asks (towards c.args.transactions.now.route) c.args.transactions.now.retries c.args.link.now c.deliver-ended.new.link c.args.walk.now c.deliver-ended.new.walk
     c.args.steps c.deliver-ended.new.sink.items.items c.in-Some.why (returns-in-Some-clause-brought g c)
 
+pub returns-clause-brought : goal.returns-clause-brought
+unfolding returns-clause-transacted
+returns-clause-brought g c =
+    let run = returns-clause-transacted g c in
+    (run.0, run.1, run.2, (run.3.0, brought_plain g.L.LogLink.asks c.args.transactions.now c.loop-done.transactions c.args.link.now c.loop-done.link c.args.walk.now c.loop-done.walk run.0 run.3.0 c.loop-done.kept.items.items run.1 run.3.1))
+
 pub returns-clause-headline : goal.returns-clause-headline
 unfolding returns-clause-brought
 returns-clause-headline g c =
     delivers_run g.L.LogLink.asks (towards c.args.transactions.now.route) c.args.transactions.now.retries c.args.link.now c.loop-done.link c.args.walk.now c.loop-done.walk
     c.args.steps c.loop-done.kept.items.items WasLimit (returns-clause-brought g c)
+
+pub returns-then-not-make_room-clause-growing : goal.returns-then-not-make_room-clause-growing
+unfolding returns-then-not-make_room-clause-transacted
+returns-then-not-make_room-clause-growing g c =
+    growing_run g.L.LogLink.asks c.args.transactions.now c.loop-done.transactions c.args.link.now c.loop-done.link c.args.walk.now c.loop-done.walk
+    c.args.steps c.make_room.new.kept.items.items Memory (returns-then-not-make_room-clause-transacted g c)
+
+pub returns-in-Some-clause-growing : goal.returns-in-Some-clause-growing
+unfolding returns-in-Some-clause-transacted
+returns-in-Some-clause-growing g c =
+    growing_run g.L.LogLink.asks c.args.transactions.now c.deliver-ended.new.transactions c.args.link.now c.deliver-ended.new.link c.args.walk.now c.deliver-ended.new.walk
+    c.args.steps c.deliver-ended.new.sink.items.items c.in-Some.why (returns-in-Some-clause-transacted g c)
+
+pub returns-clause-growing : goal.returns-clause-growing
+unfolding returns-clause-transacted
+returns-clause-growing g c =
+    growing_run g.L.LogLink.asks c.args.transactions.now c.loop-done.transactions c.args.link.now c.loop-done.link c.args.walk.now c.loop-done.walk
+    c.args.steps c.loop-done.kept.items.items WasLimit (returns-clause-transacted g c)

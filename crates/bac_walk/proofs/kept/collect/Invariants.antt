@@ -1,7 +1,8 @@
 use Rattle.std.proofs.Common.{[], ◌≡◌, ◌+◌, ◌*◌, ◌≤◌, length}
 use Rattle.bac_walk.specs.declared.outcome.Ended.TheVariants.{StepLimit}
 use Rattle.std.specs.Prelude.{List}
-use Rattle.bac_walk.specs.Came.{Came, Brought}
+use Rattle.bac_walk.specs.Came.{Came}
+use Rattle.bac_walk.specs.Transacted.{BroughtBy}
 use Rattle.bac_walk.specs.Sinks.{IsRun}
 use Rattle.bac_link.specs.Path.{towards}
 use Rattle.bac_walk.proofs.kept.collect.Given as goal
@@ -22,6 +23,6 @@ invariant-loop-done g l = record {
   few : length l.kept.items.items ≤ 101 * l.done;
   run : IsRun (λ r M H. g.L.LogLink.is_ours l.fn.link l.fn.walk.log r M H) (λ r M H. g.L.LogLink.is_ours l.link l.fn.walk.log r M H)
       l.fn.transactions.retries (g.L.LogLink.failures l.fn.link) (g.L.LogLink.failures l.link) l.fn.walk l.walk l.done StepLimit l.kept.items.items;
-  brought : (came : List Came) × Brought g.L.LogLink.asks (towards l.fn.transactions.route) l.fn.transactions.retries l.fn.link l.fn.walk l.done came
-      l.kept.items.items StepLimit l.walk l.link;
+  transacted : (came : List Came) × BroughtBy g.L.LogLink.asks l.fn.transactions l.fn.link l.fn.walk l.done came
+      l.kept.items.items StepLimit l.walk l.transactions l.link;
 }

@@ -5,7 +5,8 @@ use Rattle.bac_link.specs.Path.{Path, towards}
 use Rattle.bac_walk.specs.Honest.{DeliversSaid}
 use Rattle.bac_walk.proofs.Honest.{said_joins}
 use Rattle.bac_walk.specs.Came.{BroughtInto}
-use Rattle.bac_walk.proofs.Joined.{into_same}
+use Rattle.bac_walk.specs.Transacted.{BroughtIntoBy}
+use Rattle.bac_walk.proofs.Transacted.{into_same}
 use Rattle.bac_link.specs.Laws.{after_answers}
 use Rattle.bac_link.specs.Delivery.{DeliversTo}
 use Rattle.bac_link.specs.Moments.{AreInWindow}
@@ -22,7 +23,9 @@ returns g c =
     let to : c.in-Some.resumed ≡ walk_at c.deliver-first.new.walk.log c.deliver-first.new.walk.next =
     (c.in-Some.ensures {u = tt}).some ∙ ap (λ (o : Id). walk_at o c.next_number.result) c.log.ensures.log ∙ ap (λ (n : ℕ). walk_at c.deliver-first.new.walk.log n) c.next_number.ensures.next in
     let B : WalkPlace → Type 0 = λ w. BroughtInto g.L.LogLink.asks (towards c.args.transactions.now.route) c.args.transactions.now.retries g.R.Sink.puts
-    c.deliver-first.new.link c.args.rest.now w c.args.more c.deliver-second.result c.deliver-second.new.walk c.deliver-second.new.sink c.deliver-second.new.link in record {
+    c.deliver-first.new.link c.args.rest.now w c.args.more c.deliver-second.result c.deliver-second.new.walk c.deliver-second.new.sink c.deliver-second.new.link in
+    let C : WalkPlace → Type 0 = λ w. BroughtIntoBy g.L.LogLink.asks c.deliver-first.new.transactions g.R.Sink.puts
+    c.deliver-first.new.link c.args.rest.now w c.args.more c.deliver-second.result c.deliver-second.new.walk c.deliver-second.new.sink c.deliver-second.new.transactions c.deliver-second.new.link in record {
       brought = (
         c.deliver-first.new.walk,
         c.deliver-first.new.link,
@@ -30,6 +33,13 @@ returns g c =
         subst B to (into_same g.L.LogLink.asks (towards c.args.transactions.now.route) (towards c.deliver-first.new.transactions.route) c.args.transactions.now.retries c.deliver-first.new.transactions.retries
             g.R.Sink.puts c.deliver-first.new.link c.deliver-second.new.link c.args.rest.now c.deliver-second.new.sink c.in-Some.resumed c.deliver-second.new.walk c.args.more c.deliver-second.result
             (ap towards c.deliver-first.ensures.route) c.deliver-first.ensures.retries c.deliver-second.ensures.brought),
+      );
+      transacted = (
+        c.deliver-first.new.walk,
+        c.deliver-first.new.link,
+        c.deliver-first.new.transactions,
+        c.deliver-first.ensures.transacted,
+        subst C to c.deliver-second.ensures.transacted,
       );
       headline = λ had_number.
           let one = c.deliver-first.ensures.headline in

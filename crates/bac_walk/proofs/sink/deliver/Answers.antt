@@ -10,9 +10,11 @@ use Rattle.bac_walk.proofs.Near.{fewer_steps, next_step}
 use Rattle.bac_walk.proofs.Runs.{no_delivery, join_delivers, delivers_early, headline_of}
 use Rattle.bac_walk.proofs.Told.{told_same}
 use Rattle.bac_walk.proofs.Window.{in_window_of}
-use Rattle.bac_walk.proofs.Joined.{no_into, into_joins, into_early, into_same}
-use Rattle.bac_walk.specs.Came.{BroughtInto}
+use Rattle.bac_walk.proofs.TransactedRuns.{no_into, into_joins, into_early}
+use Rattle.bac_walk.proofs.Transacted.{into_plain}
+use Rattle.bac_walk.specs.Transacted.{BroughtIntoBy}
 use Rattle.bac_link.specs.Path.{towards}
+use Rattle.bac_walk.proofs.Growing.{into_growing}
 use Rattle.bac_walk.proofs.Honest.{into_said}
 use Rattle.bac_walk.proofs.sink.deliver.Goals as goal
 
@@ -35,7 +37,7 @@ loop-done-init g c = record {
   none = λ h. (refl, refl, refl, refl, refl);
   delivers = no_delivery g.S.Sink.puts c.args.sink.now (λ r M H. g.L.LogLink.is_ours c.args.link.now c.args.walk.now.log r M H)
       c.args.transactions.now.retries (g.L.LogLink.failures c.args.link.now) c.args.walk.now;
-  brought = no_into g.L.LogLink.asks (towards c.args.transactions.now.route) c.args.transactions.now.retries g.S.Sink.puts c.args.link.now c.args.sink.now c.args.walk.now;
+  transacted = no_into g.L.LogLink.asks c.args.transactions.now g.S.Sink.puts c.args.link.now c.args.sink.now c.args.walk.now;
 }
 
 pub returns-in_default : goal.returns-in_default
@@ -61,19 +63,22 @@ returns-in_default g c =
     (g.L.LogLink.failures c.args.link.now) (g.L.LogLink.failures c.loop-done.link) (g.L.LogLink.failures c.deliver_step.new.link)
     c.args.walk.now c.loop-done.walk c.deliver_step.new.walk c.loop-done.done c.deliver_step.result
     c.loop-done.invariant.delivers step c.loop-done.invariant.never_falls) in
-    let brought = into_early g.L.LogLink.asks (towards c.args.transactions.now.route) c.args.transactions.now.retries g.S.Sink.puts c.args.link.now c.deliver_step.new.link
+    let transacted = into_early g.L.LogLink.asks c.args.transactions.now c.deliver_step.new.transactions g.S.Sink.puts c.args.link.now c.deliver_step.new.link
     c.args.sink.now c.deliver_step.new.sink c.args.walk.now c.deliver_step.new.walk (c.loop-done.done + 1) c.args.steps c.deliver_step.result not_limit (omega arith)
-    (into_joins g.L.LogLink.asks (towards c.args.transactions.now.route) c.args.transactions.now.retries g.S.Sink.puts c.args.link.now c.loop-done.link c.deliver_step.new.link
+    (into_joins g.L.LogLink.asks c.args.transactions.now c.loop-done.transactions c.deliver_step.new.transactions g.S.Sink.puts c.args.link.now c.loop-done.link c.deliver_step.new.link
     c.args.sink.now c.loop-done.sink c.deliver_step.new.sink c.args.walk.now c.loop-done.walk c.deliver_step.new.walk c.loop-done.done 1 c.deliver_step.result
-    c.loop-done.invariant.brought
-    (into_same g.L.LogLink.asks (towards c.args.transactions.now.route) (towards c.loop-done.transactions.route) c.args.transactions.now.retries c.loop-done.transactions.retries
-    g.S.Sink.puts c.loop-done.link c.deliver_step.new.link c.loop-done.sink c.deliver_step.new.sink c.loop-done.walk c.deliver_step.new.walk 1 c.deliver_step.result
-    (ap towards c.loop-done.invariant.route) c.loop-done.invariant.retries c.deliver_step.ensures.brought)) in
+    c.loop-done.invariant.transacted
+    c.deliver_step.ensures.transacted) in
+    let brought = into_plain g.L.LogLink.asks c.args.transactions.now c.deliver_step.new.transactions g.S.Sink.puts c.args.link.now c.deliver_step.new.link
+    c.args.sink.now c.deliver_step.new.sink c.args.walk.now c.deliver_step.new.walk c.args.steps c.deliver_step.result transacted in
     record {
       none = λ h. absurd (omega (arith, h));
+      transacted = transacted;
       brought = brought;
       headline = into_said g.L.LogLink.asks (towards c.args.transactions.now.route) c.args.transactions.now.retries g.S.Sink.puts c.args.link.now c.deliver_step.new.link
           c.args.sink.now c.deliver_step.new.sink c.args.walk.now c.deliver_step.new.walk c.args.steps c.deliver_step.result brought;
+      growing = into_growing g.L.LogLink.asks c.args.transactions.now c.deliver_step.new.transactions g.S.Sink.puts c.args.link.now c.deliver_step.new.link
+          c.args.sink.now c.deliver_step.new.sink c.args.walk.now c.deliver_step.new.walk c.args.steps c.deliver_step.result transacted;
       told = told_same g.L.LogLink.asks (towards c.args.transactions.now.route) (towards c.loop-done.transactions.route) c.args.transactions.now.retries c.loop-done.transactions.retries
           c.deliver_step.result c.deliver_step.new.walk c.deliver_step.new.link (ap towards c.loop-done.invariant.route) c.loop-done.invariant.retries c.deliver_step.ensures.told;
       near = (
@@ -151,15 +156,13 @@ loop-done-preserved g c =
           (g.L.LogLink.failures c.args.link.now) (g.L.LogLink.failures c.loop-done.link) (g.L.LogLink.failures c.deliver_step.new.link)
           c.args.walk.now c.loop-done.walk c.deliver_step.new.walk c.loop-done.done StepLimit
           c.loop-done.invariant.delivers step c.loop-done.invariant.never_falls;
-      brought =
-          let B : Ended → Type 0 = λ e. BroughtInto g.L.LogLink.asks (towards c.args.transactions.now.route) c.args.transactions.now.retries g.S.Sink.puts c.loop-done.link c.loop-done.sink
-          c.loop-done.walk 1 e c.deliver_step.new.walk c.deliver_step.new.sink c.deliver_step.new.link in
-          into_joins g.L.LogLink.asks (towards c.args.transactions.now.route) c.args.transactions.now.retries g.S.Sink.puts c.args.link.now c.loop-done.link c.deliver_step.new.link
+      transacted =
+          let B : Ended → Type 0 = λ e. BroughtIntoBy g.L.LogLink.asks c.loop-done.transactions g.S.Sink.puts c.loop-done.link c.loop-done.sink
+          c.loop-done.walk 1 e c.deliver_step.new.walk c.deliver_step.new.sink c.deliver_step.new.transactions c.deliver_step.new.link in
+          into_joins g.L.LogLink.asks c.args.transactions.now c.loop-done.transactions c.deliver_step.new.transactions g.S.Sink.puts c.args.link.now c.loop-done.link c.deliver_step.new.link
           c.args.sink.now c.loop-done.sink c.deliver_step.new.sink c.args.walk.now c.loop-done.walk c.deliver_step.new.walk c.loop-done.done 1 StepLimit
-          c.loop-done.invariant.brought
-          (subst B c.in-StepLimit.is (into_same g.L.LogLink.asks (towards c.args.transactions.now.route) (towards c.loop-done.transactions.route) c.args.transactions.now.retries c.loop-done.transactions.retries
-          g.S.Sink.puts c.loop-done.link c.deliver_step.new.link c.loop-done.sink c.deliver_step.new.sink c.loop-done.walk c.deliver_step.new.walk 1 c.deliver_step.result
-          (ap towards c.loop-done.invariant.route) c.loop-done.invariant.retries c.deliver_step.ensures.brought));
+          c.loop-done.invariant.transacted
+          (subst B c.in-StepLimit.is c.deliver_step.ensures.transacted);
     }
 
 pub returns-clause-delivers : goal.returns-clause-delivers
@@ -195,15 +198,27 @@ returns-clause-ours g c =
           c.args.walk.now c.loop-done.walk c.args.steps StepLimit (put_items d.0) d.4),
     )
 
-pub returns-clause-brought : goal.returns-clause-brought
-returns-clause-brought g c =
+pub returns-clause-transacted : goal.returns-clause-transacted
+returns-clause-transacted g c =
     let all : c.loop-done.done ≡ c.args.steps = omega arith in
-    let P : ℕ → Type 0 = λ n. BroughtInto g.L.LogLink.asks (towards c.args.transactions.now.route) c.args.transactions.now.retries g.S.Sink.puts c.args.link.now c.args.sink.now
-    c.args.walk.now n StepLimit c.loop-done.walk c.loop-done.sink c.loop-done.link in
-    subst P all c.loop-done.invariant.brought
+    let P : ℕ → Type 0 = λ n. BroughtIntoBy g.L.LogLink.asks c.args.transactions.now g.S.Sink.puts c.args.link.now c.args.sink.now
+    c.args.walk.now n StepLimit c.loop-done.walk c.loop-done.sink c.loop-done.transactions c.loop-done.link in
+    subst P all c.loop-done.invariant.transacted
+
+pub returns-clause-brought : goal.returns-clause-brought
+unfolding returns-clause-transacted
+returns-clause-brought g c =
+    into_plain g.L.LogLink.asks c.args.transactions.now c.loop-done.transactions g.S.Sink.puts c.args.link.now c.loop-done.link
+    c.args.sink.now c.loop-done.sink c.args.walk.now c.loop-done.walk c.args.steps StepLimit (returns-clause-transacted g c)
 
 pub returns-clause-headline : goal.returns-clause-headline
 unfolding returns-clause-brought
 returns-clause-headline g c =
     into_said g.L.LogLink.asks (towards c.args.transactions.now.route) c.args.transactions.now.retries g.S.Sink.puts c.args.link.now c.loop-done.link
     c.args.sink.now c.loop-done.sink c.args.walk.now c.loop-done.walk c.args.steps StepLimit (returns-clause-brought g c)
+
+pub returns-clause-growing : goal.returns-clause-growing
+unfolding returns-clause-transacted
+returns-clause-growing g c =
+    into_growing g.L.LogLink.asks c.args.transactions.now c.loop-done.transactions g.S.Sink.puts c.args.link.now c.loop-done.link
+    c.args.sink.now c.loop-done.sink c.args.walk.now c.loop-done.walk c.args.steps StepLimit (returns-clause-transacted g c)

@@ -1,6 +1,6 @@
 use Rattle.std.proofs.Common.{◌≡◌, ◌+◌, ◌*◌, ◌≤◌}
 use Rattle.bac_walk.specs.declared.outcome.Ended.TheVariants.{StepLimit}
-use Rattle.bac_walk.specs.Came.{BroughtInto}
+use Rattle.bac_walk.specs.Transacted.{BroughtIntoBy}
 use Rattle.bac_walk.specs.Sinks.{Delivery}
 use Rattle.bac_link.specs.Path.{towards}
 use Rattle.bac_walk.proofs.sink.deliver.Given as goal
@@ -20,5 +20,5 @@ invariant-loop-done g l = record {
   delivers : Delivery g.S.Sink.puts l.fn.sink l.sink (λ r M H. g.L.LogLink.is_ours l.fn.link l.fn.walk.log r M H)
       (λ r M H. g.L.LogLink.is_ours l.link l.fn.walk.log r M H) l.fn.transactions.retries
       (g.L.LogLink.failures l.fn.link) (g.L.LogLink.failures l.link) l.fn.walk l.walk l.done StepLimit;
-  brought : BroughtInto g.L.LogLink.asks (towards l.fn.transactions.route) l.fn.transactions.retries g.S.Sink.puts l.fn.link l.fn.sink l.fn.walk l.done StepLimit l.walk l.sink l.link;
+  transacted : BroughtIntoBy g.L.LogLink.asks l.fn.transactions g.S.Sink.puts l.fn.link l.fn.sink l.fn.walk l.done StepLimit l.walk l.sink l.transactions l.link;
 }

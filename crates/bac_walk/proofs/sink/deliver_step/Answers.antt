@@ -5,7 +5,8 @@ use Rattle.bac_walk.proofs.Handed.{found_end, handed}
 use Rattle.bac_link.specs.Path.{towards}
 use Rattle.bac_walk.proofs.Near.{at_once}
 use Rattle.bac_walk.proofs.Told.{told_handed}
-use Rattle.bac_walk.proofs.Joined.{handed_brought}
+use Rattle.bac_walk.proofs.Transacted.{into_plain}
+use Rattle.bac_walk.proofs.TransactedRuns.{handed_brought}
 use Rattle.bac_walk.proofs.sink.deliver_step.Goals as goal
 
 pub returns-clause-delivers : goal.returns-clause-delivers
@@ -28,8 +29,14 @@ returns-clause-told g c =
     told_handed g.L.LogLink.asks (towards c.args.transactions.now.route) c.args.transactions.now.retries c.reply-replied.new.link g.S.Sink.puts c.args.sink.now c.reply-replied.new.self
     (step_of c.reply-replied.result) c.hand_on.result c.hand_on.new.walk c.hand_on.new.sink c.hand_on.ensures c.reply-replied.ensures.told
 
-pub returns-clause-brought : goal.returns-clause-brought
-returns-clause-brought g c =
-    handed_brought g.L.LogLink.asks (towards c.args.transactions.now.route) c.args.transactions.now.retries g.S.Sink.puts c.args.link.now c.reply-replied.new.link
+pub returns-clause-transacted : goal.returns-clause-transacted
+returns-clause-transacted g c =
+    handed_brought g.L.LogLink.asks c.args.transactions.now c.reply-replied.new.transactions g.S.Sink.puts c.args.link.now c.reply-replied.new.link
     c.args.sink.now c.hand_on.new.sink c.args.walk.now c.reply-replied.new.self c.hand_on.new.walk (step_of c.reply-replied.result) c.hand_on.result
-    c.reply-replied.ensures.brought c.hand_on.ensures
+    c.reply-replied.ensures.transacted c.hand_on.ensures
+
+pub returns-clause-brought : goal.returns-clause-brought
+unfolding returns-clause-transacted
+returns-clause-brought g c =
+    into_plain g.L.LogLink.asks c.args.transactions.now c.reply-replied.new.transactions g.S.Sink.puts c.args.link.now c.reply-replied.new.link
+    c.args.sink.now c.hand_on.new.sink c.args.walk.now c.hand_on.new.walk 1 c.hand_on.result (returns-clause-transacted g c)

@@ -16,7 +16,7 @@ use Rattle.bac_walk.specs.declared.outcome.Progress.{Progress}
 use Rattle.bac_walk.specs.declared.outcome.Progress.TheVariants.{Batch as BatchOf, AskOldest, CaughtUp as IsUp}
 use Rattle.std.specs.Prelude.{OnErr}
 use Rattle.bac_walk.proofs.Told.{told_first, told_second, turn_same}
-use Rattle.bac_walk.proofs.Brought.{brought_first, brought_second, came_same}
+use Rattle.bac_walk.proofs.Transacted.{brought_first, brought_second, brought_plain}
 use Rattle.bac_link.specs.Path.{towards}
 use Rattle.bac_walk.proofs.walk.Walk.reply.Goals as goal
 
@@ -173,15 +173,32 @@ returns-clause-told g c =
     (turn_same g.L.LogLink.asks (towards c.args.transactions.now.route) (towards c.turn-first.new.transactions.route) c.args.transactions.now.retries c.turn-first.new.transactions.retries
     c.turn-first.new.self (progress_of c.turn.result) c.turn.new.self c.turn.new.link (ap towards c.turn-first.ensures.route) c.turn-first.ensures.retries c.turn.ensures.told)
 
+pub returns-then-not-asks_next-clause-transacted : goal.returns-then-not-asks_next-clause-transacted
+returns-then-not-asks_next-clause-transacted g c =
+    brought_first g.L.LogLink.asks c.args.transactions.now c.args.link.now c.args.self.now c.restart.new.self
+    (progress_of c.turn-first.result) (step_of c.finished.result) c.turn-first.new.self c.turn-first.new.transactions c.turn-first.new.link c.restart.ensures c.finished.ensures (cc)
+    c.turn-first.ensures.came c.turn-first.ensures.begins
+
+pub returns-clause-transacted : goal.returns-clause-transacted
+returns-clause-transacted g c =
+    brought_second g.L.LogLink.asks c.args.transactions.now c.turn-first.new.transactions c.args.link.now c.args.self.now c.restart.new.self
+    (progress_of c.turn-first.result) c.turn-first.new.self c.turn-first.new.link (progress_of c.turn.result) (step_of c.finished-2.result) c.turn.new.self c.turn.new.transactions c.turn.new.link
+    c.restart.ensures c.finished-2.ensures (cc) c.turn-first.ensures.came c.turn-first.ensures.begins c.turn.ensures.came c.turn.ensures.begins
+
 pub returns-then-not-asks_next-clause-brought : goal.returns-then-not-asks_next-clause-brought
+unfolding returns-then-not-asks_next-clause-transacted
 returns-then-not-asks_next-clause-brought g c =
-    brought_first g.L.LogLink.asks (towards c.args.transactions.now.route) c.args.transactions.now.retries c.args.link.now c.args.self.now c.restart.new.self
-    (progress_of c.turn-first.result) (step_of c.finished.result) c.turn-first.new.self c.turn-first.new.link c.restart.ensures c.finished.ensures (cc) c.turn-first.ensures.came
+    let run = returns-then-not-asks_next-clause-transacted g c in (
+      run.0,
+      brought_plain g.L.LogLink.asks c.args.transactions.now c.turn-first.new.transactions c.args.link.now c.turn-first.new.link c.args.self.now c.turn-first.new.self 1
+          run.0 (step_items (step_of c.finished.result)) (step_ended (step_of c.finished.result)) run.1,
+    )
 
 pub returns-clause-brought : goal.returns-clause-brought
+unfolding returns-clause-transacted
 returns-clause-brought g c =
-    brought_second g.L.LogLink.asks (towards c.args.transactions.now.route) c.args.transactions.now.retries c.args.link.now c.args.self.now c.restart.new.self
-    (progress_of c.turn-first.result) c.turn-first.new.self c.turn-first.new.link (progress_of c.turn.result) (step_of c.finished-2.result) c.turn.new.self c.turn.new.link
-    c.restart.ensures c.finished-2.ensures (cc) c.turn-first.ensures.came
-    (came_same g.L.LogLink.asks (towards c.args.transactions.now.route) (towards c.turn-first.new.transactions.route) c.args.transactions.now.retries c.turn-first.new.transactions.retries
-    c.turn-first.new.link c.turn-first.new.self (progress_of c.turn.result) c.turn.new.self c.turn.new.link (ap towards c.turn-first.ensures.route) c.turn-first.ensures.retries c.turn.ensures.came)
+    let run = returns-clause-transacted g c in (
+      run.0,
+      brought_plain g.L.LogLink.asks c.args.transactions.now c.turn.new.transactions c.args.link.now c.turn.new.link c.args.self.now c.turn.new.self 1
+          run.0 (step_items (step_of c.finished-2.result)) (step_ended (step_of c.finished-2.result)) run.1,
+    )

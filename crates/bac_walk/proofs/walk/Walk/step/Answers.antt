@@ -10,6 +10,8 @@ use Rattle.bac_walk.proofs.Sames.{same_step}
 use Rattle.bac_link.specs.Path.{towards}
 use Rattle.bac_walk.specs.Told.{Told}
 use Rattle.bac_walk.specs.Came.{Came, Brought}
+use Rattle.bac_walk.specs.Transacted.{BroughtBy}
+use Rattle.bac_walk.proofs.Growing.{delivers_growing}
 use Rattle.bac_walk.proofs.Honest.{delivers_said}
 use Rattle.bac_walk.proofs.walk.Walk.step.Goals as goal
 
@@ -78,8 +80,23 @@ returns-clause-brought g c =
     c.args.link.now c.args.self.now 1 came (step_items c.decoded.result) e c.reply.new.self c.reply.new.link in
     subst Q same.ended (subst P same.items c.reply.ensures.brought)
 
+pub returns-clause-transacted : goal.returns-clause-transacted
+returns-clause-transacted g c =
+    let same = same_step (step_of c.reply.result) c.decoded.result c.decoded.ensures in
+    let P : List Item → Type 0 = λ l. (came : List Came) × BroughtBy g.L.LogLink.asks c.args.transactions.now
+    c.args.link.now c.args.self.now 1 came l (step_ended (step_of c.reply.result)) c.reply.new.self c.reply.new.transactions c.reply.new.link in
+    let Q : Ended → Type 0 = λ e. (came : List Came) × BroughtBy g.L.LogLink.asks c.args.transactions.now
+    c.args.link.now c.args.self.now 1 came (step_items c.decoded.result) e c.reply.new.self c.reply.new.transactions c.reply.new.link in
+    subst Q same.ended (subst P same.items c.reply.ensures.transacted)
+
 pub returns-clause-headline : goal.returns-clause-headline
 unfolding returns-clause-brought
 returns-clause-headline g c =
     delivers_said g.L.LogLink.asks (towards c.args.transactions.now.route) c.args.transactions.now.retries c.args.link.now c.reply.new.link c.args.self.now c.reply.new.self 1
     (step_items c.decoded.result) (step_ended c.decoded.result) (returns-clause-brought g c)
+
+pub returns-clause-growing : goal.returns-clause-growing
+unfolding returns-clause-transacted
+returns-clause-growing g c =
+    delivers_growing g.L.LogLink.asks c.args.transactions.now c.reply.new.transactions c.args.link.now c.reply.new.link c.args.self.now c.reply.new.self 1
+    (step_items c.decoded.result) (step_ended c.decoded.result) (returns-clause-transacted g c)

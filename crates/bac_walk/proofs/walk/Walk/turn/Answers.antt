@@ -13,7 +13,7 @@ use Rattle.bac_walk.proofs.Turns.{turn_of}
 use Rattle.bac_walk.proofs.OurReply.{says_in}
 use Rattle.bac_walk.proofs.Hearing.{turned_of, turned_goes}
 use Rattle.bac_walk.proofs.Told.{has_asked, told_bad, told_turned}
-use Rattle.bac_walk.proofs.Brought.{asks_from, came_bad, came_turned}
+use Rattle.bac_walk.proofs.Transacted.{asks_from, came_bad, came_turned}
 use Rattle.bac_walk.proofs.walk.Walk.turn.Goals as goal
 
 pub returns-in-Ok-hear-clause-ours : goal.returns-in-Ok-hear-clause-ours
@@ -103,8 +103,7 @@ returns-in-Err-clause-told g c =
 pub returns-in-Err-Lost-clause-came : goal.returns-in-Err-Lost-clause-came
 returns-in-Err-Lost-clause-came g c = (
   Err c.in-Err-Lost.field-0,
-  asks_from g.L.LogLink.asks (towards c.args.transactions.now.route) c.args.transactions.now.retries c.args.self.now (next_invoke c.args.transactions.now.invoke)
-      c.question-question.result c.args.link.now (Err c.in-Err-Lost.field-0) c.exchange.new.link c.question-question.ensures.asks.0 (c.in-Err-Lost.ensures {u = tt}).exchanges,
+  asks_from g.L.LogLink.asks c.args.transactions.now c.args.self.now c.question-question.result c.args.link.now (Err c.in-Err-Lost.field-0) c.exchange.new.link c.question-question.ensures.asks.0 (c.in-Err-Lost.ensures {u = tt}).exchanges,
   ap (λ (f : ExchangeFault). Err f) c.in-Err-Lost.field-0-is,
   refl,
 )
@@ -112,8 +111,7 @@ returns-in-Err-Lost-clause-came g c = (
 pub returns-in-Err-Refused-clause-came : goal.returns-in-Err-Refused-clause-came
 returns-in-Err-Refused-clause-came g c = (
   Err c.in-Err-Refused.field-0,
-  asks_from g.L.LogLink.asks (towards c.args.transactions.now.route) c.args.transactions.now.retries c.args.self.now (next_invoke c.args.transactions.now.invoke)
-      c.question-question.result c.args.link.now (Err c.in-Err-Refused.field-0) c.exchange.new.link c.question-question.ensures.asks.0 (c.in-Err-Refused.ensures {u = tt}).exchanges,
+  asks_from g.L.LogLink.asks c.args.transactions.now c.args.self.now c.question-question.result c.args.link.now (Err c.in-Err-Refused.field-0) c.exchange.new.link c.question-question.ensures.asks.0 (c.in-Err-Refused.ensures {u = tt}).exchanges,
   ap (λ (f : ExchangeFault). Err f) c.in-Err-Refused.field-0-is,
   refl,
 )
@@ -121,22 +119,19 @@ returns-in-Err-Refused-clause-came g c = (
 pub returns-in-Err-BadReply-clause-came : goal.returns-in-Err-BadReply-clause-came
 returns-in-Err-BadReply-clause-came g c = (
   Err c.in-Err-BadReply.field-0,
-  asks_from g.L.LogLink.asks (towards c.args.transactions.now.route) c.args.transactions.now.retries c.args.self.now (next_invoke c.args.transactions.now.invoke)
-      c.question-question.result c.args.link.now (Err c.in-Err-BadReply.field-0) c.exchange.new.link c.question-question.ensures.asks.0 (c.in-Err-BadReply.ensures {u = tt}).exchanges,
+  asks_from g.L.LogLink.asks c.args.transactions.now c.args.self.now c.question-question.result c.args.link.now (Err c.in-Err-BadReply.field-0) c.exchange.new.link c.question-question.ensures.asks.0 (c.in-Err-BadReply.ensures {u = tt}).exchanges,
   inl (ap (λ (f : ExchangeFault). Err f) c.in-Err-BadReply.field-0-is),
   refl,
 )
 
 pub returns-in-Ok-hear-clause-came : goal.returns-in-Ok-hear-clause-came
 returns-in-Ok-hear-clause-came g c =
-    let asked = asks_from g.L.LogLink.asks (towards c.args.transactions.now.route) c.args.transactions.now.retries c.args.self.now (next_invoke c.args.transactions.now.invoke)
-    c.question-question.result c.args.link.now (Ok c.in-Ok.datagram) c.exchange.new.link c.question-question.ensures.asks.0 c.in-Ok.ensures.exchanges in
-    came_turned g.L.LogLink.asks (towards c.args.transactions.now.route) c.args.transactions.now.retries c.args.link.now c.args.self.now c.in-Ok.datagram c.in-Ok-hear.turned
+    let asked = asks_from g.L.LogLink.asks c.args.transactions.now c.args.self.now c.question-question.result c.args.link.now (Ok c.in-Ok.datagram) c.exchange.new.link c.question-question.ensures.asks.0 c.in-Ok.ensures.exchanges in
+    came_turned g.L.LogLink.asks c.args.transactions.now c.args.link.now c.args.self.now c.in-Ok.datagram c.in-Ok-hear.turned
     c.hear.new.self c.exchange.new.link asked (c.in-Ok-hear.ensures {u = tt})
 
 pub returns-in-Err-clause-came : goal.returns-in-Err-clause-came
 returns-in-Err-clause-came g c =
-    let asked = asks_from g.L.LogLink.asks (towards c.args.transactions.now.route) c.args.transactions.now.retries c.args.self.now (next_invoke c.args.transactions.now.invoke)
-    c.question-question.result c.args.link.now (Ok c.in-Ok.datagram) c.exchange.new.link c.question-question.ensures.asks.0 c.in-Ok.ensures.exchanges in
-    came_bad g.L.LogLink.asks (towards c.args.transactions.now.route) c.args.transactions.now.retries c.args.link.now c.args.self.now c.in-Ok.datagram c.in-Err.field-0
+    let asked = asks_from g.L.LogLink.asks c.args.transactions.now c.args.self.now c.question-question.result c.args.link.now (Ok c.in-Ok.datagram) c.exchange.new.link c.question-question.ensures.asks.0 c.in-Ok.ensures.exchanges in
+    came_bad g.L.LogLink.asks c.args.transactions.now c.args.link.now c.args.self.now c.in-Ok.datagram c.in-Err.field-0
     c.hear.new.self c.exchange.new.link asked (c.in-Err.ensures {u = tt})

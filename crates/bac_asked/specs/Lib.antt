@@ -1,0 +1,4 @@
+pub mod Status
+pub mod Lines
+pub mod AsLog
+pub mod Wanted

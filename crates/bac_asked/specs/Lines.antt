@@ -1,0 +1,28 @@
+-- The lines of `bac keep`.
+use Rattle.std.specs.Prelude.{ℕ, ◌==◌, if◌then◌else◌, List, [], ◌∷◌, ◌++◌, codes, decimal}
+use Rattle.std.specs.String.{string_bytes}
+use Rattle.bac_archive.specs.declared.trend_logs.Source.{Source}
+use Rattle.bac_query.specs.Ends.{end_line}
+use Rattle.bac_asked.specs.declared.end.End.{End}
+
+-- a device's address, and for one behind a router its network and its address there
+unfoldable pub place_text : Source → List ℕ
+place_text source = string_bytes source.address
+    ++ (if source.dnet == 0 then [] else 47 ∷ (decimal source.dnet ++ (47 ∷ string_bytes source.dadr)))
+
+-- the device's address and the instance of its log
+unfoldable pub source_text : Source → List ℕ
+source_text source = place_text source ++ (32 ∷ decimal source.instance)
+
+-- a number, and what is counted
+unfoldable pub counted : ℕ → List ℕ → List ℕ → List ℕ
+counted n one many = decimal n ++ (if n == 1 then one else many)
+
+-- where a log is, how many records and gaps were kept, and how its walk ended
+unfoldable pub summary_line : Source → End → List ℕ
+summary_line source end = source_text source ++ (32 ∷ (counted end.records (codes " record ") (codes " records ")
+    ++ (counted end.gaps (codes " gap ") (codes " gaps ") ++ end_line end.why end.next)))
+
+-- that the device of a log began anew
+unfoldable pub anew_line : Source → List ℕ
+anew_line source = source_text source ++ codes " began anew\n"

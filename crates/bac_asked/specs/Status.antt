@@ -1,0 +1,22 @@
+-- The exit statuses of `bac keep`.
+use Rattle.std.specs.Prelude.{ℕ}
+use Rattle.bac_walk.specs.declared.outcome.WalkFault.TheVariants as walk
+use Rattle.bac_walk.specs.declared.outcome.Why.{Why}
+use Rattle.bac_walk.specs.declared.outcome.Why.TheVariants as why
+use Rattle.bac_asked.specs.declared.fault.FileFault.{FileFault}
+use Rattle.bac_asked.specs.declared.fault.FileFault.TheVariants.{InUse}
+
+-- of a walk, by why it ended: as `bac log` has it, but one that isn't at the log's end is told, since a timer looks at
+-- nothing else
+abbrev pub walk_status : Why → ℕ
+walk_status why.CaughtUp = 0
+walk_status why.StepLimit = 8
+walk_status (why.Fault walk.Lost) = 2
+walk_status (why.Fault (walk.Refused refusal)) = 3
+walk_status (why.Fault walk.BadReply) = 4
+walk_status why.Memory = 5
+
+-- of a file that is no use: another program has it open, or anything else
+abbrev pub file_status : FileFault → ℕ
+file_status InUse = 7
+file_status _ = 6

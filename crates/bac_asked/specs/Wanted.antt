@@ -1,0 +1,40 @@
+-- Which logs are to be fetched, and of which device each is asked.
+use Rattle.std.specs.Prelude.{◌≡◌, ◌⊎◌, ◌==◌, ℕ, Bool, true, false, List, [], ◌∷◌, ◌++◌, Option, None, Some}
+use Rattle.std.specs.List.{list_any}
+use Rattle.std.specs.String.{string_bytes}
+use Rattle.hex.specs.Hex.{encode_lower}
+use Rattle.bac_apdu.specs.Npdu.{Place}
+use Rattle.bac_archive.specs.declared.trend_logs.Source.{Source}
+use Rattle.bac_print.specs.Addresses.{address_text}
+use Rattle.bac_words.specs.declared.job.Asked.{Asked}
+use Rattle.bac_asked.specs.declared.log_words.Asking.{Asking}
+use Rattle.bac_asked.specs.declared.wanted.Wanted.{Wanted}
+
+-- a source has the network behind a router and the address there, or 0 and nothing
+abbrev pub IsBehind : Option Place → Source → Type 0
+IsBehind None source = (source.dnet ≡ 0) × (string_bytes source.dadr ≡ [])
+IsBehind (Some far) source = (source.dnet ≡ far.net) × (string_bytes source.dadr ≡ encode_lower far.address)
+
+-- the log of this instance of the device that is asked
+pub record IsSourceOf (asked : Asked) (instance : ℕ) (source : Source) : Type 0 where
+  pub address : string_bytes source.address ≡ address_text asked.address
+  pub behind : IsBehind asked.route source
+  pub instance_is : source.instance ≡ instance
+
+-- a log is asked of the device that it is kept under
+abbrev pub AsksItsSource : Wanted → Type 0
+AsksItsSource wanted = IsSourceOf wanted.asking.asked wanted.asking.instance wanted.source
+
+-- a log is asked for as another is: the same device, from the same address, and as long, as often and in as many steps
+abbrev pub IsAskedAs : Asking → Asking → Type 0
+IsAskedAs like asking = (asking.asked ≡ like.asked) × (asking.steps ≡ like.steps)
+
+-- one of several logs has this instance
+abbrev pub has_instance : ℕ → List Wanted → Bool
+has_instance instance all = list_any (λ (w : Wanted). w.source.instance == instance) all
+
+-- a log comes to others of its device, unless it is among them
+abbrev pub AddsOnce : Wanted → List Wanted → List Wanted → Type 0
+AddsOnce wanted before after =
+    ((has_instance wanted.source.instance before ≡ false) × (after ≡ before ++ wanted ∷ []))
+    ⊎ ((has_instance wanted.source.instance before ≡ true) × (after ≡ before))

@@ -1,0 +1,51 @@
+//! How a run over a log ended.
+
+ghost use Rattle.std.specs.Prelude.{◌≡◌};
+ghost use Rattle.bac_asked.specs.Status.{walk_status};
+
+use crate::fault::{Fault, FileFault};
+use bac_walk::{WalkFault, Why};
+use sqlite::Error;
+
+/// What was kept of a log, and why its walk ended.
+#[derive(Clone, Copy)]
+pub struct End {
+    /// How many records.
+    pub records: u64,
+    /// How many gaps.
+    pub gaps: u64,
+    /// Why the walk ended.
+    pub why: Why,
+    /// The number that comes next.
+    pub next: u32,
+    /// The device began anew, and a new epoch with it.
+    pub anew: bool,
+}
+
+/// Why a log isn't kept.
+#[derive(Clone, Copy)]
+pub enum NotDone {
+    /// As a tool that asks one device.
+    Asking(Fault),
+    /// The file is no use.
+    File(FileFault),
+}
+
+/// What a database that fails says.
+pub fn of_error(error: Error) -> NotDone {
+    NotDone::File(FileFault::of(error))
+}
+
+/// The exit status of a walk that ended so: 8 if there may be more.
+pub fn walk_status(why: Why) -> u8
+    ensures { result ≡ walk_status why }
+{
+    match why {
+        Why::CaughtUp => 0,
+        Why::StepLimit => 8,
+        Why::Fault(WalkFault::Lost) => 2,
+        Why::Fault(WalkFault::Refused(_)) => 3,
+        Why::Fault(WalkFault::BadReply) => 4,
+        Why::Memory => 5,
+    }
+}

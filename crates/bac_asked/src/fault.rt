@@ -1,0 +1,149 @@
+//! Why logs aren't kept.
+
+ghost use Rattle.std.specs.Prelude.{◌≡◌};
+ghost use Rattle.bac_asked.specs.Status.{file_status};
+
+use bac_archive::{NotAdded, Refused};
+use bac_link::ExchangeFault;
+use bac_words::Word;
+use sqlite::{Error, ErrorCode};
+use std::alloc::{AllocError, Global};
+use std::fmt::Write;
+
+/// Why a tool ends without what it was asked for, beside a file that is no use.
+#[derive(Clone, Copy, Debug, PartialEq, Eq)]
+pub enum Fault {
+    /// A word or an option has a value that it can't have.
+    BadValue(Word),
+    /// The same of a number that has over ten digits.
+    LongNumber(Word),
+    /// A socket couldn't be opened.
+    Socket,
+    /// The answer from this address didn't come, or isn't the ACK that belongs to the request.
+    Exchange {
+        address: [u8; 6],
+        fault: ExchangeFault,
+    },
+    /// The output refused a write.
+    Write,
+    /// Out of memory.
+    Memory,
+}
+
+/// Why a file isn't read or written.
+#[derive(Clone, Copy, Debug, PartialEq, Eq)]
+pub enum FileFault {
+    /// Another program has it open.
+    InUse,
+    /// It is a database, and no archive.
+    Foreign,
+    /// It is an archive of version 1.
+    First,
+    /// It is an archive of another version.
+    Version,
+    /// There is no such file.
+    Absent,
+    /// It keeps no such log.
+    NoLog,
+    /// It keeps no log.
+    NoLogs,
+    /// Its items lie over one another.
+    Overlap,
+    /// Its items are of no log, or of an epoch without a beginning.
+    Orphan,
+    /// It has 65,535 logs.
+    Full,
+    /// One of its logs has an address that is none.
+    Address,
+    /// A log began anew, or its numbers came round, as often as the file can tell.
+    Epochs,
+    /// Numbers of a log went back.
+    Back,
+    /// Out of memory.
+    Memory,
+    /// What the database says.
+    Database(Error),
+}
+
+impl FileFault {
+    /// The fault of a database.
+    pub fn of(error: Error) -> FileFault {
+        match error {
+            Error::SqliteFailure(ErrorCode::DatabaseBusy) => FileFault::InUse,
+            error => FileFault::Database(error),
+        }
+    }
+
+    /// The fault of a database that isn't opened as an archive.
+    pub fn of_refusal(refused: Refused) -> FileFault {
+        match refused {
+            Refused::Foreign => FileFault::Foreign,
+            Refused::First => FileFault::First,
+            Refused::Version => FileFault::Version,
+            Refused::Overlap => FileFault::Overlap,
+            Refused::Orphan => FileFault::Orphan,
+            Refused::Database(error) => FileFault::of(error),
+        }
+    }
+
+    /// The fault of an archive that takes no further log.
+    pub fn of_log(fault: NotAdded) -> FileFault {
+        match fault {
+            NotAdded::Full => FileFault::Full,
+            NotAdded::Database(error) => FileFault::of(error),
+        }
+    }
+
+    /// The program's exit status.
+    pub fn status(self) -> u8
+        ensures { result ≡ file_status self }
+    {
+        match self {
+            FileFault::InUse => 7,
+            _ => 6,
+        }
+    }
+
+    /// The lines that tell it.
+    pub fn lines(self, alloc: Global) -> Result<String, AllocError> {
+        let mut text = String::new(alloc);
+        match self {
+            FileFault::InUse => text.push_str("file in use\n")?,
+            FileFault::Database(error) => push_error(&mut text, error)?,
+            fault => {
+                text.push_str("file fault\n")?;
+                text.push_str(fault.why())?;
+                text.push_str("\n")?;
+            }
+        }
+        Ok(text)
+    }
+
+    fn why<'a>(self) -> &'a str {
+        match self {
+            FileFault::Foreign =>
+                "it is a database with other tables, and no archive of trend logs",
+            FileFault::First => "it is an archive of version 1, and version 2 is read",
+            FileFault::Version => "it is an archive of another version",
+            FileFault::Memory => "out of memory",
+            FileFault::Absent => "there is no such file",
+            FileFault::NoLog => "it keeps no such trend log",
+            FileFault::NoLogs => "there is no trend log in it",
+            FileFault::Overlap => "its items lie over one another",
+            FileFault::Orphan => "it has items of no trend log, or of an epoch without a beginning",
+            FileFault::Full => "it has 65535 trend logs",
+            FileFault::Address => "a trend log in it has an address that is none",
+            FileFault::Epochs => "a log in it began anew, or its numbers came round, 32767 times",
+            FileFault::Back => "the numbers of a log went back",
+            _ => "the database failed",
+        }
+    }
+}
+
+fn push_error(text: &mut String, error: Error) -> Result<(), AllocError> {
+    text.push_str("file fault\n")?;
+    if write!(text, "{error}").is_err() {
+        return Err(AllocError);
+    }
+    text.push_str("\n")
+}

@@ -1,0 +1,76 @@
+//! The line that tells what was kept of a log.
+
+ghost use Rattle.std.specs.Prelude.{◌≡◌, ◌==◌, ◌++◌, if◌then◌else◌, OnOk, List, Some};
+ghost use Rattle.std.specs.Float.Ieee.{binary64};
+ghost use Rattle.ryu.specs.Parse.{parse_float};
+ghost use Rattle.bac_asked.specs.Lines.{anew_line, counted, place_text, source_text, summary_line};
+
+use crate::end::End;
+use bac_archive::Source;
+use bac_print::push_number;
+use bac_query::push_end;
+use ryu::Buffer;
+use std::alloc::AllocError;
+
+/// Appends a device's address, and for one behind a router its network and its address there.
+#[tactic(auto, unfolding(crate::specs::Lines::place_text))]
+pub fn push_address(text: &mut Vec<u8>, source: &Source) -> Result<(), AllocError>
+    ensures { OnOk result (text.new.items ≡ text.old.items ++ place_text source.now) }
+{
+    text.extend_from_slice(source.address.as_bytes())?;
+    if source.dnet != 0 {
+        text.push(b'/')?;
+        push_number(text, u64::from(source.dnet))?;
+        text.push(b'/')?;
+        text.extend_from_slice(source.dadr.as_bytes())?;
+    }
+    Ok(())
+}
+
+/// Appends where a log is: its device's address and its instance.
+#[tactic(auto, unfolding(crate::specs::Lines::source_text))]
+pub fn push_source(text: &mut Vec<u8>, source: &Source) -> Result<(), AllocError>
+    ensures { OnOk result (text.new.items ≡ text.old.items ++ source_text source.now) }
+{
+    push_address(text, source)?;
+    text.push(b' ')?;
+    push_number(text, u64::from(source.instance))
+}
+
+/// Appends the shortest text that reads back as a number.
+pub fn push_short(text: &mut Vec<u8>, value: f64) -> Result<(), AllocError>
+    ensures { OnOk result ((short : List _) × (parse_float binary64 short ≡ Some value) × (text.new.items ≡ text.old.items ++ short)) }
+{
+    text.extend_from_slice(Buffer::new().format(value).as_bytes())
+}
+
+/// Appends a number and what is counted.
+#[tactic(auto, unfolding(crate::specs::Lines::counted))]
+fn push_count(text: &mut Vec<u8>, count: u64, one: &[u8], many: &[u8]) -> Result<(), AllocError>
+    ensures { OnOk result (text.new.items ≡ text.old.items ++ counted count one.now many.now) }
+{
+    push_number(text, count)?;
+    text.extend_from_slice(if count == 1 { one } else { many })
+}
+
+/// Appends the line of a log: how many records and gaps were kept, why its walk ended, and which
+/// number comes next.
+#[tactic(auto, unfolding(crate::specs::Lines::summary_line))]
+pub fn push_summary(text: &mut Vec<u8>, source: &Source, end: &End) -> Result<(), AllocError>
+    ensures { OnOk result (text.new.items ≡ text.old.items ++ summary_line source.now end.now) }
+{
+    push_source(text, source)?;
+    text.push(b' ')?;
+    push_count(text, end.records, b" record ", b" records ")?;
+    push_count(text, end.gaps, b" gap ", b" gaps ")?;
+    push_end(text, end.why, end.next)
+}
+
+/// Appends the line that tells that the device of a log began anew.
+#[tactic(auto, unfolding(crate::specs::Lines::anew_line))]
+pub fn push_anew(text: &mut Vec<u8>, source: &Source) -> Result<(), AllocError>
+    ensures { OnOk result (text.new.items ≡ text.old.items ++ anew_line source.now) }
+{
+    push_source(text, source)?;
+    text.extend_from_slice(b" began anew\n")
+}

@@ -1,0 +1,177 @@
+//! A link that may lose any ask, to a log of REALs that grows between any two, for ever: that it
+//! stays honest, and that the headline holds over it, is proved from public contracts alone.
+
+ghost use Rattle.std.specs.Prelude.{ℕ, ◌≡◌, ◌+◌, ◌*◌, ◌<◌, ◌≤◌, false, get_or, None, Some};
+ghost use Rattle.bac_log.specs.TrendLog.{sequence_number};
+ghost use Rattle.bac_link.specs.Growing.{StaysHonest};
+ghost use Rattle.bac_link.specs.Path.{towards};
+ghost use Rattle.bac_walk.specs.Growing.{most_asks, HasDelivered};
+ghost use Rattle.bac_walk.specs.Told.{ended_of};
+ghost use Rattle.bac_client_tests.specs.declared.growing_callers.GrowingLink.{GrowingLink as GrowingLinkOf};
+ghost use Rattle.bac_client_tests.specs.Foreign.{log as log_one};
+ghost use Rattle.bac_client_tests.specs.Growing.{about, answer_to, logged_so_far, MayGrow};
+
+use crate::direct_link::brought;
+use bac_link::{Item, LogLink, Lost, Transactions};
+use bac_log::{Datum, Entry};
+use bac_walk::{Outcome, Walk, Why, collect};
+use bac_wire::{Datagram, Date4, ObjectId, Time4};
+use std::alloc::Global;
+use std::test::Fail;
+
+/// A link to the device. It has logged so many records, one more at each ask, and loses each third
+/// ask, and those that it doesn't know.
+#[derive(Clone, Copy, Debug, Drop)]
+pub struct GrowingLink {
+    logged: u64,
+    failures: u64,
+    turn: u8,
+}
+
+/// The octet at a place, and 0 where there is none.
+fn octet_at(octets: &[u8], place: usize) -> u8
+    ensures { result ≡ get_or octets.now place 0 }
+{
+    match octets.get(place) {
+        Some(octet) => *octet,
+        None => 0,
+    }
+}
+
+/// The answer about a record: the record, if there are so many, or none.
+fn about(logged: u64, invoke: u8, number: u8) -> Option<Datagram>
+    ensures { result ≡ Some (about logged invoke number) }
+{
+    if number > 0 && u64::from(number) <= logged {
+        return Datagram::of(&[
+            0x81, 0x0a, 0x00, 0x2c, 0x01, 0x00, 0x30, invoke, 0x1a, 0x0c, 0x05, 0x00, 0x00, 0x01,
+            0x19, 0x83, 0x3a, 0x05, 0xc0, 0x49, 0x01, 0x5e, 0x0e, 0xa4, 0x7c, 0x05, 0x06, 0x01,
+            0xb4, 0x08, 0x00, 0x00, 0x00, 0x0f, 0x1e, 0x2c, 0x41, 0xc8, 0x00, 0x00, 0x1f, 0x5f,
+            0x69, number,
+        ]);
+    }
+    Datagram::of(&[
+        0x81, 0x0a, 0x00, 0x18, 0x01, 0x00, 0x30, invoke, 0x1a, 0x0c, 0x05, 0x00, 0x00, 0x01, 0x19,
+        0x83, 0x3a, 0x05, 0x00, 0x4a, 0x00, 0x00, 0x5e, 0x5f,
+    ])
+}
+
+/// What the log answers once it has so many records, if it does.
+fn answer_to(logged: u64, question: &[u8]) -> Option<Datagram>
+    ensures { result ≡ answer_to logged question.now }
+{
+    let invoke = octet_at(question, 8);
+    if octet_at(question, 17) == 0x7e {
+        return about(logged, invoke, 1);
+    }
+    // A number of one octet: of a longer one the first octet says nothing.
+    if octet_at(question, 18) != 0x21 {
+        return None;
+    }
+    about(logged, invoke, octet_at(question, 19))
+}
+
+/// It isn't claimed to be ours: what is proved over it follows from what an ask is.
+impl LogLink for GrowingLink {
+    ghost failures = { λ link. link.failures };
+
+    ghost is_ours = { λ link id r M H. ⊥ };
+
+    ghost lacks = { λ link id. ⊥ };
+
+    ghost is_sure = { λ link path. ⊥ };
+
+    ghost keeps = { λ a b. Unit {0} };
+
+    ghost asks = { λ old octets answer new. MayGrow old.logged octets answer new.logged };
+
+    fn ask(&mut self, request: &[u8]) -> Result<Datagram, Lost> {
+        self.logged = self.logged.saturating_add(1);
+        self.turn = (self.turn % 3) + 1;
+        if self.turn < 3 {
+            if let Some(reply) = answer_to(self.logged, request) {
+                return Ok(reply);
+            }
+        }
+        self.failures = self.failures.saturating_add(1);
+        Err(Lost)
+    }
+
+    ghost serves = { λ link id r M H h. absurd h };
+
+    ghost tells_ours = { λ old new octets answer id r M H extent path invoke h is asked. absurd h };
+
+    ghost keeps_itself = { λ link. tt };
+
+    ghost keeps_on = { λ a b c h k. tt };
+}
+
+/// Whichever asks are lost, and however many records are logged between any two, up to a hundred: the
+/// link stays honest for its log, for as many asks as keep it within half of the count.
+pub fn a_growing_log_stays_honest()
+    ensures { (more : ℕ) (link : GrowingLinkOf) → link.logged + 100 * more < 2147483648 →
+        StaysHonest {S = GrowingLinkOf} (λ old octets answer new. MayGrow old.logged octets answer new.logged) (towards None) log_one 1 more link
+        (logged_so_far link.logged) }
+{}
+
+/// So a walk of its log, from any number or from the oldest record, delivers what the log held when
+/// each reply came, each record once, and ends with no fault but a loss.
+pub fn walk_of_a_growing_log(
+    alloc: Global,
+    link: &mut GrowingLink,
+    transactions: &mut Transactions,
+    walk: &mut Walk,
+    steps: u32,
+) -> Outcome
+    ensures { (s : ℕ) → transactions.old.route ≡ None → walk.old.log ≡ log_one → walk.old.next ≡ sequence_number s →
+        link.old.logged + 100 * most_asks steps transactions.old.retries < 2147483648 →
+        (walk.old.fresh ≡ false → (1 ≤ s) × (s < 2147483649)) →
+        HasDelivered {S = GrowingLinkOf} (λ old octets answer new. MayGrow old.logged octets answer new.logged) (towards transactions.old.route)
+        transactions.old.retries link.old 1 s (logged_so_far link.old.logged) walk.old result.items.items (ended_of result.why) walk.new }
+{
+    collect(alloc, link, transactions, walk, steps)
+}
+
+/// The record of this number.
+fn real(number: u32) -> Item {
+    let date = Date4 {
+        year: 124,
+        month: 5,
+        day: 6,
+        weekday: 1,
+    };
+    let time = Time4 {
+        hour: 8,
+        minute: 0,
+        second: 0,
+        hundredth: 0,
+    };
+    let entry = Entry {
+        date,
+        time,
+        datum: Datum::Real4([65, 200, 0, 0]),
+        flags: None,
+    };
+    Item::Logged { number, entry }
+}
+
+#[test]
+fn a_growing_log_is_walked(rt: HostRuntime) -> Result<(), Fail> {
+    let log = ObjectId::new(20, 1).ok_or("no such identifier")?;
+    let mut link = GrowingLink {
+        logged: 2,
+        failures: 0,
+        turn: 0,
+    };
+    let mut walk = Walk::from_number(log, 2).ok_or("no walk")?;
+    let mut transactions = Transactions::new(1);
+    let outcome = walk_of_a_growing_log(rt.alloc(), &mut link, &mut transactions, &mut walk, 4);
+    brought(
+        &rt,
+        &outcome,
+        &[real(2), real(3), real(4), real(5)],
+        6,
+        Why::StepLimit,
+    );
+    Ok(())
+}

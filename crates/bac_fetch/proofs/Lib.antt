@@ -1,0 +1,4 @@
+pub mod StaysLemmas
+pub mod KeepsLemmas
+pub mod AskedLemmas
+pub mod DiscoveredLemmas

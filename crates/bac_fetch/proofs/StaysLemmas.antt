@@ -1,0 +1,101 @@
+-- A run takes nothing away.
+use Rattle.std.proofs.Common.{◌≡◌, inl, inr, ℕ, ◌⊎◌, List, Result, Ok, Err, ap, refl, subst, sym, ◌∙◌, arith}
+use Rattle.std.specs.List.{Contains}
+use Rattle.std.proofs.lemmas.List.Elements.{Contains-append_left}
+use Rattle.std.proofs.lemmas.List.Sorted.{Contains-permutation}
+use Rattle.sqlite_value.specs.Order.{Row as Values}
+use Rattle.sqlite_trees.specs.Tree.{Trees}
+use Rattle.sqlite.specs.Effect.{Database}
+use Rattle.sqlite.specs.State.{State, HasCleanDisk, IsUnchanged, Survives}
+use Rattle.sqlite.proofs.StateLemmas.{survives_then}
+use Rattle.bac_archive.specs.Rows.{kept, known, Adds}
+use Rattle.bac_archive.specs.Schema.{archive_schema}
+use Rattle.bac_archive.specs.Logs.{AddsLog, HasNewLog}
+use Rattle.bac_ports.specs.Sockets.{SocketRules}
+use Rattle.bac_fetch.specs.Keeps.{KeepsBegun, KeepsSource}
+use Rattle.bac_fetch.specs.Stays.{HasAllOf}
+use Rattle.bac_asked.specs.declared.end.End.{End}
+use Rattle.bac_fetch.specs.declared.fetching.Start.{Start}
+use Rattle.bac_asked.specs.declared.wanted.Wanted.{Wanted}
+
+pub all_itself : (trees : Trees) → HasAllOf trees trees
+all_itself trees = record { items = λ row at. at; logs = λ row at. at }
+
+pub all_then : (a b c : Trees) → HasAllOf a b → HasAllOf b c → HasAllOf a c
+all_then a b c one two = record { items = λ row at. two.items row (one.items row at); logs = λ row at. two.logs row (one.logs row at) }
+
+-- rows that are added take none away
+pub adds_all : (a b : Trees) (more : List Values) → Adds a b more → HasAllOf a b
+adds_all a b more it = record {
+  items = λ row at. Contains-permutation _ (kept b) row it.items (Contains-append_left (kept a) more row at);
+  logs = λ row at. subst (λ rows. Contains rows row) (sym it.logs) at;
+}
+
+pub log_all : (a b : Trees) (log : Values) → AddsLog a b log → HasAllOf a b
+log_all a b log it = record {
+  items = λ row at. subst (λ rows. Contains rows row) (sym it.items) at;
+  logs = λ row at. Contains-permutation _ (known b) row it.logs (Contains-append_left (known a) _ row at);
+}
+
+-- what a call may leave in one sense it leaves in a wider one
+pub survives_as : (old new : State) (P Q : Trees → Type 0) → (HasCleanDisk new → (db : Trees) → P db → Q db) → Survives old new P → Survives old new Q
+survives_as old new P Q f it = record {
+  clean = it.clean;
+  shield = it.shield;
+  counts = it.counts;
+  limit = it.limit;
+  closes = it.closes;
+  crash = λ clean db may. elim (it.crash clean db may) [ inl was ↦ inl was | inr more ↦ inr (f clean db more) ];
+}
+
+-- two calls, the second over what the first made
+pub stays_then : (old mid new : State) → HasAllOf old.now.trees mid.now.trees → Survives old mid (HasAllOf old.now.trees)
+    → Survives mid new (HasAllOf mid.now.trees) → Survives old new (HasAllOf old.now.trees)
+stays_then old mid new all one two = survives_then old mid new _ _ (HasAllOf old.now.trees) (λ _ db it. it)
+    (λ _ db it. all_then old.now.trees mid.now.trees db all it) one two
+
+-- a log's row came or not
+pub log_stays : (old mid : State) (row : ℕ → Values) → Survives old mid (λ trees. (db : Database) × (id : ℕ) × HasNewLog old.now db (row id) × (trees ≡ db.trees))
+    → Survives old mid (HasAllOf old.now.trees)
+log_stays old mid row it = survives_as old mid _ (HasAllOf old.now.trees)
+    (λ _ db left. subst (HasAllOf old.now.trees) (sym left.3) (log_all old.now.trees left.0.trees _ left.2.rows)) it
+
+-- a log is there or its row came, and then something is done that takes nothing away
+pub one_stays : (old mid new : State) (row : ℕ → Values) (id : ℕ) → old.now.schema ≡ archive_schema
+    → Survives old mid (λ trees. (db : Database) × (id : ℕ) × HasNewLog old.now db (row id) × (trees ≡ db.trees))
+    → IsUnchanged old mid ⊎ (HasNewLog old.now mid.now (row id) × (mid.committed ≡ mid.now))
+    → (mid.now.schema ≡ archive_schema → Survives mid new (HasAllOf mid.now.trees)) → Survives old new (HasAllOf old.now.trees)
+one_stays old mid new row id has crash added then =
+    let schema : mid.now.schema ≡ archive_schema = elim added [
+      | inl same ↦ ap (λ (d : Database). d.schema) same.0.now_is ∙ has
+      | inr more ↦ more.0.schema
+    ] in
+    let all : HasAllOf old.now.trees mid.now.trees = elim added [
+      | inl same ↦ subst (λ (d : Database). HasAllOf old.now.trees d.trees) (sym same.0.now_is) (all_itself old.now.trees)
+      | inr more ↦ log_all old.now.trees mid.now.trees (row id) more.0.rows
+    ] in
+    stays_then old mid new all (log_stays old mid row crash) (then schema)
+
+begun_stays : (begun : Result Start End) (old new : Database) (end : End) → KeepsBegun begun old new end → HasAllOf old.trees new.trees
+begun_stays (Ok start) old new end it = adds_all old.trees new.trees _ it.rows.rows
+begun_stays (Err none) old new end it = subst (λ (d : Database). HasAllOf old.trees d.trees) (sym it.0) (all_itself old.trees)
+
+-- what is kept of a log takes nothing away
+pub source_stays : {S P : Type 0} (over : SocketRules S P) (wanted : Wanted) (before after : S) (old new : Database) (end : End) →
+    KeepsSource over wanted before after old new end → HasAllOf old.trees new.trees
+source_stays over wanted before after old new end it =
+    let known : HasAllOf old.trees it.known.trees = elim it.added [
+      | inl same ↦ subst (λ (d : Database). HasAllOf old.trees d.trees) (sym same) (all_itself old.trees)
+      | inr more ↦ log_all old.trees it.known.trees _ more.rows
+    ] in
+    all_then old.trees it.known.trees new.trees known (begun_stays it.kept.0 it.known new end it.kept.2)
+
+pub itself_stays : (old : State) → Survives old old (HasAllOf old.now.trees)
+itself_stays old = record {
+  clean = omega arith;
+  shield = λ on. on;
+  counts = omega arith;
+  limit = refl;
+  closes = λ clean on. inl on;
+  crash = λ clean db may. inl may;
+}

@@ -1,0 +1,38 @@
+use Rattle.std.proofs.Common.{ap, subst, ◌∙◌}
+use Rattle.std.proofs.lemmas.Result.{IfOk-weaker}
+use Rattle.sqlite.specs.Effect.{Database}
+use Rattle.sqlite.specs.State.{HasCleanDisk}
+use Rattle.sqlite.specs.Held.{state}
+use Rattle.bac_ports.specs.Sockets.{socket_rules}
+use Rattle.bac_fetch.specs.Keeps.{KeepsAll}
+use Rattle.bac_fetch.proofs.keeping.keep_chosen.Goals as goal
+
+pub returns : goal.returns
+returns g c =
+    let over = socket_rules g.S.Sockets.opens g.S.Sockets.closes g.S.Socket.Port.sends g.S.Socket.Port.receives g.S.Socket.Port.receives_within in
+    let all = c.in_ok-all.all.items in
+    let between = c.chosen_logs.new.sockets in
+    let after = c.keep_each.new.sockets in
+    let mid = state g.A.Store c.chosen_logs.new.conn in
+    let new = state g.A.Store c.keep_each.new.conn in
+    record {
+      told = IfOk-weaker c.keep_each.result _ _
+          (λ status told. (
+            all,
+            between,
+            c.in_ok-all.ensures.asks,
+            c.in_ok-all.ensures.found,
+            (λ clean has. c.in_ok-all.ensures.chosen (c.keep_each.ensures.clean clean) has),
+            (
+              told.0,
+              told.1,
+              told.2,
+              told.3,
+              λ clean has.
+                  let early : HasCleanDisk mid = c.keep_each.ensures.clean clean in
+                  let same = c.in_ok-all.ensures.same early has in
+                  subst (λ (d : Database). KeepsAll over all between after d new.now told.0) same (told.4 clean (ap (λ (d : Database). d.schema) same ∙ has)),
+            ),
+          ))
+          c.keep_each.ensures.told;
+    }

@@ -1,0 +1,72 @@
+use Rattle.std.proofs.Common.{◌≡◌, ℕ, inl, inr, ap, option_map, subst, ◌∙◌}
+use Rattle.sqlite_value.specs.Order.{Row as Values}
+use Rattle.sqlite.specs.Effect.{Database}
+use Rattle.sqlite.specs.State.{HasCleanDisk}
+use Rattle.sqlite.specs.Held.{state}
+use Rattle.bac_archive.specs.Schema.{archive_schema}
+use Rattle.bac_archive.specs.Logs.{HasNewLog, log_row}
+use Rattle.bac_fetch.proofs.StaysLemmas.{log_stays, one_stays}
+use Rattle.bac_fetch.proofs.keeping.keep_one.Goals as goal
+
+pub returns-clause-told : goal.returns-clause-told
+returns-clause-told g c = (
+  c.in_ok-end.end,
+  c.walk_status.ensures,
+  c.in_ok-print_end.ensures,
+  λ clean has.
+      let old = state g.A.Store c.args.conn.now in
+      let known = state g.A.Store c.add_log.new.conn in
+      let mid : HasCleanDisk known = c.fetch-fetched.ensures.clean clean in
+      let added = c.in-Ok.ensures.added mid has in
+      let schema : known.now.schema ≡ archive_schema = elim added [
+        | inl same ↦ ap (λ (d : Database). d.schema) same.0.now_is ∙ has
+        | inr more ↦ more.0.schema
+      ] in
+      record {
+        id = c.in-Ok.id;
+        known = known.now;
+        added = elim added [
+          | inl same ↦ inl same.0.now_is
+          | inr more ↦ inr (subst (λ n. HasNewLog old.now known.now (log_row c.in-Ok.id c.args.wanted.source n)) c.name_of.ensures more.0)
+        ];
+        log = c.in-Ok.ensures.known mid has;
+        kept = c.in_ok-end.ensures.kept clean schema;
+      },
+)
+
+pub returns-in-Err-clause-stays : goal.returns-in-Err-clause-stays
+returns-in-Err-clause-stays g c clean has =
+    let row : ℕ → Values = λ id. log_row id c.args.wanted.source (option_map (λ s. s.now) c.name_of.result) in
+    log_stays (state g.A.Store c.args.conn.now) (state g.A.Store c.add_log.new.conn) row (c.add_log.ensures.crash has)
+
+pub returns-in_err-end-clause-stays : goal.returns-in_err-end-clause-stays
+returns-in_err-end-clause-stays g c clean has =
+    let known = state g.A.Store c.add_log.new.conn in
+    let row : ℕ → Values = λ id. log_row id c.args.wanted.source (option_map (λ s. s.now) c.name_of.result) in
+    let mid : HasCleanDisk known = c.fetch-fetched.ensures.clean clean in
+    one_stays (state g.A.Store c.args.conn.now) known (state g.A.Store c.fetch-fetched.new.conn) row c.in-Ok.id has (c.add_log.ensures.crash has) (c.in-Ok.ensures.added mid has)
+    (c.fetch-fetched.ensures.stays clean)
+
+pub returns-in_err-tell_anew-clause-stays : goal.returns-in_err-tell_anew-clause-stays
+returns-in_err-tell_anew-clause-stays g c clean has =
+    let known = state g.A.Store c.add_log.new.conn in
+    let row : ℕ → Values = λ id. log_row id c.args.wanted.source (option_map (λ s. s.now) c.name_of.result) in
+    let mid : HasCleanDisk known = c.fetch-fetched.ensures.clean clean in
+    one_stays (state g.A.Store c.args.conn.now) known (state g.A.Store c.fetch-fetched.new.conn) row c.in-Ok.id has (c.add_log.ensures.crash has) (c.in-Ok.ensures.added mid has)
+    (c.fetch-fetched.ensures.stays clean)
+
+pub returns-in_err-print_end-clause-stays : goal.returns-in_err-print_end-clause-stays
+returns-in_err-print_end-clause-stays g c clean has =
+    let known = state g.A.Store c.add_log.new.conn in
+    let row : ℕ → Values = λ id. log_row id c.args.wanted.source (option_map (λ s. s.now) c.name_of.result) in
+    let mid : HasCleanDisk known = c.fetch-fetched.ensures.clean clean in
+    one_stays (state g.A.Store c.args.conn.now) known (state g.A.Store c.fetch-fetched.new.conn) row c.in-Ok.id has (c.add_log.ensures.crash has) (c.in-Ok.ensures.added mid has)
+    (c.fetch-fetched.ensures.stays clean)
+
+pub returns-clause-stays : goal.returns-clause-stays
+returns-clause-stays g c clean has =
+    let known = state g.A.Store c.add_log.new.conn in
+    let row : ℕ → Values = λ id. log_row id c.args.wanted.source (option_map (λ s. s.now) c.name_of.result) in
+    let mid : HasCleanDisk known = c.fetch-fetched.ensures.clean clean in
+    one_stays (state g.A.Store c.args.conn.now) known (state g.A.Store c.fetch-fetched.new.conn) row c.in-Ok.id has (c.add_log.ensures.crash has) (c.in-Ok.ensures.added mid has)
+    (c.fetch-fetched.ensures.stays clean)

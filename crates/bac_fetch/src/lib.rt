@@ -1,0 +1,11 @@
+//! What is new of trend logs is asked of their devices and kept in an open archive. What comes from a
+//! device may come from anyone, and a file may have been written by anyone.
+#![tactic(auto)]
+
+mod count;
+mod discovering;
+mod fetching;
+mod keeping;
+mod questions;
+
+pub use keeping::{Chosen, keep_chosen, keep_each};

@@ -1,0 +1,127 @@
+//! Single questions to a device.
+
+ghost use Rattle.std.specs.Prelude.{◌≡◌, IfOk, IfSome, IsSomeAnd, OnOk};
+ghost use Rattle.bac_wire.specs.OptionChain.{GivesSome};
+ghost use Rattle.bac_wire.specs.Primitive.{Chars, Primitive};
+ghost use Rattle.bac_wire.specs.View.{view};
+ghost use Rattle.bac_wire.specs.Spelling.{Spells};
+ghost use Rattle.bac_link.specs.Datagrams.{apdu_in};
+ghost use Rattle.bac_link.specs.Path.{towards};
+ghost use Rattle.bac_query.specs.Reading.{values_in};
+ghost use Rattle.bac_fetch.specs.Discovered.{IsObject, Reads, ReadsNumber, Tells, TellsObject};
+
+use bac_apdu::{Apdu, ReadProperty, ReadPropertyAck};
+use bac_link::{ExchangeFault, LogLink, Request, Transactions, exchange, read_datagram};
+use bac_wire::{Datagram, ObjectId, Value, read_value};
+
+/// The octets of the values that an ACK has.
+fn values_in(datagram: &Datagram) -> Option<&[u8]>
+    ensures { GivesSome (λ values. values.now) result (values_in (apdu_in datagram.now)) }
+{
+    match read_datagram(datagram.octets()) {
+        Some(Apdu::Complex { parameters, .. }) => match ReadPropertyAck::read(parameters) {
+            Some(ack) => Some(ack.values),
+            None => None,
+        },
+        _ => None,
+    }
+}
+
+/// The one value that octets are.
+fn only_value(octets: &[u8]) -> Option<Value<'_>>
+    ensures found { IfSome result (λ value. Spells octets.now (view value)) }
+    ensures only { (value : Primitive) → Spells octets.now value → IsSomeAnd result (λ found. view found ≡ value) }
+{
+    let Ok((value, len)) = read_value(octets) else {
+        return None;
+    };
+    if len == octets.len() {
+        Some(value)
+    } else {
+        None
+    }
+}
+
+/// The one value that an answer has.
+fn value_in(answer: &Datagram) -> Option<Value<'_>>
+    ensures found { IfSome result (λ value. Tells answer.now (view value)) }
+    ensures only { (value : Primitive) → Tells answer.now value → IsSomeAnd result (λ found. view found ≡ value) }
+{
+    only_value(values_in(answer)?)
+}
+
+/// The octets of the text in character set 0, UTF-8, that an answer has.
+pub(crate) fn text_in(answer: &Datagram) -> Option<&[u8]>
+    ensures { IfSome result (λ octets. Tells answer.now (Chars 0 octets.now)) }
+{
+    let Some(value) = value_in(answer) else {
+        return None;
+    };
+    let Value::Chars { set, octets } = value else {
+        return None;
+    };
+    if set == 0 { Some(octets) } else { None }
+}
+
+/// Reads a property.
+#[tactic(auto, using(crate::proofs::DiscoveredLemmas::leaves_retries, crate::proofs::DiscoveredLemmas::leaves_route))]
+pub(crate) fn read<L: LogLink>(
+    link: &mut L,
+    transactions: &mut Transactions,
+    object: ObjectId,
+    property: u32,
+    index: Option<u32>,
+) -> Result<Datagram, ExchangeFault>
+    ensures reads { Reads L.asks (towards transactions.old.route) transactions.old.retries
+        (record { object = object; property = property; index = index }) link.old result link.new }
+    ensures retries { transactions.new.retries ≡ transactions.old.retries }
+    ensures route { transactions.new.route ≡ transactions.old.route }
+{
+    let request = Request::ReadProperty(ReadProperty {
+        object,
+        property,
+        index,
+    });
+    exchange(link, transactions, &request)
+}
+
+/// Reads a number.
+pub(crate) fn read_number<L: LogLink>(
+    link: &mut L,
+    transactions: &mut Transactions,
+    object: ObjectId,
+    property: u32,
+    index: Option<u32>,
+) -> Result<u32, ExchangeFault>
+    ensures reads { IfOk result (λ number. ReadsNumber (Reads L.asks (towards transactions.old.route) transactions.old.retries)
+        (record { object = object; property = property; index = index }) link.old number link.new) }
+    ensures retries { OnOk result (transactions.new.retries ≡ transactions.old.retries) }
+    ensures route { OnOk result (transactions.new.route ≡ transactions.old.route) }
+{
+    let answer = read(link, transactions, object, property, index)?;
+    let Some(Value::Unsigned(number)) = value_in(&answer) else {
+        return Err(ExchangeFault::BadReply);
+    };
+    match u32::try_from(number) {
+        Ok(number) => Ok(number),
+        Err(_) => Err(ExchangeFault::BadReply),
+    }
+}
+
+/// The object that an answer names (clause 20.2.14). It is taken from its octets, since this
+/// toolchain doesn't prove a function that takes it from a `Value`.
+pub(crate) fn object_in(answer: &Datagram) -> Option<ObjectId>
+    ensures { IfSome result (λ object. TellsObject answer.now object) }
+{
+    object_of(values_in(answer)?)
+}
+
+fn object_of(values: &[u8]) -> Option<ObjectId>
+    ensures { IfSome result (λ object. IsObject object values.now) }
+{
+    let [0xc4, a, b, c, d] = values else {
+        return None;
+    };
+    let number = u32::from_be_bytes([*a, *b, *c, *d]);
+    ObjectId::new((number / 4_194_304) as u16, number % 4_194_304)
+}

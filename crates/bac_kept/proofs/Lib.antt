@@ -1,0 +1,3 @@
+pub mod PrintedLemmas
+pub mod CsvLemmas
+pub mod LogLinesLemmas

@@ -1,0 +1,87 @@
+-- What is printed of the items of logs.
+use Rattle.std.proofs.Common.{◌≡◌, refl, sym, ap, subst, ◌∙◌, ℕ, pos, List, [], ◌∷◌, ◌++◌, append_assoc, append-nil, Option, None, Some, Result, Ok, Err, OnErr, ◌+◌, ◌<◌, length, take, get_or}
+use Rattle.std.proofs.lemmas.List.{take_more}
+use Rattle.std.specs.Io.KnownBytes.{Appends}
+use Rattle.std.proofs.KnownBytes.{Appends-nil, Appends-trans}
+use Rattle.sqlite_value.specs.declared.value.Value.{Value}
+use Rattle.sqlite_value.specs.declared.value.Value.TheVariants.{Int}
+use Rattle.sqlite_value.specs.Order.{Row as Values, column}
+use Rattle.sqlite.specs.Values.{or_null}
+use Rattle.sqlite_trees.specs.declared.store.Store.{Ghosts}
+use Rattle.sqlite.specs.Effect.{Database}
+use Rattle.sqlite.specs.State.{State, IsUnchanged, Shown}
+use Rattle.sqlite.specs.Held.{Held as Connected, state}
+use Rattle.sqlite.proofs.Callers.{given_begin}
+use Rattle.bac_archive.specs.Schema.{archive_schema}
+use Rattle.bac_archive.specs.Rows.{kept}
+use Rattle.bac_archive.specs.Items.{AreFirst, AreItems, IsItem, ReadsItems, asked, epoch_in, items_text}
+use Rattle.bac_archive.proofs.ItemsLemmas.{begins_with, shows_items}
+use Rattle.bac_archive.specs.declared.items.Item.{Item}
+use Rattle.bac_print.specs.Output.{AppendsPart, Held}
+use Rattle.bac_archive.specs.declared.trend_logs.Log.{Log}
+use Rattle.bac_kept.specs.declared.printing.Shown.{Shown as Which}
+use Rattle.bac_kept.specs.Printed.{PrintsLog, PrintsLogs, anew_if, item_line, last_at, row_lines, rows_lines}
+
+last_says : (value : Value) (last : Option ℕ) → value ≡ or_null (λ n. Int (pos n)) last → last_at value ≡ last
+last_says value None is = ap last_at is
+last_says value (Some n) is = ap last_at is
+
+-- the line of what was read of a row is the row's
+pub item_says : (before : Option ℕ) (row : Values) (item : Item) → IsItem row item
+    → (anew_if before item.epoch ++ item_line item.number item.last item.stamp.now item.datum.now item.flags.now) ≡ row_lines before row
+item_says before row item it =
+    rw (it.epoch, it.number, it.stamp, it.datum, it.flags, sym (last_says (column row 1) item.last it.last)) refl
+
+-- the epoch of the last of these rows, or the one before them
+abbrev pub last_epoch : Option ℕ → List Values → Option ℕ
+last_epoch before [] = before
+last_epoch before (row ∷ rows) = last_epoch (Some (epoch_in row)) rows
+
+pub last_epoch_more : (before : Option ℕ) (rows : List Values) (row : Values) → last_epoch before (rows ++ row ∷ []) ≡ Some (epoch_in row)
+last_epoch_more before [] row = refl
+last_epoch_more before (r ∷ rows) row = last_epoch_more (Some (epoch_in r)) rows row
+
+-- the lines of one row more
+pub rows_more : (before : Option ℕ) (rows : List Values) (row : Values) → rows_lines before (rows ++ row ∷ []) ≡ rows_lines before rows ++ row_lines (last_epoch before rows) row
+rows_more before [] row = append-nil (row_lines before row)
+rows_more before (r ∷ rows) row =
+    ap (λ l. row_lines before r ++ l) (rows_more (Some (epoch_in r)) rows row)
+    ∙ sym (append_assoc (row_lines before r) (rows_lines (Some (epoch_in r)) rows) (row_lines (last_epoch (Some (epoch_in r)) rows) row))
+
+-- a text that was written, and then a front of another, are a front of both
+pub then_part : (a b c : Held) (text more : List ℕ) → Appends a b text → AppendsPart b c more → AppendsPart a c (text ++ more)
+then_part a b c text more all part =
+    (text ++ part.0, part.1, ap (λ l. text ++ l) part.2 ∙ sym (append_assoc text part.0 part.1), Appends-trans a b c text part.0 all part.3)
+
+pub whole_part : (a b : Held) (text : List ℕ) → Appends a b text → AppendsPart a b text
+whole_part a b text all = (text, [], sym (append-nil text), all)
+
+pub no_part : (a : Held) (text : List ℕ) → AppendsPart a a text
+no_part a text = ([], text, refl, Appends-nil a)
+
+pub on_err : {A E : Type 0} (r : Result A E) (X : Type 0) → X → OnErr r X
+on_err (Ok a) X x = tt
+on_err (Err e) X x = x
+
+module _ {S : Type 0} (g : Ghosts S) (log : ℕ) (old : State) (mid : Connected S) (rows : List Values) (has : old.now.schema ≡ archive_schema) (same : IsUnchanged old (state g mid)) where
+  schema_is : (state g mid).now.schema ≡ archive_schema
+  schema_is = ap (λ (d : Database). d.schema) same.0.now_is ∙ has
+
+  -- when no row is left, those that were given are the items of the log as it was
+  pub all_given : (new : Connected S) → Shown items_text (asked log) (state g mid) (state g new) rows → AreItems log (kept old.now.trees) rows
+  all_given new shown = subst (λ (d : Database). AreItems log (kept d.trees) rows) same.0.now_is (shows_items log (state g mid) (state g new) rows schema_is shown)
+
+  -- and until then the first of them
+  pub first_given : ReadsItems g log mid rows → AreFirst log (kept old.now.trees) rows
+  first_given given = subst (λ (d : Database). AreFirst log (kept d.trees) rows) same.0.now_is
+      (begins_with log (state g mid) rows schema_is (given_begin g items_text (asked log) mid rows given))
+
+-- the text of one log more
+pub log_more : (which : Which) (items : List Values) (logs : List Log) (log : Log) (text one : List ℕ) → PrintsLogs which items logs text → PrintsLog which items log one
+    → PrintsLogs which items (logs ++ log ∷ []) (text ++ one)
+log_more which items [] log text one all it = (one, [], ap (λ l. l ++ one) all ∙ sym (append-nil one), it, refl)
+log_more which items (l ∷ logs) log text one all it =
+    (all.0, all.1 ++ one, ap (λ x. x ++ one) all.2 ∙ append_assoc all.0 all.1 one, all.3, log_more which items logs log all.1 one all.4 it)
+
+pub take_one : {X : Type 0} (all : List X) (at : ℕ) (x : X) → at < length all → x ≡ get_or all at x → take (at + 1) all ≡ take at all ++ x ∷ []
+take_one all at x lt is = take_more all at x lt ∙ ap (λ z. take at all ++ z ∷ []) (sym is)

@@ -1,0 +1,28 @@
+use Rattle.std.proofs.Common.{◌++◌, ap, subst, sym, ◌∙◌, rules}
+use Rattle.std.proofs.KnownBytes.{Appends-trans}
+use Rattle.sqlite.specs.Effect.{Database}
+use Rattle.sqlite.specs.Held.{state}
+use Rattle.bac_archive.specs.Rows.{kept}
+use Rattle.bac_kept.specs.Printed.{PrintsLog, PrintsLogs}
+use Rattle.bac_kept.proofs.PrintedLemmas.{log_more, take_one}
+use Rattle.bac_kept.proofs.printing.print_logs.Goals as goal
+
+pub loop-log-preserved : goal.loop-log-preserved
+loop-log-preserved g c =
+    let old = state g.A.Store c.args.conn.now in
+    let items = kept old.now.trees in
+    let it = c.in_ok-print_log.ensures in
+    let log = c.log-item.result in
+    let taken = take_one c.args.all.now c.loop-log.log-index log (search rules) (search rules) in (
+      λ late. c.loop-log.invariant.0 (it.clean late),
+      λ late has.
+          let was = c.loop-log.invariant.1 (it.clean late) has in
+          let schema = ap (λ (d : Database). d.schema) was.0 ∙ has in
+          let one = it.printed late schema in
+          let mine = subst (λ (d : Database). PrintsLog c.args.shown.now (kept d.trees) log one.0) was.0 one.1 in (
+            it.same late schema ∙ was.0,
+            was.1 ++ one.0,
+            subst (λ l. PrintsLogs c.args.shown.now items l (was.1 ++ one.0)) (sym taken) (log_more c.args.shown.now items _ log was.1 one.0 was.2 mine),
+            Appends-trans (g.O.Write.contents c.args.output.now) (g.O.Write.contents c.loop-log.output) (g.O.Write.contents c.print_log.new.output) was.1 one.0 was.3 one.2,
+          ),
+    )

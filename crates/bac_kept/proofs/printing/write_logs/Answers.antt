@@ -1,0 +1,33 @@
+use Rattle.std.proofs.Common.{◌++◌, ap, subst, sym, append_assoc, ◌∙◌, rules}
+use Rattle.std.specs.Io.KnownBytes.{Appends}
+use Rattle.std.proofs.KnownBytes.{Appends-trans}
+use Rattle.csv.specs.Writing.{default_writer, row_text}
+use Rattle.sqlite.specs.Effect.{Database}
+use Rattle.sqlite.specs.Held.{state}
+use Rattle.bac_archive.specs.Rows.{kept}
+use Rattle.bac_kept.specs.Csv.{WritesLog, WritesLogs, names}
+use Rattle.bac_kept.proofs.CsvLemmas.{log_more}
+use Rattle.bac_kept.proofs.PrintedLemmas.{take_one}
+use Rattle.bac_kept.proofs.printing.write_logs.Goals as goal
+
+pub loop-log-preserved : goal.loop-log-preserved
+loop-log-preserved g c =
+    let old = state g.A.Store c.args.conn.now in
+    let items = kept old.now.trees in
+    let it = c.in_ok-write_log.ensures in
+    let log = c.log-item.result in
+    let first = row_text default_writer names in
+    let taken = take_one c.args.all.now c.loop-log.log-index log (search rules) (search rules) in (
+      λ late. c.loop-log.invariant.0 (it.clean late),
+      λ late has.
+          let was = c.loop-log.invariant.1 (it.clean late) has in
+          let schema = ap (λ (d : Database). d.schema) was.0 ∙ has in
+          let one = it.written late schema in
+          let mine = subst (λ (d : Database). WritesLog c.args.shown.now (kept d.trees) log one.0) was.0 one.1 in
+          let all = Appends-trans (g.O.Write.contents c.args.output.now) (g.O.Write.contents c.loop-log.output) (g.O.Write.contents c.write_log.new.output) (first ++ was.1) one.0 was.3 one.2 in (
+            it.same late schema ∙ was.0,
+            was.1 ++ one.0,
+            subst (λ l. WritesLogs c.args.shown.now items l (was.1 ++ one.0)) (sym taken) (log_more c.args.shown.now items _ log was.1 one.0 was.2 mine),
+            subst (Appends (g.O.Write.contents c.args.output.now) (g.O.Write.contents c.write_log.new.output)) (append_assoc first was.1 one.0) all,
+          ),
+    )

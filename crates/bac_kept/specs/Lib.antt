@@ -1,0 +1,3 @@
+pub mod Csv
+pub mod Printed
+pub mod LogLines

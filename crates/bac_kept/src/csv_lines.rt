@@ -1,0 +1,258 @@
+//! What is kept of logs, as CSV (RFC 4180).
+
+ghost use Rattle.std.specs.Prelude.{◌≡◌, ◌∷◌, [], decimal, map, IfOk, OnOk, List};
+ghost use Rattle.std.specs.Io.KnownBytes.{Appends};
+ghost use Rattle.csv.specs.Writing.{default_writer, row_text};
+ghost use Rattle.sqlite.specs.State.{HasCleanDisk, IsUnchanged};
+ghost use Rattle.sqlite.specs.Held.{state};
+ghost use Rattle.bac_archive.specs.Rows.{kept};
+ghost use Rattle.bac_archive.specs.Schema.{archive_schema};
+ghost use Rattle.bac_kept.specs.Csv.{AreFieldsOf, IsRowText, IsValueText, WritesItems, gap_text, item_fields, name_text, names};
+ghost use Rattle.bac_asked.specs.Lines.{place_text};
+
+use bac_archive::{Item, Log, items_of, read_item};
+use bac_asked::{Fault, NotDone, of_error, push_address, push_short};
+use bac_print::{push_number, write_text};
+use csv::Writer;
+use sqlite::{Alter, Connection, Error, ErrorCode, Row};
+use std::alloc::{AllocError, Global};
+use std::io::Write;
+
+/// The first row.
+const NAMES: [&[u8]; 9] = [
+    b"address",
+    b"trend_log",
+    b"name",
+    b"epoch",
+    b"number",
+    b"stamp",
+    b"value",
+    b"datum",
+    b"flags",
+];
+
+/// The texts of a row that aren't kept as texts.
+#[derive(Drop)]
+pub(crate) struct Fields {
+    address: Vec<u8>,
+    instance: Vec<u8>,
+    epoch: Vec<u8>,
+    number: Vec<u8>,
+    value: Vec<u8>,
+    gap: Vec<u8>,
+}
+
+impl Fields {
+    /// The fields of a log, without an item.
+    pub(crate) fn of(alloc: Global, log: &Log) -> Result<Fields, AllocError>
+        ensures address { IfOk result (λ fields. fields.address.items ≡ place_text log.now.source) }
+        ensures instance { IfOk result (λ fields. fields.instance.items ≡ decimal log.now.source.instance) }
+    {
+        let mut address = Vec::new(alloc);
+        push_address(&mut address, &log.source)?;
+        let mut instance = Vec::new(alloc);
+        push_number(&mut instance, u64::from(log.source.instance))?;
+        Ok(Fields {
+            address,
+            instance,
+            epoch: Vec::new(alloc),
+            number: Vec::new(alloc),
+            value: Vec::new(alloc),
+            gap: Vec::new(alloc),
+        })
+    }
+
+    /// Takes an item.
+    fn take(&mut self, item: &Item<'_>) -> Result<(), AllocError>
+        ensures log { (self.new.address ≡ self.old.address) × (self.new.instance ≡ self.old.instance) }
+        ensures epoch { OnOk result (self.new.epoch.items ≡ decimal item.now.epoch) }
+        ensures number { OnOk result (self.new.number.items ≡ decimal item.now.number) }
+        ensures value { OnOk result (IsValueText item.now.value self.new.value.items) }
+        ensures gap { OnOk result (self.new.gap.items ≡ gap_text item.now.number item.now.last) }
+    {
+        renew_number(&mut self.epoch, u64::from(item.epoch))?;
+        renew_number(&mut self.number, u64::from(item.number))?;
+        renew_value(&mut self.value, item.value)?;
+        renew_gap(&mut self.gap, item.number, item.last)
+    }
+}
+
+/// A number in the place of a text.
+fn renew_number(text: &mut Vec<u8>, n: u64) -> Result<(), AllocError>
+    ensures { OnOk result (text.new.items ≡ decimal n) }
+{
+    text.clear();
+    push_number(text, n)
+}
+
+/// A number that is kept, in the place of a text.
+fn renew_value(text: &mut Vec<u8>, value: Option<f64>) -> Result<(), AllocError>
+    ensures { OnOk result (IsValueText value text.new.items) }
+{
+    text.clear();
+    match value {
+        Some(value) => push_short(text, value),
+        None => Ok(()),
+    }
+}
+
+/// The numbers of a gap in the place of a text.
+fn renew_gap(text: &mut Vec<u8>, first: u32, last: Option<u32>) -> Result<(), AllocError>
+    ensures { OnOk result (text.new.items ≡ gap_text first last) }
+{
+    text.clear();
+    if let Some(last) = last {
+        text.extend_from_slice(b"gap ")?;
+        push_number(text, u64::from(first))?;
+        text.extend_from_slice(b" ")?;
+        push_number(text, u64::from(last))?;
+    }
+    Ok(())
+}
+
+/// The text of a row of these fields, in the memory of another text.
+fn row_of(mut text: Vec<u8>, fields: &[&[u8]]) -> Result<Vec<u8>, NotDone>
+    ensures { IfOk result (λ text. text.items ≡ row_text default_writer (map (λ f. f.now) fields.now)) }
+{
+    text.clear();
+    let mut writer = Writer::from_writer(text);
+    if writer.write_fields(fields).is_err() {
+        return Err(NotDone::Asking(Fault::Memory));
+    }
+    match writer.into_inner() {
+        Ok(text) => Ok(text),
+        Err(_error) => Err(NotDone::Asking(Fault::Memory)),
+    }
+}
+
+/// Writes a text, and gives it back.
+fn write_out<O: Write>(text: Vec<u8>, output: &mut O) -> Result<Vec<u8>, NotDone>
+    ensures { OnOk result (Appends (O.contents output.old) (O.contents output.new) text.items) }
+{
+    match write_text(output, text.as_slice()) {
+        Ok(()) => Ok(text),
+        Err(_) => Err(NotDone::Asking(Fault::Write)),
+    }
+}
+
+/// Writes the row of names.
+pub(crate) fn write_names<O: Write>(alloc: Global, output: &mut O) -> Result<(), NotDone>
+    ensures { OnOk result (Appends (O.contents output.old) (O.contents output.new) (row_text default_writer names)) }
+{
+    let text = row_of(Vec::new(alloc), &NAMES)?;
+    write_out(text, output)?;
+    Ok(())
+}
+
+/// The text of the row of an item.
+fn item_row(
+    text: Vec<u8>,
+    fields: &mut Fields,
+    name: &[u8],
+    item: &Item<'_>,
+) -> Result<Vec<u8>, NotDone>
+    ensures log { (fields.new.address ≡ fields.old.address) × (fields.new.instance ≡ fields.old.instance) }
+    ensures text { IfOk result (λ text. (value : List _) × IsValueText item.now.value value
+        × (text.items ≡ row_text default_writer (item_fields fields.old.address.items fields.old.instance.items name.now item.now value))) }
+{
+    if fields.take(item).is_err() {
+        return Err(NotDone::Asking(Fault::Memory));
+    }
+    let datum = if item.last.is_some() {
+        fields.gap.as_slice()
+    } else {
+        item.datum
+    };
+    fields_row(text, fields, name, item.stamp, datum, item.flags)
+}
+
+/// The text of a row of these fields.
+fn fields_row<'a>(
+    text: Vec<u8>,
+    fields: &'a Fields,
+    name: &'a [u8],
+    stamp: &'a [u8],
+    datum: &'a [u8],
+    flags: &'a [u8],
+) -> Result<Vec<u8>, NotDone>
+    ensures { IfOk result (λ text. text.items ≡ row_text default_writer (fields.now.address.items ∷ fields.now.instance.items ∷ name.now ∷ fields.now.epoch.items ∷ fields.now.number.items
+        ∷ stamp.now ∷ fields.now.value.items ∷ datum.now ∷ flags.now ∷ [])) }
+{
+    row_of(
+        text,
+        &[
+            fields.address.as_slice(),
+            fields.instance.as_slice(),
+            name,
+            fields.epoch.as_slice(),
+            fields.number.as_slice(),
+            stamp,
+            fields.value.as_slice(),
+            datum,
+            flags,
+        ],
+    )
+}
+
+/// The name of a log, or nothing.
+fn name_of(log: &Log) -> &[u8]
+    ensures { result.now ≡ name_text log.now.name }
+{
+    match &log.name {
+        Some(name) => name.as_bytes(),
+        None => b"",
+    }
+}
+
+/// Writes the row of the item of a row, and gives its text back, as memory for the next.
+fn write_row<O: Write>(
+    row: &Row,
+    text: Vec<u8>,
+    fields: &mut Fields,
+    log: &Log,
+    output: &mut O,
+) -> Result<Vec<u8>, NotDone>
+    ensures log { AreFieldsOf log.now fields.old → AreFieldsOf log.now fields.new }
+    ensures text { AreFieldsOf log.now fields.old
+        → OnOk result ((text : List _) × IsRowText log.now row.now text × Appends (O.contents output.old) (O.contents output.new) text) }
+{
+    let item = match read_item(row) {
+        Ok(item) => item,
+        Err(error) => return Err(of_error(error)),
+    };
+    let text = item_row(text, fields, name_of(log), &item)?;
+    write_out(text, output)
+}
+
+/// Writes a row for each item of a log; in that of a gap the datum is `gap FIRST LAST`.
+pub(crate) fn write_items<A: Alter, O: Write>(
+    alloc: Global,
+    conn: &mut Connection<A>,
+    log: &Log,
+    output: &mut O,
+) -> Result<(), NotDone>
+    // The rows of its items, in the order of their ids.
+    ensures ok { HasCleanDisk (state A.Store conn.new) → (state A.Store conn.old).now.schema ≡ archive_schema
+        → OnOk result ((text : List _) × WritesItems log.now (kept (state A.Store conn.old).now.trees) text × Appends (O.contents output.old) (O.contents output.new) text) }
+    ensures same { HasCleanDisk (state A.Store conn.new) → (state A.Store conn.old).now.schema ≡ archive_schema
+        → OnOk result (IsUnchanged (state A.Store conn.old) (state A.Store conn.new)) }
+    ensures clean { OnOk result (HasCleanDisk (state A.Store conn.new) → HasCleanDisk (state A.Store conn.old)) }
+{
+    let Ok(mut fields) = Fields::of(alloc, log) else {
+        return Err(NotDone::Asking(Fault::Memory));
+    };
+    let mut text = Vec::new(alloc);
+    let mut rows = match items_of(conn, log.id) {
+        Ok(rows) => rows,
+        Err(error) => return Err(of_error(error)),
+    };
+    'rows: for _ in 0..u64::MAX {
+        let row = match rows.next() {
+            Ok(Some(row)) => row,
+            Ok(None) => return Ok(()),
+            Err(error) => return Err(of_error(error)),
+        };
+        text = write_row(row, text, &mut fields, log, output)?;
+    }
+    Err(of_error(Error::SqliteFailure(ErrorCode::OperationInterrupted)))
+}

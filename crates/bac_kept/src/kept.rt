@@ -1,0 +1,131 @@
+//! What is kept of logs is printed, in the lines of `bac log`.
+
+ghost use Rattle.std.specs.Prelude.{◌≡◌, ◌∷◌, [], ◌++◌, IfOk, OnOk, OnErr};
+ghost use Rattle.std.specs.Io.KnownBytes.{Appends};
+ghost use Rattle.sqlite.specs.State.{HasCleanDisk, IsUnchanged};
+ghost use Rattle.sqlite.specs.Held.{state};
+ghost use Rattle.bac_archive.specs.Items.{epoch_in};
+ghost use Rattle.bac_archive.specs.Rows.{kept};
+ghost use Rattle.bac_archive.specs.Schema.{archive_schema};
+ghost use Rattle.bac_print.specs.Output.{AppendsPart};
+ghost use Rattle.bac_asked.specs.Lines.{source_text};
+ghost use Rattle.bac_kept.specs.Printed.{PrintsFront, PrintsItems, anew_if, item_line, row_lines};
+
+use bac_archive::{Item, Log, items_of, read_item};
+use bac_asked::{Fault, NotDone, of_error, push_source};
+use bac_print::{push_gap, push_number, write_text};
+use sqlite::{Alter, Connection, Error, ErrorCode, Row};
+use std::alloc::{AllocError, Global};
+use std::io::Write;
+
+/// Appends a blank and a text.
+fn push_part(text: &mut Vec<u8>, part: &[u8]) -> Result<(), AllocError>
+    ensures { OnOk result (text.new.items ≡ text.old.items ++ (32 ∷ part.now)) }
+{
+    text.push(b' ')?;
+    text.extend_from_slice(part)
+}
+
+/// Appends the line of an item: a record with its number, or the first and the last of the numbers
+/// that are missing.
+#[tactic(auto, unfolding(crate::specs::Printed::item_line))]
+fn push_item(text: &mut Vec<u8>, item: &Item<'_>) -> Result<(), AllocError>
+    ensures { OnOk result (text.new.items ≡ text.old.items ++ item_line item.now.number item.now.last item.now.stamp.now item.now.datum.now item.now.flags.now) }
+{
+    if let Some(last) = item.last {
+        return push_gap(text, item.number, last);
+    }
+    push_number(text, u64::from(item.number))?;
+    push_part(text, item.stamp)?;
+    push_part(text, item.datum)?;
+    push_part(text, item.flags)?;
+    text.push(b'\n')?;
+    Ok(())
+}
+
+/// The lines of an item; a line before it tells that the device began anew.
+#[tactic(auto, unfolding(crate::specs::Printed::anew_if))]
+fn lines_of(text: &mut Vec<u8>, item: &Item<'_>, epoch: Option<u16>) -> Result<(), AllocError>
+    ensures { OnOk result (text.new.items ≡ anew_if epoch item.now.epoch ++ item_line item.now.number item.now.last item.now.stamp.now item.now.datum.now item.now.flags.now) }
+{
+    text.clear();
+    if let Some(epoch) = epoch {
+        if epoch != item.epoch {
+            text.extend_from_slice(b"began anew\n")?;
+        }
+    }
+    push_item(text, item)
+}
+
+/// Prints a line that names a log.
+pub(crate) fn print_head<O: Write>(alloc: Global, log: &Log, output: &mut O) -> Result<(), NotDone>
+    ensures ok { OnOk result (Appends (O.contents output.old) (O.contents output.new) (source_text log.now.source ++ 10 ∷ [])) }
+    ensures err { OnErr result (AppendsPart (O.contents output.old) (O.contents output.new) (source_text log.now.source ++ 10 ∷ [])) }
+{
+    let mut text = Vec::new(alloc);
+    if push_source(&mut text, &log.source).is_err() || text.push(b'\n').is_err() {
+        return Err(NotDone::Asking(Fault::Memory));
+    }
+    match write_text(output, &text) {
+        Ok(()) => Ok(()),
+        Err(_) => Err(NotDone::Asking(Fault::Write)),
+    }
+}
+
+/// Prints the lines of the item of a row, behind one of this epoch, and answers its own.
+#[tactic(auto, using(crate::proofs::PrintedLemmas::item_says, crate::proofs::PrintedLemmas::no_part))]
+fn print_row<O: Write>(
+    row: &Row,
+    text: &mut Vec<u8>,
+    epoch: Option<u16>,
+    output: &mut O,
+) -> Result<u16, NotDone>
+    ensures ok { IfOk result (λ now. (now ≡ epoch_in row.now) × Appends (O.contents output.old) (O.contents output.new) (row_lines epoch row.now)) }
+    ensures err { OnErr result (AppendsPart (O.contents output.old) (O.contents output.new) (row_lines epoch row.now)) }
+{
+    let item = match read_item(row) {
+        Ok(item) => item,
+        Err(error) => return Err(of_error(error)),
+    };
+    if lines_of(text, &item, epoch).is_err() {
+        return Err(NotDone::Asking(Fault::Memory));
+    }
+    match write_text(output, text.as_slice()) {
+        Ok(()) => Ok(item.epoch),
+        Err(_) => Err(NotDone::Asking(Fault::Write)),
+    }
+}
+
+/// Prints each item of a log.
+pub(crate) fn print_items<A: Alter, O: Write>(
+    alloc: Global,
+    conn: &mut Connection<A>,
+    log: &Log,
+    output: &mut O,
+) -> Result<(), NotDone>
+    // The lines of its items, in the order of their ids.
+    ensures ok { HasCleanDisk (state A.Store conn.new) → (state A.Store conn.old).now.schema ≡ archive_schema
+        → OnOk result ((text : _) × PrintsItems log.now.id (kept (state A.Store conn.old).now.trees) text × Appends (O.contents output.old) (O.contents output.new) text) }
+    // After a fault a front of them.
+    ensures err { HasCleanDisk (state A.Store conn.new) → (state A.Store conn.old).now.schema ≡ archive_schema
+        → OnErr result (PrintsFront (O.contents output.old) (O.contents output.new) log.now.id (kept (state A.Store conn.old).now.trees)) }
+    ensures same { HasCleanDisk (state A.Store conn.new) → (state A.Store conn.old).now.schema ≡ archive_schema
+        → OnOk result (IsUnchanged (state A.Store conn.old) (state A.Store conn.new)) }
+    ensures clean { OnOk result (HasCleanDisk (state A.Store conn.new) → HasCleanDisk (state A.Store conn.old)) }
+{
+    let mut text = Vec::new(alloc);
+    let mut epoch = None;
+    let mut rows = match items_of(conn, log.id) {
+        Ok(rows) => rows,
+        Err(error) => return Err(of_error(error)),
+    };
+    'rows: for _ in 0..u64::MAX {
+        let row = match rows.next() {
+            Ok(Some(row)) => row,
+            Ok(None) => return Ok(()),
+            Err(error) => return Err(of_error(error)),
+        };
+        epoch = Some(print_row(row, &mut text, epoch, output)?);
+    }
+    Err(of_error(Error::SqliteFailure(ErrorCode::OperationInterrupted)))
+}

@@ -1,0 +1,190 @@
+//! What an archive keeps of logs is printed, in lines or as CSV.
+
+ghost use Rattle.std.specs.Prelude.{◌≡◌, ◌++◌, true, false, IfOk, OnOk, List};
+ghost use Rattle.std.specs.Io.KnownBytes.{Appends, Keeps};
+ghost use Rattle.csv.specs.Writing.{default_writer, row_text};
+ghost use Rattle.sqlite.specs.State.{HasCleanDisk};
+ghost use Rattle.sqlite.specs.Held.{state};
+ghost use Rattle.bac_archive.specs.Logs.{AreLogs};
+ghost use Rattle.bac_archive.specs.Rows.{kept};
+ghost use Rattle.bac_archive.specs.Schema.{archive_schema};
+ghost use Rattle.bac_archive.specs.declared.trend_logs.Log.{Log as LogOf};
+ghost use Rattle.bac_kept.specs.Csv.{WritesLog, WritesLogs, names};
+ghost use Rattle.bac_kept.specs.Printed.{PrintsLog, PrintsLogs, head_line, is_chosen};
+
+use crate::csv_lines::{write_items, write_names};
+use crate::kept::{print_head, print_items};
+use bac_archive::{Log, Source, logs};
+use bac_asked::{Fault, FileFault, NotDone};
+use sqlite::{Alter, Connection};
+use std::alloc::Global;
+use std::io::Write;
+
+/// Which logs are to be printed: all, those of a device, or one. Of its source the address and the
+/// instance are looked at alone.
+#[derive(Drop)]
+pub enum Shown {
+    /// Each log.
+    All,
+    /// The logs of the device with this address.
+    Device(Source),
+    /// The log of this address and instance.
+    One(Source),
+}
+
+impl Shown {
+    /// Whether a log is one of them, by its address and instance alone.
+    fn has(&self, log: &Log) -> bool
+        ensures { result ≡ is_chosen self.now log.now }
+    {
+        match self {
+            Shown::All => true,
+            Shown::Device(source) => source.address == log.source.address,
+            Shown::One(source) => source.address == log.source.address
+                && source.instance == log.source.instance,
+        }
+    }
+
+    /// Prints the line that names a log, unless it is the one that was chosen.
+    fn print_head<O: Write>(&self, alloc: Global, log: &Log, output: &mut O) -> Result<(), NotDone>
+        ensures { OnOk result (Appends (O.contents output.old) (O.contents output.new) (head_line self.now log.now)) }
+    {
+        match self {
+            Shown::One(_) => Ok(()),
+            Shown::All | Shown::Device(_) => print_head(alloc, log, output),
+        }
+    }
+}
+
+/// Prints a log in lines, if it was chosen; answers whether it was.
+fn print_log<A: Alter, O: Write>(
+    alloc: Global,
+    conn: &mut Connection<A>,
+    log: &Log,
+    shown: &Shown,
+    output: &mut O,
+) -> Result<bool, NotDone>
+    ensures printed { HasCleanDisk (state A.Store conn.new) → (state A.Store conn.old).now.schema ≡ archive_schema
+        → OnOk result ((text : List _) × PrintsLog shown.now (kept (state A.Store conn.old).now.trees) log.now text × Appends (O.contents output.old) (O.contents output.new) text) }
+    ensures same { HasCleanDisk (state A.Store conn.new) → (state A.Store conn.old).now.schema ≡ archive_schema
+        → OnOk result ((state A.Store conn.new).now ≡ (state A.Store conn.old).now) }
+    ensures clean { OnOk result (HasCleanDisk (state A.Store conn.new) → HasCleanDisk (state A.Store conn.old)) }
+{
+    if !shown.has(log) {
+        return Ok(false);
+    }
+    shown.print_head(alloc, log, output)?;
+    print_items(alloc, conn, log, output)?;
+    Ok(true)
+}
+
+/// Prints each of the logs in lines; with several, each after a line that names it.
+fn print_logs<A: Alter, O: Write>(
+    alloc: Global,
+    conn: &mut Connection<A>,
+    all: &[Log],
+    shown: &Shown,
+    output: &mut O,
+) -> Result<usize, NotDone>
+    ensures printed { HasCleanDisk (state A.Store conn.new) → (state A.Store conn.old).now.schema ≡ archive_schema
+        → OnOk result ((text : List _) × PrintsLogs shown.now (kept (state A.Store conn.old).now.trees) all.now text × Appends (O.contents output.old) (O.contents output.new) text) }
+    ensures clean { OnOk result (HasCleanDisk (state A.Store conn.new) → HasCleanDisk (state A.Store conn.old)) }
+{
+    let mut count = 0usize;
+    for log in all {
+        if print_log(alloc, conn, log, shown, output)? {
+            count = count.saturating_add(1);
+        }
+    }
+    Ok(count)
+}
+
+/// Writes a log as CSV, if it was chosen; answers whether it was.
+fn write_log<A: Alter, O: Write>(
+    alloc: Global,
+    conn: &mut Connection<A>,
+    log: &Log,
+    shown: &Shown,
+    output: &mut O,
+) -> Result<bool, NotDone>
+    ensures written { HasCleanDisk (state A.Store conn.new) → (state A.Store conn.old).now.schema ≡ archive_schema
+        → OnOk result ((text : List _) × WritesLog shown.now (kept (state A.Store conn.old).now.trees) log.now text × Appends (O.contents output.old) (O.contents output.new) text) }
+    ensures same { HasCleanDisk (state A.Store conn.new) → (state A.Store conn.old).now.schema ≡ archive_schema
+        → OnOk result ((state A.Store conn.new).now ≡ (state A.Store conn.old).now) }
+    ensures clean { OnOk result (HasCleanDisk (state A.Store conn.new) → HasCleanDisk (state A.Store conn.old)) }
+{
+    if !shown.has(log) {
+        return Ok(false);
+    }
+    write_items(alloc, conn, log, output)?;
+    Ok(true)
+}
+
+/// Writes each of the logs as CSV, behind the row of names.
+fn write_logs<A: Alter, O: Write>(
+    alloc: Global,
+    conn: &mut Connection<A>,
+    all: &[Log],
+    shown: &Shown,
+    output: &mut O,
+) -> Result<usize, NotDone>
+    ensures written { HasCleanDisk (state A.Store conn.new) → (state A.Store conn.old).now.schema ≡ archive_schema
+        → OnOk result ((text : List _) × WritesLogs shown.now (kept (state A.Store conn.old).now.trees) all.now text
+        × Appends (O.contents output.old) (O.contents output.new) (row_text default_writer names ++ text)) }
+    ensures clean { OnOk result (HasCleanDisk (state A.Store conn.new) → HasCleanDisk (state A.Store conn.old)) }
+{
+    write_names(alloc, output)?;
+    let mut count = 0usize;
+    for log in all {
+        if write_log(alloc, conn, log, shown, output)? {
+            count = count.saturating_add(1);
+        }
+    }
+    Ok(count)
+}
+
+/// Prints what an archive keeps of the logs that were chosen, in lines or as CSV.
+pub fn print_shown<A: Alter, O: Write>(
+    alloc: Global,
+    conn: &mut Connection<A>,
+    shown: &Shown,
+    csv: bool,
+    output: &mut O,
+) -> Result<u8, NotDone>
+    ensures status { IfOk result (λ status. status ≡ 0) }
+    // The lines of the archive's logs, each of which is told once: of each that was chosen its head, and
+    // its items by their ids.
+    ensures printed { HasCleanDisk (state A.Store conn.new) → (state A.Store conn.old).now.schema ≡ archive_schema → csv ≡ false
+        → OnOk result ((all : List LogOf) × AreLogs (state A.Store conn.old).now.trees all
+        × (text : List _) × PrintsLogs shown.now (kept (state A.Store conn.old).now.trees) all text × Appends (O.contents output.old) (O.contents output.new) text) }
+    // As CSV the row of names, and of each of those logs that was chosen a row for each of its items.
+    ensures written { HasCleanDisk (state A.Store conn.new) → (state A.Store conn.old).now.schema ≡ archive_schema → csv ≡ true
+        → OnOk result ((all : List LogOf) × AreLogs (state A.Store conn.old).now.trees all
+        × (text : List _) × WritesLogs shown.now (kept (state A.Store conn.old).now.trees) all text
+        × Appends (O.contents output.old) (O.contents output.new) (row_text default_writer names ++ text)) }
+{
+    let all = match logs(alloc, conn) {
+        Ok(all) => all,
+        Err(error) => return Err(NotDone::File(FileFault::of(error))),
+    };
+    if csv {
+        let count = write_logs(alloc, conn, all.as_slice(), shown, output)?;
+        return ended(shown, count, output);
+    }
+    let count = print_logs(alloc, conn, all.as_slice(), shown, output)?;
+    ended(shown, count, output)
+}
+
+/// What was printed goes out; that no log was chosen is told.
+fn ended<O: Write>(shown: &Shown, count: usize, output: &mut O) -> Result<u8, NotDone>
+    ensures status { IfOk result (λ status. status ≡ 0) }
+    ensures stays { Keeps (O.contents output.old) (O.contents output.new) }
+{
+    if output.flush().is_err() {
+        return Err(NotDone::Asking(Fault::Write));
+    }
+    if count == 0 && !matches!(shown, Shown::All) {
+        return Err(NotDone::File(FileFault::NoLog));
+    }
+    Ok(0)
+}

@@ -1,0 +1,29 @@
+//! What the end of a log's walk comes to, beside its line.
+
+ghost use Rattle.std.specs.Prelude.{◌≡◌};
+ghost use Rattle.bac_tools.specs.LogEnds.{of_cause, of_why};
+
+use crate::fault::{Fault, walk_status};
+use bac_walk::{ReplyFlaw, WalkFault, Why};
+
+/// The status of an end, or what there is to say of it.
+fn of_cause(address: [u8; 6], why: Why) -> Result<u8, Fault>
+    ensures { result ≡ of_cause address why }
+{
+    match why {
+        Why::Fault(WalkFault::Lost) => Err(Fault::Silent(address)),
+        Why::Fault(WalkFault::Refused(refusal)) => Err(Fault::Declined(refusal)),
+        Why::Fault(WalkFault::BadReply) => Ok(walk_status(why)),
+        Why::CaughtUp | Why::StepLimit | Why::Memory => Ok(walk_status(why)),
+    }
+}
+
+/// The same, or what is wrong with the reply that it was.
+pub(crate) fn ending_of(address: [u8; 6], why: Why, flaw: Option<ReplyFlaw>) -> Result<u8, Fault>
+    ensures { result ≡ of_why address why flaw }
+{
+    match flaw {
+        Some(flaw) => Err(Fault::Flawed(flaw)),
+        None => of_cause(address, why),
+    }
+}
