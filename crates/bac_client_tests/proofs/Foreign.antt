@@ -1,5 +1,5 @@
 -- What comes from the device that isn't ours.
-use Rattle.std.proofs.Common.{◌≡◌, ℕ, zero, suc, ◌+◌, ◌<◌, ◌≤◌, ◌==◌, Bool, true, false, nat_lt, get_or, if◌then◌else◌, Option, Some, None, Result, Ok, Err, List, [], ◌∷◌, ◌++◌, length, pos, refl, sym, subst, ap, ◌∙◌, inl, inr, arith}
+use Rattle.std.proofs.Common.{◌≡◌, ◌⊎◌, ℕ, zero, suc, ◌+◌, ◌<◌, ◌≤◌, ◌==◌, Bool, true, false, nat_lt, get_or, if◌then◌else◌, Option, Some, None, Result, Ok, Err, List, [], ◌∷◌, ◌++◌, length, pos, refl, sym, subst, ap, ◌∙◌, inl, inr, arith}
 use Rattle.std.proofs.lemmas.Bool.{cases_Bool, cases_lt, eqb-true}
 use Rattle.bac_wire.specs.Canon.{tagged, unsigned_octets}
 use Rattle.bac_wire.specs.Number.{number}
@@ -27,7 +27,7 @@ use Rattle.bac_link.specs.declared.item.Item.{Item}
 use Rattle.bac_link.specs.declared.item.Item.TheVariants.{Logged}
 use Rattle.bac_link.specs.declared.link.Lost.{Lost}
 use Rattle.bac_walk.specs.Came.{Asks, Came, Comes, Brought, BroughtIsDelivered, AreOf, AreSaidAt, EndsBy, EndsEmpty, answers_of}
-use Rattle.bac_walk.specs.Collects.{turn_items}
+use Rattle.bac_walk.specs.Collects.{start_of, turn_items}
 use Rattle.bac_walk.specs.Delivers.{NoneFrom}
 use Rattle.bac_walk.proofs.Came.{start_old}
 use Rattle.bac_walk.specs.Honest.{DeliversSaid, IsHonestEnd}
@@ -358,12 +358,33 @@ always_held (suc i) = always_held i
 pub beyond : (t : ℕ) → NoneFrom t held → 10 < t
 beyond t none = elim (cases_lt 10 t) [ inl lt ↦ lt | inr ge ↦ absurd (none 10 ge (omega arith, omega arith)) ]
 
+-- where a walk from the oldest record begins
+start_held : (s : ℕ) (answers : List (List Item)) → (items_of answers ≡ []) ⊎ (start_of true s (held ∷ []) answers ≡ 7)
+start_held s [] = inl refl
+start_held s ([] ∷ answers) = start_held s answers
+start_held s ((x ∷ xs) ∷ answers) = inr refl
+
+none_of_none : (items dropped : List Item) → items ++ dropped ≡ [] → items ≡ []
+none_of_none [] dropped is = refl
+none_of_none (x ∷ items) dropped is = absurd (let no : x ∷ (items ++ dropped) ≡ [] = is in cc)
+
+begins_held : (fresh : Bool) (s b : ℕ) (answers : List (List Item)) (items dropped : List Item) → b ≡ start_of fresh s (held ∷ []) answers → items ++ dropped ≡ items_of answers →
+    fresh ≡ true → (items ≡ []) ⊎ (b ≡ 7)
+begins_held fresh s b answers items dropped start all is =
+    let F : Bool → Type 0 = λ f. b ≡ start_of f s (held ∷ []) answers in
+    begins (subst F is start) (start_held s answers)
+  where
+    begins : b ≡ start_of true s (held ∷ []) answers → (items_of answers ≡ []) ⊎ (start_of true s (held ∷ []) answers ≡ 7) → (items ≡ []) ⊎ (b ≡ 7)
+    begins at (inl none) = inl (none_of_none items dropped (all ∙ none))
+    begins at (inr seven) = inr (at ∙ seven)
+
 -- over the device's link a run delivers what its log holds, from any place
 pub walk_delivers : {S : Type 0} (old new : S) (way : Option Place) (w after : WalkPlace) (items : List Item) (reason : Why) (low s : ℕ) →
     HonestWhereItStands {S = S} (λ a octets answer b. IsSaid octets answer) (λ link M. held ∷ [] ≡ M) →
     DeliversSaid (λ a octets answer b. IsSaid octets answer) (towards way) old w items (ended_of reason) after new → way ≡ None → w.log ≡ log → w.next ≡ sequence_number s →
     low ≤ 7 → (w.fresh ≡ false → (low ≤ s) × (s < low + 2147483648)) →
-    ((b : ℕ) × (a : ℕ) × (t : ℕ) × (w.fresh ≡ false → b ≡ s) × (after.next ≡ sequence_number t) × DeliversTo history b items t (held ∷ []) a × (reason ≡ why.CaughtUp → 10 < t))
+    ((b : ℕ) × (a : ℕ) × (t : ℕ) × (w.fresh ≡ false → b ≡ s) × (after.next ≡ sequence_number t) × DeliversTo history b items t (held ∷ []) a × (reason ≡ why.CaughtUp → 10 < t)
+    × (w.fresh ≡ true → (items ≡ []) ⊎ (b ≡ 7)))
     × ((e : WalkFault) → reason ≡ why.Fault e → e ≡ fault.Lost)
 walk_delivers {S = S} old new way w after items reason low s stands said near log_is next below at =
     let W : Option Place → Type 0 = λ y. DeliversSaid {S = S} (λ a octets answer b. IsSaid octets answer) (towards y) old w items (ended_of reason) after new in
@@ -382,6 +403,7 @@ walk_delivers {S = S} old new way w after items reason low s stands said near lo
             let caught = all.7 (ap ended_of up) in
             let N : Moment → Type 0 = λ m. NoneFrom all.1 m in
             beyond all.1 (subst N (always_held caught.0) caught.3)),
+        begins_held w.fresh s all.0 all.2 items all.3.dropped all.3.start all.3.all,
       ),
       λ e is. is_loss e (subst E is all.8),
     )

@@ -1,7 +1,7 @@
 //! A device that isn't ours, with REAL records in a longer encoding, two a reply: that the headline
 //! of what came holds over it is proved from public contracts alone.
 
-ghost use Rattle.std.specs.Prelude.{ℕ, ◌≡◌, ◌+◌, ◌<◌, ◌≤◌, false, [], ◌∷◌, get_or, None, IfSome};
+ghost use Rattle.std.specs.Prelude.{ℕ, ◌≡◌, ◌+◌, ◌<◌, ◌≤◌, ◌⊎◌, false, true, [], ◌∷◌, get_or, None, IfSome};
 ghost use Rattle.bac_log.specs.TrendLog.{sequence_number};
 ghost use Rattle.bac_link.specs.Delivery.{DeliversTo};
 ghost use Rattle.bac_link.specs.Path.{towards};
@@ -150,8 +150,9 @@ pub fn another_device_is_honest()
         (λ link M. held ∷ [] ≡ M) }
 {}
 
-/// So a walk of its log from any number, or from the oldest record, delivers what the log holds from
-/// there on, all of it where it is caught up; and the only fault is a loss.
+/// So a walk of its log from any number delivers what the log holds from there on, and one from the
+/// oldest record what it holds from 7, its oldest, on: all of it where it is caught up. The only
+/// fault is a loss.
 pub fn walk_of_another_device(
     alloc: Global,
     link: &mut ForeignLink,
@@ -162,7 +163,8 @@ pub fn walk_of_another_device(
     ensures { (s low : ℕ) → transactions.old.route ≡ None → walk.old.log ≡ log_one → walk.old.next ≡ sequence_number s → low ≤ 7 →
         (walk.old.fresh ≡ false → (low ≤ s) × (s < low + 2147483648)) →
         ((b : ℕ) × (a : ℕ) × (t : ℕ) × (walk.old.fresh ≡ false → b ≡ s) × (walk.new.next ≡ sequence_number t)
-        × DeliversTo history b result.items.items t (held ∷ []) a × (result.why ≡ why.CaughtUp → 10 < t))
+        × DeliversTo history b result.items.items t (held ∷ []) a × (result.why ≡ why.CaughtUp → 10 < t)
+        × (walk.old.fresh ≡ true → (result.items.items ≡ []) ⊎ (b ≡ 7)))
         × ((e : WalkFaultOf) → result.why ≡ why.Fault e → e ≡ fault.Lost) }
 {
     // For the prover alone: the law that the contract follows from.

@@ -1,5 +1,5 @@
 -- What runs keep of the replies that came.
-use Rattle.std.proofs.Common.{◌≡◌, ◌≢◌, ℕ, zero, suc, ◌+◌, ◌<◌, ◌≤◌, List, [], ◌∷◌, ◌++◌, false, length, refl, ap, sym, subst, ◌∙◌, arith, append-nil}
+use Rattle.std.proofs.Common.{◌≡◌, ℕ, zero, suc, ◌+◌, ◌<◌, ◌≤◌, List, [], ◌∷◌, ◌++◌, false, length, refl, ap, sym, subst, ◌∙◌, arith, append-nil}
 use Rattle.sqlite.specs.Effect.{Database}
 use Rattle.sqlite_trees.specs.Tree.{Trees}
 use Rattle.sqlite_value.specs.Order.{Row as Values}
@@ -16,10 +16,10 @@ use Rattle.bac_walk.specs.Came.{Brought, answers_of}
 use Rattle.bac_link.specs.Honest.{IsHonest}
 use Rattle.bac_link.specs.Moments.{AreInWindow}
 use Rattle.bac_walk.specs.Place.{WalkPlace}
-use Rattle.bac_walk.proofs.Came.{Asking, answers_came, back_later, brought_ran, some_later, start_old, window_later}
+use Rattle.bac_walk.proofs.Came.{Asking, back_later, brought_ran, some_later, start_old, window_later}
 use Rattle.bac_link.proofs.Honest.{goes_on}
 use Rattle.bac_walk.proofs.Honest.{honest_delivers}
-use Rattle.bac_walk.proofs.Joined.{no_brought, brought_joins, brought_early}
+use Rattle.bac_walk.proofs.Joined.{no_brought, brought_joins}
 use Rattle.bac_walk.proofs.Joins.{after_answers-add}
 use Rattle.bac_walk.proofs.Window.{stays_in_window}
 use Rattle.bac_archive.specs.Schema.{archive_schema}
@@ -94,23 +94,6 @@ module _ {S : Type 0} (asks : Asking S) where
     era_is = g.6;
   }
 
-  -- a run that ended early is one of more steps
-  pub over_early : (path : Path) (retries : ℕ) (place reached : Place) (old new : Database) (link left : S) (before after : WalkPlace) (n steps records gaps : ℕ) (ended : Ended) → ended ≢ StepLimit → n ≤ steps →
-      KeepsOver asks path retries place reached old new link left before after n ended records gaps → KeepsOver asks path retries place reached old new link left before after steps ended records gaps
-  over_early path retries place reached old new link left before after n steps records gaps ended not_limit le p =
-      let more = brought_early asks path retries link left before after n steps p.items ended not_limit le (p.came, p.brought) in
-      record {
-        items = p.items;
-        came = more.0;
-        rows = p.rows;
-        brought = more.1;
-        log = p.log;
-        records_are = p.records_are;
-        gaps_are = p.gaps_are;
-        of_log = p.of_log;
-        era_is = p.era_is;
-      }
-
   pub leaves_over_more : (path : Path) (retries : ℕ) (place : Place) (old : Database) (link : S) (before : WalkPlace) (n steps : ℕ) (trees : Trees) → n ≤ steps →
       LeavesOver asks path retries place old link before n trees → LeavesOver asks path retries place old link before steps trees
   leaves_over_more path retries place old link before n steps trees le it = (it.0, it.1, it.2, it.3, it.4, it.5, it.6, (let few : it.3 ≤ n = it.7 in omega (arith, few)), it.8, it.9, it.10)
@@ -157,8 +140,9 @@ module _ {S : Type 0} (asks : Asking S) where
           λ moments told is.
               (honest_delivers asks (λ l N. moments l ≡ N) path retries link left before after steps kept.came kept.items ended H M low s told is kept.brought next some back window at).2,
         ),
-        (λ up. let caught = ran.6 up in (caught.0, omega (arith, caught.1, answers_came kept.came), caught.3)),
+        ran.6,
         said.3,
+        ran.2,
       )
 
 -- ---- answers whose rows aren't kept

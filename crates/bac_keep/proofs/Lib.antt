@@ -3,6 +3,7 @@ mod Taken
 mod KeptLemmas
 mod RunLemmas
 pub mod CameLemmas
+pub mod ByLemmas
 mod CoveredLemmas
 mod NewestLemmas
 mod UpToDateLemmas

@@ -5,13 +5,14 @@ use Rattle.sqlite_trees.specs.Tree.{Trees}
 use Rattle.bac_wire.specs.Primitive.{Id}
 use Rattle.bac_link.specs.declared.link.Lost.{Lost as Loss}
 use Rattle.bac_link.specs.Delivery.{History, Moment, DeliversTo}
-use Rattle.bac_link.specs.Laws.{after_answers, moment_at}
+use Rattle.bac_link.specs.Laws.{after_answers}
 use Rattle.bac_link.specs.Path.{Path}
 use Rattle.bac_log.specs.TrendLog.{sequence_number}
 use Rattle.bac_walk.specs.declared.outcome.Ended.{Ended}
 use Rattle.bac_walk.specs.declared.outcome.Ended.TheVariants.{CaughtUp, StepLimit}
 use Rattle.bac_link.specs.Moments.{NeverGoesBack}
-use Rattle.bac_walk.specs.Delivers.{NoneFrom}
+use Rattle.bac_walk.specs.Came.{answers_of}
+use Rattle.bac_walk.specs.Collects.{IsCaughtUp, start_of}
 use Rattle.bac_link.specs.Honest.{IsHonest}
 use Rattle.bac_walk.specs.Honest.{IsHonestEnd, IsLeftAt}
 use Rattle.bac_link.specs.Moments.{AreInWindow}
@@ -35,9 +36,10 @@ KeptOverJoin {S = S} asks =
     (records + records_then) (gaps + gaps_then)
 
 -- What a run keeps was added, and over a link that is honest for its log from the moments M on it is delivered: from
--- the ordinal of the walk's number on, or from the oldest record if it begins there, up to that of the number that
--- comes next, by as many answers as replies came. The link is honest from the moments on that these left; caught up,
--- the log held nothing more at one of them; and the only fault is a loss.
+-- the ordinal of the walk's number on, or, by a walk from the oldest record, from the oldest that was held when its
+-- first batch was given, up to that of the number that comes next, by as many answers as replies came. The link is
+-- honest from the moments on that these left; caught up, the log held nothing more at an answer after the last batch;
+-- and the only fault is a loss.
 abbrev pub HonestIsKept : {S : Type 0} → (S → List ℕ → Result (List ℕ) Loss → S → Type 0) → Type 0
 HonestIsKept {S = S} asks =
     (path : Path) (retries : ℕ) (place reached : Place) (old new : Database) (link left : S)
@@ -51,7 +53,8 @@ HonestIsKept {S = S} asks =
     × Adds old.trees new.trees (kept_rows (era place) kept.items) × (era reached ≡ era_after (era place) kept.items)
     × DeliversTo H b kept.items t M (length kept.came)
     × IsLeftAt asks path before.log H low link left M (length kept.came)
-    × (ended ≡ CaughtUp → (i : ℕ) × (i < length kept.came) × NoneFrom t (moment_at M i)) × IsHonestEnd ended
+    × (ended ≡ CaughtUp → IsCaughtUp before.fresh t M (answers_of kept.came)) × IsHonestEnd ended
+    × (b ≡ start_of before.fresh s M (answers_of kept.came))
 
 -- One of several runs over a log, however it ended: over a link of its own so many steps from a place on, whose rows
 -- came to a database, up to the place that was reached; and how many answers were given then whose rows didn't come,

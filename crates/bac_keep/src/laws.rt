@@ -62,7 +62,7 @@ pub fn kept_over_join<L: LogLink>()
 {}
 
 /// Over a link that is honest for a log, whoever answers: what a run kept was added, and is
-/// delivered, and the link is honest from the moments on that are left.
+/// delivered, from where the walk begins, and the link is honest from the moments on that are left.
 pub fn honest_is_kept<L: LogLink>()
     ensures { HonestIsKept L.asks }
 {}

@@ -2,3 +2,4 @@ mod CallerLemmas
 mod OverLemmas
 mod CrashLemmas
 mod CoveredRuns
+mod LateLemmas

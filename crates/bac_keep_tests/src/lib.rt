@@ -16,4 +16,6 @@ mod crashes;
 #[cfg(test)]
 mod kept;
 #[cfg(test)]
+mod late_callers;
+#[cfg(test)]
 mod rounds;

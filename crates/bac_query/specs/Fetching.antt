@@ -6,6 +6,7 @@ use Rattle.bac_link.specs.Delivery.{History, Moment, DeliversTo, Leads}
 use Rattle.bac_link.specs.Path.{Path}
 use Rattle.bac_link.specs.declared.item.Item.{Item}
 use Rattle.bac_link.specs.declared.link.Lost.{Lost}
+use Rattle.bac_link.specs.declared.transactions.Transactions.{Transactions}
 use Rattle.bac_query.specs.Ends.{end_line}
 use Rattle.bac_query.specs.Items.{items_text}
 use Rattle.bac_link.specs.Moments.{NeverGoesBack}
@@ -16,6 +17,7 @@ use Rattle.bac_walk.specs.Near.{StaysNear}
 use Rattle.bac_walk.specs.Place.{WalkPlace}
 use Rattle.bac_walk.specs.Outcomes.{IsRunOf}
 use Rattle.bac_walk.specs.Sinks.{IsRun}
+use Rattle.bac_walk.specs.Transacted.{BroughtBy}
 use Rattle.bac_walk.specs.declared.outcome.Ended.{Ended}
 use Rattle.bac_walk.specs.declared.outcome.Ended.TheVariants.{CaughtUp, StepLimit, Stopped}
 use Rattle.bac_walk.specs.declared.outcome.Why.{Why}
@@ -134,4 +136,27 @@ FetchesOver {S = S} asks path retries link walk steps result left old new =
     (came : List Came) × (items : List Item) × (n : ℕ) × (ended : Ended) × (after : WalkPlace) × (mid : S)
     × Brought asks path retries link walk n came items ended after mid
     × TellsRun (λ cause. IsLeft asks path retries mid after left cause) items steps n ended after result old new
+    × IsHeadline walk came items ended after
+
+-- ---- by which transactions
+
+-- The link and the transactions after a run that left the walk here and ended for this. They are as the run left them;
+-- but if there was no memory for the lines of a reply, that reply came too, to the next of them, and they are one step
+-- further than the lines.
+abbrev pub IsLeftBy : {S : Type 0} → (S → List ℕ → Result (List ℕ) Lost → S → Type 0) →
+    Transactions → S → WalkPlace → Transactions → S → Why → Type 0
+IsLeftBy asks half mid here last new why.CaughtUp = (new ≡ mid) × (last ≡ half)
+IsLeftBy asks half mid here last new why.StepLimit = (new ≡ mid) × (last ≡ half)
+IsLeftBy asks half mid here last new (why.Fault fault) = (new ≡ mid) × (last ≡ half)
+IsLeftBy asks half mid here last new why.Memory =
+    (came : List Came) × (items : List Item) × (after : WalkPlace)
+    × BroughtBy asks half mid here 1 came items Stopped after last new
+
+-- The same of what is fetched by transactions: each reply came to the next of these, none of which is open after it.
+abbrev pub FetchesBy : {S : Type 0} → (S → List ℕ → Result (List ℕ) Lost → S → Type 0) →
+    Transactions → S → WalkPlace → ℕ → Fetching → Transactions → S → Held → Held → Type 0
+FetchesBy {S = S} asks first link walk steps result last left old new =
+    (came : List Came) × (items : List Item) × (n : ℕ) × (ended : Ended) × (after : WalkPlace)
+    × (half : Transactions) × (mid : S) × BroughtBy asks first link walk n came items ended after half mid
+    × TellsRun (λ cause. IsLeftBy asks half mid after last left cause) items steps n ended after result old new
     × IsHeadline walk came items ended after

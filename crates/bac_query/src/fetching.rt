@@ -7,11 +7,12 @@ ghost use Rattle.bac_query.specs.Ends.{end_line};
 ghost use Rattle.bac_query.specs.Items.{items_text};
 ghost use Rattle.bac_link.specs.Path.{towards};
 ghost use Rattle.bac_walk.specs.Place.{WalkPlace};
-ghost use Rattle.bac_walk.specs.Came.{Brought, Came};
+ghost use Rattle.bac_walk.specs.Came.{Came};
 ghost use Rattle.bac_walk.specs.Sinks.{IsRun};
 ghost use Rattle.bac_walk.specs.Told.{Told};
+ghost use Rattle.bac_walk.specs.Transacted.{BroughtBy};
 ghost use Rattle.bac_walk.specs.declared.outcome.Ended.{Ended as EndedOf};
-ghost use Rattle.bac_query.specs.Fetching.{Delivers, EndsAs, FetchesOver, IsFetched, PrintsEnd, PrintsItems};
+ghost use Rattle.bac_query.specs.Fetching.{Delivers, EndsAs, FetchesBy, FetchesOver, IsFetched, PrintsEnd, PrintsItems};
 ghost use Rattle.bac_query.specs.Reading.{Prints};
 
 use crate::ends::push_end;
@@ -57,6 +58,9 @@ pub fn fetch_log<L: LogLink, W: Write>(
     // it from here on; and if these say what one log holds, of what it held.
     ensures came { FetchesOver L.asks (towards transactions.old.route) transactions.old.retries
         link.old walk steps result link.new (W.contents out.old) (W.contents out.new) }
+    // Each of those replies came to the next transaction, and none is open after it.
+    ensures transacted { FetchesBy L.asks transactions.old link.old walk steps result transactions.new link.new
+        (W.contents out.old) (W.contents out.new) }
     ensures flaw { IfOk result (λ fetched. fetched.flaw ≡ None) }
 {
     let mut lines = Lines {
@@ -93,8 +97,8 @@ fn deliver_lines<L: LogLink>(
         transactions.old.retries (L.failures link.old) (L.failures link.new) walk.old walk.new 1 result items
         × (length items ≤ 101) × (result ≡ Ended.StepLimit → 1 ≤ length items) }
     ensures came { (items : List Item) × (result ≢ Ended.Stopped → lines.new.text.items ≡ items_text items)
-        × ((came : List Came) × Brought L.asks (towards transactions.old.route) transactions.old.retries
-        link.old walk.old 1 came items result walk.new link.new) }
+        × ((came : List Came) × BroughtBy L.asks transactions.old link.old walk.old 1 came items result
+        walk.new transactions.new link.new) }
 {
     lines.text.clear();
     deliver(link, transactions, walk, 1, lines)

@@ -1,8 +1,11 @@
-use Rattle.std.proofs.Common.{◌≡◌, ◌+◌, refl, sym, ap, subst, ◌∙◌, arith}
+use Rattle.std.proofs.Common.{◌≡◌, ◌+◌, List, refl, sym, ap, subst, ◌∙◌, arith}
 use Rattle.sqlite.specs.Effect.{Database}
 use Rattle.sqlite.specs.State.{HasCleanDisk}
 use Rattle.sqlite.specs.Held.{Held, state}
 use Rattle.sqlite.proofs.StateLemmas.{survives_then, survives_weaker}
+use Rattle.bac_link.specs.declared.item.Item.{Item}
+use Rattle.bac_walk.specs.Came.{Came}
+use Rattle.bac_walk.specs.Transacted.{BroughtBy}
 use Rattle.bac_walk.specs.declared.outcome.Ended.{Ended}
 use Rattle.bac_walk.specs.declared.outcome.Ended.TheVariants.{StepLimit}
 use Rattle.bac_walk.proofs.Runs.{ends_run, not_limit, goes_on as limit_reached}
@@ -10,9 +13,10 @@ use Rattle.bac_archive.specs.Schema.{archive_schema}
 use Rattle.bac_archive.proofs.RowsLemmas.{stays}
 use Rattle.bac_keep.specs.declared.place.Place.{Place}
 use Rattle.bac_link.specs.Path.{towards}
-use Rattle.bac_keep.specs.Came.{KeepsOver}
+use Rattle.bac_keep.specs.Came.{KeepsBy}
 use Rattle.bac_keep.specs.Runs.{KeepsRun}
-use Rattle.bac_keep.proofs.CameLemmas.{over_nothing, over_then, over_early, leaves_over_more, leaves_over_then}
+use Rattle.bac_keep.proofs.ByLemmas.{by_early, by_nothing, by_then, came_last, came_then, none_came}
+use Rattle.bac_keep.proofs.CameLemmas.{leaves_over_more, leaves_over_then}
 use Rattle.bac_keep.proofs.RunLemmas.{keeps_nothing, keeps_then, keeps_early, leaves_more, leaves_then, tested_first}
 use Rattle.bac_keep.proofs.Taken.{goes_on}
 use Rattle.bac_keep.proofs.run.keep_log.Goals as goal
@@ -29,7 +33,8 @@ loop-done-init g c = record {
   tested = λ h. absurd (omega (arith, h));
   none = λ h. (refl, refl, refl);
   kept = λ clean has. keeps_nothing (λ link id r M H. g.L.LogLink.is_ours link id r M H) (λ link. g.L.LogLink.failures link) c.args.place c.args.transactions.now.retries (state g.S.Store c.args.conn.now).now c.args.link.now c.args.walk has;
-  brought = λ clean has. over_nothing g.L.LogLink.asks (towards c.args.transactions.now.route) c.args.transactions.now.retries c.args.place (state g.S.Store c.args.conn.now).now c.args.link.now c.args.walk has;
+  transacted = λ clean has. by_nothing g.L.LogLink.asks c.args.transactions.now c.args.place (state g.S.Store c.args.conn.now).now c.args.link.now c.args.walk has;
+  asked = none_came g.L.LogLink.asks c.args.transactions.now c.args.link.now c.args.walk;
   committed = λ clean same. same;
   crash_over = survives_weaker (state g.S.Store c.args.conn.now) (state g.S.Store c.args.conn.now) _ _ (λ clean db none. absurd none) (stays (state g.S.Store c.args.conn.now));
   crash = survives_weaker (state g.S.Store c.args.conn.now) (state g.S.Store c.args.conn.now) _ _ (λ clean db none. absurd none) (stays (state g.S.Store c.args.conn.now));
@@ -123,16 +128,22 @@ loop-done-preserved g c = record {
       c.args.place c.loop-done.place c.keep_next.new.place c.args.transactions.now.retries c.loop-done.transactions.retries (state g.S.Store c.args.conn.now).now (state g.S.Store c.loop-done.conn).now (state g.S.Store c.keep_next.new.conn).now
       c.args.link.now c.loop-done.link c.keep_next.new.link c.args.walk c.loop-done.walk c.keep_next.new.walk c.loop-done.done 1 c.in-Ok.step.ended c.loop-done.records c.loop-done.gaps c.in-Ok.step.records c.in-Ok.step.gaps
       c.loop-done.invariant.retries c.loop-done.invariant.never_falls (c.loop-done.invariant.kept early has) (c.in-Ok.ensures.kept clean).1);
-  brought = λ clean has.
+  transacted = λ clean has.
       let early : HasCleanDisk (state g.S.Store c.loop-done.conn) = omega (arith, clean, c.keep_next.ensures.crash.clean) in
       let limit = limit_reached c.in-Ok.step.ended (sym c.why.ensures ∙ c.in_default.is) in
-      let P : Ended → Type 0 = λ ended. KeepsOver g.L.LogLink.asks (towards c.args.transactions.now.route) c.args.transactions.now.retries c.args.place c.keep_next.new.place
+      let P : Ended → Type 0 = λ ended. KeepsBy g.L.LogLink.asks c.args.transactions.now c.args.place c.keep_next.new.place
       (state g.S.Store c.args.conn.now).now (state g.S.Store c.keep_next.new.conn).now c.args.link.now c.keep_next.new.link c.args.walk c.keep_next.new.walk
-      (c.loop-done.done + 1) ended (c.loop-done.records + c.in-Ok.step.records) (c.loop-done.gaps + c.in-Ok.step.gaps) in
-      subst P limit (over_then g.L.LogLink.asks (towards c.args.transactions.now.route) (towards c.loop-done.transactions.route) c.args.transactions.now.retries c.loop-done.transactions.retries c.args.place c.loop-done.place c.keep_next.new.place
+      (c.loop-done.done + 1) ended (c.loop-done.records + c.in-Ok.step.records) (c.loop-done.gaps + c.in-Ok.step.gaps) c.keep_next.new.transactions in
+      subst P limit (by_then g.L.LogLink.asks c.args.transactions.now c.loop-done.transactions c.keep_next.new.transactions c.args.place c.loop-done.place c.keep_next.new.place
       (state g.S.Store c.args.conn.now).now (state g.S.Store c.loop-done.conn).now (state g.S.Store c.keep_next.new.conn).now
       c.args.link.now c.loop-done.link c.keep_next.new.link c.args.walk c.loop-done.walk c.keep_next.new.walk c.loop-done.done 1 c.in-Ok.step.ended c.loop-done.records c.loop-done.gaps c.in-Ok.step.records c.in-Ok.step.gaps
-      (ap towards c.loop-done.invariant.route) c.loop-done.invariant.retries (c.loop-done.invariant.brought early has) (c.in-Ok.ensures.brought clean));
+      (c.loop-done.invariant.transacted early has) (c.in-Ok.ensures.transacted clean));
+  asked =
+      let limit = limit_reached c.in-Ok.step.ended (sym c.why.ensures ∙ c.in_default.is) in
+      let P : Ended → Type 0 = λ ended. (came : List Came) × (items : List Item)
+      × BroughtBy g.L.LogLink.asks c.args.transactions.now c.args.link.now c.args.walk (c.loop-done.done + 1) came items ended c.keep_next.new.walk c.keep_next.new.transactions c.keep_next.new.link in
+      subst P limit (came_then g.L.LogLink.asks c.args.transactions.now c.loop-done.transactions c.keep_next.new.transactions c.args.link.now c.loop-done.link c.keep_next.new.link
+      c.args.walk c.loop-done.walk c.keep_next.new.walk c.loop-done.done c.in-Ok.step.ended c.loop-done.invariant.asked c.in-Ok.ensures.asked);
   crash_over = survives_then (state g.S.Store c.args.conn.now) (state g.S.Store c.loop-done.conn) (state g.S.Store c.keep_next.new.conn) _ _ _
       (λ clean db it. leaves_over_more g.L.LogLink.asks (towards c.args.transactions.now.route) c.args.transactions.now.retries c.args.place (state g.S.Store c.args.conn.now).now c.args.link.now c.args.walk c.loop-done.done (c.loop-done.done + 1) db (omega arith) it)
       (λ clean db it.
@@ -143,7 +154,7 @@ loop-done-preserved g c = record {
       (leaves_over_then g.L.LogLink.asks (towards c.args.transactions.now.route) (towards c.loop-done.transactions.route) c.args.transactions.now.retries c.loop-done.transactions.retries c.args.place c.loop-done.place it.1.5
       (state g.S.Store c.args.conn.now).now (state g.S.Store c.loop-done.conn).now it.1.0 db
       c.args.link.now c.loop-done.link c.keep_next.new.link c.args.walk c.loop-done.walk c.keep_next.new.walk c.loop-done.done it.1.1 c.loop-done.records c.loop-done.gaps it.1.2 it.1.3
-      (ap towards c.loop-done.invariant.route) c.loop-done.invariant.retries (c.loop-done.invariant.brought early has) it.1.4 it.1.6))
+      (ap towards c.loop-done.invariant.route) c.loop-done.invariant.retries (c.loop-done.invariant.transacted early has).over it.1.4 it.1.6))
       c.loop-done.invariant.crash_over c.keep_next.ensures.crash_over;
   committed = λ clean same. (c.in-Ok.ensures.kept clean).0;
   crash = survives_then (state g.S.Store c.args.conn.now) (state g.S.Store c.loop-done.conn) (state g.S.Store c.keep_next.new.conn) _ _ _
@@ -174,20 +185,33 @@ returns-clause-crash g c =
     c.args.place c.args.transactions.now.retries (state g.S.Store c.args.conn.now).now c.args.link.now c.args.walk c.loop-done.done c.args.steps db (omega arith) it)
     c.loop-done.invariant.crash
 
-pub returns-in-Err-clause-stands_over : goal.returns-in-Err-clause-stands_over
-returns-in-Err-clause-stands_over g c clean is_open has =
+pub returns-in-Err-clause-stands_by : goal.returns-in-Err-clause-stands_by
+returns-in-Err-clause-stands_by g c clean is_open has =
     let early : HasCleanDisk (state g.S.Store c.loop-done.conn) = omega (arith, clean, c.keep_next.ensures.crash.clean) in
-    let P : Database → Type 0 = λ db. KeepsOver g.L.LogLink.asks (towards c.args.transactions.now.route) c.args.transactions.now.retries c.args.place c.loop-done.place
-    (state g.S.Store c.args.conn.now).now db c.args.link.now c.loop-done.link c.args.walk c.loop-done.walk c.loop-done.done StepLimit c.loop-done.records c.loop-done.gaps in
-    let Q : Place → Type 0 = λ there. KeepsOver g.L.LogLink.asks (towards c.args.transactions.now.route) c.args.transactions.now.retries c.args.place there
-    (state g.S.Store c.args.conn.now).now (state g.S.Store c.keep_next.new.conn).now c.args.link.now c.loop-done.link c.args.walk c.loop-done.walk c.loop-done.done StepLimit c.loop-done.records c.loop-done.gaps in (
+    let P : Database → Type 0 = λ db. KeepsBy g.L.LogLink.asks c.args.transactions.now c.args.place c.loop-done.place
+    (state g.S.Store c.args.conn.now).now db c.args.link.now c.loop-done.link c.args.walk c.loop-done.walk c.loop-done.done StepLimit c.loop-done.records c.loop-done.gaps c.loop-done.transactions in
+    let Q : Place → Type 0 = λ there. KeepsBy g.L.LogLink.asks c.args.transactions.now c.args.place there
+    (state g.S.Store c.args.conn.now).now (state g.S.Store c.keep_next.new.conn).now c.args.link.now c.loop-done.link c.args.walk c.loop-done.walk c.loop-done.done StepLimit c.loop-done.records c.loop-done.gaps
+    c.loop-done.transactions in (
       c.loop-done.done,
       c.loop-done.link,
+      c.loop-done.transactions,
       c.loop-done.walk,
       omega arith,
       sym c.next_number-next.ensures.next,
-      subst Q (sym c.in-Err.ensures.stays) (subst P (sym (c.in-Err.ensures.neither clean is_open).0) (c.loop-done.invariant.brought early has)),
+      subst Q (sym c.in-Err.ensures.stays) (subst P (sym (c.in-Err.ensures.neither clean is_open).0) (c.loop-done.invariant.transacted early has)),
+      c.in-Err.ensures.unkept,
     )
+
+pub returns-in-Err-clause-stands_over : goal.returns-in-Err-clause-stands_over
+returns-in-Err-clause-stands_over g c clean is_open has =
+    let (n, half, mid, after, few, next, kept, more) = returns-in-Err-clause-stands_by g c clean is_open has in
+    (n, half, after, few, next, kept.over)
+
+pub returns-in-Err-clause-asked : goal.returns-in-Err-clause-asked
+returns-in-Err-clause-asked g c =
+    came_last g.L.LogLink.asks c.args.transactions.now c.loop-done.transactions c.keep_next.new.transactions c.args.link.now c.loop-done.link c.keep_next.new.link
+    c.args.walk c.loop-done.walk c.loop-done.done 1 c.args.steps (omega (arith, c.loop-done-test.true)) c.loop-done.invariant.asked c.in-Err.ensures.unkept
 
 pub returns-in-Err-clause-crash_over : goal.returns-in-Err-clause-crash_over
 returns-in-Err-clause-crash_over g c = survives_then (state g.S.Store c.args.conn.now) (state g.S.Store c.loop-done.conn) (state g.S.Store c.keep_next.new.conn) _ _ _
@@ -200,7 +224,7 @@ returns-in-Err-clause-crash_over g c = survives_then (state g.S.Store c.args.con
     (leaves_over_then g.L.LogLink.asks (towards c.args.transactions.now.route) (towards c.loop-done.transactions.route) c.args.transactions.now.retries c.loop-done.transactions.retries c.args.place c.loop-done.place it.1.5
     (state g.S.Store c.args.conn.now).now (state g.S.Store c.loop-done.conn).now it.1.0 db
     c.args.link.now c.loop-done.link c.keep_next.new.link c.args.walk c.loop-done.walk c.keep_next.new.walk c.loop-done.done it.1.1 c.loop-done.records c.loop-done.gaps it.1.2 it.1.3
-    (ap towards c.loop-done.invariant.route) c.loop-done.invariant.retries (c.loop-done.invariant.brought early has) it.1.4 it.1.6))
+    (ap towards c.loop-done.invariant.route) c.loop-done.invariant.retries (c.loop-done.invariant.transacted early has).over it.1.4 it.1.6))
     c.loop-done.invariant.crash_over c.keep_next.ensures.crash_over
 
 pub returns-in-Some-clause-crash_over : goal.returns-in-Some-clause-crash_over
@@ -214,11 +238,11 @@ returns-in-Some-clause-crash_over g c = survives_then (state g.S.Store c.args.co
     (leaves_over_then g.L.LogLink.asks (towards c.args.transactions.now.route) (towards c.loop-done.transactions.route) c.args.transactions.now.retries c.loop-done.transactions.retries c.args.place c.loop-done.place it.1.5
     (state g.S.Store c.args.conn.now).now (state g.S.Store c.loop-done.conn).now it.1.0 db
     c.args.link.now c.loop-done.link c.keep_next.new.link c.args.walk c.loop-done.walk c.keep_next.new.walk c.loop-done.done it.1.1 c.loop-done.records c.loop-done.gaps it.1.2 it.1.3
-    (ap towards c.loop-done.invariant.route) c.loop-done.invariant.retries (c.loop-done.invariant.brought early has) it.1.4 it.1.6))
+    (ap towards c.loop-done.invariant.route) c.loop-done.invariant.retries (c.loop-done.invariant.transacted early has).over it.1.4 it.1.6))
     c.loop-done.invariant.crash_over c.keep_next.ensures.crash_over
 
-pub returns-in-Some-clause-brought : goal.returns-in-Some-clause-brought
-returns-in-Some-clause-brought g c clean has =
+pub returns-in-Some-clause-transacted : goal.returns-in-Some-clause-transacted
+returns-in-Some-clause-transacted g c clean has =
     let early : HasCleanDisk (state g.S.Store c.loop-done.conn) = omega (arith, clean, c.keep_next.ensures.crash.clean) in
     let some = sym c.why.ensures ∙ c.in-Some.is in (
       c.args.steps,
@@ -226,18 +250,39 @@ returns-in-Some-clause-brought g c clean has =
       c.keep_next.new.walk,
       ends_run c.in-Ok.step.ended c.in-Some.why c.args.steps (goes_on c.in-Ok.step.ended c.in-Ok.ensures.few.2) some,
       sym c.next_number.ensures.next,
-      over_early g.L.LogLink.asks (towards c.args.transactions.now.route) c.args.transactions.now.retries c.args.place c.keep_next.new.place (state g.S.Store c.args.conn.now).now (state g.S.Store c.keep_next.new.conn).now c.args.link.now c.keep_next.new.link c.args.walk c.keep_next.new.walk
+      by_early g.L.LogLink.asks c.args.transactions.now c.keep_next.new.transactions c.args.place c.keep_next.new.place (state g.S.Store c.args.conn.now).now (state g.S.Store c.keep_next.new.conn).now c.args.link.now c.keep_next.new.link c.args.walk c.keep_next.new.walk
           (c.loop-done.done + 1) c.args.steps (c.loop-done.records + c.in-Ok.step.records) (c.loop-done.gaps + c.in-Ok.step.gaps) c.in-Ok.step.ended (not_limit c.in-Ok.step.ended c.in-Some.why some) (omega arith)
-          (over_then g.L.LogLink.asks (towards c.args.transactions.now.route) (towards c.loop-done.transactions.route) c.args.transactions.now.retries c.loop-done.transactions.retries c.args.place c.loop-done.place c.keep_next.new.place
+          (by_then g.L.LogLink.asks c.args.transactions.now c.loop-done.transactions c.keep_next.new.transactions c.args.place c.loop-done.place c.keep_next.new.place
           (state g.S.Store c.args.conn.now).now (state g.S.Store c.loop-done.conn).now (state g.S.Store c.keep_next.new.conn).now
           c.args.link.now c.loop-done.link c.keep_next.new.link c.args.walk c.loop-done.walk c.keep_next.new.walk c.loop-done.done 1 c.in-Ok.step.ended c.loop-done.records c.loop-done.gaps c.in-Ok.step.records c.in-Ok.step.gaps
-          (ap towards c.loop-done.invariant.route) c.loop-done.invariant.retries (c.loop-done.invariant.brought early has) (c.in-Ok.ensures.brought clean)),
+          (c.loop-done.invariant.transacted early has) (c.in-Ok.ensures.transacted clean)),
     )
+
+pub returns-in-Some-clause-brought : goal.returns-in-Some-clause-brought
+returns-in-Some-clause-brought g c clean has =
+    let (n, ended, after, is, next, kept) = returns-in-Some-clause-transacted g c clean has in
+    (n, ended, after, is, next, kept.over)
+
+pub returns-in-Some-clause-asked : goal.returns-in-Some-clause-asked
+returns-in-Some-clause-asked g c =
+    let (came, items, run) = came_then g.L.LogLink.asks c.args.transactions.now c.loop-done.transactions c.keep_next.new.transactions c.args.link.now c.loop-done.link c.keep_next.new.link
+    c.args.walk c.loop-done.walk c.keep_next.new.walk c.loop-done.done c.in-Ok.step.ended c.loop-done.invariant.asked c.in-Ok.ensures.asked in
+    (c.loop-done.done + 1, came, items, c.in-Ok.step.ended, c.keep_next.new.walk, omega (arith, c.loop-done-test.true), run)
+
+pub returns-clause-transacted : goal.returns-clause-transacted
+returns-clause-transacted g c clean has =
+    let all : c.loop-done.done ≡ c.args.steps = omega arith in
+    (c.loop-done.done, StepLimit, c.loop-done.walk, (all, refl), sym c.next_number-2.ensures.next, c.loop-done.invariant.transacted clean has)
 
 pub returns-clause-brought : goal.returns-clause-brought
 returns-clause-brought g c clean has =
     let all : c.loop-done.done ≡ c.args.steps = omega arith in
-    (c.loop-done.done, StepLimit, c.loop-done.walk, (all, refl), sym c.next_number-2.ensures.next, c.loop-done.invariant.brought clean has)
+    (c.loop-done.done, StepLimit, c.loop-done.walk, (all, refl), sym c.next_number-2.ensures.next, (c.loop-done.invariant.transacted clean has).over)
+
+pub returns-clause-asked : goal.returns-clause-asked
+returns-clause-asked g c =
+    let (came, items, run) = c.loop-done.invariant.asked in
+    (c.loop-done.done, came, items, StepLimit, c.loop-done.walk, omega arith, run)
 
 pub returns-clause-crash_over : goal.returns-clause-crash_over
 returns-clause-crash_over g c =

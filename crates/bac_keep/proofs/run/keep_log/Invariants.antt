@@ -1,10 +1,13 @@
-use Rattle.std.proofs.Common.{◌≡◌, ◌*◌, ◌<◌, ◌≤◌}
+use Rattle.std.proofs.Common.{◌≡◌, ◌*◌, ◌<◌, ◌≤◌, List}
 use Rattle.sqlite.specs.State.{HasCleanDisk, Survives}
 use Rattle.sqlite.specs.Held.{state}
 use Rattle.bac_archive.specs.Schema.{archive_schema}
+use Rattle.bac_link.specs.declared.item.Item.{Item}
+use Rattle.bac_walk.specs.Came.{Came}
+use Rattle.bac_walk.specs.Transacted.{BroughtBy}
 use Rattle.bac_walk.specs.declared.outcome.Ended.TheVariants.{StepLimit}
 use Rattle.bac_link.specs.Path.{towards}
-use Rattle.bac_keep.specs.Came.{KeepsOver, LeavesOver}
+use Rattle.bac_keep.specs.Came.{KeepsBy, LeavesOver}
 use Rattle.bac_keep.specs.Runs.{KeepsRun, LeavesRun}
 use Rattle.bac_keep.proofs.run.keep_log.Given as goal
 
@@ -23,9 +26,10 @@ invariant-loop-done g l = record {
   kept : HasCleanDisk (state g.S.Store l.conn) → (state g.S.Store l.fn.conn).now.schema ≡ archive_schema →
       KeepsRun (λ link id r M H. g.L.LogLink.is_ours link id r M H) (λ link. g.L.LogLink.failures link) l.fn.place l.place l.fn.transactions.retries
       (state g.S.Store l.fn.conn).now (state g.S.Store l.conn).now l.fn.link l.link l.fn.walk l.walk l.done StepLimit l.records l.gaps;
-  brought : HasCleanDisk (state g.S.Store l.conn) → (state g.S.Store l.fn.conn).now.schema ≡ archive_schema →
-      KeepsOver g.L.LogLink.asks (towards l.fn.transactions.route) l.fn.transactions.retries l.fn.place l.place
-      (state g.S.Store l.fn.conn).now (state g.S.Store l.conn).now l.fn.link l.link l.fn.walk l.walk l.done StepLimit l.records l.gaps;
+  transacted : HasCleanDisk (state g.S.Store l.conn) → (state g.S.Store l.fn.conn).now.schema ≡ archive_schema →
+      KeepsBy g.L.LogLink.asks l.fn.transactions l.fn.place l.place
+      (state g.S.Store l.fn.conn).now (state g.S.Store l.conn).now l.fn.link l.link l.fn.walk l.walk l.done StepLimit l.records l.gaps l.transactions;
+  asked : (came : List Came) × (items : List Item) × BroughtBy g.L.LogLink.asks l.fn.transactions l.fn.link l.fn.walk l.done came items StepLimit l.walk l.transactions l.link;
   committed : HasCleanDisk (state g.S.Store l.conn) → (state g.S.Store l.fn.conn).committed ≡ (state g.S.Store l.fn.conn).now →
       (state g.S.Store l.conn).committed ≡ (state g.S.Store l.conn).now;
   crash : Survives (state g.S.Store l.fn.conn) (state g.S.Store l.conn)

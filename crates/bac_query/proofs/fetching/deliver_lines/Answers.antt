@@ -24,7 +24,7 @@ returns-clause-step g c =
 
 pub returns-clause-came : goal.returns-clause-came
 returns-clause-came g c =
-    let b = c.deliver.ensures.brought in
+    let b = c.deliver.ensures.transacted in
     let sink : Lines = record { text = c.clear.new.self } in
     let P : Bool → Type 0 = λ x. Takes (λ s gap item taken t. Puts text_of s gap item taken t) sink b.0 x c.deliver.new.sink in (
       put_items b.0,

@@ -4,19 +4,20 @@ use Rattle.bac_wire.specs.Primitive.{Id}
 use Rattle.bac_log.specs.TrendLog.{sequence_number}
 use Rattle.bac_link.specs.Delivery.{History, Moment}
 use Rattle.bac_walk.specs.Sinks.{IsRun}
+use Rattle.bac_walk.specs.Transacted.{BroughtBy}
 use Rattle.bac_walk.specs.declared.outcome.Ended.{Ended}
 use Rattle.bac_walk.specs.declared.outcome.Ended.TheVariants.{StepLimit}
 use Rattle.bac_walk.specs.declared.outcome.Why.TheVariants as why
 use Rattle.bac_link.specs.Path.{towards}
-use Rattle.bac_walk.specs.Came.{Came, Brought}
+use Rattle.bac_walk.specs.Came.{Came}
 use Rattle.bac_walk.specs.Outcomes.{why_of}
 use Rattle.bac_walk.specs.declared.outcome.Why.{Why}
-use Rattle.bac_walk.proofs.Joined.{brought_early, brought_joins, no_brought}
+use Rattle.bac_walk.proofs.TransactedRuns.{brought_early, brought_joins, no_brought}
 use Rattle.bac_walk.proofs.Runs.{ends_run, goes_on, no_run, not_limit}
 use Rattle.bac_walk.proofs.Told.{told_same}
-use Rattle.bac_query.specs.Fetching.{EndsAs, Fetching, IsLeft, NextIs, PrintsItems, TellsRun}
+use Rattle.bac_query.specs.Fetching.{EndsAs, Fetching, IsLeftBy, NextIs, PrintsItems, TellsRun}
 use Rattle.bac_query.proofs.Delivered.{delivered, ended_by, ends_as, ends_refused, fetched, more_lines, next_is, not_stopped, refused_by, run_on, run_whole}
-use Rattle.bac_query.proofs.CameOver.{brought_same, fetches_over, left_whole, tells_end, tells_refused}
+use Rattle.bac_query.proofs.CameOver.{by_over, fetches_by, left_whole, tells_end, tells_refused}
 use Rattle.bac_query.proofs.fetching.fetch_log.Goals as goal
 
 pub loop-done-init : goal.loop-done-init
@@ -24,7 +25,7 @@ loop-done-init g c =
     let was : ℕ → List Moment → History → Type 0 = λ r M H. g.L.LogLink.is_ours c.args.link.now c.args.walk.log r M H in
     record {
       printed = ([], refl, refl, omega arith, Appends-nil _, no_run was c.args.transactions.now.retries (g.L.LogLink.failures c.args.link.now) c.args.walk, refl, omega arith, omega arith);
-      came = ([], Appends-nil _, no_brought g.L.LogLink.asks (towards c.args.transactions.now.route) c.args.transactions.now.retries c.args.link.now c.args.walk);
+      came = ([], Appends-nil _, no_brought g.L.LogLink.asks c.args.transactions.now c.args.link.now c.args.walk);
     }
 
 pub returns-in-Stopped-clause-printed : goal.returns-in-Stopped-clause-printed
@@ -131,12 +132,12 @@ loop-done-preserved g c =
     (g.L.LogLink.failures c.args.link.now) (g.L.LogLink.failures c.deliver_lines.new.link) c.args.walk c.deliver_lines.new.walk (c.loop-done.done + 1) e (v.0 ++ step.0) in
     let w = c.loop-done.invariant.came in
     let bring = c.deliver_lines.ensures.came in
-    let joined = brought_joins g.L.LogLink.asks (towards c.args.transactions.now.route) c.args.transactions.now.retries c.args.link.now c.loop-done.link c.deliver_lines.new.link
-    c.args.walk c.loop-done.walk c.deliver_lines.new.walk c.loop-done.done 1 w.0 bring.0 c.deliver_lines.result w.2
-    (brought_same g.L.LogLink.asks (towards c.args.transactions.now.route) (towards c.loop-done.transactions.route) c.args.transactions.now.retries c.loop-done.transactions.retries
-    c.loop-done.link c.deliver_lines.new.link c.loop-done.walk c.deliver_lines.new.walk 1 bring.0 c.deliver_lines.result (ap towards v.6) v.2 bring.2) in
-    let B : Ended → Type 0 = λ e. (came : List Came) × Brought g.L.LogLink.asks (towards c.args.transactions.now.route) c.args.transactions.now.retries
-    c.args.link.now c.args.walk (c.loop-done.done + 1) came (w.0 ++ bring.0) e c.deliver_lines.new.walk c.deliver_lines.new.link in
+    let t = c.args.transactions.now in
+    let z = c.deliver_lines.new.transactions in
+    let joined = brought_joins g.L.LogLink.asks t c.loop-done.transactions z c.args.link.now c.loop-done.link c.deliver_lines.new.link
+    c.args.walk c.loop-done.walk c.deliver_lines.new.walk c.loop-done.done 1 w.0 bring.0 c.deliver_lines.result w.2 bring.2 in
+    let B : Ended → Type 0 = λ e. (came : List Came) × BroughtBy g.L.LogLink.asks t
+    c.args.link.now c.args.walk (c.loop-done.done + 1) came (w.0 ++ bring.0) e c.deliver_lines.new.walk z c.deliver_lines.new.link in
     record {
       printed = (
         v.0 ++ step.0,
@@ -177,65 +178,83 @@ returns-clause-printed g c =
       ),
     )
 
--- ---- what came
+-- ---- what came, and by which transactions
+
+pub returns-in-Stopped-clause-transacted : goal.returns-in-Stopped-clause-transacted
+returns-in-Stopped-clause-transacted g c =
+    let w = c.loop-done.invariant.came in
+    let bring = c.deliver_lines.ensures.came in
+    let u = c.loop-done.transactions in
+    let z = c.deliver_lines.new.transactions in
+    let B : Ended → Type 0 = λ e. BroughtBy g.L.LogLink.asks u c.loop-done.link c.loop-done.walk 1 bring.2.0 bring.0 e c.deliver_lines.new.walk z c.deliver_lines.new.link in
+    fetches_by g.L.LogLink.asks c.args.transactions.now u z c.args.link.now c.loop-done.link c.deliver_lines.new.link c.args.walk c.loop-done.walk
+    c.args.steps c.loop-done.done w.0 StepLimit c.end.result (g.W.Write.contents c.args.out.now) (g.W.Write.contents c.end.new.out) w.2
+    (tells_end (λ cause. IsLeftBy g.L.LogLink.asks u c.loop-done.link c.loop-done.walk z c.deliver_lines.new.link cause)
+    w.0 c.args.steps c.loop-done.done StepLimit c.loop-done.walk why.Memory c.next_number-before.result c.end.result _ _ _ (omega arith, refl) c.next_number-before.ensures.next
+    (bring.2.0, bring.0, c.deliver_lines.new.walk, subst B c.in-Stopped.is bring.2.1) w.1 c.end.ensures.prints)
 
 pub returns-in-Stopped-clause-came : goal.returns-in-Stopped-clause-came
 returns-in-Stopped-clause-came g c =
-    let v = c.loop-done.invariant.printed in
+    by_over g.L.LogLink.asks c.args.transactions.now c.deliver_lines.new.transactions c.args.link.now c.deliver_lines.new.link c.args.walk c.args.steps c.end.result
+    (g.W.Write.contents c.args.out.now) (g.W.Write.contents c.end.new.out) (returns-in-Stopped-clause-transacted g c)
+
+pub returns-in_err-print-clause-transacted : goal.returns-in_err-print-clause-transacted
+returns-in_err-print-clause-transacted g c =
     let w = c.loop-done.invariant.came in
     let bring = c.deliver_lines.ensures.came in
-    let one = brought_same g.L.LogLink.asks (towards c.args.transactions.now.route) (towards c.loop-done.transactions.route) c.args.transactions.now.retries c.loop-done.transactions.retries
-    c.loop-done.link c.deliver_lines.new.link c.loop-done.walk c.deliver_lines.new.walk 1 bring.0 c.deliver_lines.result (ap towards v.6) v.2 bring.2 in
-    let B : Ended → Type 0 = λ e. Brought g.L.LogLink.asks (towards c.args.transactions.now.route) c.args.transactions.now.retries c.loop-done.link c.loop-done.walk 1 one.0 bring.0 e c.deliver_lines.new.walk c.deliver_lines.new.link in
-    fetches_over g.L.LogLink.asks (towards c.args.transactions.now.route) c.args.transactions.now.retries c.args.link.now c.loop-done.link c.deliver_lines.new.link c.args.walk c.loop-done.walk
-    c.args.steps c.loop-done.done w.0 StepLimit c.end.result (g.W.Write.contents c.args.out.now) (g.W.Write.contents c.end.new.out) w.2
-    (tells_end (λ cause. IsLeft g.L.LogLink.asks (towards c.args.transactions.now.route) c.args.transactions.now.retries c.loop-done.link c.loop-done.walk c.deliver_lines.new.link cause)
-    w.0 c.args.steps c.loop-done.done StepLimit c.loop-done.walk why.Memory c.next_number-before.result c.end.result _ _ _ (omega arith, refl) c.next_number-before.ensures.next
-    (one.0, bring.0, c.deliver_lines.new.walk, subst B c.in-Stopped.is one.1) w.1 c.end.ensures.prints)
+    let t = c.args.transactions.now in
+    let z = c.deliver_lines.new.transactions in
+    let joined = brought_joins g.L.LogLink.asks t c.loop-done.transactions z c.args.link.now c.loop-done.link c.deliver_lines.new.link
+    c.args.walk c.loop-done.walk c.deliver_lines.new.walk c.loop-done.done 1 w.0 bring.0 c.deliver_lines.result w.2 bring.2 in
+    let e : c.from_residual.result ≡ Err c.in_err-print.field-0.0 = search rules in
+    let left : Why → Type 0 = λ cause. IsLeftBy g.L.LogLink.asks z c.deliver_lines.new.link c.deliver_lines.new.walk z c.deliver_lines.new.link cause in
+    let T : Fetching → Type 0 = λ r. TellsRun left (w.0 ++ bring.0) c.args.steps (c.loop-done.done + 1) c.deliver_lines.result c.deliver_lines.new.walk r
+    (g.W.Write.contents c.args.out.now) (g.W.Write.contents c.print.new.out) in
+    fetches_by g.L.LogLink.asks t z z c.args.link.now c.deliver_lines.new.link c.deliver_lines.new.link c.args.walk c.deliver_lines.new.walk
+    c.args.steps (c.loop-done.done + 1) (w.0 ++ bring.0) c.deliver_lines.result c.from_residual.result (g.W.Write.contents c.args.out.now) (g.W.Write.contents c.print.new.out) joined
+    (subst T (sym e) (tells_refused left w.0 bring.0 c.deref.result.now c.args.steps (c.loop-done.done + 1) c.deliver_lines.result c.deliver_lines.new.walk c.in_err-print.field-0.0
+    _ _ _ (omega arith) (refl, refl) (c.deref.ensures.value ∙ bring.1 c.in_default.not-Stopped) w.1 c.in_err-print.ensures))
 
 pub returns-in_err-print-clause-came : goal.returns-in_err-print-clause-came
 returns-in_err-print-clause-came g c =
-    let v = c.loop-done.invariant.printed in
+    by_over g.L.LogLink.asks c.args.transactions.now c.deliver_lines.new.transactions c.args.link.now c.deliver_lines.new.link c.args.walk c.args.steps c.from_residual.result
+    (g.W.Write.contents c.args.out.now) (g.W.Write.contents c.print.new.out) (returns-in_err-print-clause-transacted g c)
+
+pub returns-in-Some-clause-transacted : goal.returns-in-Some-clause-transacted
+returns-in-Some-clause-transacted g c =
     let w = c.loop-done.invariant.came in
     let bring = c.deliver_lines.ensures.came in
-    let joined = brought_joins g.L.LogLink.asks (towards c.args.transactions.now.route) c.args.transactions.now.retries c.args.link.now c.loop-done.link c.deliver_lines.new.link
-    c.args.walk c.loop-done.walk c.deliver_lines.new.walk c.loop-done.done 1 w.0 bring.0 c.deliver_lines.result w.2
-    (brought_same g.L.LogLink.asks (towards c.args.transactions.now.route) (towards c.loop-done.transactions.route) c.args.transactions.now.retries c.loop-done.transactions.retries
-    c.loop-done.link c.deliver_lines.new.link c.loop-done.walk c.deliver_lines.new.walk 1 bring.0 c.deliver_lines.result (ap towards v.6) v.2 bring.2) in
-    let e : c.from_residual.result ≡ Err c.in_err-print.field-0.0 = search rules in
-    let left : Why → Type 0 = λ cause. IsLeft g.L.LogLink.asks (towards c.args.transactions.now.route) c.args.transactions.now.retries c.deliver_lines.new.link c.deliver_lines.new.walk c.deliver_lines.new.link cause in
-    let T : Fetching → Type 0 = λ r. TellsRun left (w.0 ++ bring.0) c.args.steps (c.loop-done.done + 1) c.deliver_lines.result c.deliver_lines.new.walk r
-    (g.W.Write.contents c.args.out.now) (g.W.Write.contents c.print.new.out) in
-    fetches_over g.L.LogLink.asks (towards c.args.transactions.now.route) c.args.transactions.now.retries c.args.link.now c.deliver_lines.new.link c.deliver_lines.new.link c.args.walk c.deliver_lines.new.walk
-    c.args.steps (c.loop-done.done + 1) (w.0 ++ bring.0) c.deliver_lines.result c.from_residual.result (g.W.Write.contents c.args.out.now) (g.W.Write.contents c.print.new.out) joined
-    (subst T (sym e) (tells_refused left w.0 bring.0 c.deref.result.now c.args.steps (c.loop-done.done + 1) c.deliver_lines.result c.deliver_lines.new.walk c.in_err-print.field-0.0
-    _ _ _ (omega arith) refl (c.deref.ensures.value ∙ bring.1 c.in_default.not-Stopped) w.1 c.in_err-print.ensures))
+    let t = c.args.transactions.now in
+    let z = c.deliver_lines.new.transactions in
+    let joined = brought_joins g.L.LogLink.asks t c.loop-done.transactions z c.args.link.now c.loop-done.link c.deliver_lines.new.link
+    c.args.walk c.loop-done.walk c.deliver_lines.new.walk c.loop-done.done 1 w.0 bring.0 c.deliver_lines.result w.2 bring.2 in
+    let some : why_of c.deliver_lines.result ≡ Some c.in-Some.why = sym c.why.ensures ∙ c.in-Some.is in
+    let on = not_stopped c.deliver_lines.result c.in_default.not-Stopped in
+    fetches_by g.L.LogLink.asks t z z c.args.link.now c.deliver_lines.new.link c.deliver_lines.new.link c.args.walk c.deliver_lines.new.walk
+    c.args.steps c.args.steps (w.0 ++ bring.0) c.deliver_lines.result c.end-in-Some.result (g.W.Write.contents c.args.out.now) (g.W.Write.contents c.end-in-Some.new.out)
+    (brought_early g.L.LogLink.asks t z c.args.link.now c.deliver_lines.new.link c.args.walk c.deliver_lines.new.walk (c.loop-done.done + 1) c.args.steps
+    (w.0 ++ bring.0) c.deliver_lines.result (not_limit c.deliver_lines.result c.in-Some.why some) (omega arith) joined)
+    (tells_end (λ cause. IsLeftBy g.L.LogLink.asks z c.deliver_lines.new.link c.deliver_lines.new.walk z c.deliver_lines.new.link cause)
+    (w.0 ++ bring.0) c.args.steps c.args.steps c.deliver_lines.result c.deliver_lines.new.walk c.in-Some.why c.next_number.result c.end-in-Some.result _ _ _
+    (ends_run c.deliver_lines.result c.in-Some.why c.args.steps on some) c.next_number.ensures.next
+    (left_whole g.L.LogLink.asks z c.deliver_lines.new.link c.deliver_lines.new.walk c.deliver_lines.result c.in-Some.why on some)
+    (more_lines w.0 bring.0 c.deref.result.now _ _ _ (c.deref.ensures.value ∙ bring.1 c.in_default.not-Stopped) w.1 c.in_ok-print.ensures) c.end-in-Some.ensures.prints)
 
 pub returns-in-Some-clause-came : goal.returns-in-Some-clause-came
 returns-in-Some-clause-came g c =
-    let v = c.loop-done.invariant.printed in
+    by_over g.L.LogLink.asks c.args.transactions.now c.deliver_lines.new.transactions c.args.link.now c.deliver_lines.new.link c.args.walk c.args.steps c.end-in-Some.result
+    (g.W.Write.contents c.args.out.now) (g.W.Write.contents c.end-in-Some.new.out) (returns-in-Some-clause-transacted g c)
+
+pub returns-clause-transacted : goal.returns-clause-transacted
+returns-clause-transacted g c =
     let w = c.loop-done.invariant.came in
-    let bring = c.deliver_lines.ensures.came in
-    let joined = brought_joins g.L.LogLink.asks (towards c.args.transactions.now.route) c.args.transactions.now.retries c.args.link.now c.loop-done.link c.deliver_lines.new.link
-    c.args.walk c.loop-done.walk c.deliver_lines.new.walk c.loop-done.done 1 w.0 bring.0 c.deliver_lines.result w.2
-    (brought_same g.L.LogLink.asks (towards c.args.transactions.now.route) (towards c.loop-done.transactions.route) c.args.transactions.now.retries c.loop-done.transactions.retries
-    c.loop-done.link c.deliver_lines.new.link c.loop-done.walk c.deliver_lines.new.walk 1 bring.0 c.deliver_lines.result (ap towards v.6) v.2 bring.2) in
-    let some : why_of c.deliver_lines.result ≡ Some c.in-Some.why = sym c.why.ensures ∙ c.in-Some.is in
-    let on = not_stopped c.deliver_lines.result c.in_default.not-Stopped in
-    fetches_over g.L.LogLink.asks (towards c.args.transactions.now.route) c.args.transactions.now.retries c.args.link.now c.deliver_lines.new.link c.deliver_lines.new.link c.args.walk c.deliver_lines.new.walk
-    c.args.steps c.args.steps (w.0 ++ bring.0) c.deliver_lines.result c.end-in-Some.result (g.W.Write.contents c.args.out.now) (g.W.Write.contents c.end-in-Some.new.out)
-    (brought_early g.L.LogLink.asks (towards c.args.transactions.now.route) c.args.transactions.now.retries c.args.link.now c.deliver_lines.new.link c.args.walk c.deliver_lines.new.walk (c.loop-done.done + 1) c.args.steps
-    (w.0 ++ bring.0) c.deliver_lines.result (not_limit c.deliver_lines.result c.in-Some.why some) (omega arith) joined)
-    (tells_end (λ cause. IsLeft g.L.LogLink.asks (towards c.args.transactions.now.route) c.args.transactions.now.retries c.deliver_lines.new.link c.deliver_lines.new.walk c.deliver_lines.new.link cause)
-    (w.0 ++ bring.0) c.args.steps c.args.steps c.deliver_lines.result c.deliver_lines.new.walk c.in-Some.why c.next_number.result c.end-in-Some.result _ _ _
-    (ends_run c.deliver_lines.result c.in-Some.why c.args.steps on some) c.next_number.ensures.next
-    (left_whole g.L.LogLink.asks (towards c.args.transactions.now.route) c.args.transactions.now.retries c.deliver_lines.new.link c.deliver_lines.new.walk c.deliver_lines.result c.in-Some.why on some)
-    (more_lines w.0 bring.0 c.deref.result.now _ _ _ (c.deref.ensures.value ∙ bring.1 c.in_default.not-Stopped) w.1 c.in_ok-print.ensures) c.end-in-Some.ensures.prints)
+    let u = c.loop-done.transactions in
+    fetches_by g.L.LogLink.asks c.args.transactions.now u u c.args.link.now c.loop-done.link c.loop-done.link c.args.walk c.loop-done.walk
+    c.args.steps c.loop-done.done w.0 StepLimit c.end-2.result (g.W.Write.contents c.args.out.now) (g.W.Write.contents c.end-2.new.out) w.2
+    (tells_end (λ cause. IsLeftBy g.L.LogLink.asks u c.loop-done.link c.loop-done.walk u c.loop-done.link cause)
+    w.0 c.args.steps c.loop-done.done StepLimit c.loop-done.walk why.StepLimit c.next_number-2.result c.end-2.result _ _ _ (omega arith, refl) c.next_number-2.ensures.next (refl, refl) w.1 c.end-2.ensures.prints)
 
 pub returns-clause-came : goal.returns-clause-came
 returns-clause-came g c =
-    let w = c.loop-done.invariant.came in
-    fetches_over g.L.LogLink.asks (towards c.args.transactions.now.route) c.args.transactions.now.retries c.args.link.now c.loop-done.link c.loop-done.link c.args.walk c.loop-done.walk
-    c.args.steps c.loop-done.done w.0 StepLimit c.end-2.result (g.W.Write.contents c.args.out.now) (g.W.Write.contents c.end-2.new.out) w.2
-    (tells_end (λ cause. IsLeft g.L.LogLink.asks (towards c.args.transactions.now.route) c.args.transactions.now.retries c.loop-done.link c.loop-done.walk c.loop-done.link cause)
-    w.0 c.args.steps c.loop-done.done StepLimit c.loop-done.walk why.StepLimit c.next_number-2.result c.end-2.result _ _ _ (omega arith, refl) c.next_number-2.ensures.next refl w.1 c.end-2.ensures.prints)
+    by_over g.L.LogLink.asks c.args.transactions.now c.loop-done.transactions c.args.link.now c.loop-done.link c.args.walk c.args.steps c.end-2.result
+    (g.W.Write.contents c.args.out.now) (g.W.Write.contents c.end-2.new.out) (returns-clause-transacted g c)

@@ -2,9 +2,9 @@ use Rattle.std.proofs.Common.{◌≡◌, ◌*◌, ◌≤◌, List, length}
 use Rattle.std.specs.Io.KnownBytes.{Appends}
 use Rattle.bac_link.specs.declared.item.Item.{Item}
 use Rattle.bac_query.specs.Items.{items_text}
-use Rattle.bac_link.specs.Path.{towards}
-use Rattle.bac_walk.specs.Came.{Came, Brought}
+use Rattle.bac_walk.specs.Came.{Came}
 use Rattle.bac_walk.specs.Sinks.{IsRun}
+use Rattle.bac_walk.specs.Transacted.{BroughtBy}
 use Rattle.bac_walk.specs.declared.outcome.Ended.TheVariants.{StepLimit}
 use Rattle.bac_query.proofs.fetching.fetch_log.Given as goal
 
@@ -18,5 +18,5 @@ invariant-loop-done g l = record {
       l.fn.transactions.retries (g.L.LogLink.failures l.fn.link) (g.L.LogLink.failures l.link) l.fn.walk l.walk l.done StepLimit items
       × (l.transactions.route ≡ l.fn.transactions.route) × (length items ≤ 101 * l.done) × (l.done ≤ length items);
   came : (items : List Item) × Appends (g.W.Write.contents l.fn.out) (g.W.Write.contents l.out) (items_text items)
-      × ((came : List Came) × Brought g.L.LogLink.asks (towards l.fn.transactions.route) l.fn.transactions.retries l.fn.link l.fn.walk l.done came items StepLimit l.walk l.link);
+      × ((came : List Came) × BroughtBy g.L.LogLink.asks l.fn.transactions l.fn.link l.fn.walk l.done came items StepLimit l.walk l.transactions l.link);
 }
