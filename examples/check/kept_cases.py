@@ -13,6 +13,7 @@ import subprocess
 import sys
 import time
 
+from kept_apart import dead_devices, last_epoch
 from kept_devices import Device, Log, chance, lock, serve, wait_until_asked
 from kept_judge import wrongs
 from kept_rounds import one, rounds, said
@@ -53,6 +54,59 @@ def run_after_run(judge, _runs):
     judge.judge("by a link", file, [device], True)
     judge.same("no other file is left", sorted(os.listdir(judge.room)), ["a.db", "a.db-wal", "a.db.copy", "link"])
     judge.is_right("no record is in the log beside it", os.path.getsize(f"{file}-wal") < 4096)
+
+
+def beginnings(judge, _runs):
+    """A first run that finds nothing keeps where the log begins: what is logged and dropped before the next one is a gap."""
+    for name, before, more, uncounted, first in (("an empty log", 0, 130, False, 1), ("a log that was purged", 7, 60, False, 8),
+                                                 ("a log without a count", 7, 60, True, 1)):
+        device, log = one(count=before)
+        file = f"{judge.room}/{before}{uncounted}.db"
+        log.purge()
+        device.uncounted = {1} if uncounted else set()
+        nothing = said(device, 0, 0, "caught up, next 1")
+        judge.same(name, judge.ran(["keep", file, device.address, "1"]), (0, nothing, ""))
+        base = sqlite3.connect(file)
+        judge.same(f"{name}: where it begins", base.execute("SELECT id, number FROM beginnings").fetchall(), [(1 << 15, first)])
+        base.close()
+        nothing = said(device, 0, 0, f"caught up, next {first}")
+        judge.same(f"{name}, again", judge.ran(["keep", file]), (0, nothing, ""))
+        log.log(more)
+        end = f"caught up, next {before + more + 1}"
+        judge.same(f"{name} fills and drops", judge.ran(["keep", file]), (0, said(device, 50, 1, end), ""))
+        judge.judge(f"{name} fills and drops", file, [device], True)
+        base = sqlite3.connect(file)
+        judge.same(f"{name}: what it dropped is a gap", base.execute("SELECT epoch, first, last FROM gaps").fetchall(), [(0, first, before + more - 50)])
+        base.close()
+    # Few records, behind those that were purged; and none but those of a new life.
+    device, log = one()
+    file = f"{judge.room}/purged.db"
+    judge.ran(["keep", file, device.address, "1"])
+    log.log(30)
+    log.purge()
+    log.log(2)
+    judge.same("behind a purge", judge.ran(["keep", file]), (0, said(device, 2, 1, "caught up, next 33"), ""))
+    judge.judge("behind a purge", file, [device], True)
+    anew = f"{device.address} 1 began anew\n"
+    for name, count, records, gaps in (("fewer", 3, 3, 0), ("as many", 40, 40, 0), ("more, and the last one is held", 60, 50, 1)):
+        log.begin(0)
+        log.log(40)
+        log.purge()
+        file = f"{judge.room}/{count}.db"
+        judge.ran(["keep", file, device.address, "1"])
+        log.begin(0)
+        log.log(count)
+        judge.same(f"a new life behind an empty one: {name}", judge.ran(["keep", file]),
+                   (0, said(device, records, gaps, f"caught up, next {count + 1}"), anew))
+        judge.judge(f"a new life behind an empty one: {name}", file, [device], True)
+    # A first run that is lost, or ends early, has no such place.
+    device, log = one(count=9)
+    file = f"{judge.room}/lost.db"
+    device.answers = 1
+    judge.same("counted, and then lost", judge.ran(["keep", file, device.address, "1", *QUICK]), (2, said(device, 0, 0, "lost, next 1"), ""))
+    device.answers = None
+    judge.same("and whole", judge.ran(["keep", file]), (0, said(device, 9, 0, "caught up, next 10"), ""))
+    judge.judge("and whole", file, [device], True)
 
 
 def options(judge, _runs):
@@ -244,11 +298,18 @@ def restarts(judge, _runs):
     log.begin(0)
     log.clock -= datetime.timedelta(days=400)
     log.log(70)
-    judge.same("passed, and dated before", judge.ran(["keep", file]), (0, said(device, 50, 0, "caught up, next 71"), anew))
+    judge.same("passed, and dated before", judge.ran(["keep", file]), (0, said(device, 50, 1, "caught up, next 71"), anew))
     judge.judge("passed, and dated before", file, [device], True)
     base = sqlite3.connect(file)
     judge.same("epochs", base.execute("SELECT max(epoch) FROM records").fetchone(), (epoch + 2,))
+    judge.same("what it dropped since is a gap", base.execute("SELECT epoch, first, last FROM gaps").fetchall(), [(epoch + 2, 1, 20)])
     base.close()
+    # Its count lies half of the numbers ahead of 1 and more: it begins at the oldest.
+    log.begin(3000000000)
+    log.clock -= datetime.timedelta(days=400)
+    log.log(60)
+    judge.same("half of the numbers ahead", judge.ran(["keep", file]), (0, said(device, 50, 0, "caught up, next 3000000061"), anew))
+    judge.judge("half of the numbers ahead", file, [device], True)
 
 
 def cut_files(judge, _runs):
@@ -578,5 +639,5 @@ def judgements(judge, _runs):
     judge.is_right("a broken page is seen", wrongs(broken, [device], True))
 
 
-CASES = [judgements, run_after_run, options, losses, line_by_line, step_limits, words_and_names, no_archive, far_away, rounds, restarts, cut_files, foreign_files, a_large_file, printed, taken_over, served,
+CASES = [judgements, run_after_run, beginnings, options, losses, line_by_line, step_limits, last_epoch, dead_devices, words_and_names, no_archive, far_away, rounds, restarts, cut_files, foreign_files, a_large_file, printed, taken_over, served,
          terminals, warehouses]

@@ -119,6 +119,9 @@ def wrong_of(log, epochs, all_of_it):
         next_number = rows[0][0]
         if life == before + 1 and life in log.rounds and before >= 0 and (end != LAST + 1 or next_number != 1):
             return f"epoch {epoch} begins at {next_number} where numbers come round, and that before ends at {end - 1}"
+        # One that began anew counts from 1, and 1 tells up to half of the numbers ahead.
+        if before >= 0 and life not in log.rounds and next_number != 1 and first <= 2**31:
+            return f"epoch {epoch} begins at {next_number}, and a log that began anew at 1"
         if any(number > dropped for number in logged if number < next_number):
             return f"epoch {epoch} begins at {next_number}, behind what is held"
         for number, last, texts in rows:

@@ -4,6 +4,8 @@ use Rattle.std.specs.String.{string_bytes}
 use Rattle.bac_archive.specs.declared.trend_logs.Source.{Source}
 use Rattle.bac_query.specs.Ends.{end_line}
 use Rattle.bac_asked.specs.declared.end.End.{End}
+use Rattle.bac_asked.specs.declared.end.Ending.{Ending}
+use Rattle.bac_asked.specs.declared.end.Ending.TheVariants.{Walk, Back, Epochs, NotAsked}
 
 -- a device's address, and for one behind a router its network and its address there
 unfoldable pub place_text : Source → List ℕ
@@ -18,10 +20,21 @@ source_text source = place_text source ++ (32 ∷ decimal source.instance)
 unfoldable pub counted : ℕ → List ℕ → List ℕ → List ℕ
 counted n one many = decimal n ++ (if n == 1 then one else many)
 
--- where a log is, how many records and gaps were kept, and how its walk ended
+-- a reason, and the sequence number that comes next
+unfoldable pub reason_line : List ℕ → ℕ → List ℕ
+reason_line why next = why ++ (codes ", next " ++ (decimal next ++ 10 ∷ []))
+
+-- why a run over a log ended, and the sequence number that comes next
+unfoldable pub ending_line : Ending → ℕ → List ℕ
+ending_line (Walk why) next = end_line why next
+ending_line Back next = reason_line (codes "its numbers went back") next
+ending_line Epochs next = reason_line (codes "it began anew, or its numbers came round, 32767 times") next
+ending_line NotAsked next = reason_line (codes "not asked") next
+
+-- where a log is, how many records and gaps were kept, and how the run over it ended
 unfoldable pub summary_line : Source → End → List ℕ
 summary_line source end = source_text source ++ (32 ∷ (counted end.records (codes " record ") (codes " records ")
-    ++ (counted end.gaps (codes " gap ") (codes " gaps ") ++ end_line end.why end.next)))
+    ++ (counted end.gaps (codes " gap ") (codes " gaps ") ++ ending_line end.why end.next)))
 
 -- that the device of a log began anew
 unfoldable pub anew_line : Source → List ℕ

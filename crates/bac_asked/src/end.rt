@@ -1,21 +1,34 @@
 //! How a run over a log ended.
 
 ghost use Rattle.std.specs.Prelude.{◌≡◌};
-ghost use Rattle.bac_asked.specs.Status.{walk_status};
+ghost use Rattle.bac_asked.specs.Status.{end_status, walk_status};
 
 use crate::fault::{Fault, FileFault};
 use bac_walk::{WalkFault, Why};
 use sqlite::Error;
 
-/// What was kept of a log, and why its walk ended.
+/// Why a run over a log ended.
+#[derive(Clone, Copy, Debug, PartialEq, Eq)]
+pub enum Ending {
+    /// As its walk did.
+    Walk(Why),
+    /// Its numbers went back.
+    Back,
+    /// It began anew, or its numbers came round, as often as the file can tell.
+    Epochs,
+    /// It wasn't asked, since its device gave no answer in this run.
+    NotAsked,
+}
+
+/// What was kept of a log, and why the run over it ended.
 #[derive(Clone, Copy)]
 pub struct End {
     /// How many records.
     pub records: u64,
     /// How many gaps.
     pub gaps: u64,
-    /// Why the walk ended.
-    pub why: Why,
+    /// Why it ended.
+    pub why: Ending,
     /// The number that comes next.
     pub next: u32,
     /// The device began anew, and a new epoch with it.
@@ -37,7 +50,7 @@ pub fn of_error(error: Error) -> NotDone {
 }
 
 /// The exit status of a walk that ended so: 8 if there may be more.
-pub fn walk_status(why: Why) -> u8
+fn walk_status(why: Why) -> u8
     ensures { result ≡ walk_status why }
 {
     match why {
@@ -47,5 +60,17 @@ pub fn walk_status(why: Why) -> u8
         Why::Fault(WalkFault::Refused(_)) => 3,
         Why::Fault(WalkFault::BadReply) => 4,
         Why::Memory => 5,
+    }
+}
+
+/// The exit status of a run over a log that ended so.
+pub fn end_status(why: Ending) -> u8
+    ensures { result ≡ end_status why }
+{
+    match why {
+        Ending::Walk(why) => walk_status(why),
+        Ending::Back => 6,
+        Ending::Epochs => 6,
+        Ending::NotAsked => 2,
     }
 }

@@ -55,10 +55,6 @@ pub enum FileFault {
     Full,
     /// One of its logs has an address that is none.
     Address,
-    /// A log began anew, or its numbers came round, as often as the file can tell.
-    Epochs,
-    /// Numbers of a log went back.
-    Back,
     /// Out of memory.
     Memory,
     /// What the database says.
@@ -133,8 +129,6 @@ impl FileFault {
             FileFault::Orphan => "it has items of no trend log, or of an epoch without a beginning",
             FileFault::Full => "it has 65535 trend logs",
             FileFault::Address => "a trend log in it has an address that is none",
-            FileFault::Epochs => "a log in it began anew, or its numbers came round, 32767 times",
-            FileFault::Back => "the numbers of a log went back",
             _ => "the database failed",
         }
     }

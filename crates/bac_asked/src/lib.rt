@@ -12,7 +12,7 @@ mod options;
 mod summary;
 mod wanted;
 
-pub use end::{End, NotDone, of_error, walk_status};
+pub use end::{End, Ending, NotDone, end_status, of_error};
 pub use fault::{Fault, FileFault};
 pub use log_words::Asking;
 pub use options::Options;

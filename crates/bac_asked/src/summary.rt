@@ -3,9 +3,9 @@
 ghost use Rattle.std.specs.Prelude.{◌≡◌, ◌==◌, ◌++◌, if◌then◌else◌, OnOk, List, Some};
 ghost use Rattle.std.specs.Float.Ieee.{binary64};
 ghost use Rattle.ryu.specs.Parse.{parse_float};
-ghost use Rattle.bac_asked.specs.Lines.{anew_line, counted, place_text, source_text, summary_line};
+ghost use Rattle.bac_asked.specs.Lines.{anew_line, counted, ending_line, place_text, reason_line, source_text, summary_line};
 
-use crate::end::End;
+use crate::end::{End, Ending};
 use bac_archive::Source;
 use bac_print::push_number;
 use bac_query::push_end;
@@ -53,8 +53,36 @@ fn push_count(text: &mut Vec<u8>, count: u64, one: &[u8], many: &[u8]) -> Result
     text.extend_from_slice(if count == 1 { one } else { many })
 }
 
-/// Appends the line of a log: how many records and gaps were kept, why its walk ended, and which
-/// number comes next.
+/// Appends a reason, and the number that comes next.
+#[tactic(auto, unfolding(crate::specs::Lines::reason_line))]
+fn push_reason(text: &mut Vec<u8>, why: &[u8], next: u32) -> Result<(), AllocError>
+    ensures { OnOk result (text.new.items ≡ text.old.items ++ reason_line why.now next) }
+{
+    text.extend_from_slice(why)?;
+    text.extend_from_slice(b", next ")?;
+    push_number(text, u64::from(next))?;
+    text.extend_from_slice(b"\n")
+}
+
+/// Appends why a run over a log ended, and the number that comes next.
+#[tactic(auto, unfolding(crate::specs::Lines::ending_line))]
+fn push_ending(text: &mut Vec<u8>, why: Ending, next: u32) -> Result<(), AllocError>
+    ensures { OnOk result (text.new.items ≡ text.old.items ++ ending_line why next) }
+{
+    match why {
+        Ending::Walk(why) => push_end(text, why, next),
+        Ending::Back => push_reason(text, b"its numbers went back", next),
+        Ending::Epochs => push_reason(
+            text,
+            b"it began anew, or its numbers came round, 32767 times",
+            next,
+        ),
+        Ending::NotAsked => push_reason(text, b"not asked", next),
+    }
+}
+
+/// Appends the line of a log: how many records and gaps were kept, why the run over it ended, and
+/// which number comes next.
 #[tactic(auto, unfolding(crate::specs::Lines::summary_line))]
 pub fn push_summary(text: &mut Vec<u8>, source: &Source, end: &End) -> Result<(), AllocError>
     ensures { OnOk result (text.new.items ≡ text.old.items ++ summary_line source.now end.now) }
@@ -63,7 +91,7 @@ pub fn push_summary(text: &mut Vec<u8>, source: &Source, end: &End) -> Result<()
     text.push(b' ')?;
     push_count(text, end.records, b" record ", b" records ")?;
     push_count(text, end.gaps, b" gap ", b" gaps ")?;
-    push_end(text, end.why, end.next)
+    push_ending(text, end.why, end.next)
 }
 
 /// Appends the line that tells that the device of a log began anew.

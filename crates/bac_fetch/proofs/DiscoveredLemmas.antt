@@ -8,7 +8,7 @@ use Rattle.bac_link.specs.declared.exchanges.ExchangeFault.TheVariants as fault
 use Rattle.bac_link.specs.declared.request.Request.{Request}
 use Rattle.bac_link.specs.declared.transactions.Transactions.{Transactions}
 use Rattle.bac_link.specs.declared.link.Lost.{Lost as Loss}
-use Rattle.bac_link.specs.Path.{Path, towards}
+use Rattle.bac_link.specs.Path.{towards}
 use Rattle.bac_ports.specs.declared.udp_link.UdpLink.{UdpLink}
 use Rattle.bac_words.specs.declared.job.Asked.{Asked}
 use Rattle.bac_asked.specs.declared.end.NotDone.{NotDone}

@@ -1,50 +1,57 @@
 -- What is kept of logs, one after the other.
-use Rattle.std.proofs.Common.{◌≡◌, inl, inr, ℕ, ◌<◌, max, false, List, [], ◌∷◌, ◌++◌, length, Option, Result, Ok, Err, IfOk, refl, sym, ap, subst, ◌∙◌, append_assoc, append-nil, length-append, arith}
+use Rattle.std.proofs.Common.{◌≡◌, inl, inr, ℕ, max, Bool, true, false, List, [], ◌∷◌, ◌++◌, length, Option, None, Some, Result, Ok, Err, IfOk, refl, sym, ap, subst, ◌∙◌, append_assoc, append-nil, length-append, arith}
 use Rattle.sqlite.specs.Effect.{Database}
 use Rattle.bac_wire.specs.Primitive.{Id}
 use Rattle.bac_archive.specs.Schema.{archive_schema}
-use Rattle.bac_archive.specs.Rows.{kept}
-use Rattle.bac_archive.specs.declared.latest.NewestItem.{NewestItem}
-use Rattle.bac_keep.specs.Resumption.{KeptRecord, IsTold, IsWhere}
+use Rattle.bac_archive.specs.declared.trend_logs.Log.{Log}
+use Rattle.bac_archive.specs.declared.trend_logs.Source.{Source}
+use Rattle.bac_keep.specs.Resumption.{KeptRecord, Resumes}
 use Rattle.bac_keep.specs.declared.resumption.Resume.{Resume}
-use Rattle.bac_walk.specs.declared.outcome.Step.{Step}
-use Rattle.bac_walk.specs.declared.outcome.WalkFault.{WalkFault}
 use Rattle.bac_asked.specs.declared.end.End.{End}
 use Rattle.bac_fetch.specs.declared.fetching.Start.{Start}
 use Rattle.bac_asked.specs.declared.wanted.Wanted.{Wanted}
 use Rattle.bac_apdu.specs.Npdu.{Place}
-use Rattle.bac_link.specs.Path.{towards}
+use Rattle.bac_link.specs.Path.{Path, towards}
 use Rattle.bac_link.specs.declared.link.Lost.{Lost as Loss}
 use Rattle.bac_ports.specs.declared.udp_link.UdpLink.{UdpLink}
 use Rattle.bac_asked.specs.declared.log_words.Asking.{Asking}
 use Rattle.bac_ports.specs.Sockets.{SocketRules, link_over, own_address, socket_asks}
-use Rattle.bac_fetch.specs.Fetched.{ComesBegun, ComesFrom, IsAskedOn}
-use Rattle.bac_fetch.specs.Keeps.{KeepsBegun, KeepsLog, KeepsOverLink, KeepsSource, KeepsAll, lines_of, greatest_status}
+use Rattle.bac_fetch.specs.Fetched.{ComesFrom}
+use Rattle.bac_fetch.specs.Keeps.{KeepsBegun, Marks, MarksBegun, is_idle, KeepsLog, KeepsOverLink, KeepsSource, KeepsNext, PassesOver, KeepsAll, lines_of, greatest_status}
 use Rattle.bac_asked.specs.Lines.{summary_line}
-use Rattle.bac_fetch.specs.Starts.{IsBegun, Tells, kept_last}
-use Rattle.bac_asked.specs.Status.{walk_status}
+use Rattle.bac_fetch.specs.Silent.{is_silent, lost_after, lost_with}
+use Rattle.bac_fetch.specs.Starts.{IsBegun}
+use Rattle.bac_asked.specs.Status.{end_status}
+use Rattle.bac_fetch.proofs.SilentLemmas.{either_holds}
 
 -- what holds of an Ok twice
 pub both_ok : {T E : Type 0} (r : Result T E) (P Q R : T → Type 0) → ((x : T) → P x → Q x → R x) → IfOk r P → IfOk r Q → IfOk r R
 both_ok (Ok x) P Q R f p q = f x p q
 both_ok (Err e) P Q R f p q = tt
 
+-- what was told to a question for a record is told to one for the same record
+pub resumes : {L : Type 0} (asks : L → List ℕ → Result (List ℕ) Loss → L → Type 0) (path : Path) (retries : ℕ) (link left : L) (object : Id) (given same : KeptRecord) (told : Resume)
+    → given ≡ same → Resumes asks path retries link object given told left → Resumes asks path retries link object same told left
+resumes asks path retries link left object given same told is it = subst (λ (k : KeptRecord). Resumes asks path retries link object k told left) is it
+
 -- what is kept of a log whose beginning changed nothing, over a link
 pub keeps_begun : {L : Type 0} (asks : L → List ℕ → Result (List ℕ) Loss → L → Type 0) (way route : Option Place) (tries retries : ℕ) (link mid left : L)
     (steps log : ℕ) (object : Id) (old between new : Database) (start : Start) (end : End)
-    → IsBegun log object (kept old.trees) (Ok start) → IsAskedOn asks link mid → route ≡ way → retries ≡ tries → between ≡ old → KeepsBegun (Ok start) between new end
-    → ComesFrom asks (towards route) retries mid left start steps between new end
+    → IsBegun asks (towards way) tries link mid log object old.trees (Ok start) → route ≡ way → retries ≡ tries → between ≡ old
+    → ((last : Database) × KeepsBegun (Ok start) between last end × ComesFrom asks (towards route) retries mid left start steps between last end
+    × Marks log start.begins_at end last new)
     → KeepsOverLink asks (towards way) tries link left steps log object old new end
-keeps_begun asks way route tries retries link mid left steps log object old between new start end begun asked r n same h came = (
+keeps_begun asks way route tries retries link mid left steps log object old between new start end begun r n same (last, keeps, came, marks) = (
   Ok start,
+  mid,
   begun,
-  subst (λ d. KeepsBegun (Ok start) d new end) same h,
   (
-    mid,
-    asked,
-    subst (λ d. ComesFrom asks (towards way) tries mid left start steps d new end) same
-        (subst (λ m. ComesFrom asks (towards way) m mid left start steps between new end) n
-        (subst (λ (q : Option Place). ComesFrom asks (towards q) retries mid left start steps between new end) r came)),
+    last,
+    subst (λ d. KeepsBegun (Ok start) d last end) same keeps,
+    subst (λ d. ComesFrom asks (towards way) tries mid left start steps d last end) same
+        (subst (λ m. ComesFrom asks (towards way) m mid left start steps between last end) n
+        (subst (λ (q : Option Place). ComesFrom asks (towards q) retries mid left start steps between last end) r came)),
+    marks,
   ),
 )
 
@@ -54,21 +61,32 @@ pub keeps_log : {S P : Type 0} (rules : SocketRules S P) (asking : Asking) (befo
     → rules.opens before (own_address asking.asked.local) asking.asked.timeout (Ok port) middle → link ≡ link_over asking.asked.address port
     → route ≡ asking.asked.route → retries ≡ asking.asked.retries → steps ≡ asking.steps → given ≡ object → last ≡ left.port → rules.closes middle last after
     → KeepsOverLink (socket_asks rules) (towards route) retries link left steps log given old new end → KeepsLog rules asking before after log object old new end
-keeps_log rules asking before middle after log object given old new end port last link left route retries steps opens is_link way tries many is is_last closes (begun, at_begin, keeps, comes) =
+keeps_log rules asking before middle after log object given old new end port last link left route retries steps opens is_link way tries many is is_last closes it =
     let asks = socket_asks rules in
-    let comes₁ = subst (λ (q : Option Place). ComesBegun asks (towards q) retries link left begun steps old new end) way comes in
-    let comes₂ = subst (λ m. ComesBegun asks (towards asking.asked.route) m link left begun steps old new end) tries comes₁ in
-    let comes₃ = subst (λ l. ComesBegun asks (towards asking.asked.route) asking.asked.retries l left begun steps old new end) is_link comes₂ in
-    let comes₄ = subst (λ m. ComesBegun asks (towards asking.asked.route) asking.asked.retries (link_over asking.asked.address port) left begun m old new end) many comes₃ in (
-      begun,
-      subst (λ (o : Id). IsBegun log o (kept old.trees) begun) is at_begin,
-      keeps,
-      (port, middle, last, opens, (left, comes₄, is_last), closes),
-    )
+    let path = towards asking.asked.route in
+    let over = link_over asking.asked.address port in
+    let it₁ = subst (λ (q : Option Place). KeepsOverLink asks (towards q) retries link left steps log given old new end) way it in
+    let it₂ = subst (λ m. KeepsOverLink asks path m link left steps log given old new end) tries it₁ in
+    let it₃ = subst (λ l. KeepsOverLink asks path asking.asked.retries l left steps log given old new end) is_link it₂ in
+    let it₄ = subst (λ m. KeepsOverLink asks path asking.asked.retries over left m log given old new end) many it₃ in
+    let it₅ = subst (λ (o : Id). KeepsOverLink asks path asking.asked.retries over left asking.steps log o old new end) is it₄ in
+    (port, middle, last, opens, (left, it₅, is_last), closes)
 
-log_schema : (begun : Result Start End) (old new : Database) (end : End) → KeepsBegun begun old new end → old.schema ≡ archive_schema → new.schema ≡ archive_schema
+pub log_schema : (begun : Result Start End) (old new : Database) (end : End) → KeepsBegun begun old new end → old.schema ≡ archive_schema → new.schema ≡ archive_schema
 log_schema (Ok start) old new end h has = h.rows.schema
 log_schema (Err none) old new end h has = ap (λ (d : Database). d.schema) h.0 ∙ has
+
+mark_schema : (log : ℕ) (begins_at : Option ℕ) (end : End) (old new : Database) → Marks log begins_at end old new → old.schema ≡ archive_schema → new.schema ≡ archive_schema
+mark_schema log None end old new it has = ap (λ (d : Database). d.schema) it ∙ has
+mark_schema log (Some number) end old new it has = go (is_idle end) refl
+  where
+    go : (idle : Bool) → is_idle end ≡ idle → new.schema ≡ archive_schema
+    go true is = (it.0 is).schema
+    go false is = ap (λ (d : Database). d.schema) (it.1 is) ∙ has
+
+marks_schema : (log : ℕ) (begun : Result Start End) (end : End) (old new : Database) → MarksBegun log begun end old new → old.schema ≡ archive_schema → new.schema ≡ archive_schema
+marks_schema log (Ok start) end old new it has = mark_schema log start.begins_at end old new it has
+marks_schema log (Err none) end old new it has = ap (λ (d : Database). d.schema) it ∙ has
 
 source_schema : {S P : Type 0} (rules : SocketRules S P) (wanted : Wanted) (before after : S) (old new : Database) (end : End) → KeepsSource rules wanted before after old new end
     → old.schema ≡ archive_schema → new.schema ≡ archive_schema
@@ -77,26 +95,34 @@ source_schema rules wanted before after old new end h has =
       | inl same ↦ ap (λ (d : Database). d.schema) same ∙ has
       | inr more ↦ more.schema
     ] in
-    log_schema h.kept.0 h.known new end h.kept.2 known
+    let (begun, mid, at_begin, (last, keeps, comes, marks)) = h.kept.4.1 in
+    marks_schema h.id begun end last new marks (log_schema begun h.known last end keeps known)
+
+next_schema : {S P : Type 0} (rules : SocketRules S P) (known : List Log) (lost : List Source) (wanted : Wanted) (before after : S) (old new : Database) (end : End)
+    → KeepsNext rules known lost wanted before after old new end → old.schema ≡ archive_schema → new.schema ≡ archive_schema
+next_schema rules known lost wanted before after old new end h has =
+    either_holds (is_silent lost wanted.source) (PassesOver known wanted before after old new end) (KeepsSource rules wanted before after old new end) (new.schema ≡ archive_schema)
+    (λ same. ap (λ (d : Database). d.schema) same.0 ∙ has) (λ kept. source_schema rules wanted before after old new end kept has) h
 
 -- runs over an archive leave one
-pub all_schema : {S P : Type 0} (rules : SocketRules S P) (all : List Wanted) (before after : S) (old new : Database) (ends : List End) → KeepsAll rules all before after old new ends
-    → old.schema ≡ archive_schema → new.schema ≡ archive_schema
-all_schema rules [] before after old new [] h has = ap (λ (d : Database). d.schema) h.0 ∙ has
-all_schema rules [] before after old new (end ∷ ends) h has = absurd h
-all_schema rules (wanted ∷ all) before after old new [] h has = absurd h
-all_schema rules (wanted ∷ all) before after old new (end ∷ ends) h has =
-    all_schema rules all h.1 after h.0 new ends h.3 (source_schema rules wanted before h.1 old h.0 end h.2 has)
+pub all_schema : {S P : Type 0} (rules : SocketRules S P) (known : List Log) (lost : List Source) (all : List Wanted) (before after : S) (old new : Database) (ends : List End)
+    → KeepsAll rules known lost all before after old new ends → old.schema ≡ archive_schema → new.schema ≡ archive_schema
+all_schema rules known lost [] before after old new [] h has = ap (λ (d : Database). d.schema) h.0 ∙ has
+all_schema rules known lost [] before after old new (end ∷ ends) h has = absurd h
+all_schema rules known lost (wanted ∷ all) before after old new [] h has = absurd h
+all_schema rules known lost (wanted ∷ all) before after old new (end ∷ ends) h has =
+    all_schema rules known (lost_with lost wanted.source end.why) all h.1 after h.0 new ends h.3 (next_schema rules known lost wanted before h.1 old h.0 end h.2 has)
 
 -- one log more
-pub one_more : {S P : Type 0} (rules : SocketRules S P) (all : List Wanted) (wanted : Wanted) (before half after : S) (old mid new : Database) (ends : List End) (end : End)
-    → KeepsAll rules all before half old mid ends → KeepsSource rules wanted half after mid new end → KeepsAll rules (all ++ wanted ∷ []) before after old new (ends ++ end ∷ [])
-one_more rules [] wanted before half after old mid new [] end h one =
-    (new, after, subst (λ s. KeepsSource rules wanted s after old new end) h.1 (subst (λ d. KeepsSource rules wanted half after d new end) h.0 one), (refl, refl))
-one_more rules [] wanted before half after old mid new (e ∷ ends) end h one = absurd h
-one_more rules (w ∷ all) wanted before half after old mid new [] end h one = absurd h
-one_more rules (w ∷ all) wanted before half after old mid new (e ∷ ends) end h one =
-    (h.0, h.1, h.2, one_more rules all wanted h.1 half after h.0 mid new ends end h.3 one)
+pub one_more : {S P : Type 0} (rules : SocketRules S P) (known : List Log) (lost : List Source) (all : List Wanted) (wanted : Wanted) (before half after : S) (old mid new : Database)
+    (ends : List End) (end : End) → KeepsAll rules known lost all before half old mid ends → KeepsNext rules known (lost_after lost all ends) wanted half after mid new end
+    → KeepsAll rules known lost (all ++ wanted ∷ []) before after old new (ends ++ end ∷ [])
+one_more rules known lost [] wanted before half after old mid new [] end h one =
+    (new, after, subst (λ s. KeepsNext rules known lost wanted s after old new end) h.1 (subst (λ d. KeepsNext rules known lost wanted half after d new end) h.0 one), (refl, refl))
+one_more rules known lost [] wanted before half after old mid new (e ∷ ends) end h one = absurd h
+one_more rules known lost (w ∷ all) wanted before half after old mid new [] end h one = absurd h
+one_more rules known lost (w ∷ all) wanted before half after old mid new (e ∷ ends) end h one =
+    (h.0, h.1, h.2, one_more rules known (lost_with lost w.source e.why) all wanted h.1 half after h.0 mid new ends end h.3 one)
 
 pub lines_more : (all : List Wanted) (wanted : Wanted) (ends : List End) (end : End) → length ends ≡ length all
     → lines_of (all ++ wanted ∷ []) (ends ++ end ∷ []) ≡ lines_of all ends ++ summary_line wanted.source end
@@ -106,18 +132,9 @@ lines_more (w ∷ all) wanted [] end same = absurd (omega (arith, same))
 lines_more (w ∷ all) wanted (e ∷ ends) end same =
     ap (λ l. summary_line w.source e ++ l) (lines_more all wanted ends end (omega (arith, same))) ∙ sym (append_assoc (summary_line w.source e) (lines_of all ends) (summary_line wanted.source end))
 
-pub greatest_more : (ends : List End) (end : End) → greatest_status (ends ++ end ∷ []) ≡ max (greatest_status ends) (walk_status end.why)
+pub greatest_more : (ends : List End) (end : End) → greatest_status (ends ++ end ∷ []) ≡ max (greatest_status ends) (end_status end.why)
 greatest_more [] end = omega arith
 greatest_more (e ∷ ends) end = let rest = greatest_more ends end in omega (arith, rest)
-
--- what the device told of the record that was kept last
-pub tells : (object : Id) (last : NewestItem) (told : Resume) (record_of : KeptRecord) → record_of ≡ kept_last last
-    → (record_of.number ≡ 0 → IsWhere object record_of false told)
-    → (0 < record_of.number → (answer : Result Step WalkFault) × (oldest : Result Step WalkFault) × IsTold object record_of answer oldest told) → Tells object last told
-tells object last told record_of same none some = (
-  subst (λ (k : KeptRecord). k.number ≡ 0 → IsWhere object k false told) same none,
-  subst (λ (k : KeptRecord). 0 < k.number → (answer : Result Step WalkFault) × (oldest : Result Step WalkFault) × IsTold object k answer oldest told) same some,
-)
 
 pub length_more : {X Y : Type 0} (xs : List X) (ys : List Y) (x : X) (y : Y) → length xs ≡ length ys → length (xs ++ x ∷ []) ≡ length (ys ++ y ∷ [])
 length_more xs ys x y same = omega (arith, same, length-append xs (x ∷ []), length-append ys (y ∷ []))

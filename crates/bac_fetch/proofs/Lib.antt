@@ -1,4 +1,7 @@
+pub mod SilentLemmas
+pub mod CountLemmas
+pub mod StandLemmas
 pub mod StaysLemmas
+pub mod EndsLemmas
 pub mod KeepsLemmas
-pub mod AskedLemmas
 pub mod DiscoveredLemmas

@@ -1,5 +1,5 @@
 -- A run takes nothing away.
-use Rattle.std.proofs.Common.{◌≡◌, inl, inr, ℕ, ◌⊎◌, List, Result, Ok, Err, ap, refl, subst, sym, ◌∙◌, arith}
+use Rattle.std.proofs.Common.{◌≡◌, inl, inr, ℕ, ◌⊎◌, Bool, true, false, List, Option, None, Some, Result, Ok, Err, ap, refl, subst, sym, ◌∙◌, arith}
 use Rattle.std.specs.List.{Contains}
 use Rattle.std.proofs.lemmas.List.Elements.{Contains-append_left}
 use Rattle.std.proofs.lemmas.List.Sorted.{Contains-permutation}
@@ -10,13 +10,19 @@ use Rattle.sqlite.specs.State.{State, HasCleanDisk, IsUnchanged, Survives}
 use Rattle.sqlite.proofs.StateLemmas.{survives_then}
 use Rattle.bac_archive.specs.Rows.{kept, known, Adds}
 use Rattle.bac_archive.specs.Schema.{archive_schema}
+use Rattle.bac_archive.specs.Beginnings.{AddsBeginnings}
+use Rattle.bac_archive.specs.Standing.{HasNewBeginning}
 use Rattle.bac_archive.specs.Logs.{AddsLog, HasNewLog}
+use Rattle.bac_archive.specs.declared.trend_logs.Log.{Log}
+use Rattle.bac_archive.specs.declared.trend_logs.Source.{Source}
 use Rattle.bac_ports.specs.Sockets.{SocketRules}
-use Rattle.bac_fetch.specs.Keeps.{KeepsBegun, KeepsSource}
+use Rattle.bac_fetch.specs.Keeps.{KeepsBegun, KeepsNext, KeepsSource, Marks, MarksBegun, PassesOver, is_idle}
+use Rattle.bac_fetch.specs.Silent.{is_silent}
 use Rattle.bac_fetch.specs.Stays.{HasAllOf}
 use Rattle.bac_asked.specs.declared.end.End.{End}
 use Rattle.bac_fetch.specs.declared.fetching.Start.{Start}
 use Rattle.bac_asked.specs.declared.wanted.Wanted.{Wanted}
+use Rattle.bac_fetch.proofs.SilentLemmas.{either_holds}
 
 pub all_itself : (trees : Trees) → HasAllOf trees trees
 all_itself trees = record { items = λ row at. at; logs = λ row at. at }
@@ -63,22 +69,55 @@ log_stays old mid row it = survives_as old mid _ (HasAllOf old.now.trees)
 -- a log is there or its row came, and then something is done that takes nothing away
 pub one_stays : (old mid new : State) (row : ℕ → Values) (id : ℕ) → old.now.schema ≡ archive_schema
     → Survives old mid (λ trees. (db : Database) × (id : ℕ) × HasNewLog old.now db (row id) × (trees ≡ db.trees))
-    → IsUnchanged old mid ⊎ (HasNewLog old.now mid.now (row id) × (mid.committed ≡ mid.now))
+    → (mid.now ≡ old.now) ⊎ HasNewLog old.now mid.now (row id)
     → (mid.now.schema ≡ archive_schema → Survives mid new (HasAllOf mid.now.trees)) → Survives old new (HasAllOf old.now.trees)
 one_stays old mid new row id has crash added then =
     let schema : mid.now.schema ≡ archive_schema = elim added [
-      | inl same ↦ ap (λ (d : Database). d.schema) same.0.now_is ∙ has
-      | inr more ↦ more.0.schema
+      | inl same ↦ ap (λ (d : Database). d.schema) same ∙ has
+      | inr more ↦ more.schema
     ] in
     let all : HasAllOf old.now.trees mid.now.trees = elim added [
-      | inl same ↦ subst (λ (d : Database). HasAllOf old.now.trees d.trees) (sym same.0.now_is) (all_itself old.now.trees)
-      | inr more ↦ log_all old.now.trees mid.now.trees (row id) more.0.rows
+      | inl same ↦ subst (λ (d : Database). HasAllOf old.now.trees d.trees) (sym same) (all_itself old.now.trees)
+      | inr more ↦ log_all old.now.trees mid.now.trees (row id) more.rows
     ] in
     stays_then old mid new all (log_stays old mid row crash) (then schema)
 
-begun_stays : (begun : Result Start End) (old new : Database) (end : End) → KeepsBegun begun old new end → HasAllOf old.trees new.trees
+-- a beginning takes nothing away
+pub begin_all : (a b : Trees) (rows : List Values) → AddsBeginnings a b rows → HasAllOf a b
+begin_all a b rows it = record {
+  items = λ row at. subst (λ rows. Contains rows row) (sym it.items) at;
+  logs = λ row at. subst (λ rows. Contains rows row) (sym it.logs) at;
+}
+
+-- nor does what is put on record behind a run
+pub marks_stay : (log : ℕ) (begins_at : Option ℕ) (end : End) (old new : Database) → Marks log begins_at end old new → HasAllOf old.trees new.trees
+marks_stay log None end old new it = subst (λ (d : Database). HasAllOf old.trees d.trees) (sym it) (all_itself old.trees)
+marks_stay log (Some number) end old new it = go (is_idle end) refl
+  where
+    go : (idle : Bool) → is_idle end ≡ idle → HasAllOf old.trees new.trees
+    go true is = begin_all old.trees new.trees _ (it.0 is).rows
+    go false is = subst (λ (d : Database). HasAllOf old.trees d.trees) (sym (it.1 is)) (all_itself old.trees)
+
+-- with what may be left of a beginning
+pub begin_stays : (old new : State) (row : Values) → old.now.schema ≡ archive_schema
+    → Survives old new (λ trees. old.now.schema ≡ archive_schema → (db : Database) × HasNewBeginning old.now db row × (trees ≡ db.trees))
+    → Survives old new (HasAllOf old.now.trees)
+begin_stays old new row has it = survives_as old new _ (HasAllOf old.now.trees)
+    (λ _ db left. let made = left has in subst (HasAllOf old.now.trees) (sym made.2) (begin_all old.now.trees made.0.trees _ made.1.rows)) it
+
+-- two calls that commit nothing
+pub none_then : (old mid new : State) → (HasCleanDisk mid → IsUnchanged old mid) → old.now.schema ≡ archive_schema
+    → Survives old mid (λ _. ⊥) → ((HasCleanDisk mid → mid.now.schema ≡ archive_schema) → Survives mid new (λ _. ⊥)) → Survives old new (λ _. ⊥)
+none_then old mid new same has one two = survives_then old mid new _ _ (λ _. ⊥) (λ _ _ none. none) (λ _ _ none. none) one
+    (two (λ clean. ap (λ (d : Database). d.schema) (same clean).0.now_is ∙ has))
+
+pub begun_stays : (begun : Result Start End) (old new : Database) (end : End) → KeepsBegun begun old new end → HasAllOf old.trees new.trees
 begun_stays (Ok start) old new end it = adds_all old.trees new.trees _ it.rows.rows
 begun_stays (Err none) old new end it = subst (λ (d : Database). HasAllOf old.trees d.trees) (sym it.0) (all_itself old.trees)
+
+marked_stays : (log : ℕ) (begun : Result Start End) (end : End) (old new : Database) → MarksBegun log begun end old new → HasAllOf old.trees new.trees
+marked_stays log (Ok start) end old new it = marks_stay log start.begins_at end old new it
+marked_stays log (Err none) end old new it = subst (λ (d : Database). HasAllOf old.trees d.trees) (sym it) (all_itself old.trees)
 
 -- what is kept of a log takes nothing away
 pub source_stays : {S P : Type 0} (over : SocketRules S P) (wanted : Wanted) (before after : S) (old new : Database) (end : End) →
@@ -88,7 +127,39 @@ source_stays over wanted before after old new end it =
       | inl same ↦ subst (λ (d : Database). HasAllOf old.trees d.trees) (sym same) (all_itself old.trees)
       | inr more ↦ log_all old.trees it.known.trees _ more.rows
     ] in
-    all_then old.trees it.known.trees new.trees known (begun_stays it.kept.0 it.known new end it.kept.2)
+    let (begun, mid, at_begin, (last, keeps, comes, marks)) = it.kept.4.1 in
+    all_then old.trees it.known.trees new.trees known (all_then it.known.trees last.trees new.trees (begun_stays begun it.known last end keeps)
+    (marked_stays it.id begun end last new marks))
+
+-- nor is what is kept of one log, or of one that is passed over
+pub next_stays : {S P : Type 0} (over : SocketRules S P) (known : List Log) (lost : List Source) (wanted : Wanted) (before after : S) (old new : Database) (end : End) →
+    KeepsNext over known lost wanted before after old new end → HasAllOf old.trees new.trees
+next_stays over known lost wanted before after old new end =
+    either_holds (is_silent lost wanted.source) (PassesOver known wanted before after old new end) (KeepsSource over wanted before after old new end) (HasAllOf old.trees new.trees)
+    (λ same. subst (λ (d : Database). HasAllOf old.trees d.trees) (sym same.0) (all_itself old.trees)) (source_stays over wanted before after old new end)
+
+-- what commits nothing takes nothing away
+pub quiet_stays : (old new : State) → Survives old new (λ _. ⊥) → Survives old new (HasAllOf old.now.trees)
+quiet_stays old new it = survives_as old new (λ _. ⊥) (HasAllOf old.now.trees) (λ _ db none. absurd none) it
+
+-- nor if something is done before, or after
+pub quiet_first : (old mid new : State) → mid.now ≡ old.now → Survives old mid (λ _. ⊥) → Survives mid new (HasAllOf mid.now.trees) → Survives old new (HasAllOf old.now.trees)
+quiet_first old mid new same one two = survives_then old mid new (λ _. ⊥) (HasAllOf mid.now.trees) (HasAllOf old.now.trees) (λ _ db none. absurd none)
+    (λ _ db it. subst (λ (d : Database). HasAllOf d.trees db) same it) one two
+
+pub quiet_last : (old mid new : State) → Survives old mid (HasAllOf old.now.trees) → Survives mid new (λ _. ⊥) → Survives old new (HasAllOf old.now.trees)
+quiet_last old mid new one two = survives_then old mid new (HasAllOf old.now.trees) (λ _. ⊥) (HasAllOf old.now.trees) (λ _ db it. it) (λ _ db none. absurd none) one two
+
+-- a call that does nothing leaves what was there
+pub does_nothing : (old : State) (P : Trees → Type 0) → Survives old old P
+does_nothing old P = record {
+  clean = omega arith;
+  shield = λ on. on;
+  counts = omega arith;
+  limit = refl;
+  closes = λ clean on. inl on;
+  crash = λ clean db may. inl may;
+}
 
 pub itself_stays : (old : State) → Survives old old (HasAllOf old.now.trees)
 itself_stays old = record {

@@ -1,28 +1,49 @@
--- Over what the records of a log come: a socket that is opened as the words say, to the device that is asked.
-use Rattle.std.specs.Prelude.{◌≡◌, ℕ, zero, suc, List, Result, Ok, Err}
+-- What a run over a log keeps, and over what link it came.
+use Rattle.std.specs.Prelude.{◌≡◌, ◌<◌, ℕ, List, Result, Ok, Err}
 use Rattle.sqlite.specs.Effect.{Database}
 use Rattle.bac_link.specs.declared.link.Lost.{Lost as Loss}
-use Rattle.bac_link.specs.Path.{Path, towards}
+use Rattle.bac_link.specs.Path.{Path}
 use Rattle.bac_walk.specs.Place.{WalkPlace}
 use Rattle.bac_walk.specs.Outcomes.{IsRunOf}
 use Rattle.bac_walk.specs.declared.outcome.Ended.{Ended}
+use Rattle.bac_walk.specs.declared.outcome.Ended.TheVariants.{StepLimit}
+use Rattle.bac_walk.specs.declared.outcome.Why.{Why}
 use Rattle.bac_keep.specs.Came.{KeepsOver}
+use Rattle.bac_keep.specs.declared.keep.NotKept.{NotKept}
+use Rattle.bac_keep.specs.declared.keep.NotKept.TheVariants.{Refused}
 use Rattle.bac_keep.specs.declared.place.Place.{Place}
-use Rattle.bac_ports.specs.Sockets.{SocketRules, UsesSocket, link_over, own_address, socket_asks}
-use Rattle.bac_ports.specs.declared.udp_link.UdpLink.{UdpLink}
+use Rattle.bac_keep.specs.declared.sink.Refusal.TheVariants as refusal
 use Rattle.bac_asked.specs.declared.end.End.{End}
+use Rattle.bac_asked.specs.declared.end.Ending.{Ending}
+use Rattle.bac_asked.specs.declared.end.Ending.TheVariants.{Walk, Back, Epochs, NotAsked}
 use Rattle.bac_fetch.specs.declared.fetching.Start.{Start}
-use Rattle.bac_asked.specs.declared.log_words.Asking.{Asking}
 
--- so many asks, one after the other
-abbrev pub AsksOn : {S : Type 0} → (S → List ℕ → Result (List ℕ) Loss → S → Type 0) → ℕ → S → S → Type 0
-AsksOn {S = S} asks zero old new = new ≡ old
-AsksOn {S = S} asks (suc n) old new =
-    (mid : S) × (octets : List ℕ) × (answer : Result (List ℕ) Loss) × AsksOn asks n old mid × asks mid octets answer new
+-- why a run over a log ended: as its walk did, or since the file has no place for the numbers that came
+abbrev pub IsEndingOf : Result Why NotKept → Ending → Type 0
+IsEndingOf (Ok why) ending = ending ≡ Walk why
+IsEndingOf (Err (Refused refusal.Back)) ending = ending ≡ Back
+IsEndingOf (Err (Refused refusal.Epochs)) ending = ending ≡ Epochs
+IsEndingOf (Err other) ending = ⊥
 
--- nothing but asks happened to a link
-abbrev pub IsAskedOn : {S : Type 0} → (S → List ℕ → Result (List ℕ) Loss → S → Type 0) → S → S → Type 0
-IsAskedOn asks old new = (n : ℕ) × AsksOn asks n old new
+-- the file or memory failed in a run, and it has no end of its own
+abbrev pub HasFailed : Result Why NotKept → Type 0
+HasFailed (Ok why) = ⊥
+HasFailed (Err (Refused refusal.Back)) = ⊥
+HasFailed (Err (Refused refusal.Epochs)) = ⊥
+HasFailed (Err other) = Unit {0}
+
+-- A run of at most so many steps that ended so took so many, the last of which ended so: as its walk says; or, where what a
+-- step brought has no place, fewer, each of which brought a whole reply.
+abbrev pub IsRunTo : Ending → ℕ → ℕ → Ended → Type 0
+IsRunTo (Walk why) steps took ended = IsRunOf why steps took ended
+IsRunTo Back steps took ended = (took < steps) × (ended ≡ StepLimit)
+IsRunTo Epochs steps took ended = (took < steps) × (ended ≡ StepLimit)
+IsRunTo NotAsked steps took ended = ⊥
+
+-- the link is left as behind the last step; where what a step brought has no place, nothing is said of its questions
+abbrev pub IsLeftBy : {S : Type 0} → Ending → S → S → Type 0
+IsLeftBy (Walk why) half left = left ≡ half
+IsLeftBy ending half left = Unit {0}
 
 -- What a run of at most so many steps keeps from a start on came over a link, in replies to its questions, and that is
 -- how the link is left.
@@ -32,25 +53,15 @@ pub record ComesFrom {S : Type 0} (asks : S → List ℕ → Result (List ℕ) L
   pub after : WalkPlace
   pub took : ℕ
   pub ended : Ended
-  pub run : IsRunOf end.why steps took ended
+  pub half : S
+  pub run : IsRunTo end.why steps took ended
+  pub is_left : IsLeftBy end.why half left
   pub next : after.next ≡ end.next
-  pub kept : KeepsOver asks path retries start.place reached old new link left start.walk after took ended
+  pub kept : KeepsOver asks path retries start.place reached old new link half start.walk after took ended
       end.records end.gaps
 
--- the same of a run that begins so, over a link behind the asks of where it begins; without a start nothing is kept,
--- and nothing but those asks happened to the link
+-- the same of a run that begins so over this link; without a start nothing is kept, and nothing more is asked
 abbrev pub ComesBegun : {S : Type 0} → (S → List ℕ → Result (List ℕ) Loss → S → Type 0) → Path → ℕ → S → S →
     Result Start End → ℕ → Database → Database → End → Type 0
-ComesBegun {S = S} asks path retries before left (Ok start) steps old new end =
-    (link : S) × IsAskedOn asks before link × ComesFrom asks path retries link left start steps old new end
-ComesBegun asks path retries before left (Err none) steps old new end = IsAskedOn asks before left
-
--- What a run that begins so keeps comes over a socket: it was opened as the log is asked for, every datagram was asked of
--- the device that is asked, and it was closed as the last of these left it.
-abbrev pub ComesOver : {S P : Type 0} → SocketRules S P → Asking → S → S → Result Start End →
-    Database → Database → End → Type 0
-ComesOver {P = P} rules asking before after begun old new end =
-    UsesSocket rules (own_address asking.asked.local) asking.asked.timeout before
-    (λ port last. (left : UdpLink P) × ComesBegun (socket_asks rules) (towards asking.asked.route) asking.asked.retries
-    (link_over asking.asked.address port) left begun asking.steps old new end × (last ≡ left.port))
-    after
+ComesBegun asks path retries link left (Ok start) steps old new end = ComesFrom asks path retries link left start steps old new end
+ComesBegun asks path retries link left (Err none) steps old new end = left ≡ link

@@ -1,28 +1,38 @@
 -- What a run over logs keeps, and what is told of it.
-use Rattle.std.specs.Prelude.{◌≡◌, ◌⊎◌, ℕ, max, Bool, List, [], ◌∷◌, ◌++◌, length}
-use Rattle.std.specs.Prelude.{Option, option_map, Result, Ok, Err}
+use Rattle.std.specs.Prelude.{◌≡◌, ◌⊎◌, ◌==◌, ◌&&◌, ℕ, max, Bool, true, false, MatchBool, List, [], ◌∷◌, ◌++◌, length}
+use Rattle.std.specs.Prelude.{Option, None, Some, option_map, Result, Ok, Err}
 use Rattle.std.specs.Io.KnownBytes.{Appends}
 use Rattle.std.specs.String.{string_bytes}
 use Rattle.sqlite.specs.Effect.{Database}
+use Rattle.sqlite_trees.specs.Tree.{Trees}
 use Rattle.bac_wire.specs.Primitive.{Id}
-use Rattle.bac_link.specs.Path.{Path}
+use Rattle.bac_link.specs.Ordinals.{number_after}
+use Rattle.bac_link.specs.Path.{Path, towards}
 use Rattle.bac_link.specs.declared.item.Item.{Item}
 use Rattle.bac_link.specs.declared.link.Lost.{Lost as Loss}
 use Rattle.bac_walk.specs.Collects.{Goes}
-use Rattle.bac_archive.specs.Rows.{IsAppended, kept}
-use Rattle.bac_archive.specs.Logs.{HasNewLog, IsKnownAs, log_row}
+use Rattle.bac_archive.specs.Beginnings.{beginning_row}
+use Rattle.bac_archive.specs.Rows.{IsAppended}
+use Rattle.bac_archive.specs.Standing.{HasNewBeginning}
+use Rattle.bac_archive.specs.Logs.{AreLogs, HasNewLog, IsKnownAs, log_row}
+use Rattle.bac_archive.specs.declared.trend_logs.Log.{Log}
 use Rattle.bac_archive.specs.declared.trend_logs.Source.{Source}
 use Rattle.bac_keep.specs.Items.{era, kept_rows}
 use Rattle.bac_keep.specs.Runs.{records_in, gaps_among}
 use Rattle.bac_asked.specs.declared.end.End.{End}
+use Rattle.bac_asked.specs.declared.end.Ending.TheVariants.{NotAsked}
 use Rattle.bac_fetch.specs.declared.fetching.Start.{Start}
 use Rattle.bac_asked.specs.declared.log_words.Asking.{Asking}
 use Rattle.bac_asked.specs.declared.wanted.Wanted.{Wanted}
-use Rattle.bac_ports.specs.Sockets.{SocketRules}
-use Rattle.bac_fetch.specs.Fetched.{ComesBegun, ComesOver}
+use Rattle.bac_ports.specs.Sockets.{SocketRules, UsesSocket, link_over, own_address, socket_asks}
+use Rattle.bac_ports.specs.declared.udp_link.UdpLink.{UdpLink}
+use Rattle.bac_fetch.specs.Fetched.{ComesBegun}
 use Rattle.bac_asked.specs.Lines.{summary_line}
+use Rattle.bac_fetch.specs.Silent.{IsIdAmong, is_silent, lost_with}
+use Rattle.bac_fetch.specs.Stands.{IsStand, kept_last}
+use Rattle.bac_fetch.specs.declared.stands.Stand.{Stand}
 use Rattle.bac_fetch.specs.Starts.{IsBegun}
-use Rattle.bac_asked.specs.Status.{walk_status}
+use Rattle.bac_asked.specs.Status.{end_status}
 
 -- The rows of what a run brought come to those before, from the start's log and epoch on, and in the next epoch where
 -- numbers come round. They are as many records and gaps as are told, and cover each number from the walk's on, or from
@@ -41,20 +51,41 @@ abbrev pub KeepsBegun : Result Start End → Database → Database → End → T
 KeepsBegun (Ok start) old new end = KeepsFrom start old new end
 KeepsBegun (Err none) old new end = (new ≡ old) × (end ≡ none)
 
+-- whether a run is caught up and brought nothing
+abbrev pub is_idle : End → Bool
+is_idle end = (end_status end.why == 0) && (end.records == 0 && end.gaps == 0)
+
+-- What is on record behind a run that ended so: where the log begins that had nothing on record, if the run is caught up
+-- and brought nothing; else no row changes.
+abbrev pub Marks : ℕ → Option ℕ → End → Database → Database → Type 0
+Marks log None end old new = new ≡ old
+Marks log (Some number) end old new =
+    (is_idle end ≡ true → HasNewBeginning old new (beginning_row (record { log = log; epoch = 0; number = number })))
+    × (is_idle end ≡ false → new ≡ old)
+
+-- the same of a run that begins so
+abbrev pub MarksBegun : ℕ → Result Start End → End → Database → Database → Type 0
+MarksBegun log (Ok start) end old new = Marks log start.begins_at end old new
+MarksBegun log (Err none) end old new = new ≡ old
+
 -- A run of at most so many steps over the log of this id, which is this object of its device, over a link that it leaves
--- so: where it begins, what it keeps from there, and that it came over the link.
+-- so: where it begins, by the archive's rows and by what the device tells over the link, what it keeps from there, that
+-- it came over the link as that was left then, and where the log begins, if nothing came.
 abbrev pub KeepsOverLink : {S : Type 0} → (S → List ℕ → Result (List ℕ) Loss → S → Type 0) → Path → ℕ → S → S → ℕ →
     ℕ → Id → Database → Database → End → Type 0
-KeepsOverLink asks path retries link left steps log object old new end =
-    (begun : Result Start End) × IsBegun log object (kept old.trees) begun × KeepsBegun begun old new end
-    × ComesBegun asks path retries link left begun steps old new end
+KeepsOverLink {S = S} asks path retries link left steps log object old new end =
+    (begun : Result Start End) × (mid : S) × IsBegun asks path retries link mid log object old.trees begun
+    × ((last : Database) × KeepsBegun begun old last end × ComesBegun asks path retries mid left begun steps old last end
+    × MarksBegun log begun end last new)
 
--- A run over the log of this id, which is this object of its device: where it begins, by the archive's rows and what
--- the device tells, what it keeps from there, and over which socket that came.
+-- The same over a socket: it was opened as the log is asked for, every datagram was asked of the device that is asked,
+-- and it was closed as the last of these left it.
 abbrev pub KeepsLog : {S P : Type 0} → SocketRules S P → Asking → S → S → ℕ → Id → Database → Database → End → Type 0
-KeepsLog rules asking before after log object old new end =
-    (begun : Result Start End) × IsBegun log object (kept old.trees) begun × KeepsBegun begun old new end
-    × ComesOver rules asking before after begun old new end
+KeepsLog {P = P} rules asking before after log object old new end =
+    UsesSocket rules (own_address asking.asked.local) asking.asked.timeout before
+    (λ port last. (left : UdpLink P) × KeepsOverLink (socket_asks rules) (towards asking.asked.route) asking.asked.retries
+    (link_over asking.asked.address port) left asking.steps log object old new end × (last ≡ left.port))
+    after
 
 -- the Trend Log object of this instance (clause 12.25)
 abbrev pub trend_log : ℕ → Id
@@ -69,13 +100,44 @@ pub record KeepsSource {S P : Type 0} (rules : SocketRules S P) (wanted : Wanted
   pub log : IsKnownAs known.trees id wanted.source
   pub kept : KeepsLog rules wanted.asking before after id (trend_log wanted.source.instance) known new end
 
--- logs are kept in their order, each run over the archive that the one before left
-abbrev pub KeepsAll : {S P : Type 0} → SocketRules S P → List Wanted → S → S → Database → Database → List End → Type 0
-KeepsAll rules [] before after old new [] = (new ≡ old) × (after ≡ before)
-KeepsAll {S = S} rules (wanted ∷ more) before after old new (end ∷ ends) =
-    (mid : Database) × (half : S) × KeepsSource rules wanted before half old mid end
-    × KeepsAll rules more half after mid new ends
-KeepsAll rules _ before after old new _ = ⊥
+-- the number that comes next of a log that stands there, or 1
+abbrev pub next_behind : Option Stand → ℕ
+next_behind None = 1
+next_behind (Some stand) = number_after (kept_last stand).number 1
+
+-- the number that comes next of the log with this id in an archive; without an id it is 1
+abbrev pub IsNextOf : Trees → Option ℕ → ℕ → Type 0
+IsNextOf trees None next = next ≡ 1
+IsNextOf trees (Some id) next = (stand : Option Stand) × IsStand id trees stand × (next ≡ next_behind stand)
+
+-- the end of a run over a log of an archive that isn't asked
+abbrev pub IsNotAsked : List Log → Trees → Source → End → Type 0
+IsNotAsked known trees source end = (end.records ≡ 0) × (end.gaps ≡ 0) × (end.why ≡ NotAsked) × (end.anew ≡ false)
+    × (id : Option ℕ) × IsIdAmong known source id × IsNextOf trees id end.next
+
+-- a log is passed over: no socket is opened, the archive is as it was, and it is told that it isn't asked
+abbrev pub PassesOver : {S : Type 0} → List Log → Wanted → S → S → Database → Database → End → Type 0
+PassesOver known wanted before after old new end =
+    (new ≡ old) × (after ≡ before) × IsNotAsked known old.trees wanted.source end
+
+-- a log is passed over if its device gave no answer before, and any other is kept
+abbrev pub KeepsNext : {S P : Type 0} → SocketRules S P → List Log → List Source → Wanted → S → S → Database → Database → End → Type 0
+KeepsNext rules known lost wanted before after old new end = MatchBool (is_silent lost wanted.source)
+    (PassesOver known wanted before after old new end) (KeepsSource rules wanted before after old new end)
+
+-- logs are kept in their order, each run over the archive that the one before left; those that are lost tell which
+-- devices aren't asked behind them
+abbrev pub KeepsAll : {S P : Type 0} → SocketRules S P → List Log → List Source → List Wanted → S → S → Database → Database → List End → Type 0
+KeepsAll rules known lost [] before after old new [] = (new ≡ old) × (after ≡ before)
+KeepsAll {S = S} rules known lost (wanted ∷ more) before after old new (end ∷ ends) =
+    (mid : Database) × (half : S) × KeepsNext rules known lost wanted before half old mid end
+    × KeepsAll rules known (lost_with lost wanted.source end.why) more half after mid new ends
+KeepsAll rules known lost _ before after old new _ = ⊥
+
+-- so are they in a run, as which begins no device is known to be silent, and the archive has these logs
+abbrev pub KeepsLogs : {S P : Type 0} → SocketRules S P → List Wanted → S → S → Database → Database → List End → Type 0
+KeepsLogs rules all before after old new ends =
+    (known : List Log) × AreLogs old.trees known × KeepsAll rules known [] all before after old new ends
 
 -- the lines of logs, in their order
 abbrev pub lines_of : List Wanted → List End → List ℕ
@@ -86,12 +148,12 @@ lines_of (wanted ∷ more) (end ∷ ends) = summary_line wanted.source end ++ li
 -- the greatest of their statuses
 abbrev pub greatest_status : List End → ℕ
 greatest_status [] = 0
-greatest_status (end ∷ ends) = max (walk_status end.why) (greatest_status ends)
+greatest_status (end ∷ ends) = max (end_status end.why) (greatest_status ends)
 
 -- the line of a log was printed, and its end is what was kept; the status is that of its end
 abbrev pub IsToldBy : Option (List ℕ) → Option (List ℕ) → Source → (End → Type 0) → ℕ → Type 0
 IsToldBy before after source kept status =
-    (end : End) × (status ≡ walk_status end.why) × Appends before after (summary_line source end) × kept end
+    (end : End) × (status ≡ end_status end.why) × Appends before after (summary_line source end) × kept end
 
 -- the same of several logs: a line for each, and the greatest status
 abbrev pub AreToldBy : Option (List ℕ) → Option (List ℕ) → List Wanted → (List End → Type 0) → ℕ → Type 0

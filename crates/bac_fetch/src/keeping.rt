@@ -1,14 +1,16 @@
 //! Logs are added to an archive, and what is new of them is kept.
 
-ghost use Rattle.std.specs.Prelude.{◌≡◌, OnOk, IfOk, List, option_map};
+ghost use Rattle.std.specs.Prelude.{◌≡◌, ◌⊎◌, ℕ, false, OnOk, IfOk, IfSome, List, [], option_map};
 ghost use Rattle.std.specs.List.{All};
 ghost use Rattle.std.specs.String.{string_bytes};
 ghost use Rattle.std.specs.Io.KnownBytes.{Appends};
 ghost use Rattle.sqlite.specs.State.{HasCleanDisk, Survives};
 ghost use Rattle.sqlite.specs.Held.{state};
 ghost use Rattle.bac_archive.specs.Schema.{archive_schema};
+ghost use Rattle.bac_archive.specs.Logs.{HasNewLog, IsKnownAs, log_row};
 ghost use Rattle.bac_ports.specs.Sockets.{socket_rules};
-ghost use Rattle.bac_fetch.specs.Keeps.{AreToldBy, IsToldBy, KeepsAll, KeepsSource};
+ghost use Rattle.bac_fetch.specs.Keeps.{AreToldBy, IsNextOf, IsToldBy, KeepsAll, KeepsLogs, KeepsNext, KeepsSource, next_behind};
+ghost use Rattle.bac_fetch.specs.Silent.{HasLogs, lost_with};
 ghost use Rattle.bac_asked.specs.Lines.{anew_line, summary_line};
 ghost use Rattle.bac_fetch.specs.Discovered.{AreFound};
 ghost use Rattle.bac_asked.specs.Wanted.{AsksItsSource};
@@ -18,11 +20,13 @@ ghost use Rattle.bac_asked.specs.declared.wanted.Wanted.{Wanted as WantedOf};
 
 use crate::count::Count;
 use crate::discovering::discover;
-use crate::fetching::fetch;
-use bac_archive::{Source, add_log, logs};
+use crate::fetching::{fetch, number_behind};
+use crate::silent::{add_lost, id_among, is_silent};
+use crate::stands::{Stand, last_kept, stand_of};
+use bac_archive::{Log, Source, add_log, logs};
 use bac_asked::{
-    Asking, End, Fault, FileFault, NotDone, Options, Wanted, add_wanted, kept_log, push_anew,
-    push_summary, walk_status,
+    Asking, End, Ending, Fault, FileFault, NotDone, Options, Wanted, add_wanted, end_status,
+    kept_log, push_anew, push_summary,
 };
 use bac_ports::Sockets;
 use bac_print::write_text;
@@ -108,11 +112,39 @@ fn name_of(text: &Option<String>) -> Option<&str>
     }
 }
 
+/// The id of a log: that under which it is known, or that of the row which is added for it.
+fn id_of<A: Alter>(
+    conn: &mut Connection<A>,
+    alloc: Global,
+    known: Option<u16>,
+    source: &Source,
+    name: Option<&str>,
+) -> Result<u16, NotDone>
+    ensures added { HasCleanDisk (state A.Store conn.new) → (state A.Store conn.old).now.schema ≡ archive_schema → IfOk result (λ id.
+        ((state A.Store conn.new).now ≡ (state A.Store conn.old).now)
+        ⊎ HasNewLog (state A.Store conn.old).now (state A.Store conn.new).now (log_row id source.now (option_map (λ s. s.now) name.entry))) }
+    ensures known { HasCleanDisk (state A.Store conn.new) → (state A.Store conn.old).now.schema ≡ archive_schema
+        → IfSome known (λ id. IsKnownAs (state A.Store conn.old).now.trees id source.now) → IfOk result (λ id. IsKnownAs (state A.Store conn.new).now.trees id source.now) }
+    ensures crash { (state A.Store conn.old).now.schema ≡ archive_schema → Survives (state A.Store conn.old) (state A.Store conn.new)
+        (λ trees. (db : _) × (id : ℕ) × HasNewLog (state A.Store conn.old).now db (log_row id source.now (option_map (λ s. s.now) name.entry)) × (trees ≡ db.trees)) }
+    ensures clean { HasCleanDisk (state A.Store conn.new) → HasCleanDisk (state A.Store conn.old) }
+{
+    if let Some(id) = known {
+        return Ok(id);
+    }
+    match add_log(alloc, conn, source, name) {
+        Ok(id) => Ok(id),
+        Err(fault) => Err(NotDone::File(FileFault::of_log(fault))),
+    }
+}
+
 /// Keeps what is new of one log, and prints its line; answers its status.
 fn keep_one<S: Sockets, A: Alter, O: Write, E: Write>(
     sockets: &mut S,
     conn: &mut Connection<A>,
     alloc: Global,
+    known: Option<u16>,
+    lost: &mut Vec<Source>,
     wanted: Wanted,
     counts: bool,
     output: &mut O,
@@ -121,8 +153,10 @@ fn keep_one<S: Sockets, A: Alter, O: Write, E: Write>(
     // What is told of a log is how its run ended, and so is the status.
     // The rows of what the run brought come to those before, under the id of this log.
     ensures told { IfOk result (IsToldBy (O.contents output.old) (O.contents output.new) wanted.source (λ end.
-        HasCleanDisk (state A.Store conn.new) → (state A.Store conn.old).now.schema ≡ archive_schema →
-        KeepsSource (socket_rules S.opens S.closes S.Socket.sends S.Socket.receives S.Socket.receives_within) wanted sockets.old sockets.new (state A.Store conn.old).now (state A.Store conn.new).now end)) }
+        (lost.new.items ≡ lost_with lost.old.items wanted.source end.why)
+        × (HasCleanDisk (state A.Store conn.new) → (state A.Store conn.old).now.schema ≡ archive_schema
+        → IfSome known (λ id. IsKnownAs (state A.Store conn.old).now.trees id wanted.source) →
+        KeepsSource (socket_rules S.opens S.closes S.Socket.sends S.Socket.receives S.Socket.receives_within) wanted sockets.old sockets.new (state A.Store conn.old).now (state A.Store conn.new).now end))) }
     // Whatever comes of it, no item and no log is lost: what is on the disk then, or is left by a
     // crash at any moment before, is what was there or has all of it.
     ensures stays { HasCleanDisk (state A.Store conn.new) → (state A.Store conn.old).now.schema ≡ archive_schema
@@ -134,10 +168,7 @@ fn keep_one<S: Sockets, A: Alter, O: Write, E: Write>(
         name,
         asking,
     } = wanted;
-    let id = match add_log(alloc, conn, &source, name_of(&name)) {
-        Ok(id) => id,
-        Err(fault) => return Err(NotDone::File(FileFault::of_log(fault))),
-    };
+    let id = id_of(conn, alloc, known, &source, name_of(&name))?;
     let mut count = Count::new(alloc, &source, errors, counts);
     let fetched = fetch(
         alloc,
@@ -154,11 +185,129 @@ fn keep_one<S: Sockets, A: Alter, O: Write, E: Write>(
         tell_anew(alloc, &source, errors)?;
     }
     print_end(alloc, &source, &end, output)?;
-    Ok(walk_status(end.why))
+    add_lost(lost, source, end.why)?;
+    Ok(end_status(end.why))
 }
 
-/// Keeps what is new of each of these logs in an archive; answers the greatest of their statuses. If
-/// it counts, the errors have the number of a log's records while it is fetched: for a terminal.
+/// The number that comes next of a log that stands there, or 1.
+fn next_behind(stand: &Option<Stand>) -> u32
+    ensures { result ≡ next_behind stand.now }
+{
+    match stand {
+        Some(stand) => number_behind(last_kept(stand).number),
+        None => 1,
+    }
+}
+
+/// The number that comes next of the log with this id, if it has one.
+fn next_of<A: Alter>(
+    conn: &mut Connection<A>,
+    alloc: Global,
+    id: Option<u16>,
+) -> Result<u32, NotDone>
+    ensures next { HasCleanDisk (state A.Store conn.new) → (state A.Store conn.old).now.schema ≡ archive_schema
+        → IfOk result (IsNextOf (state A.Store conn.old).now.trees id) }
+    ensures same { HasCleanDisk (state A.Store conn.new) → (state A.Store conn.old).now.schema ≡ archive_schema
+        → OnOk result ((state A.Store conn.new).now ≡ (state A.Store conn.old).now) }
+    ensures crash { (state A.Store conn.old).now.schema ≡ archive_schema → Survives (state A.Store conn.old) (state A.Store conn.new) (λ _. ⊥) }
+    ensures clean { HasCleanDisk (state A.Store conn.new) → HasCleanDisk (state A.Store conn.old) }
+{
+    let Some(id) = id else {
+        return Ok(1);
+    };
+    Ok(next_behind(&stand_of(alloc, conn, id)?))
+}
+
+/// Tells of a log that it isn't asked.
+fn pass_over<A: Alter, O: Write>(
+    conn: &mut Connection<A>,
+    alloc: Global,
+    id: Option<u16>,
+    source: &Source,
+    output: &mut O,
+) -> Result<u8, NotDone>
+    ensures told { IfOk result (IsToldBy (O.contents output.old) (O.contents output.new) source.now (λ end.
+        (end.records ≡ 0) × (end.gaps ≡ 0) × (end.why ≡ Ending.NotAsked) × (end.anew ≡ false)
+        × (HasCleanDisk (state A.Store conn.new) → (state A.Store conn.old).now.schema ≡ archive_schema
+        → ((state A.Store conn.new).now ≡ (state A.Store conn.old).now) × IsNextOf (state A.Store conn.old).now.trees id end.next))) }
+    ensures crash { (state A.Store conn.old).now.schema ≡ archive_schema → Survives (state A.Store conn.old) (state A.Store conn.new) (λ _. ⊥) }
+    ensures clean { HasCleanDisk (state A.Store conn.new) → HasCleanDisk (state A.Store conn.old) }
+{
+    let end = End {
+        records: 0,
+        gaps: 0,
+        why: Ending::NotAsked,
+        next: next_of(conn, alloc, id)?,
+        anew: false,
+    };
+    print_end(alloc, source, &end, output)?;
+    Ok(end_status(end.why))
+}
+
+/// Keeps what is new of one log, or tells that it isn't asked, if its device gave no answer before.
+fn keep_next<S: Sockets, A: Alter, O: Write, E: Write>(
+    sockets: &mut S,
+    conn: &mut Connection<A>,
+    alloc: Global,
+    known: &[Log],
+    at: usize,
+    lost: &mut Vec<Source>,
+    wanted: Wanted,
+    counts: bool,
+    output: &mut O,
+    errors: &mut E,
+) -> Result<u8, NotDone>
+    ensures told { IfOk result (IsToldBy (O.contents output.old) (O.contents output.new) wanted.source (λ end.
+        (lost.new.items ≡ lost_with lost.old.items wanted.source end.why)
+        × (HasCleanDisk (state A.Store conn.new) → (state A.Store conn.old).now.schema ≡ archive_schema → HasLogs (state A.Store conn.old).now.trees known.now →
+        KeepsNext (socket_rules S.opens S.closes S.Socket.sends S.Socket.receives S.Socket.receives_within) known.now lost.old.items wanted sockets.old sockets.new (state A.Store conn.old).now (state A.Store conn.new).now end))) }
+    ensures stays { HasCleanDisk (state A.Store conn.new) → (state A.Store conn.old).now.schema ≡ archive_schema
+        → Survives (state A.Store conn.old) (state A.Store conn.new) (HasAllOf (state A.Store conn.old).now.trees) }
+    ensures clean { HasCleanDisk (state A.Store conn.new) → HasCleanDisk (state A.Store conn.old) }
+{
+    let id = id_among(known, at, &wanted.source);
+    if is_silent(lost.as_slice(), &wanted.source) {
+        return pass_over(conn, alloc, id, &wanted.source, output);
+    }
+    keep_one(
+        sockets, conn, alloc, id, lost, wanted, counts, output, errors,
+    )
+}
+
+/// Keeps what is new of each of these logs in an archive that has had these logs.
+fn keep_known<S: Sockets, A: Alter, O: Write, E: Write>(
+    sockets: &mut S,
+    conn: &mut Connection<A>,
+    alloc: Global,
+    known: &[Log],
+    all: Vec<Wanted>,
+    counts: bool,
+    output: &mut O,
+    errors: &mut E,
+) -> Result<u8, NotDone>
+    ensures told { IfOk result (AreToldBy (O.contents output.old) (O.contents output.new) all.items (λ ends.
+        HasCleanDisk (state A.Store conn.new) → (state A.Store conn.old).now.schema ≡ archive_schema → HasLogs (state A.Store conn.old).now.trees known.now →
+        KeepsAll (socket_rules S.opens S.closes S.Socket.sends S.Socket.receives S.Socket.receives_within) known.now [] all.items sockets.old sockets.new (state A.Store conn.old).now (state A.Store conn.new).now ends)) }
+    ensures stays { HasCleanDisk (state A.Store conn.new) → (state A.Store conn.old).now.schema ≡ archive_schema → HasLogs (state A.Store conn.old).now.trees known.now
+        → Survives (state A.Store conn.old) (state A.Store conn.new) (HasAllOf (state A.Store conn.old).now.trees) }
+    ensures clean { HasCleanDisk (state A.Store conn.new) → HasCleanDisk (state A.Store conn.old) }
+{
+    let mut lost = Vec::new(alloc);
+    let mut greatest = 0u8;
+    let mut at = 0usize;
+    for wanted in all {
+        let status = keep_next(
+            sockets, conn, alloc, known, at, &mut lost, wanted, counts, output, errors,
+        )?;
+        greatest = greatest.max(status);
+        at = at.saturating_add(1);
+    }
+    Ok(greatest)
+}
+
+/// Keeps what is new of each of these logs in an archive; answers the greatest of their statuses. A
+/// device of which a log was lost isn't asked for its other logs. If it counts, the errors have the
+/// number of a log's records while it is fetched: for a terminal.
 pub fn keep_each<S: Sockets, A: Alter, O: Write, E: Write>(
     sockets: &mut S,
     conn: &mut Connection<A>,
@@ -168,22 +317,31 @@ pub fn keep_each<S: Sockets, A: Alter, O: Write, E: Write>(
     output: &mut O,
     errors: &mut E,
 ) -> Result<u8, NotDone>
-    // A line tells each log, in their order; each is kept in the archive that the one before left.
+    // A line tells each log, in their order; each is kept in the archive that the one before left,
+    // or isn't asked, if its device gave no answer before.
     ensures told { IfOk result (AreToldBy (O.contents output.old) (O.contents output.new) all.items (λ ends.
         HasCleanDisk (state A.Store conn.new) → (state A.Store conn.old).now.schema ≡ archive_schema →
-        KeepsAll (socket_rules S.opens S.closes S.Socket.sends S.Socket.receives S.Socket.receives_within) all.items sockets.old sockets.new (state A.Store conn.old).now (state A.Store conn.new).now ends)) }
+        KeepsLogs (socket_rules S.opens S.closes S.Socket.sends S.Socket.receives S.Socket.receives_within) all.items sockets.old sockets.new (state A.Store conn.old).now (state A.Store conn.new).now ends)) }
     // Whatever comes of it, no item and no log is lost: what is on the disk then, or is left by a
     // crash at any moment before, is what was there or has all of it.
     ensures stays { HasCleanDisk (state A.Store conn.new) → (state A.Store conn.old).now.schema ≡ archive_schema
         → Survives (state A.Store conn.old) (state A.Store conn.new) (HasAllOf (state A.Store conn.old).now.trees) }
     ensures clean { HasCleanDisk (state A.Store conn.new) → HasCleanDisk (state A.Store conn.old) }
 {
-    let mut greatest = 0u8;
-    for wanted in all {
-        let status = keep_one(sockets, conn, alloc, wanted, counts, output, errors)?;
-        greatest = greatest.max(status);
-    }
-    Ok(greatest)
+    let known = match logs(alloc, conn) {
+        Ok(known) => known,
+        Err(error) => return Err(NotDone::File(FileFault::of(error))),
+    };
+    keep_known(
+        sockets,
+        conn,
+        alloc,
+        known.as_slice(),
+        all,
+        counts,
+        output,
+        errors,
+    )
 }
 
 /// Which logs were chosen, in the order in which they are fetched.
@@ -229,7 +387,7 @@ pub fn keep_chosen<S: Sockets, A: Alter, O: Write, E: Write>(
         × (HasCleanDisk (state A.Store conn.new) → (state A.Store conn.old).now.schema ≡ archive_schema → AreChosen chosen (state A.Store conn.old).now.trees all)
         × AreToldBy (O.contents output.old) (O.contents output.new) all (λ ends.
         HasCleanDisk (state A.Store conn.new) → (state A.Store conn.old).now.schema ≡ archive_schema →
-        KeepsAll (socket_rules S.opens S.closes S.Socket.sends S.Socket.receives S.Socket.receives_within) all between sockets.new (state A.Store conn.old).now (state A.Store conn.new).now ends) status) }
+        KeepsLogs (socket_rules S.opens S.closes S.Socket.sends S.Socket.receives S.Socket.receives_within) all between sockets.new (state A.Store conn.old).now (state A.Store conn.new).now ends) status) }
 {
     let all = chosen_logs(sockets, conn, alloc, chosen, options)?;
     keep_each(sockets, conn, alloc, all, counts, output, errors)

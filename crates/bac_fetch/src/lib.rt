@@ -7,5 +7,7 @@ mod discovering;
 mod fetching;
 mod keeping;
 mod questions;
+mod silent;
+mod stands;
 
 pub use keeping::{Chosen, keep_chosen, keep_each};

@@ -1,18 +1,22 @@
 //! Single questions to a device.
 
-ghost use Rattle.std.specs.Prelude.{◌≡◌, IfOk, IfSome, IsSomeAnd, OnOk};
+ghost use Rattle.std.specs.Prelude.{◌≡◌, Err, ◌<◌, ◌^◌, ℕ, IfOk, IfSome, IsNone, IsSomeAnd, OnOk};
 ghost use Rattle.bac_wire.specs.OptionChain.{GivesSome};
-ghost use Rattle.bac_wire.specs.Primitive.{Chars, Primitive};
+ghost use Rattle.bac_wire.specs.Primitive.{Chars, Primitive, Unsigned};
 ghost use Rattle.bac_wire.specs.View.{view};
 ghost use Rattle.bac_wire.specs.Spelling.{Spells};
 ghost use Rattle.bac_link.specs.Datagrams.{apdu_in};
 ghost use Rattle.bac_link.specs.Path.{towards};
 ghost use Rattle.bac_query.specs.Reading.{values_in};
 ghost use Rattle.bac_fetch.specs.Discovered.{IsObject, Reads, ReadsNumber, Tells, TellsObject};
+ghost use Rattle.bac_fetch.specs.Starts.{Counts};
 
 use bac_apdu::{Apdu, ReadProperty, ReadPropertyAck};
 use bac_link::{ExchangeFault, LogLink, Request, Transactions, exchange, read_datagram};
 use bac_wire::{Datagram, ObjectId, Value, read_value};
+
+/// Total_Record_Count of a trend log (clause 12.25).
+const TOTAL_RECORD_COUNT: u32 = 145;
 
 /// The octets of the values that an ACK has.
 fn values_in(datagram: &Datagram) -> Option<&[u8]>
@@ -74,6 +78,8 @@ pub(crate) fn read<L: LogLink>(
 ) -> Result<Datagram, ExchangeFault>
     ensures reads { Reads L.asks (towards transactions.old.route) transactions.old.retries
         (record { object = object; property = property; index = index }) link.old result link.new }
+    // The question fits a request, so it is asked.
+    ensures fits { result ≡ Err ExchangeFault.TooLong → ⊥ }
     ensures retries { transactions.new.retries ≡ transactions.old.retries }
     ensures route { transactions.new.route ≡ transactions.old.route }
 {
@@ -83,6 +89,55 @@ pub(crate) fn read<L: LogLink>(
         index,
     });
     exchange(link, transactions, &request)
+}
+
+/// What a device tells of how many records a log has logged.
+#[derive(Clone, Copy, Debug, PartialEq, Eq)]
+pub(crate) enum Count {
+    /// So many.
+    Told(u32),
+    /// It refuses, or its answer can't be read.
+    Untold,
+    /// No answer came.
+    Lost,
+}
+
+/// The number of 32 bits that an answer has.
+fn number_in(answer: &Datagram) -> Option<u32>
+    ensures found { IfSome result (λ number. Tells answer.now (Unsigned number)) }
+    ensures none { IsNone result → (number : ℕ) → number < 2 ^ 32 → Tells answer.now (Unsigned number) → ⊥ }
+{
+    let Some(value) = value_in(answer) else {
+        return None;
+    };
+    let Value::Unsigned(number) = value else {
+        return None;
+    };
+    if number > 4294967295 {
+        return None;
+    }
+    Some(number as u32)
+}
+
+/// Asks how many records a trend log has logged, by its property Total_Record_Count (145, clause
+/// 12.25): the number of the newest one.
+pub(crate) fn read_count<L: LogLink>(
+    link: &mut L,
+    transactions: &mut Transactions,
+    log: ObjectId,
+) -> Count
+    ensures counts { Counts L.asks (towards transactions.old.route) transactions.old.retries link.old log result link.new }
+    ensures retries { transactions.new.retries ≡ transactions.old.retries }
+    ensures route { transactions.new.route ≡ transactions.old.route }
+{
+    match read(link, transactions, log, TOTAL_RECORD_COUNT, None) {
+        Ok(answer) => match number_in(&answer) {
+            Some(count) => Count::Told(count),
+            None => Count::Untold,
+        },
+        Err(ExchangeFault::Lost) => Count::Lost,
+        Err(_) => Count::Untold,
+    }
 }
 
 /// Reads a number.

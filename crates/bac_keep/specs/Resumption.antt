@@ -1,5 +1,5 @@
 -- Where a walk goes on that keeps a log: by what the device still holds of what is kept.
-use Rattle.std.specs.Prelude.{◌≡◌, ℕ, ◌==◌, ◌&&◌, not, Bool, true, false, if◌then◌else◌, List, [], ◌∷◌, Result, Ok, Err}
+use Rattle.std.specs.Prelude.{◌≡◌, ℕ, ◌==◌, ◌<◌, ◌&&◌, not, Bool, true, false, if◌then◌else◌, List, [], ◌∷◌, Result, Ok, Err}
 use Rattle.std.specs.List.{list_any}
 use Rattle.std.specs.Str.{bytes_eq}
 use Rattle.std.specs.Ordering.{is_lt, nat_cmp}
@@ -46,22 +46,28 @@ goes_on kept held =
     if held.number == kept.number then is_same kept held
     else is_ahead kept.number held.number && not (is_before (stamp_text held.entry) kept.stamp)
 
--- behind the record that was kept last; or at the oldest one, if the device began its log anew
-abbrev pub IsWhere : Id → KeptRecord → Bool → Resume → Type 0
-IsWhere log kept true (GoOn walk) = walk ≡ walk_at log (number_after kept.number 1)
-IsWhere log kept false (BeganAnew walk) = walk ≡ walk_from_oldest log
-IsWhere log kept _ _ = ⊥
+-- Where a walk begins over a log that its device began anew and that holds a record of this number: at 1, since a log that
+-- is cleared counts from 1 (clause 12.25), so that what was dropped since is told; or at the oldest record, if this one
+-- doesn't lie ahead of 1, which half of the numbers do.
+abbrev pub walk_anew : Id → ℕ → WalkPlace
+walk_anew log held = if is_ahead 1 held then walk_at log 1 else walk_from_oldest log
+
+-- behind the record that was kept last; or if the device began its log anew, where that begins
+abbrev pub IsWhere : Id → KeptRecord → ℕ → Bool → Resume → Type 0
+IsWhere log kept held true (GoOn walk) = walk ≡ walk_at log (number_after kept.number 1)
+IsWhere log kept held false (BeganAnew walk) = walk ≡ walk_anew log held
+IsWhere log kept held _ _ = ⊥
 
 -- what the first of these records says
 abbrev pub IsToldBy : Id → KeptRecord → List Numbered → Resume → Type 0
 IsToldBy log kept [] told = ⊥
-IsToldBy log kept (held ∷ others) told = IsWhere log kept (goes_on kept held) told
+IsToldBy log kept (held ∷ others) told = IsWhere log kept held.number (goes_on kept held) told
 
 -- What the question for the oldest records says, if the one by number found nothing: an empty log tells nothing, and
 -- goes on.
 abbrev pub IsToldLast : Id → KeptRecord → Result Step WalkFault → Resume → Type 0
 IsToldLast log kept (Err fault) told = told ≡ Fault fault
-IsToldLast log kept (Ok CaughtUp) told = IsWhere log kept true told
+IsToldLast log kept (Ok CaughtUp) told = told ≡ GoOn (walk_at log (number_after kept.number 1))
 IsToldLast log kept (Ok (BatchOf batch)) told = IsToldBy log kept batch.entries.items told
 
 -- What the question for the record that was kept last says: the records from it on, or if it isn't held the oldest
@@ -83,3 +89,14 @@ abbrev pub CameTo : {S : Type 0} → (S → List ℕ → Result (List ℕ) Loss 
 CameTo {S = S} asks path retries old walk answer new =
     (came : List Came) × (after : WalkPlace)
     × Brought asks path retries old walk 1 came (step_items answer) (step_ended answer) after new
+
+-- The record that was kept last of a log was asked for over a link, and this was told, whoever answered: of one of the
+-- number 0, which no record has, nothing is asked, and nothing is known of what the device holds.
+abbrev pub Resumes : {S : Type 0} → (S → List ℕ → Result (List ℕ) Loss → S → Type 0) → Path → ℕ → S → Id → KeptRecord →
+    Resume → S → Type 0
+Resumes {S = S} asks path retries old log kept told new =
+    (kept.number ≡ 0 → (told ≡ BeganAnew (walk_from_oldest log)) × (new ≡ old))
+    × (0 < kept.number → (answer : Result Step WalkFault) × (oldest : Result Step WalkFault) × (half : S)
+    × IsTold log kept answer oldest told × CameTo asks path retries old (walk_at log kept.number) answer half
+    × (AsksOldest answer → CameTo asks path retries half (walk_from_oldest log) oldest new)
+    × ((AsksOldest answer → ⊥) → new ≡ half))

@@ -6,7 +6,8 @@ ghost use Rattle.bac_link.specs.Ordinals.{number_after};
 ghost use Rattle.bac_walk.specs.Place.{walk_at, walk_from_oldest};
 ghost use Rattle.bac_walk.specs.declared.outcome.Step.{Step as StepOf};
 ghost use Rattle.bac_walk.specs.declared.outcome.WalkFault.{WalkFault as FaultOf};
-ghost use Rattle.bac_keep.specs.Resumption.{AsksOldest, CameTo, IsTold, IsToldBy, IsToldLast, IsWhere, goes_on, is_before, is_dated};
+ghost use Rattle.bac_keep.specs.Resumption.{AsksOldest, CameTo, IsTold, IsToldBy, IsToldLast, goes_on, is_before, is_dated, walk_anew};
+ghost use Rattle.bac_keep.specs.declared.resumption.Resume.TheVariants.{BeganAnew};
 
 use crate::courses::is_ahead;
 use crate::texts::{datum_of, stamp_of};
@@ -29,18 +30,21 @@ pub struct LastRecord<'a> {
 pub enum Resume {
     /// Behind the record that was kept last.
     GoOn(Walk),
-    /// At the oldest record: the device began its log anew.
+    /// Where the log begins that the device began anew: at 1, or at the oldest record if 1 doesn't
+    /// tell what lies ahead.
     BeganAnew(Walk),
     /// The device wasn't heard, or refused.
     Fault(WalkFault),
 }
 
 /// Where a walk goes on that keeps a log: asks for the record that was kept last, by its number. If
-/// the device holds it as it is kept, the walk goes on behind it, and at the oldest if the device
-/// holds another one under that number. If the device holds later ones alone, the walk goes on too,
-/// and tells the gap; but if the oldest of them is dated before the one that was kept, or if all
-/// that is held lies before it in numbers, the device began its log anew. A log without records
-/// tells nothing: the walk goes on.
+/// the device holds it as it is kept, the walk goes on behind it; if it holds another one under that
+/// number, it began its log anew. If the device holds later ones alone, the walk goes on too, and
+/// tells the gap; but if the oldest of them is dated before the one that was kept, or if all that is
+/// held lies before it in numbers, the device began its log anew. A log without records tells
+/// nothing: the walk goes on. A log that began anew counts from 1 (clause 12.25), so its walk begins
+/// there, and tells what was dropped since; or at the oldest record, if the one that is held lies
+/// 2147483648 numbers or more ahead of 1.
 pub fn resume_from<L: LogLink>(
     alloc: Global,
     link: &mut L,
@@ -53,8 +57,7 @@ pub fn resume_from<L: LogLink>(
     ensures retries { transactions.new.retries ≡ transactions.old.retries }
     ensures route { transactions.new.route ≡ transactions.old.route }
     // No record has the number 0, and nothing is asked.
-    ensures none { last.entry.number ≡ 0 → IfOk result (λ told. IsWhere log (record { number = last.entry.number; stamp = last.entry.stamp.now; datum = last.entry.datum.now }) false told
-        × (link.new ≡ link.old)) }
+    ensures none { last.entry.number ≡ 0 → IfOk result (λ told. (told ≡ BeganAnew (walk_from_oldest log)) × (link.new ≡ link.old)) }
     // The answers came over the link, and it is what they say.
     ensures told { 0 < last.entry.number → IfOk result (λ told. (answer : Result StepOf FaultOf) × (oldest : Result StepOf FaultOf) × (half : L)
         × IsTold log (record { number = last.entry.number; stamp = last.entry.stamp.now; datum = last.entry.datum.now }) answer oldest told
@@ -112,7 +115,7 @@ fn told_by(
     if goes_on(alloc, last, held)? {
         Ok(Resume::GoOn(walk_behind(log, last.number)))
     } else {
-        Ok(Resume::BeganAnew(oldest_of(log)))
+        Ok(Resume::BeganAnew(walk_anew(log, held.number)))
     }
 }
 
@@ -122,6 +125,20 @@ pub(crate) fn oldest_of(log: ObjectId) -> Walk
     ensures { result ≡ walk_from_oldest log }
 {
     let Some(walk) = Walk::oldest(log) else {
+        unreachable!()
+    };
+    walk
+}
+
+// A walk over a log that began anew, and that holds a record of this number.
+fn walk_anew(log: ObjectId, held: u32) -> Walk
+    requires { log.kind ≡ 20 }
+    ensures { result ≡ walk_anew log held }
+{
+    if !is_ahead(1, held) {
+        return oldest_of(log);
+    }
+    let Some(walk) = Walk::from_number(log, 1) else {
         unreachable!()
     };
     walk

@@ -4,7 +4,7 @@ use Rattle.sqlite.specs.Effect.{Database}
 use Rattle.sqlite.specs.State.{HasCleanDisk}
 use Rattle.sqlite.specs.Held.{state}
 use Rattle.bac_ports.specs.Sockets.{socket_rules}
-use Rattle.bac_fetch.specs.Keeps.{KeepsAll}
+use Rattle.bac_fetch.specs.Keeps.{KeepsLogs}
 use Rattle.bac_fetch.proofs.keeping.keep_chosen.Goals as goal
 
 pub returns : goal.returns
@@ -31,7 +31,7 @@ returns g c =
               λ clean has.
                   let early : HasCleanDisk mid = c.keep_each.ensures.clean clean in
                   let same = c.in_ok-all.ensures.same early has in
-                  subst (λ (d : Database). KeepsAll over all between after d new.now told.0) same (told.4 clean (ap (λ (d : Database). d.schema) same ∙ has)),
+                  subst (λ (d : Database). KeepsLogs over all between after d new.now told.0) same (told.4 clean (ap (λ (d : Database). d.schema) same ∙ has)),
             ),
           ))
           c.keep_each.ensures.told;

@@ -1,79 +1,54 @@
-use Rattle.std.proofs.Common.{rules, ◌≡◌, ◌++◌, ◌∷◌, [], ap₂, max, subst, sym, ◌∙◌}
-use Rattle.std.proofs.IntoIterSteps.{All-taken}
-use Rattle.std.proofs.KnownBytes.{Appends-trans}
-use Rattle.std.specs.Io.KnownBytes.{Appends}
+use Rattle.std.proofs.Common.{◌≡◌, [], ap, subst, sym, ◌∙◌}
+use Rattle.std.proofs.lemmas.Result.{IfOk-weaker}
+use Rattle.sqlite.specs.Effect.{Database}
 use Rattle.sqlite.specs.State.{HasCleanDisk}
 use Rattle.sqlite.specs.Held.{state}
+use Rattle.bac_archive.specs.Logs.{AreLogs}
 use Rattle.bac_archive.specs.Schema.{archive_schema}
 use Rattle.bac_ports.specs.Sockets.{socket_rules}
-use Rattle.bac_fetch.specs.Keeps.{AreToldBy, KeepsAll, lines_of}
-use Rattle.bac_asked.specs.Lines.{summary_line}
-use Rattle.bac_fetch.proofs.KeepsLemmas.{all_schema, greatest_more, length_more, lines_more, one_more}
-use Rattle.bac_fetch.proofs.StaysLemmas.{all_itself, all_then, itself_stays, source_stays, stays_then}
+use Rattle.bac_fetch.specs.Keeps.{KeepsAll}
+use Rattle.bac_fetch.specs.Silent.{HasLogs}
+use Rattle.bac_fetch.proofs.SilentLemmas.{read_logs}
+use Rattle.bac_fetch.proofs.StaysLemmas.{quiet_first, quiet_stays}
 use Rattle.bac_fetch.proofs.keeping.keep_each.Goals as goal
-
-pub loop-wanted-preserved : goal.loop-wanted-preserved
-loop-wanted-preserved g c =
-    let was = c.loop-wanted.invariant.told in
-    let it = c.in_ok-status.ensures.told in
-    let wanted = c.in-Some.wanted in
-    let over = socket_rules g.S.Sockets.opens g.S.Sockets.closes g.S.Socket.Port.sends g.S.Socket.Port.receives g.S.Socket.Port.receives_within in
-    let before = c.args.sockets.now in
-    let half = c.loop-wanted.sockets in
-    let after = c.keep_one.new.sockets in
-    let yielded = c.loop-wanted.yielded in
-    let old = state g.A.Store c.args.conn.now in
-    let mid = state g.A.Store c.loop-wanted.conn in
-    let new = state g.A.Store c.keep_one.new.conn in
-    record {
-      told = (
-        was.0 ++ it.0 ∷ [],
-        length_more was.0 yielded it.0 wanted was.1,
-        c.max-greatest.ensures ∙ ap₂ max was.2 it.1 ∙ sym (greatest_more was.0 it.0),
-        subst (Appends (g.O.Write.contents c.args.output.now) (g.O.Write.contents c.keep_one.new.output)) (sym (lines_more yielded wanted was.0 it.0 was.1))
-            (Appends-trans _ (g.O.Write.contents c.loop-wanted.output) _ (lines_of yielded was.0) (summary_line wanted.source it.0) was.3 it.2),
-        λ clean has.
-            let early : HasCleanDisk mid = c.keep_one.ensures.clean clean in
-            let kept = was.4 early has in
-            one_more over yielded wanted before half after old.now mid.now new.now was.0 it.0 kept (it.3 clean (all_schema over yielded before half old.now mid.now was.0 kept has)),
-      );
-      clean = λ late. c.loop-wanted.invariant.clean (c.keep_one.ensures.clean late);
-      stays = λ clean has.
-          let early : HasCleanDisk mid = c.keep_one.ensures.clean clean in
-          let kept = was.4 early has in
-          let schema = all_schema over yielded before half old.now mid.now was.0 kept has in
-          let stays = c.loop-wanted.invariant.stays early has in (
-            all_then old.now.trees mid.now.trees new.now.trees stays.0 (source_stays over wanted half after mid.now new.now it.0 (it.3 clean schema)),
-            stays_then old mid new stays.0 stays.1 (c.keep_one.ensures.stays clean schema),
-          );
-    }
-
-pub loop-wanted-init : goal.loop-wanted-init
-loop-wanted-init g c =
-    let old = state g.A.Store c.args.conn.now in
-    record {
-      told = search rules;
-      clean = λ clean. clean;
-      stays = λ clean has. (all_itself old.now.trees, itself_stays old);
-    }
 
 pub returns-clause-told : goal.returns-clause-told
 returns-clause-told g c =
-    let all : c.loop-wanted.yielded ≡ c.args.all.items =
-    All-taken c.into_iter-wanted-iterator.result c.loop-wanted.yielded (c.next.new.self, (c.loop-wanted.wanted-iterator, c.loop-wanted.yielded_by, c.in-None.ensures.steps))
-    ∙ c.into_iter-wanted-iterator.ensures.into_iter_gives.0 in
-    subst (λ l. AreToldBy (g.O.Write.contents c.args.output.now) (g.O.Write.contents c.loop-wanted.output) l
-    (λ ends. HasCleanDisk (state g.A.Store c.loop-wanted.conn) → (state g.A.Store c.args.conn.now).now.schema ≡ archive_schema →
-    KeepsAll (socket_rules g.S.Sockets.opens g.S.Sockets.closes g.S.Socket.Port.sends g.S.Socket.Port.receives g.S.Socket.Port.receives_within) l c.args.sockets.now c.loop-wanted.sockets (state g.A.Store c.args.conn.now).now (state g.A.Store c.loop-wanted.conn).now ends) c.loop-wanted.greatest) all c.loop-wanted.invariant.told
-
-pub returns-in_err-status-clause-stays : goal.returns-in_err-status-clause-stays
-returns-in_err-status-clause-stays g c clean has =
     let over = socket_rules g.S.Sockets.opens g.S.Sockets.closes g.S.Socket.Port.sends g.S.Socket.Port.receives g.S.Socket.Port.receives_within in
-    let yielded = c.loop-wanted.yielded in
+    let all = c.args.all.items in
+    let known = c.as_slice.result.now in
+    let before = c.args.sockets.now in
+    let after = c.keep_known.new.sockets in
     let old = state g.A.Store c.args.conn.now in
-    let mid = state g.A.Store c.loop-wanted.conn in
-    let early : HasCleanDisk mid = c.keep_one.ensures.clean clean in
-    let was = c.loop-wanted.invariant.told in
-    let schema = all_schema over yielded c.args.sockets.now c.loop-wanted.sockets old.now mid.now was.0 (was.4 early has) has in
-    let stays = c.loop-wanted.invariant.stays early has in
-    stays_then old mid (state g.A.Store c.keep_one.new.conn) stays.0 stays.1 (c.keep_one.ensures.stays clean schema)
+    let mid = state g.A.Store c.logs.new.conn in
+    let new = state g.A.Store c.keep_known.new.conn in
+    IfOk-weaker c.keep_known.result _ _
+    (λ status told. (
+      told.0,
+      told.1,
+      told.2,
+      told.3,
+      λ clean has.
+          let early : HasCleanDisk mid = c.keep_known.ensures.clean clean in
+          let same : mid.now ≡ old.now = (c.in-Ok.ensures.same early has).0.now_is in
+          let are : AreLogs old.now.trees known = subst (AreLogs old.now.trees) (sym c.as_slice.ensures.value) (c.in-Ok.ensures.logs early has) in
+          let still = subst (λ (d : Database). HasLogs d.trees known) (sym same) (read_logs old.now.trees known are) in
+          let schema : mid.now.schema ≡ archive_schema = ap (λ (d : Database). d.schema) same ∙ has in
+          (known, are, subst (λ (d : Database). KeepsAll over known [] all before after d new.now told.0) same (told.4 clean schema still)),
+    ))
+    c.keep_known.ensures.told
+
+pub returns-clause-stays : goal.returns-clause-stays
+returns-clause-stays g c clean has =
+    let known = c.as_slice.result.now in
+    let old = state g.A.Store c.args.conn.now in
+    let mid = state g.A.Store c.logs.new.conn in
+    let new = state g.A.Store c.keep_known.new.conn in
+    let early : HasCleanDisk mid = c.keep_known.ensures.clean clean in
+    let same : mid.now ≡ old.now = (c.in-Ok.ensures.same early has).0.now_is in
+    let still = subst (λ (d : Database). HasLogs d.trees known) (sym same) (read_logs old.now.trees known (subst (AreLogs old.now.trees) (sym c.as_slice.ensures.value) (c.in-Ok.ensures.logs early has))) in
+    let schema : mid.now.schema ≡ archive_schema = ap (λ (d : Database). d.schema) same ∙ has in
+    quiet_first old mid new same (c.logs.ensures.crash has) (c.keep_known.ensures.stays clean schema still)
+
+pub returns-in-Err-clause-stays : goal.returns-in-Err-clause-stays
+returns-in-Err-clause-stays g c clean has = quiet_stays (state g.A.Store c.args.conn.now) (state g.A.Store c.logs.new.conn) (c.logs.ensures.crash has)

@@ -11,62 +11,73 @@ use Rattle.bac_fetch.proofs.keeping.keep_one.Goals as goal
 pub returns-clause-told : goal.returns-clause-told
 returns-clause-told g c = (
   c.in_ok-end.end,
-  c.walk_status.ensures,
+  c.end_status.ensures,
   c.in_ok-print_end.ensures,
-  λ clean has.
-      let old = state g.A.Store c.args.conn.now in
-      let known = state g.A.Store c.add_log.new.conn in
-      let mid : HasCleanDisk known = c.fetch-fetched.ensures.clean clean in
-      let added = c.in-Ok.ensures.added mid has in
-      let schema : known.now.schema ≡ archive_schema = elim added [
-        | inl same ↦ ap (λ (d : Database). d.schema) same.0.now_is ∙ has
-        | inr more ↦ more.0.schema
-      ] in
-      record {
-        id = c.in-Ok.id;
-        known = known.now;
-        added = elim added [
-          | inl same ↦ inl same.0.now_is
-          | inr more ↦ inr (subst (λ n. HasNewLog old.now known.now (log_row c.in-Ok.id c.args.wanted.source n)) c.name_of.ensures more.0)
-        ];
-        log = c.in-Ok.ensures.known mid has;
-        kept = c.in_ok-end.ensures.kept clean schema;
-      },
+  (
+    c.in_ok-add_lost.ensures,
+    λ clean has given.
+        let old = state g.A.Store c.args.conn.now in
+        let known = state g.A.Store c.id_of.new.conn in
+        let mid : HasCleanDisk known = c.fetch-fetched.ensures.clean clean in
+        let added = c.in_ok-id.ensures.added mid has in
+        let schema : known.now.schema ≡ archive_schema = elim added [
+          | inl same ↦ ap (λ (d : Database). d.schema) same ∙ has
+          | inr more ↦ more.schema
+        ] in
+        record {
+          id = c.in_ok-id.id;
+          known = known.now;
+          added = elim added [
+            | inl same ↦ inl same
+            | inr more ↦ inr (subst (λ n. HasNewLog old.now known.now (log_row c.in_ok-id.id c.args.wanted.source n)) c.name_of.ensures more)
+          ];
+          log = c.in_ok-id.ensures.known mid has given;
+          kept = c.in_ok-end.ensures.kept clean schema;
+        },
+  ),
 )
 
-pub returns-in-Err-clause-stays : goal.returns-in-Err-clause-stays
-returns-in-Err-clause-stays g c clean has =
+pub returns-in_err-id-clause-stays : goal.returns-in_err-id-clause-stays
+returns-in_err-id-clause-stays g c clean has =
     let row : ℕ → Values = λ id. log_row id c.args.wanted.source (option_map (λ s. s.now) c.name_of.result) in
-    log_stays (state g.A.Store c.args.conn.now) (state g.A.Store c.add_log.new.conn) row (c.add_log.ensures.crash has)
+    log_stays (state g.A.Store c.args.conn.now) (state g.A.Store c.id_of.new.conn) row (c.id_of.ensures.crash has)
 
 pub returns-in_err-end-clause-stays : goal.returns-in_err-end-clause-stays
 returns-in_err-end-clause-stays g c clean has =
-    let known = state g.A.Store c.add_log.new.conn in
+    let known = state g.A.Store c.id_of.new.conn in
     let row : ℕ → Values = λ id. log_row id c.args.wanted.source (option_map (λ s. s.now) c.name_of.result) in
     let mid : HasCleanDisk known = c.fetch-fetched.ensures.clean clean in
-    one_stays (state g.A.Store c.args.conn.now) known (state g.A.Store c.fetch-fetched.new.conn) row c.in-Ok.id has (c.add_log.ensures.crash has) (c.in-Ok.ensures.added mid has)
+    one_stays (state g.A.Store c.args.conn.now) known (state g.A.Store c.fetch-fetched.new.conn) row c.in_ok-id.id has (c.id_of.ensures.crash has) (c.in_ok-id.ensures.added mid has)
     (c.fetch-fetched.ensures.stays clean)
 
 pub returns-in_err-tell_anew-clause-stays : goal.returns-in_err-tell_anew-clause-stays
 returns-in_err-tell_anew-clause-stays g c clean has =
-    let known = state g.A.Store c.add_log.new.conn in
+    let known = state g.A.Store c.id_of.new.conn in
     let row : ℕ → Values = λ id. log_row id c.args.wanted.source (option_map (λ s. s.now) c.name_of.result) in
     let mid : HasCleanDisk known = c.fetch-fetched.ensures.clean clean in
-    one_stays (state g.A.Store c.args.conn.now) known (state g.A.Store c.fetch-fetched.new.conn) row c.in-Ok.id has (c.add_log.ensures.crash has) (c.in-Ok.ensures.added mid has)
+    one_stays (state g.A.Store c.args.conn.now) known (state g.A.Store c.fetch-fetched.new.conn) row c.in_ok-id.id has (c.id_of.ensures.crash has) (c.in_ok-id.ensures.added mid has)
     (c.fetch-fetched.ensures.stays clean)
 
 pub returns-in_err-print_end-clause-stays : goal.returns-in_err-print_end-clause-stays
 returns-in_err-print_end-clause-stays g c clean has =
-    let known = state g.A.Store c.add_log.new.conn in
+    let known = state g.A.Store c.id_of.new.conn in
     let row : ℕ → Values = λ id. log_row id c.args.wanted.source (option_map (λ s. s.now) c.name_of.result) in
     let mid : HasCleanDisk known = c.fetch-fetched.ensures.clean clean in
-    one_stays (state g.A.Store c.args.conn.now) known (state g.A.Store c.fetch-fetched.new.conn) row c.in-Ok.id has (c.add_log.ensures.crash has) (c.in-Ok.ensures.added mid has)
+    one_stays (state g.A.Store c.args.conn.now) known (state g.A.Store c.fetch-fetched.new.conn) row c.in_ok-id.id has (c.id_of.ensures.crash has) (c.in_ok-id.ensures.added mid has)
+    (c.fetch-fetched.ensures.stays clean)
+
+pub returns-in_err-add_lost-clause-stays : goal.returns-in_err-add_lost-clause-stays
+returns-in_err-add_lost-clause-stays g c clean has =
+    let known = state g.A.Store c.id_of.new.conn in
+    let row : ℕ → Values = λ id. log_row id c.args.wanted.source (option_map (λ s. s.now) c.name_of.result) in
+    let mid : HasCleanDisk known = c.fetch-fetched.ensures.clean clean in
+    one_stays (state g.A.Store c.args.conn.now) known (state g.A.Store c.fetch-fetched.new.conn) row c.in_ok-id.id has (c.id_of.ensures.crash has) (c.in_ok-id.ensures.added mid has)
     (c.fetch-fetched.ensures.stays clean)
 
 pub returns-clause-stays : goal.returns-clause-stays
 returns-clause-stays g c clean has =
-    let known = state g.A.Store c.add_log.new.conn in
+    let known = state g.A.Store c.id_of.new.conn in
     let row : ℕ → Values = λ id. log_row id c.args.wanted.source (option_map (λ s. s.now) c.name_of.result) in
     let mid : HasCleanDisk known = c.fetch-fetched.ensures.clean clean in
-    one_stays (state g.A.Store c.args.conn.now) known (state g.A.Store c.fetch-fetched.new.conn) row c.in-Ok.id has (c.add_log.ensures.crash has) (c.in-Ok.ensures.added mid has)
+    one_stays (state g.A.Store c.args.conn.now) known (state g.A.Store c.fetch-fetched.new.conn) row c.in_ok-id.id has (c.id_of.ensures.crash has) (c.in_ok-id.ensures.added mid has)
     (c.fetch-fetched.ensures.stays clean)

@@ -1,0 +1,27 @@
+use Rattle.std.proofs.Common.{◌≡◌, Ok}
+use Rattle.sqlite.specs.State.{HasCleanDisk}
+use Rattle.sqlite.specs.Held.{state}
+use Rattle.bac_archive.specs.Schema.{archive_schema}
+use Rattle.bac_fetch.proofs.KeepsLemmas.{log_schema}
+use Rattle.bac_fetch.proofs.StaysLemmas.{begun_stays, stays_then}
+use Rattle.bac_fetch.proofs.fetching.keep_and_mark.Goals as goal
+
+pub returns-in_err-mark-clause-stays : goal.returns-in_err-mark-clause-stays
+returns-in_err-mark-clause-stays g c clean has =
+    let old = state g.A.Store c.args.conn.now in
+    let mid = state g.A.Store c.keep_from.new.conn in
+    let new = state g.A.Store c.mark.new.conn in
+    let early : HasCleanDisk mid = c.mark.ensures.clean clean in
+    let kept = c.in_ok-end.ensures.kept early has in
+    let schema : mid.now.schema ≡ archive_schema = log_schema (Ok c.args.start) old.now mid.now c.in_ok-end.end kept has in
+    stays_then old mid new (begun_stays (Ok c.args.start) old.now mid.now c.in_ok-end.end kept) (c.keep_from.ensures.stays early has) (c.mark.ensures.stays clean schema)
+
+pub returns-clause-stays : goal.returns-clause-stays
+returns-clause-stays g c clean has =
+    let old = state g.A.Store c.args.conn.now in
+    let mid = state g.A.Store c.keep_from.new.conn in
+    let new = state g.A.Store c.mark.new.conn in
+    let early : HasCleanDisk mid = c.mark.ensures.clean clean in
+    let kept = c.in_ok-end.ensures.kept early has in
+    let schema : mid.now.schema ≡ archive_schema = log_schema (Ok c.args.start) old.now mid.now c.in_ok-end.end kept has in
+    stays_then old mid new (begun_stays (Ok c.args.start) old.now mid.now c.in_ok-end.end kept) (c.keep_from.ensures.stays early has) (c.mark.ensures.stays clean schema)

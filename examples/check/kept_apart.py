@@ -1,0 +1,136 @@
+"""One log of a run never stops another, for kept.py: of a log whose epochs are used up, and of devices that don't answer."""
+import sqlite3
+
+from kept_devices import LAST, Device, Log, serve
+
+QUICK = ("--timeout=60", "--retries=0")
+USED_UP = "it began anew, or its numbers came round, 32767 times"
+
+
+def line(device, instance, records, end, way=""):
+    return f"{device.address}{way} {instance} {records} record{'s' * (records != 1)} 0 gaps {end}\n"
+
+
+def in_file(file, *statements):
+    """The rows of the last of these statements."""
+    base = sqlite3.connect(file)
+    rows = [base.execute(statement).fetchall() for statement in statements][-1]
+    base.commit()
+    base.close()
+    return rows
+
+
+def in_last_epoch(file, log):
+    """What is kept of a log's epoch 0 is moved to the last epoch that there is."""
+    in_file(file, f"UPDATE items SET id = id + (32767 << 32) WHERE id >> 47 = {log}",
+            f"UPDATE beginnings SET id = id + 32767 WHERE id >> 15 = {log}")
+
+
+def items_of(file, log):
+    return in_file(file, f"SELECT id, datum FROM items WHERE id >> 47 = {log} ORDER BY id")
+
+
+def last_epoch(judge, _runs):
+    """A log that has no further epoch ends with its own line, and the logs behind it are kept."""
+    device = Device([Log(1, 400), Log(2, 50)], "two")
+    first, second = device.logs.values()
+    first.log(12)
+    serve([device])
+    file = f"{judge.room}/a.db"
+    judge.ran(["keep", file, device.address, "1", "2"])
+    in_last_epoch(file, 1)
+    before = items_of(file, 1)
+    for new in (3, 0):
+        first.begin(0)
+        first.log(5)
+        second.log(new)
+        judge.same("it began anew", judge.ran(["keep", file]),
+                   (6, line(device, 1, 0, f"{USED_UP}, next 13") + line(device, 2, new, f"caught up, next {second.total + 1}"), ""))
+        judge.same("its rows stay", items_of(file, 1), before)
+    # It goes on, and its numbers come round: what came before is kept.
+    file = f"{judge.room}/b.db"
+    first.begin(LAST - 150)
+    first.log(10)
+    judge.ran(["keep", file, device.address, "1", "2"])
+    in_last_epoch(file, 1)
+    first.log(200)
+    second.log(2)
+    status, out, errors = judge.ran(["keep", file])
+    told = out.splitlines(True)
+    rows = items_of(file, 1)
+    kept, last = len(rows) - 10, rows[-1][0] & LAST
+    judge.is_right("some of it is kept", 10 <= kept < 140 and last == LAST - 140 + kept, (kept, last))
+    judge.same("its numbers came round", (status, told, errors),
+               (6, [line(device, 1, kept, f"{USED_UP}, next {last + 1}"), line(device, 2, 2, f"caught up, next {second.total + 1}")], ""))
+    # Its newest record has the last number that there is.
+    file = f"{judge.room}/c.db"
+    first.begin(LAST - 5)
+    first.log(5)
+    judge.ran(["keep", file, device.address, "1", "2"])
+    in_file(file, "UPDATE items SET id = id + (32767 << 32) WHERE id >> 47 = 1",
+            "DELETE FROM beginnings WHERE id = (1 << 15) + 1", "UPDATE beginnings SET id = id + 32767 WHERE id >> 15 = 1")
+    judge.same("at the last number", judge.ran(["keep", file]),
+               (6, line(device, 1, 0, f"{USED_UP}, next 1") + line(device, 2, 0, f"caught up, next {second.total + 1}"), ""))
+
+
+def dead_devices(judge, _runs):
+    """A device that doesn't answer is waited for once in a run; the logs of all others are kept."""
+    dead, other = Device([Log(number, 400) for number in (1, 2, 3)], "dead"), Device([Log(1, 50)], "other")
+    for number, log in dead.logs.items():
+        log.log(number)
+    serve([dead, other])
+    file = f"{judge.room}/a.db"
+    judge.ran(["keep", file, dead.address, "1", "2"])
+    judge.ran(["keep", file, other.address, "1"])
+    judge.ran(["keep", file, dead.address, "3"])
+    rows = [items_of(file, log) for log in (1, 2, 4)]
+    other.logs[1].log(2)
+    dead.answers = 0
+    before = dead.asked
+    judge.same("a dead device", judge.ran(["keep", file, "--timeout=60", "--retries=2"]),
+               (2, line(dead, 1, 0, "lost, next 2") + line(dead, 2, 0, "not asked, next 3") + line(other, 1, 2, "caught up, next 3")
+                + line(dead, 3, 0, "not asked, next 4"), ""))
+    judge.same("is asked once", dead.asked - before, 3)
+    judge.same("its rows stay", [items_of(file, log) for log in (1, 2, 4)], rows)
+    judge.judge("a dead device", file, [dead, other])
+    # The others are asked if the first one's fault is another: its log isn't there any more.
+    dead.answers = None
+    log = dead.logs.pop(1)
+    judge.same("a refusal is of one log", judge.ran(["keep", file]),
+               (3, line(dead, 1, 0, "refused: error 2 32, next 2") + line(dead, 2, 0, "caught up, next 3") + line(other, 1, 0, "caught up, next 3")
+                + line(dead, 3, 0, "caught up, next 4"), ""))
+    dead.logs = {1: log, **dead.logs}
+    # It answers once more: what came is kept, and then it isn't asked any more.
+    for log in dead.logs.values():
+        log.log(150)
+    dead.answers = 2
+    status, out, errors = judge.ran(["keep", file, *QUICK])
+    told = out.splitlines(True)
+    judge.is_right("lost on the way", (status, errors, len(told)) == (2, "", 4) and " 1 " in told[0] and " lost, next " in told[0]
+                   and told[1] == line(dead, 2, 0, "not asked, next 3") and told[3] == line(dead, 3, 0, "not asked, next 4"), (status, out, errors))
+    judge.judge("lost on the way", file, [dead, other])
+    dead.answers = None
+    judge.same("and the next run", judge.ran(["keep", file])[0], 0)
+    judge.judge("and the next run", file, [dead, other], True)
+    # The logs that a first run doesn't ask for aren't added; they may be among those of the file.
+    file = f"{judge.room}/b.db"
+    dead.answers = 0
+    judge.same("a first run", judge.ran(["keep", file, dead.address, "3", "1", "2", *QUICK]),
+               (2, line(dead, 3, 0, "lost, next 1") + line(dead, 1, 0, "not asked, next 1") + line(dead, 2, 0, "not asked, next 1"), ""))
+    judge.same("adds the first alone", in_file(file, "SELECT instance FROM logs"), [(3,)])
+    dead.answers = 7
+    status, out, errors = judge.ran(["keep", f"{judge.room}/c.db", dead.address, *QUICK])
+    judge.is_right("dead in the midst of its list", status == 2 and out == "" and errors == f"lost\nno answer came from {dead.address}\n", (status, out, errors))
+    # Two devices behind one router have one address.
+    behind = Device([Log(1, 50)], "behind", (5, b"\x07"))
+    behind.logs[1].log(4)
+    serve([behind])
+    file = f"{judge.room}/d.db"
+    for instance in ("1", "2"):
+        judge.ran(["keep", file, behind.address, instance, "--dnet=5", "--dadr=08", *QUICK])
+    judge.ran(["keep", file, behind.address, "1", "--dnet=5", "--dadr=07"])
+    behind.logs[1].log(1)
+    before = behind.asked
+    judge.same("behind one router", judge.ran(["keep", file, *QUICK]),
+               (2, line(behind, 1, 0, "lost, next 1", "/5/08") + line(behind, 2, 0, "not asked, next 1", "/5/08")
+                + line(behind, 1, 1, "caught up, next 6", "/5/07"), ""))
