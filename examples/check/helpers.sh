@@ -72,8 +72,13 @@ for tool in wi rp wp log keep kept serve replay; do
     done < <(sed -nE 's/^ +(-h, )?(--[a-z]+) <.*/\2 =/p; s/^ +(-h, )?(--[a-z]+)( [^<].*)?$/\2/p' "$tool.help")
 done
 is 'completion' "$(./complete.py ../use/bac.bash "${typed[@]}" 2>&1)" "$(printf '%s\n' "${wanted[@]}" | sed "s/' '$/ /")"
+# The tools of the help are those that are completed and those of the man page.
+tools() { sed -nE 's/^  ([a-z]+)  .*/\1/p' bac.help | sort; }
 # And no other: what is completed of an option's first letters is all that the help names.
 completed() { bash -c '. ../use/bac.bash; compopt() { :; }; COMP_LINE=$1 COMP_POINT=${#1}; _bac; printf "%s\n" "${COMPREPLY[@]}"' _ "$1"; }
+is 'the tools' "$(completed 'bac ' | grep -v -e -- | sort)" "$(tools)"
+is 'the tools behind help' "$(completed 'bac help ' | sort)" "$(tools | grep -v '^help$')"
+is 'the tools of the man page' "$(sed -nE 's/^\.B bac ([a-z]+)( .*)?$/\1/p' ../../docs/bac.1 | sort -u)" "$(tools | grep -v '^help$')"
 for tool in wi rp wp log keep kept serve replay; do
     is "the options of $tool" "$(completed "bac $tool --" | tr -d = | sort | tr '\n' ' ')" \
         "$(sed -nE 's/^ +(-h, )?(--[a-z]+).*/\2/p' "$tool.help" | sort | tr '\n' ' ')"

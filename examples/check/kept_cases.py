@@ -575,7 +575,8 @@ def served(judge, _runs):
         site = site_kept(judge, f"127.77.77.77:9\n{address}\n")
         right = re.fullmatch(rf"{address} 1 \d+ records? 0 gaps caught up, next \d+\n{address} 2 10 records 0 gaps caught up, next 11\n", site[1])
         judge.is_right("site.sh", site[0] == 0 and right and site[2] == "", site)
-        judge.same("a site where nobody answers", site_kept(judge, "127.77.77.77:9\n"), (2, "", "no answer\naddresses asked: 1\n"))
+        judge.same("a site where nobody answers", site_kept(judge, "127.77.77.77:9\n"),
+                   (2, "", "no answer\naddresses asked: 1; devices that answer by broadcast are heard with --local=0.0.0.0:47808\n"))
         site = site_kept(judge, "127.77.77\n")
         judge.is_right("a line of a site that is no address", site[:2] == (1, "") and site[2].startswith("line 1: bad line\n"), site)
         base = sqlite3.connect(f"{judge.room}/site.db")

@@ -2,8 +2,10 @@
 //! clock. What it does with them is in the crates bac_tools and, of `keep` and `kept`, bac_keeper.
 #![tactic(auto)]
 
-use bac_keeper::{Fault as KeepFault, is_keeping, run_keep};
-use bac_tools::{Fault, SystemClock, UdpSockets, UntilRefused, run, tell};
+mod whole;
+
+use crate::whole::run_whole;
+use bac_tools::{Fault, SystemClock, UdpSockets, UntilRefused, tell};
 use std::env::Args;
 use std::io::{BufWriter, ErrorKind, IsTerminal};
 use std::process::ExitCode;
@@ -26,18 +28,6 @@ fn words_of(rt: &HostRuntime) -> Result<Vec<String>, Fault> {
     Ok(list)
 }
 
-/// A fault of `keep` or `kept`.
-fn of_keeping(fault: KeepFault) -> Fault {
-    match fault {
-        KeepFault::BadValue(word) => Fault::BadValue(word),
-        KeepFault::LongNumber(word) => Fault::LongNumber(word),
-        KeepFault::Socket => Fault::Socket,
-        KeepFault::Exchange { address, fault } => Fault::Exchange { address, fault },
-        KeepFault::Write => Fault::Write,
-        KeepFault::Memory => Fault::Memory,
-    }
-}
-
 /// Runs the program, and answers its exit status.
 fn started(rt: &HostRuntime) -> Result<u8, Fault> {
     let words = words_of(rt)?;
@@ -46,27 +36,14 @@ fn started(rt: &HostRuntime) -> Result<u8, Fault> {
     let Ok(mut output) = BufWriter::new(rt.alloc(), writer) else {
         return Err(Fault::Memory);
     };
-    if is_keeping(&words) {
-        // A count is for somebody who looks at both.
-        let counts = rt.stdout().is_terminal() && rt.stderr().is_terminal();
-        let done = run_keep(
-            rt,
-            &mut UdpSockets::new(rt),
-            rt.alloc(),
-            &words,
-            counts,
-            &mut output,
-            &mut rt.stderr(),
-        );
-        return match done {
-            Ok(status) => Ok(status),
-            Err(fault) => Err(of_keeping(fault)),
-        };
-    }
-    Ok(run(
+    // A count is for somebody who looks at both.
+    let counts = rt.stdout().is_terminal() && rt.stderr().is_terminal();
+    Ok(run_whole(
+        rt,
         &mut UdpSockets::new(rt),
         rt.alloc(),
         &words,
+        counts,
         &mut rt.reader(),
         &mut output,
         &mut rt.stderr(),

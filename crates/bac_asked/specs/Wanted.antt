@@ -5,8 +5,10 @@ use Rattle.std.specs.String.{string_bytes}
 use Rattle.hex.specs.Hex.{encode_lower}
 use Rattle.bac_apdu.specs.Npdu.{Place}
 use Rattle.bac_archive.specs.declared.trend_logs.Source.{Source}
+use Rattle.clap.specs.Words.{Text}
 use Rattle.bac_print.specs.Addresses.{address_text}
 use Rattle.bac_words.specs.declared.job.Asked.{Asked}
+use Rattle.bac_asked.specs.AsLog.{Given, IsAskedBy, log_words}
 use Rattle.bac_asked.specs.declared.log_words.Asking.{Asking}
 use Rattle.bac_asked.specs.declared.wanted.Wanted.{Wanted}
 
@@ -38,3 +40,11 @@ abbrev pub AddsOnce : Wanted → List Wanted → List Wanted → Type 0
 AddsOnce wanted before after =
     ((has_instance wanted.source.instance before ≡ false) × (after ≡ before ++ wanted ∷ []))
     ⊎ ((has_instance wanted.source.instance before ≡ true) × (after ≡ before))
+
+-- Logs of one device come to others in the order of the words that name them, each once, and each is asked for as
+-- `bac log` with these words asks.
+abbrev pub AddNamed : Text → Given → List Text → List Wanted → List Wanted → Type 0
+AddNamed address given [] before after = after ≡ before
+AddNamed address given (instance ∷ more) before after =
+    (wanted : Wanted) × (mid : List Wanted) × IsAskedBy (log_words address instance given) wanted.asking
+    × AsksItsSource wanted × AddsOnce wanted before mid × AddNamed address given more mid after

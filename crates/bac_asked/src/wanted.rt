@@ -4,7 +4,7 @@ ghost use Rattle.std.specs.Prelude.{◌≡◌, IfOk, OnOk, [], ◌∷◌, ◌++�
 ghost use Rattle.std.specs.List.{All};
 ghost use Rattle.std.specs.String.{string_bytes};
 ghost use Rattle.bac_asked.specs.AsLog.{IsAskedBy, given_in, log_words};
-ghost use Rattle.bac_asked.specs.Wanted.{AddsOnce, AsksItsSource, IsSourceOf, has_instance};
+ghost use Rattle.bac_asked.specs.Wanted.{AddNamed, AddsOnce, AsksItsSource, IsSourceOf, has_instance};
 
 use crate::end::NotDone;
 use crate::fault::{Fault, FileFault};
@@ -12,7 +12,7 @@ use crate::log_words::{Asking, ask_as_log};
 use crate::options::Options;
 use bac_archive::{Log, Source};
 use bac_print::{push_address, push_hex, push_number};
-use bac_words::{Asked, Word, WordsFault};
+use bac_words::{Asked, Name, Word, WordsFault};
 use std::alloc::{AllocError, Global};
 
 /// A log that is to be fetched.
@@ -121,14 +121,15 @@ fn add_once(all: &mut Vec<Wanted>, wanted: Wanted) -> Result<(), NotDone>
 pub fn named_all(
     alloc: Global,
     address: &str,
-    instances: &[&str],
+    instances: &[Name],
     options: &Options<'_>,
 ) -> Result<Vec<Wanted>, NotDone>
-    ensures { IfOk result (λ all. All AsksItsSource all.items) }
+    ensures source { IfOk result (λ all. All AsksItsSource all.items) }
+    ensures named { IfOk result (λ all. AddNamed address.now (given_in options.now) instances.now [] all.items) }
 {
     let mut all = Vec::new(alloc);
     for instance in instances {
-        let wanted = named(alloc, address, instance, options)?;
+        let wanted = named(alloc, address, instance.as_str(), options)?;
         add_once(&mut all, wanted)?;
     }
     Ok(all)

@@ -1,19 +1,62 @@
--- What was done of the words of `bac keep` or `bac kept`.
-use Rattle.std.specs.Prelude.{◌≡◌, ◌⊎◌, ◌≤◌, ℕ, List, Option}
+-- What was done of the words of `bac keep`, and by which status `keep` and `kept` end. Read from the end.
+use Rattle.std.specs.Prelude.{◌≡◌, ℕ, List, [], ◌∷◌, codes, Option, None, Some}
 use Rattle.std.specs.List.{All}
+use Rattle.clap.specs.Words.{Text}
+use Rattle.bac_asked.specs.AsLog.{Given, IsAskedBy, log_words}
 use Rattle.bac_asked.specs.Status.{file_status}
-use Rattle.bac_asked.specs.Wanted.{AsksItsSource}
+use Rattle.bac_asked.specs.Wanted.{AddNamed, AsksItsSource}
 use Rattle.bac_asked.specs.declared.fault.FileFault.{FileFault}
 use Rattle.bac_asked.specs.declared.wanted.Wanted.{Wanted}
+use Rattle.bac_fetch.specs.Discovered.{AreFound}
 use Rattle.bac_fetch.specs.Keeps.{AreToldBy}
+use Rattle.bac_fetch.specs.declared.keeping.Chosen.{Chosen}
+use Rattle.bac_fetch.specs.declared.keeping.Chosen.TheVariants as chosen
+use Rattle.bac_ports.specs.Sockets.{SocketRules}
+use Rattle.bac_print.specs.Output.{Held}
+use Rattle.bac_words.specs.declared.job.Keep.{Keep}
+use Rattle.bac_words.specs.declared.job.KeepOptions.{KeepOptions}
 
--- a line for each log that was kept, which was asked of the device that the line names, and the greatest status
-abbrev pub TellsLogs : Option (List ℕ) → Option (List ℕ) → ℕ → Type 0
-TellsLogs before after status =
-    (all : List Wanted) × All AsksItsSource all × AreToldBy before after all (λ ends. Unit {0}) status
+-- the options of `keep` as those by which a log is asked for
+abbrev pub given_of : KeepOptions → Given
+given_of options = record {
+  steps = options.steps;
+  timeout = options.timeout;
+  local = options.local;
+  retries = options.retries;
+  dnet = options.dnet;
+  dadr = options.dadr;
+}
 
--- What was done of the words of `bac keep` or `bac kept`, by the status: logs were kept and told; the file is no use;
--- or help, a mistake in the words, or what a file keeps was printed.
-abbrev pub IsDone : Option (List ℕ) → Option (List ℕ) → ℕ → Type 0
-IsDone before after status =
-    TellsLogs before after status ⊎ (((fault : FileFault) × (status ≡ file_status fault)) ⊎ (status ≤ 1))
+-- With FILE alone those of the file; with ADDRESS those of the device, each asked for as `bac log` with these words asks
+-- for log 0; with INSTANCEs the logs that they name, each once.
+abbrev pub ChoosesBy : Option Text → List Text → Given → Chosen → Type 0
+ChoosesBy None instances given chosen.Kept = Unit {0}
+ChoosesBy (Some address) [] given (chosen.Device like) = IsAskedBy (log_words address (codes "0") given) like
+ChoosesBy (Some address) (instance ∷ more) given (chosen.Named all) =
+    AddNamed address given (instance ∷ more) [] all.items
+ChoosesBy _ _ _ _ = ⊥
+
+-- which logs the words choose
+abbrev pub Chooses : Keep → Chosen → Type 0
+Chooses keep chosen = ChoosesBy keep.address keep.instances (given_of keep.options) chosen
+
+-- logs that were named are these, and no other
+abbrev pub AreThese : Chosen → List Wanted → Type 0
+AreThese (chosen.Named named) all = all ≡ named.items
+AreThese other all = Unit {0}
+
+-- A line for each log that was chosen, which was asked of the device that the line names, and the greatest status. Those
+-- of a device are those of its Object_List, which came over the caller's sockets.
+abbrev pub TellsThese : {S P : Type 0} → SocketRules S P → Chosen → S → Held → Held → ℕ → Type 0
+TellsThese {S = S} rules chosen sockets before after status =
+    (all : List Wanted) × (between : S) × AreThese chosen all × All AsksItsSource all
+    × AreFound rules chosen sockets all between × AreToldBy before after all (λ ends. Unit {0}) status
+
+-- the same of the logs that the words choose
+abbrev pub TellsLogs : {S P : Type 0} → SocketRules S P → Keep → S → Held → Held → ℕ → Type 0
+TellsLogs rules keep sockets before after status =
+    (chosen : Chosen) × Chooses keep chosen × TellsThese rules chosen sockets before after status
+
+-- the status of a file that is no use
+abbrev pub IsOfFile : ℕ → Type 0
+IsOfFile status = (fault : FileFault) × (status ≡ file_status fault)

@@ -1,4 +1,4 @@
--- A text of which a front part was written, the word that is wrong, and a server that isn't up.
+-- A text of which a front part was written, and a server that isn't up.
 use Rattle.std.proofs.Common.{◌≡◌, ℕ, List, [], ◌++◌, ◌⊎◌, inl, inr, Option, None, Some, Result, Ok, Err, OnOk, OnErr, IfSome, if◌then◌else◌, subst, sym, ap, append-nil, append_assoc, ◌∙◌}
 use Rattle.std.specs.Result.{is_ok}
 use Rattle.std.specs.Io.KnownBytes.{Appends}
@@ -16,18 +16,12 @@ use Rattle.bac_tools.specs.Streams.{Streams}
 use Rattle.bac_tools.specs.declared.fault.Fault.{Fault}
 use Rattle.bac_tools.specs.declared.fault.Fault.TheVariants.{Memory, Socket}
 use Rattle.bac_wire.specs.Stamp.{CivilTime}
-use Rattle.bac_words.specs.declared.job.Job.{Job}
-use Rattle.bac_words.specs.declared.word.Word.{Word}
 
 -- the whole of it is a front part too
 pub part : {E : Type 0} (r : Result (Unit {0}) E) (old new : Option (List ℕ)) (text : List ℕ) → OnOk r (Appends old new text)
     → OnErr r (AppendsPart old new text) → AppendsPart old new text
 part (Ok done) old new text whole some = (text, [], sym (append-nil text), whole)
 part (Err fault) old new text whole some = some
-
--- words have one wrong word
-pub same_word : (said : Result Job Word) (v w : Word) → said ≡ Err v → said ≡ Err w → v ≡ w
-same_word said v w p q = cc
 
 -- a text that is appended in two parts
 pub two : {E : Type 0} (r : Result (Unit {0}) E) (old x y z a new : List ℕ) → a ≡ old ++ x → z ≡ y → OnOk r (new ≡ a ++ z)

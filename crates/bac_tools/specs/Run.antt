@@ -1,8 +1,8 @@
 -- What the program does with its words: its streams, its sockets and its clock, before and now. Read from the end.
 use Rattle.std.specs.Prelude.{◌≡◌, ◌≤◌, ◌⊎◌, ℕ, ◌==◌, if◌then◌else◌}
-use Rattle.std.specs.Prelude.{List, [], Option, Some, None, Ok, Err}
+use Rattle.std.specs.Prelude.{List, [], Option, Some, None, Result, Ok, Err}
 use Rattle.std.specs.Io.KnownBytes.{Appends, Keeps}
-use Rattle.clap.specs.Words.{Text, IsAmong}
+use Rattle.clap.specs.Words.{Text, IsAmong, kind_of}
 use Rattle.clap.specs.declared.error.kind.ErrorKind.{ErrorKind}
 use Rattle.clap.specs.declared.error.kind.ErrorKind.TheVariants.{DisplayHelp, DisplayVersion}
 use Rattle.bac_apdu.specs.Service.WriteProperty.{PropertyWrite, write_of_code}
@@ -22,7 +22,7 @@ use Rattle.bac_tools.specs.Status.{exit_status}
 use Rattle.bac_tools.specs.Streams.{Streams, IsIdle, IsQuiet, IsUntouched, outside_of, with_errors}
 use Rattle.bac_tools.specs.Texts.{told_text}
 use Rattle.bac_tools.specs.declared.fault.Fault.{Fault}
-use Rattle.bac_tools.specs.declared.fault.Fault.TheVariants.{BadValue, LongNumber, Memory, Write}
+use Rattle.bac_tools.specs.declared.fault.Fault.TheVariants.{BadValue, LongNumber, OtherTool, Memory, Write}
 use Rattle.bac_walk.specs.Place.{WalkPlace, walk_at, walk_from_oldest}
 use Rattle.bac_wire.specs.Primitive.{Id}
 use Rattle.bac_wire.specs.Stamp.{CivilTime}
@@ -30,6 +30,8 @@ use Rattle.bac_words.specs.Outcome.{mistakes_of, is_long_in, job_in}
 use Rattle.bac_words.specs.declared.job.Given.{Given}
 use Rattle.bac_words.specs.declared.job.Job.{Job}
 use Rattle.bac_words.specs.declared.job.Job.TheVariants as job
+use Rattle.bac_words.specs.declared.fault.WordsFault.{WordsFault}
+use Rattle.bac_words.specs.declared.fault.WordsFault.TheVariants as words
 use Rattle.bac_words.specs.declared.word.Word.{Word}
 use Rattle.bac_words.specs.declared.word.Word.TheVariants.{Instance, From}
 
@@ -80,6 +82,11 @@ setting object_type instance property priority given index =
 
 -- ---- any job
 
+-- nothing is done, since the job is of a tool that has files
+abbrev pub IsElsewhere : {S C : Type 0} → Streams S C → Ending → Streams S C → Type 0
+IsElsewhere old result new =
+    (result ≡ Err OtherTool) × Keeps old.output new.output × (new.input ≡ old.input) × IsIdle old new
+
 -- The tool of a job, before its fault is told. Only `serve` looks at the clock, and tells that it is up.
 abbrev pub Works : {S P C : Type 0} → SocketRules S P → (C → Option CivilTime → C → Type 0) →
     Job → Streams S C → Ending → Streams S C → Type 0
@@ -105,6 +112,8 @@ Works rules tells (job.Wi stations min max dnet local timeout) old result new =
     Finds rules (search_of min max dnet) stations local timeout old.input new.input
     (outside_of old) result (outside_of new)
     × IsQuiet old new
+Works rules tells (job.Keep asked) old result new = IsElsewhere old result new
+Works rules tells (job.Kept asked) old result new = IsElsewhere old result new
 
 -- ---- the status
 
@@ -167,6 +176,17 @@ Corrects old status new =
 abbrev pub Explains : {S C : Type 0} → ErrorKind → Streams S C → ℕ → Streams S C → Type 0
 Explains kind old status new =
     (IsWish kind × Shows old status new) ⊎ ((IsWish kind → ⊥) × Corrects old status new)
+
+-- What is done of words as they were read: their job; or a wrong value is told, or what clap says of them; or that there
+-- is no memory for them.
+abbrev pub RunsRead : {S P C : Type 0} → SocketRules S P → (C → Option CivilTime → C → Type 0) →
+    Result Job WordsFault → Streams S C → ℕ → Streams S C → Type 0
+RunsRead rules tells (Ok asked) old status new = Runs rules tells asked old status new
+RunsRead rules tells (Err (words.BadValue word)) old status new = OnlyTells (BadValue word) old status new
+RunsRead rules tells (Err (words.LongNumber word)) old status new = OnlyTells (LongNumber word) old status new
+RunsRead rules tells (Err (words.Usage error)) old status new =
+    OnlyTells Memory old status new ⊎ (Explains (kind_of error) old status new × IsUntouched old new)
+RunsRead rules tells (Err words.Memory) old status new = OnlyTells Memory old status new
 
 -- Words that ask for no job: their help or their mistake is said, and nothing else is done; or there is no memory for
 -- them.

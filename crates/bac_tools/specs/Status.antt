@@ -4,7 +4,7 @@ use Rattle.std.specs.Prelude.{ℕ}
 use Rattle.bac_link.specs.declared.exchanges.ExchangeFault.{ExchangeFault}
 use Rattle.bac_link.specs.declared.exchanges.ExchangeFault.TheVariants as exchange
 use Rattle.bac_tools.specs.declared.fault.Fault.{Fault}
-use Rattle.bac_tools.specs.declared.fault.Fault.TheVariants.{NotText, BadValue, LongNumber, NoDevice, Script}
+use Rattle.bac_tools.specs.declared.fault.Fault.TheVariants.{NotText, BadValue, LongNumber, OtherTool, NoDevice, Script}
 use Rattle.bac_tools.specs.declared.fault.Fault.TheVariants.{Socket, Refused}
 use Rattle.bac_tools.specs.declared.fault.Fault.TheVariants.{NoAnswer, List, Exchange, Flawed, Silent, Declined}
 use Rattle.bac_tools.specs.declared.fault.Fault.TheVariants.{Write, Memory}
@@ -46,6 +46,7 @@ abbrev pub exit_status : Fault → ℕ
 exit_status NotText = 1
 exit_status (BadValue word) = 1
 exit_status (LongNumber word) = 1
+exit_status OtherTool = 1
 exit_status NoDevice = 1
 exit_status (Script refused) = script_status refused.fault
 exit_status Socket = 2

@@ -12,7 +12,7 @@ use Rattle.bac_script.specs.declared.replay.fault.ReplayFault.TheVariants as scr
 use Rattle.bac_tools.specs.Flaws.{reply_text}
 use Rattle.bac_tools.specs.Reasons.{list_text, second_line, unanswered_text}
 use Rattle.bac_tools.specs.declared.fault.Fault.{Fault}
-use Rattle.bac_tools.specs.declared.fault.Fault.TheVariants.{NotText, BadValue, LongNumber, NoDevice, Script}
+use Rattle.bac_tools.specs.declared.fault.Fault.TheVariants.{NotText, BadValue, LongNumber, OtherTool, NoDevice, Script}
 use Rattle.bac_tools.specs.declared.fault.Fault.TheVariants.{Socket, Refused}
 use Rattle.bac_tools.specs.declared.fault.Fault.TheVariants.{NoAnswer, List as ListOf, Exchange, Flawed}
 use Rattle.bac_tools.specs.declared.fault.Fault.TheVariants.{Silent, Declined, Write, Memory}
@@ -32,7 +32,9 @@ address_range = codes "A.B.C.D or A.B.C.D:PORT, each of A to D from 0 to 255, PO
 
 -- the values that it can have
 abbrev pub range_text : Word → List ℕ
-range_text word.Tool = codes "replay, wi, rp, wp, log or serve"
+range_text word.Tool = codes "replay, wi, rp, wp, log, keep, kept or serve"
+range_text word.File = codes "the name of a file"
+range_text word.Csv = codes "an option without a value"
 range_text word.Address = address_range ++ codes "; for bac wi also with /20 to /32 behind it"
 range_text word.Local = address_range
 range_text word.ObjectType = codes "a number from 0 to 1023"
@@ -125,6 +127,7 @@ unfoldable pub fault_text : Fault → List ℕ
 fault_text NotText = bad_value ++ codes "a word isn't UTF-8"
 fault_text (BadValue w) = wrong_text w
 fault_text (LongNumber w) = long_text w
+fault_text OtherTool = bad_value ++ codes "this program has no keep and no kept"
 fault_text NoDevice = bad_value ++ codes "no device line"
 fault_text (Script refused) = refusal_lines refused
 fault_text Socket = codes "socket fault"

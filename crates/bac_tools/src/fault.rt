@@ -19,6 +19,8 @@ pub enum Fault {
     BadValue(Word),
     /// The same of a number that has over ten digits.
     LongNumber(Word),
+    /// The job is one of `keep` or `kept`, whose files are another crate's.
+    OtherTool,
     /// The configuration describes no device.
     NoDevice,
     /// A script or a configuration is wrong, or a stream refused while it was played; and what is
@@ -86,7 +88,8 @@ impl Fault {
         ensures { result ≡ exit_status self.now }
     {
         match self {
-            Fault::NotText | Fault::BadValue(_) | Fault::LongNumber(_) | Fault::NoDevice => 1,
+            Fault::NotText | Fault::BadValue(_) | Fault::LongNumber(_) => 1,
+            Fault::OtherTool | Fault::NoDevice => 1,
             Fault::Script(refused) => script_status(refused.fault),
             Fault::Socket | Fault::Refused(_) | Fault::NoAnswer(_) => 2,
             Fault::Silent(_) | Fault::Write => 2,

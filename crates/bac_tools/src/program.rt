@@ -5,7 +5,7 @@ ghost use Rattle.std.specs.Io.KnownBytes.{Appends};
 ghost use Rattle.std.specs.String.{string_bytes};
 ghost use Rattle.clap.specs.Values.{kind_of};
 ghost use Rattle.bac_print.specs.Output.{AppendsPart};
-ghost use Rattle.bac_tools.specs.Run.{AnswersWords, AreWrong, AskFor, Explains, IsNoWalk, IsOutside, IsTold, OnlyTells, Runs, Works, priority_of, walk_from, wrong_fault};
+ghost use Rattle.bac_tools.specs.Run.{AnswersWords, AreWrong, AskFor, Explains, IsNoWalk, IsOutside, IsTold, OnlyTells, Runs, RunsRead, Works, priority_of, walk_from, wrong_fault};
 ghost use Rattle.bac_ports.specs.Sockets.{socket_rules};
 ghost use Rattle.bac_tools.specs.Streams.{streams};
 ghost use Rattle.bac_words.specs.Outcome.{mistakes_of};
@@ -139,6 +139,8 @@ fn work<S: Sockets, I: Read, O: Write, E: Write, C: Clock>(
             from,
             steps,
         } => log(sockets, alloc, asked, walk(instance, from)?, steps, output),
+        Job::Keep(_keep) => Err(Fault::OtherTool),
+        Job::Kept(_kept) => Err(Fault::OtherTool),
         Job::Serve { address, count } => serve(
             sockets, alloc, address, count, input, errors, clock,
         ),
@@ -192,9 +194,38 @@ fn explain<O: Write, E: Write>(
     0
 }
 
-/// The program `bac`: does what its words ask for, the first of which is its name, and answers the
-/// exit status. Results and help go to the output; faults, and the line of a server that is up, go
-/// to the errors. Each is one write.
+/// Does what words ask for as they were read, as [`run`] does: for a program that has other tools
+/// too.
+pub fn run_read<S: Sockets, I: Read, O: Write, E: Write, C: Clock>(
+    sockets: &mut S,
+    alloc: Global,
+    read: Result<Job, WordsFault>,
+    input: &mut I,
+    output: &mut O,
+    errors: &mut E,
+    clock: &mut C,
+) -> u8
+    ensures { RunsRead (socket_rules S.opens S.closes S.Socket.sends S.Socket.receives S.Socket.receives_within) C.tells read
+        (streams (I.remaining input.old) (O.contents output.old) (E.contents errors.old) sockets.old clock.old) result
+        (streams (I.remaining input.new) (O.contents output.new) (E.contents errors.new) sockets.new clock.new) }
+{
+    let job = match read {
+        Ok(job) => job,
+        Err(WordsFault::Usage(error)) => return explain(alloc, &error, output, errors),
+        Err(WordsFault::BadValue(word)) => return tell(alloc, Fault::BadValue(word), errors),
+        Err(WordsFault::LongNumber(word)) => return tell(alloc, Fault::LongNumber(word), errors),
+        Err(WordsFault::Memory) => return tell(alloc, Fault::Memory, errors),
+    };
+    match work(sockets, alloc, job, input, output, errors, clock) {
+        Ok(status) => status,
+        Err(fault) => tell(alloc, fault, errors),
+    }
+}
+
+/// The program `bac` without its files: does what its words ask for, the first of which is its name,
+/// and answers the exit status; `keep` and `kept` are refused as tools of another crate. Results and
+/// help go to the output; faults, and the line of a server that is up, go to the errors. Each is one
+/// write.
 pub fn run<S: Sockets, I: Read, O: Write, E: Write, C: Clock>(
     sockets: &mut S,
     alloc: Global,
@@ -220,15 +251,6 @@ pub fn run<S: Sockets, I: Read, O: Write, E: Write, C: Clock>(
         (streams (I.remaining input.old) (O.contents output.old) (E.contents errors.old) sockets.old clock.old) result
         (streams (I.remaining input.new) (O.contents output.new) (E.contents errors.new) sockets.new clock.new) }
 {
-    let job = match read_words(alloc, words) {
-        Ok(job) => job,
-        Err(WordsFault::Usage(error)) => return explain(alloc, &error, output, errors),
-        Err(WordsFault::BadValue(word)) => return tell(alloc, Fault::BadValue(word), errors),
-        Err(WordsFault::LongNumber(word)) => return tell(alloc, Fault::LongNumber(word), errors),
-        Err(WordsFault::Memory) => return tell(alloc, Fault::Memory, errors),
-    };
-    match work(sockets, alloc, job, input, output, errors, clock) {
-        Ok(status) => status,
-        Err(fault) => tell(alloc, fault, errors),
-    }
+    let read = read_words(alloc, words);
+    run_read(sockets, alloc, read, input, output, errors, clock)
 }

@@ -24,7 +24,9 @@ fn range_of<'a>(word: Word) -> &'a str
     ensures { result.now ≡ range_text word }
 {
     match word {
-        Word::Tool => "replay, wi, rp, wp, log or serve",
+        Word::Tool => "replay, wi, rp, wp, log, keep, kept or serve",
+        Word::File => "the name of a file",
+        Word::Csv => "an option without a value",
         Word::Address =>
             "A.B.C.D or A.B.C.D:PORT, each of A to D from 0 to 255, PORT from 1 to 65535; for bac wi \
              also with /20 to /32 behind it",
@@ -195,6 +197,9 @@ fn push_fault(text: &mut Vec<u8>, fault: Fault) -> Result<(), AllocError>
         Fault::NotText => text.extend_from_slice(b"bad value\na word isn't UTF-8"),
         Fault::BadValue(word) => push_wrong(text, word),
         Fault::LongNumber(word) => push_long(text, word),
+        Fault::OtherTool => text.extend_from_slice(
+            b"bad value\nthis program has no keep and no kept",
+        ),
         Fault::NoDevice => text.extend_from_slice(b"bad value\nno device line"),
         Fault::Script(refused) => push_refused(text, refused),
         Fault::Socket => text.extend_from_slice(b"socket fault"),

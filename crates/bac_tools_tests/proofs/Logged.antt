@@ -29,7 +29,7 @@ use Rattle.bac_ports.specs.Sockets.{SocketRules, UsesSocket, link_over, own_addr
 use Rattle.bac_tools.specs.Status.{exchange_status, exit_status, list_status, script_status, walk_status}
 use Rattle.bac_tools.specs.Streams.{Streams}
 use Rattle.bac_tools.specs.declared.fault.Fault.{Fault}
-use Rattle.bac_tools.specs.declared.fault.Fault.TheVariants.{NotText, BadValue, LongNumber, NoDevice, Script, Socket, Refused}
+use Rattle.bac_tools.specs.declared.fault.Fault.TheVariants.{NotText, BadValue, LongNumber, OtherTool, NoDevice, Script, Socket, Refused}
 use Rattle.bac_tools.specs.declared.fault.Fault.TheVariants.{NoAnswer, List as ListOf, Exchange, Flawed, Silent, Declined, Write, Memory}
 use Rattle.bac_tools_tests.proofs.AtRest.{few_batches, few_lines, leads_bring}
 use Rattle.bac_tools_tests.specs.Logging.{IsCut, IsLogged, IsLoggedAtRest, PrintsAll}
@@ -77,6 +77,7 @@ no_fault : (fault : Fault) → exit_status fault ≡ 0 → ⊥
 no_fault NotText e = omega (arith, e)
 no_fault (BadValue word) e = omega (arith, e)
 no_fault (LongNumber word) e = omega (arith, e)
+no_fault OtherTool e = omega (arith, e)
 no_fault NoDevice e = omega (arith, e)
 no_fault (Script refused) e = no_script refused.fault e
 no_fault Socket e = omega (arith, e)

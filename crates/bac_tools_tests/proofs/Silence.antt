@@ -301,6 +301,7 @@ configured_not input left fault.NoDevice is e = absurd (cc)
 configured_not input left (fault.Script refused) is e = absurd (cc)
 configured_not input left fault.Socket is e = is
 configured_not input left fault.NotText is e = absurd (cc)
+configured_not input left fault.OtherTool is e = absurd (cc)
 configured_not input left (fault.BadValue word) is e = absurd (cc)
 configured_not input left (fault.LongNumber word) is e = absurd (cc)
 configured_not input left (fault.Refused address) is e = absurd (cc)

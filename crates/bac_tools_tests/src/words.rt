@@ -62,6 +62,16 @@ fn each_tool_with_its_defaults(rt: HostRuntime) -> Result<(), Fail> {
                  timeout: 3000, retries: 3, route: None }, instance: 1, from: None, steps: 1000 }",
             ),
             (
+                "keep a.db",
+                "Keep(Keep { file: Name { text: \"a.db\" }, address: None, instances: Names { list: [] }, \
+                 options: KeepOptions { steps: None, timeout: None, local: None, retries: None, \
+                 dnet: None, dadr: None } })",
+            ),
+            (
+                "kept a.db",
+                "Kept(Kept { file: Name { text: \"a.db\" }, address: None, instance: None, csv: false })",
+            ),
+            (
                 "serve 10.0.0.1",
                 "Serve { address: [10, 0, 0, 1, 186, 192], count: 4294967295 }",
             ),
@@ -144,6 +154,29 @@ fn each_tool_with_the_greatest_values(rt: HostRuntime) -> Result<(), Fail> {
             (
                 "serve 255.255.255.255:65535 --count=4294967295",
                 "Serve { address: [255, 255, 255, 255, 255, 255], count: 4294967295 }",
+            ),
+        ],
+    )
+}
+
+#[test]
+fn keep_and_kept_have_their_texts(rt: HostRuntime) -> Result<(), Fail> {
+    compare(
+        &rt,
+        &[
+            (
+                "keep a.db 10.0.0.1 1 x --steps=5 --timeout=0 --local=b --retries=c --dnet=d --dadr=e",
+                "Keep(Keep { file: Name { text: \"a.db\" }, address: Some(Name { text: \"10.0.0.1\" }), \
+                 instances: Names { list: [Name { text: \"1\" }, Name { text: \"x\" }] }, \
+                 options: KeepOptions { steps: Some(Name { text: \"5\" }), \
+                 timeout: Some(Name { text: \"0\" }), local: Some(Name { text: \"b\" }), \
+                 retries: Some(Name { text: \"c\" }), dnet: Some(Name { text: \"d\" }), \
+                 dadr: Some(Name { text: \"e\" }) } })",
+            ),
+            (
+                "kept a.db 10.0.0.1 1 --csv",
+                "Kept(Kept { file: Name { text: \"a.db\" }, address: Some(Name { text: \"10.0.0.1\" }), \
+                 instance: Some(Name { text: \"1\" }), csv: true })",
             ),
         ],
     )

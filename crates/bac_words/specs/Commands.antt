@@ -3,12 +3,13 @@
 use Rattle.std.specs.Prelude.{◌≡◌, true, false, List, [], ◌∷◌, ◌++◌, Some, codes, ◌||◌}
 use Rattle.clap.specs.Lexer.{usize_max}
 use Rattle.clap.specs.Words.{App, Rule, Text, app_of, new_app, new_rule, with_rule, with_subcommand}
+use Rattle.clap.specs.declared.builder.action.ArgAction.TheVariants.{SetTrue}
 use Rattle.clap.specs.declared.builder.command.Command.{Command}
 use Rattle.clap.specs.declared.builder.command.Command.TheViews.{out-Command}
 use Rattle.bac_words.specs.declared.word.Word.{Word}
-use Rattle.bac_words.specs.declared.word.Word.TheVariants.{Address, ObjectType, Instance, Property, Priority, Tag, From}
+use Rattle.bac_words.specs.declared.word.Word.TheVariants.{Address, ObjectType, Instance, Property, Priority, Tag, From, File}
 use Rattle.bac_words.specs.declared.word.Word.TheVariants.{Index, Value, Min, Max, Steps, Count, Local, Timeout}
-use Rattle.bac_words.specs.declared.word.Word.TheVariants.{Retries, Dnet, Dadr}
+use Rattle.bac_words.specs.declared.word.Word.TheVariants.{Retries, Dnet, Dadr, Csv}
 use Rattle.bac_words.specs.Names.{name_of}
 
 -- NAME, a word that has to be there
@@ -19,6 +20,14 @@ needed w = record (new_rule (name_of w)) { required = true }
 abbrev pub needed_list : Word → Rule
 needed_list w = record (needed w) { range = Some (record { start_inclusive = 1; end_inclusive = usize_max }) }
 
+-- [NAME], a word that may be there
+abbrev pub maybe : Word → Rule
+maybe w = new_rule (name_of w)
+
+-- [NAME].., any number of them
+abbrev pub maybe_list : Word → Rule
+maybe_list w = record (maybe w) { range = Some (record { start_inclusive = 0; end_inclusive = usize_max }) }
+
 -- [--NAME=VALUE]
 abbrev pub option : Word → Rule
 option w = record (new_rule (name_of w)) { long = Some (name_of w); value_names = 1 }
@@ -26,6 +35,10 @@ option w = record (new_rule (name_of w)) { long = Some (name_of w); value_names 
 -- the same, with a value if none is given
 abbrev pub option_or : Word → Text → Rule
 option_or w default = record (option w) { defaults = default ∷ [] }
+
+-- [--NAME]
+abbrev pub flag : Word → Rule
+flag w = record (new_rule (name_of w)) { long = Some (name_of w); action = Some SetTrue }
 
 -- [--timeout=MS] [--local=ADDRESS]
 abbrev pub timeout_rules : List Rule
@@ -38,6 +51,10 @@ route_rules = option Dnet ∷ option Dadr ∷ []
 -- those of a wait, [--retries=N] and those of a route
 abbrev pub asking_rules : List Rule
 asking_rules = timeout_rules ++ option_or Retries (codes "3") ∷ route_rules
+
+-- the same without defaults
+abbrev pub keeping_rules : List Rule
+keeping_rules = option Timeout ∷ option Local ∷ option Retries ∷ route_rules
 
 -- ADDRESS TYPE INSTANCE PROPERTY
 abbrev pub property_rules : List Rule
@@ -70,6 +87,15 @@ abbrev pub log_app : App
 log_app = with_rules (new_app (codes "log"))
     (needed Address ∷ needed Instance ∷ needed From ∷ option_or Steps (codes "1000") ∷ asking_rules)
 
+-- bac keep FILE [ADDRESS [INSTANCE..]] [--steps=N]
+abbrev pub keep_app : App
+keep_app = with_rules (new_app (codes "keep"))
+    (needed File ∷ maybe Address ∷ maybe_list Instance ∷ option Steps ∷ keeping_rules)
+
+-- bac kept FILE [ADDRESS [INSTANCE]] [--csv]
+abbrev pub kept_app : App
+kept_app = with_rules (new_app (codes "kept")) (needed File ∷ maybe Address ∷ maybe Instance ∷ flag Csv ∷ [])
+
 -- bac serve ADDRESS [--count=N]
 abbrev pub serve_app : App
 serve_app = with_rules (new_app (codes "serve")) (needed Address ∷ option_or Count (codes "4294967295") ∷ [])
@@ -82,8 +108,9 @@ top_app = record (new_app (codes "bac")) {
 
 -- bac with its tools
 abbrev pub bac_app : App
-bac_app = with_subcommand (with_subcommand (with_subcommand (with_subcommand (with_subcommand (with_subcommand top_app
-    replay_app.top) wi_app.top) rp_app.top) wp_app.top) log_app.top) serve_app.top
+bac_app = with_subcommand (with_subcommand (with_subcommand (with_subcommand (with_subcommand (with_subcommand
+    (with_subcommand (with_subcommand top_app replay_app.top) wi_app.top) rp_app.top) wp_app.top) log_app.top)
+    keep_app.top) kept_app.top) serve_app.top
 
 -- the command is the one that is written down
 pub record IsCommand (a : App) (c : Command) : Type 0 where

@@ -4,14 +4,17 @@ use Rattle.std.specs.Option.{ok_or}
 use Rattle.std.specs.Str.{bytes_eq}
 use Rattle.clap.specs.Words.{Row, Text}
 use Rattle.bac_words.specs.declared.word.Word.{Word}
-use Rattle.bac_words.specs.declared.word.Word.TheVariants.{Tool, ObjectType, Instance, Property, Priority, Tag, From}
-use Rattle.bac_words.specs.declared.word.Word.TheVariants.{Index, Value, Min, Max, Steps, Count, Timeout, Retries, Dnet}
+use Rattle.bac_words.specs.declared.word.Word.TheVariants.{Tool, Address, ObjectType, Instance, Property, Priority, Tag}
+use Rattle.bac_words.specs.declared.word.Word.TheVariants.{From, File, Index, Value, Min, Max, Steps, Count, Local, Timeout}
+use Rattle.bac_words.specs.declared.word.Word.TheVariants.{Retries, Dnet, Dadr, Csv}
 use Rattle.bac_words.specs.declared.job.Job.{Job}
 use Rattle.bac_words.specs.declared.job.Job.TheVariants.{Replay, Wi, Rp, Wp, Log, Serve}
+use Rattle.bac_words.specs.declared.job.Job.TheVariants as job
 use Rattle.bac_words.specs.declared.job.Asked.{Asked}
 use Rattle.bac_words.specs.declared.job.Given.{Given}
+use Rattle.bac_words.specs.declared.job.KeepOptions.{KeepOptions}
 use Rattle.bac_words.specs.Numbers.{number_in}
-use Rattle.bac_words.specs.Rows.{text_at, number_at, maybe_number_at, address_at, local_at, stations_at, route_at}
+use Rattle.bac_words.specs.Rows.{text_at, texts_at, is_said, number_at, maybe_number_at, address_at, local_at, stations_at, route_at}
 use Rattle.bac_words.specs.Given.{is_tag, given_in}
 use Rattle.bac_words.specs.Steps.{◌>>=◌}
 
@@ -95,6 +98,43 @@ log_at rows = do
   steps ← number_at Steps 0 4294967295 rows
   Ok (Log asked instance from steps)
 
+-- the file of `keep` and `kept`
+abbrev pub file_at : List Row → Result Text Word
+file_at rows = ok_or (text_at File rows) File
+
+-- the texts of the options of `keep`
+abbrev pub keep_options_at : List Row → KeepOptions
+keep_options_at rows = record {
+  steps = text_at Steps rows;
+  timeout = text_at Timeout rows;
+  local = text_at Local rows;
+  retries = text_at Retries rows;
+  dnet = text_at Dnet rows;
+  dadr = text_at Dadr rows;
+}
+
+-- bac keep: its texts, which are read by the rules of `log` for each log
+unfoldable pub keep_at : List Row → Result Job Word
+keep_at rows = do
+  file ← file_at rows
+  Ok (job.Keep (record {
+    file = file;
+    address = text_at Address rows;
+    instances = texts_at Instance rows;
+    options = keep_options_at rows;
+  }))
+
+-- bac kept
+unfoldable pub kept_at : List Row → Result Job Word
+kept_at rows = do
+  file ← file_at rows
+  Ok (job.Kept (record {
+    file = file;
+    address = text_at Address rows;
+    instance = text_at Instance rows;
+    csv = is_said Csv rows;
+  }))
+
 -- bac serve
 unfoldable pub serve_at : List Row → Result Job Word
 serve_at rows = do
@@ -110,6 +150,8 @@ job_of_tool tool rows =
     if bytes_eq tool (codes "rp") then rp_at rows else
     if bytes_eq tool (codes "wp") then wp_at rows else
     if bytes_eq tool (codes "log") then log_at rows else
+    if bytes_eq tool (codes "keep") then keep_at rows else
+    if bytes_eq tool (codes "kept") then kept_at rows else
     if bytes_eq tool (codes "serve") then serve_at rows else Err Tool
 
 -- of the tool that the words name, and of its rows: an id and its values each

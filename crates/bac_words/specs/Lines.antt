@@ -4,6 +4,7 @@ use Rattle.clap.specs.Words.{Text, Kinds}
 use Rattle.bac_words.specs.declared.word.Word.{Word}
 use Rattle.bac_words.specs.declared.job.Job.{Job}
 use Rattle.bac_words.specs.declared.job.Asked.{Asked}
+use Rattle.bac_words.specs.declared.job.KeepOptions.{KeepOptions}
 use Rattle.bac_words.specs.Outcome.{mistakes_of, job_in}
 
 -- the character goes before the first word
@@ -35,3 +36,7 @@ by_default = record { address = station; local = None; timeout = 3000; retries =
 -- the same with a place behind that station
 abbrev pub by_way : ℕ → List ℕ → Asked
 by_way net mac = record by_default { route = Some (record { net = net; address = mac }) }
+
+-- no option of `keep`
+abbrev pub no_options : KeepOptions
+no_options = record { steps = None; timeout = None; local = None; retries = None; dnet = None; dadr = None }

@@ -3,8 +3,8 @@ use Rattle.std.specs.Prelude.{Bool, true, false, codes}
 use Rattle.clap.specs.Words.{Text}
 use Rattle.bac_words.specs.declared.word.Word.{Word}
 use Rattle.bac_words.specs.declared.word.Word.TheVariants.{Tool, Address, ObjectType, Instance, Property, Priority, Tag}
-use Rattle.bac_words.specs.declared.word.Word.TheVariants.{From, Index, Value, Min, Max, Steps, Count, Local, Timeout}
-use Rattle.bac_words.specs.declared.word.Word.TheVariants.{Retries, Dnet, Dadr}
+use Rattle.bac_words.specs.declared.word.Word.TheVariants.{From, File, Index, Value, Min, Max, Steps, Count, Local}
+use Rattle.bac_words.specs.declared.word.Word.TheVariants.{Timeout, Retries, Dnet, Dadr, Csv}
 
 -- a word's name in the help; an option's, without its --
 abbrev pub name_of : Word → Text
@@ -16,19 +16,21 @@ name_of Property = codes "PROPERTY"
 name_of Priority = codes "PRIORITY"
 name_of Tag = codes "TAG"
 name_of From = codes "FROM"
+name_of File = codes "FILE"
 name_of Index = codes "index"
 name_of Value = codes "value"
 name_of Min = codes "min"
 name_of Max = codes "max"
 name_of Steps = codes "steps"
 name_of Count = codes "count"
+name_of Csv = codes "csv"
 name_of Local = codes "local"
 name_of Timeout = codes "timeout"
 name_of Retries = codes "retries"
 name_of Dnet = codes "dnet"
 name_of Dadr = codes "dadr"
 
--- whether it is an option, --NAME=VALUE
+-- whether it is an option, --NAME=VALUE or --NAME
 abbrev pub is_option : Word → Bool
 is_option Index = true
 is_option Value = true
@@ -36,6 +38,7 @@ is_option Min = true
 is_option Max = true
 is_option Steps = true
 is_option Count = true
+is_option Csv = true
 is_option Local = true
 is_option Timeout = true
 is_option Retries = true
@@ -47,6 +50,8 @@ is_option other = false
 abbrev pub is_number : Word → Bool
 is_number Tool = false
 is_number Address = false
+is_number File = false
+is_number Csv = false
 is_number Local = false
 is_number Value = false
 is_number Dadr = false

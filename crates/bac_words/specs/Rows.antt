@@ -21,6 +21,19 @@ use Rattle.bac_words.specs.Steps.{◌>>=◌}
 abbrev pub text_at : Word → List Row → Option Text
 text_at w rows = first_of (name_of w) rows
 
+-- what several words say, each
+abbrev pub texts_at : Word → List Row → List Text
+texts_at w rows = unwrap_or (all_of (name_of w) rows) []
+
+-- the text that stands for an option without a value that was given
+abbrev pub is_true_text : Option Text → Bool
+is_true_text None = false
+is_true_text (Some text) = bytes_eq text (codes "true")
+
+-- an option without a value was given
+abbrev pub is_said : Word → List Row → Bool
+is_said w rows = is_true_text (text_at w rows)
+
 -- the word of a number is digits alone, and more than a number has
 abbrev pub is_long_text : Word → Option Text → Bool
 is_long_text w None = false
@@ -69,7 +82,7 @@ stations_in texts =
 
 -- the stations of a list of them
 abbrev pub stations_at : List Row → Result Stations Word
-stations_at rows = stations_in (unwrap_or (all_of (name_of Address) rows) [])
+stations_at rows = stations_in (texts_at Address rows)
 
 -- an address on a network behind a router: 1 to 15 octets, in two hexadecimal digits each
 unfoldable pub mac_in : List ℕ → Option (List ℕ)

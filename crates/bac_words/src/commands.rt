@@ -3,10 +3,10 @@
 ghost use Rattle.std.specs.Prelude.{◌≡◌, ◌++◌, ◌∷◌, [], IfOk, false, codes};
 ghost use Rattle.clap.specs.declared.builder.command.Command.TheViews.{out-Command};
 ghost use Rattle.clap.specs.Words.{rule_of, new_app};
-ghost use Rattle.bac_words.specs.Commands.{needed, needed_list, option, option_or, timeout_rules, route_rules, asking_rules, property_rules, wi_app, rp_app, wp_app, log_app, serve_app, bac_app, top_app, IsCommand, Extends, AddsTool};
+ghost use Rattle.bac_words.specs.Commands.{needed, needed_list, maybe, maybe_list, option, option_or, flag, timeout_rules, route_rules, asking_rules, keeping_rules, property_rules, wi_app, rp_app, wp_app, log_app, keep_app, kept_app, serve_app, bac_app, top_app, IsCommand, Extends, AddsTool};
 
 use crate::word::Word;
-use clap::{Arg, Command};
+use clap::{Arg, ArgAction, Command};
 use std::alloc::{AllocError, Global};
 
 /// A text, and what the numbers of a refusal mean.
@@ -78,6 +78,33 @@ fn needed_list<'a>(alloc: Global, word: Word, help: &'a str) -> Arg<'a>
         .help(help)
 }
 
+/// A word that may be there.
+fn maybe<'a>(alloc: Global, word: Word, help: &'a str) -> Arg<'a>
+    ensures rule { rule_of result ≡ maybe word }
+    ensures local { result.global ≡ false }
+{
+    Arg::new(alloc, word.name()).help(help)
+}
+
+/// Any number of such words.
+fn maybe_list<'a>(alloc: Global, word: Word, help: &'a str) -> Arg<'a>
+    ensures rule { rule_of result ≡ maybe_list word }
+    ensures local { result.global ≡ false }
+{
+    Arg::new(alloc, word.name()).num_args(0..).help(help)
+}
+
+/// An option `--NAME`.
+fn flag<'a>(alloc: Global, word: Word, help: &'a str) -> Arg<'a>
+    ensures rule { rule_of result ≡ flag word }
+    ensures local { result.global ≡ false }
+{
+    Arg::new(alloc, word.name())
+        .long(word.name())
+        .action(ArgAction::SetTrue)
+        .help(help)
+}
+
 /// An option `--NAME=VALUE`.
 fn option<'a>(alloc: Global, word: Word, value: &'a str, help: &'a str) -> Arg<'a>
     ensures rule { rule_of result ≡ option word }
@@ -142,6 +169,19 @@ fn with_asking<'a>(alloc: Global, command: Command<'a>) -> Result<Command<'a>, A
     let command = with_timeout(alloc, command)?;
     let help = "How many times to ask again: 0 to 10";
     let command = with(command, option_or(alloc, Word::Retries, "N", "3", help))?;
+    with_route(alloc, command)
+}
+
+/// The same without defaults.
+fn with_keeping<'a>(alloc: Global, command: Command<'a>) -> Result<Command<'a>, AllocError>
+    ensures { IfOk result (Extends command.entry keeping_rules) }
+{
+    let help = "Wait for an answer: 1 to 60000 ms; 3000 if left out";
+    let command = with(command, option(alloc, Word::Timeout, "MS", help))?;
+    let help = "Our own address and port; any where it is left out";
+    let command = with(command, option(alloc, Word::Local, "ADDRESS", help))?;
+    let help = "How many times to ask again: 0 to 10; 3 if left out";
+    let command = with(command, option(alloc, Word::Retries, "N", help))?;
     with_route(alloc, command)
 }
 
@@ -274,6 +314,52 @@ printed with its class and its code:"
     with_asking(alloc, command)
 }
 
+fn keep<'a>(alloc: Global) -> Result<Command<'a>, AllocError>
+    ensures { IfOk result (IsCommand keep_app) }
+{
+    let about = "Keep the records of trend logs in a database file, each once";
+    let example = "Example: bac keep site.db 192.168.1.20 1 2
+adds trend logs 1 and 2 of that device to site.db and fetches their records:
+
+  192.168.1.20:47808 1 120 records 0 gaps caught up, next 121
+  192.168.1.20:47808 2 88 records 1 gap caught up, next 447
+
+Without INSTANCE it adds each trend log of the device's Object_List, and
+bac keep site.db fetches what is new of each log in the file. sqlite3 reads it.
+
+Status: the greatest of its logs' as bac log has them, but 8 for a step limit;
+6 the file isn't an archive, can't be read or written, or is full; 7 another
+program has it open.";
+    let command = tool(alloc, "keep", about, example);
+    let command = with(command, needed(alloc, Word::File, "The database file"))?;
+    let help = "The device: A.B.C.D or A.B.C.D:PORT (port 47808)";
+    let command = with(command, maybe(alloc, Word::Address, help))?;
+    let help = "The trend logs' instances: 0 to 4194303";
+    let command = with(command, maybe_list(alloc, Word::Instance, help))?;
+    let help = "Batches of up to 100 records a log; all if left out";
+    let command = with(command, option(alloc, Word::Steps, "N", help))?;
+    with_keeping(alloc, command)
+}
+
+fn kept<'a>(alloc: Global) -> Result<Command<'a>, AllocError>
+    ensures { IfOk result (IsCommand kept_app) }
+{
+    let about = "Print what a database file keeps of trend logs";
+    let example = "Example: bac kept site.db 192.168.1.20 1
+prints each record and each gap of trend log 1, in the lines of bac log.
+
+bac kept site.db --csv prints all logs as CSV: address, trend_log, name, epoch,
+number, stamp, value, datum, flags; in the row of a gap datum is gap FIRST LAST.";
+    let command = tool(alloc, "kept", about, example);
+    let command = with(command, needed(alloc, Word::File, "The database file"))?;
+    let help = "The device: A.B.C.D or A.B.C.D:PORT (port 47808)";
+    let command = with(command, maybe(alloc, Word::Address, help))?;
+    let help = "The trend log's instance: 0 to 4194303";
+    let command = with(command, maybe(alloc, Word::Instance, help))?;
+    let help = "As CSV, with a first row of names";
+    with(command, flag(alloc, Word::Csv, help))
+}
+
 fn serve<'a>(alloc: Global) -> Result<Command<'a>, AllocError>
     ensures { IfOk result (IsCommand serve_app) }
 {
@@ -301,13 +387,13 @@ fn top<'a>(alloc: Global) -> Command<'a>
         .after_help(
             "Example: bac wi 192.168.1.20
 prints the device at that address; bac rp, bac wp and bac log then speak to it.
+bac keep keeps trend logs in a database file, each record once.
 bac help log, or bac log --help, tells what a tool takes, with an example.
 
-bac keep and bac kept keep trend logs in a database file, each record once:
-bac keep --help and bac kept --help tell what they take.
-
 Status: 0 done, 1 usage, a bad value or a bad script, 2 no answer, or a read,
-write or socket fault, 3 refused by the device, 4 bad reply, 5 out of memory.",
+write or socket fault, 3 refused by the device, 4 bad reply, 5 out of memory;
+of bac keep and bac kept also 6 the file isn't an archive, can't be read or
+written, or is full, 7 another program has it open, 8 a step limit.",
         )
 }
 
@@ -328,5 +414,7 @@ pub(crate) fn command<'a>(alloc: Global) -> Result<Command<'a>, AllocError>
     let command = with_tool(command, rp(alloc)?)?;
     let command = with_tool(command, wp(alloc)?)?;
     let command = with_tool(command, log(alloc)?)?;
+    let command = with_tool(command, keep(alloc)?)?;
+    let command = with_tool(command, kept(alloc)?)?;
     with_tool(command, serve(alloc)?)
 }

@@ -2,6 +2,7 @@
 
 use crate::addresses::Addresses;
 use crate::name::Name;
+use crate::names::Names;
 use bac_apdu::Route;
 
 /// What the tools that ask one device have in common.
@@ -41,6 +42,49 @@ pub enum Stations {
     Listed(Addresses),
     /// Those of the lines of standard input.
     Input,
+}
+
+/// The texts of the options of `bac keep`, where they were given: for each log they are read by the
+/// rules of `bac log`.
+#[derive(Debug, Drop)]
+pub struct KeepOptions {
+    /// How many batches of a log.
+    pub steps: Option<Name>,
+    /// How long to wait for an answer.
+    pub timeout: Option<Name>,
+    /// Our own address.
+    pub local: Option<Name>,
+    /// How many times to ask again.
+    pub retries: Option<Name>,
+    /// The network of a device behind a router.
+    pub dnet: Option<Name>,
+    /// The device's address there.
+    pub dadr: Option<Name>,
+}
+
+/// Which trend logs a file is to keep, as the words say them.
+#[derive(Debug, Drop)]
+pub struct Keep {
+    /// The database file.
+    pub file: Name,
+    /// The device; each log of the file if it is absent.
+    pub address: Option<Name>,
+    /// The logs of the device; each of its Object_List if there are none.
+    pub instances: Names,
+    pub options: KeepOptions,
+}
+
+/// Which trend logs of a file are to be printed, as the words say them.
+#[derive(Debug, Drop)]
+pub struct Kept {
+    /// The database file.
+    pub file: Name,
+    /// The device; each log of the file if it is absent.
+    pub address: Option<Name>,
+    /// The log of the device; each if it is absent.
+    pub instance: Option<Name>,
+    /// As CSV.
+    pub csv: bool,
 }
 
 /// A tool with its words and options; an option that wasn't given has its default, or is absent.
@@ -83,6 +127,10 @@ pub enum Job {
         from: Option<u32>,
         steps: u32,
     },
+    /// `bac keep`
+    Keep(Keep),
+    /// `bac kept`
+    Kept(Kept),
     /// `bac serve`
     Serve {
         address: [u8; 6],

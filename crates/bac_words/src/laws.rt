@@ -1,13 +1,13 @@
 //! Laws about the definitions. Each is a function with an empty body, whose contract is the law.
 #![tactic(auto, unfolding(crate::proofs::OnLiterals::line_on_literals))]
 
-ghost use Rattle.std.specs.Prelude.{[], ◌∷◌, codes, None, Some, Ok, Err, negsuc};
+ghost use Rattle.std.specs.Prelude.{[], ◌∷◌, codes, None, Some, Ok, Err, negsuc, false, true};
 ghost use Rattle.clap.specs.declared.error.kind.ErrorKind.TheVariants.{MissingRequiredArgument, MissingSubcommand, UnknownArgument, ArgumentConflict, DisplayHelp};
 ghost use Rattle.bac_words.specs.declared.word.Word.TheVariants.{Address, From, Max, Retries, Dnet, Dadr};
-ghost use Rattle.bac_words.specs.declared.job.Job.TheVariants.{Replay, Wi, Rp, Wp, Log, Serve};
+ghost use Rattle.bac_words.specs.declared.job.Job.TheVariants.{Replay, Wi, Rp, Wp, Log, Keep, Kept, Serve};
 ghost use Rattle.bac_words.specs.declared.job.Given.TheVariants.{Null, Signed};
 ghost use Rattle.bac_words.specs.declared.job.Stations.TheVariants.{Input, Listed};
-ghost use Rattle.bac_words.specs.Lines.{Says, Mistakes, station, by_default, by_way};
+ghost use Rattle.bac_words.specs.Lines.{Says, Mistakes, station, by_default, by_way, no_options};
 
 /// A line of each tool, and the job that it asks for.
 pub fn lines_say_jobs()
@@ -26,6 +26,19 @@ pub fn lines_say_jobs()
         (Ok (Wp by_default 5 1 87 0 Null (Some 8))) }
     ensures log { Says (codes "bac log 10.0.0.1 7 oldest") (Ok (Log by_default 7 None 1000)) }
     ensures number { Says (codes "bac log 10.0.0.1 7 43") (Ok (Log by_default 7 (Some 43) 1000)) }
+    ensures keep { Says (codes "bac keep a.db")
+        (Ok (Keep (record { file = codes "a.db"; address = None; instances = []; options = no_options }))) }
+    ensures named { Says (codes "bac keep a.db 10.0.0.1 1 2 --steps=5")
+        (Ok (Keep (record {
+          file = codes "a.db";
+          address = Some (codes "10.0.0.1");
+          instances = codes "1" ∷ codes "2" ∷ [];
+          options = record no_options { steps = Some (codes "5") };
+        }))) }
+    ensures kept { Says (codes "bac kept a.db 10.0.0.1")
+        (Ok (Kept (record { file = codes "a.db"; address = Some (codes "10.0.0.1"); instance = None; csv = false }))) }
+    ensures csv { Says (codes "bac kept a.db --csv")
+        (Ok (Kept (record { file = codes "a.db"; address = None; instance = None; csv = true }))) }
     ensures serve { Says (codes "bac serve 10.0.0.1") (Ok (Serve station 4294967295)) }
     ensures network { Says (codes "bac wi 10.0.0.1 --dnet=65535")
         (Ok (Wi (Listed (station ∷ [])) None None (Some 65535) None 3000)) }
@@ -53,6 +66,8 @@ pub fn lines_say_bad_values()
 pub fn lines_are_mistakes()
     ensures tool { Mistakes (codes "bac") (MissingSubcommand ∷ []) }
     ensures words { Mistakes (codes "bac rp") (MissingRequiredArgument ∷ []) }
+    ensures file { Mistakes (codes "bac keep") (MissingRequiredArgument ∷ []) }
+    ensures second { Mistakes (codes "bac kept a.db 10.0.0.1 1 2") (UnknownArgument ∷ []) }
     ensures more { Mistakes (codes "bac replay 1") (UnknownArgument ∷ []) }
     ensures option { Mistakes (codes "bac wi 10.0.0.1 --retries=1") (UnknownArgument ∷ []) }
     ensures twice { Mistakes (codes "bac serve 10.0.0.1 --count=1 --count=1")

@@ -28,6 +28,13 @@ impl Name {
         Name { text }
     }
 
+    /// It as a text.
+    pub fn as_str(&self) -> &str
+        ensures { result.now ≡ self.now }
+    {
+        self.text.as_str()
+    }
+
     /// Its octets in UTF-8.
     pub fn octets(&self) -> &[u8]
         ensures { result.now ≡ self.now }

@@ -10,6 +10,7 @@ ghost use Rattle.bac_words.specs.Outcome.{mistakes_of, is_long_of, job_in, Answe
 use crate::commands::command;
 use crate::fault::WordsFault;
 use crate::job::Job;
+use crate::keeping::{keep, kept};
 use crate::rows::is_long_at;
 use crate::tools::{log, rp, serve, wi, wp};
 use crate::word::Word;
@@ -74,6 +75,8 @@ fn job_of_tool(alloc: Global, tool: &str, matches: &ArgMatches) -> Result<Job, W
         "rp" => Ok(rp(matches)?),
         "wp" => wp(alloc, matches),
         "log" => Ok(log(matches)?),
+        "keep" => keep(alloc, matches),
+        "kept" => kept(alloc, matches),
         "serve" => Ok(serve(matches)?),
         _ => Err(WordsFault::BadValue(Word::Tool)),
     }

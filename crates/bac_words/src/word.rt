@@ -24,6 +24,8 @@ pub enum Word {
     Tag,
     /// The number of the first record to fetch, or `oldest`.
     From,
+    /// A database file.
+    File,
     /// An array's index.
     Index,
     /// The value to write.
@@ -36,6 +38,8 @@ pub enum Word {
     Steps,
     /// How many datagrams to serve.
     Count,
+    /// Lines of CSV.
+    Csv,
     /// Our own address.
     Local,
     /// How long to wait for an answer, in milliseconds.
@@ -62,12 +66,14 @@ impl Word {
             Word::Priority => "PRIORITY",
             Word::Tag => "TAG",
             Word::From => "FROM",
+            Word::File => "FILE",
             Word::Index => "index",
             Word::Value => "value",
             Word::Min => "min",
             Word::Max => "max",
             Word::Steps => "steps",
             Word::Count => "count",
+            Word::Csv => "csv",
             Word::Local => "local",
             Word::Timeout => "timeout",
             Word::Retries => "retries",
@@ -76,7 +82,7 @@ impl Word {
         }
     }
 
-    /// It is written `--NAME=VALUE`.
+    /// It is written `--NAME=VALUE`, or `--NAME` if it has no value.
     pub fn is_option(self) -> bool
         ensures { result ≡ is_option_of self }
     {
@@ -88,6 +94,7 @@ impl Word {
                 | Word::Max
                 | Word::Steps
                 | Word::Count
+                | Word::Csv
                 | Word::Local
                 | Word::Timeout
                 | Word::Retries
@@ -102,7 +109,13 @@ impl Word {
     {
         !matches!(
             self,
-            Word::Tool | Word::Address | Word::Local | Word::Value | Word::Dadr
+            Word::Tool
+                | Word::Address
+                | Word::File
+                | Word::Csv
+                | Word::Local
+                | Word::Value
+                | Word::Dadr
         )
     }
 }

@@ -1,12 +1,32 @@
-use Rattle.std.proofs.Common.{inl, inr, subst, sym}
+use Rattle.std.proofs.Common.{◌≡◌, ◌∙◌, ℕ, suc, ◌+◌, ◌<◌, List, ◌∷◌, drop, get_or, length, inl, inr, subst, ap, sym, arith, rules}
+use Rattle.std.proofs.Math.Seq.{drop-cons}
 use Rattle.std.specs.List.{All}
 use Rattle.std.proofs.lemmas.List.Elements.{All-push, All-same}
-use Rattle.bac_asked.specs.Wanted.{AsksItsSource}
+use Rattle.clap.specs.Words.{Text}
+use Rattle.bac_asked.specs.AsLog.{given_in, log_words, IsAskedBy}
+use Rattle.bac_asked.specs.Wanted.{AddNamed, AsksItsSource}
 use Rattle.bac_asked.proofs.wanted.named_all.Goals as goal
 
+here : (words : List Text) (i : ℕ) (word : Text) → i < length words → word ≡ get_or words i word → drop i words ≡ word ∷ drop (i + 1) words
+here words i word lt e =
+    drop-cons words i word lt ∙ ap (λ (x : Text). x ∷ drop (suc i) words) (sym e) ∙ ap (λ (n : ℕ). word ∷ drop n words) (let s : suc i ≡ i + 1 = omega arith in s)
+
 pub loop-instance-preserved : goal.loop-instance-preserved
-loop-instance-preserved c = elim c.in_ok-add_once.ensures [
-  | inl new ↦ All-same AsksItsSource c.add_once.new.all.items _ new.1
-      (All-push AsksItsSource c.loop-instance.all.items c.in_ok-wanted.wanted c.loop-instance.invariant c.in_ok-wanted.ensures.source)
-  | inr old ↦ subst (All AsksItsSource) (sym old.1) c.loop-instance.invariant
-]
+loop-instance-preserved c = record {
+  source = elim c.in_ok-add_once.ensures [
+    | inl new ↦ All-same AsksItsSource c.add_once.new.all.items _ new.1
+        (All-push AsksItsSource c.loop-instance.all.items c.in_ok-wanted.wanted c.loop-instance.invariant.source c.in_ok-wanted.ensures.source)
+    | inr old ↦ subst (All AsksItsSource) (sym old.1) c.loop-instance.invariant.source
+  ];
+  named = λ after rest.
+      let words = c.args.instances.now in
+      let given = given_in c.args.options.now in
+      let word = c.instance-item.result in
+      let below : c.loop-instance.instance-index < length words = omega arith in
+      let item : word ≡ get_or words c.loop-instance.instance-index word = search rules in
+      let asked : IsAskedBy (log_words c.args.address.now word given) c.in_ok-wanted.wanted.asking =
+      subst (λ (w : Text). IsAskedBy (log_words c.args.address.now w given) c.in_ok-wanted.wanted.asking) c.as_str.ensures c.in_ok-wanted.ensures.asked in
+      c.loop-instance.invariant.named after
+      (subst (λ (ws : List Text). AddNamed c.args.address.now given ws c.loop-instance.all.items after) (sym (here words c.loop-instance.instance-index word below item))
+      (c.in_ok-wanted.wanted, c.add_once.new.all.items, asked, c.in_ok-wanted.ensures.source, c.in_ok-add_once.ensures, rest));
+}

@@ -1,0 +1,33 @@
+use Rattle.std.proofs.Common.{◌≡◌, ◌∙◌, List, [], ◌∷◌, Option, None, Some, Vec, Global, refl, subst, sym, ap, arith, rules}
+use Rattle.clap.specs.Words.{Text}
+use Rattle.bac_asked.specs.AsLog.{Given}
+use Rattle.bac_asked.specs.Wanted.{AddNamed}
+use Rattle.bac_asked.specs.declared.wanted.Wanted.{Wanted}
+use Rattle.bac_fetch.specs.declared.keeping.Chosen.TheVariants.{Named}
+use Rattle.bac_keeper.specs.Done.{Chooses, ChoosesBy, given_of}
+use Rattle.bac_words.specs.declared.job.Keep.{Keep}
+use Rattle.bac_keeper.proofs.keeping.choose.Goals as goal
+
+-- INSTANCEs are there
+named : (address : Option Text) (a : Text) (instances : List Text) (given : Given) (all : Vec Wanted Global) → address ≡ Some a
+    → (instances ≡ [] → ⊥) → AddNamed a given instances [] all.items → ChoosesBy address instances given (Named all)
+named None a instances given all is some adds = absurd (cc)
+named (Some b) a [] given all is some adds = absurd (some refl)
+named (Some b) a (i ∷ more) given all is some adds =
+    let same : a ≡ b = cc in
+    subst (λ (x : Text). AddNamed x given (i ∷ more) [] all.items) same adds
+
+chosen_of : (keep : Keep) (address a : Text) (given : Given) (instances : List Text) (all : Vec Wanted Global) → keep.address ≡ Some address
+    → a ≡ address → given ≡ given_of keep.options → instances ≡ keep.instances → (instances ≡ [] → ⊥)
+    → AddNamed a given instances [] all.items → Chooses keep (Named all)
+chosen_of keep address a given instances all is same by these some adds =
+    named keep.address a keep.instances (given_of keep.options) all (is ∙ ap Some (sym same)) (λ e. some (these ∙ e))
+    (subst (λ (g : Given). AddNamed a g keep.instances [] all.items) by
+    (subst (λ (ws : List Text). AddNamed a given ws [] all.items) these adds))
+
+pub returns-clause-chosen : goal.returns-clause-chosen
+returns-clause-chosen c =
+    let is : c.args.asked.now.address ≡ Some c.in-Some.address = search rules in
+    let some : c.as_slice-instances.result.now ≡ [] → ⊥ = λ e. first_of (search (rules, e), grind (arith, e)) in
+    chosen_of c.args.asked.now c.in-Some.address _ _ _ c.in_ok-named_all.field-0 is c.as_str-address.ensures c.requires
+    c.as_slice-instances.ensures some c.in_ok-named_all.ensures.named

@@ -1,0 +1,36 @@
+//! Several texts that are owned.
+
+ghost use Rattle.std.specs.Prelude.{◌≡◌};
+
+use crate::name::Name;
+use std::marker::Model;
+
+/// Texts in their order.
+#[derive(Debug, Drop)]
+pub struct Names {
+    list: Vec<Name>,
+}
+
+impl Model for Names {
+    ghost use Rattle.std.specs.Prelude.{ℕ, List};
+
+    ghost Value = { List (List ℕ) };
+
+    ghost view = { λ names. names.list.items };
+}
+
+impl Names {
+    /// These texts.
+    pub fn of(list: Vec<Name>) -> Names
+        ensures { result ≡ list.items }
+    {
+        Names { list }
+    }
+
+    /// All of them.
+    pub fn as_slice(&self) -> &[Name]
+        ensures { result.now ≡ self.now }
+    {
+        self.list.as_slice()
+    }
+}
