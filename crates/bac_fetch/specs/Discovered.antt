@@ -18,7 +18,7 @@ use Rattle.bac_wire.specs.Spelling.{Spells}
 use Rattle.bac_ports.specs.declared.udp_link.UdpLink.{UdpLink}
 use Rattle.bac_ports.specs.Sockets.{SocketRules, UsesSocket, link_over, own_address, socket_asks}
 use Rattle.bac_fetch.specs.declared.keeping.Chosen.{Chosen}
-use Rattle.bac_fetch.specs.declared.keeping.Chosen.TheVariants.{Device}
+use Rattle.bac_fetch.specs.declared.keeping.Chosen.TheVariants.{Kept, Device, Named}
 use Rattle.bac_asked.specs.declared.log_words.Asking.{Asking}
 use Rattle.bac_asked.specs.declared.wanted.Wanted.{Wanted}
 
@@ -106,7 +106,9 @@ FindsOver {P = P} rules asking before found after =
     (link_over asking.asked.address port) found left × (last ≡ left.port))
     after
 
--- the logs of a device, if those were chosen
+-- Which logs are fetched, and what was asked for that: of a file at least one, and of words those that they name, for
+-- which no socket is opened; those of a device as it told them.
 abbrev pub AreFound : {S P : Type 0} → SocketRules S P → Chosen → S → List Wanted → S → Type 0
+AreFound rules Kept before all after = (all ≢ []) × (after ≡ before)
 AreFound rules (Device like) before all after = FindsOver rules like before all after
-AreFound rules other before all after = Unit {0}
+AreFound rules (Named named) before all after = (all ≡ named.items) × (after ≡ before)

@@ -1,6 +1,6 @@
 //! Logs are added to an archive, and what is new of them is kept.
 
-ghost use Rattle.std.specs.Prelude.{◌≡◌, ◌⊎◌, ℕ, false, OnOk, IfOk, IfSome, List, [], option_map};
+ghost use Rattle.std.specs.Prelude.{◌≡◌, ◌≢◌, ◌⊎◌, ℕ, false, OnOk, IfOk, IfSome, List, [], option_map};
 ghost use Rattle.std.specs.List.{All};
 ghost use Rattle.std.specs.String.{string_bytes};
 ghost use Rattle.std.specs.Io.KnownBytes.{Appends};
@@ -52,7 +52,8 @@ fn kept_logs<A: Alter>(
     options: &Options<'_>,
 ) -> Result<Vec<Wanted>, NotDone>
     ensures asks { IfOk result (λ all. All AsksItsSource all.items) }
-    // They are the logs of the archive.
+    // They are the logs of the archive, one at least.
+    ensures some { IfOk result (λ all. all.items ≢ []) }
     ensures logs { HasCleanDisk (state A.Store conn.new) → (state A.Store conn.old).now.schema ≡ archive_schema
         → IfOk result (λ all. AreKeptLogs (state A.Store conn.old).now.trees all.items) }
     ensures same { HasCleanDisk (state A.Store conn.new) → (state A.Store conn.old).now.schema ≡ archive_schema
@@ -356,7 +357,8 @@ fn chosen_logs<S: Sockets, A: Alter>(
     ensures asks { IfOk result (λ all. All AsksItsSource all.items) }
     ensures chosen { HasCleanDisk (state A.Store conn.new) → (state A.Store conn.old).now.schema ≡ archive_schema
         → IfOk result (λ all. AreChosen chosen (state A.Store conn.old).now.trees all.items) }
-    // Those of a device are those of its Object_List.
+    // Those of a file are one at least, those of a device those of its Object_List, and no socket is
+    // opened for others.
     ensures found { IfOk result (λ all. AreFound (socket_rules S.opens S.closes S.Socket.sends S.Socket.receives S.Socket.receives_within) chosen sockets.old all.items sockets.new) }
     ensures same { HasCleanDisk (state A.Store conn.new) → (state A.Store conn.old).now.schema ≡ archive_schema
         → OnOk result ((state A.Store conn.new).now ≡ (state A.Store conn.old).now) }

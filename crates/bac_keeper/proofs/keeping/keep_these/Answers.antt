@@ -16,7 +16,7 @@ pub returns-in-Named : goal.returns-in-Named
 returns-in-Named g c =
     let asks = rw c.in-Named.is at c.requires in
     rw c.in-Named.is (IfOk-weaker c.keep_each.result _ _
-    (λ status told. (c.in-Named.all.items, c.args.sockets.now, refl, asks, tt, (told.0, told.1, told.2, told.3, tt)))
+    (λ status told. (c.in-Named.all.items, c.args.sockets.now, refl, asks, (refl, refl), (told.0, told.1, told.2, told.3, tt)))
     c.keep_each.ensures.told)
 
 pub returns-in_default : goal.returns-in_default
