@@ -264,8 +264,8 @@ all_delivered old new way retries w after steps n came items ended reason near f
     let said = comes_7 retries came old (walk_at log 7) b.0 b.1 refl b.2 in
     let d = law (towards None) retries old new (walk_at log 7) after n came items ended history (held ∷ []) 7 7 b said.0 refl (omega arith) tt
     (record { oldest = omega arith; newest = omega arith }, tt) (λ f. (omega arith, omega arith)) in
-    let D : ℕ → Type 0 = λ x. DeliversTo history x items d.2 (held ∷ []) d.1 in (
-      (d.1, d.2, d.4, subst D d.3 d.6),
+    let D : ℕ → Type 0 = λ x. DeliversTo history x items d.1 (held ∷ []) (length came) in (
+      (length came, d.1, d.3, subst D d.2 d.5),
       λ is. let e = up (λ a octets answer b. IsSaid octets answer) (towards None) retries n came b.0 after b.1 new items ended (ended_up reason steps n ended run is) b.3 b.4 in e.1 ∙ said.1 e.0,
     )
 
@@ -379,15 +379,15 @@ begins_held fresh s b answers items dropped start all is =
     begins at (inr seven) = inr (at ∙ seven)
 
 -- over the device's link a run delivers what its log holds, from any place
-pub walk_delivers : {S : Type 0} (old new : S) (way : Option Place) (w after : WalkPlace) (items : List Item) (reason : Why) (low s : ℕ) →
+pub walk_delivers : {S : Type 0} (old new : S) (way : Option Place) (w after : WalkPlace) (items : List Item) (reason : Why) (low s spare : ℕ) →
     HonestWhereItStands {S = S} (λ a octets answer b. IsSaid octets answer) (λ link M. held ∷ [] ≡ M) →
-    DeliversSaid (λ a octets answer b. IsSaid octets answer) (towards way) old w items (ended_of reason) after new → way ≡ None → w.log ≡ log → w.next ≡ sequence_number s →
+    DeliversSaid (λ a octets answer b. IsSaid octets answer) (towards way) spare old w items (ended_of reason) after new → way ≡ None → w.log ≡ log → w.next ≡ sequence_number s →
     low ≤ 7 → (w.fresh ≡ false → (low ≤ s) × (s < low + 2147483648)) →
     ((b : ℕ) × (a : ℕ) × (t : ℕ) × (w.fresh ≡ false → b ≡ s) × (after.next ≡ sequence_number t) × DeliversTo history b items t (held ∷ []) a × (reason ≡ why.CaughtUp → 10 < t)
     × (w.fresh ≡ true → (items ≡ []) ⊎ (b ≡ 7)))
     × ((e : WalkFault) → reason ≡ why.Fault e → e ≡ fault.Lost)
-walk_delivers {S = S} old new way w after items reason low s stands said near log_is next below at =
-    let W : Option Place → Type 0 = λ y. DeliversSaid {S = S} (λ a octets answer b. IsSaid octets answer) (towards y) old w items (ended_of reason) after new in
+walk_delivers {S = S} old new way w after items reason low s spare stands said near log_is next below at =
+    let W : Option Place → Type 0 = λ y. DeliversSaid {S = S} (λ a octets answer b. IsSaid octets answer) (towards y) spare old w items (ended_of reason) after new in
     let I : Id → Type 0 = λ i. IsHonestWhere {S = S} (λ a octets answer b. IsSaid octets answer) (towards None) i history low (λ link M. held ∷ [] ≡ M) in
     let honest = stands (towards None) w.log history low old (held ∷ []) (subst I (sym log_is) (honest_where {S = S} low)) refl in
     let all = subst W near said history (held ∷ []) s low honest next (omega arith) tt (record { oldest = below; newest = omega arith }, tt) at in
@@ -398,7 +398,7 @@ walk_delivers {S = S} old new way w after items reason low s stands said near lo
         all.1,
         (λ old. all.3.start ∙ start_old w.fresh s (held ∷ []) all.2 old),
         all.4,
-        all.5,
+        (all.5.0, all.5.1, all.5.2, all.5.3),
         (λ up.
             let caught = all.7 (ap ended_of up) in
             let N : Moment → Type 0 = λ m. NoneFrom all.1 m in

@@ -205,16 +205,16 @@ prints_held {S = S} asks moments link left way retries w asked steps (Ok done) o
     let f : P None (walk_at log 7) = subst A near (subst (P way) here over) in
     let d = law (towards None) retries link f.5 (walk_at log 7) f.4 f.2 f.0 f.1 f.3 history (held ∷ []) 7 7 (honest 7) stands f.6 refl (omega arith) tt
     (record { oldest = omega arith; newest = omega arith }, tt) (λ fresh. (omega arith, omega arith)) in
-    let D : ℕ → Type 0 = λ x. DeliversTo history x f.1 d.0.2 (held ∷ []) d.0.1 in
-    let part = all_of f.1 d.0.2 d.0.1 (subst D d.0.3 d.0.6) in (
+    let D : ℕ → Type 0 = λ x. DeliversTo history x f.1 d.0.1 (held ∷ []) (length f.0) in
+    let part = all_of f.1 d.0.1 (length f.0) (subst D d.0.2 d.0.5) in (
       f.1,
       drop part.0 all_held,
       part.4,
-      omega (arith, f.7.0.1, d.0.4, part.1, part.2, part.3),
+      omega (arith, f.7.0.1, d.0.3, part.1, part.2, part.3),
       f.7.2,
       (λ up.
-          let caught = d.0.7 (ended_up done.why steps f.2 f.3 f.7.0.0 up) in
-          let N : Moment → Type 0 = λ m. NoneFrom d.0.2 m in
-          none_left d.0.2 part.0 part.1 part.2 (subst N (always_held caught.0) caught.3)),
+          let caught = d.0.6 (ended_up done.why steps f.2 f.3 f.7.0.0 up) in
+          let N : Moment → Type 0 = λ m. NoneFrom d.0.1 m in
+          none_left d.0.1 part.0 part.1 part.2 (subst N (always_held caught.0) caught.3)),
       λ e told. is_loss e (subst IsHonestEnd (ended_as done.why steps f.2 f.3 e f.7.0.0 told) d.3),
     )

@@ -42,7 +42,7 @@ honest_run {S = S} asks stands old new way retries w after steps n came items en
     let B : Option Place → Type 0 = λ y. P y (walk_at log number) in
     let b : P None (walk_at log number) = subst B near (subst (P way) from ran) in
     let d = law (towards None) retries old new (walk_at log number) after n came items ended H M low k honest stood b here moments.0 moments.1 window (λ f. (above, below)) in
-    let D : ℕ → Type 0 = λ x. DeliversTo H x items d.0.2 M d.0.1 in (
-      (d.0.1, d.0.2, d.0.4, subst D d.0.3 d.0.6),
+    let D : ℕ → Type 0 = λ x. DeliversTo H x items d.0.1 M (length came) in (
+      (length came, d.0.1, d.0.3, subst D d.0.2 d.0.5),
       λ e is. is_loss e (subst IsHonestEnd (ended_as reason steps n ended e run is) d.3),
     )

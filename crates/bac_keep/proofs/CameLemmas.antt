@@ -16,7 +16,7 @@ use Rattle.bac_walk.specs.Came.{Brought, answers_of}
 use Rattle.bac_link.specs.Honest.{IsHonest}
 use Rattle.bac_link.specs.Moments.{AreInWindow}
 use Rattle.bac_walk.specs.Place.{WalkPlace}
-use Rattle.bac_walk.proofs.Came.{Asking, back_later, brought_ran, some_later, start_old, window_later}
+use Rattle.bac_walk.proofs.Came.{Asking, back_later, brought_ran, delivered_to, some_later, start_old, window_later}
 use Rattle.bac_link.proofs.Honest.{goes_on}
 use Rattle.bac_walk.proofs.Honest.{honest_delivers}
 use Rattle.bac_walk.proofs.Joined.{no_brought, brought_joins}
@@ -134,7 +134,7 @@ module _ {S : Type 0} (asks : Asking S) where
         ran.3,
         kept.rows.rows,
         kept.era_is,
-        ran.5,
+        delivered_to H M ran.0 ran.1 kept.items kept.came ran.5,
         (
           said.2,
           λ moments told is.

@@ -123,9 +123,9 @@ IsHeadline walk came items ended after =
     (H : History) (M : List Moment) (low s : ℕ) → AreSaidAt H M came → walk.next ≡ sequence_number s →
     0 < length M → NeverGoesBack M → AreInWindow low M →
     (walk.fresh ≡ false → (low ≤ s) × (s < low + 2147483648)) →
-    (b : ℕ) × (a : ℕ) × (t : ℕ) × (b ≡ start_of walk.fresh s M (answers_of came)) × (after.next ≡ sequence_number t)
+    (b : ℕ) × (t : ℕ) × (b ≡ start_of walk.fresh s M (answers_of came)) × (after.next ≡ sequence_number t)
     × ((u : ℕ) × Leads H M b (answers_of came) u)
-    × DeliversTo H b items t M a × (ended ≡ CaughtUp → IsCaughtUp walk.fresh t M (answers_of came))
+    × DeliversTo H b items t M (length came) × (ended ≡ CaughtUp → IsCaughtUp walk.fresh t M (answers_of came))
 
 -- Fetching from a place on, over any link: replies came, one after the other, from this link on; what is printed are
 -- the lines of the items that they brought, and the end of their run; and if they say what one log holds, those are the

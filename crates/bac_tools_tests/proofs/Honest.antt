@@ -56,12 +56,12 @@ prints_said {S = S} asks link left way retries w log number steps (Ok done) old 
     let B : Option Place → Type 0 = λ y. P y (walk_at log number) in
     let f : P None (walk_at log number) = subst B near (subst (P way) from over) in
     let d = law (towards None) log H low (towards None) retries link f.5 (walk_at log number) f.4 f.2 f.0 f.1 f.3 H M low k (goes (towards None) log H low) honest f.6 here some back window (λ is. (above, below)) in
-    let D : ℕ → Type 0 = λ x. DeliversTo H x f.1 d.0.2 M d.0.1 in (
+    let D : ℕ → Type 0 = λ x. DeliversTo H x f.1 d.0.1 M (length f.0) in (
       f.1,
+      length f.0,
       d.0.1,
-      d.0.2,
-      f.7.0.1 ∙ d.0.4,
-      subst D d.0.3 d.0.6,
+      f.7.0.1 ∙ d.0.3,
+      subst D d.0.2 d.0.5,
       f.7.2,
       λ e is. is_loss e (subst IsHonestEnd (ended_as done.why steps f.2 f.3 e f.7.0.0 is) d.3),
     )

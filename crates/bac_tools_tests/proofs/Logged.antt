@@ -195,9 +195,9 @@ rested rules asked walk steps port last old new done (Ok said) end left zero is_
       after,
       (mid, half, begun, there),
       λ H m low s at number window low_s s_high enough.
-          (let (b, a, t, begins, place, leads, delivers, up) = headline H (m ∷ []) low s at number (omega arith) tt (window, tt) (λ old. (low_s, s_high)) in
-          let P : ℕ → Type 0 = λ k. DeliversTo H k items t (m ∷ []) a in
-          all_printed H m s t steps n a items (answers_of came) walk.fresh ended after said.why said.next old new status tells.0 tells.2
+          (let (b, t, begins, place, leads, delivers, up) = headline H (m ∷ []) low s at number (omega arith) tt (window, tt) (λ old. (low_s, s_high)) in
+          let P : ℕ → Type 0 = λ k. DeliversTo H k items t (m ∷ []) (length came) in
+          all_printed H m s t steps n (length came) items (answers_of came) walk.fresh ended after said.why said.next old new status tells.0 tells.2
           (subst P (begins ∙ start_old walk.fresh s (m ∷ []) (answers_of came) fresh) delivers) place up
           (λ limit. so_many (socket_asks rules) (towards asked.route) asked.retries n came (link_over asked.address port) walk ended items after mid limit brought)
           enough),

@@ -1,6 +1,7 @@
 -- What came over a link is delivered.
 use Rattle.std.proofs.Common.{◌≡◌, ℕ, zero, suc, ◌+◌, ◌-◌, ◌<◌, ◌≤◌, ◌⊎◌, ◌||◌, if◌then◌else◌, inl, inr, Bool, true, false, Result, Ok, Err, List, [], ◌∷◌, length, drop, ◌++◌, refl, sym, ap, subst, ◌∙◌, arith, append_assoc, append-nil}
-use Rattle.bac_link.proofs.Delivers.{joined, resumed}
+use Rattle.std.proofs.Math.Seq.{take-append_seam}
+use Rattle.bac_link.proofs.Delivers.{brings_cut}
 use Rattle.bac_link.specs.declared.item.Item.TheVariants.{Logged}
 use Rattle.bac_link.specs.Ordinals.{number_after}
 use Rattle.bac_walk.specs.declared.outcome.Ended.{Ended}
@@ -13,7 +14,7 @@ use Rattle.bac_link.specs.Delivery.{History, Moment, Brings, Leads, DeliversTo, 
 use Rattle.bac_link.specs.Path.{Path}
 use Rattle.bac_log.specs.TrendLog.{sequence_number}
 use Rattle.bac_link.specs.Moments.{NeverGoesBack}
-use Rattle.bac_walk.specs.Came.{Came, Comes, Brought, AreSaidAt, AreOf, EndsBy, EndsEmpty, BroughtIsDelivered, CameIsDelivered, SaidIsTaken, IsCutIn, answers_of, restarted}
+use Rattle.bac_walk.specs.Came.{Came, Comes, Brought, AreSaidAt, AreOf, EndsBy, EndsEmpty, EndsWith, BroughtIsDelivered, CameIsDelivered, SaidIsTaken, IsCutIn, answers_of, restarted}
 use Rattle.bac_walk.specs.Collects.{batches, turn_items, IsCaughtUp, start_of}
 use Rattle.bac_walk.specs.Delivers.{NoneFrom}
 use Rattle.bac_link.specs.Moments.{IsInWindow, AreInWindow}
@@ -24,7 +25,9 @@ use Rattle.bac_walk.specs.Turns.{base}
 use Rattle.bac_walk.specs.Walks.{asks_oldest_now, asked_by}
 use Rattle.bac_walk.specs.declared.outcome.Progress.{Progress}
 use Rattle.bac_walk.specs.declared.outcome.Progress.TheVariants.{Batch as BatchOf, AskOldest, CaughtUp}
-use Rattle.bac_walk.proofs.Brought.{full_batch}
+use Rattle.bac_walk.proofs.Brought.{full_batch, one_batch}
+use Rattle.bac_walk.specs.Honest.{DeliversIn}
+use Rattle.bac_log.specs.declared.entry.Entry.{Entry}
 use Rattle.bac_walk.specs.Meant.{Means}
 use Rattle.bac_walk.proofs.Standard.{said_means}
 use Rattle.bac_walk.proofs.Turns.{or_left}
@@ -247,25 +250,70 @@ pub said_taken : SaidIsTaken
 said_taken = λ m H low s w after datagram bad says here window at taken.
     said_means H m low s w (heard_in w.log datagram) says.heard (Err bad) after says.reads window here at says.counts says.says taken
 
--- answers that bring nothing change nothing
-no_more : (H : History) (M : List Moment) (t count : ℕ) → DeliversTo H t [] t M count
-no_more H M t zero = ([], refl, refl, refl)
-no_more H M t (suc count) =
-    let d = no_more H (later M) t count in ([] ∷ d.0, omega (arith, d.1), d.2, (t, refl, d.3))
+-- ---- answers that are cut
 
-up_to : (H : History) (M : List Moment) (b t a count : ℕ) (items : List Item) → DeliversTo H b items t M a → a ≤ count → DeliversTo H b items t M count
-up_to H M b t a count items d le =
-    let all : a + (count - a) ≡ count = omega (arith, le) in
-    let P : List Item → Type 0 = λ l. DeliversTo H b l t M (a + (count - a)) in
-    let Q : ℕ → Type 0 = λ n. DeliversTo H b items t M n in
-    subst Q all (subst P (append-nil items) (joined H b t t a (count - a) M items [] d (no_more H (after_answers a M) t (count - a))))
+same_front : (xs ys zs : List Item) → xs ++ zs ≡ ys ++ zs → xs ≡ ys
+same_front xs ys zs is =
+    let size : length xs ≡ length ys = omega (arith, length-append xs zs, length-append ys zs, ap length is) in
+    sym (take-append_seam xs zs) ∙ ap (λ n. take n (xs ++ zs)) size ∙ ap (λ l. take (length ys) l) is ∙ take-append_seam ys zs
+
+batches_behind : (x : List Item) (xs ys : List (List Item)) → batches xs ≡ batches ys → batches (x ∷ xs) ≡ batches (x ∷ ys)
+batches_behind [] xs ys is = is
+batches_behind (y ∷ x) xs ys is = ap suc is
+
+-- answers of which the last is cut behind an entry lead behind that
+record CutBehind (H : History) (M : List Moment) (b shown : ℕ) (rest : List Item) (answers : List (List Item)) : Type 0 where
+  k : ℕ
+  cut : List (List Item)
+  size : length cut ≡ length answers
+  all : items_of cut ++ rest ≡ items_of answers
+  leads : Leads H M b cut (k + 1)
+  many : batches cut ≡ batches answers
+  shows : shown ≡ sequence_number k
+
+leads_to_cut : (H : History) (M : List Moment) (b u shown : ℕ) (e : Entry) (rest : List Item) (answers : List (List Item)) →
+    Leads H M b answers u → EndsWith (Logged shown e) rest answers → CutBehind H M b shown rest answers
+leads_to_cut H M b u shown e rest [] leads ends = absurd ends
+leads_to_cut H M b u shown e rest (answer ∷ []) leads (front, is) =
+    let z : Item = Logged shown e in
+    let P : List Item → Type 0 = λ l. Brings H (now M) b l leads.0 in
+    let c = brings_cut H (now M) b leads.0 shown e front rest (subst P (sym is) leads.1) in
+    record {
+      k = c.k;
+      cut = (front ++ z ∷ []) ∷ [];
+      size = refl;
+      all = ap (λ l. l ++ rest) (append-nil (front ++ z ∷ [])) ∙ append_assoc front (z ∷ []) rest ∙ is ∙ sym (append-nil answer);
+      leads = (c.k + 1, c.are, refl);
+      many = one_batch (front ++ z ∷ []) (omega (arith, length-append front (z ∷ [])))
+          ∙ sym (one_batch answer (omega (arith, length-append front (z ∷ rest), ap length is)));
+      shows = c.shows;
+    }
+leads_to_cut H M b u shown e rest (answer ∷ next ∷ answers) leads ends =
+    let c = leads_to_cut H (later M) leads.0 u shown e rest (next ∷ answers) leads.2 ends in
+    record {
+      k = c.k;
+      cut = answer ∷ c.cut;
+      size = ap suc c.size;
+      all = append_assoc answer (items_of c.cut) rest ∙ ap (λ l. answer ++ l) c.all;
+      leads = (leads.0, leads.1, c.leads);
+      many = batches_behind answer c.cut (next ∷ answers) c.many;
+      shows = c.shows;
+    }
+
+pub answers_came : (came : List Came) → length (answers_of came) ≡ length came
+answers_came came = length_answers came
+
+-- so many answers deliver it
+pub delivered_to : (H : History) (M : List Moment) (b t : ℕ) (items : List Item) (came : List Came) → DeliversIn H b items t M (answers_of came) →
+    DeliversTo H b items t M (length came)
+delivered_to H M b t items came d = (d.0, d.1 ∙ answers_came came, d.2, d.3)
 
 -- a run that brought this, from ordinal s
 abbrev pub Ran : WalkPlace → WalkPlace → ℕ → List Came → List Item → Ended → History → List Moment → Type 0
 Ran w after s came items ended H M =
     (b : ℕ) × (t : ℕ) × (b ≡ start_of w.fresh s M (answers_of came)) × (after.next ≡ sequence_number t)
     × ((u : ℕ) × Leads H M b (answers_of came) u)
-    × DeliversTo H b items t M (length came) × (ended ≡ IsUp → IsCaughtUp w.fresh t M (answers_of came))
+    × DeliversIn H b items t M (answers_of came) × (ended ≡ IsUp → IsCaughtUp w.fresh t M (answers_of came))
 
 abbrev CameTo : WalkPlace → WalkPlace → ℕ → List Came → History → List Moment → Type 0
 CameTo w here s came H M =
@@ -277,8 +325,7 @@ CameTo w here s came H M =
 whole_run : (w here after : WalkPlace) (s : ℕ) (came : List Came) (items : List Item) (ended : Ended) (H : History) (M : List Moment) →
     CameTo w here s came H M → restarted after ≡ restarted here → items ≡ items_of (answers_of came) → (ended ≡ IsUp → EndsEmpty came) → Ran w after s came items ended H M
 whole_run w here after s came items ended H M d place is up =
-    let P : List Item → Type 0 = λ l. DeliversTo H d.0 l d.1 M (length came) in
-    (d.0, d.1, d.2, ap (λ (v : WalkPlace). v.next) place ∙ d.3, (d.1, d.4), subst P (sym is) d.5, λ e. d.6 refl (up e))
+    (d.0, d.1, d.2, ap (λ (v : WalkPlace). v.next) place ∙ d.3, (d.1, d.4), (answers_of came, refl, sym is, d.4, refl), λ e. d.6 refl (up e))
 
 run_ended : {S : Type 0} (asks : Asking S) (path : Path) (retries : ℕ) (new mid : S) (w here after : WalkPlace) (s steps : ℕ) (came : List Came) (items : List Item) (ended : Ended) (H : History) (M : List Moment) →
     CameTo w here s came H M → EndsBy asks path retries steps came here mid ended after new → AreOf ended came items after → Ran w after s came items ended H M
@@ -286,17 +333,13 @@ run_ended asks path retries new mid w here after s steps came items IsUp H M d e
 run_ended asks path retries new mid w here after s steps came items StepLimit H M d ends are = whole_run w here after s came items StepLimit H M d ends.2 are (λ e. absurd (cc))
 run_ended asks path retries new mid w here after s steps came items (Fault f) H M d ends are = whole_run w here after s came items (Fault f) H M d ends.2 are (λ e. absurd (cc))
 run_ended asks path retries new mid w here after s steps came items Stopped H M d ends (before, k, e, dropped, cut, all, next, old, within) =
-    let whole : items_of (answers_of came) ≡ before ++ Logged k e ∷ dropped =
-    sym all ∙ ap (λ l. l ++ dropped) cut ∙ append_assoc before (Logged k e ∷ []) dropped in
-    let P : List Item → Type 0 = λ l. DeliversTo H d.0 l d.1 M (length came) in
-    let r = resumed H d.0 d.1 (length came) k e M before dropped (subst P whole d.5) in
-    let Q : List Item → Type 0 = λ l. DeliversTo H d.0 l (r.0 + 1) M (r.1 + 1) in (
+    let c = leads_to_cut H M d.0 d.1 k e dropped (answers_of came) d.4 within in (
       d.0,
-      r.0 + 1,
+      c.k + 1,
       d.2,
-      next ∙ ap (λ n. number_after n 1) r.2 ∙ after-number r.0 1,
+      next ∙ ap (λ n. number_after n 1) c.shows ∙ after-number c.k 1,
       (d.1, d.4),
-      up_to H M d.0 (r.0 + 1) (r.1 + 1) (length came) items (subst Q (sym cut) r.6) (omega (arith, r.3)),
+      (c.cut, c.size, same_front (items_of c.cut) items dropped (c.all ∙ sym all), c.leads, c.many),
       λ e. absurd (cc),
     )
 
@@ -312,7 +355,7 @@ brought_ran asks path retries old new w after steps came items ended H M low s r
 pub brought_delivers : {S : Type 0} (asks : Asking S) → BroughtIsDelivered asks
 brought_delivers asks = λ path retries old new w after steps came items ended H M low s run said here some back window at.
     let ran = brought_ran asks path retries old new w after steps came items ended H M low s run said here some back window at in
-    (ran.0, length came, ran.1, ran.2, ran.3, ran.4, ran.5, ran.6)
+    (ran.0, ran.1, ran.2, ran.3, ran.4, delivered_to H M ran.0 ran.1 items came ran.5, ran.6)
 
 -- the items of a run are those of its replies, but where it was stopped those up to one of the last reply
 pub cut_of : (ended : Ended) (came : List Came) (items : List Item) (after : WalkPlace) → AreOf ended came items after →
@@ -322,6 +365,3 @@ cut_of IsUp came items after are = ([], append-nil items ∙ are, λ on. refl, �
 cut_of StepLimit came items after are = ([], append-nil items ∙ are, λ on. refl, λ e. absurd (cc))
 cut_of (Fault f) came items after are = ([], append-nil items ∙ are, λ on. refl, λ e. absurd (cc))
 cut_of Stopped came items after are = (are.3, are.5, λ on. absurd (on refl), λ e. (are.0, Logged are.1 are.2, are.4, are.8))
-
-pub answers_came : (came : List Came) → length (answers_of came) ≡ length came
-answers_came came = length_answers came

@@ -41,7 +41,7 @@ use Rattle.bac_walk.proofs.Asking.{asked_in}
 use Rattle.bac_walk.proofs.Ack.{is_ack}
 use Rattle.bac_walk.proofs.Standard.{said_means}
 use Rattle.bac_walk.proofs.Back.{never_back}
-use Rattle.bac_walk.proofs.Came.{brought_ran, cut_of}
+use Rattle.bac_walk.proofs.Came.{brought_ran, cut_of, delivered_to}
 use Rattle.bac_walk.proofs.Honest.{as_ended}
 use Rattle.bac_walk.specs.Outcomes.{IsRunOf}
 use Rattle.bac_walk.specs.Sinks.{Call, Takes, is_stopped, put_items}
@@ -361,7 +361,7 @@ delivers_growing {S = S} asks first last old new w after steps items ended (came
         said = went.3;
         brought = record { start = ran.2; reached = ran.4.0; leads = ran.4.1; dropped = cut.0; all = cut.1; whole = cut.2; within = cut.3 };
         next = ran.3;
-        delivers = ran.5;
+        delivers = delivered_to H M ran.0 ran.1 items came ran.5;
         caught_up = ran.6;
         end = went.6;
       },

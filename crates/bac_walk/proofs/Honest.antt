@@ -1,5 +1,5 @@
 -- What comes over a link that is honest for a log.
-use Rattle.std.proofs.Common.{◌≡◌, ℕ, zero, suc, ◌+◌, ◌<◌, ◌≤◌, Bool, true, false, ◌==◌, if◌then◌else◌, Option, Some, None, Result, Ok, Err, List, [], ◌∷◌, ◌++◌, length, length-append, drop, append_assoc, refl, sym, ap, subst, ◌∙◌, inl, inr, arith}
+use Rattle.std.proofs.Common.{◌≡◌, ℕ, zero, suc, ◌+◌, ◌*◌, ◌<◌, ◌≤◌, Bool, true, false, ◌==◌, if◌then◌else◌, Option, Some, None, Result, Ok, Err, List, [], ◌∷◌, ◌++◌, length, length-append, drop, append_assoc, refl, sym, ap, subst, ◌∙◌, inl, inr, arith}
 use Rattle.bac_wire.specs.Primitive.{Id}
 use Rattle.bac_apdu.specs.Apdu.{Apdu, Confirmed, Unconfirmed, Simple, Complex, SegmentAck, Error, Reject, Abort}
 use Rattle.bac_apdu.specs.declared.service.extent.Extent.{Extent}
@@ -8,22 +8,23 @@ use Rattle.bac_link.specs.declared.link.Lost.{Lost as Loss}
 use Rattle.bac_link.specs.declared.exchanges.Verdict.{Verdict}
 use Rattle.bac_link.specs.declared.exchanges.Verdict.TheVariants as verdict
 use Rattle.bac_link.specs.Datagrams.{apdu_in}
-use Rattle.bac_link.specs.Delivery.{History, Moment, DeliversTo, Leads, items_of, now, later}
+use Rattle.bac_link.specs.Delivery.{History, Moment, Leads, items_of, now, later}
 use Rattle.bac_link.specs.Exchanges.{Answers, IsNoAnswer, Unanswered, verdict_of}
 use Rattle.bac_link.specs.Laws.{after_answers}
 use Rattle.std.proofs.lemmas.Grind.{flat_map-append}
-use Rattle.bac_link.proofs.Delivers.{joined, leads-append}
+use Rattle.bac_link.proofs.Delivers.{leads-append}
 use Rattle.bac_link.specs.Links.{question}
-use Rattle.bac_link.specs.Path.{Path}
+use Rattle.bac_link.specs.Path.{Path, towards}
+use Rattle.bac_link.specs.declared.transactions.Transactions.{Transactions}
 use Rattle.bac_log.specs.TrendLog.{sequence_number}
 use Rattle.bac_link.specs.Moments.{NeverGoesBack}
-use Rattle.bac_walk.specs.Came.{Came, Asks, Comes, AreSaidAt, Brought, BroughtInto, EndsBy, EndsWith, IsCutIn, answers_of, restarted}
+use Rattle.bac_walk.specs.Came.{Came, Asks, Comes, AreSaidAt, EndsBy, EndsWith, IsCutIn, answers_of, restarted}
 use Rattle.bac_link.specs.Heard.{AckParameters}
 use Rattle.bac_link.specs.Moments.{AreInWindow}
 use Rattle.bac_walk.specs.Place.{WalkPlace}
 use Rattle.bac_link.specs.Heard.{heard_from, heard_in}
 use Rattle.bac_walk.specs.Collects.{IsCaughtUp, batches}
-use Rattle.bac_walk.specs.Honest.{DeliversSaid, IsHonestEnd, IsLeftAt, HonestIsDelivered}
+use Rattle.bac_walk.specs.Honest.{DeliversIn, DeliversSaid, IsHonestEnd, IsLeftAt, HonestIsDelivered}
 use Rattle.bac_link.specs.Honest.{IsSaidOrLost, IsHonest, IsHonestWhere, asked_octets}
 use Rattle.bac_link.proofs.Honest.{goes_on}
 use Rattle.bac_link.specs.Standard.{IsSaidAt}
@@ -37,7 +38,9 @@ use Rattle.bac_walk.specs.declared.outcome.Progress.{Progress}
 use Rattle.bac_walk.specs.declared.outcome.Progress.TheVariants.{Batch as BatchOf, AskOldest, CaughtUp}
 use Rattle.bac_walk.specs.declared.outcome.WalkFault.TheVariants.{Lost, Refused, BadReply}
 use Rattle.bac_walk.specs.Delivers.{NoneFrom}
-use Rattle.bac_walk.proofs.Joins.{after_answers-add}
+use Rattle.bac_walk.proofs.Joins.{after_answers-add, batches-append}
+use Rattle.bac_walk.proofs.Transacted.{brought_plain}
+use Rattle.bac_walk.specs.Transacted.{BroughtBy, BroughtIntoBy, spare}
 use Rattle.bac_walk.proofs.Window.{stays_in_window}
 use Rattle.bac_walk.proofs.Came.{Asking, answers_came, back_later, brought_delivers, brought_ran, cut_of, some_later, start_old, window_later, window_now}
 use Rattle.bac_link.specs.declared.item.Item.{Item}
@@ -178,9 +181,12 @@ as_ended WasLimit steps n ended run = run.1
 as_ended (WasFault e) steps n ended run = run.1
 as_ended Memory steps n ended run = run.1
 
-pub delivers_said : {S : Type 0} (asks : Asking S) (path : Path) (retries : ℕ) (old new : S) (w after : WalkPlace) (steps : ℕ) (items : List Item) (ended : Ended) →
-    (came : List Came) × Brought asks path retries old w steps came items ended after new → DeliversSaid asks path old w items ended after new
-delivers_said {S = S} asks path retries old new w after steps items ended (came, run) = λ H M s low honest next some back window at.
+pub delivers_said : {S : Type 0} (asks : Asking S) (first last : Transactions) (old new : S) (w after : WalkPlace) (steps : ℕ) (items : List Item) (ended : Ended) →
+    (came : List Came) × BroughtBy asks first old w steps came items ended after last new → DeliversSaid asks (towards first.route) (spare ended) old w items ended after new
+delivers_said {S = S} asks first last old new w after steps items ended (came, by_turns) = λ H M s low honest next some back window at.
+    let path : Path = towards first.route in
+    let retries : ℕ = first.retries in
+    let run = brought_plain asks first last old new w after steps came items ended by_turns in
     let here : Here low w.log M (restarted w) = record { ordinal = s; log_is = refl; next = next; some = some; window = window; at = at } in
     let stands : S → List Moment → Type 0 = λ link N. IsHonest asks path w.log H low link N in
     let goes = goes_on asks path w.log H low in
@@ -188,14 +194,14 @@ delivers_said {S = S} asks path retries old new w after steps items ended (came,
     let end = ended_honest asks stands path retries steps w.log H low came (after_answers (length came) M) run.0 after run.1 new ended goes all.2 all.1 run.3 in
     let ran = brought_ran asks path retries old new w after steps came items ended H M low s run all.0 next some back window at in
     let cut = cut_of ended came items after run.4 in
-    let C : ℕ → Type 0 = λ n. DeliversTo H ran.0 items ran.1 M n in
-    let L : ℕ → Type 0 = λ n. IsLeftAt asks path w.log H low old new M n in (
+    let L : ℕ → Type 0 = λ n. IsLeftAt asks path w.log H low old new M n in
+    let F : ℕ → Type 0 = λ n. n ≤ 2 * batches (answers_of came) + spare ended in (
       ran.0,
       ran.1,
       answers_of came,
       record { start = ran.2; reached = ran.4.0; leads = ran.4.1; dropped = cut.0; all = cut.1; whole = cut.2; within = cut.3 },
       ran.3,
-      subst C (sym (answers_came came)) ran.5,
+      ran.5,
       subst L (sym (answers_came came)) (
         end.0,
         λ moments told is.
@@ -205,20 +211,21 @@ delivers_said {S = S} asks path retries old new w after steps items ended (came,
       ),
       ran.6,
       end.1,
+      subst F (sym (answers_came came)) by_turns.few,
     )
 
-pub delivers_run : {S : Type 0} (asks : Asking S) (path : Path) (retries : ℕ) (old new : S) (w after : WalkPlace) (steps : ℕ) (items : List Item) (why : Why) →
-    (n : ℕ) × (ended : Ended) × IsRunOf why steps n ended × ((came : List Came) × Brought asks path retries old w n came items ended after new) →
-    DeliversSaid asks path old w items (ended_of why) after new
-delivers_run asks path retries old new w after steps items why (n, ended, run, brought) =
-    let P : Ended → Type 0 = λ e. DeliversSaid asks path old w items e after new in
-    subst P (as_ended why steps n ended run) (delivers_said asks path retries old new w after n items ended brought)
+pub delivers_run : {S : Type 0} (asks : Asking S) (first last : Transactions) (old new : S) (w after : WalkPlace) (steps : ℕ) (items : List Item) (why : Why) →
+    (n : ℕ) × (ended : Ended) × IsRunOf why steps n ended × ((came : List Came) × BroughtBy asks first old w n came items ended after last new) →
+    DeliversSaid asks (towards first.route) (spare (ended_of why)) old w items (ended_of why) after new
+delivers_run asks first last old new w after steps items why (n, ended, run, brought) =
+    let P : Ended → Type 0 = λ e. DeliversSaid asks (towards first.route) (spare e) old w items e after new in
+    subst P (as_ended why steps n ended run) (delivers_said asks first last old new w after n items ended brought)
 
-pub into_said : {S T : Type 0} (asks : Asking S) (path : Path) (retries : ℕ) (puts : T → Option GapOf → Numbered → Bool → T → Type 0) (old new : S) (sink left : T) (w after : WalkPlace) (steps : ℕ) (ended : Ended) →
-    BroughtInto asks path retries puts old sink w steps ended after left new →
-    (calls : List Call) × Takes puts sink calls (is_stopped ended) left × DeliversSaid asks path old w (put_items calls) ended after new
-into_said asks path retries puts old new sink left w after steps ended (calls, takes, few, gaps, brought) =
-    (calls, takes, delivers_said asks path retries old new w after steps (put_items calls) ended brought)
+pub into_said : {S T : Type 0} (asks : Asking S) (first last : Transactions) (puts : T → Option GapOf → Numbered → Bool → T → Type 0) (old new : S) (sink left : T) (w after : WalkPlace) (steps : ℕ) (ended : Ended) →
+    BroughtIntoBy asks first puts old sink w steps ended after left last new →
+    (calls : List Call) × Takes puts sink calls (is_stopped ended) left × DeliversSaid asks (towards first.route) (spare ended) old w (put_items calls) ended after new
+into_said asks first last puts old new sink left w after steps ended (calls, takes, few, gaps, brought) =
+    (calls, takes, delivers_said asks first last old new w after steps (put_items calls) ended brought)
 
 -- ---- one run, and another from where it ended
 
@@ -262,21 +269,21 @@ cut_behind : (items more rest : List Item) (xs ys : List (List Item)) → IsCutI
 cut_behind items more rest xs ys (before, item, is, ends) =
     (items ++ before, item, ap (λ l. items ++ l) is ∙ sym (append_assoc items before (item ∷ [])), ends_behind item rest xs ys ends)
 
-pub said_joins : {S : Type 0} (asks : Asking S) (path : Path) (old half new : S) (w mid resumed after : WalkPlace) (xs ys : List Item) (e f : Ended) →
-    DeliversSaid asks path old w xs e mid half → DeliversSaid asks path half resumed ys f after new → resumed.log ≡ w.log → resumed.next ≡ mid.next → resumed.fresh ≡ false → w.fresh ≡ false →
-    DeliversSaid asks path old w (xs ++ ys) f after new
-said_joins {S = S} asks path old half new w mid resumed after xs ys e f first second log_is next_is by_number had_number = λ H M s low honest next some back window at.
+pub said_joins : {S : Type 0} (asks : Asking S) (path : Path) (spare_one spare_two : ℕ) (old half new : S) (w mid resumed after : WalkPlace) (xs ys : List Item) (e f : Ended) →
+    DeliversSaid asks path spare_one old w xs e mid half → DeliversSaid asks path spare_two half resumed ys f after new → resumed.log ≡ w.log → resumed.next ≡ mid.next → resumed.fresh ≡ false → w.fresh ≡ false →
+    DeliversSaid asks path (spare_one + spare_two) old w (xs ++ ys) f after new
+said_joins {S = S} asks path spare_one spare_two old half new w mid resumed after xs ys e f first second log_is next_is by_number had_number = λ H M s low honest next some back window at.
     let a = first H M s low honest next some back window at in
     let count : ℕ = length a.2 in
-    let P : ℕ → Type 0 = λ n. DeliversTo H n xs a.1 M count in
+    let P : ℕ → Type 0 = λ n. DeliversIn H n xs a.1 M a.2 in
     let one = subst P (a.3.start ∙ start_old w.fresh s M a.2 had_number) a.5 in
-    let place = stays_in_window H M low s a.1 count xs some window (at had_number).0 (at had_number).1 one in
+    let place = stays_in_window H M low s a.1 count xs some window (at had_number).0 (at had_number).1 (one.0, one.1, one.2, one.3) in
     let left : List Moment = after_answers count M in
     let R : Id → Type 0 = λ i. IsHonest asks path i H low half left in
     let b = second H left a.1 low (subst R (sym log_is) a.6.0) (next_is ∙ a.4) (some_after count M some) (back_after count M back) place.2 (λ old. (place.0, place.1)) in
     let more : ℕ = length b.2 in
     let begun : b.0 ≡ a.1 = b.3.start ∙ start_old resumed.fresh a.1 left b.2 by_number in
-    let E : ℕ → Type 0 = λ n. DeliversTo H n ys b.1 left more in
+    let E : ℕ → Type 0 = λ n. DeliversIn H n ys b.1 left b.2 in
     let two = subst E begun b.5 in
     let F : ℕ → Type 0 = λ n. Leads H left n b.2 b.3.reached in
     let G : List Moment → Type 0 = λ N. Leads H N a.1 b.2 b.3.reached in
@@ -286,7 +293,8 @@ said_joins {S = S} asks path old half new w mid resumed after xs ys e f first se
     let T : Id → Type 0 = λ i. (moments : S → List Moment) → IsHonestWhere asks path i H low (λ link N. moments link ≡ N) → moments half ≡ left → moments new ≡ after_answers more left in
     let both = sym (after_answers-add count more M) in
     let counted : length (one.0 ++ b.2) ≡ count + more = omega (arith, length-append one.0 b.2, one.1) in
-    let C : ℕ → Type 0 = λ n. DeliversTo H s (xs ++ ys) b.1 M n in
+    let D : ℕ → Type 0 = λ n. Leads H (after_answers n M) a.1 two.0 b.1 in
+    let to = leads-append H M s a.1 b.1 one.0 two.0 one.3 (subst D (sym one.1) two.3) in
     let Z : ℕ → Type 0 = λ n. IsLeftAt asks path w.log H low old new M n in (
       s,
       b.1,
@@ -301,8 +309,15 @@ said_joins {S = S} asks path old half new w mid resumed after xs ys e f first se
         within = λ stopped. cut_behind xs ys b.3.dropped one.0 b.2 (b.3.within stopped);
       },
       b.4,
-      subst C (sym counted) (joined H s a.1 b.1 count more M xs ys one two),
+      (
+        one.0 ++ two.0,
+        omega (arith, length-append one.0 two.0, length-append one.0 b.2, two.1),
+        flat_map-append (λ (l : List Item). l) one.0 two.0 ∙ ap (λ l. l ++ items_of two.0) one.2 ∙ ap (λ l. xs ++ l) two.2,
+        to,
+        omega (arith, batches-append one.0 two.0, batches-append one.0 b.2, two.4),
+      ),
       subst Z (sym counted) (subst L both (subst K log_is b.6.0), (λ moments told is. subst T log_is b.6.1 moments told (a.6.1 moments told is) ∙ both)),
       (λ up. let c = b.7 up in up_joined w.fresh resumed.fresh b.1 count M one.0 b.2 one.1 had_number c),
       b.8,
+      omega (arith, length-append one.0 b.2, batches-append one.0 b.2, one.1, one.4, a.9, b.9),
     )

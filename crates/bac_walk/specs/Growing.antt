@@ -64,9 +64,9 @@ GrowingIsDelivered {S = S} asks stands =
     (H : History) × (M : List Moment) × HasGone low at H M (length came) × AreSaidAt H M came
     × AreLeftAt asks stands first old _ came run.here run.half run.mid run.comes H M
     × stands more new (standing_at H M (length came)) × IsHonestEnd ended
-    × ((b : ℕ) × (a : ℕ) × (t : ℕ) × (b ≡ start_of w.fresh s M (answers_of came)) × (after.next ≡ sequence_number t)
+    × ((b : ℕ) × (t : ℕ) × (b ≡ start_of w.fresh s M (answers_of came)) × (after.next ≡ sequence_number t)
     × ((u : ℕ) × Leads H M b (answers_of came) u)
-    × DeliversTo H b items t M a × (ended ≡ CaughtUp → IsCaughtUp w.fresh t M (answers_of came)))
+    × DeliversTo H b items t M (length came) × (ended ≡ CaughtUp → IsCaughtUp w.fresh t M (answers_of came)))
 
 -- What a run delivered of a log that went on: replies came over the link, each said what the log held at its moment, and
 -- the items are theirs: from the ordinal of the walk's number on, or from the oldest, the records that the log held when

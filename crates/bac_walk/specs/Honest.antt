@@ -1,5 +1,5 @@
 -- What a walk delivers over links that are honest for its log.
-use Rattle.std.specs.Prelude.{◌≡◌, ℕ, ◌+◌, ◌<◌, ◌≤◌, Bool, false, Option, Result}
+use Rattle.std.specs.Prelude.{◌≡◌, ℕ, ◌+◌, ◌*◌, ◌<◌, ◌≤◌, Bool, false, Option, Result}
 use Rattle.std.specs.Prelude.{List, [], ◌∷◌, ◌++◌, length, All}
 use Rattle.bac_wire.specs.Canon.{IsValid}
 use Rattle.bac_wire.specs.Primitive.{Id, Object}
@@ -18,7 +18,7 @@ use Rattle.bac_walk.specs.declared.outcome.Ended.TheVariants.{CaughtUp, StepLimi
 use Rattle.bac_walk.specs.declared.outcome.WalkFault.TheVariants.{Lost, Refused, BadReply}
 use Rattle.bac_link.specs.Moments.{NeverGoesBack}
 use Rattle.bac_walk.specs.Came.{Came, Comes, AreSaidAt, Brought, IsCutIn, answers_of}
-use Rattle.bac_walk.specs.Collects.{IsCaughtUp, start_of}
+use Rattle.bac_walk.specs.Collects.{IsCaughtUp, batches, start_of}
 use Rattle.bac_link.specs.Moments.{AreInWindow}
 use Rattle.bac_walk.specs.Near.{IsNear}
 use Rattle.bac_walk.specs.Place.{WalkPlace}
@@ -44,9 +44,9 @@ HonestIsDelivered {S = S} asks stands =
     Brought asks path retries old w steps came items ended after new →
     w.next ≡ sequence_number s → 0 < length M → NeverGoesBack M → AreInWindow low M →
     (w.fresh ≡ false → (low ≤ s) × (s < low + 2147483648)) →
-    ((b : ℕ) × (a : ℕ) × (t : ℕ) × (b ≡ start_of w.fresh s M (answers_of came)) × (after.next ≡ sequence_number t)
+    ((b : ℕ) × (t : ℕ) × (b ≡ start_of w.fresh s M (answers_of came)) × (after.next ≡ sequence_number t)
     × ((u : ℕ) × Leads H M b (answers_of came) u)
-    × DeliversTo H b items t M a × (ended ≡ CaughtUp → IsCaughtUp w.fresh t M (answers_of came)))
+    × DeliversTo H b items t M (length came) × (ended ≡ CaughtUp → IsCaughtUp w.fresh t M (answers_of came)))
     × AreSaidAt H M came × stands new (after_answers (length came) M) × IsHonestEnd ended
 
 -- The link is honest from the moments on that so many answers left. If a function tells where it stands, by which it
@@ -72,20 +72,29 @@ pub record AreBroughtFrom (H : History) (M : List Moment) (fresh : Bool) (s b : 
   pub whole : (ended ≡ Stopped → ⊥) → dropped ≡ []
   pub within : ended ≡ Stopped → IsCutIn items dropped answers
 
+-- Items are delivered from ordinal b up to t by as many answers as these, of which as many bring records: by these
+-- themselves, or where a record was refused by the last one cut behind it.
+abbrev pub DeliversIn : History → ℕ → List Item → ℕ → List Moment → List (List Item) → Type 0
+DeliversIn H b items t M answers =
+    (cut : List (List Item)) × (length cut ≡ length answers) × (items_of cut ≡ items) × Leads H M b cut t
+    × (batches cut ≡ batches answers)
+
 -- What a run delivers over a link that is honest for its log from the moments M on: from the ordinal of the walk's
 -- number on, or from the oldest, the records that the log holds when each is reached. So many answers use up as many
--- moments; caught up, the log held nothing more at an answer after the last batch; and the only fault is a loss.
-abbrev pub DeliversSaid : {S : Type 0} → (S → List ℕ → Result (List ℕ) Loss → S → Type 0) → Path →
+-- moments, and there are at most two for each that brings records, and so many more to spare; caught up, the log held
+-- nothing more at an answer after the last batch; and the only fault is a loss.
+abbrev pub DeliversSaid : {S : Type 0} → (S → List ℕ → Result (List ℕ) Loss → S → Type 0) → Path → ℕ →
     S → WalkPlace → List Item → Ended → WalkPlace → S → Type 0
-DeliversSaid {S = S} asks path old before items ended after new =
+DeliversSaid {S = S} asks path spare old before items ended after new =
     (H : History) (M : List Moment) (s low : ℕ) →
     IsHonest asks path before.log H low old M → before.next ≡ sequence_number s →
     0 < length M → NeverGoesBack M → AreInWindow low M →
     (before.fresh ≡ false → (low ≤ s) × (s < low + 2147483648)) →
     (b : ℕ) × (t : ℕ) × (answers : List (List Item)) × AreBroughtFrom H M before.fresh s b answers ended items
-    × (after.next ≡ sequence_number t) × DeliversTo H b items t M (length answers)
+    × (after.next ≡ sequence_number t) × DeliversIn H b items t M answers
     × IsLeftAt asks path before.log H low old new M (length answers)
     × (ended ≡ CaughtUp → IsCaughtUp before.fresh t M answers) × IsHonestEnd ended
+    × (length answers ≤ 2 * batches answers + spare)
 
 -- a link is honest for each log for which it is ours, by every way that a request can go
 abbrev pub OursAreHonest : {S : Type 0} → (S → List ℕ → Result (List ℕ) Loss → S → Type 0) →

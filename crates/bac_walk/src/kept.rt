@@ -15,7 +15,7 @@ ghost use Rattle.bac_walk.specs.Outcomes.{IsRunOf};
 ghost use Rattle.bac_walk.specs.Rests.{rest, Rests, Misses};
 ghost use Rattle.bac_walk.specs.Told.{Told, ended_of};
 ghost use Rattle.bac_walk.specs.Came.{Came, Brought};
-ghost use Rattle.bac_walk.specs.Transacted.{BroughtBy};
+ghost use Rattle.bac_walk.specs.Transacted.{BroughtBy, spare};
 ghost use Rattle.bac_walk.specs.Growing.{DeliversGrowing};
 ghost use Rattle.bac_walk.specs.Honest.{DeliversSaid};
 
@@ -98,7 +98,7 @@ pub fn collect<L: LogLink>(
     // reached, each once, in rising order, with one exact gap for what is gone; and the only fault
     // is a loss. The number is that of ordinal s; it and all moments lie within half of the count
     // from one ordinal on.
-    ensures headline { DeliversSaid L.asks (towards transactions.old.route) link.old walk.old result.items.items (ended_of result.why) walk.new link.new }
+    ensures headline { DeliversSaid L.asks (towards transactions.old.route) (spare (ended_of result.why)) link.old walk.old result.items.items (ended_of result.why) walk.new link.new }
     // So it does over a link that stays honest while its log goes on, between any two asks, and that may
     // lose any: for as many asks as these steps may make, and then for the asks that are left.
     ensures growing { DeliversGrowing L.asks (towards transactions.old.route) transactions.old.retries link.old walk.old steps

@@ -6,7 +6,7 @@ ghost use Rattle.bac_link.specs.Delivery.{History, Moment, DeliversTo};
 ghost use Rattle.bac_link.specs.Path.{towards};
 ghost use Rattle.bac_walk.specs.Came.{BroughtInto};
 ghost use Rattle.bac_link.specs.declared.transactions.Transactions.{Transactions as TransactionsOf};
-ghost use Rattle.bac_walk.specs.Transacted.{BroughtIntoBy};
+ghost use Rattle.bac_walk.specs.Transacted.{BroughtIntoBy, spare};
 ghost use Rattle.bac_walk.specs.Place.{WalkPlace, walk_at};
 ghost use Rattle.bac_link.specs.Moments.{AreInWindow};
 ghost use Rattle.bac_walk.specs.Sinks.{Call, Takes, put_items, is_stopped};
@@ -40,7 +40,7 @@ pub fn stop_and_resume<L: LogLink, S: Sink, R: Sink>(
     // from the oldest record.
     ensures headline { walk.old.fresh ≡ false → (first : List Call) × (second : List Call)
         × Takes S.puts sink.old first (is_stopped result.0) sink.new × Takes R.puts rest.old second (is_stopped result.1) rest.new
-        × DeliversSaid L.asks (towards transactions.old.route) link.old walk.old (put_items first ++ put_items second) result.1 walk.new link.new }
+        × DeliversSaid L.asks (towards transactions.old.route) (spare result.0 + spare result.1) link.old walk.old (put_items first ++ put_items second) result.1 walk.new link.new }
     // Over any link: what came to the first walk, and to the second, which began at the number, and
     // on the link, where the first ended.
     ensures brought { (here : WalkPlace) × (half : L)

@@ -14,7 +14,7 @@ ghost use Rattle.bac_walk.specs.Spelled.{IsWhole, records_from};
 ghost use Rattle.bac_walk.specs.Collects.{FoundEnd, MissingEnd};
 ghost use Rattle.bac_walk.specs.Told.{Told};
 ghost use Rattle.bac_walk.specs.Came.{BroughtInto};
-ghost use Rattle.bac_walk.specs.Transacted.{BroughtIntoBy};
+ghost use Rattle.bac_walk.specs.Transacted.{BroughtIntoBy, spare};
 ghost use Rattle.bac_walk.specs.Growing.{DeliversGrowing};
 ghost use Rattle.bac_walk.specs.Honest.{DeliversSaid};
 
@@ -69,7 +69,7 @@ pub fn deliver<L: LogLink, S: Sink>(
     // reached, each once, in rising order, with one exact gap for what is gone; and the only fault
     // is a loss.
     ensures headline { (calls : List Call) × Takes S.puts sink.old calls (is_stopped result) sink.new
-        × DeliversSaid L.asks (towards transactions.old.route) link.old walk.old (put_items calls) result walk.new link.new }
+        × DeliversSaid L.asks (towards transactions.old.route) (spare result) link.old walk.old (put_items calls) result walk.new link.new }
     // So it does over a link that stays honest while its log goes on, between any two asks, and that may
     // lose any: for as many asks as these steps may make, and then for the asks that are left.
     ensures growing { (calls : List Call) × Takes S.puts sink.old calls (is_stopped result) sink.new

@@ -14,7 +14,7 @@ ghost use Rattle.bac_walk.specs.Replied.{IsSame, progress_of, step_of};
 ghost use Rattle.bac_walk.specs.Spelled.{data_held, records_from};
 ghost use Rattle.bac_walk.specs.Told.{Told, ToldTurn};
 ghost use Rattle.bac_walk.specs.Came.{Came, Brought};
-ghost use Rattle.bac_walk.specs.Transacted.{TurnBy, BroughtBy, asked};
+ghost use Rattle.bac_walk.specs.Transacted.{TurnBy, BroughtBy, asked, spare};
 ghost use Rattle.bac_walk.specs.Growing.{DeliversGrowing};
 ghost use Rattle.bac_walk.specs.Honest.{DeliversSaid};
 ghost use Rattle.bac_walk.specs.Walks.{IsTakenFrom};
@@ -136,7 +136,7 @@ impl Walk {
             × DeliversTo H b (step_items result) t M a × L.is_ours link.new self.old.log r (after_answers a M) H }
         // Over a link that is honest for the log it delivers the next records that the log holds,
         // with the gap before them.
-        ensures headline { DeliversSaid L.asks (towards transactions.old.route) link.old self.old (step_items result) (step_ended result) self.new link.new }
+        ensures headline { DeliversSaid L.asks (towards transactions.old.route) (spare (step_ended result)) link.old self.old (step_items result) (step_ended result) self.new link.new }
         // So it does over one that stays honest while its log goes on, and may lose any ask.
         ensures growing { DeliversGrowing L.asks (towards transactions.old.route) transactions.old.retries link.old self.old 1
             (step_items result) (step_ended result) self.new link.new }

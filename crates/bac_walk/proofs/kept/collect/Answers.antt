@@ -373,10 +373,10 @@ returns-then-not-make_room-clause-brought g c =
     (run.0, run.1, run.2, (run.3.0, brought_plain g.L.LogLink.asks c.args.transactions.now c.loop-done.transactions c.args.link.now c.loop-done.link c.args.walk.now c.loop-done.walk run.0 run.3.0 c.make_room.new.kept.items.items run.1 run.3.1))
 
 pub returns-then-not-make_room-clause-headline : goal.returns-then-not-make_room-clause-headline
-unfolding returns-then-not-make_room-clause-brought
+unfolding returns-then-not-make_room-clause-transacted
 returns-then-not-make_room-clause-headline g c =
-    delivers_run g.L.LogLink.asks (towards c.args.transactions.now.route) c.args.transactions.now.retries c.args.link.now c.loop-done.link c.args.walk.now c.loop-done.walk
-    c.args.steps c.make_room.new.kept.items.items Memory (returns-then-not-make_room-clause-brought g c)
+    delivers_run g.L.LogLink.asks c.args.transactions.now c.loop-done.transactions c.args.link.now c.loop-done.link c.args.walk.now c.loop-done.walk
+    c.args.steps c.make_room.new.kept.items.items Memory (returns-then-not-make_room-clause-transacted g c)
 
 pub returns-in-Some-clause-brought : goal.returns-in-Some-clause-brought
 unfolding returns-in-Some-clause-transacted
@@ -385,10 +385,10 @@ returns-in-Some-clause-brought g c =
     (run.0, run.1, run.2, (run.3.0, brought_plain g.L.LogLink.asks c.args.transactions.now c.deliver-ended.new.transactions c.args.link.now c.deliver-ended.new.link c.args.walk.now c.deliver-ended.new.walk run.0 run.3.0 c.deliver-ended.new.sink.items.items run.1 run.3.1))
 
 pub returns-in-Some-clause-headline : goal.returns-in-Some-clause-headline
-unfolding returns-in-Some-clause-brought
+unfolding returns-in-Some-clause-transacted
 returns-in-Some-clause-headline g c =
-    delivers_run g.L.LogLink.asks (towards c.args.transactions.now.route) c.args.transactions.now.retries c.args.link.now c.deliver-ended.new.link c.args.walk.now c.deliver-ended.new.walk
-    c.args.steps c.deliver-ended.new.sink.items.items c.in-Some.why (returns-in-Some-clause-brought g c)
+    delivers_run g.L.LogLink.asks c.args.transactions.now c.deliver-ended.new.transactions c.args.link.now c.deliver-ended.new.link c.args.walk.now c.deliver-ended.new.walk
+    c.args.steps c.deliver-ended.new.sink.items.items c.in-Some.why (returns-in-Some-clause-transacted g c)
 
 pub returns-clause-brought : goal.returns-clause-brought
 unfolding returns-clause-transacted
@@ -397,10 +397,10 @@ returns-clause-brought g c =
     (run.0, run.1, run.2, (run.3.0, brought_plain g.L.LogLink.asks c.args.transactions.now c.loop-done.transactions c.args.link.now c.loop-done.link c.args.walk.now c.loop-done.walk run.0 run.3.0 c.loop-done.kept.items.items run.1 run.3.1))
 
 pub returns-clause-headline : goal.returns-clause-headline
-unfolding returns-clause-brought
+unfolding returns-clause-transacted
 returns-clause-headline g c =
-    delivers_run g.L.LogLink.asks (towards c.args.transactions.now.route) c.args.transactions.now.retries c.args.link.now c.loop-done.link c.args.walk.now c.loop-done.walk
-    c.args.steps c.loop-done.kept.items.items WasLimit (returns-clause-brought g c)
+    delivers_run g.L.LogLink.asks c.args.transactions.now c.loop-done.transactions c.args.link.now c.loop-done.link c.args.walk.now c.loop-done.walk
+    c.args.steps c.loop-done.kept.items.items WasLimit (returns-clause-transacted g c)
 
 pub returns-then-not-make_room-clause-growing : goal.returns-then-not-make_room-clause-growing
 unfolding returns-then-not-make_room-clause-transacted

@@ -5,7 +5,7 @@ use Rattle.bac_link.specs.Path.{Path, towards}
 use Rattle.bac_walk.specs.Honest.{DeliversSaid}
 use Rattle.bac_walk.proofs.Honest.{said_joins}
 use Rattle.bac_walk.specs.Came.{BroughtInto}
-use Rattle.bac_walk.specs.Transacted.{BroughtIntoBy}
+use Rattle.bac_walk.specs.Transacted.{BroughtIntoBy, spare}
 use Rattle.bac_walk.proofs.Transacted.{into_same}
 use Rattle.bac_link.specs.Laws.{after_answers}
 use Rattle.bac_link.specs.Delivery.{DeliversTo}
@@ -45,12 +45,12 @@ returns g c =
           let one = c.deliver-first.ensures.headline in
           let two = c.deliver-second.ensures.headline in
           let is = (c.in-Some.ensures {u = tt}).some in
-          let D : Path → Type 0 = λ q. DeliversSaid g.L.LogLink.asks q c.deliver-first.new.link c.in-Some.resumed (put_items two.0) c.deliver-second.result c.deliver-second.new.walk c.deliver-second.new.link in (
+          let D : Path → Type 0 = λ q. DeliversSaid g.L.LogLink.asks q (spare c.deliver-second.result) c.deliver-first.new.link c.in-Some.resumed (put_items two.0) c.deliver-second.result c.deliver-second.new.walk c.deliver-second.new.link in (
             one.0,
             two.0,
             one.1,
             two.1,
-            said_joins g.L.LogLink.asks (towards c.args.transactions.now.route) c.args.link.now c.deliver-first.new.link c.deliver-second.new.link c.args.walk.now c.deliver-first.new.walk
+            said_joins g.L.LogLink.asks (towards c.args.transactions.now.route) (spare c.deliver-first.result) (spare c.deliver-second.result) c.args.link.now c.deliver-first.new.link c.deliver-second.new.link c.args.walk.now c.deliver-first.new.walk
                 c.in-Some.resumed c.deliver-second.new.walk (put_items one.0) (put_items two.0) c.deliver-first.result c.deliver-second.result one.2
                 (subst D (ap towards c.deliver-first.ensures.route) two.2) (ap (λ (v : WalkPlace). v.log) is ∙ c.log.ensures.log ∙ c.deliver-first.ensures.log)
                 (ap (λ (v : WalkPlace). v.next) is ∙ c.next_number.ensures.next) (ap (λ (v : WalkPlace). v.fresh) is) had_number,

@@ -75,8 +75,8 @@ returns-in_default g c =
       none = λ h. absurd (omega (arith, h));
       transacted = transacted;
       brought = brought;
-      headline = into_said g.L.LogLink.asks (towards c.args.transactions.now.route) c.args.transactions.now.retries g.S.Sink.puts c.args.link.now c.deliver_step.new.link
-          c.args.sink.now c.deliver_step.new.sink c.args.walk.now c.deliver_step.new.walk c.args.steps c.deliver_step.result brought;
+      headline = into_said g.L.LogLink.asks c.args.transactions.now c.deliver_step.new.transactions g.S.Sink.puts c.args.link.now c.deliver_step.new.link
+          c.args.sink.now c.deliver_step.new.sink c.args.walk.now c.deliver_step.new.walk c.args.steps c.deliver_step.result transacted;
       growing = into_growing g.L.LogLink.asks c.args.transactions.now c.deliver_step.new.transactions g.S.Sink.puts c.args.link.now c.deliver_step.new.link
           c.args.sink.now c.deliver_step.new.sink c.args.walk.now c.deliver_step.new.walk c.args.steps c.deliver_step.result transacted;
       told = told_same g.L.LogLink.asks (towards c.args.transactions.now.route) (towards c.loop-done.transactions.route) c.args.transactions.now.retries c.loop-done.transactions.retries
@@ -212,10 +212,10 @@ returns-clause-brought g c =
     c.args.sink.now c.loop-done.sink c.args.walk.now c.loop-done.walk c.args.steps StepLimit (returns-clause-transacted g c)
 
 pub returns-clause-headline : goal.returns-clause-headline
-unfolding returns-clause-brought
+unfolding returns-clause-transacted
 returns-clause-headline g c =
-    into_said g.L.LogLink.asks (towards c.args.transactions.now.route) c.args.transactions.now.retries g.S.Sink.puts c.args.link.now c.loop-done.link
-    c.args.sink.now c.loop-done.sink c.args.walk.now c.loop-done.walk c.args.steps StepLimit (returns-clause-brought g c)
+    into_said g.L.LogLink.asks c.args.transactions.now c.loop-done.transactions g.S.Sink.puts c.args.link.now c.loop-done.link
+    c.args.sink.now c.loop-done.sink c.args.walk.now c.loop-done.walk c.args.steps StepLimit (returns-clause-transacted g c)
 
 pub returns-clause-growing : goal.returns-clause-growing
 unfolding returns-clause-transacted

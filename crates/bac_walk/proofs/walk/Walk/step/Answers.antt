@@ -90,10 +90,10 @@ returns-clause-transacted g c =
     subst Q same.ended (subst P same.items c.reply.ensures.transacted)
 
 pub returns-clause-headline : goal.returns-clause-headline
-unfolding returns-clause-brought
+unfolding returns-clause-transacted
 returns-clause-headline g c =
-    delivers_said g.L.LogLink.asks (towards c.args.transactions.now.route) c.args.transactions.now.retries c.args.link.now c.reply.new.link c.args.self.now c.reply.new.self 1
-    (step_items c.decoded.result) (step_ended c.decoded.result) (returns-clause-brought g c)
+    delivers_said g.L.LogLink.asks c.args.transactions.now c.reply.new.transactions c.args.link.now c.reply.new.link c.args.self.now c.reply.new.self 1
+    (step_items c.decoded.result) (step_ended c.decoded.result) (returns-clause-transacted g c)
 
 pub returns-clause-growing : goal.returns-clause-growing
 unfolding returns-clause-transacted
