@@ -1,10 +1,10 @@
 -- A log that grows, behind a link that may lose any ask.
-use Rattle.std.proofs.Common.{◌≡◌, ℕ, zero, suc, ◌+◌, ◌-◌, ◌*◌, ◌^◌, ◌⊎◌, ◌<◌, ◌≤◌, ◌==◌, ◌&&◌, Bool, true, false, nat_lt, nat_le, get_or, if◌then◌else◌, Option, Some, None, Result, Ok, Err, List, [], ◌∷◌, ◌++◌, length, slice_get, replicate, pos, refl, sym, subst, ap, ◌∙◌, inl, inr, arith}
+use Rattle.std.proofs.Common.{◌≡◌, ℕ, zero, suc, ◌+◌, ◌-◌, ◌*◌, ◌^◌, ◌⊎◌, ◌<◌, ◌≤◌, ◌==◌, ◌&&◌, Bool, true, false, nat_lt, nat_le, get_or, if◌then◌else◌, Some, None, Result, Ok, Err, List, [], ◌∷◌, ◌++◌, length, slice_get, replicate, pos, refl, sym, subst, ap, ◌∙◌, inl, inr, arith}
 use Rattle.std.proofs.lemmas.Bool.{cases_Bool, cases_lt, eqb-true, le-leb, leb-true, lt-ltb, ltb-true}
 use Rattle.std.proofs.lemmas.List.{length-replicate, replicate-append-replicate}
 use Rattle.bac_wire.specs.Canon.{tagged, unsigned_octets}
 use Rattle.bac_wire.specs.Number.{number}
-use Rattle.bac_wire.specs.Primitive.{Id, Object, Enumerated, Signed}
+use Rattle.bac_wire.specs.Primitive.{Object, Enumerated, Signed}
 use Rattle.bac_wire.proofs.Canonical.{unsigned_stands}
 use Rattle.bac_wire.specs.Level.{token_at, close_at}
 use Rattle.bac_wire.specs.Reading.{number_at as wire_number_at, length_at, value_in, tagged_at, value_at, context_at, mark_at, contents_as}

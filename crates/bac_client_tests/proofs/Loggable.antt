@@ -1,5 +1,5 @@
 -- What is held where a walk of a log at rest got a reply is loggable.
-use Rattle.std.proofs.Common.{◌≡◌, ◌+◌, ℕ, zero, suc, ◌<◌, ◌⊎◌, inl, inr, max, nat_lt, Bool, true, false, if◌then◌else◌, Option, None, Result, List, [], ◌∷◌, ◌++◌, length, refl, sym, ap, subst, ◌∙◌, arith}
+use Rattle.std.proofs.Common.{◌≡◌, ◌+◌, ℕ, zero, suc, ◌<◌, ◌⊎◌, inl, inr, max, nat_lt, Bool, true, false, if◌then◌else◌, Option, None, Result, List, [], ◌∷◌, ◌++◌, length, refl, subst, arith}
 use Rattle.std.specs.Prelude.{All}
 use Rattle.bac_wire.specs.Canon.{IsValid}
 use Rattle.bac_wire.specs.Primitive.{Id, Object}

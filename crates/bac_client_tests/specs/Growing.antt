@@ -1,8 +1,7 @@
 -- A log of REALs that goes on for ever, behind a link that may lose any ask.
-use Rattle.std.specs.Prelude.{◌≡◌, ℕ, zero, suc, ◌+◌, ◌*◌, ◌<◌, ◌≤◌, ◌==◌, ◌&&◌, nat_lt, nat_le, if◌then◌else◌, Option}
+use Rattle.std.specs.Prelude.{◌≡◌, ℕ, ◌+◌, ◌≤◌, ◌==◌, ◌&&◌, nat_lt, nat_le, if◌then◌else◌, Option}
 use Rattle.std.specs.Prelude.{Some, None, Result, Ok, Err, List, [], ◌∷◌, get_or, replicate}
 use Rattle.bac_log.specs.declared.entry.Entry.{Entry}
-use Rattle.bac_link.specs.Delivery.{History, Moment}
 use Rattle.bac_link.specs.Growing.{Standing}
 use Rattle.bac_link.specs.declared.link.Lost.{Lost}
 use Rattle.bac_client_tests.specs.Foreign.{real_at}

@@ -1,6 +1,6 @@
 //! What a user of transactions and links needs, proved from their public contracts alone.
 
-ghost use Rattle.std.specs.Prelude.{◌≡◌, ◌≢◌, ◌↔◌, ◌≤◌, ◌+◌, ℕ, pos, List, IfSome, IsNone, IsOkAnd, OnErr};
+ghost use Rattle.std.specs.Prelude.{◌≡◌, ◌≢◌, ◌↔◌, ◌+◌, ℕ, pos, List, IfSome, IsNone, IsOkAnd, OnErr};
 ghost use Rattle.bac_apdu.specs.declared.service.extent.Extent.TheVariants.{ByNumber as by_number};
 ghost use Rattle.bac_link.specs.Delivery.{History, Moment, now, later};
 ghost use Rattle.bac_link.specs.Links.{IsReply, RisesBy};

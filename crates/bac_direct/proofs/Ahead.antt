@@ -15,6 +15,7 @@ use Rattle.bac_direct.specs.declared.event.LinkEvent.{LinkEvent}
 use Rattle.bac_direct.specs.declared.event.LinkEvent.TheVariants.{Sample, Advance, Handle, Answer, Lose}
 use Rattle.bac_direct.proofs.Events.{Remains, event_steps, log_there, played_remains}
 use Rattle.bac_direct.proofs.Steps.{Gains, steps_gain}
+use Rattle.bac_walk.proofs.Growing.{later_of}
 
 -- ---- a log with a capacity
 
@@ -156,10 +157,6 @@ happened rounds event d n events M N H moments l =
           ∙ ap (λ (es : List Entry). (l.past ++ take g.gone log.entries) ++ (es ++ ahead)) (sym g.entries);
     }
 
-later-ahead : (m : Moment) (M : List Moment) → 0 < length M → later (m ∷ M) ≡ M
-later-ahead m [] h = absurd (omega (arith, h))
-later-ahead m (k ∷ M) h = refl
-
 -- after an answer its moment is used up; a loss leaves the moments
 abbrev IsLeft : ℕ → Bool → State → ℕ → List LinkEvent → List Moment → History → Type 0
 IsLeft rounds true d n rest M H = Lies rounds d n rest M H
@@ -174,7 +171,7 @@ left rounds d n (Answer ∷ events) M H l =
     let ahead : List Moment = placed_all rounds (moments_ahead d n events) in (
       ap now l.moments,
       happened rounds Answer d n events (later M) M H
-          (ap later l.moments ∙ later-ahead (placed rounds (moment_of (log_with d n))) ahead (placed_some rounds (moments_ahead d n events) (ahead_some d n events))) l,
+          (ap later l.moments ∙ later_of (placed rounds (moment_of (log_with d n))) ahead (placed_some rounds (moments_ahead d n events) (ahead_some d n events))) l,
     )
 left rounds d n (Lose ∷ events) M H l = happened rounds Lose d n events M M H l.moments l
 left rounds d n (Sample i ∷ events) M H l = left rounds (happens (Sample i) d) n events M H (happened rounds (Sample i) d n events M M H l.moments l)

@@ -3,7 +3,7 @@
 ghost use Rattle.std.specs.Prelude.{◌≡◌, ◌≤◌, ℕ, List, None, OnErr, OnOk, IsErr, IsOk};
 ghost use Rattle.bac_wire.specs.Primitive.{Id};
 ghost use Rattle.bac_apdu.specs.declared.service.extent.Extent.{Extent as AnyExtent};
-ghost use Rattle.bac_apdu.specs.Npdu.{header_of, maybe_place_of};
+ghost use Rattle.bac_apdu.specs.Npdu.{header_of};
 ghost use Rattle.bac_apdu.specs.Route.{IsRoute};
 ghost use Rattle.bac_link.specs.Delivery.{History, Moment};
 ghost use Rattle.bac_link.specs.Links.{IsAsked, IsAskedOfNone, IsQuestion, RisesBy};

@@ -1,5 +1,5 @@
 -- What two runs keep, one after the other.
-use Rattle.std.proofs.Common.{◌≡◌, ◌+◌, ◌<◌, ◌≤◌, ℕ, false, List, [], ◌∷◌, refl, ap, sym, subst, ◌∙◌, arith}
+use Rattle.std.proofs.Common.{◌≡◌, ◌+◌, ◌≤◌, ℕ, false, List, [], ◌∷◌, refl, ap, sym, subst, ◌∙◌}
 use Rattle.sqlite.specs.Effect.{Database}
 use Rattle.sqlite_trees.specs.Tree.{Trees}
 use Rattle.bac_wire.specs.Primitive.{Id}
@@ -8,10 +8,7 @@ use Rattle.bac_link.specs.declared.item.Item.{Item}
 use Rattle.bac_link.specs.Delivery.{History, Moment, DeliversTo}
 use Rattle.bac_link.specs.Laws.{after_answers}
 use Rattle.bac_walk.specs.declared.outcome.Ended.{Ended}
-use Rattle.bac_walk.specs.declared.outcome.Why.{Why}
-use Rattle.bac_walk.specs.declared.outcome.Why.TheVariants.{CaughtUp, StepLimit, Fault, Memory}
 use Rattle.bac_walk.specs.Near.{StaysNear}
-use Rattle.bac_walk.specs.Outcomes.{IsRunOf}
 use Rattle.bac_walk.specs.Place.{WalkPlace, walk_at}
 use Rattle.bac_walk.proofs.Near.{fewer_steps}
 use Rattle.bac_archive.specs.Rows.{kept, Adds}
@@ -19,12 +16,6 @@ use Rattle.bac_keep.specs.declared.place.Place.{Place}
 use Rattle.bac_keep.specs.Items.{era, era_after, kept_rows}
 use Rattle.bac_keep.specs.Kept.{HasNoneBehind, IsKept, rows_at, Ran, AllRunsAreKept, BeginsEmpty, KeptIsDelivered}
 use Rattle.bac_keep.specs.Runs.{KeepsRun}
-
-pub few_steps : (why : Why) (steps n : ℕ) (ended : Ended) → IsRunOf why steps n ended → n ≤ steps
-few_steps CaughtUp steps n ended is = let e : n ≡ steps = is.0 in omega (arith, e)
-few_steps StepLimit steps n ended is = let e : n ≡ steps = is.0 in omega (arith, e)
-few_steps (Fault f) steps n ended is = let e : n ≡ steps = is.0 in omega (arith, e)
-few_steps Memory steps n ended is = let e : n < steps = is.0 in omega (arith, e)
 
 -- what a run from a number on adds and delivers
 pub from_number : {L : Type 0} (ours : L → Id → ℕ → List Moment → History → Type 0) (failures : L → ℕ) → KeptIsDelivered ours failures →

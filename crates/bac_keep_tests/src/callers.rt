@@ -1,6 +1,6 @@
 //! What a user of an archive needs, proved from the public contracts alone.
 
-ghost use Rattle.std.specs.Prelude.{ℕ, ◌≡◌, ◌+◌, false, [], List, IsTrue, IfOk, IfSome};
+ghost use Rattle.std.specs.Prelude.{ℕ, ◌≡◌, false, [], List, IfOk, IfSome};
 ghost use Rattle.sqlite.specs.State.{HasCleanDisk};
 ghost use Rattle.sqlite.specs.Held.{state};
 ghost use Rattle.bac_log.specs.TrendLog.{sequence_number};

@@ -1,5 +1,5 @@
 -- Links that stay honest for a log that goes on.
-use Rattle.std.proofs.Common.{◌≡◌, ℕ, zero, suc, ◌+◌, ◌-◌, ◌<◌, ◌≤◌, ◌⊎◌, max, inl, inr, true, false, Bool, Option, Some, None, Result, Ok, Err, List, [], ◌∷◌, ◌++◌, length, length-append, replicate, slice_get, refl, sym, ap, subst, ◌∙◌, arith, append-nil, append_assoc}
+use Rattle.std.proofs.Common.{◌≡◌, ℕ, zero, suc, ◌+◌, ◌-◌, ◌<◌, ◌≤◌, inl, inr, Option, Some, None, Result, Ok, Err, List, [], ◌∷◌, ◌++◌, length, length-append, replicate, slice_get, refl, sym, ap, subst, ◌∙◌, arith, append-nil, append_assoc}
 use Rattle.std.proofs.lemmas.Bool.{cases_Bool}
 use Rattle.std.proofs.lemmas.List.{length-replicate}
 use Rattle.bac_wire.specs.Primitive.{Id}
@@ -100,7 +100,7 @@ stays_on asks path log low = record {
 
 -- ---- moments that are known before
 
-window_at : (low : ℕ) (M : List Moment) → 0 < length M → AreInWindow low M → IsInWindow low (now M)
+pub window_at : (low : ℕ) (M : List Moment) → 0 < length M → AreInWindow low M → IsInWindow low (now M)
 window_at low [] some window = absurd (omega arith)
 window_at low (m ∷ M) some window = window.0
 

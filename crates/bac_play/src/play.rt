@@ -1,7 +1,6 @@
 //! Links that answer from a record.
 
-ghost use Rattle.std.specs.Prelude.{◌≡◌, ◌≤◌, ◌↔◌, true, false, [], None, IfSome, IsTrue, OnErr};
-ghost use Rattle.bac_link.specs.Links.{RisesBy};
+ghost use Rattle.std.specs.Prelude.{◌≡◌, ◌↔◌, true, false, [], None, IfSome, IsTrue};
 ghost use Rattle.bac_play.specs.Play.{IsNext, Plays};
 
 use bac_link::{LogLink, Lost};

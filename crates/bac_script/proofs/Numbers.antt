@@ -1,5 +1,5 @@
 -- The number of the line that begins with a kind and an instance.
-use Rattle.std.proofs.Common.{◌≡◌, ◌<◌, ◌-◌, ◌+◌, zero, suc, true, false, Bool, if◌then◌else◌, ℕ, List, [], ◌∷◌, Option, Some, None, refl, ap, sym, ◌∙◌, arith}
+use Rattle.std.proofs.Common.{◌≡◌, ◌<◌, ◌-◌, ◌+◌, zero, suc, true, false, Bool, if◌then◌else◌, ℕ, List, ◌∷◌, Option, Some, ap, sym, ◌∙◌, arith}
 use Rattle.std.specs.Str.Lines.{strip_carriage_return, lines}
 use Rattle.bac_objects.specs.declared.lines.LineId.{LineId}
 use Rattle.bac_script.specs.Reason.{is_of, number_of, unless_others}

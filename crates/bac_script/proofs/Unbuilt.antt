@@ -7,16 +7,16 @@ use Rattle.bac_objects.specs.State as device
 use Rattle.bac_objects.specs.declared.build.BuildFault.{BuildFault}
 use Rattle.bac_objects.specs.declared.build.BuildFault.TheVariants as build
 use Rattle.bac_objects.specs.declared.build.Misfit.{Misfit}
-use Rattle.bac_script.specs.Configuration.{Plan, with_line, with_read, with_text}
-use Rattle.bac_script.specs.Fault.{Refusal, Bad, Unbuilt, replay_fault}
+use Rattle.bac_script.specs.Configuration.{Plan, with_read, with_text}
+use Rattle.bac_script.specs.Fault.{replay_fault}
 use Rattle.bac_script.specs.Reason.{IsUnbuilt, IsUnfit, IsUnfitLine, described, with_next}
 use Rattle.bac_script.specs.Replay.{Played, play, then_play}
 use Rattle.bac_script.specs.Script.Line.{ScriptEvent, ScriptLine, Device, Object, Happens, is_silent, line_in}
 use Rattle.bac_script.specs.Script.Lines.{ended_lines, open_line}
-use Rattle.bac_script.specs.Session.{SessionState, Step, Empty, Described, Running, end_fault, first_event, happens, on_read, running, step}
+use Rattle.bac_script.specs.Session.{SessionState, Step, Empty, Described, Running, end_fault, first_event, happens, on_read, step}
 use Rattle.bac_script.specs.Stops.{ScriptStops, Stops}
 use Rattle.bac_script.specs.declared.replay.fault.ReplayFault.{ReplayFault}
-use Rattle.bac_script.specs.declared.replay.fault.ReplayFault.TheVariants.{BadLine, Build, Read, TooLong, Write, Memory}
+use Rattle.bac_script.specs.declared.replay.fault.ReplayFault.TheVariants.{BadLine, Build, Memory}
 use Rattle.bac_script.proofs.LineLemmas.{ended_lines-longer, lines-parts}
 
 -- what is described, as what the lines so far have made

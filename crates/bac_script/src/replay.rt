@@ -1,5 +1,5 @@
 //! A script read from a reader, its text written to a writer.
-ghost use Rattle.std.specs.Prelude.{◌≡◌, ◌≢◌, ◌+◌, ◌<◌, ◌≤◌, ℕ, List, [], ◌∷◌, ◌++◌, length, None, Some, Ok, Err, IfOk, IfErr, OnOk, Option, take};
+ghost use Rattle.std.specs.Prelude.{◌≡◌, ◌≢◌, ◌+◌, ◌<◌, ◌≤◌, ℕ, List, [], ◌∷◌, length, None, Some, Ok, Err, IfOk, IfErr, OnOk, Option, take};
 ghost use Rattle.std.specs.Io.KnownBytes.{Appends, Consumes, IsAtEnd};
 ghost use Rattle.bac_script.specs.Reason.{IsExplained, IsUnbuilt, described, without_reason};
 ghost use Rattle.bac_script.specs.Input.{ConsumesUpTo};

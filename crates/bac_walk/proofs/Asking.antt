@@ -1,5 +1,5 @@
 -- A walk's question is in range.
-use Rattle.std.proofs.Common.{◌≡◌, ℕ, ◌^◌, ◌+◌, ◌<◌, ◌≤◌, ◌||◌, Bool, true, false, None, Err, refl, sym, ap, ◌∙◌}
+use Rattle.std.proofs.Common.{◌≡◌, ℕ, ◌^◌, ◌+◌, ◌<◌, ◌≤◌, Bool, true, false, None, Err, refl, sym, ap, ◌∙◌}
 use Rattle.bac_apdu.specs.Service.Extent.{IsExtent}
 use Rattle.bac_walk.specs.Place.{WalkPlace}
 use Rattle.bac_log.specs.TrendLog.{sequence_number}
@@ -9,6 +9,7 @@ use Rattle.bac_link.specs.Honest.{IsAskedIn}
 use Rattle.bac_link.specs.Standard.{FromNumber, FromOldest as FromTheOldest, extent_asked}
 use Rattle.bac_walk.specs.Replies.{FromOrdinal, FromOldest, asked_at, extent_of}
 use Rattle.bac_walk.specs.Walks.{asks_oldest_now, asked_by, question_of, wanted_at}
+use Rattle.bac_walk.proofs.Turns.{or_left}
 use Rattle.bac_walk.proofs.Bridge.{IsNearTo}
 use Rattle.std.specs.Prelude.{if◌then◌else◌}
 use Rattle.bac_wire.specs.Primitive.{Id}
@@ -46,24 +47,20 @@ asked_same w s next = at (asks_oldest_now w)
 pub asks_at : (w : WalkPlace) (s : ℕ) → w.next ≡ sequence_number s → question_of w ≡ extent_of (wanted_at w s)
 asks_at w s next = ap extent_asked (asked_same w s next)
 
-not_fresh : (a b : Bool) → (a || b) ≡ false → a ≡ false
-not_fresh true b h = absurd (cc)
-not_fresh false b h = refl
-
 -- a number that it asks for is that of an ordinal in the window, if the walk's is
 pub asked_in : (w : WalkPlace) (low s : ℕ) → w.next ≡ sequence_number s → (w.fresh ≡ false → (low ≤ s) × (s < low + 2147483648)) → IsAskedIn low (asked_by w)
 asked_in w low s next at = by (asks_oldest_now w) refl
   where
     by : (b : Bool) → asks_oldest_now w ≡ b → IsAskedIn low (if b then FromTheOldest else FromNumber w.next)
     by true is = tt
-    by false is = let here = at (not_fresh w.fresh w.asks_oldest is) in (s, next, here.0, here.1)
+    by false is = let here = at (or_left w.fresh w.asks_oldest is) in (s, next, here.0, here.1)
 
 pub near_to : (w : WalkPlace) (s : ℕ) (m : Moment) → (w.fresh ≡ false → IsNear s m) → IsNearTo (wanted_at w s) m
 near_to w s m near = at (asks_oldest_now w) refl
   where
     at : (b : Bool) → asks_oldest_now w ≡ b → IsNearTo (if b then FromOldest else FromOrdinal s) m
     at true is = tt
-    at false is = near (not_fresh w.fresh w.asks_oldest is)
+    at false is = near (or_left w.fresh w.asks_oldest is)
 
 -- how a link that lacks the log ends an exchange
 pub lost_is : (f : ExchangeFault) → f ≡ fault.Lost → IsNotLost (Err f) → ⊥

@@ -1,13 +1,15 @@
 -- What came over a link is delivered.
-use Rattle.std.proofs.Common.{◌≡◌, ℕ, zero, suc, ◌+◌, ◌-◌, ◌<◌, ◌≤◌, ◌⊎◌, ◌||◌, if◌then◌else◌, inl, inr, Bool, true, false, Result, Ok, Err, List, [], ◌∷◌, length, drop, ◌++◌, refl, sym, ap, subst, ◌∙◌, arith, append_assoc, append-nil}
+use Rattle.std.proofs.Common.{◌≡◌, ℕ, zero, suc, ◌+◌, ◌-◌, ◌<◌, ◌≤◌, ◌⊎◌, ◌||◌, if◌then◌else◌, inl, inr, Bool, true, false, Result, Ok, Err, List, [], ◌∷◌, length, length-append, drop, take, ◌++◌, refl, sym, ap, subst, ◌∙◌, arith, append_assoc, append-nil}
 use Rattle.std.proofs.Math.Seq.{take-append_seam}
 use Rattle.bac_link.proofs.Delivers.{brings_cut}
+pub use Rattle.bac_link.proofs.Growing.{window_at as window_now}
+use Rattle.bac_walk.proofs.Joins.{start_of-nil}
 use Rattle.bac_link.specs.declared.item.Item.TheVariants.{Logged}
 use Rattle.bac_link.specs.Ordinals.{number_after}
 use Rattle.bac_walk.specs.declared.outcome.Ended.{Ended}
 use Rattle.bac_walk.specs.declared.outcome.Ended.TheVariants.{CaughtUp as IsUp, StepLimit, Stopped, Fault}
 use Rattle.bac_walk.proofs.Shown.{after-number}
-use Rattle.bac_link.specs.Laws.{after_answers, moment_at}
+use Rattle.bac_link.specs.Laws.{moment_at}
 use Rattle.bac_link.specs.declared.item.Item.{Item}
 use Rattle.bac_link.specs.declared.link.Lost.{Lost as Loss}
 use Rattle.bac_link.specs.Delivery.{History, Moment, Brings, Leads, DeliversTo, now, later, items_of}
@@ -34,10 +36,6 @@ use Rattle.bac_walk.proofs.Turns.{or_left}
 
 abbrev pub Asking : Type 0 → Type 1
 Asking S = S → List ℕ → Result (List ℕ) Loss → S → Type 0
-
-pub window_now : (low : ℕ) (M : List Moment) → 0 < length M → AreInWindow low M → IsInWindow low (now M)
-window_now low [] some window = absurd (omega arith)
-window_now low (m ∷ M) some window = window.0
 
 pub window_later : (low : ℕ) (M : List Moment) → AreInWindow low M → AreInWindow low (later M)
 window_later low [] window = window
@@ -96,10 +94,6 @@ start_idle true s M (x ∷ xs) answers none = absurd (cc)
 pub start_old : (fresh : Bool) (s : ℕ) (M : List Moment) (answers : List (List Item)) → fresh ≡ false → start_of fresh s M answers ≡ s
 start_old false s M answers old = refl
 start_old true s M answers old = absurd (cc)
-
-start_nil : (fresh : Bool) (s : ℕ) (M : List Moment) → start_of fresh s M [] ≡ s
-start_nil false s M = refl
-start_nil true s M = refl
 
 start_at : (fresh was : Bool) (s b : ℕ) (M : List Moment) (xs : List Item) (answers : List (List Item)) → xs ≡ [] → fresh ≡ was →
     b ≡ start_of fresh s (later M) answers → b ≡ start_of was s M (xs ∷ answers)
@@ -218,7 +212,7 @@ came_leads : {S : Type 0} (asks : Asking S) (path : Path) (retries : ℕ) (came 
     0 < length M → NeverGoesBack M → AreInWindow low M → (w.fresh ≡ false → (low ≤ s) × (s < low + 2147483648)) →
     Delivers low H M s w after came
 came_leads asks path retries [] old new w after H M low s comes said here some back window at =
-    (s, s, sym (start_nil w.fresh s M), ap (λ (v : WalkPlace). v.next) comes.0 ∙ here, refl, λ ends. absurd ends)
+    (s, s, sym (start_of-nil w.fresh s M), ap (λ (v : WalkPlace). v.next) comes.0 ∙ here, refl, λ ends. absurd ends)
 came_leads asks path retries (c ∷ came) old new w after H M low s (mid, next, p, place, asked, taken, is, rest) said here some back window at =
     let P : WalkPlace → Type 0 = λ v. IsSaidAt (now M) H v.log (asked_by v) c.datagram in
     let says = subst P place said.0 in

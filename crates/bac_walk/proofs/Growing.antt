@@ -1,5 +1,5 @@
 -- What comes over a link that stays honest for a log that goes on.
-use Rattle.std.proofs.Common.{◌≡◌, ℕ, zero, suc, ◌+◌, ◌-◌, ◌*◌, ◌<◌, ◌≤◌, Bool, true, false, Option, Result, Ok, Err, List, [], ◌∷◌, length, refl, sym, ap, subst, ◌∙◌, inl, inr, arith}
+use Rattle.std.proofs.Common.{◌≡◌, ℕ, zero, suc, ◌+◌, ◌-◌, ◌*◌, ◌<◌, ◌≤◌, Bool, false, Option, Result, Ok, Err, List, [], ◌∷◌, length, refl, sym, ap, subst, ◌∙◌, inl, inr, arith}
 use Rattle.std.proofs.Math.Nat.{add-mul}
 use Rattle.bac_wire.specs.Primitive.{Id}
 use Rattle.bac_link.specs.declared.exchanges.ExchangeFault.{ExchangeFault}
@@ -9,14 +9,13 @@ use Rattle.bac_link.specs.declared.item.Item.{Item}
 use Rattle.bac_link.specs.declared.link.Lost.{Lost as Loss}
 use Rattle.bac_link.specs.declared.transactions.Transactions.{Transactions}
 use Rattle.bac_link.specs.Datagrams.{apdu_in}
-use Rattle.bac_link.specs.Delivery.{History, Moment, DeliversTo, now, later}
-use Rattle.bac_link.specs.Exchanges.{Answers, IsNoAnswer, Unanswered}
-use Rattle.bac_link.specs.Growing.{GoesOn, Standing, IsStanding, IsOnward, IsGiven, StaysHonest, StaysHonestWhere}
+use Rattle.bac_link.specs.Delivery.{History, Moment, later}
+use Rattle.bac_link.specs.Exchanges.{Answers, Unanswered}
+use Rattle.bac_link.specs.Growing.{Standing, IsStanding, IsOnward, IsGiven, StaysHonest, StaysHonestWhere}
 use Rattle.bac_link.specs.Heard.{heard_in}
 use Rattle.bac_link.specs.Honest.{asked_octets}
-use Rattle.bac_link.specs.Laws.{after_answers, moment_at}
 use Rattle.bac_link.specs.Links.{question}
-use Rattle.bac_link.specs.Moments.{AreIn, AreInWindow, IsInWindow, NeverGoesBack}
+use Rattle.bac_link.specs.Moments.{NeverGoesBack}
 use Rattle.bac_link.specs.Path.{Path, towards}
 use Rattle.bac_link.specs.Requests.{next_invoke}
 use Rattle.bac_link.specs.Standard.{IsSaidAt}
@@ -27,11 +26,11 @@ use Rattle.bac_walk.specs.Came.{Came, AreSaidAt, BroughtIsDelivered, answers_of,
 use Rattle.bac_walk.specs.Transacted.{AsksBy, BroughtBy, BroughtIntoBy, ComesBy, EndsAfter, asked, spare}
 use Rattle.bac_walk.proofs.Transacted.{brought_plain}
 use Rattle.bac_walk.specs.Collects.{batches}
-use Rattle.bac_walk.specs.Growing.{AreLeftAt, DeliversGrowing, GrowingIsDelivered, HasDelivered, HasGone, OursStayHonest, most_asks, standing_at}
+use Rattle.bac_walk.specs.Growing.{AreLeftAt, DeliversGrowing, GrowingIsDelivered, HasGone, OursStayHonest, most_asks, standing_at}
 use Rattle.bac_walk.specs.Honest.{IsHonestEnd, OursAreHonest}
 use Rattle.bac_walk.specs.Meant.{Means}
 use Rattle.bac_walk.specs.Place.{WalkPlace}
-use Rattle.bac_walk.specs.Walks.{asked_by, question_of, IsTakenFrom}
+use Rattle.bac_walk.specs.Walks.{asked_by, question_of}
 use Rattle.bac_walk.specs.declared.outcome.Ended.{Ended}
 use Rattle.bac_walk.specs.declared.outcome.Ended.TheVariants.{CaughtUp as IsUp, StepLimit, Stopped, Fault}
 use Rattle.bac_walk.specs.declared.outcome.Progress.{Progress}
@@ -147,7 +146,7 @@ after_reply H m low log w next CaughtUp here means = record {
   at = λ f. here.at (sym (ap (λ (v : WalkPlace). v.fresh) means.2) ∙ f);
 }
 
-later_of : (m : Moment) (M : List Moment) → 0 < length M → later (m ∷ M) ≡ M
+pub later_of : (m : Moment) (M : List Moment) → 0 < length M → later (m ∷ M) ≡ M
 later_of m [] some = absurd (omega (arith, some))
 later_of m (n ∷ M) some = refl
 
@@ -380,7 +379,7 @@ growing_fewer {S = S} asks path retries old new w after n steps items ended le d
     let x = delivers at s low (d + more) (subst (λ k. StaysHonest asks path w.log low k old at) e honest) is next window in
     (x.0, fewer_by asks stands path w.log low d more new (standing_at x.0.history x.0.moments (length x.0.came)) (stays_on asks path w.log low) x.1)
 
-few_steps : (why : Why) (steps n : ℕ) (ended : Ended) → IsRunOf why steps n ended → n ≤ steps
+pub few_steps : (why : Why) (steps n : ℕ) (ended : Ended) → IsRunOf why steps n ended → n ≤ steps
 few_steps WasUp steps n ended run = omega (arith, run.0)
 few_steps WasLimit steps n ended run = omega (arith, run.0)
 few_steps (WasFault e) steps n ended run = omega (arith, run.0)

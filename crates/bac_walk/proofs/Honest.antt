@@ -1,15 +1,13 @@
 -- What comes over a link that is honest for a log.
-use Rattle.std.proofs.Common.{◌≡◌, ℕ, zero, suc, ◌+◌, ◌*◌, ◌<◌, ◌≤◌, Bool, true, false, ◌==◌, if◌then◌else◌, Option, Some, None, Result, Ok, Err, List, [], ◌∷◌, ◌++◌, length, length-append, drop, append_assoc, refl, sym, ap, subst, ◌∙◌, inl, inr, arith}
+use Rattle.std.proofs.Common.{◌≡◌, ℕ, zero, suc, ◌+◌, ◌*◌, ◌<◌, ◌≤◌, Bool, false, Option, Result, Ok, Err, List, [], ◌∷◌, ◌++◌, length, length-append, drop, append_assoc, refl, sym, ap, subst, ◌∙◌, inl, inr, arith}
 use Rattle.bac_wire.specs.Primitive.{Id}
-use Rattle.bac_apdu.specs.Apdu.{Apdu, Confirmed, Unconfirmed, Simple, Complex, SegmentAck, Error, Reject, Abort}
-use Rattle.bac_apdu.specs.declared.service.extent.Extent.{Extent}
 use Rattle.bac_link.specs.declared.exchanges.ExchangeFault.{ExchangeFault}
 use Rattle.bac_link.specs.declared.link.Lost.{Lost as Loss}
 use Rattle.bac_link.specs.declared.exchanges.Verdict.{Verdict}
 use Rattle.bac_link.specs.declared.exchanges.Verdict.TheVariants as verdict
 use Rattle.bac_link.specs.Datagrams.{apdu_in}
 use Rattle.bac_link.specs.Delivery.{History, Moment, Leads, items_of, now, later}
-use Rattle.bac_link.specs.Exchanges.{Answers, IsNoAnswer, Unanswered, verdict_of}
+use Rattle.bac_link.specs.Exchanges.{Answers, IsNoAnswer, Unanswered}
 use Rattle.bac_link.specs.Laws.{after_answers}
 use Rattle.std.proofs.lemmas.Grind.{flat_map-append}
 use Rattle.bac_link.proofs.Delivers.{leads-append}
@@ -19,16 +17,14 @@ use Rattle.bac_link.specs.declared.transactions.Transactions.{Transactions}
 use Rattle.bac_log.specs.TrendLog.{sequence_number}
 use Rattle.bac_link.specs.Moments.{NeverGoesBack}
 use Rattle.bac_walk.specs.Came.{Came, Asks, Comes, AreSaidAt, EndsBy, EndsWith, IsCutIn, answers_of, restarted}
-use Rattle.bac_link.specs.Heard.{AckParameters}
 use Rattle.bac_link.specs.Moments.{AreInWindow}
 use Rattle.bac_walk.specs.Place.{WalkPlace}
-use Rattle.bac_link.specs.Heard.{heard_from, heard_in}
+use Rattle.bac_link.specs.Heard.{heard_in}
 use Rattle.bac_walk.specs.Collects.{IsCaughtUp, batches}
 use Rattle.bac_walk.specs.Honest.{DeliversIn, DeliversSaid, IsHonestEnd, IsLeftAt, HonestIsDelivered}
 use Rattle.bac_link.specs.Honest.{IsSaidOrLost, IsHonest, IsHonestWhere, asked_octets}
 use Rattle.bac_link.proofs.Honest.{goes_on}
 use Rattle.bac_link.specs.Standard.{IsSaidAt}
-use Rattle.bac_link.specs.Heard.{parameters_in}
 use Rattle.bac_walk.specs.Walks.{asked_by, question_of}
 use Rattle.bac_walk.proofs.Ack.{is_ack}
 use Rattle.bac_walk.proofs.Asking.{asked_in}

@@ -1,5 +1,5 @@
 -- What came over a link: steps, and the runs that they make.
-use Rattle.std.proofs.Common.{◌≡◌, ◌≢◌, ℕ, ◌+◌, ◌<◌, ◌≤◌, Option, Some, None, Ok, List, [], ◌∷◌, ◌++◌, length, refl, sym, ap, subst, ◌∙◌, arith, append_assoc}
+use Rattle.std.proofs.Common.{◌≡◌, ℕ, ◌+◌, ◌<◌, Option, Some, None, Ok, List, [], ◌∷◌, ◌++◌, length, refl, sym, ap, subst, ◌∙◌, arith, append_assoc}
 use Rattle.bac_link.specs.declared.item.Item.{Item}
 use Rattle.bac_link.specs.declared.item.Item.TheVariants.{Logged}
 use Rattle.bac_link.specs.Delivery.{items_of}
@@ -135,14 +135,3 @@ brought_joins {S = S} asks path retries old half new w mid after n more xs ys en
       ends_behind (Logged is.1 is.2) is.3 first rest is.8,
     )
     all (Fault e) is = whole is
-
--- with more steps left
-pub brought_early : {S : Type 0} (asks : Asking S) (path : Path) (retries : ℕ) (old new : S) (w after : WalkPlace) (n steps : ℕ) (xs : List Item) (ended : Ended) → ended ≢ StepLimit → n ≤ steps →
-    (came : List Came) × Brought asks path retries old w n came xs ended after new → (came : List Came) × Brought asks path retries old w steps came xs ended after new
-brought_early asks path retries old new w after n steps xs ended other le (came, (here, mid, comes, ends, are)) = (came, (here, mid, comes, more ended other ends, are))
-  where
-    more : (why : Ended) → why ≢ StepLimit → EndsBy asks path retries n came here mid why after new → EndsBy asks path retries steps came here mid why after new
-    more CaughtUp other ends = (ends.0, omega (arith, le, ends.1), ends.2, ends.3)
-    more StepLimit other ends = absurd (other refl)
-    more Stopped other ends = (ends.0, ends.1, omega (arith, le, ends.2), ends.3)
-    more (Fault e) other ends = (omega (arith, le, ends.0), ends.1, ends.2)

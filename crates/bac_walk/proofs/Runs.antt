@@ -1,5 +1,5 @@
 -- A run and one after it are one run, also into a sink.
-use Rattle.std.proofs.Common.{◌≡◌, ◌≢◌, ℕ, Bool, true, false, ◌+◌, ◌≤◌, inl, inr, Option, Some, None, List, [], ◌∷◌, ◌++◌, length, refl, sym, ap, subst, ◌∙◌, arith, length-append, append_assoc}
+use Rattle.std.proofs.Common.{◌≡◌, ◌≢◌, ℕ, Bool, false, ◌+◌, ◌≤◌, inl, inr, Option, Some, None, List, [], ◌∷◌, ◌++◌, length, refl, sym, ap, subst, ◌∙◌, arith, length-append, append_assoc}
 use Rattle.bac_link.specs.declared.item.Item.{Item}
 use Rattle.bac_walk.specs.declared.batch.Gap.{Gap as GapOf}
 use Rattle.bac_walk.specs.declared.batch.Numbered.{Numbered}
@@ -17,6 +17,7 @@ use Rattle.bac_walk.specs.Walks.{gap_items, item_of}
 use Rattle.bac_walk.specs.Collects.{start_of, Collected}
 use Rattle.bac_walk.specs.Sinks.{Call, put_items, gaps, Takes, is_stopped, IsRun, Delivery}
 use Rattle.bac_walk.proofs.Joins.{join, fresh_join, no_steps, ended_early, after_answers-add}
+use Rattle.bac_walk.proofs.Came.{start_old}
 use Rattle.bac_walk.proofs.Goes.{join_goes, stays_goes}
 use Rattle.bac_walk.proofs.Headline.{leads}
 use Rattle.bac_walk.proofs.Near.{fewer_steps, next_steps}
@@ -156,10 +157,6 @@ not_stopped Stopped on = absurd (cc)
 not_stopped (Fault f) on = λ e. cc
 
 -- what a run over a link of ours delivers
-pub start_old : (fresh : Bool) (s : ℕ) (M : List Moment) (answers : List (List Item)) → fresh ≡ false → start_of fresh s M answers ≡ s
-start_old true s M answers old = absurd (cc)
-start_old false s M answers old = refl
-
 pub collected_delivers : (r : ℕ) (H : History) (M : List Moment) (fresh : Bool) (s steps retries old new : ℕ) (items : List Item) (t : ℕ) (ended : Ended) (answers : List (List Item)) →
     Collected r H M fresh s steps retries old new items t ended answers → DeliversTo H (start_of fresh s M answers) items t M (length answers)
 collected_delivers r H M fresh s steps retries old new items t ended answers run =

@@ -20,7 +20,7 @@ ghost use Rattle.bac_walk.specs.Growing.{DeliversGrowing};
 ghost use Rattle.bac_walk.specs.Honest.{DeliversSaid};
 
 use crate::batch::{Gap, Numbered};
-use crate::outcome::{Ended, Outcome, Why};
+use crate::outcome::{Outcome, Why};
 use crate::sink::{Sink, deliver};
 use crate::walk::Walk;
 use bac_link::{Item, LogLink, Transactions};

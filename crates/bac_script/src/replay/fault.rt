@@ -1,7 +1,6 @@
 //! Why a replay ends early.
 
 ghost use Rattle.std.specs.Prelude.{◌≡◌, None};
-ghost use Rattle.std.specs.Str.Lines.{lines};
 ghost use Rattle.bac_script.specs.Fault.{line_fault, replay_fault, told};
 ghost use Rattle.bac_script.specs.Reason.{IsReason, IsReasonThere};
 

@@ -1,4 +1,4 @@
-use Rattle.std.proofs.Common.{◌≡◌, ℕ, sym, subst}
+use Rattle.std.proofs.Common.{ℕ, sym, subst}
 use Rattle.bac_link.specs.Path.{towards}
 use Rattle.bac_walk.specs.Collects.{Goes}
 use Rattle.bac_client_tests.proofs.came_callers.what_came_tells.Goals as goal

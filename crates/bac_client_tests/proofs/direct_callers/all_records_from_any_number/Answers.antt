@@ -1,4 +1,4 @@
-use Rattle.std.proofs.Common.{◌≡◌, [], ◌∷◌, None, refl, sym, ap, subst, arith}
+use Rattle.std.proofs.Common.{◌≡◌, [], ◌∷◌, refl, sym, ap, subst, arith}
 use Rattle.bac_wire.specs.Primitive.{Id}
 use Rattle.bac_objects.specs.Sampling.{log_id}
 use Rattle.bac_direct.specs.Ahead.{IsAhead, history_ahead, log_with, moment_of, placed}

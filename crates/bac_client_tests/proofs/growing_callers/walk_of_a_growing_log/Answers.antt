@@ -1,4 +1,4 @@
-use Rattle.std.proofs.Common.{◌≡◌, ℕ, ◌+◌, ◌*◌, Option, None, sym, subst, arith}
+use Rattle.std.proofs.Common.{ℕ, ◌+◌, Option, None, sym, subst, arith}
 use Rattle.bac_wire.specs.Primitive.{Id}
 use Rattle.bac_apdu.specs.Npdu.{Place}
 use Rattle.bac_link.specs.Growing.{StaysHonest}

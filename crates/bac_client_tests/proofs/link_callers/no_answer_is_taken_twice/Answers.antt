@@ -1,4 +1,4 @@
-use Rattle.std.proofs.Common.{◌≡◌, ℕ, true, Option, None, List, sym, ap, subst, ◌∙◌, arith}
+use Rattle.std.proofs.Common.{◌≡◌, ℕ, true, Option, None, List, ap, subst, ◌∙◌, arith}
 use Rattle.bac_apdu.specs.Npdu.{Place}
 use Rattle.bac_link.specs.Client.{AnswersTellApart}
 use Rattle.bac_link.specs.Datagrams.{answers_to}

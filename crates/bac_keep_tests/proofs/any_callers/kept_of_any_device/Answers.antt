@@ -1,8 +1,7 @@
-use Rattle.std.proofs.Common.{rules, ◌≡◌, ◌+◌, ℕ, Option, None, IsTrue, List, ap, sym, subst, ◌∙◌, arith}
+use Rattle.std.proofs.Common.{rules, ◌≡◌, ◌+◌, None, ap, sym, subst, ◌∙◌, arith}
 use Rattle.sqlite.specs.Effect.{Database}
 use Rattle.sqlite.specs.State.{HasCleanDisk, IsUnchanged}
 use Rattle.sqlite.specs.Held.{state}
-use Rattle.bac_link.specs.Delivery.{Moment}
 use Rattle.bac_link.specs.Honest.{IsHonest}
 use Rattle.bac_link.specs.Laws.{after_answers}
 use Rattle.bac_link.specs.Path.{Path, towards}

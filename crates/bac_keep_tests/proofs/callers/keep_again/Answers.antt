@@ -1,8 +1,9 @@
-use Rattle.std.proofs.Common.{◌≡◌, arith}
+use Rattle.std.proofs.Common.{arith}
 use Rattle.std.proofs.lemmas.Result.{IfOk-weaker}
 use Rattle.sqlite.specs.State.{HasCleanDisk}
 use Rattle.sqlite.specs.Held.{state}
-use Rattle.bac_keep_tests.proofs.CallerLemmas.{few_steps, kept_again}
+use Rattle.bac_walk.proofs.Growing.{few_steps}
+use Rattle.bac_keep_tests.proofs.CallerLemmas.{kept_again}
 use Rattle.bac_keep_tests.proofs.callers.keep_again.Goals as goal
 
 pub returns : goal.returns

@@ -5,7 +5,8 @@ use Rattle.bac_walk.specs.Collects.{Collected, Goes, start_of, step_items, step_
 use Rattle.bac_walk.specs.Near.{IsNearStep}
 use Rattle.bac_walk.specs.Replied.{step_of}
 use Rattle.bac_walk.proofs.Rests.{rested_step}
-use Rattle.bac_walk.proofs.Runs.{collected_delivers, start_old}
+use Rattle.bac_walk.proofs.Came.{start_old}
+use Rattle.bac_walk.proofs.Runs.{collected_delivers}
 use Rattle.bac_walk.proofs.Sames.{same_step}
 use Rattle.bac_link.specs.Path.{towards}
 use Rattle.bac_walk.specs.Told.{Told}
