@@ -1,3 +1,4 @@
 mod Pieces
 pub mod Octets
 pub mod PlainMoments
+pub mod TextsLemmas

@@ -5,3 +5,4 @@ pub mod Entries
 pub mod Output
 pub mod Addresses
 pub mod Causes
+pub mod Texts
