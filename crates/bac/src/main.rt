@@ -5,7 +5,9 @@
 mod whole;
 
 use crate::whole::run_whole;
+use bac_keeper::DiskFiles;
 use bac_tools::{Fault, SystemClock, UdpSockets, UntilRefused, tell};
+use sqlite::Unknown;
 use std::env::Args;
 use std::io::{BufWriter, ErrorKind, IsTerminal};
 use std::process::ExitCode;
@@ -39,8 +41,8 @@ fn started(rt: &HostRuntime) -> Result<u8, Fault> {
     // A count is for somebody who looks at both.
     let counts = rt.stdout().is_terminal() && rt.stderr().is_terminal();
     Ok(run_whole(
-        rt,
         &mut UdpSockets::new(rt),
+        &mut DiskFiles::new(rt, Unknown),
         rt.alloc(),
         &words,
         counts,

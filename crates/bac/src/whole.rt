@@ -1,9 +1,10 @@
 //! All tools of the program.
 
-use bac_keeper::{Fault as KeepFault, run_keep, run_kept};
+use bac_keeper::{DiskFiles, Fault as KeepFault, run_keep, run_kept};
 use bac_ports::Sockets;
 use bac_tools::{Clock, Fault, run_read, tell};
 use bac_words::{Job, read_words};
+use sqlite::Start;
 use std::alloc::Global;
 use std::io::{Read, Write};
 
@@ -30,9 +31,9 @@ fn ended<E: Write>(alloc: Global, done: Result<u8, KeepFault>, errors: &mut E) -
 /// The program `bac`: does what its words ask for, the first of which is its name, and answers the
 /// exit status. `counts` is for a terminal: of `keep` the errors have a count of records while a log
 /// is fetched.
-pub(crate) fn run_whole<S: Sockets, I: Read, O: Write, E: Write, C: Clock>(
-    rt: &HostRuntime,
+pub(crate) fn run_whole<S: Sockets, F: Start, I: Read, O: Write, E: Write, C: Clock>(
     sockets: &mut S,
+    files: &mut DiskFiles<'_, F>,
     alloc: Global,
     words: &[String],
     counts: bool,
@@ -47,11 +48,11 @@ pub(crate) fn run_whole<S: Sockets, I: Read, O: Write, E: Write, C: Clock>(
     };
     match job {
         Job::Keep(asked) => {
-            let done = run_keep(rt, sockets, alloc, &asked, counts, output, errors);
+            let done = run_keep(sockets, files, alloc, &asked, counts, output, errors);
             ended(alloc, done, errors)
         }
         Job::Kept(asked) => {
-            let done = run_kept(rt, alloc, &asked, output, errors);
+            let done = run_kept(files, alloc, &asked, output, errors);
             ended(alloc, done, errors)
         }
         job => run_read(sockets, alloc, Ok(job), input, output, errors, clock),

@@ -58,6 +58,7 @@ fn kept_logs<A: Alter>(
         → IfOk result (λ all. AreKeptLogs (state A.Store conn.old).now.trees all.items) }
     ensures same { HasCleanDisk (state A.Store conn.new) → (state A.Store conn.old).now.schema ≡ archive_schema
         → OnOk result ((state A.Store conn.new).now ≡ (state A.Store conn.old).now) }
+    ensures crash { (state A.Store conn.old).now.schema ≡ archive_schema → Survives (state A.Store conn.old) (state A.Store conn.new) (λ _. ⊥) }
     ensures clean { HasCleanDisk (state A.Store conn.new) → HasCleanDisk (state A.Store conn.old) }
 {
     let known = match logs(alloc, conn) {
@@ -362,6 +363,7 @@ fn chosen_logs<S: Sockets, A: Alter>(
     ensures found { IfOk result (λ all. AreFound (socket_rules S.opens S.closes S.Socket.sends S.Socket.receives S.Socket.receives_within) chosen sockets.old all.items sockets.new) }
     ensures same { HasCleanDisk (state A.Store conn.new) → (state A.Store conn.old).now.schema ≡ archive_schema
         → OnOk result ((state A.Store conn.new).now ≡ (state A.Store conn.old).now) }
+    ensures crash { (state A.Store conn.old).now.schema ≡ archive_schema → Survives (state A.Store conn.old) (state A.Store conn.new) (λ _. ⊥) }
     ensures clean { HasCleanDisk (state A.Store conn.new) → HasCleanDisk (state A.Store conn.old) }
 {
     match chosen {
@@ -390,6 +392,10 @@ pub fn keep_chosen<S: Sockets, A: Alter, O: Write, E: Write>(
         × AreToldBy (O.contents output.old) (O.contents output.new) all (λ ends.
         HasCleanDisk (state A.Store conn.new) → (state A.Store conn.old).now.schema ≡ archive_schema →
         KeepsLogs (socket_rules S.opens S.closes S.Socket.sends S.Socket.receives S.Socket.receives_within) all between sockets.new (state A.Store conn.old).now (state A.Store conn.new).now ends) status) }
+    // Whatever comes of it, no item and no log is lost.
+    ensures stays { HasCleanDisk (state A.Store conn.new) → (state A.Store conn.old).now.schema ≡ archive_schema
+        → Survives (state A.Store conn.old) (state A.Store conn.new) (HasAllOf (state A.Store conn.old).now.trees) }
+    ensures clean { HasCleanDisk (state A.Store conn.new) → HasCleanDisk (state A.Store conn.old) }
 {
     let all = chosen_logs(sockets, conn, alloc, chosen, options)?;
     keep_each(sockets, conn, alloc, all, counts, output, errors)

@@ -1,16 +1,20 @@
--- What was done of the words of `bac keep`, and by which status `keep` and `kept` end. Read from the end.
-use Rattle.std.specs.Prelude.{◌≡◌, ℕ, List, [], ◌∷◌, codes, Option, None, Some}
+-- What was done of the words of `bac keep`. Read from the end.
+use Rattle.std.specs.Prelude.{◌≡◌, ℕ, List, [], ◌∷◌, codes, Option, None, Some, IfSome, IsSome}
 use Rattle.std.specs.List.{All}
 use Rattle.clap.specs.Words.{Text}
+use Rattle.sqlite_disk.specs.declared.Disk as disk
+use Rattle.sqlite_disk.specs.declared.Files.{Files}
+use Rattle.sqlite_wal.specs.Recovery.{Image}
 use Rattle.bac_asked.specs.AsLog.{Given, IsAskedBy, log_words}
-use Rattle.bac_asked.specs.Status.{file_status}
 use Rattle.bac_asked.specs.Wanted.{AddNamed, AsksItsSource}
-use Rattle.bac_asked.specs.declared.fault.FileFault.{FileFault}
+use Rattle.bac_asked.specs.declared.end.End.{End}
 use Rattle.bac_asked.specs.declared.wanted.Wanted.{Wanted}
 use Rattle.bac_fetch.specs.Discovered.{AreFound}
 use Rattle.bac_fetch.specs.Keeps.{AreToldBy}
 use Rattle.bac_fetch.specs.declared.keeping.Chosen.{Chosen}
 use Rattle.bac_fetch.specs.declared.keeping.Chosen.TheVariants as chosen
+use Rattle.bac_files.specs.Files.{IsDoneTo}
+use Rattle.bac_keeper.specs.Archives.{KeepsArchive}
 use Rattle.bac_ports.specs.Sockets.{SocketRules}
 use Rattle.bac_print.specs.Output.{Held}
 use Rattle.bac_words.specs.declared.job.Keep.{Keep}
@@ -46,17 +50,16 @@ AreThese (chosen.Named named) all = all ≡ named.items
 AreThese other all = Unit {0}
 
 -- A line for each log that was chosen, which was asked of the device that the line names, and the greatest status. Those
--- of a device are those of its Object_List, which came over the caller's sockets.
-abbrev pub TellsThese : {S P : Type 0} → SocketRules S P → Chosen → S → Held → Held → ℕ → Type 0
-TellsThese {S = S} rules chosen sockets before after status =
+-- of a device are those of its Object_List, which came over the caller's sockets. This holds of the logs, of the sockets
+-- then, and of how the runs over them ended.
+abbrev pub TellsThese : {S P : Type 0} → SocketRules S P → Chosen → S → Held → Held → (List Wanted → S → List End → Type 0) → ℕ → Type 0
+TellsThese {S = S} rules chosen sockets before after kept status =
     (all : List Wanted) × (between : S) × AreThese chosen all × All AsksItsSource all
-    × AreFound rules chosen sockets all between × AreToldBy before after all (λ ends. Unit {0}) status
+    × AreFound rules chosen sockets all between × AreToldBy before after all (kept all between) status
 
--- the same of the logs that the words choose
-abbrev pub TellsLogs : {S P : Type 0} → SocketRules S P → Keep → S → Held → Held → ℕ → Type 0
-TellsLogs rules keep sockets before after status =
-    (chosen : Chosen) × Chooses keep chosen × TellsThese rules chosen sockets before after status
-
--- the status of a file that is no use
-abbrev pub IsOfFile : ℕ → Type 0
-IsOfFile status = (fault : FileFault) × (status ≡ file_status fault)
+-- The logs that the words choose were kept in the archive that two files held, which the closed files hold now.
+abbrev pub KeepsIn : {S P D : Type 0} → SocketRules S P → (g : disk.Ghosts D) → Image → Keep → S → S → Held → Held →
+    Option (Files D) → ℕ → Type 0
+KeepsIn rules g image keep sockets sockets_after before after closed status =
+    IsSome closed × (chosen : Chosen) × Chooses keep chosen × TellsThese rules chosen sockets before after
+    (λ all between ends. IfSome closed (IsDoneTo g image (KeepsArchive rules chosen all between sockets_after ends))) status

@@ -1,1 +1,4 @@
+pub mod Archives
+pub mod Ends
 pub mod Done
+pub mod Shown

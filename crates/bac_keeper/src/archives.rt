@@ -1,89 +1,78 @@
-//! Database files are opened and closed.
+//! A database file is opened as an archive, and closed.
+
+ghost use Rattle.std.specs.Prelude.{◌≡◌, ◌⊎◌, IfErr, IfOk, IsTrue, Ok, OnErr, OnOk};
+ghost use Rattle.sqlite.specs.Held.{state};
+ghost use Rattle.sqlite.specs.State.{HasCleanDisk};
+ghost use Rattle.sqlite_wal.specs.Files.{image_at};
+ghost use Rattle.bac_archive.specs.Schema.{archive_schema};
+ghost use Rattle.bac_files.specs.Files.{IsClosedBy, IsNamed, IsOpenedBy, IsUnused};
+ghost use Rattle.bac_keeper.specs.Archives.{IsArchiveOf, IsHeld};
+ghost use Rattle.bac_keeper.specs.Ends.{fault_of, MayFail};
 
 use bac_asked::{FileFault, NotDone};
-use sqlite::{Connection, File, FileStore};
-use std::alloc::AllocError;
-use std::fs::{Files, exists, metadata};
+use bac_files::{DiskFiles, NotOpened};
+use sqlite::{Alter, Connection, FileFrom, FileStore, Start};
 
-/// How many octets a file has, if it is there.
-fn len_of(rt: &HostRuntime, path: &str) -> Option<u64> {
-    match metadata(rt, path) {
-        Ok(found) => Some(found.len()),
-        Err(_) => None,
+/// The fault of a file that isn't opened.
+fn fault_of(why: NotOpened) -> FileFault
+    ensures { result ≡ fault_of why }
+{
+    match why {
+        NotOpened::InUse => FileFault::InUse,
+        NotOpened::Absent => FileFault::Absent,
+        NotOpened::Empty => FileFault::NoLogs,
+        NotOpened::Memory => FileFault::Memory,
+        NotOpened::Database(error) => FileFault::Database(error),
     }
 }
 
-/// Whether a file is there, and has nothing in it; nor has the log beside it.
-fn has_nothing(rt: &HostRuntime, path: &str, log: &str) -> bool {
-    len_of(rt, path) == Some(0) && len_of(rt, log).unwrap_or(0) == 0
-}
-
-/// Opens the database at a path. If there is no file, or an empty one, it makes one where it may.
-fn open_file(
-    rt: &HostRuntime,
+/// Opens the database of this name; an empty or absent one is made, where it may.
+pub(crate) fn open_file<F: Start>(
+    files: &mut DiskFiles<'_, F>,
     path: &str,
     may_make: bool,
-) -> Result<Connection<FileStore<File>>, FileFault> {
-    if !may_make && matches!(exists(rt, path), Ok(false)) {
-        return Err(FileFault::Absent);
-    }
-    let Ok(log) = log_of(rt, path) else {
-        return Err(FileFault::Memory);
-    };
-    if !may_make && has_nothing(rt, path, log.as_str()) {
-        return Err(FileFault::NoLogs);
-    }
-    let had_log = !matches!(exists(rt, log.as_str()), Ok(false));
-    match Connection::open(rt, path) {
+) -> Result<Connection<FileStore<FileFrom<F>>>, NotDone>
+    ensures opened { IfOk result (IsOpenedBy (image_at F.Start)) }
+    ensures named { OnOk result (IsNamed path.now may_make files.new) }
+    ensures fault { IfErr result (MayFail (IsNamed path.now may_make files.new)) }
+    ensures unused { IsUnused files.old → IsUnused files.new }
+{
+    match files.open(path, may_make) {
         Ok(conn) => Ok(conn),
-        Err(error) => {
-            if !had_log {
-                remove_empty(rt, log.as_str());
-            }
-            Err(FileFault::of(error))
-        }
+        Err(why) => Err(NotDone::File(fault_of(why))),
     }
 }
 
-/// Closes a database.
-pub(crate) fn close_file(conn: Connection<FileStore<File>>) -> Result<(), FileFault> {
-    match conn.close() {
+/// Closes it; a close that fails is the fault of what went well before.
+pub(crate) fn close_file<F: Start, T: Copy>(
+    files: &mut DiskFiles<'_, F>,
+    conn: Connection<FileStore<FileFrom<F>>>,
+    done: Result<T, NotDone>,
+) -> Result<T, NotDone>
+    ensures done { IfOk result (λ value. done ≡ Ok value) }
+    ensures closed { OnOk result (IsClosedBy conn files.new.closed) }
+    ensures either { (IsUnused files.old → IsUnused files.new) ⊎ IsClosedBy conn files.new.closed }
+    ensures named { (path : _) (may : _) → IsNamed path may files.old → IsNamed path may files.new }
+{
+    match files.close(conn) {
+        Ok(()) => done,
+        Err(error) => match done {
+            Ok(_) => Err(NotDone::File(FileFault::of(error))),
+            Err(before) => Err(before),
+        },
+    }
+}
+
+/// Opens a database as an archive; an empty one becomes one.
+pub(crate) fn open_archive<A: Alter>(conn: &mut Connection<A>) -> Result<(), NotDone>
+    ensures archive { HasCleanDisk (state A.Store conn.new) → OnOk result (IsArchiveOf (state A.Store conn.old).now (state A.Store conn.new).now) }
+    ensures committed { HasCleanDisk (state A.Store conn.new) → OnOk result ((state A.Store conn.new).committed ≡ (state A.Store conn.new).now) }
+    ensures same { HasCleanDisk (state A.Store conn.new) → (state A.Store conn.old).now.schema ≡ archive_schema → OnOk result (IsTrue (state A.Store conn.new).is_open) }
+    ensures left { IsHeld (state A.Store conn.new) → OnErr result ((state A.Store conn.new).committed ≡ (state A.Store conn.old).committed) }
+    ensures clean { HasCleanDisk (state A.Store conn.new) → HasCleanDisk (state A.Store conn.old) }
+{
+    match bac_archive::open(conn) {
         Ok(()) => Ok(()),
-        Err(error) => Err(FileFault::of(error)),
-    }
-}
-
-/// The name of the log beside a database.
-fn log_of(rt: &HostRuntime, path: &str) -> Result<String, AllocError> {
-    let mut name = String::from_str(rt.alloc(), path)?;
-    name.push_str("-wal")?;
-    Ok(name)
-}
-
-/// Takes away the empty log that a refused open left.
-fn remove_empty(rt: &HostRuntime, log: &str) {
-    if let Ok(found) = metadata(rt, log) {
-        if found.len() == 0 {
-            let _ = rt.remove_file(log);
-        }
-    }
-}
-
-/// Opens a file as an archive; an empty or absent one becomes one, where it may.
-pub(crate) fn opened(
-    rt: &HostRuntime,
-    path: &str,
-    may_make: bool,
-) -> Result<Connection<FileStore<File>>, NotDone> {
-    let mut conn = match open_file(rt, path, may_make) {
-        Ok(conn) => conn,
-        Err(fault) => return Err(NotDone::File(fault)),
-    };
-    match bac_archive::open(&mut conn) {
-        Ok(()) => Ok(conn),
-        Err(refused) => {
-            let _ = close_file(conn);
-            Err(NotDone::File(FileFault::of_refusal(refused)))
-        }
+        Err(refused) => Err(NotDone::File(FileFault::of_refusal(refused))),
     }
 }

@@ -1,17 +1,27 @@
 //! `bac keep`: the logs that words name are kept in a file.
 
-ghost use Rattle.std.specs.Prelude.{◌≡◌, IfOk, option_map};
+ghost use Rattle.std.specs.Prelude.{◌≡◌, IfErr, IfOk, IfSome, IsTrue, OnOk, is_some, option_map};
+ghost use Rattle.sqlite.specs.Held.{state};
+ghost use Rattle.sqlite.specs.State.{HasCleanDisk, Survives};
+ghost use Rattle.sqlite_wal.specs.Files.{image_at};
 ghost use Rattle.bac_asked.specs.AsLog.{given_in};
-ghost use Rattle.bac_fetch.specs.Chosen.{AskTheirSources};
-ghost use Rattle.bac_keeper.specs.Done.{Chooses, TellsLogs, TellsThese, given_of};
+ghost use Rattle.bac_fetch.specs.Chosen.{AreChosen, AskTheirSources};
+ghost use Rattle.bac_fetch.specs.Keeps.{KeepsLogs};
+ghost use Rattle.bac_fetch.specs.Stays.{HasAllOf};
+ghost use Rattle.bac_files.specs.Files.{IsDoneTo, IsNamed, IsUnused};
+ghost use Rattle.bac_keeper.specs.Archives.{IsCleanArchive, IsHeld, KeepsArchive, LosesNothing};
+ghost use Rattle.bac_keeper.specs.Done.{Chooses, KeepsIn, TellsThese, given_of};
+ghost use Rattle.bac_keeper.specs.Ends.{MayFail};
 ghost use Rattle.bac_ports.specs.Sockets.{socket_rules};
 
-use crate::archives::{close_file, opened};
-use bac_asked::{NotDone, Options, check_options, named, named_all};
+use crate::archives::{close_file, open_archive, open_file};
+use bac_asked::{Fault, FileFault, NotDone, Options, check_options, named, named_all};
 use bac_fetch::{Chosen, keep_chosen, keep_each};
+use bac_files::DiskFiles;
 use bac_ports::Sockets;
-use bac_words::{Keep, KeepOptions, Name};
-use sqlite::{Alter, Connection};
+use bac_words::{Keep, KeepOptions, Name, Word};
+use sqlite::{Alter, Connection, Error, ErrorCode, FileFrom, Start};
+use sqlite_disk::Disk;
 use std::alloc::Global;
 use std::io::Write;
 
@@ -35,6 +45,14 @@ fn options_of(options: &KeepOptions) -> Options<'_>
         retries: text_of(&options.retries),
         dnet: text_of(&options.dnet),
         dadr: text_of(&options.dadr),
+    }
+}
+
+/// Why words choose no logs: it is no fault of a file.
+pub(crate) fn of_words(refused: NotDone) -> Fault {
+    match refused {
+        NotDone::Asking(fault) => fault,
+        NotDone::File(_) => Fault::BadValue(Word::Address),
     }
 }
 
@@ -68,8 +86,13 @@ fn keep_these<S: Sockets, A: Alter, O: Write, E: Write>(
     errors: &mut E,
 ) -> Result<u8, NotDone>
     requires { AskTheirSources chosen }
-    ensures { IfOk result (TellsThese (socket_rules S.opens S.closes S.Socket.sends S.Socket.receives S.Socket.receives_within)
-        chosen sockets.old (O.contents output.old) (O.contents output.new)) }
+    ensures told { IfOk result (TellsThese (socket_rules S.opens S.closes S.Socket.sends S.Socket.receives S.Socket.receives_within)
+        chosen sockets.old (O.contents output.old) (O.contents output.new) (λ all between ends.
+        IsCleanArchive (state A.Store conn.old) (state A.Store conn.new) → AreChosen chosen (state A.Store conn.old).now.trees all
+        × KeepsLogs (socket_rules S.opens S.closes S.Socket.sends S.Socket.receives S.Socket.receives_within) all between sockets.new (state A.Store conn.old).now (state A.Store conn.new).now ends)) }
+    ensures stays { IsCleanArchive (state A.Store conn.old) (state A.Store conn.new)
+        → Survives (state A.Store conn.old) (state A.Store conn.new) (HasAllOf (state A.Store conn.old).now.trees) }
+    ensures clean { HasCleanDisk (state A.Store conn.new) → HasCleanDisk (state A.Store conn.old) }
 {
     match chosen {
         Chosen::Named(all) => keep_each(sockets, conn, alloc, all, counts, output, errors),
@@ -79,28 +102,70 @@ fn keep_these<S: Sockets, A: Alter, O: Write, E: Write>(
     }
 }
 
-/// `bac keep`: opens the archive, keeps what is new of the logs that the words name, and closes it.
-pub(crate) fn keep<S: Sockets, O: Write, E: Write>(
-    rt: &HostRuntime,
+/// The same in an open database, which has to be an archive, or becomes one.
+fn keep_in<S: Sockets, A: Alter, O: Write, E: Write>(
     sockets: &mut S,
+    conn: &mut Connection<A>,
+    alloc: Global,
+    chosen: Chosen,
+    options: &Options<'_>,
+    counts: bool,
+    output: &mut O,
+    errors: &mut E,
+) -> Result<u8, NotDone>
+    requires { AskTheirSources chosen }
+    // What is kept is committed.
+    ensures told { IfOk result (TellsThese (socket_rules S.opens S.closes S.Socket.sends S.Socket.receives S.Socket.receives_within)
+        chosen sockets.old (O.contents output.old) (O.contents output.new) (λ all between ends. IsHeld (state A.Store conn.new)
+        → KeepsArchive (socket_rules S.opens S.closes S.Socket.sends S.Socket.receives S.Socket.receives_within) chosen all between sockets.new ends
+        (state A.Store conn.old).now (state A.Store conn.new).committed)) }
+    // Whatever comes of it, no item and no log is lost.
+    ensures stays { IsHeld (state A.Store conn.new) → (state A.Store conn.old).committed ≡ (state A.Store conn.old).now
+        → LosesNothing (state A.Store conn.old).now (state A.Store conn.new).committed }
+    ensures clean { HasCleanDisk (state A.Store conn.new) → HasCleanDisk (state A.Store conn.old) }
+{
+    open_archive(conn)?;
+    let status = keep_these(
+        sockets, conn, alloc, chosen, options, counts, output, errors,
+    )?;
+    settled(conn, status)
+}
+
+/// A status, if all that was done in the database is committed.
+fn settled<A: Alter>(conn: &Connection<A>, status: u8) -> Result<u8, NotDone>
+    ensures { IfOk result (λ done. (done ≡ status) × (IsTrue (state A.Store conn.now).is_open → (state A.Store conn.now).now ≡ (state A.Store conn.now).committed)) }
+{
+    if conn.is_autocommit() {
+        return Ok(status);
+    }
+    Err(NotDone::File(FileFault::Database(Error::SqliteFailure(ErrorCode::TransactionState))))
+}
+
+/// `bac keep`: opens the archive, keeps what is new of the logs that the words name, and closes it.
+pub(crate) fn keep<S: Sockets, F: Start, O: Write, E: Write>(
+    sockets: &mut S,
+    files: &mut DiskFiles<'_, F>,
     alloc: Global,
     asked: &Keep,
     counts: bool,
     output: &mut O,
     errors: &mut E,
 ) -> Result<u8, NotDone>
-    ensures { IfOk result (TellsLogs (socket_rules S.opens S.closes S.Socket.sends S.Socket.receives S.Socket.receives_within)
-        asked.now sockets.old (O.contents output.old) (O.contents output.new)) }
+    ensures kept { IfOk result (KeepsIn (socket_rules S.opens S.closes S.Socket.sends S.Socket.receives S.Socket.receives_within)
+        ⟦<FileFrom<F> as Disk>⟧ (image_at F.Start) asked.now sockets.old sockets.new (O.contents output.old) (O.contents output.new) files.new.closed) }
+    ensures named { OnOk result (IsNamed asked.now.file (is_some asked.now.address) files.new) }
+    ensures fault { IfErr result (MayFail (IsNamed asked.now.file (is_some asked.now.address) files.new)) }
+    ensures stays { IsUnused files.old → IfSome files.new.closed (IsDoneTo ⟦<FileFrom<F> as Disk>⟧ (image_at F.Start) LosesNothing) }
 {
     let options = options_of(&asked.options);
-    let chosen = choose(alloc, asked, &options)?;
+    let chosen = match choose(alloc, asked, &options) {
+        Ok(chosen) => chosen,
+        Err(refused) => return Err(NotDone::Asking(of_words(refused))),
+    };
     // Without a device only an archive that has logs is of use, and none is made.
-    let mut conn = opened(rt, asked.file.as_str(), asked.address.is_some())?;
-    let done = keep_these(
+    let mut conn = open_file(files, asked.file.as_str(), asked.address.is_some())?;
+    let done = keep_in(
         sockets, &mut conn, alloc, chosen, &options, counts, output, errors,
     );
-    match close_file(conn) {
-        Err(fault) if done.is_ok() => Err(NotDone::File(fault)),
-        _ => done,
-    }
+    close_file(files, conn, done)
 }

@@ -1,16 +1,24 @@
 //! The tools `keep` and `kept`.
 
-ghost use Rattle.std.specs.Prelude.{◌≡◌, ◌⊎◌, IfOk};
+ghost use Rattle.std.specs.Prelude.{◌≡◌, ◌⊎◌, IfOk, IfSome, false, is_some};
+ghost use Rattle.sqlite_wal.specs.Files.{image_at};
 ghost use Rattle.bac_asked.specs.Status.{file_status};
-ghost use Rattle.bac_keeper.specs.Done.{IsOfFile, TellsLogs};
+ghost use Rattle.bac_files.specs.Files.{IsDoneTo, IsNamed, IsUnused};
+ghost use Rattle.bac_keeper.specs.Archives.{LosesNothing};
+ghost use Rattle.bac_keeper.specs.Done.{KeepsIn};
+ghost use Rattle.bac_keeper.specs.Ends.{IsOfFile};
+ghost use Rattle.bac_keeper.specs.Shown.{PrintsIn};
 ghost use Rattle.bac_ports.specs.Sockets.{socket_rules};
 
 use crate::keeping::keep;
 use crate::printing::kept;
 use bac_asked::{Fault, FileFault, NotDone};
+use bac_files::DiskFiles;
 use bac_ports::Sockets;
 use bac_print::write_text;
 use bac_words::{Keep, Kept};
+use sqlite::{FileFrom, Start};
+use sqlite_disk::Disk;
 use std::alloc::Global;
 use std::io::Write;
 
@@ -31,22 +39,25 @@ fn tell_file<E: Write>(alloc: Global, fault: FileFault, errors: &mut E) -> Resul
 /// goes to the output; a file that is no use is told on the errors, and any other fault is the
 /// caller's to tell. `counts` is for a terminal: the errors have a count of records while a log is
 /// fetched.
-pub fn run_keep<S: Sockets, O: Write, E: Write>(
-    rt: &HostRuntime,
+pub fn run_keep<S: Sockets, F: Start, O: Write, E: Write>(
     sockets: &mut S,
+    files: &mut DiskFiles<'_, F>,
     alloc: Global,
     asked: &Keep,
     counts: bool,
     output: &mut O,
     errors: &mut E,
 ) -> Result<u8, Fault>
-    // The lines of the logs that the words choose, and the greatest of their statuses; or the file is
-    // no use. What is kept of them is the contract of `keep_each`, to which it gives the file that it
-    // opened.
-    ensures { IfOk result (λ status. TellsLogs (socket_rules S.opens S.closes S.Socket.sends S.Socket.receives S.Socket.receives_within)
-        asked.now sockets.old (O.contents output.old) (O.contents output.new) status ⊎ IsOfFile status) }
+    // The logs that the words choose were kept, in the archive that the files held; their lines were
+    // printed, and the status is the greatest of theirs. Or the file is no use.
+    ensures kept { IfOk result (λ status. (IsNamed asked.now.file (is_some asked.now.address) files.new
+        × KeepsIn (socket_rules S.opens S.closes S.Socket.sends S.Socket.receives S.Socket.receives_within) ⟦<FileFrom<F> as Disk>⟧ (image_at F.Start)
+        asked.now sockets.old sockets.new (O.contents output.old) (O.contents output.new) files.new.closed status)
+        ⊎ IsOfFile (IsNamed asked.now.file (is_some asked.now.address) files.new) status) }
+    // Whatever comes of it, of an archive that the files held no item and no log is lost.
+    ensures stays { IsUnused files.old → IfSome files.new.closed (IsDoneTo ⟦<FileFrom<F> as Disk>⟧ (image_at F.Start) LosesNothing) }
 {
-    match keep(rt, sockets, alloc, asked, counts, output, errors) {
+    match keep(sockets, files, alloc, asked, counts, output, errors) {
         Ok(status) => Ok(status),
         Err(NotDone::Asking(fault)) => Err(fault),
         Err(NotDone::File(fault)) => tell_file(alloc, fault, errors),
@@ -56,17 +67,19 @@ pub fn run_keep<S: Sockets, O: Write, E: Write>(
 /// Does what the words of `bac kept` ask for, and answers the exit status. What the file keeps goes
 /// to the output; a file that is no use is told on the errors, and any other fault is the caller's
 /// to tell.
-pub fn run_kept<O: Write, E: Write>(
-    rt: &HostRuntime,
+pub fn run_kept<F: Start, O: Write, E: Write>(
+    files: &mut DiskFiles<'_, F>,
     alloc: Global,
     asked: &Kept,
     output: &mut O,
     errors: &mut E,
 ) -> Result<u8, Fault>
-    // What is printed is the contract of `print_shown`, to which it gives the file that it opened.
-    ensures { IfOk result (λ status. (status ≡ 0) ⊎ IsOfFile status) }
+    // What the archive keeps of the logs that the words choose was printed; or the file is no use.
+    ensures { IfOk result (λ status. (IsNamed asked.now.file false files.new
+        × PrintsIn ⟦<FileFrom<F> as Disk>⟧ (image_at F.Start) asked.now (O.contents output.old) (O.contents output.new) files.new.closed status)
+        ⊎ IsOfFile (IsNamed asked.now.file false files.new) status) }
 {
-    match kept(rt, alloc, asked, output) {
+    match kept(files, alloc, asked, output) {
         Ok(status) => Ok(status),
         Err(NotDone::Asking(fault)) => Err(fault),
         Err(NotDone::File(fault)) => tell_file(alloc, fault, errors),

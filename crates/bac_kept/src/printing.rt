@@ -162,6 +162,7 @@ pub fn print_shown<A: Alter, O: Write>(
         → OnOk result ((all : List LogOf) × AreLogs (state A.Store conn.old).now.trees all
         × (text : List _) × WritesLogs shown.now (kept (state A.Store conn.old).now.trees) all text
         × Appends (O.contents output.old) (O.contents output.new) (row_text default_writer names ++ text)) }
+    ensures clean { OnOk result (HasCleanDisk (state A.Store conn.new) → HasCleanDisk (state A.Store conn.old)) }
 {
     let all = match logs(alloc, conn) {
         Ok(all) => all,

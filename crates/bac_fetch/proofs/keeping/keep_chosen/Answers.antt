@@ -5,6 +5,7 @@ use Rattle.sqlite.specs.State.{HasCleanDisk}
 use Rattle.sqlite.specs.Held.{state}
 use Rattle.bac_ports.specs.Sockets.{socket_rules}
 use Rattle.bac_fetch.specs.Keeps.{KeepsLogs}
+use Rattle.bac_fetch.proofs.StaysLemmas.{quiet_first, quiet_stays}
 use Rattle.bac_fetch.proofs.keeping.keep_chosen.Goals as goal
 
 pub returns : goal.returns
@@ -35,4 +36,14 @@ returns g c =
             ),
           ))
           c.keep_each.ensures.told;
+      stays = λ clean has.
+          let early : HasCleanDisk mid = c.keep_each.ensures.clean clean in
+          let same = c.in_ok-all.ensures.same early has in
+          quiet_first (state g.A.Store c.args.conn.now) mid new same (c.chosen_logs.ensures.crash has)
+          (c.keep_each.ensures.stays clean (ap (λ (d : Database). d.schema) same ∙ has));
+      clean = λ clean. c.chosen_logs.ensures.clean (c.keep_each.ensures.clean clean);
     }
+
+pub returns-in_err-all-clause-stays : goal.returns-in_err-all-clause-stays
+returns-in_err-all-clause-stays g c clean has =
+    quiet_stays (state g.A.Store c.args.conn.now) (state g.A.Store c.chosen_logs.new.conn) (c.chosen_logs.ensures.crash has)

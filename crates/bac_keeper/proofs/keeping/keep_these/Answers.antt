@@ -12,15 +12,22 @@ unnamed Kept all not = tt
 unnamed (Device like) all not = tt
 unnamed (Named named) all not = absurd (not named refl)
 
-pub returns-in-Named : goal.returns-in-Named
-returns-in-Named g c =
+pub returns-in-Named-clause-told : goal.returns-in-Named-clause-told
+returns-in-Named-clause-told g c =
     let asks = rw c.in-Named.is at c.requires in
     rw c.in-Named.is (IfOk-weaker c.keep_each.result _ _
-    (λ status told. (c.in-Named.all.items, c.args.sockets.now, refl, asks, (refl, refl), (told.0, told.1, told.2, told.3, tt)))
+    (λ status told. (
+      c.in-Named.all.items,
+      c.args.sockets.now,
+      refl,
+      asks,
+      (refl, refl),
+      (told.0, told.1, told.2, told.3, λ it. (refl, told.4 it.0 it.1)),
+    ))
     c.keep_each.ensures.told)
 
-pub returns-in_default : goal.returns-in_default
-returns-in_default g c =
+pub returns-in_default-clause-told : goal.returns-in_default-clause-told
+returns-in_default-clause-told g c =
     IfOk-weaker c.keep_chosen.result _ _
     (λ status told. (
       told.0,
@@ -28,5 +35,5 @@ returns-in_default g c =
       unnamed c.args.chosen told.0 c.in_default.not-Named,
       told.2,
       told.3,
-      (told.5.0, told.5.1, told.5.2, told.5.3, tt),
+      (told.5.0, told.5.1, told.5.2, told.5.3, λ it. (told.4 it.0 it.1, told.5.4 it.0 it.1)),
     )) c.keep_chosen.ensures.told

@@ -1,0 +1,149 @@
+//! The files of the machine.
+
+ghost use Rattle.std.specs.Prelude.{◌≡◌, ◌≢◌, IfErr, IfOk, None, OnErr, OnOk};
+ghost use Rattle.sqlite_wal.specs.Files.{image_at};
+ghost use Rattle.bac_files.specs.Files.{IsClosedBy, IsNamed, IsOpenedBy, IsUnused};
+
+use crate::not_opened::NotOpened;
+use sqlite::{Connection, Error, ErrorCode, FileFrom, FileStore, Files, Start};
+use std::alloc::AllocError;
+use std::fs::{Files as _, exists, metadata};
+
+/// The files of the machine that a program runs on. One database is opened of them, of which `F`
+/// says what its files hold; once it is closed they are kept as it left them.
+#[derive(Drop)]
+pub struct DiskFiles<'a, F: Start> {
+    rt: &'a HostRuntime,
+    start: Option<F>,
+    /// Which database was asked for, and whether it might be made.
+    name: Option<String>,
+    may_make: bool,
+    closed: Option<Files<FileFrom<F>>>,
+}
+
+/// How many octets a file has, if it is there.
+fn len_of(rt: &HostRuntime, path: &str) -> Option<u64> {
+    match metadata(rt, path) {
+        Ok(found) => Some(found.len()),
+        Err(_) => None,
+    }
+}
+
+/// Whether a file is there, and has nothing in it; nor has the log beside it.
+fn has_nothing(rt: &HostRuntime, path: &str, log: &str) -> bool {
+    len_of(rt, path) == Some(0) && len_of(rt, log).unwrap_or(0) == 0
+}
+
+/// The name of the log beside a database.
+fn log_of(rt: &HostRuntime, path: &str) -> Result<String, AllocError> {
+    let mut name = String::from_str(rt.alloc(), path)?;
+    name.push_str("-wal")?;
+    Ok(name)
+}
+
+/// Takes away the empty log that a refused open left.
+fn remove_empty(rt: &HostRuntime, log: &str) {
+    if let Ok(found) = metadata(rt, log) {
+        if found.len() == 0 {
+            let _ = rt.remove_file(log);
+        }
+    }
+}
+
+/// Why a database isn't opened.
+fn why(error: Error) -> NotOpened
+    ensures { result ≢ NotOpened.Memory }
+{
+    match error {
+        Error::SqliteFailure(ErrorCode::DatabaseBusy) => NotOpened::InUse,
+        error => NotOpened::Database(error),
+    }
+}
+
+/// Opens the database of this name, or makes it; a log that wasn't there isn't left by a refusal.
+fn open_from<F: Start>(
+    rt: &HostRuntime,
+    path: &str,
+    log: &str,
+    start: F,
+) -> Result<Connection<FileStore<FileFrom<F>>>, NotOpened>
+    ensures opened { IfOk result (IsOpenedBy (image_at F.Start)) }
+    ensures refused { IfErr result (λ why. why ≢ NotOpened.Memory) }
+{
+    let had_log = !matches!(exists(rt, log), Ok(false));
+    match Connection::open_from(rt, path, false, start) {
+        Ok(conn) => Ok(conn),
+        Err((error, left)) => {
+            // The files are closed first.
+            drop(left);
+            if !had_log {
+                remove_empty(rt, log);
+            }
+            Err(why(error))
+        }
+    }
+}
+
+impl<'a, F: Start> DiskFiles<'a, F> {
+    /// The files of the machine.
+    pub fn new(rt: &'a HostRuntime, start: F) -> DiskFiles<'a, F>
+        ensures { IsUnused result }
+    {
+        DiskFiles {
+            rt,
+            start: Some(start),
+            name: None,
+            may_make: false,
+            closed: None,
+        }
+    }
+
+    /// Opens the database of this name. Where there is no file, or one that has nothing in it, it makes
+    /// one if it may. A second one isn't opened.
+    pub fn open(
+        &mut self,
+        path: &str,
+        may_make: bool,
+    ) -> Result<Connection<FileStore<FileFrom<F>>>, NotOpened>
+        ensures opened { IfOk result (IsOpenedBy (image_at F.Start)) }
+        ensures named { result ≢ Err NotOpened.Memory → IsNamed path.now may_make self.new }
+        ensures unclosed { IsUnused self.old → IsUnused self.new }
+    {
+        let Ok(name) = String::from_str(self.rt.alloc(), path) else {
+            return Err(NotOpened::Memory);
+        };
+        let Ok(log) = log_of(self.rt, path) else {
+            return Err(NotOpened::Memory);
+        };
+        self.name = Some(name);
+        self.may_make = may_make;
+        if !may_make && matches!(exists(self.rt, path), Ok(false)) {
+            return Err(NotOpened::Absent);
+        }
+        if !may_make && has_nothing(self.rt, path, log.as_str()) {
+            return Err(NotOpened::Empty);
+        }
+        match self.start.take() {
+            Some(start) => open_from(self.rt, path, log.as_str(), start),
+            None => Err(NotOpened::Database(Error::SqliteFailure(ErrorCode::CannotOpen))),
+        }
+    }
+
+    /// Closes the database.
+    pub fn close(&mut self, conn: Connection<FileStore<FileFrom<F>>>) -> Result<(), Error>
+        ensures closed { OnOk result (IsClosedBy conn self.new.closed) }
+        ensures unclosed { OnErr result (IsUnused self.old → IsUnused self.new) }
+        ensures named { (path : _) (may : _) → IsNamed path may self.old → IsNamed path may self.new }
+    {
+        match conn.close_files() {
+            Ok(files) => {
+                self.closed = Some(files);
+                Ok(())
+            }
+            Err((error, store)) => {
+                drop(store.close());
+                Err(error)
+            }
+        }
+    }
+}

@@ -1,0 +1,2 @@
+pub mod ArchiveLemmas
+pub mod FileLemmas

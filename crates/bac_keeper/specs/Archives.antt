@@ -1,0 +1,38 @@
+-- An archive in a file, from what the file held as it was opened to what it holds once it is closed.
+use Rattle.std.specs.Prelude.{◌≡◌, List, IsTrue}
+use Rattle.sqlite.specs.Effect.{Database}
+use Rattle.sqlite.specs.State.{State, HasCleanDisk}
+use Rattle.bac_archive.specs.Archive.{IsArchive}
+use Rattle.bac_archive.specs.Schema.{archive_schema}
+use Rattle.bac_asked.specs.declared.end.End.{End}
+use Rattle.bac_asked.specs.declared.wanted.Wanted.{Wanted}
+use Rattle.bac_fetch.specs.Chosen.{AreChosen}
+use Rattle.bac_fetch.specs.Keeps.{KeepsLogs}
+use Rattle.bac_fetch.specs.Stays.{HasAllOf}
+use Rattle.bac_fetch.specs.declared.keeping.Chosen.{Chosen}
+use Rattle.bac_ports.specs.Sockets.{SocketRules}
+
+-- a connection is open, and its disk has given back what was written
+abbrev pub IsHeld : State → Type 0
+IsHeld s = HasCleanDisk s × IsTrue s.is_open
+
+-- the disk has given back what was written, in an archive
+abbrev pub IsCleanArchive : State → State → Type 0
+IsCleanArchive old new = HasCleanDisk new × (old.now.schema ≡ archive_schema)
+
+-- an archive is the one that was found, or a new one
+pub record IsArchiveOf (found archive : Database) : Type 0 where
+  pub is : IsArchive archive
+  pub same : found.schema ≡ archive_schema → archive ≡ found
+
+-- these logs, of those that were chosen, were kept in the archive, and their runs ended so
+pub record KeepsArchive {S P : Type 0} (rules : SocketRules S P) (chosen : Chosen) (all : List Wanted) (before after : S)
+    (ends : List End) (found left : Database) : Type 0 where
+  pub archive : Database
+  pub opened : IsArchiveOf found archive
+  pub chose : AreChosen chosen archive.trees all
+  pub kept : KeepsLogs rules all before after archive left ends
+
+-- of an archive that was found no item and no log is lost
+abbrev pub LosesNothing : Database → Database → Type 0
+LosesNothing found left = found.schema ≡ archive_schema → HasAllOf found.trees left.trees

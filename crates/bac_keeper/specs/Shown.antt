@@ -1,0 +1,63 @@
+-- What was printed of the words of `bac kept`. Read from the end.
+use Rattle.std.specs.Prelude.{◌≡◌, ◌++◌, ℕ, Bool, true, false, List, codes, Option, None, Some, IfSome, IsSome}
+use Rattle.std.specs.Io.KnownBytes.{Appends}
+use Rattle.clap.specs.Words.{Text}
+use Rattle.csv.specs.Writing.{default_writer, row_text}
+use Rattle.sqlite.specs.Effect.{Database}
+use Rattle.sqlite_disk.specs.declared.Disk as disk
+use Rattle.sqlite_disk.specs.declared.Files.{Files}
+use Rattle.sqlite_value.specs.Order.{Row as Values}
+use Rattle.sqlite_wal.specs.Recovery.{Image}
+use Rattle.bac_archive.specs.Logs.{AreLogs}
+use Rattle.bac_archive.specs.Rows.{kept}
+use Rattle.bac_archive.specs.declared.trend_logs.Log.{Log}
+use Rattle.bac_archive.specs.declared.trend_logs.Source.{Source}
+use Rattle.bac_asked.specs.AsLog.{Given, IsAskedBy, log_words}
+use Rattle.bac_asked.specs.Wanted.{AsksItsSource}
+use Rattle.bac_asked.specs.declared.wanted.Wanted.{Wanted}
+use Rattle.bac_files.specs.Files.{IsDoneTo}
+use Rattle.bac_keeper.specs.Archives.{IsArchiveOf}
+use Rattle.bac_kept.specs.Csv.{WritesLogs, names}
+use Rattle.bac_kept.specs.Printed.{PrintsLogs}
+use Rattle.bac_kept.specs.declared.printing.Shown.{Shown}
+use Rattle.bac_kept.specs.declared.printing.Shown.TheVariants as shown
+use Rattle.bac_print.specs.Output.{Held}
+use Rattle.bac_words.specs.declared.job.Kept.{Kept}
+
+-- no option
+abbrev pub none_given : Given
+none_given = record { steps = None; timeout = None; local = None; retries = None; dnet = None; dadr = None }
+
+-- where the log is that these words name, by the rules of `bac log`
+abbrev pub IsNamedBy : Text → Text → Source → Type 0
+IsNamedBy address instance source =
+    (wanted : Wanted) × IsAskedBy (log_words address instance none_given) wanted.asking × AsksItsSource wanted
+    × (source ≡ wanted.source)
+
+-- with FILE alone each log, with ADDRESS those of the device, with INSTANCE this one
+abbrev pub ShowsBy : Option Text → Option Text → Shown → Type 0
+ShowsBy None instance which = which ≡ shown.All
+ShowsBy (Some address) None which = (source : Source) × IsNamedBy address (codes "0") source × (which ≡ shown.Device source)
+ShowsBy (Some address) (Some instance) which =
+    (source : Source) × IsNamedBy address instance source × (which ≡ shown.One source)
+
+-- which logs the words choose
+abbrev pub Shows : Kept → Shown → Type 0
+Shows words which = ShowsBy words.address words.instance which
+
+-- The text of these logs of items, in lines; or as CSV, behind the row of names.
+abbrev pub IsTextOf : Shown → List Values → List Log → Bool → List ℕ → Type 0
+IsTextOf which items all false text = PrintsLogs which items all text
+IsTextOf which items all true text = (rows : List ℕ) × WritesLogs which items all rows × (text ≡ row_text default_writer names ++ rows)
+
+-- the text of what the archive keeps of the logs that were chosen, which was found in a file, was written
+abbrev pub PrintsArchive : Shown → Bool → Held → Held → Database → Type 0
+PrintsArchive which csv before after found =
+    (archive : Database) × IsArchiveOf found archive × (all : List Log) × AreLogs archive.trees all
+    × (text : List ℕ) × IsTextOf which (kept archive.trees) all csv text × Appends before after text
+
+-- What the archive keeps of the logs that the words choose was printed, of two files that were opened and closed.
+abbrev pub PrintsIn : {D : Type 0} → (g : disk.Ghosts D) → Image → Kept → Held → Held → Option (Files D) → ℕ → Type 0
+PrintsIn g image words before after closed status =
+    (status ≡ 0) × IsSome closed × (which : Shown) × Shows words which
+    × IfSome closed (IsDoneTo g image (λ found left. PrintsArchive which words.csv before after found))
