@@ -2,11 +2,12 @@
 """kept.py PROGRAM ROOM RUNS SEED KILLS: judges `PROGRAM keep` from outside, for kept.sh.
 
 RUNS runs keep the logs of four sites, each in a file of its own, while the devices of kept_devices.py log records, lose
-datagrams, purge and overwrite their logs and begin anew; most of the runs are ended by SIGKILL at any moment. Others
+datagrams, purge and overwrite their logs, set their clocks back and begin anew; most of the runs are ended by SIGKILL at any moment. Others
 are ended before each of their calls on files in turn, by KILLS, the library of kills.c, or have that call fail. After each
 run the file is compared with what the devices logged (kept_judge.py). The cases of kept_cases.py follow. As many of all that as there
 are cores go on at once. Prints what is wrong, and `N passed, M failed` at the end."""
 import collections
+import datetime
 import multiprocessing
 import os
 import resource
@@ -46,6 +47,9 @@ def changed(log):
         log.log(chance.randrange(5))
         log.purge()
         log.log(chance.randrange(3))
+    elif what < 0.93:
+        log.clock -= datetime.timedelta(hours=1)
+        log.log(chance.choice((3, 120)))
     else:
         kept = log.total
         log.begin(0)

@@ -14,6 +14,7 @@ import sys
 import time
 
 from kept_apart import dead_devices, last_epoch
+from kept_clocks import clocks, either_line, questions
 from kept_devices import Device, Log, chance, lock, serve, wait_until_asked
 from kept_judge import wrongs
 from kept_rounds import one, rounds, said
@@ -290,19 +291,22 @@ def restarts(judge, _runs):
         judge.judge(name, file, [device], True)
         judge.same(f"{name}, again", judge.ran(["keep", file]),
                    (0, said(device, 0, 0, f"caught up, next {count + 1}"), ""))
+    # It holds nothing, and counts fewer than were kept.
     log.begin(0)
-    judge.same("an empty log tells nothing", judge.ran(["keep", file])[::2], (0, ""))
+    judge.same("an empty log that counts fewer", judge.ran(["keep", file]), (0, said(device, 0, 0, "caught up, next 1"), anew))
+    judge.same("is told once", judge.ran(["keep", file]), (0, said(device, 0, 0, "caught up, next 1"), ""))
     log.log(1)
-    judge.same("until it has a record", judge.ran(["keep", file]), (0, said(device, 1, 0, "caught up, next 2"), anew))
-    # It has passed the number and dropped it; its clock was set back, which tells it.
+    judge.same("until it has a record", judge.ran(["keep", file]), (0, said(device, 1, 0, "caught up, next 2"), ""))
+    # It has passed the number and dropped it; its clock was set back: it may have gone on.
     log.begin(0)
     log.clock -= datetime.timedelta(days=400)
     log.log(70)
-    judge.same("passed, and dated before", judge.ran(["keep", file]), (0, said(device, 50, 1, "caught up, next 71"), anew))
+    judge.same("passed, and dated before", judge.ran(["keep", file]), (0, said(device, 50, 2, "caught up, next 71"), either_line(device)))
     judge.judge("passed, and dated before", file, [device], True)
     base = sqlite3.connect(file)
     judge.same("epochs", base.execute("SELECT max(epoch) FROM records").fetchone(), (epoch + 2,))
-    judge.same("what it dropped since is a gap", base.execute("SELECT epoch, first, last FROM gaps").fetchall(), [(epoch + 2, 1, 20)])
+    judge.same("what it dropped since is a gap, and so is what it may have dropped before",
+               base.execute("SELECT epoch, first, last FROM gaps").fetchall(), [(epoch + 1, 2, 20), (epoch + 2, 1, 20)])
     base.close()
     # Its count lies half of the numbers ahead of 1 and more: it begins at the oldest.
     log.begin(3000000000)
@@ -640,5 +644,5 @@ def judgements(judge, _runs):
     judge.is_right("a broken page is seen", wrongs(broken, [device], True))
 
 
-CASES = [judgements, run_after_run, beginnings, options, losses, line_by_line, step_limits, last_epoch, dead_devices, words_and_names, no_archive, far_away, rounds, restarts, cut_files, foreign_files, a_large_file, printed, taken_over, served,
+CASES = [judgements, run_after_run, beginnings, options, losses, line_by_line, step_limits, last_epoch, dead_devices, words_and_names, no_archive, far_away, rounds, restarts, clocks, questions, cut_files, foreign_files, a_large_file, printed, taken_over, served,
          terminals, warehouses]

@@ -101,23 +101,37 @@ def wrongs(file, devices, all_of_it):
     return found
 
 
+def first_behind(epochs, epoch):
+    """The number of the first record of the epochs behind one."""
+    behind = min((at for at in epochs if at > epoch), default=None)
+    return next((number for number, last, _ in epochs.get(behind, ()) if last is None), None)
+
+
 def wrong_of(log, epochs, all_of_it):
     """What is wrong with the rows of a log, or None."""
-    life, next_number = -1, 1
+    life, next_number, either = -1, 1, False
     for epoch in sorted(epochs):
-        rows, before, end = epochs[epoch], life, next_number
-        # A gap goes on into the next epoch, where numbers come round.
-        if rows[-1][1] not in (None, LAST) or rows[-1][1] == LAST and epoch + 1 not in epochs:
+        rows, before, end, was_either = epochs[epoch], life, next_number, either
+        # A gap goes on into the next epoch, where numbers come round. Behind another one at the end of an epoch nobody
+        # could tell whether the log went on or began anew: it goes up to the first record of the next epoch.
+        either = rows[-1][1] not in (None, LAST) or rows[-1][1] == LAST and epoch + 1 not in epochs
+        if either and first_behind(epochs, epoch) != rows[-1][1] % LAST + 1:
             return f"epoch {epoch} ends with a gap"
+        next_number = rows[0][0]
+        if either:
+            *rows, (gap, last, texts) = rows
+            if last < gap or texts != (None,) * 4 or rows and (rows[-1][0] if rows[-1][1] is None else rows[-1][1]) != gap - 1:
+                return f"epoch {epoch}: gap {gap} {last} {texts} at its end"
+            if not rows:
+                continue
         # Where the first record is from: a life after that of the epoch before.
         first, _, texts = next(row for row in rows if row[1] is None)
-        found = [at for at, logged in enumerate(log.lives) if at > life and logged.get(first) == texts]
+        found = [at for at, logged in enumerate(log.lives) if at > life - was_either and logged.get(first) == texts]
         if not found:
             return f"epoch {epoch}: no life logged {first} {texts}"
         life = found[0]
         logged, dropped = log.lives[life], log.gone(life)
-        next_number = rows[0][0]
-        if life == before + 1 and life in log.rounds and before >= 0 and (end != LAST + 1 or next_number != 1):
+        if not was_either and life == before + 1 and life in log.rounds and before >= 0 and (end != LAST + 1 or next_number != 1):
             return f"epoch {epoch} begins at {next_number} where numbers come round, and that before ends at {end - 1}"
         # One that began anew counts from 1, and 1 tells up to half of the numbers ahead.
         if before >= 0 and life not in log.rounds and next_number != 1 and first <= 2**31:

@@ -3,6 +3,7 @@
 ghost use Rattle.std.specs.Prelude.{◌≡◌};
 ghost use Rattle.bac_asked.specs.Status.{end_status, walk_status};
 
+use crate::began::Began;
 use crate::fault::{Fault, FileFault};
 use bac_walk::{WalkFault, Why};
 use sqlite::Error;
@@ -31,8 +32,8 @@ pub struct End {
     pub why: Ending,
     /// The number that comes next.
     pub next: u32,
-    /// The device began anew, and a new epoch with it.
-    pub anew: bool,
+    /// How its rows begin.
+    pub began: Began,
 }
 
 /// Why a log isn't kept.

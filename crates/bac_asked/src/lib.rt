@@ -5,6 +5,7 @@
 //! opened. What comes from a file may have been written by anyone.
 #![tactic(auto)]
 
+mod began;
 mod end;
 mod fault;
 mod log_words;
@@ -12,6 +13,7 @@ mod options;
 mod summary;
 mod wanted;
 
+pub use began::{Began, push_began};
 pub use end::{End, Ending, NotDone, end_status, of_error};
 pub use fault::{Fault, FileFault};
 pub use log_words::Asking;

@@ -1,14 +1,17 @@
 -- What is kept of logs, one after the other.
-use Rattle.std.proofs.Common.{◌≡◌, inl, inr, ℕ, max, Bool, true, false, List, [], ◌∷◌, ◌++◌, length, Option, None, Some, Result, Ok, Err, IfOk, refl, sym, ap, subst, ◌∙◌, append_assoc, append-nil, length-append, arith}
+use Rattle.std.proofs.Common.{◌≡◌, ◌-◌, inl, inr, ℕ, max, Bool, true, false, List, [], ◌∷◌, ◌++◌, length, Option, None, Some, Result, Ok, Err, IfOk, refl, sym, ap, subst, ◌∙◌, append_assoc, append-nil, length-append, arith}
 use Rattle.sqlite.specs.Effect.{Database}
 use Rattle.bac_wire.specs.Primitive.{Id}
 use Rattle.bac_archive.specs.Schema.{archive_schema}
 use Rattle.bac_archive.specs.declared.trend_logs.Log.{Log}
 use Rattle.bac_archive.specs.declared.trend_logs.Source.{Source}
-use Rattle.bac_keep.specs.Resumption.{KeptRecord, Resumes}
-use Rattle.bac_keep.specs.declared.resumption.Resume.{Resume}
+use Rattle.bac_keep.specs.declared.courses.Word.{Word}
+use Rattle.bac_keep.specs.declared.courses.Word.TheVariants.{Untold}
+use Rattle.bac_walk.specs.declared.outcome.Ended.{Ended}
+use Rattle.bac_walk.specs.declared.outcome.Ended.TheVariants.{CaughtUp, StepLimit, Stopped, Fault}
+use Rattle.bac_archive.specs.declared.epochs.Beginning.{Beginning}
 use Rattle.bac_asked.specs.declared.end.End.{End}
-use Rattle.bac_fetch.specs.declared.fetching.Start.{Start}
+use Rattle.bac_fetch.specs.declared.starting.Start.{Start}
 use Rattle.bac_asked.specs.declared.wanted.Wanted.{Wanted}
 use Rattle.bac_apdu.specs.Npdu.{Place}
 use Rattle.bac_link.specs.Path.{Path, towards}
@@ -16,8 +19,7 @@ use Rattle.bac_link.specs.declared.link.Lost.{Lost as Loss}
 use Rattle.bac_ports.specs.declared.udp_link.UdpLink.{UdpLink}
 use Rattle.bac_asked.specs.declared.log_words.Asking.{Asking}
 use Rattle.bac_ports.specs.Sockets.{SocketRules, link_over, own_address, socket_asks}
-use Rattle.bac_fetch.specs.Fetched.{ComesFrom}
-use Rattle.bac_fetch.specs.Keeps.{KeepsBegun, Marks, MarksBegun, is_idle, KeepsLog, KeepsOverLink, KeepsSource, KeepsNext, PassesOver, KeepsAll, lines_of, greatest_status}
+use Rattle.bac_fetch.specs.Keeps.{KeepsBegun, KeepsOn, Marks, MarksBegun, is_idle, KeepsLog, KeepsOverLink, KeepsSource, KeepsNext, PassesOver, KeepsAll, lines_of, greatest_status}
 use Rattle.bac_asked.specs.Lines.{summary_line}
 use Rattle.bac_fetch.specs.Silent.{is_silent, lost_after, lost_with}
 use Rattle.bac_fetch.specs.Starts.{IsBegun}
@@ -29,28 +31,25 @@ pub both_ok : {T E : Type 0} (r : Result T E) (P Q R : T → Type 0) → ((x : T
 both_ok (Ok x) P Q R f p q = f x p q
 both_ok (Err e) P Q R f p q = tt
 
--- what was told to a question for a record is told to one for the same record
-pub resumes : {L : Type 0} (asks : L → List ℕ → Result (List ℕ) Loss → L → Type 0) (path : Path) (retries : ℕ) (link left : L) (object : Id) (given same : KeptRecord) (told : Resume)
-    → given ≡ same → Resumes asks path retries link object given told left → Resumes asks path retries link object same told left
-resumes asks path retries link left object given same told is it = subst (λ (k : KeptRecord). Resumes asks path retries link object k told left) is it
+-- what holds of one route and number of retries holds of the same
+pub over : (P : Path → ℕ → Type 0) (route way : Option Place) (retries tries : ℕ) → route ≡ way → retries ≡ tries → P (towards route) retries → P (towards way) tries
+over P route way retries tries r n it = subst (λ m. P (towards way) m) n (subst (λ (q : Option Place). P (towards q) retries) r it)
 
 -- what is kept of a log whose beginning changed nothing, over a link
 pub keeps_begun : {L : Type 0} (asks : L → List ℕ → Result (List ℕ) Loss → L → Type 0) (way route : Option Place) (tries retries : ℕ) (link mid left : L)
-    (steps log : ℕ) (object : Id) (old between new : Database) (start : Start) (end : End)
-    → IsBegun asks (towards way) tries link mid log object old.trees (Ok start) → route ≡ way → retries ≡ tries → between ≡ old
-    → ((last : Database) × KeepsBegun (Ok start) between last end × ComesFrom asks (towards route) retries mid left start steps between last end
-    × Marks log start.begins_at end last new)
-    → KeepsOverLink asks (towards way) tries link left steps log object old new end
-keeps_begun asks way route tries retries link mid left steps log object old between new start end begun r n same (last, keeps, came, marks) = (
+    (steps log : ℕ) (object : Id) (word : Word) (old between new : Database) (start : Start) (end : End)
+    → IsBegun asks (towards way) tries link mid log object word old.trees (Ok start) → route ≡ way → retries ≡ tries → between ≡ old
+    → ((last : Database) × KeepsBegun asks (towards route) retries mid left (Ok start) steps between last end
+    × Marks start.begins_at end last new)
+    → KeepsOverLink asks (towards way) tries link left steps log object word old new end
+keeps_begun asks way route tries retries link mid left steps log object word old between new start end begun r n same (last, keeps, marks) = (
   Ok start,
   mid,
   begun,
   (
     last,
-    subst (λ d. KeepsBegun (Ok start) d last end) same keeps,
-    subst (λ d. ComesFrom asks (towards way) tries mid left start steps d last end) same
-        (subst (λ m. ComesFrom asks (towards way) m mid left start steps between last end) n
-        (subst (λ (q : Option Place). ComesFrom asks (towards q) retries mid left start steps between last end) r came)),
+    subst (λ d. KeepsBegun asks (towards way) tries mid left (Ok start) steps d last end) same
+        (over (λ path m. KeepsBegun asks path m mid left (Ok start) steps between last end) route way retries tries r n keeps),
     marks,
   ),
 )
@@ -60,33 +59,42 @@ pub keeps_log : {S P : Type 0} (rules : SocketRules S P) (asking : Asking) (befo
     (port last : P) (link left : UdpLink P) (route : Option Place) (retries steps : ℕ)
     → rules.opens before (own_address asking.asked.local) asking.asked.timeout (Ok port) middle → link ≡ link_over asking.asked.address port
     → route ≡ asking.asked.route → retries ≡ asking.asked.retries → steps ≡ asking.steps → given ≡ object → last ≡ left.port → rules.closes middle last after
-    → KeepsOverLink (socket_asks rules) (towards route) retries link left steps log given old new end → KeepsLog rules asking before after log object old new end
+    → KeepsOverLink (socket_asks rules) (towards route) retries link left steps log given Untold old new end → KeepsLog rules asking before after log object old new end
 keeps_log rules asking before middle after log object given old new end port last link left route retries steps opens is_link way tries many is is_last closes it =
     let asks = socket_asks rules in
     let path = towards asking.asked.route in
     let over = link_over asking.asked.address port in
-    let it₁ = subst (λ (q : Option Place). KeepsOverLink asks (towards q) retries link left steps log given old new end) way it in
-    let it₂ = subst (λ m. KeepsOverLink asks path m link left steps log given old new end) tries it₁ in
-    let it₃ = subst (λ l. KeepsOverLink asks path asking.asked.retries l left steps log given old new end) is_link it₂ in
-    let it₄ = subst (λ m. KeepsOverLink asks path asking.asked.retries over left m log given old new end) many it₃ in
-    let it₅ = subst (λ (o : Id). KeepsOverLink asks path asking.asked.retries over left asking.steps log o old new end) is it₄ in
+    let it₁ = subst (λ (q : Option Place). KeepsOverLink asks (towards q) retries link left steps log given Untold old new end) way it in
+    let it₂ = subst (λ m. KeepsOverLink asks path m link left steps log given Untold old new end) tries it₁ in
+    let it₃ = subst (λ l. KeepsOverLink asks path asking.asked.retries l left steps log given Untold old new end) is_link it₂ in
+    let it₄ = subst (λ m. KeepsOverLink asks path asking.asked.retries over left m log given Untold old new end) many it₃ in
+    let it₅ = subst (λ (o : Id). KeepsOverLink asks path asking.asked.retries over left asking.steps log o Untold old new end) is it₄ in
     (port, middle, last, opens, (left, it₅, is_last), closes)
 
-pub log_schema : (begun : Result Start End) (old new : Database) (end : End) → KeepsBegun begun old new end → old.schema ≡ archive_schema → new.schema ≡ archive_schema
-log_schema (Ok start) old new end h has = h.rows.schema
-log_schema (Err none) old new end h has = ap (λ (d : Database). d.schema) h.0 ∙ has
+on_schema : {L : Type 0} (asks : L → List ℕ → Result (List ℕ) Loss → L → Type 0) (path : Path) (retries : ℕ) (link left : L) (start : Start) (ended : Ended) (steps : ℕ)
+    (old new : Database) (end : End) → KeepsOn asks path retries link left start ended steps old new end → old.schema ≡ archive_schema → new.schema ≡ archive_schema
+on_schema asks path retries link left start CaughtUp steps old new end h has = ap (λ (d : Database). d.schema) h.0 ∙ has
+on_schema asks path retries link left start StepLimit steps old new end h has = h.0.rows.schema
+on_schema asks path retries link left start Stopped steps old new end h has = h.0.rows.schema
+on_schema asks path retries link left start (Fault why) steps old new end h has = h.0.rows.schema
 
-mark_schema : (log : ℕ) (begins_at : Option ℕ) (end : End) (old new : Database) → Marks log begins_at end old new → old.schema ≡ archive_schema → new.schema ≡ archive_schema
-mark_schema log None end old new it has = ap (λ (d : Database). d.schema) it ∙ has
-mark_schema log (Some number) end old new it has = go (is_idle end) refl
+pub log_schema : {L : Type 0} (asks : L → List ℕ → Result (List ℕ) Loss → L → Type 0) (path : Path) (retries : ℕ) (link left : L) (begun : Result Start End) (steps : ℕ)
+    (old new : Database) (end : End) → KeepsBegun asks path retries link left begun steps old new end → old.schema ≡ archive_schema → new.schema ≡ archive_schema
+log_schema asks path retries link left (Ok start) steps old new end (mid, rows, on) has =
+    on_schema asks path retries link left start start.hand.gathered.step.ended (steps - 1) mid new end on rows.schema
+log_schema asks path retries link left (Err none) steps old new end h has = ap (λ (d : Database). d.schema) h.0 ∙ has
+
+mark_schema : (begins_at : Option Beginning) (end : End) (old new : Database) → Marks begins_at end old new → old.schema ≡ archive_schema → new.schema ≡ archive_schema
+mark_schema None end old new it has = ap (λ (d : Database). d.schema) it ∙ has
+mark_schema (Some beginning) end old new it has = go (is_idle end) refl
   where
     go : (idle : Bool) → is_idle end ≡ idle → new.schema ≡ archive_schema
     go true is = (it.0 is).schema
     go false is = ap (λ (d : Database). d.schema) (it.1 is) ∙ has
 
-marks_schema : (log : ℕ) (begun : Result Start End) (end : End) (old new : Database) → MarksBegun log begun end old new → old.schema ≡ archive_schema → new.schema ≡ archive_schema
-marks_schema log (Ok start) end old new it has = mark_schema log start.begins_at end old new it has
-marks_schema log (Err none) end old new it has = ap (λ (d : Database). d.schema) it ∙ has
+marks_schema : (begun : Result Start End) (end : End) (old new : Database) → MarksBegun begun end old new → old.schema ≡ archive_schema → new.schema ≡ archive_schema
+marks_schema (Ok start) end old new it has = mark_schema start.begins_at end old new it has
+marks_schema (Err none) end old new it has = ap (λ (d : Database). d.schema) it ∙ has
 
 source_schema : {S P : Type 0} (rules : SocketRules S P) (wanted : Wanted) (before after : S) (old new : Database) (end : End) → KeepsSource rules wanted before after old new end
     → old.schema ≡ archive_schema → new.schema ≡ archive_schema
@@ -95,8 +103,8 @@ source_schema rules wanted before after old new end h has =
       | inl same ↦ ap (λ (d : Database). d.schema) same ∙ has
       | inr more ↦ more.schema
     ] in
-    let (begun, mid, at_begin, (last, keeps, comes, marks)) = h.kept.4.1 in
-    marks_schema h.id begun end last new marks (log_schema begun h.known last end keeps known)
+    let (begun, mid, at_begin, (last, keeps, marks)) = h.kept.4.1 in
+    marks_schema begun end last new marks (log_schema _ _ _ _ _ begun _ h.known last end keeps known)
 
 next_schema : {S P : Type 0} (rules : SocketRules S P) (known : List Log) (lost : List Source) (wanted : Wanted) (before after : S) (old new : Database) (end : End)
     → KeepsNext rules known lost wanted before after old new end → old.schema ≡ archive_schema → new.schema ≡ archive_schema

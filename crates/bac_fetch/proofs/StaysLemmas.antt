@@ -1,5 +1,5 @@
 -- A run takes nothing away.
-use Rattle.std.proofs.Common.{◌≡◌, inl, inr, ℕ, ◌⊎◌, Bool, true, false, List, Option, None, Some, Result, Ok, Err, ap, refl, subst, sym, ◌∙◌, arith}
+use Rattle.std.proofs.Common.{◌≡◌, ◌-◌, inl, inr, ℕ, ◌⊎◌, Bool, true, false, List, Option, None, Some, Result, Ok, Err, ap, refl, subst, sym, ◌∙◌, arith}
 use Rattle.std.specs.List.{Contains}
 use Rattle.std.proofs.lemmas.List.Elements.{Contains-append_left}
 use Rattle.std.proofs.lemmas.List.Sorted.{Contains-permutation}
@@ -12,15 +12,20 @@ use Rattle.bac_archive.specs.Rows.{kept, known, Adds}
 use Rattle.bac_archive.specs.Schema.{archive_schema}
 use Rattle.bac_archive.specs.Beginnings.{AddsBeginnings}
 use Rattle.bac_archive.specs.Standing.{HasNewBeginning}
+use Rattle.bac_archive.specs.declared.epochs.Beginning.{Beginning}
+use Rattle.bac_link.specs.Path.{Path}
+use Rattle.bac_link.specs.declared.link.Lost.{Lost as Loss}
+use Rattle.bac_walk.specs.declared.outcome.Ended.{Ended}
+use Rattle.bac_walk.specs.declared.outcome.Ended.TheVariants.{CaughtUp, StepLimit, Stopped, Fault}
 use Rattle.bac_archive.specs.Logs.{AddsLog, HasNewLog}
 use Rattle.bac_archive.specs.declared.trend_logs.Log.{Log}
 use Rattle.bac_archive.specs.declared.trend_logs.Source.{Source}
 use Rattle.bac_ports.specs.Sockets.{SocketRules}
-use Rattle.bac_fetch.specs.Keeps.{KeepsBegun, KeepsNext, KeepsSource, Marks, MarksBegun, PassesOver, is_idle}
+use Rattle.bac_fetch.specs.Keeps.{KeepsBegun, KeepsOn, KeepsNext, KeepsSource, Marks, MarksBegun, PassesOver, is_idle}
 use Rattle.bac_fetch.specs.Silent.{is_silent}
 use Rattle.bac_fetch.specs.Stays.{HasAllOf}
 use Rattle.bac_asked.specs.declared.end.End.{End}
-use Rattle.bac_fetch.specs.declared.fetching.Start.{Start}
+use Rattle.bac_fetch.specs.declared.starting.Start.{Start}
 use Rattle.bac_asked.specs.declared.wanted.Wanted.{Wanted}
 use Rattle.bac_fetch.proofs.SilentLemmas.{either_holds}
 
@@ -90,9 +95,9 @@ begin_all a b rows it = record {
 }
 
 -- nor does what is put on record behind a run
-pub marks_stay : (log : ℕ) (begins_at : Option ℕ) (end : End) (old new : Database) → Marks log begins_at end old new → HasAllOf old.trees new.trees
-marks_stay log None end old new it = subst (λ (d : Database). HasAllOf old.trees d.trees) (sym it) (all_itself old.trees)
-marks_stay log (Some number) end old new it = go (is_idle end) refl
+pub marks_stay : (begins_at : Option Beginning) (end : End) (old new : Database) → Marks begins_at end old new → HasAllOf old.trees new.trees
+marks_stay None end old new it = subst (λ (d : Database). HasAllOf old.trees d.trees) (sym it) (all_itself old.trees)
+marks_stay (Some beginning) end old new it = go (is_idle end) refl
   where
     go : (idle : Bool) → is_idle end ≡ idle → HasAllOf old.trees new.trees
     go true is = begin_all old.trees new.trees _ (it.0 is).rows
@@ -105,19 +110,32 @@ pub begin_stays : (old new : State) (row : Values) → old.now.schema ≡ archiv
 begin_stays old new row has it = survives_as old new _ (HasAllOf old.now.trees)
     (λ _ db left. let made = left has in subst (HasAllOf old.now.trees) (sym made.2) (begin_all old.now.trees made.0.trees _ made.1.rows)) it
 
+pub quiet_then : (old mid new : State) → Survives old mid (λ _. ⊥) → Survives mid new (λ _. ⊥) → Survives old new (λ _. ⊥)
+quiet_then old mid new one two = survives_then old mid new (λ _. ⊥) (λ _. ⊥) (λ _. ⊥) (λ _ _ none. none) (λ _ _ none. none) one two
+
 -- two calls that commit nothing
 pub none_then : (old mid new : State) → (HasCleanDisk mid → IsUnchanged old mid) → old.now.schema ≡ archive_schema
     → Survives old mid (λ _. ⊥) → ((HasCleanDisk mid → mid.now.schema ≡ archive_schema) → Survives mid new (λ _. ⊥)) → Survives old new (λ _. ⊥)
 none_then old mid new same has one two = survives_then old mid new _ _ (λ _. ⊥) (λ _ _ none. none) (λ _ _ none. none) one
     (two (λ clean. ap (λ (d : Database). d.schema) (same clean).0.now_is ∙ has))
 
-pub begun_stays : (begun : Result Start End) (old new : Database) (end : End) → KeepsBegun begun old new end → HasAllOf old.trees new.trees
-begun_stays (Ok start) old new end it = adds_all old.trees new.trees _ it.rows.rows
-begun_stays (Err none) old new end it = subst (λ (d : Database). HasAllOf old.trees d.trees) (sym it.0) (all_itself old.trees)
+on_stays : {L : Type 0} (asks : L → List ℕ → Result (List ℕ) Loss → L → Type 0) (path : Path) (retries : ℕ) (link left : L) (start : Start) (ended : Ended) (steps : ℕ)
+    (old new : Database) (end : End) → KeepsOn asks path retries link left start ended steps old new end → HasAllOf old.trees new.trees
+on_stays asks path retries link left start CaughtUp steps old new end h = subst (λ (d : Database). HasAllOf old.trees d.trees) (sym h.0) (all_itself old.trees)
+on_stays asks path retries link left start StepLimit steps old new end h = adds_all old.trees new.trees _ h.0.rows.rows
+on_stays asks path retries link left start Stopped steps old new end h = adds_all old.trees new.trees _ h.0.rows.rows
+on_stays asks path retries link left start (Fault why) steps old new end h = adds_all old.trees new.trees _ h.0.rows.rows
 
-marked_stays : (log : ℕ) (begun : Result Start End) (end : End) (old new : Database) → MarksBegun log begun end old new → HasAllOf old.trees new.trees
-marked_stays log (Ok start) end old new it = marks_stay log start.begins_at end old new it
-marked_stays log (Err none) end old new it = subst (λ (d : Database). HasAllOf old.trees d.trees) (sym it) (all_itself old.trees)
+pub begun_stays : {L : Type 0} (asks : L → List ℕ → Result (List ℕ) Loss → L → Type 0) (path : Path) (retries : ℕ) (link left : L) (begun : Result Start End) (steps : ℕ)
+    (old new : Database) (end : End) → KeepsBegun asks path retries link left begun steps old new end → HasAllOf old.trees new.trees
+begun_stays asks path retries link left (Ok start) steps old new end (mid, rows, on) =
+    all_then old.trees mid.trees new.trees (adds_all old.trees mid.trees _ rows.rows)
+    (on_stays asks path retries link left start start.hand.gathered.step.ended (steps - 1) mid new end on)
+begun_stays asks path retries link left (Err none) steps old new end it = subst (λ (d : Database). HasAllOf old.trees d.trees) (sym it.0) (all_itself old.trees)
+
+marked_stays : (begun : Result Start End) (end : End) (old new : Database) → MarksBegun begun end old new → HasAllOf old.trees new.trees
+marked_stays (Ok start) end old new it = marks_stay start.begins_at end old new it
+marked_stays (Err none) end old new it = subst (λ (d : Database). HasAllOf old.trees d.trees) (sym it) (all_itself old.trees)
 
 -- what is kept of a log takes nothing away
 pub source_stays : {S P : Type 0} (over : SocketRules S P) (wanted : Wanted) (before after : S) (old new : Database) (end : End) →
@@ -127,9 +145,9 @@ source_stays over wanted before after old new end it =
       | inl same ↦ subst (λ (d : Database). HasAllOf old.trees d.trees) (sym same) (all_itself old.trees)
       | inr more ↦ log_all old.trees it.known.trees _ more.rows
     ] in
-    let (begun, mid, at_begin, (last, keeps, comes, marks)) = it.kept.4.1 in
-    all_then old.trees it.known.trees new.trees known (all_then it.known.trees last.trees new.trees (begun_stays begun it.known last end keeps)
-    (marked_stays it.id begun end last new marks))
+    let (begun, mid, at_begin, (last, keeps, marks)) = it.kept.4.1 in
+    all_then old.trees it.known.trees new.trees known (all_then it.known.trees last.trees new.trees (begun_stays _ _ _ _ _ begun _ it.known last end keeps)
+    (marked_stays begun end last new marks))
 
 -- nor is what is kept of one log, or of one that is passed over
 pub next_stays : {S P : Type 0} (over : SocketRules S P) (known : List Log) (lost : List Source) (wanted : Wanted) (before after : S) (old new : Database) (end : End) →

@@ -1,5 +1,5 @@
 -- What a run over a log keeps, and over what link it came.
-use Rattle.std.specs.Prelude.{◌≡◌, ◌<◌, ℕ, List, Result, Ok, Err}
+use Rattle.std.specs.Prelude.{◌≡◌, ◌<◌, ◌+◌, ℕ, List, Result, Ok, Err}
 use Rattle.sqlite.specs.Effect.{Database}
 use Rattle.bac_link.specs.declared.link.Lost.{Lost as Loss}
 use Rattle.bac_link.specs.Path.{Path}
@@ -9,6 +9,7 @@ use Rattle.bac_walk.specs.declared.outcome.Ended.{Ended}
 use Rattle.bac_walk.specs.declared.outcome.Ended.TheVariants.{StepLimit}
 use Rattle.bac_walk.specs.declared.outcome.Why.{Why}
 use Rattle.bac_keep.specs.Came.{KeepsOver}
+use Rattle.bac_keep.specs.declared.keep.KeptStep.{KeptStep}
 use Rattle.bac_keep.specs.declared.keep.NotKept.{NotKept}
 use Rattle.bac_keep.specs.declared.keep.NotKept.TheVariants.{Refused}
 use Rattle.bac_keep.specs.declared.place.Place.{Place}
@@ -16,7 +17,6 @@ use Rattle.bac_keep.specs.declared.sink.Refusal.TheVariants as refusal
 use Rattle.bac_asked.specs.declared.end.End.{End}
 use Rattle.bac_asked.specs.declared.end.Ending.{Ending}
 use Rattle.bac_asked.specs.declared.end.Ending.TheVariants.{Walk, Back, Epochs, NotAsked}
-use Rattle.bac_fetch.specs.declared.fetching.Start.{Start}
 
 -- why a run over a log ended: as its walk did, or since the file has no place for the numbers that came
 abbrev pub IsEndingOf : Result Why NotKept → Ending → Type 0
@@ -45,23 +45,20 @@ abbrev pub IsLeftBy : {S : Type 0} → Ending → S → S → Type 0
 IsLeftBy (Walk why) half left = left ≡ half
 IsLeftBy ending half left = Unit {0}
 
--- What a run of at most so many steps keeps from a start on came over a link, in replies to its questions, and that is
--- how the link is left.
+-- What a run of at most so many steps keeps of a walk from a place on, behind a first step, came over a link, in replies
+-- to its questions, and that is how the link is left.
 pub record ComesFrom {S : Type 0} (asks : S → List ℕ → Result (List ℕ) Loss → S → Type 0) (path : Path) (retries : ℕ)
-    (link left : S) (start : Start) (steps : ℕ) (old new : Database) (end : End) : Type 0 where
+    (link left : S) (place : Place) (walk : WalkPlace) (step : KeptStep) (steps : ℕ) (old new : Database) (end : End) : Type 0 where
   pub reached : Place
   pub after : WalkPlace
   pub took : ℕ
   pub ended : Ended
   pub half : S
+  pub records : ℕ
+  pub gaps : ℕ
   pub run : IsRunTo end.why steps took ended
   pub is_left : IsLeftBy end.why half left
   pub next : after.next ≡ end.next
-  pub kept : KeepsOver asks path retries start.place reached old new link half start.walk after took ended
-      end.records end.gaps
-
--- the same of a run that begins so over this link; without a start nothing is kept, and nothing more is asked
-abbrev pub ComesBegun : {S : Type 0} → (S → List ℕ → Result (List ℕ) Loss → S → Type 0) → Path → ℕ → S → S →
-    Result Start End → ℕ → Database → Database → End → Type 0
-ComesBegun asks path retries link left (Ok start) steps old new end = ComesFrom asks path retries link left start steps old new end
-ComesBegun asks path retries link left (Err none) steps old new end = left ≡ link
+  pub records_are : end.records ≡ step.records + records
+  pub gaps_are : end.gaps ≡ step.gaps + gaps
+  pub kept : KeepsOver asks path retries place reached old new link half walk after took ended records gaps

@@ -1,5 +1,5 @@
 -- What a run over logs keeps, and what is told of it.
-use Rattle.std.specs.Prelude.{◌≡◌, ◌⊎◌, ◌==◌, ◌&&◌, ℕ, max, Bool, true, false, MatchBool, List, [], ◌∷◌, ◌++◌, length}
+use Rattle.std.specs.Prelude.{◌≡◌, ◌⊎◌, ◌+◌, ◌-◌, ◌==◌, ◌&&◌, ℕ, map, max, Bool, true, false, MatchBool, List, [], ◌∷◌, ◌++◌, length}
 use Rattle.std.specs.Prelude.{Option, None, Some, option_map, Result, Ok, Err}
 use Rattle.std.specs.Io.KnownBytes.{Appends}
 use Rattle.std.specs.String.{string_bytes}
@@ -11,22 +11,33 @@ use Rattle.bac_link.specs.Path.{Path, towards}
 use Rattle.bac_link.specs.declared.item.Item.{Item}
 use Rattle.bac_link.specs.declared.link.Lost.{Lost as Loss}
 use Rattle.bac_walk.specs.Collects.{Goes}
+use Rattle.bac_walk.specs.Place.{WalkPlace}
+use Rattle.bac_walk.specs.declared.outcome.Ended.{Ended}
+use Rattle.bac_walk.specs.declared.outcome.Ended.TheVariants.{CaughtUp}
+use Rattle.bac_walk.specs.declared.outcome.Why.TheVariants as why
 use Rattle.bac_archive.specs.Beginnings.{beginning_row}
-use Rattle.bac_archive.specs.Rows.{IsAppended}
+use Rattle.bac_archive.specs.Rows.{IsAppended, stored}
+use Rattle.bac_archive.specs.declared.epochs.Beginning.{Beginning}
 use Rattle.bac_archive.specs.Standing.{HasNewBeginning}
 use Rattle.bac_archive.specs.Logs.{AreLogs, HasNewLog, IsKnownAs, log_row}
 use Rattle.bac_archive.specs.declared.trend_logs.Log.{Log}
 use Rattle.bac_archive.specs.declared.trend_logs.Source.{Source}
 use Rattle.bac_keep.specs.Items.{era, kept_rows}
 use Rattle.bac_keep.specs.Runs.{records_in, gaps_among}
+use Rattle.bac_keep.specs.declared.courses.Word.{Word}
+use Rattle.bac_keep.specs.declared.courses.Word.TheVariants.{Untold}
+use Rattle.bac_keep.specs.declared.keep.KeptStep.{KeptStep}
+use Rattle.bac_keep.specs.declared.place.Place.{Place}
 use Rattle.bac_asked.specs.declared.end.End.{End}
-use Rattle.bac_asked.specs.declared.end.Ending.TheVariants.{NotAsked}
-use Rattle.bac_fetch.specs.declared.fetching.Start.{Start}
+use Rattle.bac_asked.specs.declared.began.Began.{Began}
+use Rattle.bac_asked.specs.declared.began.Began.TheVariants.{GoesOn}
+use Rattle.bac_asked.specs.declared.end.Ending.TheVariants.{NotAsked, Walk}
+use Rattle.bac_fetch.specs.declared.starting.Start.{Start}
 use Rattle.bac_asked.specs.declared.log_words.Asking.{Asking}
 use Rattle.bac_asked.specs.declared.wanted.Wanted.{Wanted}
 use Rattle.bac_ports.specs.Sockets.{SocketRules, UsesSocket, link_over, own_address, socket_asks}
 use Rattle.bac_ports.specs.declared.udp_link.UdpLink.{UdpLink}
-use Rattle.bac_fetch.specs.Fetched.{ComesBegun}
+use Rattle.bac_fetch.specs.Fetched.{ComesFrom}
 use Rattle.bac_asked.specs.Lines.{summary_line}
 use Rattle.bac_fetch.specs.Silent.{IsIdAmong, is_silent, lost_with}
 use Rattle.bac_fetch.specs.Stands.{IsStand, kept_last}
@@ -34,49 +45,66 @@ use Rattle.bac_fetch.specs.declared.stands.Stand.{Stand}
 use Rattle.bac_fetch.specs.Starts.{IsBegun}
 use Rattle.bac_asked.specs.Status.{end_status}
 
--- The rows of what a run brought come to those before, from the start's log and epoch on, and in the next epoch where
--- numbers come round. They are as many records and gaps as are told, and cover each number from the walk's on, or from
--- that of the first record of a walk from the oldest, up to the one that comes next, once.
-pub record KeepsFrom (start : Start) (old new : Database) (end : End) : Type 0 where
+-- Behind a first step, the rows of what a run brought come to those before, from a place's log and epoch on, and in the
+-- next epoch where numbers come round. With those of the step they are as many records and gaps as are told, and they
+-- cover each number from the walk's on, or from that of the first record of a walk from the oldest, up to the one that
+-- comes next, once.
+pub record KeepsFrom (place : Place) (walk : WalkPlace) (step : KeptStep) (how : Began) (old new : Database) (end : End) :
+    Type 0 where
   pub items : List Item
   pub had_none : Bool
-  pub rows : IsAppended old new (kept_rows (era start.place) items)
-  pub records_are : end.records ≡ records_in items
-  pub gaps_are : end.gaps ≡ gaps_among items
-  pub goes : (s : ℕ) → Goes start.walk.fresh start.walk.next s items had_none end.next
-  pub anew : end.anew ≡ start.anew
+  pub rows : IsAppended old new (kept_rows (era place) items)
+  pub records_are : end.records ≡ step.records + records_in items
+  pub gaps_are : end.gaps ≡ step.gaps + gaps_among items
+  pub goes : (s : ℕ) → Goes walk.fresh walk.next s items had_none end.next
+  pub began : end.began ≡ how
 
--- what a run that begins so keeps; nothing, if the device didn't say where
-abbrev pub KeepsBegun : Result Start End → Database → Database → End → Type 0
-KeepsBegun (Ok start) old new end = KeepsFrom start old new end
-KeepsBegun (Err none) old new end = (new ≡ old) × (end ≡ none)
+-- What a run keeps behind what is in hand: no more, if that is caught up; else what comes over the link from there, in at
+-- most so many steps.
+abbrev pub KeepsOn : {S : Type 0} → (S → List ℕ → Result (List ℕ) Loss → S → Type 0) → Path → ℕ → S → S → Start → Ended → ℕ →
+    Database → Database → End → Type 0
+KeepsOn asks path retries link left start CaughtUp steps old new end =
+    (new ≡ old) × (left ≡ link) × (end.records ≡ start.hand.gathered.step.records)
+    × (end.gaps ≡ start.hand.gathered.step.gaps) × (end.why ≡ Walk why.CaughtUp) × (end.next ≡ start.hand.walk.next)
+    × (end.began ≡ start.began)
+KeepsOn asks path retries link left start ended steps old new end =
+    KeepsFrom start.hand.gathered.place start.hand.walk start.hand.gathered.step start.began old new end
+    × ComesFrom asks path retries link left start.hand.gathered.place start.hand.walk start.hand.gathered.step steps old new end
+
+-- What a run of at most so many steps keeps that begins so: what is in hand, which was one step, and what comes behind
+-- it; nothing, if the device didn't say where.
+abbrev pub KeepsBegun : {S : Type 0} → (S → List ℕ → Result (List ℕ) Loss → S → Type 0) → Path → ℕ → S → S → Result Start End →
+    ℕ → Database → Database → End → Type 0
+KeepsBegun asks path retries link left (Ok start) steps old new end =
+    (mid : Database) × IsAppended old mid (map stored start.hand.gathered.rows.items)
+    × KeepsOn asks path retries link left start start.hand.gathered.step.ended (steps - 1) mid new end
+KeepsBegun asks path retries link left (Err none) steps old new end = (new ≡ old) × (end ≡ none) × (left ≡ link)
 
 -- whether a run is caught up and brought nothing
 abbrev pub is_idle : End → Bool
 is_idle end = (end_status end.why == 0) && (end.records == 0 && end.gaps == 0)
 
--- What is on record behind a run that ended so: where the log begins that had nothing on record, if the run is caught up
--- and brought nothing; else no row changes.
-abbrev pub Marks : ℕ → Option ℕ → End → Database → Database → Type 0
-Marks log None end old new = new ≡ old
-Marks log (Some number) end old new =
-    (is_idle end ≡ true → HasNewBeginning old new (beginning_row (record { log = log; epoch = 0; number = number })))
+-- What is on record behind a run that ended so: this beginning of an epoch, if the run is caught up and brought nothing;
+-- else no row changes.
+abbrev pub Marks : Option Beginning → End → Database → Database → Type 0
+Marks None end old new = new ≡ old
+Marks (Some beginning) end old new =
+    (is_idle end ≡ true → HasNewBeginning old new (beginning_row beginning))
     × (is_idle end ≡ false → new ≡ old)
 
 -- the same of a run that begins so
-abbrev pub MarksBegun : ℕ → Result Start End → End → Database → Database → Type 0
-MarksBegun log (Ok start) end old new = Marks log start.begins_at end old new
-MarksBegun log (Err none) end old new = new ≡ old
+abbrev pub MarksBegun : Result Start End → End → Database → Database → Type 0
+MarksBegun (Ok start) end old new = Marks start.begins_at end old new
+MarksBegun (Err none) end old new = new ≡ old
 
 -- A run of at most so many steps over the log of this id, which is this object of its device, over a link that it leaves
--- so: where it begins, by the archive's rows and by what the device tells over the link, what it keeps from there, that
--- it came over the link as that was left then, and where the log begins, if nothing came.
+-- so: where it begins, by the archive's rows, by what the device tells over the link and by its own word, what it keeps
+-- from there, that it came over the link as that was left then, and where the epoch begins, if nothing came.
 abbrev pub KeepsOverLink : {S : Type 0} → (S → List ℕ → Result (List ℕ) Loss → S → Type 0) → Path → ℕ → S → S → ℕ →
-    ℕ → Id → Database → Database → End → Type 0
-KeepsOverLink {S = S} asks path retries link left steps log object old new end =
-    (begun : Result Start End) × (mid : S) × IsBegun asks path retries link mid log object old.trees begun
-    × ((last : Database) × KeepsBegun begun old last end × ComesBegun asks path retries mid left begun steps old last end
-    × MarksBegun log begun end last new)
+    ℕ → Id → Word → Database → Database → End → Type 0
+KeepsOverLink {S = S} asks path retries link left steps log object word old new end =
+    (begun : Result Start End) × (mid : S) × IsBegun asks path retries link mid log object word old.trees begun
+    × ((last : Database) × KeepsBegun asks path retries mid left begun steps old last end × MarksBegun begun end last new)
 
 -- The same over a socket: it was opened as the log is asked for, every datagram was asked of the device that is asked,
 -- and it was closed as the last of these left it.
@@ -84,7 +112,7 @@ abbrev pub KeepsLog : {S P : Type 0} → SocketRules S P → Asking → S → S 
 KeepsLog {P = P} rules asking before after log object old new end =
     UsesSocket rules (own_address asking.asked.local) asking.asked.timeout before
     (λ port last. (left : UdpLink P) × KeepsOverLink (socket_asks rules) (towards asking.asked.route) asking.asked.retries
-    (link_over asking.asked.address port) left asking.steps log object old new end × (last ≡ left.port))
+    (link_over asking.asked.address port) left asking.steps log object Untold old new end × (last ≡ left.port))
     after
 
 -- the Trend Log object of this instance (clause 12.25)
@@ -112,7 +140,7 @@ IsNextOf trees (Some id) next = (stand : Option Stand) × IsStand id trees stand
 
 -- the end of a run over a log of an archive that isn't asked
 abbrev pub IsNotAsked : List Log → Trees → Source → End → Type 0
-IsNotAsked known trees source end = (end.records ≡ 0) × (end.gaps ≡ 0) × (end.why ≡ NotAsked) × (end.anew ≡ false)
+IsNotAsked known trees source end = (end.records ≡ 0) × (end.gaps ≡ 0) × (end.why ≡ NotAsked) × (end.began ≡ GoesOn)
     × (id : Option ℕ) × IsIdAmong known source id × IsNextOf trees id end.next
 
 -- a log is passed over: no socket is opened, the archive is as it was, and it is told that it isn't asked

@@ -1,5 +1,6 @@
 pub mod Chosen
 pub mod Stands
+pub mod Hands
 pub mod Starts
 pub mod Fetched
 pub mod Discovered

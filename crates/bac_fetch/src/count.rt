@@ -65,3 +65,23 @@ impl<W: Write> Progress for Count<'_, W> {
         }
     }
 }
+
+/// Is told of the records of a run that are kept behind some that were kept before.
+#[derive(Drop)]
+pub(crate) struct Ahead<'a, P> {
+    progress: &'a mut P,
+    before: u64,
+}
+
+impl<'a, P: Progress> Ahead<'a, P> {
+    /// So many were kept before.
+    pub(crate) fn new(progress: &'a mut P, before: u64) -> Ahead<'a, P> {
+        Ahead { progress, before }
+    }
+}
+
+impl<P: Progress> Progress for Ahead<'_, P> {
+    fn kept(&mut self, records: u64) {
+        self.progress.kept(self.before.saturating_add(records));
+    }
+}

@@ -11,7 +11,7 @@ ghost use Rattle.bac_archive.specs.Logs.{HasNewLog, IsKnownAs, log_row};
 ghost use Rattle.bac_ports.specs.Sockets.{socket_rules};
 ghost use Rattle.bac_fetch.specs.Keeps.{AreToldBy, IsNextOf, IsToldBy, KeepsAll, KeepsLogs, KeepsNext, KeepsSource, next_behind};
 ghost use Rattle.bac_fetch.specs.Silent.{HasLogs, lost_with};
-ghost use Rattle.bac_asked.specs.Lines.{anew_line, summary_line};
+ghost use Rattle.bac_asked.specs.Lines.{summary_line};
 ghost use Rattle.bac_fetch.specs.Discovered.{AreFound};
 ghost use Rattle.bac_asked.specs.Wanted.{AsksItsSource};
 ghost use Rattle.bac_fetch.specs.Chosen.{AreChosen, AreKeptLogs, AskTheirSources};
@@ -20,13 +20,14 @@ ghost use Rattle.bac_asked.specs.declared.wanted.Wanted.{Wanted as WantedOf};
 
 use crate::count::Count;
 use crate::discovering::discover;
-use crate::fetching::{fetch, number_behind};
+use crate::fetching::fetch;
 use crate::silent::{add_lost, id_among, is_silent};
 use crate::stands::{Stand, last_kept, stand_of};
+use crate::starting::number_behind;
 use bac_archive::{Log, Source, add_log, logs};
 use bac_asked::{
-    Asking, End, Ending, Fault, FileFault, NotDone, Options, Wanted, add_wanted, end_status,
-    kept_log, push_anew, push_summary,
+    Asking, Began, End, Ending, Fault, FileFault, NotDone, Options, Wanted, add_wanted, end_status,
+    kept_log, push_began, push_summary,
 };
 use bac_ports::Sockets;
 use bac_print::write_text;
@@ -94,10 +95,18 @@ fn print_end<O: Write>(
     Ok(())
 }
 
-/// Tells that a device began anew.
-fn tell_anew<E: Write>(alloc: Global, source: &Source, errors: &mut E) -> Result<(), NotDone> {
+/// Tells that a device began anew, or may have.
+fn tell_anew<E: Write>(
+    alloc: Global,
+    source: &Source,
+    began: Began,
+    errors: &mut E,
+) -> Result<(), NotDone> {
+    if began == Began::GoesOn {
+        return Ok(());
+    }
     let mut text = Vec::new(alloc);
-    if push_anew(&mut text, source).is_err() {
+    if push_began(&mut text, source, began).is_err() {
         return Err(NotDone::Asking(Fault::Memory));
     }
     let _ = write_text(errors, &text);
@@ -183,9 +192,7 @@ fn keep_one<S: Sockets, A: Alter, O: Write, E: Write>(
     );
     count.end();
     let end = fetched?;
-    if end.anew {
-        tell_anew(alloc, &source, errors)?;
-    }
+    tell_anew(alloc, &source, end.began, errors)?;
     print_end(alloc, &source, &end, output)?;
     add_lost(lost, source, end.why)?;
     Ok(end_status(end.why))
@@ -229,7 +236,7 @@ fn pass_over<A: Alter, O: Write>(
     output: &mut O,
 ) -> Result<u8, NotDone>
     ensures told { IfOk result (IsToldBy (O.contents output.old) (O.contents output.new) source.now (λ end.
-        (end.records ≡ 0) × (end.gaps ≡ 0) × (end.why ≡ Ending.NotAsked) × (end.anew ≡ false)
+        (end.records ≡ 0) × (end.gaps ≡ 0) × (end.why ≡ Ending.NotAsked) × (end.began ≡ Began.GoesOn)
         × (HasCleanDisk (state A.Store conn.new) → (state A.Store conn.old).now.schema ≡ archive_schema
         → ((state A.Store conn.new).now ≡ (state A.Store conn.old).now) × IsNextOf (state A.Store conn.old).now.trees id end.next))) }
     ensures crash { (state A.Store conn.old).now.schema ≡ archive_schema → Survives (state A.Store conn.old) (state A.Store conn.new) (λ _. ⊥) }
@@ -240,7 +247,7 @@ fn pass_over<A: Alter, O: Write>(
         gaps: 0,
         why: Ending::NotAsked,
         next: next_of(conn, alloc, id)?,
-        anew: false,
+        began: Began::GoesOn,
     };
     print_end(alloc, source, &end, output)?;
     Ok(end_status(end.why))

@@ -4,10 +4,13 @@
 
 mod count;
 mod discovering;
+mod either;
 mod fetching;
+mod hands;
 mod keeping;
 mod questions;
 mod silent;
 mod stands;
+mod starting;
 
 pub use keeping::{Chosen, keep_chosen, keep_each};

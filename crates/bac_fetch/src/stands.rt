@@ -2,23 +2,31 @@
 
 ghost use Rattle.std.specs.Prelude.{◌≡◌, ◌<◌, ◌++◌, ◌∷◌, [], List, IfNone, IfOk, IfSome, OnOk};
 ghost use Rattle.bac_archive.specs.declared.epochs.Beginning.{Beginning as BeginningOf};
+ghost use Rattle.bac_archive.specs.Rows.{kept};
 ghost use Rattle.sqlite.specs.State.{HasCleanDisk, Survives};
 ghost use Rattle.sqlite.specs.Held.{state};
 ghost use Rattle.bac_archive.specs.Schema.{archive_schema};
-ghost use Rattle.bac_fetch.specs.Stands.{BeganLast, IsLastOf, IsStand, epoch_from, epoch_of, free_from, kept_last, number_before, octets};
+ghost use Rattle.bac_fetch.specs.Stands.{AreFlagsOf, BeganLast, IsItemOf, IsLastOf, IsStand, begins_at_one, epoch_from, epoch_of, flags_in, free_from, kept_last, number_before, octets, stand_by};
 
-use bac_archive::{Beginning, NewestItem, beginnings, newest};
+use bac_archive::{Beginning, NewestItem, Row, beginnings, head_of, is_archive, newest};
 use bac_asked::{FileFault, NotDone};
-use bac_keep::{LastRecord, Place};
+use bac_keep::{LastKept, Place};
 use sqlite::{Alter, Connection};
 use std::alloc::Global;
+
+/// The newest item of a log, with its status flags.
+#[derive(Drop)]
+pub(crate) struct Last {
+    pub item: NewestItem,
+    pub flags: Vec<u8>,
+}
 
 /// Where a log stands.
 #[derive(Drop)]
 pub(crate) enum Stand {
     /// Behind its newest item.
-    Behind(NewestItem),
-    /// At the beginning of an epoch; it has no item.
+    Behind(Last),
+    /// At the beginning of an epoch that has no item.
     At(Beginning),
 }
 
@@ -70,6 +78,84 @@ fn began_last<A: Alter>(
     }
 }
 
+/// The status flags in the values of an item; none of a gap.
+fn flags_in(head: Option<Row>, none: Vec<u8>) -> Vec<u8>
+    requires { none.items ≡ [] }
+    ensures { result.items ≡ flags_in head }
+{
+    let Some(row) = head else {
+        return none;
+    };
+    let Row { flags, .. } = row;
+    match flags {
+        Some(flags) => flags,
+        None => none,
+    }
+}
+
+/// The status flags of a log's newest item.
+fn last_flags<A: Alter>(
+    alloc: Global,
+    conn: &mut Connection<A>,
+    id: u16,
+) -> Result<Vec<u8>, NotDone>
+    ensures flags { HasCleanDisk (state A.Store conn.new) → (state A.Store conn.old).now.schema ≡ archive_schema
+        → IfOk result (λ flags. AreFlagsOf id (kept (state A.Store conn.old).now.trees) flags.items) }
+    ensures same { HasCleanDisk (state A.Store conn.new) → (state A.Store conn.old).now.schema ≡ archive_schema
+        → OnOk result ((state A.Store conn.new).now ≡ (state A.Store conn.old).now) }
+    ensures crash { Survives (state A.Store conn.old) (state A.Store conn.new) (λ _. ⊥) }
+    ensures clean { HasCleanDisk (state A.Store conn.new) → HasCleanDisk (state A.Store conn.old) }
+{
+    if !is_archive(conn.schema()) {
+        return Err(NotDone::File(FileFault::Foreign));
+    }
+    match head_of(alloc, conn, id) {
+        Ok(head) => Ok(flags_in(head, Vec::new(alloc))),
+        Err(error) => Err(NotDone::File(FileFault::of(error))),
+    }
+}
+
+/// The newest item of a log, with its status flags.
+fn last_item<A: Alter>(
+    alloc: Global,
+    conn: &mut Connection<A>,
+    id: u16,
+) -> Result<Option<Last>, NotDone>
+    ensures tells { HasCleanDisk (state A.Store conn.new) → (state A.Store conn.old).now.schema ≡ archive_schema
+        → IfOk result (IsItemOf id (kept (state A.Store conn.old).now.trees)) }
+    ensures same { HasCleanDisk (state A.Store conn.new) → (state A.Store conn.old).now.schema ≡ archive_schema
+        → OnOk result ((state A.Store conn.new).now ≡ (state A.Store conn.old).now) }
+    ensures crash { (state A.Store conn.old).now.schema ≡ archive_schema → Survives (state A.Store conn.old) (state A.Store conn.new) (λ _. ⊥) }
+    ensures clean { HasCleanDisk (state A.Store conn.new) → HasCleanDisk (state A.Store conn.old) }
+{
+    match newest(conn, id) {
+        Ok(Some(item)) => {
+            let flags = last_flags(alloc, conn, id)?;
+            Ok(Some(Last { item, flags }))
+        }
+        Ok(None) => Ok(None),
+        Err(error) => Err(NotDone::File(FileFault::of(error))),
+    }
+}
+
+/// Where a log stands that has this newest item, and of whose epochs this one began last.
+fn stand_by(last: Option<Last>, begun: Option<Beginning>) -> Option<Stand>
+    ensures { result ≡ stand_by last begun }
+{
+    match (last, begun) {
+        (None, None) => None,
+        (None, Some(begun)) => Some(Stand::At(begun)),
+        (Some(last), None) => Some(Stand::Behind(last)),
+        (Some(last), Some(begun)) => {
+            if last.item.epoch < begun.epoch {
+                Some(Stand::At(begun))
+            } else {
+                Some(Stand::Behind(last))
+            }
+        }
+    }
+}
+
 /// Where a log stands, if anything of it is on record.
 pub(crate) fn stand_of<A: Alter>(
     alloc: Global,
@@ -84,15 +170,9 @@ pub(crate) fn stand_of<A: Alter>(
     ensures crash { (state A.Store conn.old).now.schema ≡ archive_schema → Survives (state A.Store conn.old) (state A.Store conn.new) (λ _. ⊥) }
     ensures clean { HasCleanDisk (state A.Store conn.new) → HasCleanDisk (state A.Store conn.old) }
 {
-    match newest(conn, id) {
-        Ok(Some(last)) => return Ok(Some(Stand::Behind(last))),
-        Ok(None) => {}
-        Err(error) => return Err(NotDone::File(FileFault::of(error))),
-    }
-    match began_last(alloc, conn, id)? {
-        Some(begun) => Ok(Some(Stand::At(begun))),
-        None => Ok(None),
-    }
+    let last = last_item(alloc, conn, id)?;
+    let begun = began_last(alloc, conn, id)?;
+    Ok(stand_by(last, begun))
 }
 
 fn octets_of(text: &Option<String>) -> &[u8]
@@ -112,22 +192,35 @@ fn number_before(number: u32) -> u32
 }
 
 /// The record that a log stands behind, by its texts. A gap has none, and no record is the same.
-pub(crate) fn last_kept(stand: &Stand) -> LastRecord<'_>
+pub(crate) fn last_kept(stand: &Stand) -> LastKept<'_>
     ensures number { result.number ≡ (kept_last stand.now).number }
     ensures stamp { result.stamp.now ≡ (kept_last stand.now).stamp }
     ensures datum { result.datum.now ≡ (kept_last stand.now).datum }
+    ensures flags { result.flags.now ≡ (kept_last stand.now).flags }
 {
     match stand {
-        Stand::Behind(last) => LastRecord {
-            number: last.number,
-            stamp: octets_of(&last.stamp),
-            datum: octets_of(&last.datum),
+        Stand::Behind(last) => LastKept {
+            number: last.item.number,
+            stamp: octets_of(&last.item.stamp),
+            datum: octets_of(&last.item.datum),
+            flags: last.flags.as_slice(),
         },
-        Stand::At(begun) => LastRecord {
+        Stand::At(begun) => LastKept {
             number: number_before(begun.number),
             stamp: b"".as_slice(),
             datum: b"".as_slice(),
+            flags: b"".as_slice(),
         },
+    }
+}
+
+/// Whether a log stands at the number 1, before which none was logged.
+pub(crate) fn begins_at_one(stand: &Stand) -> bool
+    ensures { result ≡ begins_at_one stand.now }
+{
+    match stand {
+        Stand::Behind(_) => false,
+        Stand::At(begun) => begun.number <= 1,
     }
 }
 
@@ -136,7 +229,7 @@ pub(crate) fn epoch_of(stand: &Stand) -> u16
     ensures { result ≡ epoch_of stand.now }
 {
     match stand {
-        Stand::Behind(last) => last.epoch,
+        Stand::Behind(last) => last.item.epoch,
         Stand::At(begun) => begun.epoch,
     }
 }
@@ -148,10 +241,13 @@ pub(crate) fn from_there(id: u16, stand: &Stand) -> Option<(Place, u64)>
     ensures none { IfNone result (32767 < epoch_from stand.now) }
 {
     match stand {
-        Stand::Behind(last) if last.number == 4294967295 => {
-            Some((Place::new(id, last.epoch.saturating_add(1))?, 0))
+        Stand::Behind(last) if last.item.number == 4294967295 => {
+            Some((Place::new(id, last.item.epoch.saturating_add(1))?, 0))
         }
-        Stand::Behind(last) => Some((Place::new(id, last.epoch)?, u64::from(last.number) + 1)),
+        Stand::Behind(last) => Some((
+            Place::new(id, last.item.epoch)?,
+            u64::from(last.item.number) + 1,
+        )),
         Stand::At(begun) => Some((Place::new(id, begun.epoch)?, 0)),
     }
 }

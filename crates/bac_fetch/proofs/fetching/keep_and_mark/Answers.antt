@@ -13,8 +13,8 @@ returns-in_err-mark-clause-stays g c clean has =
     let new = state g.A.Store c.mark.new.conn in
     let early : HasCleanDisk mid = c.mark.ensures.clean clean in
     let kept = c.in_ok-end.ensures.kept early has in
-    let schema : mid.now.schema ≡ archive_schema = log_schema (Ok c.args.start) old.now mid.now c.in_ok-end.end kept has in
-    stays_then old mid new (begun_stays (Ok c.args.start) old.now mid.now c.in_ok-end.end kept) (c.keep_from.ensures.stays early has) (c.mark.ensures.stays clean schema)
+    let schema : mid.now.schema ≡ archive_schema = log_schema _ _ _ _ _ (Ok c.args.start) _ old.now mid.now c.in_ok-end.end kept has in
+    stays_then old mid new (begun_stays _ _ _ _ _ (Ok c.args.start) _ old.now mid.now c.in_ok-end.end kept) (c.keep_from.ensures.stays early has) (c.mark.ensures.stays clean schema)
 
 pub returns-clause-stays : goal.returns-clause-stays
 returns-clause-stays g c clean has =
@@ -23,5 +23,5 @@ returns-clause-stays g c clean has =
     let new = state g.A.Store c.mark.new.conn in
     let early : HasCleanDisk mid = c.mark.ensures.clean clean in
     let kept = c.in_ok-end.ensures.kept early has in
-    let schema : mid.now.schema ≡ archive_schema = log_schema (Ok c.args.start) old.now mid.now c.in_ok-end.end kept has in
-    stays_then old mid new (begun_stays (Ok c.args.start) old.now mid.now c.in_ok-end.end kept) (c.keep_from.ensures.stays early has) (c.mark.ensures.stays clean schema)
+    let schema : mid.now.schema ≡ archive_schema = log_schema _ _ _ _ _ (Ok c.args.start) _ old.now mid.now c.in_ok-end.end kept has in
+    stays_then old mid new (begun_stays _ _ _ _ _ (Ok c.args.start) _ old.now mid.now c.in_ok-end.end kept) (c.keep_from.ensures.stays early has) (c.mark.ensures.stays clean schema)

@@ -1,70 +1,14 @@
-use Rattle.std.proofs.Common.{◌≡◌, refl, subst, sym, ◌∙◌}
-use Rattle.std.proofs.lemmas.Result.{IfOk-weaker}
-use Rattle.sqlite.specs.Effect.{Database}
+use Rattle.std.proofs.Common.{◌≡◌}
 use Rattle.sqlite.specs.State.{HasCleanDisk}
 use Rattle.sqlite.specs.Held.{state}
-use Rattle.bac_link.specs.Path.{towards}
-use Rattle.bac_fetch.specs.Fetched.{ComesFrom, IsEndingOf, IsLeftBy, IsRunTo}
-use Rattle.bac_fetch.specs.Keeps.{KeepsFrom}
-use Rattle.bac_fetch.specs.Stays.{HasAllOf}
-use Rattle.bac_fetch.proofs.EndsLemmas.{before_left, before_steps, comes_from, either_way, keeps_from}
-use Rattle.bac_fetch.proofs.StaysLemmas.{adds_all, quiet_last, survives_as}
+use Rattle.bac_fetch.proofs.StaysLemmas.{adds_all, stays_then}
 use Rattle.bac_fetch.proofs.fetching.keep_from.Goals as goal
-
-pub returns-clause-kept : goal.returns-clause-kept
-returns-clause-kept g c clean has =
-    let run = c.keep_log-run.result in
-    let start = c.args.start in
-    let old = state g.A.Store c.args.conn.now in
-    let mid = state g.A.Store c.keep_log-run.new.conn in
-    let new = state g.A.Store c.look_at.new.conn in
-    let early : HasCleanDisk mid = c.look_at.ensures.clean clean in
-    let same : new.now ≡ mid.now = c.in_ok-look_at.ensures.same clean in
-    IfOk-weaker c.end_of.result _ _ (λ end told.
-    subst (λ (d : Database). KeepsFrom start old.now d end) (sym same)
-    (either_way run.end _ _ _ _ (c.keep_log-run.ensures.kept early has) (c.in_ok-look_at.ensures.open clean) (λ shown. c.keep_log-run.ensures.stands early shown has)
-    (λ why is it. keeps_from _ _ run.place _ old.now mid.now _ _ start it.2 it.0 it.1 run.records run.gaps end it.5 told.1 told.2 (it.4 ∙ sym told.3) told.4)
-    (λ error is it. keeps_from _ _ run.place _ old.now mid.now _ _ start it.2 it.0 _ run.records run.gaps end it.5 told.1 told.2 (it.4 ∙ sym told.3) told.4)))
-    c.end_of.ensures.end
-
-pub returns-clause-came : goal.returns-clause-came
-returns-clause-came g c clean has =
-    let asks = g.L.LogLink.asks in
-    let transactions = c.args.transactions.now in
-    let run = c.keep_log-run.result in
-    let start = c.args.start in
-    let link = c.args.link.now in
-    let left = c.keep_log-run.new.link in
-    let old = state g.A.Store c.args.conn.now in
-    let mid = state g.A.Store c.keep_log-run.new.conn in
-    let new = state g.A.Store c.look_at.new.conn in
-    let early : HasCleanDisk mid = c.look_at.ensures.clean clean in
-    let same : new.now ≡ mid.now = c.in_ok-look_at.ensures.same clean in
-    IfOk-weaker c.end_of.result _ _ (λ end told.
-    subst (λ (d : Database). ComesFrom asks (towards transactions.route) transactions.retries link left start c.args.steps old.now d end) (sym same)
-    (either_way run.end _ _ _ _ (c.keep_log-run.ensures.brought early has) (c.in_ok-look_at.ensures.open clean) (λ shown. c.keep_log-run.ensures.stands_over early shown has)
-    (λ why is it.
-    let walked = subst (λ r. IsEndingOf r end.why) is told.0 in
-    comes_from asks (towards transactions.route) transactions.retries run.place old.now mid.now link left left start it.2 c.args.steps it.0 it.1 run.records run.gaps end it.5
-    (subst (λ w. IsRunTo w c.args.steps it.0 it.1) (sym walked) it.3) (subst (λ w. IsLeftBy w left left) (sym walked) refl) told.1 told.2 (it.4 ∙ sym told.3))
-    (λ error is it.
-    let ended = subst (λ r. IsEndingOf r end.why) is told.0 in
-    comes_from asks (towards transactions.route) transactions.retries run.place old.now mid.now link it.1 left start it.2 c.args.steps it.0 _ run.records run.gaps end it.5
-    (before_steps error end.why c.args.steps it.0 ended it.3) (before_left error end.why it.1 left ended) told.1 told.2 (it.4 ∙ sym told.3))))
-    c.end_of.ensures.end
 
 pub returns-clause-stays : goal.returns-clause-stays
 returns-clause-stays g c clean has =
     let old = state g.A.Store c.args.conn.now in
-    let mid = state g.A.Store c.keep_log-run.new.conn in
-    quiet_last old mid (state g.A.Store c.look_at.new.conn) (survives_as old mid _ (HasAllOf old.now.trees)
-    (λ clean db left. subst (HasAllOf old.now.trees) (sym left.8) (adds_all old.now.trees left.0.trees _ left.10.rows.rows)) c.keep_log-run.ensures.crash_over)
-    c.look_at.ensures.crash
-
-pub returns-in_err-look_at-clause-stays : goal.returns-in_err-look_at-clause-stays
-returns-in_err-look_at-clause-stays g c clean has =
-    let old = state g.A.Store c.args.conn.now in
-    let mid = state g.A.Store c.keep_log-run.new.conn in
-    quiet_last old mid (state g.A.Store c.look_at.new.conn) (survives_as old mid _ (HasAllOf old.now.trees)
-    (λ clean db left. subst (HasAllOf old.now.trees) (sym left.8) (adds_all old.now.trees left.0.trees _ left.10.rows.rows)) c.keep_log-run.ensures.crash_over)
-    c.look_at.ensures.crash
+    let mid = state g.A.Store c.keep_hand.new.conn in
+    let new = state g.A.Store c.keep_on.new.conn in
+    let early : HasCleanDisk mid = c.keep_on.ensures.clean clean in
+    let rows = c.in_ok-keep_hand.ensures.kept early in
+    stays_then old mid new (adds_all old.now.trees mid.now.trees _ rows.rows) (c.keep_hand.ensures.stays has) (c.keep_on.ensures.stays clean rows.schema)

@@ -1,0 +1,66 @@
+//! What comes to the first step of a run, before any of it is kept.
+
+ghost use Rattle.std.specs.Prelude.{◌≡◌, IfOk};
+ghost use Rattle.bac_link.specs.Path.{towards};
+ghost use Rattle.bac_fetch.specs.Hands.{Steps, StepsAt};
+
+use bac_asked::{Ending, Fault, NotDone};
+use bac_keep::{Gathered, Place, Refusal, gather};
+use bac_link::{LogLink, Transactions};
+use bac_walk::{Ended, Walk, WalkFault, Why};
+use bac_wire::ObjectId;
+use std::alloc::Global;
+
+/// What came to one step of a walk, and no archive has yet.
+#[derive(Drop)]
+pub(crate) struct Hand {
+    pub gathered: Gathered,
+    /// The walk behind it.
+    pub walk: Walk,
+}
+
+/// One step of a walk from a place on, where no number below `free` may come; or how it ended that
+/// no batch came of it, nor that there is none.
+pub(crate) fn take_step<L: LogLink>(
+    alloc: Global,
+    link: &mut L,
+    transactions: &mut Transactions,
+    mut walk: Walk,
+    place: Place,
+    free: u64,
+) -> Result<Result<Hand, Ending>, NotDone>
+    ensures retries { transactions.new.retries ≡ transactions.old.retries }
+    ensures route { transactions.new.route ≡ transactions.old.route }
+    ensures steps { IfOk result (λ hand. Steps L.asks (towards transactions.old.route) transactions.old.retries place free link.old walk hand link.new) }
+{
+    match gather(alloc, link, transactions, &mut walk, place, free) {
+        Ok(gathered) => match gathered.step.ended {
+            Ended::Fault(fault) => Ok(Err(Ending::Walk(Why::Fault(fault)))),
+            Ended::Stopped => unreachable!(),
+            Ended::CaughtUp | Ended::StepLimit => Ok(Ok(Hand { gathered, walk })),
+        },
+        Err(Refusal::Back) => Ok(Err(Ending::Back)),
+        Err(Refusal::Epochs) => Ok(Err(Ending::Epochs)),
+        Err(Refusal::Memory) => Err(NotDone::Asking(Fault::Memory)),
+    }
+}
+
+/// The same of a walk from a number on, into an epoch that has no row. 0 is no number.
+pub(crate) fn take_step_at<L: LogLink>(
+    alloc: Global,
+    link: &mut L,
+    transactions: &mut Transactions,
+    log: ObjectId,
+    number: u32,
+    place: Place,
+) -> Result<Result<Hand, Ending>, NotDone>
+    requires { log.kind ≡ 20 }
+    ensures retries { transactions.new.retries ≡ transactions.old.retries }
+    ensures route { transactions.new.route ≡ transactions.old.route }
+    ensures steps { IfOk result (λ hand. StepsAt L.asks (towards transactions.old.route) transactions.old.retries place link.old log number hand link.new) }
+{
+    match Walk::from_number(log, number) {
+        Some(walk) => take_step(alloc, link, transactions, walk, place, 0),
+        None => Ok(Err(Ending::Walk(Why::Fault(WalkFault::BadReply)))),
+    }
+}

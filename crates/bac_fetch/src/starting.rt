@@ -1,0 +1,491 @@
+//! Where a run over a log begins: the one rule.
+
+ghost use Rattle.std.specs.Prelude.{◌≡◌, None, Ok, IfOk};
+ghost use Rattle.bac_link.specs.Ordinals.{number_after};
+ghost use Rattle.bac_link.specs.Path.{towards};
+ghost use Rattle.bac_walk.specs.Place.{walk_at};
+ghost use Rattle.bac_keep.specs.Looks.{Looks};
+ghost use Rattle.bac_fetch.specs.Stands.{kept_last};
+ghost use Rattle.bac_fetch.specs.Starts.{AsksBeginning, BeginsBy, BeginsWith, ByCount, ByCourse, ByHand, BySeen, CountsWhere, FindsBeginning, GoesFrom, IsAnew, IsFirst, KeepsNone, OpensFirst, OpensWith, StartsNew, asks_count, counted, next_from};
+
+use crate::either::begin_either;
+use crate::hands::{Hand, take_step, take_step_at};
+use crate::questions::{Count, read_count};
+use crate::stands::{Stand, begins_at_one, epoch_of, from_there, last_kept};
+use bac_archive::Beginning;
+use bac_asked::{Began, End, Ending, Fault, NotDone};
+use bac_keep::{Course, Place, Seen, Word, beginning_of, course_of, look_for};
+use bac_link::{LogLink, Transactions};
+use bac_walk::{Batch, Step, Walk, WalkFault, Why};
+use bac_wire::ObjectId;
+use std::alloc::Global;
+
+/// How a run begins to keep.
+#[derive(Drop)]
+pub(crate) struct Start {
+    /// What is kept first.
+    pub hand: Hand,
+    pub began: Began,
+    /// The beginning that is put on record if nothing comes.
+    pub begins_at: Option<Beginning>,
+}
+
+/// The number behind this one: 1 behind the last that there is.
+pub(crate) fn number_behind(number: u32) -> u32
+    ensures { result ≡ number_after number 1 }
+{
+    if number == 4294967295 { 1 } else { number + 1 }
+}
+
+/// The end of a run that kept nothing.
+pub(crate) fn none_kept(why: Ending, next: u32) -> End
+    ensures { KeepsNone why next result }
+{
+    End {
+        records: 0,
+        gaps: 0,
+        why,
+        next,
+        began: Began::GoesOn,
+    }
+}
+
+/// The end of a run over a log that stands there, which kept nothing.
+pub(crate) fn none_behind(stand: &Stand, why: Ending) -> End
+    ensures { KeepsNone why (next_from stand.now) result }
+{
+    none_kept(why, number_behind(last_kept(stand).number))
+}
+
+/// A run begins with what came to its first step, or ends with that.
+fn open_with(
+    hand: Result<Hand, Ending>,
+    next: u32,
+    began: Began,
+    begins_at: Option<Beginning>,
+) -> Result<Start, End>
+    ensures { OpensWith hand next began begins_at result }
+{
+    match hand {
+        Ok(hand) => Ok(Start {
+            hand,
+            began,
+            begins_at,
+        }),
+        Err(ending) => Err(none_kept(ending, next)),
+    }
+}
+
+/// Where a run begins over a log of which nothing is on record, by how many records it has logged,
+/// and which begins at this number if it holds none.
+fn begin_first<L: LogLink>(
+    alloc: Global,
+    link: &mut L,
+    transactions: &mut Transactions,
+    id: u16,
+    log: ObjectId,
+    number: u32,
+) -> Result<Result<Start, End>, NotDone>
+    requires { log.kind ≡ 20 }
+    ensures retries { transactions.new.retries ≡ transactions.old.retries }
+    ensures route { transactions.new.route ≡ transactions.old.route }
+    ensures opens { IfOk result (OpensFirst L.asks (towards transactions.old.route) transactions.old.retries link.old link.new id log number) }
+{
+    let (Some(place), Some(walk)) = (Place::new(id, 0), Walk::oldest(log)) else {
+        unreachable!()
+    };
+    let hand = take_step(alloc, link, transactions, walk, place, 0)?;
+    let beginning = Beginning {
+        log: id,
+        epoch: 0,
+        number,
+    };
+    Ok(open_with(hand, 1, Began::GoesOn, Some(beginning)))
+}
+
+/// The same by what was told of how many records it has logged.
+fn start_first<L: LogLink>(
+    alloc: Global,
+    link: &mut L,
+    transactions: &mut Transactions,
+    id: u16,
+    log: ObjectId,
+    count: Count,
+) -> Result<Result<Start, End>, NotDone>
+    requires { log.kind ≡ 20 }
+    ensures retries { transactions.new.retries ≡ transactions.old.retries }
+    ensures route { transactions.new.route ≡ transactions.old.route }
+    ensures first { IfOk result (λ begun. IsFirst L.asks (towards transactions.old.route) transactions.old.retries link.old id log count begun link.new) }
+{
+    match count {
+        Count::Told(count) => {
+            begin_first(alloc, link, transactions, id, log, number_behind(count))
+        }
+        Count::Untold => begin_first(alloc, link, transactions, id, log, 1),
+        Count::Lost => Ok(Err(none_kept(Ending::Walk(Why::Fault(WalkFault::Lost)), 1))),
+    }
+}
+
+/// Where a log begins that began anew, by the oldest records.
+fn beginning_by(batch: &Batch) -> u32
+    ensures { BeginsBy batch.now.entries.items (Ok result) }
+{
+    let [held, ..] = batch.entries.as_slice() else {
+        unreachable!()
+    };
+    beginning_of(held.number)
+}
+
+/// Where a log begins that began anew: asks for the oldest records.
+fn ask_beginning<L: LogLink>(
+    link: &mut L,
+    transactions: &mut Transactions,
+    log: ObjectId,
+) -> Result<u32, WalkFault>
+    requires { log.kind ≡ 20 }
+    ensures retries { transactions.new.retries ≡ transactions.old.retries }
+    ensures route { transactions.new.route ≡ transactions.old.route }
+    ensures asks { AsksBeginning L.asks (towards transactions.old.route) transactions.old.retries link.old log result link.new }
+{
+    let Some(mut walk) = Walk::oldest(log) else {
+        unreachable!()
+    };
+    match walk.step(link, transactions) {
+        Ok(Step::Batch(batch)) => Ok(beginning_by(&batch)),
+        Ok(Step::CaughtUp) => Ok(1),
+        Err(fault) => Err(fault),
+    }
+}
+
+/// Where a log begins that began anew: by its count, if it holds nothing.
+fn find_beginning<L: LogLink>(
+    link: &mut L,
+    transactions: &mut Transactions,
+    log: ObjectId,
+    seen: Seen,
+    count: Count,
+) -> Result<u32, WalkFault>
+    requires { log.kind ≡ 20 }
+    ensures retries { transactions.new.retries ≡ transactions.old.retries }
+    ensures route { transactions.new.route ≡ transactions.old.route }
+    ensures finds { FindsBeginning L.asks (towards transactions.old.route) transactions.old.retries link.old log seen count result link.new }
+{
+    match (seen, count) {
+        (Seen::Nothing, Count::Told(count)) => Ok(beginning_of(number_behind(count))),
+        _ => ask_beginning(link, transactions, log),
+    }
+}
+
+/// Where a run begins in the epoch that begins at a number, behind the one in which a log stands.
+fn begin_anew<L: LogLink>(
+    alloc: Global,
+    link: &mut L,
+    transactions: &mut Transactions,
+    id: u16,
+    log: ObjectId,
+    stand: &Stand,
+    number: u32,
+) -> Result<Result<Start, End>, NotDone>
+    requires { log.kind ≡ 20 }
+    ensures retries { transactions.new.retries ≡ transactions.old.retries }
+    ensures route { transactions.new.route ≡ transactions.old.route }
+    ensures anew { IfOk result (λ begun. IsAnew L.asks (towards transactions.old.route) transactions.old.retries link.old id log stand.now (Ok number) begun link.new) }
+{
+    let Some(place) = Place::new(id, epoch_of(stand).saturating_add(1)) else {
+        return Ok(Err(none_behind(stand, Ending::Epochs)));
+    };
+    let hand = take_step_at(alloc, link, transactions, log, number, place)?;
+    let beginning = Beginning {
+        log: place.log,
+        epoch: place.epoch,
+        number,
+    };
+    let next = number_behind(last_kept(stand).number);
+    Ok(open_with(hand, next, Began::Anew, Some(beginning)))
+}
+
+/// The same where that number has to be found.
+fn start_anew<L: LogLink>(
+    alloc: Global,
+    link: &mut L,
+    transactions: &mut Transactions,
+    id: u16,
+    log: ObjectId,
+    stand: &Stand,
+    found: Result<u32, WalkFault>,
+) -> Result<Result<Start, End>, NotDone>
+    requires { log.kind ≡ 20 }
+    ensures retries { transactions.new.retries ≡ transactions.old.retries }
+    ensures route { transactions.new.route ≡ transactions.old.route }
+    ensures anew { IfOk result (λ begun. IsAnew L.asks (towards transactions.old.route) transactions.old.retries link.old id log stand.now found begun link.new) }
+{
+    match found {
+        Ok(number) => begin_anew(alloc, link, transactions, id, log, stand, number),
+        Err(fault) => Ok(Err(none_behind(stand, Ending::Walk(Why::Fault(fault))))),
+    }
+}
+
+/// Where a run goes on with what is in hand.
+fn go_on(hand: Hand) -> Result<Start, End>
+    ensures { BeginsWith hand Began.GoesOn None result }
+{
+    Ok(Start {
+        hand,
+        began: Began::GoesOn,
+        begins_at: None,
+    })
+}
+
+/// Where a run begins that takes this course.
+fn start_by<L: LogLink>(
+    alloc: Global,
+    link: &mut L,
+    transactions: &mut Transactions,
+    id: u16,
+    log: ObjectId,
+    stand: &Stand,
+    from: Place,
+    hand: Hand,
+    seen: Seen,
+    count: Count,
+    course: Course,
+) -> Result<Result<Start, End>, NotDone>
+    requires { log.kind ≡ 20 }
+    ensures retries { transactions.new.retries ≡ transactions.old.retries }
+    ensures route { transactions.new.route ≡ transactions.old.route }
+    ensures starts { IfOk result (λ begun. ByCourse L.asks (towards transactions.old.route) transactions.old.retries link.old id log stand.now from hand seen count course begun link.new) }
+{
+    match course {
+        Course::GoOn => Ok(go_on(hand)),
+        Course::Anew => {
+            let found = find_beginning(link, transactions, log, seen, count);
+            start_anew(alloc, link, transactions, id, log, stand, found)
+        }
+        Course::Both { oldest } => {
+            begin_either(alloc, link, transactions, log, stand, from, oldest)
+        }
+    }
+}
+
+/// A count that is told.
+fn counted(count: Count) -> Option<u32>
+    ensures { result ≡ counted count }
+{
+    match count {
+        Count::Told(count) => Some(count),
+        Count::Untold | Count::Lost => None,
+    }
+}
+
+/// Where a run begins, by what the device holds of the record that was kept last, by its own word
+/// and by its count.
+fn start_counted<L: LogLink>(
+    alloc: Global,
+    link: &mut L,
+    transactions: &mut Transactions,
+    id: u16,
+    log: ObjectId,
+    word: Word,
+    stand: &Stand,
+    from: Place,
+    hand: Hand,
+    seen: Seen,
+    count: Count,
+) -> Result<Result<Start, End>, NotDone>
+    requires { log.kind ≡ 20 }
+    ensures retries { transactions.new.retries ≡ transactions.old.retries }
+    ensures route { transactions.new.route ≡ transactions.old.route }
+    ensures starts { IfOk result (λ begun. ByCount L.asks (towards transactions.old.route) transactions.old.retries link.old id log word stand.now from hand seen count begun link.new) }
+{
+    if count == Count::Lost {
+        return Ok(Err(none_behind(stand, Ending::Walk(Why::Fault(WalkFault::Lost)))));
+    }
+    let course = course_of(seen, word, counted(count), last_kept(stand).number);
+    start_by(
+        alloc,
+        link,
+        transactions,
+        id,
+        log,
+        stand,
+        from,
+        hand,
+        seen,
+        count,
+        course,
+    )
+}
+
+/// Whether the count of a log decides how it goes on.
+fn asks_count(stand: &Stand, seen: Seen) -> bool
+    ensures { result ≡ asks_count stand.now seen }
+{
+    match seen {
+        Seen::Nothing => !begins_at_one(stand),
+        _ => false,
+    }
+}
+
+/// The count of a log, where it decides.
+fn count_where<L: LogLink>(
+    link: &mut L,
+    transactions: &mut Transactions,
+    log: ObjectId,
+    decides: bool,
+) -> Count
+    ensures retries { transactions.new.retries ≡ transactions.old.retries }
+    ensures route { transactions.new.route ≡ transactions.old.route }
+    ensures counts { CountsWhere L.asks (towards transactions.old.route) transactions.old.retries link.old log decides result link.new }
+{
+    if decides {
+        read_count(link, transactions, log)
+    } else {
+        Count::Untold
+    }
+}
+
+/// Where a run begins, by what was seen of the record that was kept last.
+fn start_seen<L: LogLink>(
+    alloc: Global,
+    link: &mut L,
+    transactions: &mut Transactions,
+    id: u16,
+    log: ObjectId,
+    word: Word,
+    stand: &Stand,
+    from: Place,
+    hand: Hand,
+    found: Result<Seen, WalkFault>,
+) -> Result<Result<Start, End>, NotDone>
+    requires { log.kind ≡ 20 }
+    ensures retries { transactions.new.retries ≡ transactions.old.retries }
+    ensures route { transactions.new.route ≡ transactions.old.route }
+    ensures starts { IfOk result (λ begun. BySeen L.asks (towards transactions.old.route) transactions.old.retries link.old id log word stand.now from hand found begun link.new) }
+{
+    let seen = match found {
+        Ok(seen) => seen,
+        Err(fault) => return Ok(Err(none_behind(stand, Ending::Walk(Why::Fault(fault))))),
+    };
+    let count = count_where(link, transactions, log, asks_count(stand, seen));
+    start_counted(
+        alloc,
+        link,
+        transactions,
+        id,
+        log,
+        word,
+        stand,
+        from,
+        hand,
+        seen,
+        count,
+    )
+}
+
+/// What a device holds of the record that a log stands behind.
+fn look_behind<L: LogLink>(
+    alloc: Global,
+    link: &mut L,
+    transactions: &mut Transactions,
+    log: ObjectId,
+    stand: &Stand,
+) -> Result<Result<Seen, WalkFault>, NotDone>
+    requires { log.kind ≡ 20 }
+    ensures retries { transactions.new.retries ≡ transactions.old.retries }
+    ensures route { transactions.new.route ≡ transactions.old.route }
+    ensures looks { IfOk result (λ found. Looks L.asks (towards transactions.old.route) transactions.old.retries link.old log (kept_last stand.now) found link.new) }
+{
+    match look_for(alloc, link, transactions, log, last_kept(stand)) {
+        Ok(found) => Ok(found),
+        Err(_) => Err(NotDone::Asking(Fault::Memory)),
+    }
+}
+
+/// Where a run begins behind what came to its first step.
+fn start_behind<L: LogLink>(
+    alloc: Global,
+    link: &mut L,
+    transactions: &mut Transactions,
+    id: u16,
+    log: ObjectId,
+    word: Word,
+    stand: &Stand,
+    from: Place,
+    hand: Result<Hand, Ending>,
+) -> Result<Result<Start, End>, NotDone>
+    requires { log.kind ≡ 20 }
+    ensures retries { transactions.new.retries ≡ transactions.old.retries }
+    ensures route { transactions.new.route ≡ transactions.old.route }
+    ensures starts { IfOk result (λ begun. ByHand L.asks (towards transactions.old.route) transactions.old.retries link.old id log word stand.now from hand begun link.new) }
+{
+    let hand = match hand {
+        Ok(hand) => hand,
+        Err(ending) => return Ok(Err(none_behind(stand, ending))),
+    };
+    let found = look_behind(alloc, link, transactions, log, stand)?;
+    start_seen(
+        alloc,
+        link,
+        transactions,
+        id,
+        log,
+        word,
+        stand,
+        from,
+        hand,
+        found,
+    )
+}
+
+/// A walk from the number on that comes behind a log.
+fn walk_behind(log: ObjectId, stand: &Stand) -> Walk
+    requires { log.kind ≡ 20 }
+    ensures { result ≡ walk_at log (next_from stand.now) }
+{
+    let Some(walk) = Walk::from_number(log, number_behind(last_kept(stand).number)) else {
+        unreachable!()
+    };
+    walk
+}
+
+/// Where a run begins over a log that stands there: asks for what lies behind, and then for the
+/// record that was kept last. What came is kept if the log goes on.
+pub(crate) fn start_from<L: LogLink>(
+    alloc: Global,
+    link: &mut L,
+    transactions: &mut Transactions,
+    id: u16,
+    log: ObjectId,
+    word: Word,
+    stand: &Stand,
+) -> Result<Result<Start, End>, NotDone>
+    requires { log.kind ≡ 20 }
+    ensures retries { transactions.new.retries ≡ transactions.old.retries }
+    ensures route { transactions.new.route ≡ transactions.old.route }
+    ensures starts { IfOk result (λ begun. GoesFrom L.asks (towards transactions.old.route) transactions.old.retries link.old id log word stand.now begun link.new) }
+{
+    let Some((from, free)) = from_there(id, stand) else {
+        return Ok(Err(none_behind(stand, Ending::Epochs)));
+    };
+    let walk = walk_behind(log, stand);
+    let hand = take_step(alloc, link, transactions, walk, from, free)?;
+    start_behind(alloc, link, transactions, id, log, word, stand, from, hand)
+}
+
+/// Where a run begins over a log of which nothing is on record: asks how many records it has logged,
+/// and then for the oldest.
+pub(crate) fn start_new<L: LogLink>(
+    alloc: Global,
+    link: &mut L,
+    transactions: &mut Transactions,
+    id: u16,
+    log: ObjectId,
+) -> Result<Result<Start, End>, NotDone>
+    requires { log.kind ≡ 20 }
+    ensures retries { transactions.new.retries ≡ transactions.old.retries }
+    ensures route { transactions.new.route ≡ transactions.old.route }
+    ensures starts { IfOk result (λ begun. StartsNew L.asks (towards transactions.old.route) transactions.old.retries link.old id log begun link.new) }
+{
+    let count = read_count(link, transactions, log);
+    start_first(alloc, link, transactions, id, log, count)
+}
