@@ -80,6 +80,15 @@ bac wp "$at" 45 1 85 0 3 --value=-5
 is 'a level is written' "$said" 'written||0'
 bac rp "$at" 45 1 85
 is 'the level' "$said" '-5||0'
+columns=$'instance\tname\tlogs\tenable\ttype\tinterval\trecords\tbuffer\ttotal\tstop'
+bac logs "$at" 2 9
+is 'a log, and one that is not there' "$said" "$columns
+2	\"by-hand\"	object(45,1).85	true	polled	0.00	0	1000	0	false
+9	-	-	-	-	-	-	-	-	-||0"
+bac logs "$at"
+is 'each log of the device' "$(cut -f 1-3,5,6,8 "$room/out")|$(cat "$room/err")|$status" "$(cut -f 1-3,5,6,8 <<< "$columns")
+1	\"pump-trend\"	object(5,1).85	polled	1.00	1000
+2	\"by-hand\"	object(45,1).85	polled	0.00	1000||0"
 bac rp "$at" 5 2 85
 is 'a binary value that is not there' "$said" '|refused: error 1 31
 unknown object|3'

@@ -9,3 +9,4 @@ pub mod Turns
 pub mod Pieces
 pub mod Told
 pub mod Flaws
+pub mod Tables

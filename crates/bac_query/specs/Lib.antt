@@ -12,3 +12,6 @@ pub mod Finding
 pub mod Items
 pub mod Ends
 pub mod Flaws
+pub mod Sources
+pub mod Cells
+pub mod Tables

@@ -1,6 +1,9 @@
 //! Why a tool ends without what it asked for.
 
+ghost use Rattle.std.specs.Prelude.{◌≡◌};
+
 use bac_link::ExchangeFault;
+use std::alloc::AllocError;
 
 /// Why a query wasn't done.
 #[derive(Clone, Copy, Debug, PartialEq, Eq)]
@@ -11,4 +14,14 @@ pub enum QueryFault {
     Write,
     /// There was no memory for a text.
     Memory,
+}
+
+impl From<AllocError> for QueryFault {
+    ghost use Rattle.bac_query.specs.declared.fault.QueryFault.TheVariants.{Memory};
+
+    ghost from_gives = { λ _ fault. fault ≡ Memory };
+
+    fn from(_error: AllocError) -> QueryFault {
+        QueryFault::Memory
+    }
 }

@@ -6,11 +6,13 @@
 //!
 //! [`find_devices`] asks each address by Who-Is over any port and prints a line for each I-Am that comes
 //! (clause 16.10; specs/Finding, specs/Announcements). [`push_items`] and [`push_end`] make the texts of
-//! what a walk delivers: a line for each item, and why it ended.
+//! what a walk delivers: a line for each item, and why it ended. [`list_logs`] prints what a device's trend
+//! logs are (specs/Tables, specs/Cells).
 #![tactic(auto)]
 
 mod ahead;
 mod announcement;
+mod cells;
 mod ends;
 mod fault;
 mod fetching;
@@ -24,6 +26,8 @@ mod record_lines;
 mod request;
 mod search;
 mod seeking;
+mod source;
+mod table;
 mod values;
 mod writing;
 
@@ -36,5 +40,6 @@ pub use finding::{RECEIVES, find_devices};
 pub use items::{push_item, push_items};
 pub use reading::read_property;
 pub use search::Search;
+pub use table::list_logs;
 pub use values::push_values;
 pub use writing::write_property;

@@ -42,7 +42,7 @@ pub fn read_property<L: LogLink, W: Write>(
 }
 
 /// The octets of the values that an ACK has.
-fn values_in(datagram: &[u8]) -> Option<&[u8]>
+pub(crate) fn values_in(datagram: &[u8]) -> Option<&[u8]>
     ensures { GivesSome (λ values. values.now) result (values_in (apdu_in datagram.now)) }
 {
     match read_datagram(datagram) {

@@ -1,4 +1,4 @@
--- What `bac rp`, `wp` and `log` do: one socket, and over it what they ask one device for. Read from the end.
+-- What `bac rp`, `wp`, `log` and `logs` do: one socket, and over it what they ask one device for. Read from the end.
 use Rattle.std.specs.Prelude.{◌≡◌, ℕ, ◌*◌, ◌≤◌, List, length, Ok, Err}
 use Rattle.bac_apdu.specs.declared.service.read_property.ReadProperty.{ReadProperty}
 use Rattle.bac_link.specs.Path.{towards}
@@ -12,6 +12,7 @@ use Rattle.bac_query.specs.Ahead.{FetchesAhead}
 use Rattle.bac_query.specs.Fetching.{Fetching, TellsRun}
 use Rattle.bac_query.specs.Flaws.{TellsFlaw}
 use Rattle.bac_query.specs.Reading.{Answer, ReadsOver, next_way}
+use Rattle.bac_query.specs.Tables.{ListsLogs, client}
 use Rattle.bac_query.specs.Writing.{WritesOver}
 use Rattle.bac_tools.specs.Ending.{Ending}
 use Rattle.bac_tools.specs.Faults.{of_query}
@@ -22,9 +23,10 @@ use Rattle.bac_walk.specs.Place.{WalkPlace}
 use Rattle.bac_walk.specs.Told.{Told}
 use Rattle.bac_walk.specs.declared.outcome.Ended.{Ended}
 use Rattle.bac_walk.specs.declared.outcome.Ended.TheVariants.{StepLimit}
+use Rattle.bac_wire.specs.Primitive.{Id}
 use Rattle.bac_words.specs.declared.job.Asked.{Asked}
 
--- ---- any of the three
+-- ---- any of the four
 
 -- What is done over a link: the link before it, what it answers, the link after it, and what the output held before and
 -- holds now.
@@ -58,6 +60,17 @@ Reads rules asked question old result new =
 abbrev pub Writes : {S P : Type 0} → SocketRules S P → Asked → Request → Outside S → Ending → Outside S → Type 0
 Writes rules asked question old result new =
     AsksDevice rules asked (WritesOver (socket_asks rules) (next_way (transactions_with asked)) question)
+    (of_answer asked.address) old result new
+
+-- ---- bac logs
+
+-- The table of these trend logs, or of each that the device lists: each cell is of what came to the question for it, which
+-- the next transaction of a client asked that had begun none before.
+abbrev pub Lists : {S P : Type 0} → SocketRules S P → Asked → List Id → Outside S → Ending → Outside S → Type 0
+Lists rules asked logs old result new =
+    AsksDevice rules asked
+    (λ link answer left had has. (last : Transactions)
+    × ListsLogs (socket_asks rules) logs (client link (transactions_with asked)) answer (client left last) had has)
     (of_answer asked.address) old result new
 
 -- ---- bac log

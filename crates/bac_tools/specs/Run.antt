@@ -1,6 +1,7 @@
 -- What the program does with its words: its streams, its sockets and its clock, before and now. Read from the end.
 use Rattle.std.specs.Prelude.{◌≡◌, ◌≤◌, ◌⊎◌, ℕ, ◌==◌, if◌then◌else◌}
-use Rattle.std.specs.Prelude.{List, [], Option, Some, None, Result, Ok, Err}
+use Rattle.std.specs.List.{Contains}
+use Rattle.std.specs.Prelude.{List, [], map, Option, Some, None, Result, Ok, Err}
 use Rattle.std.specs.Io.KnownBytes.{Appends, Keeps}
 use Rattle.clap.specs.Words.{Text, IsAmong, kind_of}
 use Rattle.clap.specs.declared.error.kind.ErrorKind.{ErrorKind}
@@ -11,7 +12,7 @@ use Rattle.bac_apdu.specs.declared.service.write_property.WriteProperty.{WritePr
 use Rattle.bac_link.specs.declared.request.Request.TheVariants as request
 use Rattle.bac_ports.specs.Sockets.{SocketRules}
 use Rattle.bac_print.specs.Output.{AppendsPart, Held}
-use Rattle.bac_tools.specs.Asking.{Fetches, Reads, Writes}
+use Rattle.bac_tools.specs.Asking.{Fetches, Lists, Reads, Writes}
 use Rattle.bac_tools.specs.Ending.{Ending}
 use Rattle.bac_tools.specs.Finding.{Finds, search_of}
 use Rattle.bac_tools.specs.Given.{value_of}
@@ -54,6 +55,12 @@ IsNoWalk instance from fault =
 -- the trend log with this instance
 abbrev pub trend_log : ℕ → Id
 trend_log instance = record { kind = 20; instance = instance }
+
+-- one of these instances is no trend log's, or there is no memory for them
+abbrev pub IsNoLogs : List ℕ → Fault → Type 0
+IsNoLogs instances fault =
+    ((fault ≡ BadValue Instance) × ((instance : ℕ) × Contains instances instance × IsOutside 20 instance))
+    ⊎ (fault ≡ Memory)
 
 -- the walk from record FROM of a log on, or from its oldest record
 abbrev pub walk_from : ℕ → Option ℕ → WalkPlace
@@ -105,6 +112,11 @@ Works rules tells (job.Log asked instance from steps) old result new =
     (((fault : Fault) × (IsNoWalk instance from fault × (result ≡ Err fault))
     × Keeps old.output new.output × (new.sockets ≡ old.sockets))
     ⊎ Fetches rules asked (walk_from instance from) steps (outside_of old) result (outside_of new))
+    × IsQuiet old new
+Works rules tells (job.Logs asked instances) old result new =
+    (((fault : Fault) × (IsNoLogs instances fault × (result ≡ Err fault))
+    × Keeps old.output new.output × (new.sockets ≡ old.sockets))
+    ⊎ Lists rules asked (map trend_log instances) (outside_of old) result (outside_of new))
     × IsQuiet old new
 Works rules tells (job.Serve address count) old result new =
     Serves rules tells address count old result new × Keeps old.output new.output

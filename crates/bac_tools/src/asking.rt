@@ -4,7 +4,7 @@ ghost use Rattle.std.specs.Prelude.{◌≡◌, None, Ok, Err, IfOk, IfErr};
 ghost use Rattle.bac_link.specs.Requests.{IsSendable};
 ghost use Rattle.bac_wire.specs.View.{view, IsWellFormed};
 ghost use Rattle.bac_tools.specs.Given.{value_of};
-ghost use Rattle.bac_tools.specs.Asking.{Fetches, Reads, Writes};
+ghost use Rattle.bac_tools.specs.Asking.{Fetches, Lists, Reads, Writes};
 ghost use Rattle.bac_ports.specs.Sockets.{link_over, own_address, socket_rules};
 ghost use Rattle.bac_tools.specs.Sockets.{outside, transactions_with};
 
@@ -13,9 +13,9 @@ use crate::log_end::ending_of;
 use bac_apdu::{ReadProperty, Route};
 use bac_link::{Request, Transactions};
 use bac_ports::{SocketFault, Sockets, UdpLink};
-use bac_query::{fetch_log_ahead, read_property, write_property};
+use bac_query::{fetch_log_ahead, list_logs, read_property, write_property};
 use bac_walk::Walk;
-use bac_wire::Value;
+use bac_wire::{ObjectId, Value};
 use bac_words::{Asked, Given};
 use std::alloc::Global;
 use std::io::Write;
@@ -133,6 +133,30 @@ pub(crate) fn log<S: Sockets, O: Write>(
     sockets.close(link.into_port());
     match fetched {
         Ok(fetched) => ending_of(address, fetched.why, fetched.flaw),
+        Err(fault) => Err(Fault::of_query(address, fault)),
+    }
+}
+
+/// Prints what a device's trend logs say of themselves.
+pub(crate) fn logs<S: Sockets, O: Write>(
+    sockets: &mut S,
+    alloc: Global,
+    asked: Asked,
+    named: &[ObjectId],
+    output: &mut O,
+) -> Result<u8, Fault>
+    ensures { Lists (socket_rules S.opens S.closes S.Socket.sends S.Socket.receives S.Socket.receives_within) asked named.now
+        (outside sockets.old (O.contents output.old)) result (outside sockets.new (O.contents output.new)) }
+{
+    let address = asked.address;
+    let Asking {
+        mut link,
+        mut transactions,
+    } = connect(sockets, asked)?;
+    let listed = list_logs(alloc, &mut link, &mut transactions, named, output);
+    sockets.close(link.into_port());
+    match listed {
+        Ok(()) => Ok(0),
         Err(fault) => Err(Fault::of_query(address, fault)),
     }
 }

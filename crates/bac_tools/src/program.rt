@@ -5,14 +5,14 @@ ghost use Rattle.std.specs.Io.KnownBytes.{Appends};
 ghost use Rattle.std.specs.String.{string_bytes};
 ghost use Rattle.clap.specs.Values.{kind_of};
 ghost use Rattle.bac_print.specs.Output.{AppendsPart};
-ghost use Rattle.bac_tools.specs.Run.{AnswersWords, AreWrong, AskFor, Explains, IsNoWalk, IsOutside, IsTold, OnlyTells, Runs, RunsRead, Works, priority_of, walk_from, wrong_fault};
+ghost use Rattle.bac_tools.specs.Run.{AnswersWords, AreWrong, AskFor, Explains, IsNoLogs, IsNoWalk, IsOutside, IsTold, OnlyTells, Runs, RunsRead, Works, priority_of, trend_log, walk_from, wrong_fault};
 ghost use Rattle.bac_ports.specs.Sockets.{socket_rules};
 ghost use Rattle.bac_tools.specs.Streams.{streams};
 ghost use Rattle.bac_words.specs.Outcome.{mistakes_of};
 ghost use Rattle.bac_words.specs.declared.job.Job.{Job as AnyJob};
 ghost use Rattle.bac_words.specs.declared.word.Word.{Word as AnyWord};
 
-use crate::asking::{log, rp, value_of, wp};
+use crate::asking::{log, logs, rp, value_of, wp};
 use crate::fault::Fault;
 use crate::finding::{limits, wi};
 use crate::playing::replay;
@@ -57,6 +57,24 @@ fn walk(instance: u32, from: Option<u32>) -> Result<Walk, Fault>
         Some(walk) => Ok(walk),
         None => Err(Fault::BadValue(Word::From)),
     }
+}
+
+/// The trend logs with these instances.
+fn trend_logs(alloc: Global, instances: &[u32]) -> Result<Vec<ObjectId>, Fault>
+    ensures ok { IfOk result (λ logs. logs.items ≡ map trend_log instances.now) }
+    ensures err { IfErr result (IsNoLogs instances.now) }
+{
+    let mut logs = Vec::new(alloc);
+    for instance in instances {
+        let log = match object(TREND_LOG, *instance) {
+            Ok(log) => log,
+            Err(fault) => return Err(fault),
+        };
+        if logs.push(log).is_err() {
+            return Err(Fault::Memory);
+        }
+    }
+    Ok(logs)
 }
 
 /// The priority to write at, if there is one.
@@ -139,6 +157,10 @@ fn work<S: Sockets, I: Read, O: Write, E: Write, C: Clock>(
             from,
             steps,
         } => log(sockets, alloc, asked, walk(instance, from)?, steps, output),
+        Job::Logs { asked, instances } => {
+            let named = trend_logs(alloc, instances.as_slice())?;
+            logs(sockets, alloc, asked, &named, output)
+        }
         Job::Keep(_keep) => Err(Fault::OtherTool),
         Job::Kept(_kept) => Err(Fault::OtherTool),
         Job::Serve { address, count } => serve(

@@ -24,7 +24,7 @@ fn range_of<'a>(word: Word) -> &'a str
     ensures { result.now ≡ range_text word }
 {
     match word {
-        Word::Tool => "replay, wi, rp, wp, log, keep, kept or serve",
+        Word::Tool => "replay, wi, rp, wp, log, logs, keep, kept or serve",
         Word::File => "the name of a file",
         Word::Csv => "an option without a value",
         Word::Address =>

@@ -7,7 +7,7 @@ use Rattle.bac_words.specs.Networks.{stations_of}
 use Rattle.bac_words.specs.Rows.{addresses_in}
 
 -- what was read stands before what is read of the rest
-abbrev pub ahead : List (List ℕ) → Result (List (List ℕ)) Word → Result (List (List ℕ)) Word
+abbrev pub ahead : {A : Type 0} → List A → Result (List A) Word → Result (List A) Word
 ahead done (Ok rest) = Ok (done ++ rest)
 ahead done (Err w) = Err w
 

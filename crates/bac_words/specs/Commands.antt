@@ -87,6 +87,10 @@ abbrev pub log_app : App
 log_app = with_rules (new_app (codes "log"))
     (needed Address ∷ needed Instance ∷ needed From ∷ option_or Steps (codes "1000") ∷ asking_rules)
 
+-- bac logs ADDRESS [INSTANCE..]
+abbrev pub logs_app : App
+logs_app = with_rules (new_app (codes "logs")) (needed Address ∷ maybe_list Instance ∷ asking_rules)
+
 -- bac keep FILE [ADDRESS [INSTANCE..]] [--steps=N]
 abbrev pub keep_app : App
 keep_app = with_rules (new_app (codes "keep"))
@@ -109,8 +113,8 @@ top_app = record (new_app (codes "bac")) {
 -- bac with its tools
 abbrev pub bac_app : App
 bac_app = with_subcommand (with_subcommand (with_subcommand (with_subcommand (with_subcommand (with_subcommand
-    (with_subcommand (with_subcommand top_app replay_app.top) wi_app.top) rp_app.top) wp_app.top) log_app.top)
-    keep_app.top) kept_app.top) serve_app.top
+    (with_subcommand (with_subcommand (with_subcommand top_app replay_app.top) wi_app.top) rp_app.top) wp_app.top)
+    log_app.top) logs_app.top) keep_app.top) kept_app.top) serve_app.top
 
 -- the command is the one that is written down
 pub record IsCommand (a : App) (c : Command) : Type 0 where

@@ -8,13 +8,13 @@ use Rattle.bac_words.specs.declared.word.Word.TheVariants.{Tool, Address, Object
 use Rattle.bac_words.specs.declared.word.Word.TheVariants.{From, File, Index, Value, Min, Max, Steps, Count, Local, Timeout}
 use Rattle.bac_words.specs.declared.word.Word.TheVariants.{Retries, Dnet, Dadr, Csv}
 use Rattle.bac_words.specs.declared.job.Job.{Job}
-use Rattle.bac_words.specs.declared.job.Job.TheVariants.{Replay, Wi, Rp, Wp, Log, Serve}
+use Rattle.bac_words.specs.declared.job.Job.TheVariants.{Replay, Wi, Rp, Wp, Log, Logs, Serve}
 use Rattle.bac_words.specs.declared.job.Job.TheVariants as job
 use Rattle.bac_words.specs.declared.job.Asked.{Asked}
 use Rattle.bac_words.specs.declared.job.Given.{Given}
 use Rattle.bac_words.specs.declared.job.KeepOptions.{KeepOptions}
 use Rattle.bac_words.specs.Numbers.{number_in}
-use Rattle.bac_words.specs.Rows.{text_at, texts_at, is_said, number_at, maybe_number_at, address_at, local_at, stations_at, route_at}
+use Rattle.bac_words.specs.Rows.{text_at, texts_at, is_said, number_at, maybe_number_at, address_at, instances_at, local_at, stations_at, route_at}
 use Rattle.bac_words.specs.Given.{is_tag, given_in}
 use Rattle.bac_words.specs.Steps.{◌>>=◌}
 
@@ -98,6 +98,13 @@ log_at rows = do
   steps ← number_at Steps 0 4294967295 rows
   Ok (Log asked instance from steps)
 
+-- bac logs
+unfoldable pub logs_at : List Row → Result Job Word
+logs_at rows = do
+  asked ← asked_at rows
+  instances ← instances_at rows
+  Ok (Logs asked instances)
+
 -- the file of `keep` and `kept`
 abbrev pub file_at : List Row → Result Text Word
 file_at rows = ok_or (text_at File rows) File
@@ -150,6 +157,7 @@ job_of_tool tool rows =
     if bytes_eq tool (codes "rp") then rp_at rows else
     if bytes_eq tool (codes "wp") then wp_at rows else
     if bytes_eq tool (codes "log") then log_at rows else
+    if bytes_eq tool (codes "logs") then logs_at rows else
     if bytes_eq tool (codes "keep") then keep_at rows else
     if bytes_eq tool (codes "kept") then kept_at rows else
     if bytes_eq tool (codes "serve") then serve_at rows else Err Tool

@@ -10,7 +10,7 @@ use Rattle.clap.specs.Words.{Row, Text, first_of, all_of}
 use Rattle.bac_words.specs.declared.job.Stations.{Stations}
 use Rattle.bac_words.specs.declared.job.Stations.TheVariants.{Listed, Input}
 use Rattle.bac_words.specs.declared.word.Word.{Word}
-use Rattle.bac_words.specs.declared.word.Word.TheVariants.{Address, Local, Dnet, Dadr}
+use Rattle.bac_words.specs.declared.word.Word.TheVariants.{Address, Instance, Local, Dnet, Dadr}
 use Rattle.bac_words.specs.Names.{is_number, name_of}
 use Rattle.bac_words.specs.Numbers.{is_long, number_in}
 use Rattle.bac_words.specs.Addresses.{address_in}
@@ -83,6 +83,18 @@ stations_in texts =
 -- the stations of a list of them
 abbrev pub stations_at : List Row → Result Stations Word
 stations_at rows = stations_in (texts_at Address rows)
+
+-- the instance that each text says (clause 20.2.14)
+abbrev pub instances_in : List Text → Result (List ℕ) Word
+instances_in [] = Ok []
+instances_in (text ∷ texts) = do
+  instance ← ok_or (number_in 0 4194303 text) Instance
+  more ← instances_in texts
+  Ok (instance ∷ more)
+
+-- the instances that several words say
+abbrev pub instances_at : List Row → Result (List ℕ) Word
+instances_at rows = instances_in (texts_at Instance rows)
 
 -- an address on a network behind a router: 1 to 15 octets, in two hexadecimal digits each
 unfoldable pub mac_in : List ℕ → Option (List ℕ)

@@ -3,7 +3,7 @@
 ghost use Rattle.std.specs.Prelude.{◌≡◌, ◌++◌, ◌∷◌, [], IfOk, false, codes};
 ghost use Rattle.clap.specs.declared.builder.command.Command.TheViews.{out-Command};
 ghost use Rattle.clap.specs.Words.{rule_of, new_app};
-ghost use Rattle.bac_words.specs.Commands.{needed, needed_list, maybe, maybe_list, option, option_or, flag, timeout_rules, route_rules, asking_rules, keeping_rules, property_rules, wi_app, rp_app, wp_app, log_app, keep_app, kept_app, serve_app, bac_app, top_app, IsCommand, Extends, AddsTool};
+ghost use Rattle.bac_words.specs.Commands.{needed, needed_list, maybe, maybe_list, option, option_or, flag, timeout_rules, route_rules, asking_rules, keeping_rules, property_rules, wi_app, rp_app, wp_app, log_app, logs_app, keep_app, kept_app, serve_app, bac_app, top_app, IsCommand, Extends, AddsTool};
 
 use crate::word::Word;
 use clap::{Arg, ArgAction, Command};
@@ -314,6 +314,36 @@ printed with its class and its code:"
     with_asking(alloc, command)
 }
 
+fn logs<'a>(alloc: Global) -> Result<Command<'a>, AllocError>
+    ensures { IfOk result (IsCommand logs_app) }
+{
+    let about = "List the trend logs of a device, with what they log and hold";
+    let example = "Example: bac logs 192.168.1.20
+asks each trend log of the device's Object_List, one question a property, and
+prints a table: a line of names, and a line a log, with a tab between two cells.
+bac logs 192.168.1.20 1 2 asks trend logs 1 and 2 alone.
+
+  instance  the number that bac log and bac keep take
+  name      its Object_Name
+  logs      what is logged, as object(0,3).85 for Present_Value of Analog Input
+            3; behind that [N] the index of an array, @N the device that has it
+  enable    true, or false: nothing is logged
+  type      polled, cov (change of value) or triggered
+  interval  the seconds between two records of a log that is polled
+  records   how many it holds, and in the next column, buffer, at most
+  total     how many it ever logged
+  stop      true: it stops when it is full; false: the oldest record is dropped
+
+A cell is - if the device refuses, and ? if its answer can't be read. The first
+question without an answer ends the table.";
+    let command = tool(alloc, "logs", about, example);
+    let help = "The device: A.B.C.D or A.B.C.D:PORT (port 47808)";
+    let command = with(command, needed(alloc, Word::Address, help))?;
+    let help = "The trend logs' instances: 0 to 4194303";
+    let command = with(command, maybe_list(alloc, Word::Instance, help))?;
+    with_asking(alloc, command)
+}
+
 fn keep<'a>(alloc: Global) -> Result<Command<'a>, AllocError>
     ensures { IfOk result (IsCommand keep_app) }
 {
@@ -414,6 +444,7 @@ pub(crate) fn command<'a>(alloc: Global) -> Result<Command<'a>, AllocError>
     let command = with_tool(command, rp(alloc)?)?;
     let command = with_tool(command, wp(alloc)?)?;
     let command = with_tool(command, log(alloc)?)?;
+    let command = with_tool(command, logs(alloc)?)?;
     let command = with_tool(command, keep(alloc)?)?;
     let command = with_tool(command, kept(alloc)?)?;
     with_tool(command, serve(alloc)?)

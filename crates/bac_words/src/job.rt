@@ -1,6 +1,7 @@
 //! What the words ask for.
 
 use crate::addresses::Addresses;
+use crate::instances::Instances;
 use crate::name::Name;
 use crate::names::Names;
 use bac_apdu::Route;
@@ -126,6 +127,12 @@ pub enum Job {
         instance: u32,
         from: Option<u32>,
         steps: u32,
+    },
+    /// `bac logs`: what these trend logs say of themselves, or each of the Object_List if there are
+    /// none (clause 12.25).
+    Logs {
+        asked: Asked,
+        instances: Instances,
     },
     /// `bac keep`
     Keep(Keep),

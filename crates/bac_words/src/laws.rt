@@ -3,8 +3,8 @@
 
 ghost use Rattle.std.specs.Prelude.{[], ◌∷◌, codes, None, Some, Ok, Err, negsuc, false, true};
 ghost use Rattle.clap.specs.declared.error.kind.ErrorKind.TheVariants.{MissingRequiredArgument, MissingSubcommand, UnknownArgument, ArgumentConflict, DisplayHelp};
-ghost use Rattle.bac_words.specs.declared.word.Word.TheVariants.{Address, From, Max, Retries, Dnet, Dadr};
-ghost use Rattle.bac_words.specs.declared.job.Job.TheVariants.{Replay, Wi, Rp, Wp, Log, Keep, Kept, Serve};
+ghost use Rattle.bac_words.specs.declared.word.Word.TheVariants.{Address, From, Instance, Max, Retries, Dnet, Dadr};
+ghost use Rattle.bac_words.specs.declared.job.Job.TheVariants.{Replay, Wi, Rp, Wp, Log, Logs, Keep, Kept, Serve};
 ghost use Rattle.bac_words.specs.declared.job.Given.TheVariants.{Null, Signed};
 ghost use Rattle.bac_words.specs.declared.job.Stations.TheVariants.{Input, Listed};
 ghost use Rattle.bac_words.specs.Lines.{Says, Mistakes, station, by_default, by_way, no_options};
@@ -26,6 +26,8 @@ pub fn lines_say_jobs()
         (Ok (Wp by_default 5 1 87 0 Null (Some 8))) }
     ensures log { Says (codes "bac log 10.0.0.1 7 oldest") (Ok (Log by_default 7 None 1000)) }
     ensures number { Says (codes "bac log 10.0.0.1 7 43") (Ok (Log by_default 7 (Some 43) 1000)) }
+    ensures logs { Says (codes "bac logs 10.0.0.1 7 0") (Ok (Logs by_default (7 ∷ 0 ∷ []))) }
+    ensures every { Says (codes "bac logs 10.0.0.1") (Ok (Logs by_default [])) }
     ensures keep { Says (codes "bac keep a.db")
         (Ok (Keep (record { file = codes "a.db"; address = None; instances = []; options = no_options }))) }
     ensures named { Says (codes "bac keep a.db 10.0.0.1 1 2 --steps=5")
@@ -55,6 +57,7 @@ pub fn lines_say_bad_values()
     ensures one { Says (codes "bac rp 10.0.0.1/32 8 123 77") (Err Address) }
     ensures retries { Says (codes "bac rp 10.0.0.1 8 123 77 --retries=11") (Err Retries) }
     ensures from { Says (codes "bac log 10.0.0.1 7 0") (Err From) }
+    ensures instance { Says (codes "bac logs 10.0.0.1 7 4194304") (Err Instance) }
     ensures max { Says (codes "bac wi 10.0.0.1 --max=5") (Err Max) }
     ensures dnet { Says (codes "bac log 10.0.0.1 7 43 --dnet=65535 --dadr=0a") (Err Dnet) }
     ensures dnet_alone { Says (codes "bac rp 10.0.0.1 8 123 77 --dnet=7") (Err Dadr) }

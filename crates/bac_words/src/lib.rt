@@ -7,6 +7,7 @@ mod addresses;
 mod commands;
 mod fault;
 mod given;
+mod instances;
 mod job;
 mod keeping;
 mod laws;
@@ -24,6 +25,7 @@ mod word;
 
 pub use addresses::Addresses;
 pub use fault::WordsFault;
+pub use instances::Instances;
 pub use job::{Asked, Given, Job, Keep, KeepOptions, Kept, Stations};
 pub use laws::{lines_are_mistakes, lines_say_bad_values, lines_say_jobs};
 pub use listing::{ListFault, MOST_LISTED, read_addresses};

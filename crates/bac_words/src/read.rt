@@ -12,7 +12,7 @@ use crate::fault::WordsFault;
 use crate::job::Job;
 use crate::keeping::{keep, kept};
 use crate::rows::is_long_at;
-use crate::tools::{log, rp, serve, wi, wp};
+use crate::tools::{log, logs, rp, serve, wi, wp};
 use crate::word::Word;
 use clap::ArgMatches;
 use clap::error::ErrorKind;
@@ -75,6 +75,7 @@ fn job_of_tool(alloc: Global, tool: &str, matches: &ArgMatches) -> Result<Job, W
         "rp" => Ok(rp(matches)?),
         "wp" => wp(alloc, matches),
         "log" => Ok(log(matches)?),
+        "logs" => logs(alloc, matches),
         "keep" => keep(alloc, matches),
         "kept" => kept(alloc, matches),
         "serve" => Ok(serve(matches)?),

@@ -3,10 +3,11 @@
 ghost use Rattle.std.specs.Prelude.{◌≡◌};
 ghost use Rattle.clap.specs.Words.{rows_of, found_of};
 ghost use Rattle.bac_words.specs.Steps.{Makes};
-ghost use Rattle.bac_words.specs.Jobs.{asked_at, max_beside, wi_at, rp_at, tag_at, given_at, wp_at, from_in, from_at, log_at, serve_at};
+ghost use Rattle.bac_words.specs.Jobs.{asked_at, max_beside, wi_at, rp_at, tag_at, given_at, wp_at, from_in, from_at, log_at, logs_at, serve_at};
 
 use crate::fault::WordsFault;
 use crate::given::{given, is_tag};
+use crate::instances::instances_at;
 use crate::job::{Asked, Given, Job};
 use crate::numbers::number;
 use crate::route::route_at;
@@ -165,6 +166,15 @@ pub(crate) fn log(matches: &ArgMatches) -> Result<Job, Word>
         from,
         steps,
     })
+}
+
+#[tactic(auto, unfolding(crate::specs::Jobs::logs_at))]
+pub(crate) fn logs(alloc: Global, matches: &ArgMatches) -> Result<Job, WordsFault>
+    ensures { Makes (logs_at (rows_of (found_of matches.now))) result }
+{
+    let asked = asked_at(matches)?;
+    let instances = instances_at(alloc, matches)?;
+    Ok(Job::Logs { asked, instances })
 }
 
 #[tactic(auto, unfolding(crate::specs::Jobs::serve_at))]

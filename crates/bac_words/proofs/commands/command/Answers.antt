@@ -19,16 +19,18 @@ returns c =
     let three = c.in_ok-command-3.ensures.app ∙ ap₂ more two c.in_ok-rp.ensures.app in
     let four = c.in_ok-command-4.ensures.app ∙ ap₂ more three c.in_ok-wp.ensures.app in
     let five = c.in_ok-command-5.ensures.app ∙ ap₂ more four c.in_ok-log.ensures.app in
-    let six = c.in_ok-command-6.ensures.app ∙ ap₂ more five c.in_ok-keep.ensures.app in
-    let seven = c.in_ok-command-7.ensures.app ∙ ap₂ more six c.in_ok-kept.ensures.app in
+    let six = c.in_ok-command-6.ensures.app ∙ ap₂ more five c.in_ok-logs.ensures.app in
+    let seven = c.in_ok-command-7.ensures.app ∙ ap₂ more six c.in_ok-keep.ensures.app in
+    let eight = c.in_ok-command-8.ensures.app ∙ ap₂ more seven c.in_ok-kept.ensures.app in
     let local-1 = none c.in_ok-command.ensures.globals c.top.ensures.globals c.replay.ensures.globals in
     let local-2 = none c.in_ok-command-2.ensures.globals local-1 c.in_ok-wi.ensures.globals in
     let local-3 = none c.in_ok-command-3.ensures.globals local-2 c.in_ok-rp.ensures.globals in
     let local-4 = none c.in_ok-command-4.ensures.globals local-3 c.in_ok-wp.ensures.globals in
     let local-5 = none c.in_ok-command-5.ensures.globals local-4 c.in_ok-log.ensures.globals in
-    let local-6 = none c.in_ok-command-6.ensures.globals local-5 c.in_ok-keep.ensures.globals in
-    let local-7 = none c.in_ok-command-7.ensures.globals local-6 c.in_ok-kept.ensures.globals in
-    IfOk-weaker c.with_tool-8.result _ _ (λ r e. record {
-      app = e.app ∙ ap₂ more seven c.in_ok-serve.ensures.app;
-      globals = none e.globals local-7 c.in_ok-serve.ensures.globals;
-    }) c.with_tool-8.ensures
+    let local-6 = none c.in_ok-command-6.ensures.globals local-5 c.in_ok-logs.ensures.globals in
+    let local-7 = none c.in_ok-command-7.ensures.globals local-6 c.in_ok-keep.ensures.globals in
+    let local-8 = none c.in_ok-command-8.ensures.globals local-7 c.in_ok-kept.ensures.globals in
+    IfOk-weaker c.with_tool-9.result _ _ (λ r e. record {
+      app = e.app ∙ ap₂ more eight c.in_ok-serve.ensures.app;
+      globals = none e.globals local-8 c.in_ok-serve.ensures.globals;
+    }) c.with_tool-9.ensures

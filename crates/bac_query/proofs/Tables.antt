@@ -1,0 +1,188 @@
+-- One step more of a table.
+use Rattle.std.proofs.Common.{◌≡◌, ◌<◌, ◌+◌, ◌-◌, ℕ, suc, List, [], ◌∷◌, ◌++◌, length, get_or, drop, decimal, Ok, Err, Result, inl, inr, refl, sym, subst, arith, add-one, ◌∙◌, ap}
+use Rattle.std.proofs.Math.Seq.{drop-cons}
+use Rattle.bac_apdu.specs.declared.service.read_property.ReadProperty.{ReadProperty}
+use Rattle.bac_wire.specs.Primitive.{Id, Object, Unsigned}
+use Rattle.bac_wire.specs.View.{view}
+use Rattle.bac_wire.specs.declared.fault.WireFault.{WireFault}
+use Rattle.bac_wire.specs.declared.value.Value.{Value}
+use Rattle.bac_wire.specs.declared.value.Value.TheVariants as code
+use Rattle.bac_link.specs.declared.exchanges.ExchangeFault.{ExchangeFault}
+use Rattle.bac_link.specs.declared.exchanges.ExchangeFault.TheVariants.{BadReply}
+use Rattle.bac_query.specs.Reading.{Answer, Held, Prints}
+use Rattle.bac_query.specs.Tables.{AddsCell, AddsCells, AddsRow, Ask, Client, PrintsListed, PrintsObject, PrintsPlace, PrintsPlaces, PrintsRow, PrintsRows}
+use Rattle.bac_query.specs.Tables.{Questions, TellsCount, columns, list_at, property_of, told_object}
+use Rattle.bac_query.specs.declared.fault.QueryFault.{QueryFault}
+use Rattle.bac_query.specs.declared.fault.QueryFault.TheVariants.{Exchange, Memory}
+
+-- what is left of a list begins with the element at this place
+pub split : {A : Type 0} (xs : List A) (i : ℕ) (x d : A) → i < length xs → x ≡ get_or xs i d → drop i xs ≡ x ∷ drop (i + 1) xs
+split xs i x d less is = rw (is, add-one, drop-cons xs i d) refl
+
+-- a cell more
+pub next_cell : {S : Type 0} (asks : Ask S) (log : Id) (properties : List ℕ) (i p : ℕ) (question : ReadProperty) (old mid : Client S) (before between : List ℕ)
+    (done : Answer → List ℕ → Client S → Type 0)
+    → drop i properties ≡ p ∷ drop (i + 1) properties → question ≡ property_of log p
+    → AddsCell asks question old before (Ok tt) between mid
+    → ((result : Answer) (after : List ℕ) (new : Client S) → AddsCells asks log (drop i properties) old before result after new → done result after new)
+    → (result : Answer) (after : List ℕ) (new : Client S) → AddsCells asks log (drop (i + 1) properties) mid between result after new → done result after new
+next_cell {S = S} asks log properties i p question old mid before between done e is adds was result after new rest =
+    let P : List ℕ → Type 0 = λ ps. AddsCells asks log ps old before result after new in
+    let Q : ReadProperty → Type 0 = λ q. AddsCell asks q old before (Ok tt) between mid in
+    was result after new (subst P (sym e) (inl (mid, between, subst Q is adds, rest)))
+
+-- a cell that isn't made
+pub no_cell : {S : Type 0} (asks : Ask S) (log : Id) (properties : List ℕ) (i p : ℕ) (question : ReadProperty) (old new : Client S) (before after : List ℕ) (fault : QueryFault)
+    (done : Answer → List ℕ → Client S → Type 0) (result : Answer) → result ≡ Err fault
+    → drop i properties ≡ p ∷ drop (i + 1) properties → question ≡ property_of log p
+    → AddsCell asks question old before (Err fault) after new
+    → ((result : Answer) (after : List ℕ) (new : Client S) → AddsCells asks log (drop i properties) old before result after new → done result after new)
+    → done result after new
+no_cell {S = S} asks log properties i p question old new before after fault done result err e is fails was =
+    let P : List ℕ → Type 0 = λ ps. AddsCells asks log ps old before result after new in
+    let Q : ReadProperty → Type 0 = λ q. AddsCell asks q old before (Err fault) after new in
+    was result after new (subst P (sym e) (inr (fault, err, subst Q is fails)))
+
+-- a log more
+pub next_row : {S : Type 0} (asks : Ask S) (logs : List Id) (i : ℕ) (log : Id) (old mid : Client S) (had held : Held)
+    (done : Answer → Client S → Held → Type 0)
+    → drop i logs ≡ log ∷ drop (i + 1) logs
+    → PrintsRow asks log old (Ok tt) mid had held
+    → ((result : Answer) (new : Client S) (has : Held) → PrintsRows asks (drop i logs) old result new had has → done result new has)
+    → (result : Answer) (new : Client S) (has : Held) → PrintsRows asks (drop (i + 1) logs) mid result new held has → done result new has
+next_row {S = S} asks logs i log old mid had held done e prints was result new has rest =
+    let P : List Id → Type 0 = λ ls. PrintsRows asks ls old result new had has in
+    was result new has (subst P (sym e) (inl (mid, held, prints, rest)))
+
+-- a log whose line isn't printed
+pub no_row : {S : Type 0} (asks : Ask S) (logs : List Id) (i : ℕ) (log : Id) (old new : Client S) (had has : Held) (fault : QueryFault)
+    (done : Answer → Client S → Held → Type 0) (result : Answer) → result ≡ Err fault
+    → drop i logs ≡ log ∷ drop (i + 1) logs
+    → PrintsRow asks log old (Err fault) new had has
+    → ((result : Answer) (new : Client S) (has : Held) → PrintsRows asks (drop i logs) old result new had has → done result new has)
+    → done result new has
+no_row {S = S} asks logs i log old new had has fault done result err e fails was =
+    let P : List Id → Type 0 = λ ls. PrintsRows asks ls old result new had has in
+    was result new has (subst P (sym e) (inr (fault, err, fails)))
+
+-- so many are left, and one more
+one_left : (place count : ℕ) → place < count → count - place ≡ suc (count - (place + 1))
+one_left place count less = omega arith
+
+-- a place more
+pub next_place : {S : Type 0} (asks : Ask S) (place count : ℕ) (old mid : Client S) (had held : Held)
+    (done : Answer → Client S → Held → Type 0)
+    → place < count
+    → PrintsPlace asks (place + 1) old (Ok tt) mid had held
+    → ((result : Answer) (new : Client S) (has : Held) → PrintsPlaces asks (place + 1) (count - place) old result new had has → done result new has)
+    → (result : Answer) (new : Client S) (has : Held) → PrintsPlaces asks (place + 1 + 1) (count - (place + 1)) mid result new held has → done result new has
+next_place {S = S} asks place count old mid had held done less prints was result new has rest =
+    let P : ℕ → Type 0 = λ n. PrintsPlaces asks (place + 1) n old result new had has in
+    was result new has (subst P (sym (one_left place count less)) (inl (mid, held, prints, rest)))
+
+-- a place that fails
+pub no_place : {S : Type 0} (asks : Ask S) (place count : ℕ) (old new : Client S) (had has : Held) (fault : QueryFault)
+    (done : Answer → Client S → Held → Type 0) (result : Answer) → result ≡ Err fault
+    → place < count
+    → PrintsPlace asks (place + 1) old (Err fault) new had has
+    → ((result : Answer) (new : Client S) (has : Held) → PrintsPlaces asks (place + 1) (count - place) old result new had has → done result new has)
+    → done result new has
+no_place {S = S} asks place count old new had has fault done result err less fails was =
+    let P : ℕ → Type 0 = λ n. PrintsPlaces asks (place + 1) n old result new had has in
+    was result new has (subst P (sym (one_left place count less)) (inr (fault, err, fails)))
+
+-- what is seen as an Unsigned is one
+pub unsigned_value : (v : Value) (n : ℕ) → view v ≡ Unsigned n → v ≡ code.Unsigned n
+unsigned_value (code.Unsigned m) n is = let same : m ≡ n = cc in ap (λ k. code.Unsigned k) same
+unsigned_value v n is = absurd (let e = is in cc)
+
+pub same_number : (v : Value) (m n : ℕ) → v ≡ code.Unsigned m → view v ≡ Unsigned n → m ≡ n
+same_number v m n is seen = let both : Unsigned m ≡ Unsigned n = sym (ap view is) ∙ seen in cc
+
+-- ---- a row
+
+-- a cell of it can't be made
+pub no_cells : {S : Type 0} (asks : Ask S) (log : Id) (old new : Client S) (before begun after any : List ℕ) (fault : QueryFault) (result : Answer)
+    → begun ≡ before ++ decimal log.instance → result ≡ Err fault
+    → AddsCells asks log columns old begun (Err fault) after new → AddsRow asks log old before result any new
+no_cells {S = S} asks log old new before begun after any fault result is err fails =
+    let P : List ℕ → Type 0 = λ b. AddsCells asks log columns old b (Err fault) after new in
+    let Q : Answer → Type 0 = λ r. AddsRow asks log old before r any new in
+    subst Q (sym err) (inl (after, subst P is fails))
+
+-- there is no memory for its end
+pub no_end : {S : Type 0} (asks : Ask S) (log : Id) (old new : Client S) (before begun cells any : List ℕ) (result : Answer)
+    → begun ≡ before ++ decimal log.instance → result ≡ Err Memory
+    → AddsCells asks log columns old begun (Ok tt) cells new → AddsRow asks log old before result any new
+no_end {S = S} asks log old new before begun cells any result is err added =
+    let P : List ℕ → Type 0 = λ b. AddsCells asks log columns old b (Ok tt) cells new in
+    let Q : Answer → Type 0 = λ r. AddsRow asks log old before r any new in
+    subst Q (sym err) (inr (refl, inr (cells, subst P is added)))
+
+pub whole_row : {S : Type 0} (asks : Ask S) (log : Id) (old new : Client S) (before begun cells after : List ℕ)
+    → begun ≡ before ++ decimal log.instance → after ≡ cells ++ 10 ∷ []
+    → AddsCells asks log columns old begun (Ok tt) cells new → AddsRow asks log old before (Ok tt) after new
+whole_row {S = S} asks log old new before begun cells after is end added =
+    let P : List ℕ → Type 0 = λ b. AddsCells asks log columns old b (Ok tt) cells new in
+    (cells, subst P is added, end)
+
+-- it isn't printed
+pub no_line : {S : Type 0} (asks : Ask S) (log : Id) (old new : Client S) (start line : List ℕ) (had : Held) (fault : QueryFault) (result : Answer)
+    → start ≡ [] → result ≡ Err fault → AddsRow asks log old start (Err fault) line new → PrintsRow asks log old result new had had
+no_line {S = S} asks log old new start line had fault result none err fails =
+    let P : List ℕ → Type 0 = λ b. AddsRow asks log old b (Err fault) line new in
+    inr (fault, line, err, subst P none fails, refl)
+
+pub line_of : {S : Type 0} (asks : Ask S) (log : Id) (old new : Client S) (start line text : List ℕ) (had has : Held) (result : Answer)
+    → start ≡ [] → text ≡ line → AddsRow asks log old start (Ok tt) line new → Prints text result had has → PrintsRow asks log old result new had has
+line_of {S = S} asks log old new start line text had has result none same added prints =
+    let P : List ℕ → Type 0 = λ b. AddsRow asks log old b (Ok tt) line new in
+    let Q : List ℕ → Type 0 = λ t. Prints t result had has in
+    inl (line, subst P none added, subst Q same prints)
+
+-- ---- a place of the list, and how many there are
+
+asked : {S : Type 0} (asks : Ask S) (place : ℕ) (question : ReadProperty) (old mid : Client S) (answer said : Result (List ℕ) ExchangeFault)
+    → question ≡ list_at place → answer ≡ said → Questions asks question old answer mid → Questions asks (list_at place) old said mid
+asked {S = S} asks place question old mid answer said is same done =
+    let P : ReadProperty → Type 0 = λ q. Questions asks q old answer mid in
+    let Q : Result (List ℕ) ExchangeFault → Type 0 = λ a. Questions asks (list_at place) old a mid in
+    subst Q same (subst P is done)
+
+pub lost_place : {S : Type 0} (asks : Ask S) (place : ℕ) (question : ReadProperty) (old mid : Client S) (answer : Result (List ℕ) ExchangeFault)
+    (fault : ExchangeFault) (had : Held) → question ≡ list_at place → answer ≡ Err fault → Questions asks question old answer mid
+    → PrintsPlace asks place old (Err (Exchange fault)) mid had had
+lost_place asks place question old mid answer fault had is same done =
+    (Err fault, mid, asked asks place question old mid answer (Err fault) is same done, (refl, refl, refl))
+
+pub told_place : {S : Type 0} (asks : Ask S) (place : ℕ) (question : ReadProperty) (old mid new : Client S) (answer : Result (List ℕ) ExchangeFault)
+    (datagram : List ℕ) (object : Id) (result : Answer) (had has : Held) → question ≡ list_at place → answer ≡ Ok datagram
+    → Questions asks question old answer mid → told_object datagram ≡ Ok (Object object) → PrintsObject asks object mid result new had has
+    → PrintsPlace asks place old result new had has
+told_place asks place question old mid new answer datagram object result had has is same done told prints =
+    (Ok datagram, mid, asked asks place question old mid answer (Ok datagram) is same done, inl (object, told, prints))
+
+pub untold_place : {S : Type 0} (asks : Ask S) (place : ℕ) (question : ReadProperty) (old mid : Client S) (answer : Result (List ℕ) ExchangeFault)
+    (datagram : List ℕ) (fault : WireFault) (had : Held) → question ≡ list_at place → answer ≡ Ok datagram
+    → Questions asks question old answer mid → told_object datagram ≡ Err fault → PrintsPlace asks place old (Err (Exchange BadReply)) mid had had
+untold_place asks place question old mid answer datagram fault had is same done told =
+    (Ok datagram, mid, asked asks place question old mid answer (Ok datagram) is same done, inr (fault, told, (refl, refl, refl)))
+
+pub lost_list : {S : Type 0} (asks : Ask S) (question : ReadProperty) (old mid : Client S) (answer : Result (List ℕ) ExchangeFault)
+    (fault : ExchangeFault) (had : Held) → question ≡ list_at 0 → answer ≡ Err fault → Questions asks question old answer mid
+    → PrintsListed asks old (Err (Exchange fault)) mid had had
+lost_list asks question old mid answer fault had is same done =
+    (Err fault, mid, asked asks 0 question old mid answer (Err fault) is same done, (refl, refl, refl))
+
+pub told_list : {S : Type 0} (asks : Ask S) (question : ReadProperty) (old mid new : Client S) (answer : Result (List ℕ) ExchangeFault)
+    (datagram : List ℕ) (count : ℕ) (result : Answer) (had has : Held) → question ≡ list_at 0 → answer ≡ Ok datagram
+    → Questions asks question old answer mid → TellsCount datagram count → PrintsPlaces asks 1 count mid result new had has
+    → PrintsListed asks old result new had has
+told_list asks question old mid new answer datagram count result had has is same done told prints =
+    (Ok datagram, mid, asked asks 0 question old mid answer (Ok datagram) is same done, inl (count, told, prints))
+
+pub untold_list : {S : Type 0} (asks : Ask S) (question : ReadProperty) (old mid : Client S) (answer : Result (List ℕ) ExchangeFault)
+    (datagram : List ℕ) (had : Held) → question ≡ list_at 0 → answer ≡ Ok datagram
+    → Questions asks question old answer mid → ((count : ℕ) → TellsCount datagram count → ⊥) → PrintsListed asks old (Err (Exchange BadReply)) mid had had
+untold_list asks question old mid answer datagram had is same done none =
+    (Ok datagram, mid, asked asks 0 question old mid answer (Ok datagram) is same done, inr (none, (refl, refl, refl)))

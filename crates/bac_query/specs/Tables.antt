@@ -1,0 +1,199 @@
+-- What a device tells of its trend logs (clause 12.25), and the table that is printed of it. Read from the end.
+use Rattle.std.specs.Prelude.{◌≡◌, ◌≢◌, ◌⊎◌, ◌<◌, ◌+◌, ◌^◌, ◌==◌, ℕ, zero, suc, if◌then◌else◌, List, [], ◌∷◌, ◌++◌, codes}
+use Rattle.std.specs.Prelude.{decimal, Option, Some, None, Result, Ok, Err}
+use Rattle.bac_apdu.specs.declared.service.read_property.ReadProperty.{ReadProperty}
+use Rattle.bac_wire.specs.Primitive.{Id, Primitive, Object, Unsigned}
+use Rattle.bac_wire.specs.Reading.{contents_as}
+use Rattle.bac_wire.specs.Spelling.{Spells}
+use Rattle.bac_wire.specs.declared.fault.WireFault.{WireFault}
+use Rattle.bac_wire.specs.declared.fault.WireFault.TheVariants.{BadTag}
+use Rattle.bac_link.specs.Datagrams.{apdu_in}
+use Rattle.bac_link.specs.Exchanges.{Exchanges, Leaves}
+use Rattle.bac_link.specs.Path.{towards}
+use Rattle.bac_link.specs.Requests.{next_invoke}
+use Rattle.bac_link.specs.declared.exchanges.ExchangeFault.{ExchangeFault}
+use Rattle.bac_link.specs.declared.exchanges.ExchangeFault.TheVariants.{BadReply}
+use Rattle.bac_link.specs.declared.link.Lost.{Lost as Loss}
+use Rattle.bac_link.specs.declared.request.Request.TheVariants as request
+use Rattle.bac_link.specs.declared.transactions.Transactions.{Transactions}
+use Rattle.bac_query.specs.Cells.{IsUnanswered, ShowsCell}
+use Rattle.bac_query.specs.Reading.{Answer, Held, Prints, values_in}
+use Rattle.bac_query.specs.declared.fault.QueryFault.{QueryFault}
+use Rattle.bac_query.specs.declared.fault.QueryFault.TheVariants.{Exchange, Write, Memory}
+
+-- ---- one question
+
+-- what an ask of a link does
+abbrev pub Ask : Type 0 → Type 1
+Ask S = S → List ℕ → Result (List ℕ) Loss → S → Type 0
+
+-- a link, and the transactions over it
+pub record Client (S : Type 0) : Type 0 where
+  pub link : S
+  pub transactions : Transactions
+
+-- the two together
+abbrev pub client : {S : Type 0} → S → Transactions → Client S
+client link transactions = record { link = link; transactions = transactions }
+
+-- a property is asked for by the next transaction, and as often again as its retries say: an ACK came, or why none did
+abbrev pub Questions : {S : Type 0} → Ask S → ReadProperty → Client S → Result (List ℕ) ExchangeFault → Client S → Type 0
+Questions asks question old answer new =
+    Exchanges asks (towards old.transactions.route) (next_invoke old.transactions.invoke)
+    (request.ReadProperty question) old.transactions.retries old.link answer new.link
+    × Leaves (request.ReadProperty question) old.transactions answer new.transactions
+
+-- ---- a log, a line
+
+-- the properties in the order of the columns: Object_Name, Log_DeviceObjectProperty, Enable, Logging_Type, Log_Interval,
+-- Record_Count, Buffer_Size, Total_Record_Count, Stop_When_Full
+abbrev pub columns : List ℕ
+columns = 77 ∷ 132 ∷ 133 ∷ 197 ∷ 134 ∷ 141 ∷ 126 ∷ 145 ∷ 144 ∷ []
+
+-- a property of an object, whole
+abbrev pub property_of : Id → ℕ → ReadProperty
+property_of object property = record { object = object; property = property; index = None }
+
+-- why there is no cell: its question brought no answer; or there was no memory for what came
+abbrev pub FailsCell : {S : Type 0} → Ask S → ReadProperty → QueryFault → Client S → Client S → Type 0
+FailsCell asks question (Exchange fault) old new = Questions asks question old (Err fault) new × IsUnanswered fault
+FailsCell asks question Memory old new =
+    (answer : Result (List ℕ) ExchangeFault) × Questions asks question old answer new
+FailsCell asks question Write old new = ⊥
+
+-- the cell of what came to a question, behind a tab (9)
+abbrev pub AddsCell : {S : Type 0} → Ask S → ReadProperty → Client S → List ℕ → Answer → List ℕ → Client S → Type 0
+AddsCell asks question old before (Ok done) after new =
+    (answer : Result (List ℕ) ExchangeFault) × (cell : List ℕ) × Questions asks question old answer new
+    × ShowsCell question.property answer cell × (after ≡ before ++ (9 ∷ cell))
+AddsCell asks question old before (Err fault) after new = FailsCell asks question fault old new
+
+-- the cells of these properties of a log, in order, up to the first that can't be made
+abbrev pub AddsCells : {S : Type 0} → Ask S → Id → List ℕ → Client S → List ℕ → Answer → List ℕ → Client S → Type 0
+AddsCells asks log [] old before result after new = (result ≡ Ok tt) × (after ≡ before) × (new ≡ old)
+AddsCells {S = S} asks log (property ∷ properties) old before result after new =
+    ((mid : Client S) × (between : List ℕ) × AddsCell asks (property_of log property) old before (Ok tt) between mid
+    × AddsCells asks log properties mid between result after new)
+    ⊎ ((fault : QueryFault) × (result ≡ Err fault)
+    × AddsCell asks (property_of log property) old before (Err fault) after new)
+
+-- those of the columns behind the instance of the log
+abbrev pub AddsColumns : {S : Type 0} → Ask S → Id → Client S → List ℕ → Answer → List ℕ → Client S → Type 0
+AddsColumns asks log old before result after new =
+    AddsCells asks log columns old (before ++ decimal log.instance) result after new
+
+-- A log's line; or it has none, since a cell can't be made, or since there was no memory for its instance or its end.
+abbrev pub AddsRow : {S : Type 0} → Ask S → Id → Client S → List ℕ → Answer → List ℕ → Client S → Type 0
+AddsRow asks log old before (Ok done) after new =
+    (cells : List ℕ) × AddsColumns asks log old before (Ok tt) cells new × (after ≡ cells ++ 10 ∷ [])
+AddsRow asks log old before (Err fault) after new =
+    ((cells : List ℕ) × AddsColumns asks log old before (Err fault) cells new)
+    ⊎ ((fault ≡ Memory) × ((new ≡ old) ⊎ ((cells : List ℕ) × AddsColumns asks log old before (Ok tt) cells new)))
+
+-- the line of a log is printed once it is whole
+abbrev pub PrintsRow : {S : Type 0} → Ask S → Id → Client S → Answer → Client S → Held → Held → Type 0
+PrintsRow asks log old result new had has =
+    ((line : List ℕ) × AddsRow asks log old [] (Ok tt) line new × Prints line result had has)
+    ⊎ ((fault : QueryFault) × (line : List ℕ) × (result ≡ Err fault) × AddsRow asks log old [] (Err fault) line new
+    × (has ≡ had))
+
+-- ---- logs that are named
+
+-- a line for each, in order, up to the first that fails
+abbrev pub PrintsRows : {S : Type 0} → Ask S → List Id → Client S → Answer → Client S → Held → Held → Type 0
+PrintsRows asks [] old result new had has = (result ≡ Ok tt) × (new ≡ old) × (has ≡ had)
+PrintsRows {S = S} asks (log ∷ logs) old result new had has =
+    ((mid : Client S) × (held : Held) × PrintsRow asks log old (Ok tt) mid had held
+    × PrintsRows asks logs mid result new held has)
+    ⊎ ((fault : QueryFault) × (result ≡ Err fault) × PrintsRow asks log old (Err fault) new had has)
+
+-- ---- logs that the device lists
+
+-- a place of the Object_List (76) of the device itself, instance 4194303; at 0 it has how many there are (clause 12.11)
+abbrev pub list_at : ℕ → ReadProperty
+list_at place = record { object = record { kind = 8; instance = 4194303 }; property = 76; index = Some place }
+
+-- the Object Identifier that octets are: its tag is C4 (20.2.14)
+abbrev pub object_in : List ℕ → Result Primitive WireFault
+object_in [] = Err BadTag
+object_in (tag ∷ contents) = if tag == 196 then contents_as 12 contents else Err BadTag
+
+-- the same of octets that may not be there
+abbrev pub object_if : Option (List ℕ) → Result Primitive WireFault
+object_if None = Err BadTag
+object_if (Some octets) = object_in octets
+
+-- the Object Identifier that an ACK has
+abbrev pub told_object : List ℕ → Result Primitive WireFault
+told_object datagram = object_if (values_in (apdu_in datagram))
+
+-- it ends so, and nothing more is asked or printed
+abbrev pub EndsSo : {S : Type 0} → Answer → Client S → Answer → Client S → Held → Held → Type 0
+EndsSo end old result new had has = (result ≡ end) × (new ≡ old) × (has ≡ had)
+
+-- a trend log (type 20) has its line; of another object nothing is asked
+abbrev pub PrintsObject : {S : Type 0} → Ask S → Id → Client S → Answer → Client S → Held → Held → Type 0
+PrintsObject asks object old result new had has =
+    ((object.kind ≡ 20) × PrintsRow asks object old result new had has)
+    ⊎ ((object.kind ≢ 20) × EndsSo (Ok tt) old result new had has)
+
+-- what came to the question for a place: an object
+abbrev pub PrintsTold : {S : Type 0} → Ask S → Result (List ℕ) ExchangeFault → Client S → Answer → Client S → Held → Held → Type 0
+PrintsTold asks (Err fault) old result new had has = EndsSo (Err (Exchange fault)) old result new had has
+PrintsTold asks (Ok datagram) old result new had has =
+    ((object : Id) × (told_object datagram ≡ Ok (Object object)) × PrintsObject asks object old result new had has)
+    ⊎ ((fault : WireFault) × (told_object datagram ≡ Err fault)
+    × EndsSo (Err (Exchange BadReply)) old result new had has)
+
+-- a place is asked for, and what came to that is printed
+abbrev pub PrintsPlace : {S : Type 0} → Ask S → ℕ → Client S → Answer → Client S → Held → Held → Type 0
+PrintsPlace {S = S} asks place old result new had has =
+    (answer : Result (List ℕ) ExchangeFault) × (mid : Client S) × Questions asks (list_at place) old answer mid
+    × PrintsTold asks answer mid result new had has
+
+-- so many places from this one on, up to the first that fails
+abbrev pub PrintsPlaces : {S : Type 0} → Ask S → ℕ → ℕ → Client S → Answer → Client S → Held → Held → Type 0
+PrintsPlaces asks place zero old result new had has = EndsSo (Ok tt) old result new had has
+PrintsPlaces {S = S} asks place (suc left) old result new had has =
+    ((mid : Client S) × (held : Held) × PrintsPlace asks place old (Ok tt) mid had held
+    × PrintsPlaces asks (place + 1) left mid result new held has)
+    ⊎ ((fault : QueryFault) × (result ≡ Err fault) × PrintsPlace asks place old (Err fault) new had has)
+
+-- an ACK tells a number of 32 bits
+abbrev pub TellsCount : List ℕ → ℕ → Type 0
+TellsCount datagram count =
+    (count < 2 ^ 32)
+    × ((octets : List ℕ) × (values_in (apdu_in datagram) ≡ Some octets) × Spells octets (Unsigned count))
+
+-- what came to the question for how many places there are
+abbrev pub PrintsCounted : {S : Type 0} → Ask S → Result (List ℕ) ExchangeFault → Client S → Answer → Client S → Held → Held → Type 0
+PrintsCounted asks (Err fault) old result new had has = EndsSo (Err (Exchange fault)) old result new had has
+PrintsCounted asks (Ok datagram) old result new had has =
+    ((count : ℕ) × TellsCount datagram count × PrintsPlaces asks 1 count old result new had has)
+    ⊎ (((count : ℕ) → TellsCount datagram count → ⊥) × EndsSo (Err (Exchange BadReply)) old result new had has)
+
+-- each trend log of the device's list
+abbrev pub PrintsListed : {S : Type 0} → Ask S → Client S → Answer → Client S → Held → Held → Type 0
+PrintsListed {S = S} asks old result new had has =
+    (answer : Result (List ℕ) ExchangeFault) × (mid : Client S) × Questions asks (list_at 0) old answer mid
+    × PrintsCounted asks answer mid result new had has
+
+-- ---- the table
+
+-- those that are named; if none is, each of the list
+abbrev pub PrintsLogs : {S : Type 0} → Ask S → List Id → Client S → Answer → Client S → Held → Held → Type 0
+PrintsLogs asks [] old result new had has = PrintsListed asks old result new had has
+PrintsLogs asks (log ∷ logs) old result new had has = PrintsRows asks (log ∷ logs) old result new had has
+
+-- the names of the columns, with tabs (9) between them
+abbrev pub head_line : List ℕ
+head_line =
+    codes "instance" ++ (9 ∷ (codes "name" ++ (9 ∷ (codes "logs" ++ (9 ∷ (codes "enable" ++ (9 ∷ (codes "type" ++ (9
+    ∷ (codes "interval" ++ (9 ∷ (codes "records" ++ (9 ∷ (codes "buffer" ++ (9 ∷ (codes "total" ++ (9 ∷ (codes
+    "stop" ++ 10 ∷ []))))))))))))))))))
+
+-- the names are printed before anything is asked; if that is refused, nothing is
+abbrev pub ListsLogs : {S : Type 0} → Ask S → List Id → Client S → Answer → Client S → Held → Held → Type 0
+ListsLogs asks logs old result new had has =
+    ((held : Held) × Prints head_line (Ok tt) had held × PrintsLogs asks logs old result new held has)
+    ⊎ ((fault : QueryFault) × (result ≡ Err fault) × Prints head_line (Err fault) had has × (new ≡ old))
