@@ -103,7 +103,7 @@ def dead_devices(judge, _runs):
     # It answers once more: what came is kept, and then it isn't asked any more.
     for log in dead.logs.values():
         log.log(150)
-    dead.answers = 2
+    dead.answers = 3
     status, out, errors = judge.ran(["keep", file, *QUICK])
     told = out.splitlines(True)
     judge.is_right("lost on the way", (status, errors, len(told)) == (2, "", 4) and " 1 " in told[0] and " lost, next " in told[0]
@@ -112,12 +112,12 @@ def dead_devices(judge, _runs):
     dead.answers = None
     judge.same("and the next run", judge.ran(["keep", file])[0], 0)
     judge.judge("and the next run", file, [dead, other], True)
-    # The logs that a first run doesn't ask for aren't added; they may be among those of the file.
+    # The logs of a device that gives no answer aren't added.
     file = f"{judge.room}/b.db"
     dead.answers = 0
     judge.same("a first run", judge.ran(["keep", file, dead.address, "3", "1", "2", *QUICK]),
                (2, line(dead, 3, 0, "lost, next 1") + line(dead, 1, 0, "not asked, next 1") + line(dead, 2, 0, "not asked, next 1"), ""))
-    judge.same("adds the first alone", in_file(file, "SELECT instance FROM logs"), [(3,)])
+    judge.same("adds none", in_file(file, "SELECT instance FROM logs"), [])
     dead.answers = 7
     status, out, errors = judge.ran(["keep", f"{judge.room}/c.db", dead.address, *QUICK])
     judge.is_right("dead in the midst of its list", status == 2 and out == "" and errors == f"lost\nno answer came from {dead.address}\n", (status, out, errors))
@@ -126,11 +126,12 @@ def dead_devices(judge, _runs):
     behind.logs[1].log(4)
     serve([behind])
     file = f"{judge.room}/d.db"
-    for instance in ("1", "2"):
-        judge.ran(["keep", file, behind.address, instance, "--dnet=5", "--dadr=08", *QUICK])
     judge.ran(["keep", file, behind.address, "1", "--dnet=5", "--dadr=07"])
+    in_file(file, "UPDATE logs SET id = id + 2", "UPDATE items SET id = id + (2 << 47)", "UPDATE beginnings SET id = id + (2 << 15)",
+            "INSERT INTO logs (address, dnet, dadr, instance, stopped) SELECT address, 5, '08', 1, 0 FROM logs",
+            "UPDATE logs SET id = 1 WHERE dadr = '08'",
+            "INSERT INTO logs (id, address, dnet, dadr, instance, stopped) SELECT 2, address, 5, '08', 2, 0 FROM logs WHERE id = 1")
     behind.logs[1].log(1)
-    before = behind.asked
     judge.same("behind one router", judge.ran(["keep", file, *QUICK]),
                (2, line(behind, 1, 0, "lost, next 1", "/5/08") + line(behind, 2, 0, "not asked, next 1", "/5/08")
                 + line(behind, 1, 1, "caught up, next 6", "/5/07"), ""))

@@ -20,6 +20,7 @@ from kept_judge import wrongs
 from kept_rounds import one, rounds, said
 from kept_terminal import terminals
 from kept_warehouse import warehouses
+from kept_whose import other_devices
 
 TOP = os.path.realpath(os.path.join(os.path.dirname(__file__), "../.."))
 USE = f"{TOP}/examples/use"
@@ -103,7 +104,7 @@ def beginnings(judge, _runs):
     # A first run that is lost, or ends early, has no such place.
     device, log = one(count=9)
     file = f"{judge.room}/lost.db"
-    device.answers = 1
+    device.answers = 2
     judge.same("counted, and then lost", judge.ran(["keep", file, device.address, "1", *QUICK]), (2, said(device, 0, 0, "lost, next 1"), ""))
     device.answers = None
     judge.same("and whole", judge.ran(["keep", file]), (0, said(device, 9, 0, "caught up, next 10"), ""))
@@ -143,8 +144,8 @@ def losses(judge, _runs):
     device.answers = 0
     judge.same("a first run that is lost", judge.ran(["keep", file, device.address, "1", *QUICK]),
                (2, said(device, 0, 0, "lost, next 1"), ""))
-    device.answers = 2
-    status, out, errors = judge.ran(["keep", file, *QUICK])
+    device.answers = 3
+    status, out, errors = judge.ran(["keep", file, device.address, "1", *QUICK])
     judge.is_right("lost after two answers", status == 2 and re.search(r" [1-9]\d* records? 0 gaps lost, next \d+\n", out), out)
     judge.judge("lost after two answers", file, [device])
     device.answers, before = 0, device.asked
@@ -269,7 +270,7 @@ def far_away(judge, _runs):
     device.answers = None
     log.begin(3000000000)
     log.log(3)
-    judge.same("from the oldest", judge.ran(["keep", file])[:2], (0, said(device, 3, 0, "caught up, next 3000000004")))
+    judge.same("from the oldest", judge.ran(["keep", file, device.address, "1"])[:2], (0, said(device, 3, 0, "caught up, next 3000000004")))
     log.log(7)
     judge.same("a gap", judge.ran(["keep", file])[:2], (0, said(device, 4, 1, "caught up, next 3000000011")))
     judge.judge("far away", file, [device], True)
@@ -435,10 +436,10 @@ def printed(judge, _runs):
     judge.same("of a log that isn't kept", judge.ran(["kept", file, devices[0].address, "3"]),
                (6, "", "file fault\nit keeps no such trend log\n"))
     table = list(csv.reader(io.StringIO(judge.ran(["kept", file, "--csv"])[1], newline="")))
-    judge.same("the names of columns", table[0], "address,trend_log,name,epoch,number,stamp,value,datum,flags".split(","))
-    wanted = [(address, str(instance), name, str(epoch), str(number), stamp, value, f"gap {number} {last}" if last else text, flags)
+    judge.same("the names of columns", table[0], "address,device,trend_log,name,epoch,number,stamp,value,datum,flags".split(","))
+    wanted = [(address, str(devices[0].number), str(instance), name, str(epoch), str(number), stamp, value, f"gap {number} {last}" if last else text, flags)
               for address, instance, epoch, number, last, stamp, value, text, flags, name in rows]
-    got = [(*row[:6], float(row[6]) if row[6] else None, *row[7:]) for row in table[1:]]
+    got = [(*row[:7], float(row[7]) if row[7] else None, *row[8:]) for row in table[1:]]
     judge.same("CSV", got, wanted)
     values = [value for _, value, _, _ in log.lives[0].values() if value is not None]
     kept = [row[6] for row in rows if row[1] == 1 and row[6] is not None]
@@ -626,7 +627,7 @@ def judgements(judge, _runs):
         ("rows under another log", "UPDATE items SET id = id + (1 << 47) WHERE id >> 47 = 2", "which aren't there"),
         ("a beginning is one too high", "UPDATE beginnings SET number = number + 1 WHERE id >> 15 = 2", "is on record"),
         ("a beginning is removed", "DELETE FROM beginnings WHERE id >> 15 = 2", "None is on record"),
-        ("a log of nobody", "INSERT INTO logs (address, dnet, dadr, instance) VALUES ('10.0.0.1:1', 0, '', 1)", "no device has it"),
+        ("a log of nobody", "INSERT INTO logs (address, dnet, dadr, instance, stopped) VALUES ('10.0.0.1:1', 0, '', 1, 0)", "no device has it"),
         ("a log is lost", "DELETE FROM logs WHERE id = 2", "isn't kept"),
     ):
         shutil.copyfile(file, broken)
@@ -644,5 +645,5 @@ def judgements(judge, _runs):
     judge.is_right("a broken page is seen", wrongs(broken, [device], True))
 
 
-CASES = [judgements, run_after_run, beginnings, options, losses, line_by_line, step_limits, last_epoch, dead_devices, words_and_names, no_archive, far_away, rounds, restarts, clocks, questions, cut_files, foreign_files, a_large_file, printed, taken_over, served,
+CASES = [judgements, run_after_run, beginnings, options, losses, line_by_line, step_limits, last_epoch, dead_devices, other_devices, words_and_names, no_archive, far_away, rounds, restarts, clocks, questions, cut_files, foreign_files, a_large_file, printed, taken_over, served,
          terminals, warehouses]

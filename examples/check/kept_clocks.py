@@ -101,7 +101,8 @@ def questions(judge, _runs):
         device.questions.clear()
         before = device.asked
         judge.same(f"{name} is kept", judge.ran(["keep", file]), (0, said(device, more, 0, f"caught up, next {log.total + 1}"), ""))
-        judge.same(f"{name}: what is asked", (device.questions, device.asked - before), (wanted, len(wanted)))
+        # One question more is for the device's instance.
+        judge.same(f"{name}: what is asked", (device.questions, device.asked - before), (wanted, len(wanted) + 1))
     # An answer that doesn't come leaves all as it was.
     log.log(3)
     for answers in (0, 1):

@@ -126,7 +126,9 @@ def wrong_of(log, epochs, all_of_it):
                 continue
         # Where the first record is from: a life after that of the epoch before.
         first, _, texts = next(row for row in rows if row[1] is None)
-        found = [at for at, logged in enumerate(log.lives) if at > life - was_either and logged.get(first) == texts]
+        # Without a gap nobody could tell either, where the record behind the last one of that epoch is dated before it.
+        goes_on = was_either or first == end
+        found = [at for at, logged in enumerate(log.lives) if at > life - goes_on and logged.get(first) == texts]
         if not found:
             return f"epoch {epoch}: no life logged {first} {texts}"
         life = found[0]

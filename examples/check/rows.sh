@@ -83,7 +83,7 @@ while IFS= read -r row; do
 done < lines.rows
 
 # Which words a tool has, in order.
-declare -A places=([wi]=ADDRESS [serve]=ADDRESS [log]='ADDRESS INSTANCE FROM' [rp]='ADDRESS TYPE INSTANCE PROPERTY'
+declare -A places=([wi]=ADDRESS [serve]=ADDRESS [log]='ADDRESS INSTANCE FROM' [logs]='ADDRESS INSTANCE' [rp]='ADDRESS TYPE INSTANCE PROPERTY'
     [wp]='ADDRESS TYPE INSTANCE PROPERTY PRIORITY TAG')
 
 # ends_of WORD TOOL: the least and the greatest value that the text of a word tells.
@@ -126,13 +126,15 @@ mended_word() {
         done
         # The last of several addresses is the wrong one.
         [ "$tool $named" != 'wi ADDRESS' ] || words=(wi "$end")
+        # So it is of several instances.
+        [ "$tool $named" != 'logs INSTANCE' ] || words=(logs 127.0.0.1 "$end")
         case $named in
             --max) with_option --min 0 ;;
             --dadr) with_option --dnet 1 ;;
             --dnet) [ "$tool" = wi ] || with_option --dadr 01 ;;
         esac
         [ "$tool" = serve ] || with_option --timeout 1
-        case $tool in rp | wp | log) with_option --retries 0 ;; esac
+        case $tool in rp | wp | log | logs) with_option --retries 0 ;; esac
         case $named in --*) with_option "$named" "$end" ;; esac
         told=$(timeout 1 "$program" "${words[@]}" < /dev/null 2>&1 > "$room/out" | grep -e "^$named: " -e '^error')
         is "$* with $end as $named" "$told" ''

@@ -1,7 +1,7 @@
 //! Records of trend logs, kept once in a database file.
 //!
 //! An archive is a database of SQLite with four tables (specs/Schema): `archive` has the version
-//! of the format, `logs` a row for each trend log, `items` one for each record or gap, whose key
+//! of the format, `logs` a row for each trend log with what its device told, `items` one for each record or gap, whose key
 //! tells the log, the epoch and the number, and `beginnings` one for each epoch of a log.
 #![tactic(auto)]
 
@@ -30,4 +30,4 @@ pub use row::Row;
 pub use rows::{adds_join, append, leaves_the_last_commit};
 pub use shape::is_archive;
 pub use standing::{Standing, part_stands, standing_of};
-pub use trend_logs::{Log, NotAdded, Source, add_log, logs};
+pub use trend_logs::{Log, NotAdded, Source, Told, add_log, logs};

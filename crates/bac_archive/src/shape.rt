@@ -1,7 +1,8 @@
 //! Whether a schema is an archive's.
 
-ghost use Rattle.std.specs.Prelude.{◌≡◌, ◌↔◌, [], ◌∷◌, IsTrue, None, codes, false};
-ghost use Rattle.bac_archive.specs.Schema.{archive_schema, no_schema, archive, logs, items, beginnings, column as column_of, plain_table, plain_view, log_index, archive_tables, archive_views, first_schema, first_tables, first_views, records_text, gaps_text, epochs_text};
+ghost use Rattle.std.specs.Prelude.{◌≡◌, ◌↔◌, List, [], ◌∷◌, IsTrue, IsNone, IfSome, None, codes, false, true};
+ghost use Rattle.sqlite_schema.specs.declared.schema.Column.{Column as ColumnOf};
+ghost use Rattle.bac_archive.specs.Schema.{archive_schema, no_schema, archive, logs, items, beginnings, column as column_of, plain_table, plain_view, log_index, archive_tables, archive_views, first_logs, first_tables, records_text, gaps_text, epochs_text};
 ghost use Rattle.sqlite_value.specs.Keys.{plain};
 
 use crate::creation::{EPOCHS, GAPS, RECORDS};
@@ -71,8 +72,8 @@ fn are_archive_columns(columns: &[Column]) -> bool
     is_column(version, b"version", Kind::Integer, false)
 }
 
-fn are_log_columns(columns: &[Column]) -> bool
-    ensures { IsTrue result ↔ (columns.now ≡ logs.columns) }
+fn are_first_log_columns(columns: &[Column]) -> bool
+    ensures { IsTrue result ↔ (columns.now ≡ first_logs.columns) }
 {
     let [id, address, dnet, dadr, instance, name] = columns else {
         return false;
@@ -83,6 +84,77 @@ fn are_log_columns(columns: &[Column]) -> bool
         && is_column(dadr, b"dadr", Kind::Text, true)
         && is_column(instance, b"instance", Kind::Integer, true)
         && is_column(name, b"name", Kind::Text, false)
+}
+
+/// The columns behind this one, if it is the first.
+fn behind<'a>(
+    columns: &'a [Column],
+    name: &[u8],
+    kind: Kind,
+    not_null: bool,
+) -> Option<&'a [Column]>
+    ensures found { IfSome result (λ rest. columns.now ≡ column_of name.now kind not_null ∷ rest.now) }
+    ensures none { IsNone result → (rest : List ColumnOf) → columns.now ≡ column_of name.now kind not_null ∷ rest → ⊥ }
+{
+    let [first, rest @ ..] = columns else {
+        return None;
+    };
+    if is_column(first, name, kind, not_null) {
+        Some(rest)
+    } else {
+        None
+    }
+}
+
+fn are_told_columns(columns: &[Column]) -> bool
+    ensures { IsTrue result ↔ (columns.now ≡ column_of (codes "device") Kind.Integer false ∷ column_of (codes "restart") Kind.Text false
+        ∷ column_of (codes "revision") Kind.Integer false ∷ column_of (codes "stopped") Kind.Integer true ∷ []) }
+{
+    let Some(rest) = behind(columns, b"device", Kind::Integer, false) else {
+        return false;
+    };
+    let Some(rest) = behind(rest, b"restart", Kind::Text, false) else {
+        return false;
+    };
+    let Some(rest) = behind(rest, b"revision", Kind::Integer, false) else {
+        return false;
+    };
+    let Some(rest) = behind(rest, b"stopped", Kind::Integer, true) else {
+        return false;
+    };
+    rest.is_empty()
+}
+
+fn are_last_columns(columns: &[Column]) -> bool
+    ensures { IsTrue result ↔ (columns.now ≡ column_of (codes "dadr") Kind.Text true ∷ column_of (codes "instance") Kind.Integer true
+        ∷ column_of (codes "name") Kind.Text false ∷ column_of (codes "device") Kind.Integer false ∷ column_of (codes "restart") Kind.Text false
+        ∷ column_of (codes "revision") Kind.Integer false ∷ column_of (codes "stopped") Kind.Integer true ∷ []) }
+{
+    let Some(rest) = behind(columns, b"dadr", Kind::Text, true) else {
+        return false;
+    };
+    let Some(rest) = behind(rest, b"instance", Kind::Integer, true) else {
+        return false;
+    };
+    let Some(rest) = behind(rest, b"name", Kind::Text, false) else {
+        return false;
+    };
+    are_told_columns(rest)
+}
+
+fn are_log_columns(columns: &[Column]) -> bool
+    ensures { IsTrue result ↔ (columns.now ≡ logs.columns) }
+{
+    let Some(rest) = behind(columns, b"id", Kind::Integer, false) else {
+        return false;
+    };
+    let Some(rest) = behind(rest, b"address", Kind::Text, true) else {
+        return false;
+    };
+    let Some(rest) = behind(rest, b"dnet", Kind::Integer, true) else {
+        return false;
+    };
+    are_last_columns(rest)
 }
 
 fn are_texts(stamp: &Column, datum: &Column, flags: &Column) -> bool
@@ -157,6 +229,15 @@ fn is_log_table(table: &Table) -> bool
         && is_plain_order(table.orders.as_slice())
 }
 
+fn is_first_log_table(table: &Table) -> bool
+    ensures { IsTrue result ↔ (table.now ≡ record first_logs { tree = 1 }) }
+{
+    is_plain(table, b"logs", 1)
+        && are_first_log_columns(table.columns.as_slice())
+        && is_four(table.uniques.as_slice())
+        && is_plain_order(table.orders.as_slice())
+}
+
 fn is_item_table(table: &Table) -> bool
     ensures { IsTrue result ↔ (table.now ≡ record items { tree = 3 }) }
 {
@@ -197,16 +278,16 @@ fn is_view(view: &View, name: &[u8], tree: u32, sql: &[u8]) -> bool
         && !view.is_bound
 }
 
-fn is_records_view(view: &View, tree: u32) -> bool
-    ensures { IsTrue result ↔ (view.now ≡ plain_view (codes "records") tree records_text) }
+fn is_records_view(view: &View) -> bool
+    ensures { IsTrue result ↔ (view.now ≡ plain_view (codes "records") 5 records_text) }
 {
-    is_view(view, b"records", tree, RECORDS.as_bytes())
+    is_view(view, b"records", 5, RECORDS.as_bytes())
 }
 
-fn is_gaps_view(view: &View, tree: u32) -> bool
-    ensures { IsTrue result ↔ (view.now ≡ plain_view (codes "gaps") tree gaps_text) }
+fn is_gaps_view(view: &View) -> bool
+    ensures { IsTrue result ↔ (view.now ≡ plain_view (codes "gaps") 6 gaps_text) }
 {
-    is_view(view, b"gaps", tree, GAPS.as_bytes())
+    is_view(view, b"gaps", 6, GAPS.as_bytes())
 }
 
 fn is_epochs_view(view: &View) -> bool
@@ -242,7 +323,7 @@ fn are_views(views: &[View]) -> bool
     let [records, gaps, epochs] = views else {
         return false;
     };
-    is_records_view(records, 5) && is_gaps_view(gaps, 6) && is_epochs_view(epochs)
+    is_records_view(records) && is_gaps_view(gaps) && is_epochs_view(epochs)
 }
 
 /// Whether a schema is an archive's: its tables, its index and its views, and no more.
@@ -261,26 +342,14 @@ fn are_first_tables(tables: &[Table]) -> bool
     let [versions, known, kept] = tables else {
         return false;
     };
-    is_archive_table(versions) && is_log_table(known) && is_item_table(kept)
+    is_archive_table(versions) && is_first_log_table(known) && is_item_table(kept)
 }
 
-fn are_first_views(views: &[View]) -> bool
-    ensures { IsTrue result ↔ (views.now ≡ first_views) }
-{
-    let [records, gaps] = views else {
-        return false;
-    };
-    is_records_view(records, 4) && is_gaps_view(gaps, 5)
-}
-
-/// Whether a schema is that of an archive of version 1.
-#[tactic(auto, using(crate::proofs::SchemaLemmas::first_parts_are))]
+/// Whether a schema has the tables of an archive of version 1.
 pub(crate) fn is_first(schema: &Schema) -> bool
-    ensures { IsTrue result ↔ (schema.now ≡ first_schema) }
+    ensures { IsTrue result ↔ (schema.now.tables ≡ first_tables) }
 {
     are_first_tables(schema.tables.as_slice())
-        && are_indexes(schema.indexes.as_slice())
-        && are_first_views(schema.views.as_slice())
 }
 
 /// Whether a schema has nothing.

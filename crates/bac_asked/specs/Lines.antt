@@ -1,11 +1,11 @@
 -- The lines of `bac keep`.
-use Rattle.std.specs.Prelude.{ℕ, ◌==◌, if◌then◌else◌, List, [], ◌∷◌, ◌++◌, codes, decimal}
+use Rattle.std.specs.Prelude.{ℕ, ◌==◌, if◌then◌else◌, List, [], ◌∷◌, ◌++◌, codes, decimal, Option, None, Some}
 use Rattle.std.specs.String.{string_bytes}
 use Rattle.bac_archive.specs.declared.trend_logs.Source.{Source}
 use Rattle.bac_query.specs.Ends.{end_line}
 use Rattle.bac_asked.specs.declared.end.End.{End}
 use Rattle.bac_asked.specs.declared.end.Ending.{Ending}
-use Rattle.bac_asked.specs.declared.end.Ending.TheVariants.{Walk, Back, Epochs, NotAsked}
+use Rattle.bac_asked.specs.declared.end.Ending.TheVariants.{Walk, Back, Epochs, NotAsked, Other}
 
 -- a device's address, and for one behind a router its network and its address there
 unfoldable pub place_text : Source → List ℕ
@@ -24,12 +24,22 @@ counted n one many = decimal n ++ (if n == 1 then one else many)
 unfoldable pub reason_line : List ℕ → ℕ → List ℕ
 reason_line why next = why ++ (codes ", next " ++ (decimal next ++ 10 ∷ []))
 
+-- which instance a device told, if any
+unfoldable pub who_text : Option ℕ → List ℕ
+who_text None = codes "the device doesn't tell that it is "
+who_text (Some told) = codes "another device answers: " ++ (decimal told ++ codes ", not ")
+
+-- that it isn't the one on record
+unfoldable pub other_line : Option ℕ → ℕ → List ℕ
+other_line told kept = who_text told ++ (decimal kept ++ 10 ∷ [])
+
 -- why a run over a log ended, and the sequence number that comes next
 unfoldable pub ending_line : Ending → ℕ → List ℕ
 ending_line (Walk why) next = end_line why next
 ending_line Back next = reason_line (codes "its numbers went back") next
 ending_line Epochs next = reason_line (codes "it began anew, or its numbers came round, 32767 times") next
 ending_line NotAsked next = reason_line (codes "not asked") next
+ending_line (Other told kept) next = other_line told kept
 
 -- where a log is, how many records and gaps were kept, and how the run over it ended
 unfoldable pub summary_line : Source → End → List ℕ

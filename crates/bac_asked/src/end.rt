@@ -19,6 +19,8 @@ pub enum Ending {
     Epochs,
     /// It wasn't asked, since its device gave no answer in this run.
     NotAsked,
+    /// It wasn't asked, since its device told another instance, or none, than the one on record.
+    Other(Option<u32>, u32),
 }
 
 /// What was kept of a log, and why the run over it ended.
@@ -73,5 +75,6 @@ pub fn end_status(why: Ending) -> u8
         Ending::Back => 6,
         Ending::Epochs => 6,
         Ending::NotAsked => 2,
+        Ending::Other(_, _) => 3,
     }
 }

@@ -1,9 +1,9 @@
 //! The line that tells what was kept of a log.
 
-ghost use Rattle.std.specs.Prelude.{◌≡◌, ◌==◌, ◌++◌, if◌then◌else◌, OnOk, List, Some};
+ghost use Rattle.std.specs.Prelude.{◌≡◌, ◌==◌, ◌++◌, if◌then◌else◌, decimal, OnOk, List, Some};
 ghost use Rattle.std.specs.Float.Ieee.{binary64};
 ghost use Rattle.ryu.specs.Parse.{parse_float};
-ghost use Rattle.bac_asked.specs.Lines.{anew_line, counted, ending_line, place_text, reason_line, source_text, summary_line};
+ghost use Rattle.bac_asked.specs.Lines.{anew_line, counted, ending_line, other_line, place_text, reason_line, source_text, summary_line, who_text};
 
 use crate::end::{End, Ending};
 use bac_archive::Source;
@@ -64,6 +64,41 @@ fn push_reason(text: &mut Vec<u8>, why: &[u8], next: u32) -> Result<(), AllocErr
     text.extend_from_slice(b"\n")
 }
 
+/// Appends a number between two texts.
+fn push_between(
+    text: &mut Vec<u8>,
+    before: &[u8],
+    number: u32,
+    behind: &[u8],
+) -> Result<(), AllocError>
+    ensures { OnOk result (text.new.items ≡ text.old.items ++ (before.now ++ (decimal number ++ behind.now))) }
+{
+    text.extend_from_slice(before)?;
+    push_number(text, u64::from(number))?;
+    text.extend_from_slice(behind)
+}
+
+/// Appends which instance a device told, if any.
+#[tactic(auto, unfolding(crate::specs::Lines::who_text))]
+fn push_who(text: &mut Vec<u8>, told: Option<u32>) -> Result<(), AllocError>
+    ensures { OnOk result (text.new.items ≡ text.old.items ++ who_text told) }
+{
+    match told {
+        Some(told) => push_between(text, b"another device answers: ", told, b", not "),
+        None => text.extend_from_slice(b"the device doesn't tell that it is "),
+    }
+}
+
+/// Appends that it isn't the one on record.
+#[tactic(auto, unfolding(crate::specs::Lines::other_line))]
+fn push_other(text: &mut Vec<u8>, told: Option<u32>, kept: u32) -> Result<(), AllocError>
+    ensures { OnOk result (text.new.items ≡ text.old.items ++ other_line told kept) }
+{
+    push_who(text, told)?;
+    push_number(text, u64::from(kept))?;
+    text.extend_from_slice(b"\n")
+}
+
 /// Appends why a run over a log ended, and the number that comes next.
 #[tactic(auto, unfolding(crate::specs::Lines::ending_line))]
 fn push_ending(text: &mut Vec<u8>, why: Ending, next: u32) -> Result<(), AllocError>
@@ -78,6 +113,7 @@ fn push_ending(text: &mut Vec<u8>, why: Ending, next: u32) -> Result<(), AllocEr
             next,
         ),
         Ending::NotAsked => push_reason(text, b"not asked", next),
+        Ending::Other(told, kept) => push_other(text, told, kept),
     }
 }
 

@@ -19,9 +19,12 @@ use Rattle.bac_link.specs.declared.link.Lost.{Lost as Loss}
 use Rattle.bac_ports.specs.declared.udp_link.UdpLink.{UdpLink}
 use Rattle.bac_asked.specs.declared.log_words.Asking.{Asking}
 use Rattle.bac_ports.specs.Sockets.{SocketRules, link_over, own_address, socket_asks}
-use Rattle.bac_fetch.specs.Keeps.{KeepsBegun, KeepsOn, Marks, MarksBegun, is_idle, KeepsLog, KeepsOverLink, KeepsSource, KeepsNext, PassesOver, KeepsAll, lines_of, greatest_status}
+use Rattle.bac_fetch.specs.Keeps.{KeepsBegun, KeepsOn, Marks, MarksBegun, is_idle, KeepsLog, KeepsOverLink, KeepsHeard, KeepsSource, KeepsNext, KeepsUnless, PassesOver, KeepsAll, lines_of, greatest_status}
 use Rattle.bac_asked.specs.Lines.{summary_line}
-use Rattle.bac_fetch.specs.Silent.{is_silent, lost_after, lost_with}
+use Rattle.bac_fetch.specs.Whose.{device_of, hindrance, is_silent}
+use Rattle.bac_fetch.specs.declared.whose.Heard.{Heard}
+use Rattle.bac_asked.specs.declared.end.Ending.{Ending}
+use Rattle.bac_asked.specs.declared.end.Ending.TheVariants.{NotAsked}
 use Rattle.bac_fetch.specs.Starts.{IsBegun}
 use Rattle.bac_asked.specs.Status.{end_status}
 use Rattle.bac_fetch.proofs.SilentLemmas.{either_holds}
@@ -96,9 +99,9 @@ marks_schema : (begun : Result Start End) (end : End) (old new : Database) → M
 marks_schema (Ok start) end old new it has = mark_schema start.begins_at end old new it has
 marks_schema (Err none) end old new it has = ap (λ (d : Database). d.schema) it ∙ has
 
-source_schema : {S P : Type 0} (rules : SocketRules S P) (wanted : Wanted) (before after : S) (old new : Database) (end : End) → KeepsSource rules wanted before after old new end
-    → old.schema ≡ archive_schema → new.schema ≡ archive_schema
-source_schema rules wanted before after old new end h has =
+source_schema : {S P : Type 0} (rules : SocketRules S P) (wanted : Wanted) (device : Option ℕ) (before after : S) (old new : Database) (end : End)
+    → KeepsSource rules wanted device before after old new end → old.schema ≡ archive_schema → new.schema ≡ archive_schema
+source_schema rules wanted device before after old new end h has =
     let known : h.known.schema ≡ archive_schema = elim h.added [
       | inl same ↦ ap (λ (d : Database). d.schema) same ∙ has
       | inr more ↦ more.schema
@@ -106,31 +109,40 @@ source_schema rules wanted before after old new end h has =
     let (begun, mid, at_begin, (last, keeps, marks)) = h.kept.4.1 in
     marks_schema begun end last new marks (log_schema _ _ _ _ _ begun _ h.known last end keeps known)
 
-next_schema : {S P : Type 0} (rules : SocketRules S P) (known : List Log) (lost : List Source) (wanted : Wanted) (before after : S) (old new : Database) (end : End)
-    → KeepsNext rules known lost wanted before after old new end → old.schema ≡ archive_schema → new.schema ≡ archive_schema
-next_schema rules known lost wanted before after old new end h has =
-    either_holds (is_silent lost wanted.source) (PassesOver known wanted before after old new end) (KeepsSource rules wanted before after old new end) (new.schema ≡ archive_schema)
-    (λ same. ap (λ (d : Database). d.schema) same.0 ∙ has) (λ kept. source_schema rules wanted before after old new end kept has) h
+unless_schema : {S P : Type 0} (rules : SocketRules S P) (known : List Log) (wanted : Wanted) (device : Option ℕ) (why : Option Ending) (before after : S) (old new : Database) (end : End)
+    → KeepsUnless rules known wanted device why before after old new end → old.schema ≡ archive_schema → new.schema ≡ archive_schema
+unless_schema rules known wanted device (Some why) before after old new end h has = ap (λ (d : Database). d.schema) h.0 ∙ has
+unless_schema rules known wanted device None before after old new end h has = source_schema rules wanted device before after old new end h has
+
+next_schema : {S P : Type 0} (rules : SocketRules S P) (known : List Log) (heard more : List Heard) (wanted : Wanted) (before after : S) (old new : Database) (end : End)
+    → KeepsNext rules known heard more wanted before after old new end → old.schema ≡ archive_schema → new.schema ≡ archive_schema
+next_schema rules known heard more wanted before after old new end h has =
+    either_holds (is_silent heard wanted.source) (PassesOver known wanted NotAsked before after old new end × (more ≡ heard))
+    (KeepsHeard rules known heard more wanted before after old new end) (new.schema ≡ archive_schema)
+    (λ same. ap (λ (d : Database). d.schema) same.0.0 ∙ has)
+    (λ kept. unless_schema rules known wanted (device_of kept.identity) (hindrance kept.on_record kept.identity) kept.half after old new end kept.kept has) h
 
 -- runs over an archive leave one
-pub all_schema : {S P : Type 0} (rules : SocketRules S P) (known : List Log) (lost : List Source) (all : List Wanted) (before after : S) (old new : Database) (ends : List End)
-    → KeepsAll rules known lost all before after old new ends → old.schema ≡ archive_schema → new.schema ≡ archive_schema
-all_schema rules known lost [] before after old new [] h has = ap (λ (d : Database). d.schema) h.0 ∙ has
-all_schema rules known lost [] before after old new (end ∷ ends) h has = absurd h
-all_schema rules known lost (wanted ∷ all) before after old new [] h has = absurd h
-all_schema rules known lost (wanted ∷ all) before after old new (end ∷ ends) h has =
-    all_schema rules known (lost_with lost wanted.source end.why) all h.1 after h.0 new ends h.3 (next_schema rules known lost wanted before h.1 old h.0 end h.2 has)
+pub all_schema : {S P : Type 0} (rules : SocketRules S P) (known : List Log) (heard last : List Heard) (all : List Wanted) (before after : S) (old new : Database) (ends : List End)
+    → KeepsAll rules known heard last all before after old new ends → old.schema ≡ archive_schema → new.schema ≡ archive_schema
+all_schema rules known heard last [] before after old new [] h has = ap (λ (d : Database). d.schema) h.0 ∙ has
+all_schema rules known heard last [] before after old new (end ∷ ends) h has = absurd h
+all_schema rules known heard last (wanted ∷ all) before after old new [] h has = absurd h
+all_schema rules known heard last (wanted ∷ all) before after old new (end ∷ ends) h has =
+    all_schema rules known h.2 last all h.1 after h.0 new ends h.4 (next_schema rules known heard h.2 wanted before h.1 old h.0 end h.3 has)
 
 -- one log more
-pub one_more : {S P : Type 0} (rules : SocketRules S P) (known : List Log) (lost : List Source) (all : List Wanted) (wanted : Wanted) (before half after : S) (old mid new : Database)
-    (ends : List End) (end : End) → KeepsAll rules known lost all before half old mid ends → KeepsNext rules known (lost_after lost all ends) wanted half after mid new end
-    → KeepsAll rules known lost (all ++ wanted ∷ []) before after old new (ends ++ end ∷ [])
-one_more rules known lost [] wanted before half after old mid new [] end h one =
-    (new, after, subst (λ s. KeepsNext rules known lost wanted s after old new end) h.1 (subst (λ d. KeepsNext rules known lost wanted half after d new end) h.0 one), (refl, refl))
-one_more rules known lost [] wanted before half after old mid new (e ∷ ends) end h one = absurd h
-one_more rules known lost (w ∷ all) wanted before half after old mid new [] end h one = absurd h
-one_more rules known lost (w ∷ all) wanted before half after old mid new (e ∷ ends) end h one =
-    (h.0, h.1, h.2, one_more rules known (lost_with lost w.source e.why) all wanted h.1 half after h.0 mid new ends end h.3 one)
+pub one_more : {S P : Type 0} (rules : SocketRules S P) (known : List Log) (heard mid_heard last : List Heard) (all : List Wanted) (wanted : Wanted) (before half after : S) (old mid new : Database)
+    (ends : List End) (end : End) → KeepsAll rules known heard mid_heard all before half old mid ends → KeepsNext rules known mid_heard last wanted half after mid new end
+    → KeepsAll rules known heard last (all ++ wanted ∷ []) before after old new (ends ++ end ∷ [])
+one_more rules known heard mid_heard last [] wanted before half after old mid new [] end h one =
+    let one₁ = subst (λ d. KeepsNext rules known mid_heard last wanted half after d new end) h.0 one in
+    let one₂ = subst (λ s. KeepsNext rules known mid_heard last wanted s after old new end) h.1 one₁ in
+    (new, after, last, subst (λ (l : List Heard). KeepsNext rules known l last wanted before after old new end) h.2 one₂, (refl, refl, refl))
+one_more rules known heard mid_heard last [] wanted before half after old mid new (e ∷ ends) end h one = absurd h
+one_more rules known heard mid_heard last (w ∷ all) wanted before half after old mid new [] end h one = absurd h
+one_more rules known heard mid_heard last (w ∷ all) wanted before half after old mid new (e ∷ ends) end h one =
+    (h.0, h.1, h.2, h.3, one_more rules known h.2 mid_heard last all wanted h.1 half after h.0 mid new ends end h.4 one)
 
 pub lines_more : (all : List Wanted) (wanted : Wanted) (ends : List End) (end : End) → length ends ≡ length all
     → lines_of (all ++ wanted ∷ []) (ends ++ end ∷ []) ≡ lines_of all ends ++ summary_line wanted.source end

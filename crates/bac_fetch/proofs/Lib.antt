@@ -5,3 +5,4 @@ pub mod StaysLemmas
 pub mod EndsLemmas
 pub mod KeepsLemmas
 pub mod DiscoveredLemmas
+pub mod WhoseLemmas

@@ -21,8 +21,11 @@ use Rattle.bac_archive.specs.Logs.{AddsLog, HasNewLog}
 use Rattle.bac_archive.specs.declared.trend_logs.Log.{Log}
 use Rattle.bac_archive.specs.declared.trend_logs.Source.{Source}
 use Rattle.bac_ports.specs.Sockets.{SocketRules}
-use Rattle.bac_fetch.specs.Keeps.{KeepsBegun, KeepsOn, KeepsNext, KeepsSource, Marks, MarksBegun, PassesOver, is_idle}
-use Rattle.bac_fetch.specs.Silent.{is_silent}
+use Rattle.bac_fetch.specs.Keeps.{KeepsBegun, KeepsOn, KeepsHeard, KeepsNext, KeepsSource, KeepsUnless, Marks, MarksBegun, PassesOver, is_idle}
+use Rattle.bac_fetch.specs.Whose.{device_of, hindrance, is_silent}
+use Rattle.bac_fetch.specs.declared.whose.Heard.{Heard}
+use Rattle.bac_asked.specs.declared.end.Ending.{Ending}
+use Rattle.bac_asked.specs.declared.end.Ending.TheVariants.{NotAsked}
 use Rattle.bac_fetch.specs.Stays.{HasAllOf}
 use Rattle.bac_asked.specs.declared.end.End.{End}
 use Rattle.bac_fetch.specs.declared.starting.Start.{Start}
@@ -138,9 +141,9 @@ marked_stays (Ok start) end old new it = marks_stay start.begins_at end old new 
 marked_stays (Err none) end old new it = subst (λ (d : Database). HasAllOf old.trees d.trees) (sym it) (all_itself old.trees)
 
 -- what is kept of a log takes nothing away
-pub source_stays : {S P : Type 0} (over : SocketRules S P) (wanted : Wanted) (before after : S) (old new : Database) (end : End) →
-    KeepsSource over wanted before after old new end → HasAllOf old.trees new.trees
-source_stays over wanted before after old new end it =
+pub source_stays : {S P : Type 0} (over : SocketRules S P) (wanted : Wanted) (device : Option ℕ) (before after : S) (old new : Database) (end : End) →
+    KeepsSource over wanted device before after old new end → HasAllOf old.trees new.trees
+source_stays over wanted device before after old new end it =
     let known : HasAllOf old.trees it.known.trees = elim it.added [
       | inl same ↦ subst (λ (d : Database). HasAllOf old.trees d.trees) (sym same) (all_itself old.trees)
       | inr more ↦ log_all old.trees it.known.trees _ more.rows
@@ -149,12 +152,19 @@ source_stays over wanted before after old new end it =
     all_then old.trees it.known.trees new.trees known (all_then it.known.trees last.trees new.trees (begun_stays _ _ _ _ _ begun _ it.known last end keeps)
     (marked_stays begun end last new marks))
 
--- nor is what is kept of one log, or of one that is passed over
-pub next_stays : {S P : Type 0} (over : SocketRules S P) (known : List Log) (lost : List Source) (wanted : Wanted) (before after : S) (old new : Database) (end : End) →
-    KeepsNext over known lost wanted before after old new end → HasAllOf old.trees new.trees
-next_stays over known lost wanted before after old new end =
-    either_holds (is_silent lost wanted.source) (PassesOver known wanted before after old new end) (KeepsSource over wanted before after old new end) (HasAllOf old.trees new.trees)
-    (λ same. subst (λ (d : Database). HasAllOf old.trees d.trees) (sym same.0) (all_itself old.trees)) (source_stays over wanted before after old new end)
+unless_stays : {S P : Type 0} (over : SocketRules S P) (known : List Log) (wanted : Wanted) (device : Option ℕ) (why : Option Ending) (before after : S) (old new : Database) (end : End) →
+    KeepsUnless over known wanted device why before after old new end → HasAllOf old.trees new.trees
+unless_stays over known wanted device (Some why) before after old new end it = subst (λ (d : Database). HasAllOf old.trees d.trees) (sym it.0) (all_itself old.trees)
+unless_stays over known wanted device None before after old new end it = source_stays over wanted device before after old new end it
+
+-- nor does what is kept of one log, or of one that is passed over
+pub next_stays : {S P : Type 0} (over : SocketRules S P) (known : List Log) (heard more : List Heard) (wanted : Wanted) (before after : S) (old new : Database) (end : End) →
+    KeepsNext over known heard more wanted before after old new end → HasAllOf old.trees new.trees
+next_stays over known heard more wanted before after old new end =
+    either_holds (is_silent heard wanted.source) (PassesOver known wanted NotAsked before after old new end × (more ≡ heard))
+    (KeepsHeard over known heard more wanted before after old new end) (HasAllOf old.trees new.trees)
+    (λ same. subst (λ (d : Database). HasAllOf old.trees d.trees) (sym same.0.0) (all_itself old.trees))
+    (λ kept. unless_stays over known wanted (device_of kept.identity) (hindrance kept.on_record kept.identity) kept.half after old new end kept.kept)
 
 -- what commits nothing takes nothing away
 pub quiet_stays : (old new : State) → Survives old new (λ _. ⊥) → Survives old new (HasAllOf old.now.trees)

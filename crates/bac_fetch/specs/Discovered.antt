@@ -1,8 +1,6 @@
 -- The trend logs that a device tells of, place by place of its Object_List.
 use Rattle.std.specs.Prelude.{◌≡◌, ◌≢◌, ◌⊎◌, ◌<◌, ◌+◌, ◌*◌, ℕ, zero, suc, List, [], ◌∷◌, ◌++◌, length, Option}
 use Rattle.std.specs.Prelude.{Some, None, Result, Ok, Err, String}
-use Rattle.std.specs.String.{string_bytes}
-use Rattle.std.specs.Str.{IsUtf8}
 use Rattle.std.specs.Int.{w32, from_be_bytes}
 use Rattle.bac_apdu.specs.declared.service.read_property.ReadProperty.{ReadProperty}
 use Rattle.bac_link.specs.declared.exchanges.ExchangeFault.{ExchangeFault}
@@ -11,6 +9,7 @@ use Rattle.bac_link.specs.declared.request.Request.TheVariants as request
 use Rattle.bac_link.specs.Datagrams.{apdu_in}
 use Rattle.bac_link.specs.Exchanges.{Exchanges}
 use Rattle.bac_link.specs.Path.{Path, towards}
+use Rattle.bac_print.specs.Texts.{IsTextOf}
 use Rattle.bac_query.specs.Reading.{values_in}
 use Rattle.bac_wire.specs.Primitive.{Id, Primitive}
 use Rattle.bac_wire.specs.Primitive as primitive
@@ -51,10 +50,11 @@ ReadsNumber reads asked old number new =
 abbrev pub ReadsObject : {S : Type 0} → (ReadProperty → S → Result (List ℕ) ExchangeFault → S → Type 0) → ReadProperty → S → Id → S → Type 0
 ReadsObject reads asked old object new = (answer : List ℕ) × reads asked old (Ok answer) new × TellsObject answer object
 
--- a name is the text in UTF-8 (character set 0) that an ACK tells; of which ACKs tell none, nothing is said
+-- a name is the text of the Character String that an ACK tells, in Unicode; there is none if it tells none
 abbrev pub TellsName : {A : Type 0} → List ℕ → Option (String A) → Type 0
-TellsName datagram (Some name) = Tells datagram (primitive.Chars 0 (string_bytes name)) × IsUtf8 (string_bytes name)
-TellsName datagram None = Unit {0}
+TellsName datagram name =
+    ((set : ℕ) × (octets : List ℕ) × Tells datagram (primitive.Chars set octets) × IsTextOf set octets name)
+    ⊎ ((name ≡ None) × ((set : ℕ) (octets : List ℕ) → Tells datagram (primitive.Chars set octets) → ⊥))
 
 -- the name of an object was read; it has none if it is refused, or if no answer comes
 abbrev pub ReadsName : {S A : Type 0} → (ReadProperty → S → Result (List ℕ) ExchangeFault → S → Type 0) → ReadProperty →

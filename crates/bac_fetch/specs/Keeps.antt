@@ -22,6 +22,7 @@ use Rattle.bac_archive.specs.Standing.{HasNewBeginning}
 use Rattle.bac_archive.specs.Logs.{AreLogs, HasNewLog, IsKnownAs, log_row}
 use Rattle.bac_archive.specs.declared.trend_logs.Log.{Log}
 use Rattle.bac_archive.specs.declared.trend_logs.Source.{Source}
+use Rattle.bac_archive.specs.declared.trend_logs.Told.{Told}
 use Rattle.bac_keep.specs.Items.{era, kept_rows}
 use Rattle.bac_keep.specs.Runs.{records_in, gaps_among}
 use Rattle.bac_keep.specs.declared.courses.Word.{Word}
@@ -31,6 +32,7 @@ use Rattle.bac_keep.specs.declared.place.Place.{Place}
 use Rattle.bac_asked.specs.declared.end.End.{End}
 use Rattle.bac_asked.specs.declared.began.Began.{Began}
 use Rattle.bac_asked.specs.declared.began.Began.TheVariants.{GoesOn}
+use Rattle.bac_asked.specs.declared.end.Ending.{Ending}
 use Rattle.bac_asked.specs.declared.end.Ending.TheVariants.{NotAsked, Walk}
 use Rattle.bac_fetch.specs.declared.starting.Start.{Start}
 use Rattle.bac_asked.specs.declared.log_words.Asking.{Asking}
@@ -39,7 +41,10 @@ use Rattle.bac_ports.specs.Sockets.{SocketRules, UsesSocket, link_over, own_addr
 use Rattle.bac_ports.specs.declared.udp_link.UdpLink.{UdpLink}
 use Rattle.bac_fetch.specs.Fetched.{ComesFrom}
 use Rattle.bac_asked.specs.Lines.{summary_line}
-use Rattle.bac_fetch.specs.Silent.{IsIdAmong, is_silent, lost_with}
+use Rattle.bac_fetch.specs.Silent.{IsIdAmong}
+use Rattle.bac_fetch.specs.Whose.{IsIdentified, IsOnRecord, device_of, heard_with, hindrance, is_silent}
+use Rattle.bac_fetch.specs.declared.whose.Heard.{Heard}
+use Rattle.bac_fetch.specs.declared.whose.Identity.{Identity}
 use Rattle.bac_fetch.specs.Stands.{IsStand, kept_last}
 use Rattle.bac_fetch.specs.declared.stands.Stand.{Stand}
 use Rattle.bac_fetch.specs.Starts.{IsBegun}
@@ -119,12 +124,17 @@ KeepsLog {P = P} rules asking before after log object old new end =
 abbrev pub trend_log : ℕ → Id
 trend_log instance = record { kind = 20; instance = instance }
 
--- the log is one of the archive, or its row came to those of the logs; then what a run brought is kept under its id
-pub record KeepsSource {S P : Type 0} (rules : SocketRules S P) (wanted : Wanted) (before after : S)
+-- what a device told that told this instance, or none
+abbrev pub told_by : Option ℕ → Told
+told_by device = record { device = device; restart = None; revision = None }
+
+-- The log is one of the archive, or its row came to those of the logs, with the instance that its device told; then what a
+-- run brought is kept under its id.
+pub record KeepsSource {S P : Type 0} (rules : SocketRules S P) (wanted : Wanted) (device : Option ℕ) (before after : S)
     (old new : Database) (end : End) : Type 0 where
   pub id : ℕ
   pub known : Database
-  pub added : (known ≡ old) ⊎ HasNewLog old known (log_row id wanted.source (option_map string_bytes wanted.name))
+  pub added : (known ≡ old) ⊎ HasNewLog old known (log_row id wanted.source (option_map string_bytes wanted.name) (told_by device) false)
   pub log : IsKnownAs known.trees id wanted.source
   pub kept : KeepsLog rules wanted.asking before after id (trend_log wanted.source.instance) known new end
 
@@ -138,34 +148,54 @@ abbrev pub IsNextOf : Trees → Option ℕ → ℕ → Type 0
 IsNextOf trees None next = next ≡ 1
 IsNextOf trees (Some id) next = (stand : Option Stand) × IsStand id trees stand × (next ≡ next_behind stand)
 
--- the end of a run over a log of an archive that isn't asked
-abbrev pub IsNotAsked : List Log → Trees → Source → End → Type 0
-IsNotAsked known trees source end = (end.records ≡ 0) × (end.gaps ≡ 0) × (end.why ≡ NotAsked) × (end.began ≡ GoesOn)
+-- the end of a run over a log of an archive that isn't fetched, for this reason
+abbrev pub IsWithout : List Log → Trees → Source → Ending → End → Type 0
+IsWithout known trees source why end = (end.records ≡ 0) × (end.gaps ≡ 0) × (end.why ≡ why) × (end.began ≡ GoesOn)
     × (id : Option ℕ) × IsIdAmong known source id × IsNextOf trees id end.next
 
--- a log is passed over: no socket is opened, the archive is as it was, and it is told that it isn't asked
-abbrev pub PassesOver : {S : Type 0} → List Log → Wanted → S → S → Database → Database → End → Type 0
-PassesOver known wanted before after old new end =
-    (new ≡ old) × (after ≡ before) × IsNotAsked known old.trees wanted.source end
+-- a log is passed over, for this reason: no socket is opened, the archive is as it was, and the reason is told
+abbrev pub PassesOver : {S : Type 0} → List Log → Wanted → Ending → S → S → Database → Database → End → Type 0
+PassesOver known wanted why before after old new end =
+    (new ≡ old) × (after ≡ before) × IsWithout known old.trees wanted.source why end
 
--- a log is passed over if its device gave no answer before, and any other is kept
-abbrev pub KeepsNext : {S P : Type 0} → SocketRules S P → List Log → List Source → Wanted → S → S → Database → Database → End → Type 0
-KeepsNext rules known lost wanted before after old new end = MatchBool (is_silent lost wanted.source)
-    (PassesOver known wanted before after old new end) (KeepsSource rules wanted before after old new end)
+-- a log is passed over if there is a reason, and else kept
+abbrev pub KeepsUnless : {S P : Type 0} → SocketRules S P → List Log → Wanted → Option ℕ → Option Ending →
+    S → S → Database → Database → End → Type 0
+KeepsUnless rules known wanted device (Some why) before after old new end = PassesOver known wanted why before after old new end
+KeepsUnless rules known wanted device None before after old new end = KeepsSource rules wanted device before after old new end
 
--- logs are kept in their order, each run over the archive that the one before left; those that are lost tell which
--- devices aren't asked behind them
-abbrev pub KeepsAll : {S P : Type 0} → SocketRules S P → List Log → List Source → List Wanted → S → S → Database → Database → List End → Type 0
-KeepsAll rules known lost [] before after old new [] = (new ≡ old) × (after ≡ before)
-KeepsAll {S = S} rules known lost (wanted ∷ more) before after old new (end ∷ ends) =
-    (mid : Database) × (half : S) × KeepsNext rules known lost wanted before half old mid end
-    × KeepsAll rules known (lost_with lost wanted.source end.why) more half after mid new ends
-KeepsAll rules known lost _ before after old new _ = ⊥
+-- A log of a device that was heard of, or is asked for its instance now: it is kept, unless the device gives no answer, or an
+-- instance is on record of it and it doesn't tell that one. So the device of each log that is kept told the instance that is
+-- on record, if one is.
+pub record KeepsHeard {S P : Type 0} (rules : SocketRules S P) (known : List Log) (heard more : List Heard) (wanted : Wanted)
+    (before after : S) (old new : Database) (end : End) : Type 0 where
+  pub identity : Identity
+  pub half : S
+  pub asked : IsIdentified rules heard wanted before identity half
+  pub on_record : Option ℕ
+  pub on_record_is : IsOnRecord known wanted.source on_record
+  pub kept : KeepsUnless rules known wanted (device_of identity) (hindrance on_record identity) half after old new end
+  pub heard_is : more ≡ heard_with heard wanted.source identity end.why
 
--- so are they in a run, as which begins no device is known to be silent, and the archive has these logs
+-- a log is passed over if its device gave no answer before; of any other the device is asked who it is, unless it was
+abbrev pub KeepsNext : {S P : Type 0} → SocketRules S P → List Log → List Heard → List Heard → Wanted → S → S → Database → Database → End → Type 0
+KeepsNext rules known heard more wanted before after old new end = MatchBool (is_silent heard wanted.source)
+    (PassesOver known wanted NotAsked before after old new end × (more ≡ heard))
+    (KeepsHeard rules known heard more wanted before after old new end)
+
+-- Logs are kept in their order, each run over the archive that the one before left, and what was heard of devices then is
+-- known behind it.
+abbrev pub KeepsAll : {S P : Type 0} → SocketRules S P → List Log → List Heard → List Heard → List Wanted → S → S → Database → Database → List End → Type 0
+KeepsAll rules known heard last [] before after old new [] = (new ≡ old) × (after ≡ before) × (last ≡ heard)
+KeepsAll {S = S} rules known heard last (wanted ∷ more) before after old new (end ∷ ends) =
+    (mid : Database) × (half : S) × (now : List Heard) × KeepsNext rules known heard now wanted before half old mid end
+    × KeepsAll rules known now last more half after mid new ends
+KeepsAll rules known heard last _ before after old new _ = ⊥
+
+-- so are they in a run, as which begins nothing was heard of a device, and the archive has these logs
 abbrev pub KeepsLogs : {S P : Type 0} → SocketRules S P → List Wanted → S → S → Database → Database → List End → Type 0
 KeepsLogs rules all before after old new ends =
-    (known : List Log) × AreLogs old.trees known × KeepsAll rules known [] all before after old new ends
+    (known : List Log) × AreLogs old.trees known × (last : List Heard) × KeepsAll rules known [] last all before after old new ends
 
 -- the lines of logs, in their order
 abbrev pub lines_of : List Wanted → List End → List ℕ

@@ -5,5 +5,6 @@ pub mod Starts
 pub mod Fetched
 pub mod Discovered
 pub mod Silent
+pub mod Whose
 pub mod Stays
 pub mod Keeps

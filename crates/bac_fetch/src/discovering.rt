@@ -13,19 +13,20 @@ use bac_apdu::object_type::TREND_LOG;
 use bac_asked::{Asking, Fault, NotDone, Wanted, add_wanted, source_of};
 use bac_link::{ExchangeFault, LogLink, Transactions};
 use bac_ports::Sockets;
+use bac_print::text_of;
 use bac_wire::{Datagram, ObjectId};
 use bac_words::{Asked, Word};
 use std::alloc::Global;
 
 /// The type of a Device object (clause 21).
-const DEVICE: u16 = 8;
+pub(crate) const DEVICE: u16 = 8;
 
 const OBJECT_LIST: u32 = 76;
 
 const OBJECT_NAME: u32 = 77;
 
 /// The instance that stands for the device itself, whichever it has (clause 12.11).
-const ITSELF: u32 = 4_194_303;
+pub(crate) const ITSELF: u32 = 4_194_303;
 
 /// A device that is asked for its objects.
 #[derive(Drop)]
@@ -105,24 +106,21 @@ impl<L: LogLink> Station<L> {
     }
 }
 
-/// The name that an answer tells.
+/// The name that an answer tells, in Unicode.
 fn name_in(alloc: Global, answer: &Datagram) -> Result<Option<String>, NotDone>
     ensures { IfOk result (TellsName answer.now) }
 {
-    let Some(octets) = text_in(answer) else {
+    let Some((set, octets)) = text_in(answer) else {
         return Ok(None);
     };
-    let Ok(text) = std::str::from_utf8(octets) else {
-        return Ok(None);
-    };
-    match String::from_str(alloc, text) {
-        Ok(name) => Ok(Some(name)),
+    match text_of(alloc, set, octets) {
+        Ok(name) => Ok(name),
         Err(_) => Err(NotDone::Asking(Fault::Memory)),
     }
 }
 
 /// How a log of the device is asked for, as another of its logs is.
-fn asked_like(like: &Asking, instance: u32) -> Result<Asking, NotDone>
+pub(crate) fn asked_like(like: &Asking, instance: u32) -> Result<Asking, NotDone>
     ensures alike { IfOk result (IsAskedAs like.now) }
     ensures instance { IfOk result (λ asking. asking.instance ≡ instance) }
 {

@@ -3,15 +3,15 @@
 ghost use Rattle.std.specs.Prelude.{◌≡◌, ◌≢◌, ◌⊎◌, ℕ, false, OnOk, IfOk, IfSome, List, [], option_map};
 ghost use Rattle.std.specs.List.{All};
 ghost use Rattle.std.specs.String.{string_bytes};
-ghost use Rattle.std.specs.Io.KnownBytes.{Appends};
 ghost use Rattle.sqlite.specs.State.{HasCleanDisk, Survives};
 ghost use Rattle.sqlite.specs.Held.{state};
 ghost use Rattle.bac_archive.specs.Schema.{archive_schema};
 ghost use Rattle.bac_archive.specs.Logs.{HasNewLog, IsKnownAs, log_row};
 ghost use Rattle.bac_ports.specs.Sockets.{socket_rules};
-ghost use Rattle.bac_fetch.specs.Keeps.{AreToldBy, IsNextOf, IsToldBy, KeepsAll, KeepsLogs, KeepsNext, KeepsSource, next_behind};
-ghost use Rattle.bac_fetch.specs.Silent.{HasLogs, lost_with};
-ghost use Rattle.bac_asked.specs.Lines.{summary_line};
+ghost use Rattle.bac_fetch.specs.Keeps.{AreToldBy, IsToldBy, KeepsAll, KeepsHeard, KeepsLogs, KeepsNext, KeepsSource, KeepsUnless, told_by};
+ghost use Rattle.bac_fetch.specs.Silent.{HasLogs};
+ghost use Rattle.bac_fetch.specs.Whose.{IsOnRecord, device_of, heard_with, hindrance};
+ghost use Rattle.bac_fetch.specs.declared.whose.Heard.{Heard as HeardOf};
 ghost use Rattle.bac_fetch.specs.Discovered.{AreFound};
 ghost use Rattle.bac_asked.specs.Wanted.{AsksItsSource};
 ghost use Rattle.bac_fetch.specs.Chosen.{AreChosen, AreKeptLogs, AskTheirSources};
@@ -21,13 +21,15 @@ ghost use Rattle.bac_asked.specs.declared.wanted.Wanted.{Wanted as WantedOf};
 use crate::count::Count;
 use crate::discovering::discover;
 use crate::fetching::fetch;
-use crate::silent::{add_lost, id_among, is_silent};
-use crate::stands::{Stand, last_kept, stand_of};
-use crate::starting::number_behind;
-use bac_archive::{Log, Source, add_log, logs};
+use crate::passing::{pass_by, pass_over, print_end};
+use crate::silent::id_among;
+use crate::whose::{
+    Heard, Identity, add_heard, device_of, device_on_record, hindrance, identity_of, is_silent,
+};
+use bac_archive::{Log, Source, Told, add_log, logs};
 use bac_asked::{
-    Asking, Began, End, Ending, Fault, FileFault, NotDone, Options, Wanted, add_wanted, end_status,
-    kept_log, push_began, push_summary,
+    Asking, Began, Ending, Fault, FileFault, NotDone, Options, Wanted, add_wanted, end_status,
+    kept_log, push_began,
 };
 use bac_ports::Sockets;
 use bac_print::write_text;
@@ -76,25 +78,6 @@ fn kept_logs<A: Alter>(
     Ok(all)
 }
 
-/// Prints the line of a log.
-fn print_end<O: Write>(
-    alloc: Global,
-    source: &Source,
-    end: &End,
-    output: &mut O,
-) -> Result<(), NotDone>
-    ensures { OnOk result (Appends (O.contents output.old) (O.contents output.new) (summary_line source.now end.now)) }
-{
-    let mut text = Vec::new(alloc);
-    if push_summary(&mut text, source, end).is_err() {
-        return Err(NotDone::Asking(Fault::Memory));
-    }
-    if write_text(output, &text).is_err() || output.flush().is_err() {
-        return Err(NotDone::Asking(Fault::Write));
-    }
-    Ok(())
-}
-
 /// Tells that a device began anew, or may have.
 fn tell_anew<E: Write>(
     alloc: Global,
@@ -123,27 +106,34 @@ fn name_of(text: &Option<String>) -> Option<&str>
     }
 }
 
-/// The id of a log: that under which it is known, or that of the row which is added for it.
+/// The id of a log: that under which it is known, or that of the row which is added for it, with the
+/// instance that its device told.
 fn id_of<A: Alter>(
     conn: &mut Connection<A>,
     alloc: Global,
     known: Option<u16>,
     source: &Source,
     name: Option<&str>,
+    device: Option<u32>,
 ) -> Result<u16, NotDone>
     ensures added { HasCleanDisk (state A.Store conn.new) → (state A.Store conn.old).now.schema ≡ archive_schema → IfOk result (λ id.
         ((state A.Store conn.new).now ≡ (state A.Store conn.old).now)
-        ⊎ HasNewLog (state A.Store conn.old).now (state A.Store conn.new).now (log_row id source.now (option_map (λ s. s.now) name.entry))) }
+        ⊎ HasNewLog (state A.Store conn.old).now (state A.Store conn.new).now (log_row id source.now (option_map (λ s. s.now) name.entry) (told_by device) false)) }
     ensures known { HasCleanDisk (state A.Store conn.new) → (state A.Store conn.old).now.schema ≡ archive_schema
         → IfSome known (λ id. IsKnownAs (state A.Store conn.old).now.trees id source.now) → IfOk result (λ id. IsKnownAs (state A.Store conn.new).now.trees id source.now) }
     ensures crash { (state A.Store conn.old).now.schema ≡ archive_schema → Survives (state A.Store conn.old) (state A.Store conn.new)
-        (λ trees. (db : _) × (id : ℕ) × HasNewLog (state A.Store conn.old).now db (log_row id source.now (option_map (λ s. s.now) name.entry)) × (trees ≡ db.trees)) }
+        (λ trees. (db : _) × (id : ℕ) × HasNewLog (state A.Store conn.old).now db (log_row id source.now (option_map (λ s. s.now) name.entry) (told_by device) false) × (trees ≡ db.trees)) }
     ensures clean { HasCleanDisk (state A.Store conn.new) → HasCleanDisk (state A.Store conn.old) }
 {
     if let Some(id) = known {
         return Ok(id);
     }
-    match add_log(alloc, conn, source, name) {
+    let told = Told {
+        device,
+        restart: None,
+        revision: None,
+    };
+    match add_log(alloc, conn, source, name, &told) {
         Ok(id) => Ok(id),
         Err(fault) => Err(NotDone::File(FileFault::of_log(fault))),
     }
@@ -155,8 +145,9 @@ fn keep_one<S: Sockets, A: Alter, O: Write, E: Write>(
     conn: &mut Connection<A>,
     alloc: Global,
     known: Option<u16>,
-    lost: &mut Vec<Source>,
+    heard: &mut Vec<Heard>,
     wanted: Wanted,
+    identity: Identity,
     counts: bool,
     output: &mut O,
     errors: &mut E,
@@ -164,10 +155,10 @@ fn keep_one<S: Sockets, A: Alter, O: Write, E: Write>(
     // What is told of a log is how its run ended, and so is the status.
     // The rows of what the run brought come to those before, under the id of this log.
     ensures told { IfOk result (IsToldBy (O.contents output.old) (O.contents output.new) wanted.source (λ end.
-        (lost.new.items ≡ lost_with lost.old.items wanted.source end.why)
+        (heard.new.items ≡ heard_with heard.old.items wanted.source identity end.why)
         × (HasCleanDisk (state A.Store conn.new) → (state A.Store conn.old).now.schema ≡ archive_schema
         → IfSome known (λ id. IsKnownAs (state A.Store conn.old).now.trees id wanted.source) →
-        KeepsSource (socket_rules S.opens S.closes S.Socket.sends S.Socket.receives S.Socket.receives_within) wanted sockets.old sockets.new (state A.Store conn.old).now (state A.Store conn.new).now end))) }
+        KeepsSource (socket_rules S.opens S.closes S.Socket.sends S.Socket.receives S.Socket.receives_within) wanted (device_of identity) sockets.old sockets.new (state A.Store conn.old).now (state A.Store conn.new).now end))) }
     // Whatever comes of it, no item and no log is lost: what is on the disk then, or is left by a
     // crash at any moment before, is what was there or has all of it.
     ensures stays { HasCleanDisk (state A.Store conn.new) → (state A.Store conn.old).now.schema ≡ archive_schema
@@ -179,7 +170,8 @@ fn keep_one<S: Sockets, A: Alter, O: Write, E: Write>(
         name,
         asking,
     } = wanted;
-    let id = id_of(conn, alloc, known, &source, name_of(&name))?;
+    let device = device_of(identity);
+    let id = id_of(conn, alloc, known, &source, name_of(&name), device)?;
     let mut count = Count::new(alloc, &source, errors, counts);
     let fetched = fetch(
         alloc,
@@ -194,63 +186,68 @@ fn keep_one<S: Sockets, A: Alter, O: Write, E: Write>(
     let end = fetched?;
     tell_anew(alloc, &source, end.began, errors)?;
     print_end(alloc, &source, &end, output)?;
-    add_lost(lost, source, end.why)?;
+    add_heard(heard, source, identity, end.why)?;
     Ok(end_status(end.why))
 }
 
-/// The number that comes next of a log that stands there, or 1.
-fn next_behind(stand: &Option<Stand>) -> u32
-    ensures { result ≡ next_behind stand.now }
+/// Keeps what is new of one log, unless there is a reason against it, which is told.
+fn keep_unless<S: Sockets, A: Alter, O: Write, E: Write>(
+    sockets: &mut S,
+    conn: &mut Connection<A>,
+    alloc: Global,
+    known: &[Log],
+    at: usize,
+    heard: &mut Vec<Heard>,
+    wanted: Wanted,
+    identity: Identity,
+    why: Option<Ending>,
+    counts: bool,
+    output: &mut O,
+    errors: &mut E,
+) -> Result<u8, NotDone>
+    ensures told { IfOk result (IsToldBy (O.contents output.old) (O.contents output.new) wanted.source (λ end.
+        (heard.new.items ≡ heard_with heard.old.items wanted.source identity end.why)
+        × (HasCleanDisk (state A.Store conn.new) → (state A.Store conn.old).now.schema ≡ archive_schema → HasLogs (state A.Store conn.old).now.trees known.now →
+        KeepsUnless (socket_rules S.opens S.closes S.Socket.sends S.Socket.receives S.Socket.receives_within) known.now wanted (device_of identity) why sockets.old sockets.new (state A.Store conn.old).now (state A.Store conn.new).now end))) }
+    ensures stays { HasCleanDisk (state A.Store conn.new) → (state A.Store conn.old).now.schema ≡ archive_schema
+        → Survives (state A.Store conn.old) (state A.Store conn.new) (HasAllOf (state A.Store conn.old).now.trees) }
+    ensures clean { HasCleanDisk (state A.Store conn.new) → HasCleanDisk (state A.Store conn.old) }
 {
-    match stand {
-        Some(stand) => number_behind(last_kept(stand).number),
-        None => 1,
+    let id = id_among(known, at, &wanted.source);
+    match why {
+        None => keep_one(
+            sockets, conn, alloc, id, heard, wanted, identity, counts, output, errors,
+        ),
+        Some(why) => pass_by(conn, alloc, id, heard, wanted.source, identity, why, output),
     }
 }
 
-/// The number that comes next of the log with this id, if it has one.
-fn next_of<A: Alter>(
+/// Keeps what is new of one log, if its device tells the instance that is on record, or none is.
+fn keep_heard<S: Sockets, A: Alter, O: Write, E: Write>(
+    sockets: &mut S,
     conn: &mut Connection<A>,
     alloc: Global,
-    id: Option<u16>,
-) -> Result<u32, NotDone>
-    ensures next { HasCleanDisk (state A.Store conn.new) → (state A.Store conn.old).now.schema ≡ archive_schema
-        → IfOk result (IsNextOf (state A.Store conn.old).now.trees id) }
-    ensures same { HasCleanDisk (state A.Store conn.new) → (state A.Store conn.old).now.schema ≡ archive_schema
-        → OnOk result ((state A.Store conn.new).now ≡ (state A.Store conn.old).now) }
-    ensures crash { (state A.Store conn.old).now.schema ≡ archive_schema → Survives (state A.Store conn.old) (state A.Store conn.new) (λ _. ⊥) }
-    ensures clean { HasCleanDisk (state A.Store conn.new) → HasCleanDisk (state A.Store conn.old) }
-{
-    let Some(id) = id else {
-        return Ok(1);
-    };
-    Ok(next_behind(&stand_of(alloc, conn, id)?))
-}
-
-/// Tells of a log that it isn't asked.
-fn pass_over<A: Alter, O: Write>(
-    conn: &mut Connection<A>,
-    alloc: Global,
-    id: Option<u16>,
-    source: &Source,
+    known: &[Log],
+    at: usize,
+    heard: &mut Vec<Heard>,
+    wanted: Wanted,
+    counts: bool,
     output: &mut O,
+    errors: &mut E,
 ) -> Result<u8, NotDone>
-    ensures told { IfOk result (IsToldBy (O.contents output.old) (O.contents output.new) source.now (λ end.
-        (end.records ≡ 0) × (end.gaps ≡ 0) × (end.why ≡ Ending.NotAsked) × (end.began ≡ Began.GoesOn)
-        × (HasCleanDisk (state A.Store conn.new) → (state A.Store conn.old).now.schema ≡ archive_schema
-        → ((state A.Store conn.new).now ≡ (state A.Store conn.old).now) × IsNextOf (state A.Store conn.old).now.trees id end.next))) }
-    ensures crash { (state A.Store conn.old).now.schema ≡ archive_schema → Survives (state A.Store conn.old) (state A.Store conn.new) (λ _. ⊥) }
+    ensures told { IfOk result (IsToldBy (O.contents output.old) (O.contents output.new) wanted.source (λ end.
+        HasCleanDisk (state A.Store conn.new) → (state A.Store conn.old).now.schema ≡ archive_schema → HasLogs (state A.Store conn.old).now.trees known.now →
+        KeepsHeard (socket_rules S.opens S.closes S.Socket.sends S.Socket.receives S.Socket.receives_within) known.now heard.old.items heard.new.items wanted sockets.old sockets.new (state A.Store conn.old).now (state A.Store conn.new).now end)) }
+    ensures stays { HasCleanDisk (state A.Store conn.new) → (state A.Store conn.old).now.schema ≡ archive_schema
+        → Survives (state A.Store conn.old) (state A.Store conn.new) (HasAllOf (state A.Store conn.old).now.trees) }
     ensures clean { HasCleanDisk (state A.Store conn.new) → HasCleanDisk (state A.Store conn.old) }
 {
-    let end = End {
-        records: 0,
-        gaps: 0,
-        why: Ending::NotAsked,
-        next: next_of(conn, alloc, id)?,
-        began: Began::GoesOn,
-    };
-    print_end(alloc, source, &end, output)?;
-    Ok(end_status(end.why))
+    let identity = identity_of(sockets, heard.as_slice(), &wanted)?;
+    let on_record = device_on_record(known, at, &wanted.source);
+    let why = hindrance(on_record, identity);
+    keep_unless(
+        sockets, conn, alloc, known, at, heard, wanted, identity, why, counts, output, errors,
+    )
 }
 
 /// Keeps what is new of one log, or tells that it isn't asked, if its device gave no answer before.
@@ -260,26 +257,25 @@ fn keep_next<S: Sockets, A: Alter, O: Write, E: Write>(
     alloc: Global,
     known: &[Log],
     at: usize,
-    lost: &mut Vec<Source>,
+    heard: &mut Vec<Heard>,
     wanted: Wanted,
     counts: bool,
     output: &mut O,
     errors: &mut E,
 ) -> Result<u8, NotDone>
     ensures told { IfOk result (IsToldBy (O.contents output.old) (O.contents output.new) wanted.source (λ end.
-        (lost.new.items ≡ lost_with lost.old.items wanted.source end.why)
-        × (HasCleanDisk (state A.Store conn.new) → (state A.Store conn.old).now.schema ≡ archive_schema → HasLogs (state A.Store conn.old).now.trees known.now →
-        KeepsNext (socket_rules S.opens S.closes S.Socket.sends S.Socket.receives S.Socket.receives_within) known.now lost.old.items wanted sockets.old sockets.new (state A.Store conn.old).now (state A.Store conn.new).now end))) }
+        HasCleanDisk (state A.Store conn.new) → (state A.Store conn.old).now.schema ≡ archive_schema → HasLogs (state A.Store conn.old).now.trees known.now →
+        KeepsNext (socket_rules S.opens S.closes S.Socket.sends S.Socket.receives S.Socket.receives_within) known.now heard.old.items heard.new.items wanted sockets.old sockets.new (state A.Store conn.old).now (state A.Store conn.new).now end)) }
     ensures stays { HasCleanDisk (state A.Store conn.new) → (state A.Store conn.old).now.schema ≡ archive_schema
         → Survives (state A.Store conn.old) (state A.Store conn.new) (HasAllOf (state A.Store conn.old).now.trees) }
     ensures clean { HasCleanDisk (state A.Store conn.new) → HasCleanDisk (state A.Store conn.old) }
 {
-    let id = id_among(known, at, &wanted.source);
-    if is_silent(lost.as_slice(), &wanted.source) {
-        return pass_over(conn, alloc, id, &wanted.source, output);
+    if is_silent(heard.as_slice(), &wanted.source) {
+        let id = id_among(known, at, &wanted.source);
+        return pass_over(conn, alloc, id, &wanted.source, Ending::NotAsked, output);
     }
-    keep_one(
-        sockets, conn, alloc, id, lost, wanted, counts, output, errors,
+    keep_heard(
+        sockets, conn, alloc, known, at, heard, wanted, counts, output, errors,
     )
 }
 
@@ -296,17 +292,17 @@ fn keep_known<S: Sockets, A: Alter, O: Write, E: Write>(
 ) -> Result<u8, NotDone>
     ensures told { IfOk result (AreToldBy (O.contents output.old) (O.contents output.new) all.items (λ ends.
         HasCleanDisk (state A.Store conn.new) → (state A.Store conn.old).now.schema ≡ archive_schema → HasLogs (state A.Store conn.old).now.trees known.now →
-        KeepsAll (socket_rules S.opens S.closes S.Socket.sends S.Socket.receives S.Socket.receives_within) known.now [] all.items sockets.old sockets.new (state A.Store conn.old).now (state A.Store conn.new).now ends)) }
+        (last : List HeardOf) × KeepsAll (socket_rules S.opens S.closes S.Socket.sends S.Socket.receives S.Socket.receives_within) known.now [] last all.items sockets.old sockets.new (state A.Store conn.old).now (state A.Store conn.new).now ends)) }
     ensures stays { HasCleanDisk (state A.Store conn.new) → (state A.Store conn.old).now.schema ≡ archive_schema → HasLogs (state A.Store conn.old).now.trees known.now
         → Survives (state A.Store conn.old) (state A.Store conn.new) (HasAllOf (state A.Store conn.old).now.trees) }
     ensures clean { HasCleanDisk (state A.Store conn.new) → HasCleanDisk (state A.Store conn.old) }
 {
-    let mut lost = Vec::new(alloc);
+    let mut heard = Vec::new(alloc);
     let mut greatest = 0u8;
     let mut at = 0usize;
     for wanted in all {
         let status = keep_next(
-            sockets, conn, alloc, known, at, &mut lost, wanted, counts, output, errors,
+            sockets, conn, alloc, known, at, &mut heard, wanted, counts, output, errors,
         )?;
         greatest = greatest.max(status);
         at = at.saturating_add(1);
@@ -315,7 +311,8 @@ fn keep_known<S: Sockets, A: Alter, O: Write, E: Write>(
 }
 
 /// Keeps what is new of each of these logs in an archive; answers the greatest of their statuses. A
-/// device of which a log was lost isn't asked for its other logs. If it counts, the errors have the
+/// device is asked for its instance once; one that tells another than the one on record isn't asked
+/// for its logs, nor is one that gave no answer before. If it counts, the errors have the
 /// number of a log's records while it is fetched: for a terminal.
 pub fn keep_each<S: Sockets, A: Alter, O: Write, E: Write>(
     sockets: &mut S,
@@ -327,7 +324,8 @@ pub fn keep_each<S: Sockets, A: Alter, O: Write, E: Write>(
     errors: &mut E,
 ) -> Result<u8, NotDone>
     // A line tells each log, in their order; each is kept in the archive that the one before left,
-    // or isn't asked, if its device gave no answer before.
+    // if its device tells the instance that is on record, or none is; or it isn't asked, if its device
+    // gave no answer before.
     ensures told { IfOk result (AreToldBy (O.contents output.old) (O.contents output.new) all.items (λ ends.
         HasCleanDisk (state A.Store conn.new) → (state A.Store conn.old).now.schema ≡ archive_schema →
         KeepsLogs (socket_rules S.opens S.closes S.Socket.sends S.Socket.receives S.Socket.receives_within) all.items sockets.old sockets.new (state A.Store conn.old).now (state A.Store conn.new).now ends)) }

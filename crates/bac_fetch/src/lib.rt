@@ -8,9 +8,11 @@ mod either;
 mod fetching;
 mod hands;
 mod keeping;
+mod passing;
 mod questions;
 mod silent;
 mod stands;
 mod starting;
+mod whose;
 
 pub use keeping::{Chosen, keep_chosen, keep_each};

@@ -1,8 +1,8 @@
 //! Single questions to a device.
 
-ghost use Rattle.std.specs.Prelude.{◌≡◌, Err, ◌<◌, ◌^◌, ℕ, IfOk, IfSome, IsNone, IsSomeAnd, OnOk};
+ghost use Rattle.std.specs.Prelude.{◌≡◌, Err, ◌<◌, ◌^◌, ℕ, IfOk, IfSome, IsNone, IsSomeAnd, List, OnOk};
 ghost use Rattle.bac_wire.specs.OptionChain.{GivesSome};
-ghost use Rattle.bac_wire.specs.Primitive.{Chars, Primitive, Unsigned};
+ghost use Rattle.bac_wire.specs.Primitive.{Chars, Id, Primitive, Unsigned};
 ghost use Rattle.bac_wire.specs.View.{view};
 ghost use Rattle.bac_wire.specs.Spelling.{Spells};
 ghost use Rattle.bac_link.specs.Datagrams.{apdu_in};
@@ -54,9 +54,10 @@ fn value_in(answer: &Datagram) -> Option<Value<'_>>
     only_value(values_in(answer)?)
 }
 
-/// The octets of the text in character set 0, UTF-8, that an answer has.
-pub(crate) fn text_in(answer: &Datagram) -> Option<&[u8]>
-    ensures { IfSome result (λ octets. Tells answer.now (Chars 0 octets.now)) }
+/// The character set and the octets of the text that an answer has.
+pub(crate) fn text_in(answer: &Datagram) -> Option<(u8, &[u8])>
+    ensures found { IfSome result (λ it. Tells answer.now (Chars it.0 it.1.now)) }
+    ensures none { IsNone result → (set : ℕ) (octets : List ℕ) → Tells answer.now (Chars set octets) → ⊥ }
 {
     let Some(value) = value_in(answer) else {
         return None;
@@ -64,7 +65,7 @@ pub(crate) fn text_in(answer: &Datagram) -> Option<&[u8]>
     let Value::Chars { set, octets } = value else {
         return None;
     };
-    if set == 0 { Some(octets) } else { None }
+    Some((set, octets))
 }
 
 /// Reads a property.
@@ -166,13 +167,15 @@ pub(crate) fn read_number<L: LogLink>(
 /// The object that an answer names (clause 20.2.14). It is taken from its octets, since this
 /// toolchain doesn't prove a function that takes it from a `Value`.
 pub(crate) fn object_in(answer: &Datagram) -> Option<ObjectId>
-    ensures { IfSome result (λ object. TellsObject answer.now object) }
+    ensures found { IfSome result (λ object. TellsObject answer.now object) }
+    ensures none { IsNone result → (object : Id) → TellsObject answer.now object → ⊥ }
 {
     object_of(values_in(answer)?)
 }
 
 fn object_of(values: &[u8]) -> Option<ObjectId>
-    ensures { IfSome result (λ object. IsObject object values.now) }
+    ensures found { IfSome result (λ object. IsObject object values.now) }
+    ensures none { IsNone result → (object : Id) → IsObject object values.now → ⊥ }
 {
     let [0xc4, a, b, c, d] = values else {
         return None;

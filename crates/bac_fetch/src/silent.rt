@@ -1,51 +1,26 @@
-//! Which devices gave no answer in a run over logs, and which logs the archive had as it began.
+//! Which logs an archive had as a run began, and which of them are of one device.
 
-ghost use Rattle.std.specs.Prelude.{◌≡◌, IfSome, OnOk, Some};
-ghost use Rattle.bac_fetch.specs.Silent.{IsIdAmong, is_lost, is_same_device, is_silent, lost_with};
+ghost use Rattle.std.specs.Prelude.{◌≡◌, IfSome, Some};
+ghost use Rattle.bac_fetch.specs.Silent.{IsIdAmong, is_lost, is_same_device};
 
 use bac_archive::{Log, Source};
-use bac_asked::{Ending, Fault, NotDone};
+use bac_asked::Ending;
 use bac_walk::{WalkFault, Why};
 
 /// Whether two logs are of one device.
-fn is_same_device(one: &Source, other: &Source) -> bool
+pub(crate) fn is_same_device(one: &Source, other: &Source) -> bool
     ensures { result ≡ is_same_device one.now other.now }
 {
     one.address == other.address && one.dnet == other.dnet && one.dadr == other.dadr
 }
 
-/// Whether the device of a log gave no answer when another of its logs was asked for.
-pub(crate) fn is_silent(lost: &[Source], source: &Source) -> bool
-    ensures { result ≡ is_silent lost.now source.now }
-{
-    for one in lost {
-        if is_same_device(one, source) {
-            return true;
-        }
-    }
-    false
-}
-
 /// Whether a run over a log ended since no answer came.
-fn is_lost(why: Ending) -> bool
+pub(crate) fn is_lost(why: Ending) -> bool
     ensures { result ≡ is_lost why }
 {
     match why {
         Ending::Walk(Why::Fault(WalkFault::Lost)) => true,
         _ => false,
-    }
-}
-
-/// Puts a log behind those that were lost, if it was.
-pub(crate) fn add_lost(lost: &mut Vec<Source>, source: Source, why: Ending) -> Result<(), NotDone>
-    ensures { OnOk result (lost.new.items ≡ lost_with lost.old.items source why) }
-{
-    if !is_lost(why) {
-        return Ok(());
-    }
-    match lost.push(source) {
-        Ok(()) => Ok(()),
-        Err(_) => Err(NotDone::Asking(Fault::Memory)),
     }
 }
 

@@ -15,7 +15,7 @@ use Rattle.bac_kept.specs.declared.printing.Shown.{Shown}
 
 -- the first row
 abbrev pub names : List (List ℕ)
-names = codes "address" ∷ codes "trend_log" ∷ codes "name" ∷ codes "epoch" ∷ codes "number" ∷ codes "stamp"
+names = codes "address" ∷ codes "device" ∷ codes "trend_log" ∷ codes "name" ∷ codes "epoch" ∷ codes "number" ∷ codes "stamp"
     ∷ codes "value" ∷ codes "datum" ∷ codes "flags" ∷ []
 
 -- in place of the datum of a gap its first number and its last
@@ -33,9 +33,14 @@ abbrev pub IsValueText : Option Float → List ℕ → Type 0
 IsValueText None text = text ≡ []
 IsValueText (Some value) text = parse_float binary64 text ≡ Some value
 
+-- the instance of a log's device, or nothing
+abbrev pub device_text : Option ℕ → List ℕ
+device_text None = []
+device_text (Some device) = decimal device
+
 -- the fields of an item, behind those of its log, with the text of its value
-abbrev pub item_fields : List ℕ → List ℕ → List ℕ → Item → List ℕ → List (List ℕ)
-item_fields address instance name item value = address ∷ instance ∷ name ∷ decimal item.epoch ∷ decimal item.number
+abbrev pub item_fields : List ℕ → List ℕ → List ℕ → List ℕ → Item → List ℕ → List (List ℕ)
+item_fields address device instance name item value = address ∷ device ∷ instance ∷ name ∷ decimal item.epoch ∷ decimal item.number
     ∷ item.stamp.now ∷ value ∷ datum_field item.number item.last item.datum.now ∷ item.flags.now ∷ []
 
 -- the name of a log, or nothing
@@ -46,13 +51,15 @@ name_text (Some name) = string_bytes name
 -- the texts of a log that stand in each of its rows
 abbrev pub AreFieldsOf : Log → Fields → Type 0
 AreFieldsOf log fields =
-    (fields.address.items ≡ place_text log.source) × (fields.instance.items ≡ decimal log.source.instance)
+    (fields.address.items ≡ place_text log.source) × (fields.device.items ≡ device_text log.told.device)
+    × (fields.instance.items ≡ decimal log.source.instance)
 
 -- the text of the row of an item: the fields of what it says, quoted as RFC 4180 quotes them, and a line feed
 abbrev pub IsRowText : Log → Values → List ℕ → Type 0
 IsRowText log row text = (item : Item) × IsItem row item × (value : List ℕ) × IsValueText item.value value
     × (text ≡ row_text default_writer
-    (item_fields (place_text log.source) (decimal log.source.instance) (name_text log.name) item value))
+    (item_fields (place_text log.source) (device_text log.told.device) (decimal log.source.instance) (name_text log.name)
+    item value))
 
 -- the text of rows, one after the other
 abbrev pub AreRowTexts : Log → List Values → List ℕ → Type 0

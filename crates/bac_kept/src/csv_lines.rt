@@ -1,13 +1,13 @@
 //! What is kept of logs, as CSV (RFC 4180).
 
-ghost use Rattle.std.specs.Prelude.{◌≡◌, ◌∷◌, [], decimal, map, IfOk, OnOk, List};
+ghost use Rattle.std.specs.Prelude.{◌≡◌, ◌∷◌, ◌++◌, [], decimal, map, IfOk, OnOk, List};
 ghost use Rattle.std.specs.Io.KnownBytes.{Appends};
 ghost use Rattle.csv.specs.Writing.{default_writer, row_text};
 ghost use Rattle.sqlite.specs.State.{HasCleanDisk, IsUnchanged};
 ghost use Rattle.sqlite.specs.Held.{state};
 ghost use Rattle.bac_archive.specs.Rows.{kept};
 ghost use Rattle.bac_archive.specs.Schema.{archive_schema};
-ghost use Rattle.bac_kept.specs.Csv.{AreFieldsOf, IsRowText, IsValueText, WritesItems, gap_text, item_fields, name_text, names};
+ghost use Rattle.bac_kept.specs.Csv.{AreFieldsOf, IsRowText, IsValueText, WritesItems, device_text, gap_text, item_fields, name_text, names};
 ghost use Rattle.bac_asked.specs.Lines.{place_text};
 
 use bac_archive::{Item, Log, items_of, read_item};
@@ -19,8 +19,9 @@ use std::alloc::{AllocError, Global};
 use std::io::Write;
 
 /// The first row.
-const NAMES: [&[u8]; 9] = [
+const NAMES: [&[u8]; 10] = [
     b"address",
+    b"device",
     b"trend_log",
     b"name",
     b"epoch",
@@ -35,6 +36,7 @@ const NAMES: [&[u8]; 9] = [
 #[derive(Drop)]
 pub(crate) struct Fields {
     address: Vec<u8>,
+    device: Vec<u8>,
     instance: Vec<u8>,
     epoch: Vec<u8>,
     number: Vec<u8>,
@@ -46,14 +48,18 @@ impl Fields {
     /// The fields of a log, without an item.
     pub(crate) fn of(alloc: Global, log: &Log) -> Result<Fields, AllocError>
         ensures address { IfOk result (λ fields. fields.address.items ≡ place_text log.now.source) }
+        ensures device { IfOk result (λ fields. fields.device.items ≡ device_text log.now.told.device) }
         ensures instance { IfOk result (λ fields. fields.instance.items ≡ decimal log.now.source.instance) }
     {
         let mut address = Vec::new(alloc);
         push_address(&mut address, &log.source)?;
+        let mut device = Vec::new(alloc);
+        push_device(&mut device, log.told.device)?;
         let mut instance = Vec::new(alloc);
         push_number(&mut instance, u64::from(log.source.instance))?;
         Ok(Fields {
             address,
+            device,
             instance,
             epoch: Vec::new(alloc),
             number: Vec::new(alloc),
@@ -64,7 +70,7 @@ impl Fields {
 
     /// Takes an item.
     fn take(&mut self, item: &Item<'_>) -> Result<(), AllocError>
-        ensures log { (self.new.address ≡ self.old.address) × (self.new.instance ≡ self.old.instance) }
+        ensures log { (self.new.address ≡ self.old.address) × (self.new.device ≡ self.old.device) × (self.new.instance ≡ self.old.instance) }
         ensures epoch { OnOk result (self.new.epoch.items ≡ decimal item.now.epoch) }
         ensures number { OnOk result (self.new.number.items ≡ decimal item.now.number) }
         ensures value { OnOk result (IsValueText item.now.value self.new.value.items) }
@@ -74,6 +80,16 @@ impl Fields {
         renew_number(&mut self.number, u64::from(item.number))?;
         renew_value(&mut self.value, item.value)?;
         renew_gap(&mut self.gap, item.number, item.last)
+    }
+}
+
+/// Appends the instance of a device, if it told one.
+fn push_device(text: &mut Vec<u8>, device: Option<u32>) -> Result<(), AllocError>
+    ensures { OnOk result (text.new.items ≡ text.old.items ++ device_text device) }
+{
+    match device {
+        Some(device) => push_number(text, u64::from(device)),
+        None => Ok(()),
     }
 }
 
@@ -151,9 +167,9 @@ fn item_row(
     name: &[u8],
     item: &Item<'_>,
 ) -> Result<Vec<u8>, NotDone>
-    ensures log { (fields.new.address ≡ fields.old.address) × (fields.new.instance ≡ fields.old.instance) }
+    ensures log { (fields.new.address ≡ fields.old.address) × (fields.new.device ≡ fields.old.device) × (fields.new.instance ≡ fields.old.instance) }
     ensures text { IfOk result (λ text. (value : List _) × IsValueText item.now.value value
-        × (text.items ≡ row_text default_writer (item_fields fields.old.address.items fields.old.instance.items name.now item.now value))) }
+        × (text.items ≡ row_text default_writer (item_fields fields.old.address.items fields.old.device.items fields.old.instance.items name.now item.now value))) }
 {
     if fields.take(item).is_err() {
         return Err(NotDone::Asking(Fault::Memory));
@@ -175,13 +191,14 @@ fn fields_row<'a>(
     datum: &'a [u8],
     flags: &'a [u8],
 ) -> Result<Vec<u8>, NotDone>
-    ensures { IfOk result (λ text. text.items ≡ row_text default_writer (fields.now.address.items ∷ fields.now.instance.items ∷ name.now ∷ fields.now.epoch.items ∷ fields.now.number.items
+    ensures { IfOk result (λ text. text.items ≡ row_text default_writer (fields.now.address.items ∷ fields.now.device.items ∷ fields.now.instance.items ∷ name.now ∷ fields.now.epoch.items ∷ fields.now.number.items
         ∷ stamp.now ∷ fields.now.value.items ∷ datum.now ∷ flags.now ∷ [])) }
 {
     row_of(
         text,
         &[
             fields.address.as_slice(),
+            fields.device.as_slice(),
             fields.instance.as_slice(),
             name,
             fields.epoch.as_slice(),

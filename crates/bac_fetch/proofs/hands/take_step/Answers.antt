@@ -1,4 +1,4 @@
-use Rattle.std.proofs.Common.{◌≡◌, subst}
+use Rattle.std.proofs.Common.{subst}
 use Rattle.bac_link.specs.Path.{towards}
 use Rattle.bac_walk.specs.Came.{Brought}
 use Rattle.bac_walk.specs.declared.outcome.Ended.{Ended}

@@ -34,7 +34,8 @@ returns-clause-told g c =
           let are : AreLogs old.now.trees known = subst (AreLogs old.now.trees) (sym c.as_slice.ensures.value) (c.in-Ok.ensures.logs early has) in
           let still = subst (λ (d : Database). HasLogs d.trees known) (sym same) (read_logs old.now.trees known are) in
           let schema : mid.now.schema ≡ archive_schema = ap (λ (d : Database). d.schema) same ∙ has in
-          (known, are, subst (λ (d : Database). KeepsAll over known [] all before after d new.now told.0) same (told.4 clean schema still)),
+          let it = told.4 clean schema still in
+          (known, are, it.0, subst (λ (d : Database). KeepsAll over known [] it.0 all before after d new.now told.0) same it.1),
     ))
     c.keep_known.ensures.told
 

@@ -1,17 +1,17 @@
-use Rattle.std.proofs.Common.{rules, ◌≡◌, ◌++◌, ◌∷◌, List, [], refl, ap, ap₂, max, subst, sym, ◌∙◌}
+use Rattle.std.proofs.Common.{rules, ◌≡◌, ◌++◌, ◌∷◌, List, [], refl, ap₂, max, subst, sym, ◌∙◌}
 use Rattle.std.proofs.IntoIterSteps.{All-taken}
 use Rattle.std.proofs.KnownBytes.{Appends-trans}
 use Rattle.std.specs.Io.KnownBytes.{Appends}
 use Rattle.sqlite.specs.State.{HasCleanDisk}
 use Rattle.sqlite.specs.Held.{state}
 use Rattle.bac_archive.specs.Schema.{archive_schema}
-use Rattle.bac_archive.specs.declared.trend_logs.Source.{Source}
+use Rattle.bac_fetch.specs.declared.whose.Heard.{Heard}
 use Rattle.bac_ports.specs.Sockets.{socket_rules}
-use Rattle.bac_fetch.specs.Keeps.{AreToldBy, KeepsAll, KeepsNext, lines_of}
-use Rattle.bac_fetch.specs.Silent.{HasLogs, lost_with}
+use Rattle.bac_fetch.specs.Keeps.{AreToldBy, KeepsAll, lines_of}
+use Rattle.bac_fetch.specs.Silent.{HasLogs}
 use Rattle.bac_asked.specs.Lines.{summary_line}
 use Rattle.bac_fetch.proofs.KeepsLemmas.{all_schema, greatest_more, length_more, lines_more, one_more}
-use Rattle.bac_fetch.proofs.SilentLemmas.{logs_stay, lost_more}
+use Rattle.bac_fetch.proofs.SilentLemmas.{logs_stay}
 use Rattle.bac_fetch.proofs.StaysLemmas.{all_itself, all_then, itself_stays, next_stays, stays_then}
 use Rattle.bac_fetch.proofs.keeping.keep_known.Goals as goal
 
@@ -22,7 +22,8 @@ loop-wanted-preserved g c =
     let wanted = c.in-Some.wanted in
     let over = socket_rules g.S.Sockets.opens g.S.Sockets.closes g.S.Socket.Port.sends g.S.Socket.Port.receives g.S.Socket.Port.receives_within in
     let known = c.args.known.now in
-    let lost = c.loop-wanted.lost.items in
+    let heard = c.loop-wanted.heard.items in
+    let more = c.keep_next.new.heard.items in
     let before = c.args.sockets.now in
     let half = c.loop-wanted.sockets in
     let after = c.keep_next.new.sockets in
@@ -37,25 +38,21 @@ loop-wanted-preserved g c =
         c.max-greatest.ensures ∙ ap₂ max was.2 it.1 ∙ sym (greatest_more was.0 it.0),
         subst (Appends (g.O.Write.contents c.args.output.now) (g.O.Write.contents c.keep_next.new.output)) (sym (lines_more yielded wanted was.0 it.0 was.1))
             (Appends-trans _ (g.O.Write.contents c.loop-wanted.output) _ (lines_of yielded was.0) (summary_line wanted.source it.0) was.3 it.2),
-        (
-          it.3.0 ∙ ap (λ (l : List Source). lost_with l wanted.source it.0.why) was.4.0 ∙ sym (lost_more [] yielded was.0 wanted it.0 was.1),
-          λ clean has are.
-              let early : HasCleanDisk mid = c.keep_next.ensures.clean clean in
-              let kept = was.4.1 early has are in
-              let schema = all_schema over known [] yielded before half old.now mid.now was.0 kept has in
-              let still = logs_stay old.now.trees mid.now.trees known (c.loop-wanted.invariant.stays early has are).0 are in
-              one_more over known [] yielded wanted before half after old.now mid.now new.now was.0 it.0 kept
-              (subst (λ (l : List Source). KeepsNext over known l wanted half after mid.now new.now it.0) was.4.0 (it.3.1 clean schema still)),
-        ),
+        λ clean has are.
+            let early : HasCleanDisk mid = c.keep_next.ensures.clean clean in
+            let kept = was.4 early has are in
+            let schema = all_schema over known [] heard yielded before half old.now mid.now was.0 kept has in
+            let still = logs_stay old.now.trees mid.now.trees known (c.loop-wanted.invariant.stays early has are).0 are in
+            one_more over known [] heard more yielded wanted before half after old.now mid.now new.now was.0 it.0 kept (it.3 clean schema still),
       );
       clean = λ late. c.loop-wanted.invariant.clean (c.keep_next.ensures.clean late);
       stays = λ clean has are.
           let early : HasCleanDisk mid = c.keep_next.ensures.clean clean in
-          let kept = was.4.1 early has are in
-          let schema = all_schema over known [] yielded before half old.now mid.now was.0 kept has in
+          let kept = was.4 early has are in
+          let schema = all_schema over known [] heard yielded before half old.now mid.now was.0 kept has in
           let stays = c.loop-wanted.invariant.stays early has are in
           let still = logs_stay old.now.trees mid.now.trees known stays.0 are in (
-            all_then old.now.trees mid.now.trees new.now.trees stays.0 (next_stays over known lost wanted half after mid.now new.now it.0 (it.3.1 clean schema still)),
+            all_then old.now.trees mid.now.trees new.now.trees stays.0 (next_stays over known heard more wanted half after mid.now new.now it.0 (it.3 clean schema still)),
             stays_then old mid new stays.0 stays.1 (c.keep_next.ensures.stays clean schema),
           );
     }
@@ -64,9 +61,9 @@ pub loop-wanted-init : goal.loop-wanted-init
 loop-wanted-init g c =
     let old = state g.A.Store c.args.conn.now in
     let quiet : Appends (g.O.Write.contents c.args.output.now) (g.O.Write.contents c.args.output.now) [] = search rules in
-    let none : c.new-lost.result.items ≡ [] = search rules in
+    let none : c.new-heard.result.items ≡ [] = search rules in
     record {
-      told = ([], refl, refl, quiet, (none, λ clean has are. (refl, refl)));
+      told = ([], refl, refl, quiet, (λ clean has are. (refl, refl, none)));
       clean = λ clean. clean;
       stays = λ clean has are. (all_itself old.now.trees, itself_stays old);
     }
@@ -80,8 +77,8 @@ returns-clause-told g c =
     subst (λ l. AreToldBy (g.O.Write.contents c.args.output.now) (g.O.Write.contents c.loop-wanted.output) l
     (λ ends. HasCleanDisk (state g.A.Store c.loop-wanted.conn) → (state g.A.Store c.args.conn.now).now.schema ≡ archive_schema →
     HasLogs (state g.A.Store c.args.conn.now).now.trees c.args.known.now →
-    KeepsAll (socket_rules g.S.Sockets.opens g.S.Sockets.closes g.S.Socket.Port.sends g.S.Socket.Port.receives g.S.Socket.Port.receives_within) c.args.known.now [] l c.args.sockets.now c.loop-wanted.sockets (state g.A.Store c.args.conn.now).now (state g.A.Store c.loop-wanted.conn).now ends) c.loop-wanted.greatest) all
-    (told.0, told.1, told.2, told.3, told.4.1)
+    (last : List Heard) × KeepsAll (socket_rules g.S.Sockets.opens g.S.Sockets.closes g.S.Socket.Port.sends g.S.Socket.Port.receives g.S.Socket.Port.receives_within) c.args.known.now [] last l c.args.sockets.now c.loop-wanted.sockets (state g.A.Store c.args.conn.now).now (state g.A.Store c.loop-wanted.conn).now ends) c.loop-wanted.greatest) all
+    (told.0, told.1, told.2, told.3, λ clean has are. (c.loop-wanted.heard.items, told.4 clean has are))
 
 pub returns-in_err-status-clause-stays : goal.returns-in_err-status-clause-stays
 returns-in_err-status-clause-stays g c clean has are =
@@ -91,6 +88,6 @@ returns-in_err-status-clause-stays g c clean has are =
     let mid = state g.A.Store c.loop-wanted.conn in
     let early : HasCleanDisk mid = c.keep_next.ensures.clean clean in
     let was = c.loop-wanted.invariant.told in
-    let schema = all_schema over c.args.known.now [] yielded c.args.sockets.now c.loop-wanted.sockets old.now mid.now was.0 (was.4.1 early has are) has in
+    let schema = all_schema over c.args.known.now [] c.loop-wanted.heard.items yielded c.args.sockets.now c.loop-wanted.sockets old.now mid.now was.0 (was.4 early has are) has in
     let stays = c.loop-wanted.invariant.stays early has are in
     stays_then old mid (state g.A.Store c.keep_next.new.conn) stays.0 stays.1 (c.keep_next.ensures.stays clean schema)

@@ -2,9 +2,9 @@ use Rattle.std.proofs.Common.{◌≡◌, ◌∙◌, MatchBool, true, false, refl
 use Rattle.std.proofs.lemmas.Result.{IfOk-weaker}
 use Rattle.sqlite.specs.Held.{state}
 use Rattle.bac_ports.specs.Sockets.{socket_rules}
-use Rattle.bac_fetch.specs.Keeps.{KeepsSource, PassesOver}
-use Rattle.bac_fetch.specs.Silent.{is_silent}
-use Rattle.bac_fetch.proofs.SilentLemmas.{known_among, not_lost}
+use Rattle.bac_asked.specs.declared.end.Ending.TheVariants.{NotAsked}
+use Rattle.bac_fetch.specs.Keeps.{KeepsHeard, PassesOver}
+use Rattle.bac_fetch.specs.Whose.{is_silent}
 use Rattle.bac_fetch.proofs.StaysLemmas.{quiet_stays}
 use Rattle.bac_fetch.proofs.keeping.keep_next.Goals as goal
 
@@ -13,7 +13,8 @@ returns-then-is_silent-clause-told g c =
     let over = socket_rules g.S.Sockets.opens g.S.Sockets.closes g.S.Socket.Port.sends g.S.Socket.Port.receives g.S.Socket.Port.receives_within in
     let wanted = c.args.wanted in
     let known = c.args.known.now in
-    let lost = c.args.lost.now.items in
+    let heard = c.args.heard.now.items in
+    let before = c.args.sockets.now in
     let old = state g.A.Store c.args.conn.now in
     let new = state g.A.Store c.pass_over.new.conn in
     IfOk-weaker c.pass_over.result _ _
@@ -21,15 +22,12 @@ returns-then-is_silent-clause-told g c =
       told.0,
       told.1,
       told.2,
-      (
-        not_lost lost wanted.source told.0.why told.3.2,
-        λ clean has are.
-            let it = told.3.4 clean has in
-            let silent : is_silent lost wanted.source ≡ true = rw c.as_slice.ensures.value at (sym c.is_silent.ensures ∙ c.if-is_silent.true) in
-            subst (λ b. MatchBool b (PassesOver known wanted c.args.sockets.now c.args.sockets.now old.now new.now told.0) (KeepsSource over wanted c.args.sockets.now c.args.sockets.now old.now new.now told.0))
-            (sym silent)
-            (it.0, refl, (told.3.0, told.3.1, told.3.2, told.3.3, c.id_among-id.result, c.id_among-id.ensures, it.1)),
-      ),
+      λ clean has are.
+          let it = told.3.4 clean has in
+          let silent : is_silent heard wanted.source ≡ true = rw c.as_slice.ensures.value at (sym c.is_silent.ensures ∙ c.if-is_silent.true) in
+          subst (λ b. MatchBool b (PassesOver known wanted NotAsked before before old.now new.now told.0 × (heard ≡ heard)) (KeepsHeard over known heard heard wanted before before old.now new.now told.0))
+          (sym silent)
+          ((it.0, refl, (told.3.0, told.3.1, told.3.2, told.3.3, c.id_among-id.result, c.id_among-id.ensures, it.1)), refl),
     ))
     c.pass_over.ensures.told
 
@@ -41,22 +39,21 @@ returns-clause-told g c =
     let over = socket_rules g.S.Sockets.opens g.S.Sockets.closes g.S.Socket.Port.sends g.S.Socket.Port.receives g.S.Socket.Port.receives_within in
     let wanted = c.args.wanted in
     let known = c.args.known.now in
-    let lost = c.args.lost.now.items in
+    let heard = c.args.heard.now.items in
+    let more = c.keep_heard.new.heard.items in
+    let before = c.args.sockets.now in
+    let after = c.keep_heard.new.sockets in
     let old = state g.A.Store c.args.conn.now in
-    let new = state g.A.Store c.keep_one.new.conn in
-    let after = c.keep_one.new.sockets in
-    IfOk-weaker c.keep_one.result _ _
+    let new = state g.A.Store c.keep_heard.new.conn in
+    IfOk-weaker c.keep_heard.result _ _
     (λ status told. (
       told.0,
       told.1,
       told.2,
-      (
-        told.3.0,
-        λ clean has are.
-            let heard : is_silent lost wanted.source ≡ false = rw c.as_slice.ensures.value at (sym c.is_silent.ensures ∙ c.if-is_silent.false) in
-            subst (λ b. MatchBool b (PassesOver known wanted c.args.sockets.now after old.now new.now told.0) (KeepsSource over wanted c.args.sockets.now after old.now new.now told.0))
-            (sym heard)
-            (told.3.1 clean has (known_among old.now.trees known wanted.source c.id_among-id.result are c.id_among-id.ensures)),
-      ),
+      λ clean has are.
+          let spoke : is_silent heard wanted.source ≡ false = rw c.as_slice.ensures.value at (sym c.is_silent.ensures ∙ c.if-is_silent.false) in
+          subst (λ b. MatchBool b (PassesOver known wanted NotAsked before after old.now new.now told.0 × (more ≡ heard)) (KeepsHeard over known heard more wanted before after old.now new.now told.0))
+          (sym spoke)
+          (told.3 clean has are),
     ))
-    c.keep_one.ensures.told
+    c.keep_heard.ensures.told

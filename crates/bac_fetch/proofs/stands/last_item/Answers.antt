@@ -1,4 +1,3 @@
-use Rattle.std.proofs.Common.{◌≡◌}
 use Rattle.sqlite.specs.Held.{state}
 use Rattle.bac_fetch.proofs.StaysLemmas.{quiet_then}
 use Rattle.bac_fetch.proofs.stands.last_item.Goals as goal

@@ -1,4 +1,4 @@
-use Rattle.std.proofs.Common.{◌≡◌, Result, Err, refl, sym, subst}
+use Rattle.std.proofs.Common.{Result, Err, refl, sym, subst}
 use Rattle.bac_link.specs.Path.{towards}
 use Rattle.bac_walk.specs.declared.outcome.Step.{Step}
 use Rattle.bac_walk.specs.declared.outcome.WalkFault.{WalkFault}

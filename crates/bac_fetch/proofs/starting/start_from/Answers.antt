@@ -1,6 +1,6 @@
-use Rattle.std.proofs.Common.{◌≡◌, ◌∙◌, ℕ, inr, ap, subst}
+use Rattle.std.proofs.Common.{ℕ, inr, subst}
 use Rattle.std.proofs.lemmas.Result.{IfOk-weaker}
-use Rattle.bac_link.specs.Path.{Path, towards}
+use Rattle.bac_link.specs.Path.{towards}
 use Rattle.bac_fetch.specs.Hands.{Steps}
 use Rattle.bac_walk.specs.Place.{WalkPlace, walk_at}
 use Rattle.bac_fetch.specs.Starts.{ByHand, next_from}

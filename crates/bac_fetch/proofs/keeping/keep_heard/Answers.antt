@@ -1,0 +1,36 @@
+use Rattle.std.proofs.Common.{subst}
+use Rattle.std.specs.Prelude.{Option}
+use Rattle.std.proofs.lemmas.Result.{IfOk-weaker}
+use Rattle.sqlite.specs.Held.{state}
+use Rattle.bac_ports.specs.Sockets.{socket_rules}
+use Rattle.bac_asked.specs.declared.end.Ending.{Ending}
+use Rattle.bac_fetch.specs.Keeps.{KeepsUnless}
+use Rattle.bac_fetch.specs.Whose.{device_of}
+use Rattle.bac_fetch.proofs.keeping.keep_heard.Goals as goal
+
+pub returns-clause-told : goal.returns-clause-told
+returns-clause-told g c =
+    let over = socket_rules g.S.Sockets.opens g.S.Sockets.closes g.S.Socket.Port.sends g.S.Socket.Port.receives g.S.Socket.Port.receives_within in
+    let wanted = c.args.wanted in
+    let known = c.args.known.now in
+    let identity = c.in_ok-identity.identity in
+    let half = c.identity_of.new.sockets in
+    let after = c.keep_unless.new.sockets in
+    let old = state g.A.Store c.args.conn.now in
+    let new = state g.A.Store c.keep_unless.new.conn in
+    IfOk-weaker c.keep_unless.result _ _
+    (λ status told. (
+      told.0,
+      told.1,
+      told.2,
+      λ clean has are. record {
+        identity = identity;
+        half = half;
+        asked = rw c.as_slice.ensures.value at c.in_ok-identity.ensures;
+        on_record = c.device_on_record-on_record.result;
+        on_record_is = c.device_on_record-on_record.ensures;
+        kept = subst (λ (w : Option Ending). KeepsUnless over known wanted (device_of identity) w half after old.now new.now told.0) c.hindrance-why.ensures (told.3.1 clean has are);
+        heard_is = told.3.0;
+      },
+    ))
+    c.keep_unless.ensures.told

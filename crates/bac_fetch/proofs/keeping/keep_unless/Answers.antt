@@ -1,0 +1,56 @@
+use Rattle.std.proofs.Common.{refl, subst, sym, Option}
+use Rattle.std.proofs.lemmas.Result.{IfOk-weaker}
+use Rattle.sqlite.specs.Held.{state}
+use Rattle.bac_ports.specs.Sockets.{socket_rules}
+use Rattle.bac_asked.specs.declared.end.Ending.{Ending}
+use Rattle.bac_fetch.specs.Keeps.{KeepsUnless}
+use Rattle.bac_fetch.specs.Whose.{device_of}
+use Rattle.bac_fetch.proofs.SilentLemmas.{known_among}
+use Rattle.bac_fetch.proofs.StaysLemmas.{quiet_stays}
+use Rattle.bac_fetch.proofs.keeping.keep_unless.Goals as goal
+
+pub returns-in-None-clause-told : goal.returns-in-None-clause-told
+returns-in-None-clause-told g c =
+    let over = socket_rules g.S.Sockets.opens g.S.Sockets.closes g.S.Socket.Port.sends g.S.Socket.Port.receives g.S.Socket.Port.receives_within in
+    let wanted = c.args.wanted in
+    let known = c.args.known.now in
+    let old = state g.A.Store c.args.conn.now in
+    let new = state g.A.Store c.keep_one.new.conn in
+    IfOk-weaker c.keep_one.result _ _
+    (λ status told. (
+      told.0,
+      told.1,
+      told.2,
+      (
+        told.3.0,
+        λ clean has are. subst (λ (w : Option Ending). KeepsUnless over known wanted (device_of c.args.identity) w c.args.sockets.now c.keep_one.new.sockets old.now new.now told.0) (sym c.in-None.is)
+            (told.3.1 clean has (known_among old.now.trees known wanted.source c.id_among-id.result are c.id_among-id.ensures)),
+      ),
+    ))
+    c.keep_one.ensures.told
+
+pub returns-in-Some-clause-told : goal.returns-in-Some-clause-told
+returns-in-Some-clause-told g c =
+    let over = socket_rules g.S.Sockets.opens g.S.Sockets.closes g.S.Socket.Port.sends g.S.Socket.Port.receives g.S.Socket.Port.receives_within in
+    let wanted = c.args.wanted in
+    let known = c.args.known.now in
+    let before = c.args.sockets.now in
+    let old = state g.A.Store c.args.conn.now in
+    let new = state g.A.Store c.pass_by.new.conn in
+    IfOk-weaker c.pass_by.result _ _
+    (λ status told. (
+      told.0,
+      told.1,
+      told.2,
+      (
+        told.3.0,
+        λ clean has are.
+            let it = told.3.5 clean has in
+            subst (λ (w : Option Ending). KeepsUnless over known wanted (device_of c.args.identity) w before before old.now new.now told.0) (sym c.in-Some.is)
+            (it.0, refl, (told.3.1, told.3.2, told.3.3, told.3.4, c.id_among-id.result, c.id_among-id.ensures, it.1)),
+      ),
+    ))
+    c.pass_by.ensures.told
+
+pub returns-in-Some-clause-stays : goal.returns-in-Some-clause-stays
+returns-in-Some-clause-stays g c clean has = quiet_stays (state g.A.Store c.args.conn.now) (state g.A.Store c.pass_by.new.conn) (c.pass_by.ensures.crash has)
