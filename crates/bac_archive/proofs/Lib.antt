@@ -10,3 +10,4 @@ pub mod FollowLemmas
 mod NewestLemmas
 pub mod ItemsLemmas
 mod StandingLemmas
+pub mod ChangeLemmas

@@ -3,6 +3,7 @@ pub mod Rows
 pub mod Beginnings
 pub mod Archive
 pub mod Logs
+pub mod Changes
 pub mod Latest
 pub mod Items
 pub mod Parts

@@ -5,6 +5,7 @@
 //! tells the log, the epoch and the number, and `beginnings` one for each epoch of a log.
 #![tactic(auto)]
 
+mod changes;
 mod creation;
 mod epochs;
 mod items;
@@ -17,6 +18,7 @@ mod shape;
 mod standing;
 mod trend_logs;
 
+pub use changes::{change_logs, changes_keep_logs};
 pub use creation::create;
 pub use epochs::{Beginning, begin_epoch, beginnings};
 pub use items::{Item, given_are_items, items_of, read_item};
@@ -30,4 +32,4 @@ pub use row::Row;
 pub use rows::{adds_join, append, leaves_the_last_commit};
 pub use shape::is_archive;
 pub use standing::{Standing, part_stands, standing_of};
-pub use trend_logs::{Log, NotAdded, Source, Told, add_log, logs};
+pub use trend_logs::{Log, NotAdded, Source, Told, add_log, add_log_as, fresh_id, logs};

@@ -18,4 +18,6 @@ mod kept;
 #[cfg(test)]
 mod late_callers;
 #[cfg(test)]
+mod logs;
+#[cfg(test)]
 mod rounds;
