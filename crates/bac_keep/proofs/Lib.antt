@@ -7,6 +7,8 @@ pub mod ByLemmas
 mod CoveredLemmas
 mod NewestLemmas
 mod UpToDateLemmas
+mod AskedLemmas
+mod QuestionLemmas
 pub mod TurnLemmas
 mod BegunLemmas
 mod RoundLemmas

@@ -1,10 +1,9 @@
 -- What is held later tells what wasn't held before.
 use Rattle.std.proofs.Common.{◌≡◌, ℕ, zero, suc, ◌+◌, ◌-◌, ◌<◌, ◌≤◌, List, [], ◌∷◌, subst, arith}
-use Rattle.bac_link.specs.Delivery.{Moment, now, later}
+use Rattle.bac_link.specs.Delivery.{Holds, Moment, now, later}
 use Rattle.bac_link.specs.Laws.{moment_at}
 use Rattle.bac_link.specs.Moments.{NeverGoesBack}
 use Rattle.bac_walk.specs.Delivers.{NoneFrom}
-use Rattle.bac_walk.specs.Turns.{NoneOfHundred}
 use Rattle.bac_keep.specs.UpToDate.{HeldTellsCaughtUp}
 
 rises_once : (M : List Moment) → NeverGoesBack M → (now M).oldest ≤ (now (later M)).oldest
@@ -29,8 +28,8 @@ rises_from (suc i) d M h =
     let same : suc (i + d) ≡ suc i + d = omega arith in
     subst (λ n. (moment_at M (suc i)).oldest ≤ (moment_at M n).oldest) same (rises_from i d (later M) (later_too M h))
 
-none_from : (m : Moment) (s : ℕ) → m.oldest < s → NoneOfHundred s m → NoneFrom s m
-none_from m s old none k from held = none s (omega arith) (omega arith) (omega (arith, old), omega (arith, from, held.1))
+none_from : (m : Moment) (s : ℕ) → m.oldest < s → (Holds m s → ⊥) → NoneFrom s m
+none_from m s old none k from held = none (omega (arith, old), omega (arith, from, held.1))
 
 pub held_tells : HeldTellsCaughtUp
 held_tells M answers i j s k back some few none order below held =

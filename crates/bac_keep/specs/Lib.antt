@@ -9,6 +9,7 @@ pub mod Gathers
 pub mod Came
 pub mod Honest
 pub mod Resumption
+pub mod Questions
 pub mod Looks
 pub mod Courses
 pub mod UpToDate

@@ -5,7 +5,7 @@ ghost use Rattle.bac_keep.specs.Honest.{HonestIsKept, HonestRunsAreKept, KeptOve
 ghost use Rattle.bac_keep.specs.Kept.{AllRunsAreKept, BeginsEmpty, KeptIsDelivered, KeptRunsJoin, OneRowEach, OthersStay, RowsJoin, RunsAreKept};
 ghost use Rattle.bac_keep.specs.Turns.{EachHasItsOwn, HonestTurnsAreKept, HonestTurnsBegin, NewestIsOwn, OwnAreOne, TurnsJoin};
 ghost use Rattle.bac_keep.specs.Parts.{PartsAreKept, PartsEndWhereNewestTells, PartsGoOnCovered};
-ghost use Rattle.bac_keep.specs.UpToDate.{HeldTellsCaughtUp};
+ghost use Rattle.bac_keep.specs.UpToDate.{AskedTellsCaughtUp, HeldTellsCaughtUp};
 ghost use Rattle.bac_keep.specs.Newest.{KeptIsCovered, NewestEndsWhatIsKept, NewestIsLast, NoneLaterStays, RunsLeaveNoneLater};
 
 use bac_link::LogLink;
@@ -182,8 +182,15 @@ pub fn parts_are_kept()
     ensures { PartsAreKept }
 {}
 
-/// Of a log whose moments never go back: if none of a hundred numbers is held at one answer, and an
-/// older one at a later answer, the log was caught up at the first.
+/// Of a log whose moments never go back: if a number isn't held at one answer, and an older one is
+/// at a later answer, the log was caught up at the first.
 pub fn held_tells_caught_up()
     ensures { HeldTellsCaughtUp }
+{}
+
+/// Over every link that is honest for a log, whoever answers: what lies behind a record was asked for,
+/// until none came, and then that record, which is held as it is kept. Then the log was caught up when
+/// none came.
+pub fn asked_tells_caught_up<L: LogLink>()
+    ensures { AskedTellsCaughtUp L.asks }
 {}
