@@ -92,11 +92,12 @@ def clocks(judge, _runs):
 
 
 def questions(judge, _runs):
-    """What lies behind the last record is asked for first, and then that record; nothing is asked for twice."""
+    """What lies behind the last record is asked for first, and then that record, which tells that there is no more if it is
+    held; nothing is asked for twice. What fits one reply is three questions, and nothing new two."""
     device, log = one(room_for=400, count=20)
     file = f"{judge.room}/a.db"
     judge.ran(["keep", file, device.address, "1"])
-    for name, more, wanted in (("nothing new", 0, [21, 0, 20]), ("one record", 1, [21, 20, 22, 0]), ("and nothing", 0, [22, 0, 21])):
+    for name, more, wanted in (("nothing new", 0, [21, 20]), ("one record", 1, [21, 22, 20]), ("and nothing", 0, [22, 21])):
         log.log(more)
         device.questions.clear()
         before = device.asked
@@ -105,7 +106,7 @@ def questions(judge, _runs):
         judge.same(f"{name}: what is asked", (device.questions, device.asked - before), (wanted, len(wanted) + 1))
     # An answer that doesn't come leaves all as it was.
     log.log(3)
-    for answers in (0, 1):
+    for answers in (0, 1, 2, 3):
         device.answers = answers
         judge.same(f"lost behind {answers}", judge.ran(["keep", file, "--timeout=60", "--retries=0"]), (2, said(device, 0, 0, "lost, next 22"), ""))
     device.answers = None

@@ -4,11 +4,10 @@ use Rattle.sqlite.specs.Effect.{Database}
 use Rattle.bac_wire.specs.Primitive.{Id}
 use Rattle.bac_archive.specs.Schema.{archive_schema}
 use Rattle.bac_archive.specs.declared.trend_logs.Log.{Log}
-use Rattle.bac_archive.specs.declared.trend_logs.Source.{Source}
 use Rattle.bac_keep.specs.declared.courses.Word.{Word}
 use Rattle.bac_keep.specs.declared.courses.Word.TheVariants.{Untold}
-use Rattle.bac_walk.specs.declared.outcome.Ended.{Ended}
-use Rattle.bac_walk.specs.declared.outcome.Ended.TheVariants.{CaughtUp, StepLimit, Stopped, Fault}
+use Rattle.bac_walk.specs.Outcomes.{why_of}
+use Rattle.bac_walk.specs.declared.outcome.Why.{Why}
 use Rattle.bac_archive.specs.declared.epochs.Beginning.{Beginning}
 use Rattle.bac_asked.specs.declared.end.End.{End}
 use Rattle.bac_fetch.specs.declared.starting.Start.{Start}
@@ -41,7 +40,7 @@ over P route way retries tries r n it = subst (λ m. P (towards way) m) n (subst
 -- what is kept of a log whose beginning changed nothing, over a link
 pub keeps_begun : {L : Type 0} (asks : L → List ℕ → Result (List ℕ) Loss → L → Type 0) (way route : Option Place) (tries retries : ℕ) (link mid left : L)
     (steps log : ℕ) (object : Id) (word : Word) (old between new : Database) (start : Start) (end : End)
-    → IsBegun asks (towards way) tries link mid log object word old.trees (Ok start) → route ≡ way → retries ≡ tries → between ≡ old
+    → IsBegun asks (towards way) tries link mid log object word steps old.trees (Ok start) → route ≡ way → retries ≡ tries → between ≡ old
     → ((last : Database) × KeepsBegun asks (towards route) retries mid left (Ok start) steps between last end
     × Marks start.begins_at end last new)
     → KeepsOverLink asks (towards way) tries link left steps log object word old new end
@@ -74,17 +73,15 @@ keeps_log rules asking before middle after log object given old new end port las
     let it₅ = subst (λ (o : Id). KeepsOverLink asks path asking.asked.retries over left asking.steps log o Untold old new end) is it₄ in
     (port, middle, last, opens, (left, it₅, is_last), closes)
 
-on_schema : {L : Type 0} (asks : L → List ℕ → Result (List ℕ) Loss → L → Type 0) (path : Path) (retries : ℕ) (link left : L) (start : Start) (ended : Ended) (steps : ℕ)
-    (old new : Database) (end : End) → KeepsOn asks path retries link left start ended steps old new end → old.schema ≡ archive_schema → new.schema ≡ archive_schema
-on_schema asks path retries link left start CaughtUp steps old new end h has = ap (λ (d : Database). d.schema) h.0 ∙ has
-on_schema asks path retries link left start StepLimit steps old new end h has = h.0.rows.schema
-on_schema asks path retries link left start Stopped steps old new end h has = h.0.rows.schema
-on_schema asks path retries link left start (Fault why) steps old new end h has = h.0.rows.schema
+on_schema : {L : Type 0} (asks : L → List ℕ → Result (List ℕ) Loss → L → Type 0) (path : Path) (retries : ℕ) (link left : L) (start : Start) (why : Option Why) (steps : ℕ)
+    (old new : Database) (end : End) → KeepsOn asks path retries link left start why steps old new end → old.schema ≡ archive_schema → new.schema ≡ archive_schema
+on_schema asks path retries link left start (Some why) steps old new end h has = ap (λ (d : Database). d.schema) h.0 ∙ has
+on_schema asks path retries link left start None steps old new end h has = h.0.rows.schema
 
 pub log_schema : {L : Type 0} (asks : L → List ℕ → Result (List ℕ) Loss → L → Type 0) (path : Path) (retries : ℕ) (link left : L) (begun : Result Start End) (steps : ℕ)
     (old new : Database) (end : End) → KeepsBegun asks path retries link left begun steps old new end → old.schema ≡ archive_schema → new.schema ≡ archive_schema
 log_schema asks path retries link left (Ok start) steps old new end (mid, rows, on) has =
-    on_schema asks path retries link left start start.hand.gathered.step.ended (steps - 1) mid new end on rows.schema
+    on_schema asks path retries link left start (why_of start.hand.gathered.step.ended) (steps - start.hand.took) mid new end on rows.schema
 log_schema asks path retries link left (Err none) steps old new end h has = ap (λ (d : Database). d.schema) h.0 ∙ has
 
 mark_schema : (begins_at : Option Beginning) (end : End) (old new : Database) → Marks begins_at end old new → old.schema ≡ archive_schema → new.schema ≡ archive_schema

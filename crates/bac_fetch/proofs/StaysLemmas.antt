@@ -15,11 +15,10 @@ use Rattle.bac_archive.specs.Standing.{HasNewBeginning}
 use Rattle.bac_archive.specs.declared.epochs.Beginning.{Beginning}
 use Rattle.bac_link.specs.Path.{Path}
 use Rattle.bac_link.specs.declared.link.Lost.{Lost as Loss}
-use Rattle.bac_walk.specs.declared.outcome.Ended.{Ended}
-use Rattle.bac_walk.specs.declared.outcome.Ended.TheVariants.{CaughtUp, StepLimit, Stopped, Fault}
+use Rattle.bac_walk.specs.Outcomes.{why_of}
+use Rattle.bac_walk.specs.declared.outcome.Why.{Why}
 use Rattle.bac_archive.specs.Logs.{AddsLog, HasNewLog}
 use Rattle.bac_archive.specs.declared.trend_logs.Log.{Log}
-use Rattle.bac_archive.specs.declared.trend_logs.Source.{Source}
 use Rattle.bac_ports.specs.Sockets.{SocketRules}
 use Rattle.bac_fetch.specs.Keeps.{KeepsBegun, KeepsOn, KeepsHeard, KeepsNext, KeepsSource, KeepsUnless, Marks, MarksBegun, PassesOver, is_idle}
 use Rattle.bac_fetch.specs.Whose.{device_of, hindrance, is_silent}
@@ -122,18 +121,16 @@ pub none_then : (old mid new : State) → (HasCleanDisk mid → IsUnchanged old 
 none_then old mid new same has one two = survives_then old mid new _ _ (λ _. ⊥) (λ _ _ none. none) (λ _ _ none. none) one
     (two (λ clean. ap (λ (d : Database). d.schema) (same clean).0.now_is ∙ has))
 
-on_stays : {L : Type 0} (asks : L → List ℕ → Result (List ℕ) Loss → L → Type 0) (path : Path) (retries : ℕ) (link left : L) (start : Start) (ended : Ended) (steps : ℕ)
-    (old new : Database) (end : End) → KeepsOn asks path retries link left start ended steps old new end → HasAllOf old.trees new.trees
-on_stays asks path retries link left start CaughtUp steps old new end h = subst (λ (d : Database). HasAllOf old.trees d.trees) (sym h.0) (all_itself old.trees)
-on_stays asks path retries link left start StepLimit steps old new end h = adds_all old.trees new.trees _ h.0.rows.rows
-on_stays asks path retries link left start Stopped steps old new end h = adds_all old.trees new.trees _ h.0.rows.rows
-on_stays asks path retries link left start (Fault why) steps old new end h = adds_all old.trees new.trees _ h.0.rows.rows
+on_stays : {L : Type 0} (asks : L → List ℕ → Result (List ℕ) Loss → L → Type 0) (path : Path) (retries : ℕ) (link left : L) (start : Start) (why : Option Why) (steps : ℕ)
+    (old new : Database) (end : End) → KeepsOn asks path retries link left start why steps old new end → HasAllOf old.trees new.trees
+on_stays asks path retries link left start (Some why) steps old new end h = subst (λ (d : Database). HasAllOf old.trees d.trees) (sym h.0) (all_itself old.trees)
+on_stays asks path retries link left start None steps old new end h = adds_all old.trees new.trees _ h.0.rows.rows
 
 pub begun_stays : {L : Type 0} (asks : L → List ℕ → Result (List ℕ) Loss → L → Type 0) (path : Path) (retries : ℕ) (link left : L) (begun : Result Start End) (steps : ℕ)
     (old new : Database) (end : End) → KeepsBegun asks path retries link left begun steps old new end → HasAllOf old.trees new.trees
 begun_stays asks path retries link left (Ok start) steps old new end (mid, rows, on) =
     all_then old.trees mid.trees new.trees (adds_all old.trees mid.trees _ rows.rows)
-    (on_stays asks path retries link left start start.hand.gathered.step.ended (steps - 1) mid new end on)
+    (on_stays asks path retries link left start (why_of start.hand.gathered.step.ended) (steps - start.hand.took) mid new end on)
 begun_stays asks path retries link left (Err none) steps old new end it = subst (λ (d : Database). HasAllOf old.trees d.trees) (sym it.0) (all_itself old.trees)
 
 marked_stays : (begun : Result Start End) (end : End) (old new : Database) → MarksBegun begun end old new → HasAllOf old.trees new.trees

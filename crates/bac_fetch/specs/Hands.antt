@@ -1,5 +1,5 @@
--- What came to the first step of a run, before any of it is kept.
-use Rattle.std.specs.Prelude.{◌≡◌, ◌==◌, ℕ, List, [], ◌∷◌, MatchBool, map, Option, None, Some, Result, Ok, Err}
+-- What came to the first questions of a run, before any of it is kept.
+use Rattle.std.specs.Prelude.{◌≡◌, ◌==◌, ◌+◌, ◌++◌, ◌⊎◌, ℕ, nat_lt, List, [], ◌∷◌, MatchBool, map, Option, None, Some, Result, Ok, Err}
 use Rattle.sqlite_value.specs.Order.{Row as Values}
 use Rattle.bac_wire.specs.Primitive.{Id}
 use Rattle.bac_link.specs.declared.item.Item.{Item}
@@ -16,6 +16,7 @@ use Rattle.bac_archive.specs.Rows.{stored}
 use Rattle.bac_archive.specs.declared.row.Row.{Row}
 use Rattle.bac_keep.specs.Came.{GathersOver}
 use Rattle.bac_keep.specs.Items.{era, kept_rows}
+use Rattle.bac_keep.specs.Questions.{GathersAnswer, RefusesAnswer}
 use Rattle.bac_keep.specs.Rising.{IsCause}
 use Rattle.bac_keep.specs.declared.keep.Gathered.{Gathered}
 use Rattle.bac_keep.specs.declared.place.Place.{Place}
@@ -67,11 +68,12 @@ StopsBy asks path retries place free link before Epochs left =
     HasNoPlace asks path retries place free link before refusal.Epochs left
 StopsBy asks path retries place free link before other left = ⊥
 
--- one step of a walk over a link: what is in hand then, or why nothing is
+-- One step of a walk over a link: what is in hand then, which took that step, or why nothing is.
 abbrev pub Steps : {S : Type 0} → (S → List ℕ → Result (List ℕ) Loss → S → Type 0) → Path → ℕ → Place → ℕ → S → WalkPlace →
     Result Hand Ending → S → Type 0
 Steps asks path retries place free link before (Ok hand) left =
     IsInHand asks path retries place link before hand.gathered hand.walk left × IsStep hand.gathered.step.ended
+    × (hand.took ≡ 1)
 Steps asks path retries place free link before (Err ending) left =
     StopsBy asks path retries place free link before ending left
 
@@ -81,6 +83,73 @@ abbrev pub StepsAt : {S : Type 0} → (S → List ℕ → Result (List ℕ) Loss
 StepsAt asks path retries place link object number hand left =
     MatchBool (number == 0) ((hand ≡ Err (Walk (why.Fault walk.BadReply))) × (left ≡ link))
     (Steps asks path retries place 0 link (walk_at object number) hand left)
+
+-- ---- one question, and then another
+
+-- how many steps of a walk one question makes that ended so
+abbrev pub steps_of : Ended → ℕ
+steps_of CaughtUp = 0
+steps_of StepLimit = 1
+steps_of Stopped = 0
+steps_of (Fault fault) = 0
+
+-- what came to one question of a walk over a link has no place, where no number below this one may come
+abbrev pub IsNotTaken : {S : Type 0} → (S → List ℕ → Result (List ℕ) Loss → S → Type 0) → Path → ℕ → Place → ℕ → S → WalkPlace →
+    Refusal → S → Type 0
+IsNotTaken asks path retries place free link before refused left =
+    (after : WalkPlace) × RefusesAnswer asks path retries place free link before refused after left
+
+-- One question of a walk was asked over a link, and what came is in hand, records, none, or a fault; or it has no place.
+abbrev pub TakesAnswer : {S : Type 0} → (S → List ℕ → Result (List ℕ) Loss → S → Type 0) → Path → ℕ → Place → ℕ → S → WalkPlace →
+    Result Hand Ending → S → Type 0
+TakesAnswer asks path retries place free link before (Ok hand) left =
+    GathersAnswer asks path retries place free link before hand.gathered hand.walk left
+    × (hand.took ≡ steps_of hand.gathered.step.ended)
+TakesAnswer asks path retries place free link before (Err Back) left =
+    IsNotTaken asks path retries place free link before refusal.Back left
+TakesAnswer asks path retries place free link before (Err Epochs) left =
+    IsNotTaken asks path retries place free link before refusal.Epochs left
+TakesAnswer asks path retries place free link before (Err other) left = ⊥
+
+-- What came to a question is put behind what was in hand before it, which then ends as that question did. If it has no
+-- place, that stays in hand, and goes on as if it weren't asked.
+abbrev pub IsPutBehind : Hand → Result Hand Ending → Hand → Type 0
+IsPutBehind hand (Ok more) all =
+    (map stored all.gathered.rows.items ≡ map stored hand.gathered.rows.items ++ map stored more.gathered.rows.items)
+    × (all.gathered.step.records ≡ hand.gathered.step.records + more.gathered.step.records)
+    × (all.gathered.step.gaps ≡ hand.gathered.step.gaps + more.gathered.step.gaps)
+    × (all.gathered.step.ended ≡ more.gathered.step.ended) × (all.gathered.place ≡ more.gathered.place)
+    × (all.gathered.free ≡ more.gathered.free) × (all.walk ≡ more.walk) × (all.took ≡ hand.took + more.took)
+IsPutBehind hand (Err ending) all =
+    (all.gathered.rows ≡ hand.gathered.rows) × (all.gathered.step.records ≡ hand.gathered.step.records)
+    × (all.gathered.step.gaps ≡ hand.gathered.step.gaps) × (all.gathered.step.ended ≡ StepLimit)
+    × (all.gathered.place ≡ hand.gathered.place) × (all.gathered.free ≡ hand.gathered.free)
+    × (all.walk ≡ hand.walk) × (all.took ≡ hand.took)
+
+-- the next question of a walk is asked over a link, from where what is in hand ends, and what comes is put behind that
+abbrev pub TakesMore : {S : Type 0} → (S → List ℕ → Result (List ℕ) Loss → S → Type 0) → Path → ℕ → S → Hand → Hand → S → Type 0
+TakesMore asks path retries link hand all left =
+    (more : Result Hand Ending)
+    × TakesAnswer asks path retries hand.gathered.place hand.gathered.free link hand.walk more left
+    × IsPutBehind hand more all
+
+-- Behind a first question that ended so: if it brought records, and a run may take another step, the number behind them is
+-- asked for; if it came to a fault, nothing is in hand; else that is all.
+abbrev pub GoesAhead : {S : Type 0} → (S → List ℕ → Result (List ℕ) Loss → S → Type 0) → Path → ℕ → S → Hand → ℕ → Ended →
+    Result Hand Ending → S → Type 0
+GoesAhead asks path retries link hand steps StepLimit ahead left = MatchBool (nat_lt 1 steps)
+    ((all : Hand) × TakesMore asks path retries link hand all left × (ahead ≡ Ok all)) ((ahead ≡ Ok hand) × (left ≡ link))
+GoesAhead asks path retries link hand steps (Fault fault) ahead left = (ahead ≡ Err (Walk (why.Fault fault))) × (left ≡ link)
+GoesAhead asks path retries link hand steps other ahead left = (ahead ≡ Ok hand) × (left ≡ link)
+
+-- What lies ahead of a walk by number is asked for over a link, of which a run may take so many steps, and what came in
+-- hand: by one question, or by two if the first brought records; or why nothing is.
+abbrev pub LooksAhead : {S : Type 0} → (S → List ℕ → Result (List ℕ) Loss → S → Type 0) → Path → ℕ → Place → ℕ → S → WalkPlace → ℕ →
+    Result Hand Ending → S → Type 0
+LooksAhead {S = S} asks path retries place free link before steps ahead left =
+    ((ending : Ending) × TakesAnswer asks path retries place free link before (Err ending) left × (ahead ≡ Err ending))
+    ⊎ ((hand : Hand) × (mid : S) × TakesAnswer asks path retries place free link before (Ok hand) mid
+    × GoesAhead asks path retries mid hand steps hand.gathered.step.ended ahead left)
 
 -- the row of one that there may be
 abbrev pub stored_in : Option Row → List Values

@@ -12,9 +12,8 @@ use Rattle.bac_link.specs.declared.item.Item.{Item}
 use Rattle.bac_link.specs.declared.link.Lost.{Lost as Loss}
 use Rattle.bac_walk.specs.Collects.{Goes}
 use Rattle.bac_walk.specs.Place.{WalkPlace}
-use Rattle.bac_walk.specs.declared.outcome.Ended.{Ended}
-use Rattle.bac_walk.specs.declared.outcome.Ended.TheVariants.{CaughtUp}
-use Rattle.bac_walk.specs.declared.outcome.Why.TheVariants as why
+use Rattle.bac_walk.specs.Outcomes.{why_of}
+use Rattle.bac_walk.specs.declared.outcome.Why.{Why}
 use Rattle.bac_archive.specs.Beginnings.{beginning_row}
 use Rattle.bac_archive.specs.Rows.{IsAppended, stored}
 use Rattle.bac_archive.specs.declared.epochs.Beginning.{Beginning}
@@ -64,25 +63,25 @@ pub record KeepsFrom (place : Place) (walk : WalkPlace) (step : KeptStep) (how :
   pub goes : (s : ℕ) → Goes walk.fresh walk.next s items had_none end.next
   pub began : end.began ≡ how
 
--- What a run keeps behind what is in hand: no more, if that is caught up; else what comes over the link from there, in at
--- most so many steps.
-abbrev pub KeepsOn : {S : Type 0} → (S → List ℕ → Result (List ℕ) Loss → S → Type 0) → Path → ℕ → S → S → Start → Ended → ℕ →
+-- What a run keeps behind what is in hand: no more, and nothing more is asked, if that came to an end, caught up or by a
+-- fault; else what comes over the link from there, in at most so many steps.
+abbrev pub KeepsOn : {S : Type 0} → (S → List ℕ → Result (List ℕ) Loss → S → Type 0) → Path → ℕ → S → S → Start → Option Why → ℕ →
     Database → Database → End → Type 0
-KeepsOn asks path retries link left start CaughtUp steps old new end =
+KeepsOn asks path retries link left start (Some why) steps old new end =
     (new ≡ old) × (left ≡ link) × (end.records ≡ start.hand.gathered.step.records)
-    × (end.gaps ≡ start.hand.gathered.step.gaps) × (end.why ≡ Walk why.CaughtUp) × (end.next ≡ start.hand.walk.next)
+    × (end.gaps ≡ start.hand.gathered.step.gaps) × (end.why ≡ Walk why) × (end.next ≡ start.hand.walk.next)
     × (end.began ≡ start.began)
-KeepsOn asks path retries link left start ended steps old new end =
+KeepsOn asks path retries link left start None steps old new end =
     KeepsFrom start.hand.gathered.place start.hand.walk start.hand.gathered.step start.began old new end
     × ComesFrom asks path retries link left start.hand.gathered.place start.hand.walk start.hand.gathered.step steps old new end
 
--- What a run of at most so many steps keeps that begins so: what is in hand, which was one step, and what comes behind
--- it; nothing, if the device didn't say where.
+-- What a run of at most so many steps keeps that begins so: what is in hand, which took some of them, and what comes
+-- behind it; nothing, if the device didn't say where.
 abbrev pub KeepsBegun : {S : Type 0} → (S → List ℕ → Result (List ℕ) Loss → S → Type 0) → Path → ℕ → S → S → Result Start End →
     ℕ → Database → Database → End → Type 0
 KeepsBegun asks path retries link left (Ok start) steps old new end =
     (mid : Database) × IsAppended old mid (map stored start.hand.gathered.rows.items)
-    × KeepsOn asks path retries link left start start.hand.gathered.step.ended (steps - 1) mid new end
+    × KeepsOn asks path retries link left start (why_of start.hand.gathered.step.ended) (steps - start.hand.took) mid new end
 KeepsBegun asks path retries link left (Err none) steps old new end = (new ≡ old) × (end ≡ none) × (left ≡ link)
 
 -- whether a run is caught up and brought nothing
@@ -108,7 +107,7 @@ MarksBegun (Err none) end old new = new ≡ old
 abbrev pub KeepsOverLink : {S : Type 0} → (S → List ℕ → Result (List ℕ) Loss → S → Type 0) → Path → ℕ → S → S → ℕ →
     ℕ → Id → Word → Database → Database → End → Type 0
 KeepsOverLink {S = S} asks path retries link left steps log object word old new end =
-    (begun : Result Start End) × (mid : S) × IsBegun asks path retries link mid log object word old.trees begun
+    (begun : Result Start End) × (mid : S) × IsBegun asks path retries link mid log object word steps old.trees begun
     × ((last : Database) × KeepsBegun asks path retries mid left begun steps old last end × MarksBegun begun end last new)
 
 -- The same over a socket: it was opened as the log is asked for, every datagram was asked of the device that is asked,

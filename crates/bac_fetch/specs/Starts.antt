@@ -13,6 +13,8 @@ use Rattle.bac_link.specs.declared.item.Item.TheVariants.{Gap}
 use Rattle.bac_link.specs.declared.link.Lost.{Lost as Loss}
 use Rattle.bac_walk.specs.Place.{walk_at, walk_from_oldest}
 use Rattle.bac_walk.specs.declared.batch.Numbered.{Numbered}
+use Rattle.bac_walk.specs.declared.outcome.Ended.{Ended}
+use Rattle.bac_walk.specs.declared.outcome.Ended.TheVariants as ended
 use Rattle.bac_walk.specs.declared.outcome.Step.{Step}
 use Rattle.bac_walk.specs.declared.outcome.Step.TheVariants.{Batch as BatchOf, CaughtUp}
 use Rattle.bac_walk.specs.declared.outcome.WalkFault.{WalkFault}
@@ -37,7 +39,7 @@ use Rattle.bac_asked.specs.declared.end.End.{End}
 use Rattle.bac_asked.specs.declared.end.Ending.{Ending}
 use Rattle.bac_asked.specs.declared.end.Ending.TheVariants.{Walk, Epochs}
 use Rattle.bac_fetch.specs.Discovered.{Reads, Tells}
-use Rattle.bac_fetch.specs.Hands.{Steps, StepsAt}
+use Rattle.bac_fetch.specs.Hands.{LooksAhead, Steps, StepsAt, TakesMore}
 use Rattle.bac_fetch.specs.Stands.{IsStand, begins_at_one, epoch_from, epoch_of, free_from, kept_last}
 use Rattle.bac_fetch.specs.declared.hands.Hand.{Hand}
 use Rattle.bac_fetch.specs.declared.questions.Count.{Count}
@@ -173,8 +175,8 @@ BeginsBehind from gap hand (Ok start) =
     × (start.hand.gathered.step.records ≡ hand.gathered.step.records)
     × (start.hand.gathered.step.gaps ≡ gaps_among gap + hand.gathered.step.gaps)
     × (start.hand.gathered.step.ended ≡ hand.gathered.step.ended) × (start.hand.gathered.place ≡ hand.gathered.place)
-    × (start.hand.gathered.free ≡ hand.gathered.free) × (start.hand.walk ≡ hand.walk) × (start.began ≡ began.Either)
-    × (start.begins_at ≡ None)
+    × (start.hand.gathered.free ≡ hand.gathered.free) × (start.hand.walk ≡ hand.walk) × (start.hand.took ≡ hand.took)
+    × (start.began ≡ began.Either) × (start.begins_at ≡ None)
 BeginsBehind from gap hand (Err end) = ⊥
 
 -- so it does with what came to its first step, but nothing is begun if that brought no record
@@ -197,11 +199,27 @@ IsEither asks path retries link object stand from oldest begun left =
 
 -- ---- the one rule
 
+-- The oldest are asked for where what is in hand ends with a question that brought none, as in each step of a walk; but
+-- not if the record that was kept last is held as it is kept, which tells already that there is no more: who holds it held
+-- nothing behind it before (AskedTellsCaughtUp of bac_keep says so of just these questions).
+abbrev pub asks_oldest_next : Seen → Ended → Bool
+asks_oldest_next seen.Same how = false
+asks_oldest_next other ended.CaughtUp = true
+asks_oldest_next other how = false
+
+-- a log goes on with what is in hand, and with the oldest behind that where they are asked for
+abbrev pub GoesOn : {S : Type 0} → (S → List ℕ → Result (List ℕ) Loss → S → Type 0) → Path → ℕ → S → Hand → Seen →
+    Result Start End → S → Type 0
+GoesOn asks path retries link hand found begun left =
+    MatchBool (asks_oldest_next found hand.gathered.step.ended)
+    ((all : Hand) × TakesMore asks path retries link hand all left × BeginsWith all began.GoesOn None begun)
+    (BeginsWith hand began.GoesOn None begun × (left ≡ link))
+
 -- A log goes on with what is in hand, begins anew, or both are kept.
 abbrev pub ByCourse : {S : Type 0} → (S → List ℕ → Result (List ℕ) Loss → S → Type 0) → Path → ℕ → S → ℕ → Id → Stand → Place →
     Hand → Seen → Count → Course → Result Start End → S → Type 0
 ByCourse asks path retries link log object stand from hand found count GoOn begun left =
-    BeginsWith hand began.GoesOn None begun × (left ≡ link)
+    GoesOn asks path retries link hand found begun left
 ByCourse {S = S} asks path retries link log object stand from hand found count Anew begun left =
     (number : Result ℕ WalkFault) × (mid : S) × FindsBeginning asks path retries link object found count number mid
     × IsAnew asks path retries mid log object stand number begun left
@@ -242,7 +260,7 @@ BySeen {S = S} asks path retries link log object word stand from hand (Ok found)
     (count : Count) × (mid : S) × CountsWhere asks path retries link object (asks_count stand found) count mid
     × ByCount asks path retries mid log object word stand from hand found count begun left
 
--- behind what came to the first step that record is asked for; if that step came to no end, nothing more is
+-- behind what came from there that record is asked for; if that came to no end, nothing more is
 abbrev pub ByHand : {S : Type 0} → (S → List ℕ → Result (List ℕ) Loss → S → Type 0) → Path → ℕ → S → ℕ → Id → Word → Stand →
     Place → Result Hand Ending → Result Start End → S → Type 0
 ByHand asks path retries link log object word stand from (Err ending) begun left =
@@ -251,21 +269,21 @@ ByHand {S = S} asks path retries link log object word stand from (Ok hand) begun
     (found : Result Seen WalkFault) × (mid : S) × Looks asks path retries link object (kept_last stand) found mid
     × BySeen asks path retries mid log object word stand from hand found begun left
 
--- Over a log that stands somewhere a run asks first for what lies behind, and then for the record that was kept last. In
--- an archive with no place for the next number it asks nothing.
+-- Over a log that stands somewhere a run of so many steps asks first for what lies behind, and then for the record that
+-- was kept last. In an archive with no place for the next number it asks nothing.
 abbrev pub GoesFrom : {S : Type 0} → (S → List ℕ → Result (List ℕ) Loss → S → Type 0) → Path → ℕ → S → ℕ → Id → Word → Stand →
-    Result Start End → S → Type 0
-GoesFrom {S = S} asks path retries link log object word stand begun left =
+    ℕ → Result Start End → S → Type 0
+GoesFrom {S = S} asks path retries link log object word stand steps begun left =
     ((32767 < epoch_from stand) × Ends Epochs (next_from stand) begun × (left ≡ link))
     ⊎ ((from : Place) × (hand : Result Hand Ending) × (mid : S) × (from.log ≡ log) × (from.epoch ≡ epoch_from stand)
-    × Steps asks path retries from (free_from stand) link (walk_at object (next_from stand)) hand mid
+    × LooksAhead asks path retries from (free_from stand) link (walk_at object (next_from stand)) steps hand mid
     × ByHand asks path retries mid log object word stand from hand begun left)
 
--- A run over a log begins at its oldest record if nothing of it is on record in an archive, once its count was asked for;
--- and else where what came over the link says, which is left so behind these questions.
+-- A run of so many steps over a log begins at its oldest record if nothing of it is on record in an archive, once its
+-- count was asked for; and else where what came over the link says, which is left so behind these questions.
 abbrev pub IsBegun : {S : Type 0} → (S → List ℕ → Result (List ℕ) Loss → S → Type 0) → Path → ℕ → S → S → ℕ → Id → Word →
-    Trees → Result Start End → Type 0
-IsBegun asks path retries link left log object word trees begun =
+    ℕ → Trees → Result Start End → Type 0
+IsBegun asks path retries link left log object word steps trees begun =
     (IsStand log trees None × StartsNew asks path retries link log object begun left)
     ⊎ ((stand : Stand) × IsStand log trees (Some stand)
-    × GoesFrom asks path retries link log object word stand begun left)
+    × GoesFrom asks path retries link log object word stand steps begun left)

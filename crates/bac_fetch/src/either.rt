@@ -105,9 +105,13 @@ fn put_gap(hand: Hand, first: Option<Row>, second: Option<Row>, more: u64) -> Re
     ensures records { IfOk result (λ it. it.gathered.step.records ≡ hand.gathered.step.records) }
     ensures gaps { IfOk result (λ it. it.gathered.step.gaps ≡ more + hand.gathered.step.gaps) }
     ensures ended { IfOk result (λ it. it.gathered.step.ended ≡ hand.gathered.step.ended) }
-    ensures place { IfOk result (λ it. (it.gathered.place ≡ hand.gathered.place) × (it.gathered.free ≡ hand.gathered.free) × (it.walk ≡ hand.walk)) }
+    ensures place { IfOk result (λ it. (it.gathered.place ≡ hand.gathered.place) × (it.gathered.free ≡ hand.gathered.free) × (it.walk ≡ hand.walk) × (it.took ≡ hand.took)) }
 {
-    let Hand { gathered, walk } = hand;
+    let Hand {
+        gathered,
+        walk,
+        took,
+    } = hand;
     let Gathered {
         mut rows,
         step,
@@ -130,7 +134,11 @@ fn put_gap(hand: Hand, first: Option<Row>, second: Option<Row>, more: u64) -> Re
         place,
         free,
     };
-    Ok(Hand { gathered, walk })
+    Ok(Hand {
+        gathered,
+        walk,
+        took,
+    })
 }
 
 /// A run begins with a gap and what came to its first step, unless that brought no record.

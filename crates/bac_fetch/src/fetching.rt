@@ -27,7 +27,7 @@ use bac_keep::{
 };
 use bac_link::{LogLink, Transactions};
 use bac_ports::{Sockets, UdpLink};
-use bac_walk::{Ended, Walk, Why};
+use bac_walk::{Walk, Why};
 use bac_wire::ObjectId;
 use bac_words::{Asked, Word};
 use sqlite::{Alter, Connection};
@@ -80,13 +80,14 @@ fn where_to_start<L: LogLink, A: Alter>(
     id: u16,
     log: ObjectId,
     word: DeviceWord,
+    steps: u32,
 ) -> Result<Result<Start, End>, NotDone>
     requires { log.kind ≡ 20 }
     ensures retries { transactions.new.retries ≡ transactions.old.retries }
     ensures route { transactions.new.route ≡ transactions.old.route }
     // By the rows of the archive, and by what the device tells over the link, which is left so.
     ensures begun { HasCleanDisk (state A.Store conn.new) → (state A.Store conn.old).now.schema ≡ archive_schema
-        → IfOk result (IsBegun L.asks (towards transactions.old.route) transactions.old.retries link.old link.new id log word (state A.Store conn.old).now.trees) }
+        → IfOk result (IsBegun L.asks (towards transactions.old.route) transactions.old.retries link.old link.new id log word steps (state A.Store conn.old).now.trees) }
     ensures same { HasCleanDisk (state A.Store conn.new) → (state A.Store conn.old).now.schema ≡ archive_schema
         → OnOk result ((state A.Store conn.new).now ≡ (state A.Store conn.old).now) }
     // Whatever comes of it, nothing is committed.
@@ -94,7 +95,7 @@ fn where_to_start<L: LogLink, A: Alter>(
     ensures clean { HasCleanDisk (state A.Store conn.new) → HasCleanDisk (state A.Store conn.old) }
 {
     match stand_of(alloc, conn, id)? {
-        Some(stand) => start_from(alloc, link, transactions, id, log, word, &stand),
+        Some(stand) => start_from(alloc, link, transactions, id, log, word, &stand, steps),
         None => start_new(alloc, link, transactions, id, log),
     }
 }
@@ -220,8 +221,8 @@ fn keep_on<L: LogLink, A: Alter, P: Progress>(
     end_of(run, step, began)
 }
 
-/// Keeps what a log has from a start on: what is in hand, and what comes behind it in at most one
-/// step less than it may take.
+/// Keeps what a log has from a start on: what is in hand, and what comes behind it in the steps that
+/// are left, unless it came to an end.
 fn keep_from<L: LogLink, A: Alter, P: Progress>(
     alloc: Global,
     link: &mut L,
@@ -243,22 +244,26 @@ fn keep_from<L: LogLink, A: Alter, P: Progress>(
         began,
         begins_at: _begins_at,
     } = start;
-    let Hand { gathered, walk } = hand;
+    let Hand {
+        gathered,
+        walk,
+        took,
+    } = hand;
     let step = gathered.step;
     let place = gathered.place;
     let free = gathered.free;
     keep_hand(conn, gathered)?;
     progress.kept(step.records);
-    if step.ended == Ended::CaughtUp {
+    if let Some(why) = step.ended.why() {
         return Ok(End {
             records: step.records,
             gaps: step.gaps,
-            why: Ending::Walk(Why::CaughtUp),
+            why: Ending::Walk(why),
             next: walk.next_number(),
             began,
         });
     }
-    let steps = steps.saturating_sub(1);
+    let steps = steps.saturating_sub(took);
     keep_on(
         alloc,
         link,
@@ -350,7 +355,7 @@ fn fetch_over<L: LogLink, A: Alter, P: Progress>(
         → Survives (state A.Store conn.old) (state A.Store conn.new) (HasAllOf (state A.Store conn.old).now.trees) }
     ensures clean { HasCleanDisk (state A.Store conn.new) → HasCleanDisk (state A.Store conn.old) }
 {
-    match where_to_start(alloc, link, transactions, conn, id, log, word)? {
+    match where_to_start(alloc, link, transactions, conn, id, log, word, steps)? {
         Ok(start) => keep_and_mark(alloc, link, transactions, conn, start, steps, progress),
         Err(end) => Ok(end),
     }

@@ -1,4 +1,4 @@
-//! What comes to the first step of a run, before any of it is kept.
+//! What comes to the first questions of a run, before any of it is kept.
 
 ghost use Rattle.std.specs.Prelude.{◌≡◌, IfOk};
 ghost use Rattle.bac_link.specs.Path.{towards};
@@ -11,12 +11,14 @@ use bac_walk::{Ended, Walk, WalkFault, Why};
 use bac_wire::ObjectId;
 use std::alloc::Global;
 
-/// What came to one step of a walk, and no archive has yet.
+/// What came of a walk, and no archive has yet.
 #[derive(Drop)]
 pub(crate) struct Hand {
     pub gathered: Gathered,
     /// The walk behind it.
     pub walk: Walk,
+    /// How many steps of the walk it took.
+    pub took: u32,
 }
 
 /// One step of a walk from a place on, where no number below `free` may come; or how it ended that
@@ -37,7 +39,11 @@ pub(crate) fn take_step<L: LogLink>(
         Ok(gathered) => match gathered.step.ended {
             Ended::Fault(fault) => Ok(Err(Ending::Walk(Why::Fault(fault)))),
             Ended::Stopped => unreachable!(),
-            Ended::CaughtUp | Ended::StepLimit => Ok(Ok(Hand { gathered, walk })),
+            Ended::CaughtUp | Ended::StepLimit => Ok(Ok(Hand {
+                gathered,
+                walk,
+                took: 1,
+            })),
         },
         Err(Refusal::Back) => Ok(Err(Ending::Back)),
         Err(Refusal::Epochs) => Ok(Err(Ending::Epochs)),

@@ -2,6 +2,7 @@
 //! device may come from anyone, and a file may have been written by anyone.
 #![tactic(auto)]
 
+mod behind;
 mod count;
 mod discovering;
 mod either;

@@ -8,6 +8,7 @@ ghost use Rattle.bac_keep.specs.Looks.{Looks};
 ghost use Rattle.bac_fetch.specs.Stands.{kept_last};
 ghost use Rattle.bac_fetch.specs.Starts.{AsksBeginning, BeginsBy, BeginsWith, ByCount, ByCourse, ByHand, BySeen, CountsWhere, FindsBeginning, GoesFrom, IsAnew, IsFirst, KeepsNone, OpensFirst, OpensWith, StartsNew, asks_count, counted, next_from};
 
+use crate::behind::{go_on, look_ahead};
 use crate::either::begin_either;
 use crate::hands::{Hand, take_step, take_step_at};
 use crate::questions::{Count, read_count};
@@ -225,17 +226,6 @@ fn start_anew<L: LogLink>(
     }
 }
 
-/// Where a run goes on with what is in hand.
-fn go_on(hand: Hand) -> Result<Start, End>
-    ensures { BeginsWith hand Began.GoesOn None result }
-{
-    Ok(Start {
-        hand,
-        began: Began::GoesOn,
-        begins_at: None,
-    })
-}
-
 /// Where a run begins that takes this course.
 fn start_by<L: LogLink>(
     alloc: Global,
@@ -256,7 +246,7 @@ fn start_by<L: LogLink>(
     ensures starts { IfOk result (λ begun. ByCourse L.asks (towards transactions.old.route) transactions.old.retries link.old id log stand.now from hand seen count course begun link.new) }
 {
     match course {
-        Course::GoOn => Ok(go_on(hand)),
+        Course::GoOn => go_on(alloc, link, transactions, hand, seen),
         Course::Anew => {
             let found = find_beginning(link, transactions, log, seen, count);
             start_anew(alloc, link, transactions, id, log, stand, found)
@@ -401,7 +391,7 @@ fn look_behind<L: LogLink>(
     }
 }
 
-/// Where a run begins behind what came to its first step.
+/// Where a run begins behind what came from there on.
 fn start_behind<L: LogLink>(
     alloc: Global,
     link: &mut L,
@@ -449,7 +439,7 @@ fn walk_behind(log: ObjectId, stand: &Stand) -> Walk
 }
 
 /// Where a run begins over a log that stands there: asks for what lies behind, and then for the
-/// record that was kept last. What came is kept if the log goes on.
+/// record that was kept last. What came is kept if the log goes on. The run may take so many steps.
 pub(crate) fn start_from<L: LogLink>(
     alloc: Global,
     link: &mut L,
@@ -458,17 +448,18 @@ pub(crate) fn start_from<L: LogLink>(
     log: ObjectId,
     word: Word,
     stand: &Stand,
+    steps: u32,
 ) -> Result<Result<Start, End>, NotDone>
     requires { log.kind ≡ 20 }
     ensures retries { transactions.new.retries ≡ transactions.old.retries }
     ensures route { transactions.new.route ≡ transactions.old.route }
-    ensures starts { IfOk result (λ begun. GoesFrom L.asks (towards transactions.old.route) transactions.old.retries link.old id log word stand.now begun link.new) }
+    ensures starts { IfOk result (λ begun. GoesFrom L.asks (towards transactions.old.route) transactions.old.retries link.old id log word stand.now steps begun link.new) }
 {
     let Some((from, free)) = from_there(id, stand) else {
         return Ok(Err(none_behind(stand, Ending::Epochs)));
     };
     let walk = walk_behind(log, stand);
-    let hand = take_step(alloc, link, transactions, walk, from, free)?;
+    let hand = look_ahead(alloc, link, transactions, walk, from, free, steps)?;
     start_behind(alloc, link, transactions, id, log, word, stand, from, hand)
 }
 

@@ -17,7 +17,7 @@ returns-in-Ok-clause-kept g c clean has =
     let early : HasCleanDisk mid = c.keep_and_mark.ensures.clean clean in
     let same = c.in_ok-start.ensures.same early has in
     let schema : mid.now.schema ≡ archive_schema = ap (λ (d : Database). d.schema) same ∙ has in
-    let begun : IsBegun g.L.LogLink.asks (towards c.args.transactions.now.route) c.args.transactions.now.retries c.args.link.now c.where_to_start.new.link c.args.id c.args.log c.args.word old.now.trees (Ok c.in-Ok.start) = rw c.in-Ok.is at c.in_ok-start.ensures.begun early has in
+    let begun : IsBegun g.L.LogLink.asks (towards c.args.transactions.now.route) c.args.transactions.now.retries c.args.link.now c.where_to_start.new.link c.args.id c.args.log c.args.word c.args.steps old.now.trees (Ok c.in-Ok.start) = rw c.in-Ok.is at c.in_ok-start.ensures.begun early has in
     IfOk-weaker c.keep_and_mark.result _ _
     (λ end it. keeps_begun g.L.LogLink.asks c.args.transactions.now.route c.where_to_start.new.transactions.route
     c.args.transactions.now.retries c.where_to_start.new.transactions.retries c.args.link.now c.where_to_start.new.link c.keep_and_mark.new.link
@@ -30,5 +30,5 @@ returns-in-Err-clause-kept g c clean has =
     let old = state g.A.Store c.args.conn.now in
     let mid = state g.A.Store c.where_to_start.new.conn in
     let same = c.in_ok-start.ensures.same clean has in
-    let begun : IsBegun g.L.LogLink.asks (towards c.args.transactions.now.route) c.args.transactions.now.retries c.args.link.now c.where_to_start.new.link c.args.id c.args.log c.args.word old.now.trees (Err c.in-Err.end) = rw c.in-Err.is at c.in_ok-start.ensures.begun clean has in
+    let begun : IsBegun g.L.LogLink.asks (towards c.args.transactions.now.route) c.args.transactions.now.retries c.args.link.now c.where_to_start.new.link c.args.id c.args.log c.args.word c.args.steps old.now.trees (Err c.in-Err.end) = rw c.in-Err.is at c.in_ok-start.ensures.begun clean has in
     (Err c.in-Err.end, c.where_to_start.new.link, begun, (old.now, (refl, refl, refl), same))
