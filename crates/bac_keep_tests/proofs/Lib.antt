@@ -3,3 +3,4 @@ mod OverLemmas
 mod CrashLemmas
 mod CoveredRuns
 mod LateLemmas
+mod NewLemmas

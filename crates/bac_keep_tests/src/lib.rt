@@ -21,3 +21,5 @@ mod late_callers;
 mod logs;
 #[cfg(test)]
 mod rounds;
+#[cfg(test)]
+mod up_to_date;
