@@ -1,12 +1,14 @@
 -- A log is asked for by the rules of `bac log`.
-use Rattle.std.specs.Prelude.{◌≡◌, ℕ, List, [], ◌∷◌, ◌++◌, codes, Option, None, Some, option_map, unwrap_or, Ok}
+use Rattle.std.specs.Prelude.{◌≡◌, ◌⊎◌, ℕ, List, [], ◌∷◌, ◌++◌, codes, Option, None, Some, option_map, unwrap_or, Ok}
 use Rattle.clap.specs.Words.{Text}
 use Rattle.bac_words.specs.Names.{name_of}
-use Rattle.bac_words.specs.Outcome.{job_in}
+use Rattle.bac_words.specs.Outcome.{IsRefused, job_in, mistakes_of}
+use Rattle.bac_words.specs.declared.fault.WordsFault.{WordsFault}
+use Rattle.bac_words.specs.declared.fault.WordsFault.TheVariants.{BadValue, LongNumber, Usage, Memory}
 use Rattle.bac_words.specs.declared.job.Job.{Job}
 use Rattle.bac_words.specs.declared.job.Job.TheVariants.{Log}
 use Rattle.bac_words.specs.declared.word.Word.{Word}
-use Rattle.bac_words.specs.declared.word.Word.TheVariants.{Steps, Timeout, Local, Retries, Dnet, Dadr}
+use Rattle.bac_words.specs.declared.word.Word.TheVariants.{Tool, Address, Steps, Timeout, Local, Retries, Dnet, Dadr}
 use Rattle.bac_asked.specs.declared.log_words.Asking.{Asking}
 use Rattle.bac_asked.specs.declared.options.Options.{Options}
 
@@ -50,3 +52,13 @@ IsAskingOf job asking = (from : Option ℕ) × (job ≡ Log asking.asked asking.
 -- a log is asked for as `bac log` with these words asks
 abbrev pub IsAskedBy : List Text → Asking → Type 0
 IsAskedBy words asking = (job : Job) × (job_in words ≡ Ok job) × IsAskingOf job asking
+
+-- Why `bac log` with these words asks for no log: a value of theirs is wrong, by its rules; or they are a mistake, which
+-- is told of ADDRESS; or they ask for something else, which is told of the tool; or memory was wanting.
+abbrev pub IsUnasked : List Text → WordsFault → Type 0
+IsUnasked words (BadValue word) = IsRefused words (BadValue word)
+    ⊎ (((word ≡ Address) × (mistakes_of words ≡ [] → ⊥))
+    ⊎ ((word ≡ Tool) × (job : Job) × (job_in words ≡ Ok job) × ((asking : Asking) → IsAskingOf job asking → ⊥)))
+IsUnasked words (LongNumber word) = IsRefused words (LongNumber word)
+IsUnasked words (Usage error) = ⊥
+IsUnasked words Memory = Unit {0}

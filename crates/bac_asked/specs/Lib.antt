@@ -1,5 +1,6 @@
 pub mod Status
 pub mod Lines
 pub mod AsLog
+pub mod Faults
 pub mod Wanted
 pub mod Began

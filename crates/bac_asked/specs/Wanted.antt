@@ -1,14 +1,20 @@
 -- Which logs are to be fetched, and of which device each is asked.
-use Rattle.std.specs.Prelude.{◌≡◌, ◌⊎◌, ◌==◌, ℕ, Bool, true, false, List, [], ◌∷◌, ◌++◌, Option, None, Some}
-use Rattle.std.specs.List.{list_any}
+use Rattle.std.specs.Prelude.{◌≡◌, ◌⊎◌, ◌==◌, ℕ, Bool, true, false, List, [], ◌∷◌, ◌++◌, codes, Option, None, Some, IsSome}
+use Rattle.std.specs.List.{Contains, list_any}
 use Rattle.std.specs.String.{string_bytes}
 use Rattle.hex.specs.Hex.{encode_lower}
 use Rattle.bac_apdu.specs.Npdu.{Place}
 use Rattle.bac_archive.specs.declared.trend_logs.Source.{Source}
 use Rattle.clap.specs.Words.{Text}
 use Rattle.bac_print.specs.Addresses.{address_text}
+use Rattle.bac_words.specs.declared.fault.WordsFault.{WordsFault}
 use Rattle.bac_words.specs.declared.job.Asked.{Asked}
-use Rattle.bac_asked.specs.AsLog.{Given, IsAskedBy, log_words}
+use Rattle.bac_words.specs.declared.word.Word.TheVariants.{Address}
+use Rattle.bac_asked.specs.AsLog.{Given, IsAskedBy, IsUnasked, log_words}
+use Rattle.bac_asked.specs.Faults.{of_words}
+use Rattle.bac_asked.specs.declared.end.NotDone.{NotDone}
+use Rattle.bac_asked.specs.declared.end.NotDone.TheVariants.{Asking as Unasked}
+use Rattle.bac_asked.specs.declared.fault.Fault.TheVariants.{BadValue}
 use Rattle.bac_asked.specs.declared.log_words.Asking.{Asking}
 use Rattle.bac_asked.specs.declared.wanted.Wanted.{Wanted}
 
@@ -48,3 +54,19 @@ AddNamed address given [] before after = after ≡ before
 AddNamed address given (instance ∷ more) before after =
     (wanted : Wanted) × (mid : List Wanted) × IsAskedBy (log_words address instance given) wanted.asking
     × AsksItsSource wanted × AddsOnce wanted before mid × AddNamed address given more mid after
+
+-- Why words name no log: `bac log` with them asks for none, or memory was wanting.
+abbrev pub IsUnnamed : List Text → NotDone → Type 0
+IsUnnamed words fault = (why : WordsFault) × IsUnasked words why × (fault ≡ Unasked (of_words why))
+
+-- why several words name no logs: one of them names none
+abbrev pub AreUnnamed : Text → Given → List Text → NotDone → Type 0
+AreUnnamed address given instances fault =
+    (instance : Text) × Contains instances instance × IsUnnamed (log_words address instance given) fault
+
+-- Why the options of `bac keep FILE` are none: a way to a device is among them, which is told of ADDRESS; or `bac log`
+-- with them asks for no log.
+abbrev pub AreNoOptions : Given → NotDone → Type 0
+AreNoOptions given fault =
+    ((IsSome given.dnet ⊎ IsSome given.dadr) × (fault ≡ Unasked (BadValue Address)))
+    ⊎ IsUnnamed (log_words (codes "0.0.0.0") (codes "0") given) fault

@@ -1,6 +1,7 @@
 //! Why logs aren't kept.
 
 ghost use Rattle.std.specs.Prelude.{◌≡◌};
+ghost use Rattle.bac_asked.specs.Faults.{of_error, of_refusal};
 ghost use Rattle.bac_asked.specs.Status.{file_status};
 
 use bac_archive::{NotAdded, Refused};
@@ -63,7 +64,9 @@ pub enum FileFault {
 
 impl FileFault {
     /// The fault of a database.
-    pub fn of(error: Error) -> FileFault {
+    pub fn of(error: Error) -> FileFault
+        ensures { result ≡ of_error error }
+    {
         match error {
             Error::SqliteFailure(ErrorCode::DatabaseBusy) => FileFault::InUse,
             error => FileFault::Database(error),
@@ -71,7 +74,9 @@ impl FileFault {
     }
 
     /// The fault of a database that isn't opened as an archive.
-    pub fn of_refusal(refused: Refused) -> FileFault {
+    pub fn of_refusal(refused: Refused) -> FileFault
+        ensures { result ≡ of_refusal refused }
+    {
         match refused {
             Refused::Foreign => FileFault::Foreign,
             Refused::First => FileFault::First,

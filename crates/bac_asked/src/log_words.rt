@@ -1,10 +1,11 @@
 //! The words of `bac log` that ask for a log of `keep`: a device, a log and options are read by the
 //! same rules.
 
-ghost use Rattle.std.specs.Prelude.{◌≡◌, ◌∷◌, ◌++◌, [], map, option_map, codes, unwrap_or, IfOk, OnOk, Ok};
+ghost use Rattle.std.specs.Prelude.{◌≡◌, ◌∷◌, ◌++◌, [], map, option_map, codes, unwrap_or, IfErr, IfOk, OnOk, Ok};
 ghost use Rattle.std.specs.String.{string_bytes};
-ghost use Rattle.bac_words.specs.Outcome.{job_in};
-ghost use Rattle.bac_asked.specs.AsLog.{IsAskedBy, IsAskingOf, given_in, log_words, option_words};
+ghost use Rattle.bac_words.specs.Outcome.{IsRefused, job_in};
+ghost use Rattle.bac_asked.specs.AsLog.{IsAskedBy, IsAskingOf, IsUnasked, given_in, log_words, option_words};
+ghost use Rattle.bac_asked.specs.declared.log_words.Asking.{Asking as AnyAsking};
 
 use crate::options::Options;
 use bac_words::{Asked, Job, Word, WordsFault, read_words};
@@ -90,7 +91,8 @@ fn log_job(
     instance: &str,
     options: &Options<'_>,
 ) -> Result<Job, WordsFault>
-    ensures { IfOk result (λ job. job_in (log_words address.now instance.now (given_in options.now)) ≡ Ok job) }
+    ensures ok { IfOk result (λ job. job_in (log_words address.now instance.now (given_in options.now)) ≡ Ok job) }
+    ensures err { IfErr result (IsRefused (log_words address.now instance.now (given_in options.now))) }
 {
     let words = log_words(alloc, address, instance, options)?;
     read_words(alloc, words.as_slice())
@@ -98,7 +100,8 @@ fn log_job(
 
 /// How the log of a job is asked for.
 fn asking_of(job: Job) -> Result<Asking, WordsFault>
-    ensures { IfOk result (IsAskingOf job) }
+    ensures ok { IfOk result (IsAskingOf job) }
+    ensures err { IfErr result (λ fault. (fault ≡ WordsFault.BadValue Word.Tool) × ((asking : AnyAsking) → IsAskingOf job asking → ⊥)) }
 {
     match job {
         Job::Log {
@@ -122,7 +125,8 @@ pub(crate) fn ask_as_log(
     instance: &str,
     options: &Options<'_>,
 ) -> Result<Asking, WordsFault>
-    ensures { IfOk result (IsAskedBy (log_words address.now instance.now (given_in options.now))) }
+    ensures ok { IfOk result (IsAskedBy (log_words address.now instance.now (given_in options.now))) }
+    ensures err { IfErr result (IsUnasked (log_words address.now instance.now (given_in options.now))) }
 {
     match log_job(alloc, address, instance, options) {
         Ok(job) => asking_of(job),

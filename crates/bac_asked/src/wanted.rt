@@ -1,10 +1,11 @@
 //! The logs that are to be fetched, and where they are.
 
-ghost use Rattle.std.specs.Prelude.{◌≡◌, IfOk, OnOk, [], ◌∷◌, ◌++◌};
+ghost use Rattle.std.specs.Prelude.{◌≡◌, IfErr, IfOk, OnOk, [], ◌∷◌, ◌++◌};
 ghost use Rattle.std.specs.List.{All};
 ghost use Rattle.std.specs.String.{string_bytes};
 ghost use Rattle.bac_asked.specs.AsLog.{IsAskedBy, given_in, log_words};
-ghost use Rattle.bac_asked.specs.Wanted.{AddNamed, AddsOnce, AsksItsSource, IsSourceOf, has_instance};
+ghost use Rattle.bac_asked.specs.Faults.{of_words};
+ghost use Rattle.bac_asked.specs.Wanted.{AddNamed, AddsOnce, AreNoOptions, AreUnnamed, AsksItsSource, IsSourceOf, IsUnnamed, has_instance};
 
 use crate::end::NotDone;
 use crate::fault::{Fault, FileFault};
@@ -27,7 +28,9 @@ pub struct Wanted {
 }
 
 /// A fault of words.
-pub fn of_words(fault: WordsFault) -> NotDone {
+pub fn of_words(fault: WordsFault) -> NotDone
+    ensures { result ≡ NotDone.Asking (of_words fault) }
+{
     match fault {
         WordsFault::BadValue(word) => NotDone::Asking(Fault::BadValue(word)),
         WordsFault::LongNumber(word) => NotDone::Asking(Fault::LongNumber(word)),
@@ -75,6 +78,7 @@ pub fn named(
 ) -> Result<Wanted, NotDone>
     ensures source { IfOk result AsksItsSource }
     ensures asked { IfOk result (λ wanted. IsAskedBy (log_words address.now instance.now (given_in options.now)) wanted.asking) }
+    ensures unnamed { IfErr result (IsUnnamed (log_words address.now instance.now (given_in options.now))) }
 {
     let asking = match ask_as_log(alloc, address, instance, options) {
         Ok(asking) => asking,
@@ -109,12 +113,16 @@ fn has_instance(all: &[Wanted], instance: u32) -> bool
 
 /// Puts a log behind others of its device, unless it is among them.
 fn add_once(all: &mut Vec<Wanted>, wanted: Wanted) -> Result<(), NotDone>
-    ensures { OnOk result (AddsOnce wanted all.old.items all.new.items) }
+    ensures added { OnOk result (AddsOnce wanted all.old.items all.new.items) }
+    ensures memory { IfErr result (λ fault. fault ≡ NotDone.Asking Fault.Memory) }
 {
     if has_instance(all.as_slice(), wanted.source.instance) {
         return Ok(());
     }
-    add_wanted(all, wanted)
+    match all.push(wanted) {
+        Ok(()) => Ok(()),
+        Err(_) => Err(NotDone::Asking(Fault::Memory)),
+    }
 }
 
 /// The logs of one device that words name, each once.
@@ -126,6 +134,7 @@ pub fn named_all(
 ) -> Result<Vec<Wanted>, NotDone>
     ensures source { IfOk result (λ all. All AsksItsSource all.items) }
     ensures named { IfOk result (λ all. AddNamed address.now (given_in options.now) instances.now [] all.items) }
+    ensures unnamed { IfErr result (AreUnnamed address.now (given_in options.now) instances.now) }
 {
     let mut all = Vec::new(alloc);
     for instance in instances {
@@ -184,7 +193,9 @@ pub fn kept_log(alloc: Global, log: Log, options: &Options<'_>) -> Result<Wanted
 }
 
 /// The options of `bac keep FILE`: no way to a device is among them.
-pub fn check_options(alloc: Global, options: &Options<'_>) -> Result<(), NotDone> {
+pub fn check_options(alloc: Global, options: &Options<'_>) -> Result<(), NotDone>
+    ensures { IfErr result (AreNoOptions (given_in options.now)) }
+{
     if options.dnet.is_some() || options.dadr.is_some() {
         return Err(NotDone::Asking(Fault::BadValue(Word::Address)));
     }
