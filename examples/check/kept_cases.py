@@ -18,6 +18,7 @@ from kept_clocks import clocks, either_line, questions
 from kept_devices import Device, Log, chance, lock, serve, wait_until_asked
 from kept_judge import wrongs
 from kept_rounds import one, rounds, said
+from kept_stopped import stopped
 from kept_terminal import terminals
 from kept_warehouse import warehouses
 from kept_whose import other_devices
@@ -646,4 +647,4 @@ def judgements(judge, _runs):
 
 
 CASES = [judgements, run_after_run, beginnings, options, losses, line_by_line, step_limits, last_epoch, dead_devices, other_devices, words_and_names, no_archive, far_away, rounds, restarts, clocks, questions, cut_files, foreign_files, a_large_file, printed, taken_over, served,
-         terminals, warehouses]
+         stopped, terminals, warehouses]

@@ -35,6 +35,7 @@ abbrev pub range_text : Word → List ℕ
 range_text word.Tool = codes "replay, wi, rp, wp, log, logs, keep, kept or serve"
 range_text word.File = codes "the name of a file"
 range_text word.Csv = codes "an option without a value"
+range_text word.Stop = codes "an option without a value, beside ADDRESS"
 range_text word.Address = address_range ++ codes "; for bac wi also with /20 to /32 behind it"
 range_text word.Local = address_range
 range_text word.ObjectType = codes "a number from 0 to 1023"

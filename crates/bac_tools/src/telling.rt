@@ -27,6 +27,7 @@ fn range_of<'a>(word: Word) -> &'a str
         Word::Tool => "replay, wi, rp, wp, log, logs, keep, kept or serve",
         Word::File => "the name of a file",
         Word::Csv => "an option without a value",
+        Word::Stop => "an option without a value, beside ADDRESS",
         Word::Address =>
             "A.B.C.D or A.B.C.D:PORT, each of A to D from 0 to 255, PORT from 1 to 65535; for bac wi \
              also with /20 to /32 behind it",

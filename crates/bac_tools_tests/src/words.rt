@@ -64,7 +64,7 @@ fn each_tool_with_its_defaults(rt: HostRuntime) -> Result<(), Fail> {
             (
                 "keep a.db",
                 "Keep(Keep { file: Name { text: \"a.db\" }, address: None, instances: Names { list: [] }, \
-                 options: KeepOptions { steps: None, timeout: None, local: None, retries: None, \
+                 stop: false, options: KeepOptions { steps: None, timeout: None, local: None, retries: None, \
                  dnet: None, dadr: None } })",
             ),
             (
@@ -165,10 +165,10 @@ fn keep_and_kept_have_their_texts(rt: HostRuntime) -> Result<(), Fail> {
         &rt,
         &[
             (
-                "keep a.db 10.0.0.1 1 x --steps=5 --timeout=0 --local=b --retries=c --dnet=d --dadr=e",
+                "keep a.db --stop 10.0.0.1 1 x --steps=5 --timeout=0 --local=b --retries=c --dnet=d --dadr=e",
                 "Keep(Keep { file: Name { text: \"a.db\" }, address: Some(Name { text: \"10.0.0.1\" }), \
                  instances: Names { list: [Name { text: \"1\" }, Name { text: \"x\" }] }, \
-                 options: KeepOptions { steps: Some(Name { text: \"5\" }), \
+                 stop: true, options: KeepOptions { steps: Some(Name { text: \"5\" }), \
                  timeout: Some(Name { text: \"0\" }), local: Some(Name { text: \"b\" }), \
                  retries: Some(Name { text: \"c\" }), dnet: Some(Name { text: \"d\" }), \
                  dadr: Some(Name { text: \"e\" }) } })",

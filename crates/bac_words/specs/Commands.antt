@@ -9,7 +9,7 @@ use Rattle.clap.specs.declared.builder.command.Command.TheViews.{out-Command}
 use Rattle.bac_words.specs.declared.word.Word.{Word}
 use Rattle.bac_words.specs.declared.word.Word.TheVariants.{Address, ObjectType, Instance, Property, Priority, Tag, From, File}
 use Rattle.bac_words.specs.declared.word.Word.TheVariants.{Index, Value, Min, Max, Steps, Count, Local, Timeout}
-use Rattle.bac_words.specs.declared.word.Word.TheVariants.{Retries, Dnet, Dadr, Csv}
+use Rattle.bac_words.specs.declared.word.Word.TheVariants.{Retries, Dnet, Dadr, Csv, Stop}
 use Rattle.bac_words.specs.Names.{name_of}
 
 -- NAME, a word that has to be there
@@ -91,10 +91,10 @@ log_app = with_rules (new_app (codes "log"))
 abbrev pub logs_app : App
 logs_app = with_rules (new_app (codes "logs")) (needed Address ∷ maybe_list Instance ∷ asking_rules)
 
--- bac keep FILE [ADDRESS [INSTANCE..]] [--steps=N]
+-- bac keep FILE [ADDRESS [INSTANCE..]] [--steps=N] [--stop]
 abbrev pub keep_app : App
 keep_app = with_rules (new_app (codes "keep"))
-    (needed File ∷ maybe Address ∷ maybe_list Instance ∷ option Steps ∷ keeping_rules)
+    (needed File ∷ maybe Address ∷ maybe_list Instance ∷ option Steps ∷ flag Stop ∷ keeping_rules)
 
 -- bac kept FILE [ADDRESS [INSTANCE]] [--csv]
 abbrev pub kept_app : App

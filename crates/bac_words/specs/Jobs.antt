@@ -1,12 +1,12 @@
 -- The job that a tool's words and options say, or the first of them whose value isn't one that it can have.
-use Rattle.std.specs.Prelude.{ℕ, List, if◌then◌else◌, Option, None, Some, Result, Ok, Err, codes, option_and_then}
+use Rattle.std.specs.Prelude.{ℕ, Bool, true, List, if◌then◌else◌, Option, None, Some, Result, Ok, Err, codes, option_and_then}
 use Rattle.std.specs.Option.{ok_or}
 use Rattle.std.specs.Str.{bytes_eq}
 use Rattle.clap.specs.Words.{Row, Text}
 use Rattle.bac_words.specs.declared.word.Word.{Word}
 use Rattle.bac_words.specs.declared.word.Word.TheVariants.{Tool, Address, ObjectType, Instance, Property, Priority, Tag}
 use Rattle.bac_words.specs.declared.word.Word.TheVariants.{From, File, Index, Value, Min, Max, Steps, Count, Local, Timeout}
-use Rattle.bac_words.specs.declared.word.Word.TheVariants.{Retries, Dnet, Dadr, Csv}
+use Rattle.bac_words.specs.declared.word.Word.TheVariants.{Retries, Dnet, Dadr, Csv, Stop}
 use Rattle.bac_words.specs.declared.job.Job.{Job}
 use Rattle.bac_words.specs.declared.job.Job.TheVariants.{Replay, Wi, Rp, Wp, Log, Logs, Serve}
 use Rattle.bac_words.specs.declared.job.Job.TheVariants as job
@@ -120,14 +120,21 @@ keep_options_at rows = record {
   dadr = text_at Dadr rows;
 }
 
+-- --stop goes with ADDRESS only
+abbrev pub stop_beside : Option Text → Bool → Result Bool Word
+stop_beside None true = Err Stop
+stop_beside address stop = Ok stop
+
 -- bac keep: its texts, which are read by the rules of `log` for each log
 unfoldable pub keep_at : List Row → Result Job Word
 keep_at rows = do
   file ← file_at rows
+  stop ← stop_beside (text_at Address rows) (is_said Stop rows)
   Ok (job.Keep (record {
     file = file;
     address = text_at Address rows;
     instances = texts_at Instance rows;
+    stop = stop;
     options = keep_options_at rows;
   }))
 

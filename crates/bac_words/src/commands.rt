@@ -356,6 +356,7 @@ adds trend logs 1 and 2 of that device to site.db and fetches their records:
 
 Without INSTANCE it adds each trend log of the device's Object_List, and
 bac keep site.db fetches what is new of each log in the file. sqlite3 reads it.
+With --stop the file keeps what it has of these logs, and they are left out.
 
 Status: the greatest of its logs' as bac log has them, but 8 for a step limit;
 6 the file isn't an archive, can't be read or written, or is full; 7 another
@@ -368,6 +369,8 @@ program has it open.";
     let command = with(command, maybe_list(alloc, Word::Instance, help))?;
     let help = "Batches of up to 100 records a log; all if left out";
     let command = with(command, option(alloc, Word::Steps, "N", help))?;
+    let help = "These logs aren't asked any more; adding them starts them";
+    let command = with(command, flag(alloc, Word::Stop, help))?;
     with_keeping(alloc, command)
 }
 

@@ -72,6 +72,8 @@ pub struct Keep {
     pub address: Option<Name>,
     /// The logs of the device; each of its Object_List if there are none.
     pub instances: Names,
+    /// They aren't asked any more.
+    pub stop: bool,
     pub options: KeepOptions,
 }
 

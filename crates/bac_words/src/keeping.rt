@@ -4,7 +4,7 @@ ghost use Rattle.std.specs.Prelude.{◌≡◌, IfOk, map, option_map};
 ghost use Rattle.clap.specs.Words.{rows_of, found_of};
 ghost use Rattle.bac_words.specs.Steps.{Makes};
 ghost use Rattle.bac_words.specs.Rows.{is_said, text_at, texts_at};
-ghost use Rattle.bac_words.specs.Jobs.{file_at, keep_options_at, keep_at, kept_at};
+ghost use Rattle.bac_words.specs.Jobs.{file_at, keep_options_at, keep_at, kept_at, stop_beside};
 
 use crate::fault::WordsFault;
 use crate::job::{Job, Keep, KeepOptions, Kept};
@@ -73,22 +73,6 @@ fn keep_options_at(alloc: Global, matches: &ArgMatches) -> Result<KeepOptions, A
     })
 }
 
-#[tactic(auto, unfolding(crate::specs::Jobs::keep_at))]
-pub(crate) fn keep(alloc: Global, matches: &ArgMatches) -> Result<Job, WordsFault>
-    ensures { Makes (keep_at (rows_of (found_of matches.now))) result }
-{
-    let file = file_at(alloc, matches)?;
-    let address = name_at(alloc, matches, Word::Address)?;
-    let instances = names_at(alloc, matches, Word::Instance)?;
-    let options = keep_options_at(alloc, matches)?;
-    Ok(Job::Keep(Keep {
-        file,
-        address,
-        instances,
-        options,
-    }))
-}
-
 /// Whether an option without a value was given.
 fn is_said(matches: &ArgMatches, word: Word) -> bool
     ensures { result ≡ is_said word (rows_of (found_of matches.now)) }
@@ -97,6 +81,34 @@ fn is_said(matches: &ArgMatches, word: Word) -> bool
         Some(text) => text.as_bytes() == b"true".as_slice(),
         None => false,
     }
+}
+
+/// That logs are stopped is said of a device.
+fn stop_beside(address: &Option<Name>, stop: bool) -> Result<bool, Word>
+    ensures { result ≡ stop_beside address.now stop }
+{
+    if stop && address.is_none() {
+        return Err(Word::Stop);
+    }
+    Ok(stop)
+}
+
+#[tactic(auto, unfolding(crate::specs::Jobs::keep_at))]
+pub(crate) fn keep(alloc: Global, matches: &ArgMatches) -> Result<Job, WordsFault>
+    ensures { Makes (keep_at (rows_of (found_of matches.now))) result }
+{
+    let file = file_at(alloc, matches)?;
+    let address = name_at(alloc, matches, Word::Address)?;
+    let stop = stop_beside(&address, is_said(matches, Word::Stop))?;
+    let instances = names_at(alloc, matches, Word::Instance)?;
+    let options = keep_options_at(alloc, matches)?;
+    Ok(Job::Keep(Keep {
+        file,
+        address,
+        instances,
+        stop,
+        options,
+    }))
 }
 
 #[tactic(auto, unfolding(crate::specs::Jobs::kept_at))]

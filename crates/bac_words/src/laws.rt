@@ -3,7 +3,7 @@
 
 ghost use Rattle.std.specs.Prelude.{[], ◌∷◌, codes, None, Some, Ok, Err, negsuc, false, true};
 ghost use Rattle.clap.specs.declared.error.kind.ErrorKind.TheVariants.{MissingRequiredArgument, MissingSubcommand, UnknownArgument, ArgumentConflict, DisplayHelp};
-ghost use Rattle.bac_words.specs.declared.word.Word.TheVariants.{Address, From, Instance, Max, Retries, Dnet, Dadr};
+ghost use Rattle.bac_words.specs.declared.word.Word.TheVariants.{Address, From, Instance, Max, Retries, Dnet, Dadr, Stop};
 ghost use Rattle.bac_words.specs.declared.job.Job.TheVariants.{Replay, Wi, Rp, Wp, Log, Logs, Keep, Kept, Serve};
 ghost use Rattle.bac_words.specs.declared.job.Given.TheVariants.{Null, Signed};
 ghost use Rattle.bac_words.specs.declared.job.Stations.TheVariants.{Input, Listed};
@@ -29,14 +29,17 @@ pub fn lines_say_jobs()
     ensures logs { Says (codes "bac logs 10.0.0.1 7 0") (Ok (Logs by_default (7 ∷ 0 ∷ []))) }
     ensures every { Says (codes "bac logs 10.0.0.1") (Ok (Logs by_default [])) }
     ensures keep { Says (codes "bac keep a.db")
-        (Ok (Keep (record { file = codes "a.db"; address = None; instances = []; options = no_options }))) }
+        (Ok (Keep (record { file = codes "a.db"; address = None; instances = []; stop = false; options = no_options }))) }
     ensures named { Says (codes "bac keep a.db 10.0.0.1 1 2 --steps=5")
         (Ok (Keep (record {
           file = codes "a.db";
           address = Some (codes "10.0.0.1");
           instances = codes "1" ∷ codes "2" ∷ [];
+          stop = false;
           options = record no_options { steps = Some (codes "5") };
         }))) }
+    ensures stop { Says (codes "bac keep a.db --stop 10.0.0.1")
+        (Ok (Keep (record { file = codes "a.db"; address = Some (codes "10.0.0.1"); instances = []; stop = true; options = no_options }))) }
     ensures kept { Says (codes "bac kept a.db 10.0.0.1")
         (Ok (Kept (record { file = codes "a.db"; address = Some (codes "10.0.0.1"); instance = None; csv = false }))) }
     ensures csv { Says (codes "bac kept a.db --csv")
@@ -58,6 +61,7 @@ pub fn lines_say_bad_values()
     ensures retries { Says (codes "bac rp 10.0.0.1 8 123 77 --retries=11") (Err Retries) }
     ensures from { Says (codes "bac log 10.0.0.1 7 0") (Err From) }
     ensures instance { Says (codes "bac logs 10.0.0.1 7 4194304") (Err Instance) }
+    ensures stop { Says (codes "bac keep a.db --stop") (Err Stop) }
     ensures max { Says (codes "bac wi 10.0.0.1 --max=5") (Err Max) }
     ensures dnet { Says (codes "bac log 10.0.0.1 7 43 --dnet=65535 --dadr=0a") (Err Dnet) }
     ensures dnet_alone { Says (codes "bac rp 10.0.0.1 8 123 77 --dnet=7") (Err Dadr) }

@@ -40,6 +40,8 @@ pub enum Word {
     Count,
     /// Lines of CSV.
     Csv,
+    /// Logs aren't asked any more.
+    Stop,
     /// Our own address.
     Local,
     /// How long to wait for an answer, in milliseconds.
@@ -74,6 +76,7 @@ impl Word {
             Word::Steps => "steps",
             Word::Count => "count",
             Word::Csv => "csv",
+            Word::Stop => "stop",
             Word::Local => "local",
             Word::Timeout => "timeout",
             Word::Retries => "retries",
@@ -95,6 +98,7 @@ impl Word {
                 | Word::Steps
                 | Word::Count
                 | Word::Csv
+                | Word::Stop
                 | Word::Local
                 | Word::Timeout
                 | Word::Retries
@@ -113,6 +117,7 @@ impl Word {
                 | Word::Address
                 | Word::File
                 | Word::Csv
+                | Word::Stop
                 | Word::Local
                 | Word::Value
                 | Word::Dadr

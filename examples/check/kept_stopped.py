@@ -1,0 +1,42 @@
+"""Logs that aren't asked any more, for kept.py."""
+import os
+import sqlite3
+
+from kept_rounds import one, said
+
+
+def stopped(judge, _runs):
+    """Logs that are stopped stay in the file and aren't asked; what `--stop` doesn't find changes nothing."""
+    (first, log), (second, other) = one(count=3), one(count=2)
+    far, _ = one(way=(5, b"\x07"), count=1)
+    file = f"{judge.room}/a.db"
+    for device in (first, second):
+        judge.ran(["keep", file, device.address, "1"])
+    judge.ran(["keep", file, far.address, "1", "--dnet=5", "--dadr=07"])
+    asked = first.asked + second.asked + far.asked
+    judge.same("stopped", judge.ran(["keep", file, "--stop", first.address]), (0, f"{first.address} 1 stopped\n", ""))
+    judge.same("stopped again", judge.ran(["keep", file, first.address, "1", "--stop"]), (0, f"{first.address} 1 stopped\n", ""))
+    missing = (6, "", "file fault\nit keeps no such trend log\n")
+    judge.same("the router has no log", judge.ran(["keep", file, "--stop", far.address]), missing)
+    judge.same("behind the router", judge.ran(["keep", file, "--stop", far.address, "--dnet=5", "--dadr=07"]),
+               (0, f"{far.address}/5/07 1 stopped\n", ""))
+    judge.same("one that isn't there", judge.ran(["keep", file, "--stop", second.address, "1", "2"]), missing)
+    judge.same("nobody is asked", first.asked + second.asked + far.asked, asked)
+    log.log(1)
+    other.log(1)
+    judge.same("the others go on", judge.ran(["keep", file]), (0, said(second, 1, 0, "caught up, next 4"), ""))
+    lines = judge.ran(["kept", file])[1].splitlines()
+    judge.same("kept tells it", [line for line in lines if line.startswith("127.")],
+               [f"{first.address} 1 stopped", f"{second.address} 1", f"{far.address}/5/07 1 stopped"])
+    judge.same("what was kept stays", len(lines), 10)
+    judge.same("by its instance", judge.ran(["keep", file, "--stop", second.address, "1"]), (0, f"{second.address} 1 stopped\n", ""))
+    judge.same("none is left", judge.ran(["keep", file]), (6, "", "file fault\nthere is no trend log in it\n"))
+    base = sqlite3.connect(f"file:{file}?mode=ro", uri=True)
+    judge.same("their rows", base.execute("SELECT id, address, instance, stopped FROM logs ORDER BY id").fetchall(),
+               [(1, first.address, 1, 1), (2, second.address, 1, 1), (3, far.address, 1, 1)])
+    base.close()
+    judge.same("no file", judge.ran(["keep", f"{judge.room}/none.db", "--stop", first.address]),
+               (6, "", "file fault\nthere is no such file\n"))
+    judge.is_right("none is made", not os.path.exists(f"{judge.room}/none.db"))
+    judge.same("--stop alone", judge.ran(["keep", file, "--stop"]),
+               (1, "", "bad value\n--stop: an option without a value, beside ADDRESS\n"))
