@@ -46,6 +46,10 @@ unfoldable pub summary_line : Source → End → List ℕ
 summary_line source end = source_text source ++ (32 ∷ (counted end.records (codes " record ") (codes " records ")
     ++ (counted end.gaps (codes " gap ") (codes " gaps ") ++ ending_line end.why end.next)))
 
+-- that a log isn't asked any more
+unfoldable pub stopped_line : Source → List ℕ
+stopped_line source = source_text source ++ codes " stopped\n"
+
 -- that the device of a log began anew
 unfoldable pub anew_line : Source → List ℕ
 anew_line source = source_text source ++ codes " began anew\n"

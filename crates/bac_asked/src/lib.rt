@@ -18,7 +18,9 @@ pub use end::{End, Ending, NotDone, end_status, of_error};
 pub use fault::{Fault, FileFault};
 pub use log_words::Asking;
 pub use options::Options;
-pub use summary::{push_address, push_anew, push_short, push_source, push_summary};
+pub use summary::{
+    push_address, push_anew, push_short, push_source, push_stopped, push_summary,
+};
 pub use wanted::{
     Wanted, add_wanted, check_options, kept_log, named, named_all, of_words, source_of,
 };

@@ -3,7 +3,7 @@
 ghost use Rattle.std.specs.Prelude.{◌≡◌, ◌==◌, ◌++◌, if◌then◌else◌, decimal, OnOk, List, Some};
 ghost use Rattle.std.specs.Float.Ieee.{binary64};
 ghost use Rattle.ryu.specs.Parse.{parse_float};
-ghost use Rattle.bac_asked.specs.Lines.{anew_line, counted, ending_line, other_line, place_text, reason_line, source_text, summary_line, who_text};
+ghost use Rattle.bac_asked.specs.Lines.{anew_line, counted, ending_line, other_line, place_text, reason_line, source_text, stopped_line, summary_line, who_text};
 
 use crate::end::{End, Ending};
 use bac_archive::Source;
@@ -128,6 +128,15 @@ pub fn push_summary(text: &mut Vec<u8>, source: &Source, end: &End) -> Result<()
     push_count(text, end.records, b" record ", b" records ")?;
     push_count(text, end.gaps, b" gap ", b" gaps ")?;
     push_ending(text, end.why, end.next)
+}
+
+/// Appends the line that tells that a log isn't asked any more.
+#[tactic(auto, unfolding(crate::specs::Lines::stopped_line))]
+pub fn push_stopped(text: &mut Vec<u8>, source: &Source) -> Result<(), AllocError>
+    ensures { OnOk result (text.new.items ≡ text.old.items ++ stopped_line source.now) }
+{
+    push_source(text, source)?;
+    text.extend_from_slice(b" stopped\n")
 }
 
 /// Appends the line that tells that the device of a log began anew.

@@ -369,7 +369,7 @@ program has it open.";
     let command = with(command, maybe_list(alloc, Word::Instance, help))?;
     let help = "Batches of up to 100 records a log; all if left out";
     let command = with(command, option(alloc, Word::Steps, "N", help))?;
-    let help = "These logs aren't asked any more; adding them starts them";
+    let help = "Ask these logs no more; adding them starts them again";
     let command = with(command, flag(alloc, Word::Stop, help))?;
     with_keeping(alloc, command)
 }
