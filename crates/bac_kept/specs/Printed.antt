@@ -11,7 +11,7 @@ use Rattle.bac_print.specs.Entries.{gap_line}
 use Rattle.bac_print.specs.Output.{AppendsPart, Held}
 use Rattle.bac_kept.specs.declared.printing.Shown.{Shown}
 use Rattle.bac_kept.specs.declared.printing.Shown.TheVariants as shown
-use Rattle.bac_asked.specs.Lines.{source_text}
+use Rattle.bac_asked.specs.Lines.{source_text, stopped_line}
 
 -- the line of an item, as `bac log` prints it: a gap up to its last number, or a record with its stamp, datum and flags
 unfoldable pub item_line : ℕ → Option ℕ → List ℕ → List ℕ → List ℕ → List ℕ
@@ -60,10 +60,14 @@ is_chosen (shown.Device source) log = string_eq source.address log.source.addres
 is_chosen (shown.One source) log =
     string_eq source.address log.source.address && (source.instance == log.source.instance)
 
--- the line that names a log, unless it is the one that was chosen
+-- the line that names a log, and tells whether it isn't asked any more
+unfoldable pub log_line : Log → List ℕ
+log_line log = if log.stopped then stopped_line log.source else source_text log.source ++ 10 ∷ []
+
+-- this line, unless the log is the one that was chosen
 abbrev pub head_line : Shown → Log → List ℕ
 head_line (shown.One source) log = []
-head_line _ log = source_text log.source ++ 10 ∷ []
+head_line _ log = log_line log
 
 -- the text of a log, if it is chosen: its head, and the lines of its items
 abbrev pub PrintsLog : Shown → List Values → Log → List ℕ → Type 0

@@ -8,11 +8,10 @@ ghost use Rattle.bac_archive.specs.Items.{epoch_in};
 ghost use Rattle.bac_archive.specs.Rows.{kept};
 ghost use Rattle.bac_archive.specs.Schema.{archive_schema};
 ghost use Rattle.bac_print.specs.Output.{AppendsPart};
-ghost use Rattle.bac_asked.specs.Lines.{source_text};
-ghost use Rattle.bac_kept.specs.Printed.{PrintsFront, PrintsItems, anew_if, item_line, row_lines};
+ghost use Rattle.bac_kept.specs.Printed.{PrintsFront, PrintsItems, anew_if, item_line, log_line, row_lines};
 
 use bac_archive::{Item, Log, items_of, read_item};
-use bac_asked::{Fault, NotDone, of_error, push_source};
+use bac_asked::{Fault, NotDone, of_error, push_source, push_stopped};
 use bac_print::{push_gap, push_number, write_text};
 use sqlite::{Alter, Connection, Error, ErrorCode, Row};
 use std::alloc::{AllocError, Global};
@@ -57,13 +56,26 @@ fn lines_of(text: &mut Vec<u8>, item: &Item<'_>, epoch: Option<u16>) -> Result<(
     push_item(text, item)
 }
 
+/// Appends a line that names a log, and tells whether it isn't asked any more.
+#[tactic(auto, unfolding(crate::specs::Printed::log_line))]
+fn push_log(text: &mut Vec<u8>, log: &Log) -> Result<(), AllocError>
+    ensures { OnOk result (text.new.items ≡ text.old.items ++ log_line log.now) }
+{
+    if log.stopped {
+        return push_stopped(text, &log.source);
+    }
+    push_source(text, &log.source)?;
+    text.push(b'\n')?;
+    Ok(())
+}
+
 /// Prints a line that names a log.
 pub(crate) fn print_head<O: Write>(alloc: Global, log: &Log, output: &mut O) -> Result<(), NotDone>
-    ensures ok { OnOk result (Appends (O.contents output.old) (O.contents output.new) (source_text log.now.source ++ 10 ∷ [])) }
-    ensures err { OnErr result (AppendsPart (O.contents output.old) (O.contents output.new) (source_text log.now.source ++ 10 ∷ [])) }
+    ensures ok { OnOk result (Appends (O.contents output.old) (O.contents output.new) (log_line log.now)) }
+    ensures err { OnErr result (AppendsPart (O.contents output.old) (O.contents output.new) (log_line log.now)) }
 {
     let mut text = Vec::new(alloc);
-    if push_source(&mut text, &log.source).is_err() || text.push(b'\n').is_err() {
+    if push_log(&mut text, log).is_err() {
         return Err(NotDone::Asking(Fault::Memory));
     }
     match write_text(output, &text) {
