@@ -1,6 +1,6 @@
 //! Logs are added to an archive, and what is new of them is kept.
 
-ghost use Rattle.std.specs.Prelude.{◌≡◌, ◌≢◌, ◌⊎◌, ℕ, false, OnOk, IfOk, IfSome, List, [], option_map};
+ghost use Rattle.std.specs.Prelude.{◌≡◌, ◌≢◌, ◌⊎◌, ◌∷◌, ◌++◌, ℕ, false, OnOk, IfOk, IfSome, List, [], map, option_map};
 ghost use Rattle.std.specs.List.{All};
 ghost use Rattle.std.specs.String.{string_bytes};
 ghost use Rattle.sqlite.specs.State.{HasCleanDisk, Survives};
@@ -14,7 +14,8 @@ ghost use Rattle.bac_fetch.specs.Whose.{IsOnRecord, device_of, heard_with, hindr
 ghost use Rattle.bac_fetch.specs.declared.whose.Heard.{Heard as HeardOf};
 ghost use Rattle.bac_fetch.specs.Discovered.{AreFound};
 ghost use Rattle.bac_asked.specs.Wanted.{AsksItsSource};
-ghost use Rattle.bac_fetch.specs.Chosen.{AreChosen, AreKeptLogs, AskTheirSources};
+ghost use Rattle.bac_archive.specs.declared.trend_logs.Log.{Log as LogOf};
+ghost use Rattle.bac_fetch.specs.Chosen.{AreChosen, AreKeptLogs, AskTheirSources, not_stopped};
 ghost use Rattle.bac_fetch.specs.Stays.{HasAllOf};
 ghost use Rattle.bac_asked.specs.declared.wanted.Wanted.{Wanted as WantedOf};
 
@@ -40,7 +41,7 @@ use std::io::Write;
 /// Which logs are to be fetched.
 #[derive(Drop)]
 pub enum Chosen {
-    /// Each log of the file.
+    /// Each log of the file that isn't stopped.
     Kept,
     /// Each trend log of a device, asked as this one is.
     Device(Asking),
@@ -48,14 +49,32 @@ pub enum Chosen {
     Named(Vec<Wanted>),
 }
 
-/// Each log of a file, as it is asked for.
+/// Puts a log of a file behind others as it is asked for, unless it is stopped.
+fn add_kept(
+    alloc: Global,
+    all: &mut Vec<Wanted>,
+    log: Log,
+    options: &Options<'_>,
+) -> Result<(), NotDone>
+    ensures asks { OnOk result (All AsksItsSource all.old.items → All AsksItsSource all.new.items) }
+    ensures added { OnOk result (map (λ (w : WantedOf). w.source) all.new.items
+        ≡ map (λ (w : WantedOf). w.source) all.old.items ++ map (λ (l : LogOf). l.source) (not_stopped (log ∷ []))) }
+{
+    if log.stopped {
+        return Ok(());
+    }
+    add_wanted(all, kept_log(alloc, log, options)?)?;
+    Ok(())
+}
+
+/// Each log of a file that isn't stopped, as it is asked for.
 fn kept_logs<A: Alter>(
     alloc: Global,
     conn: &mut Connection<A>,
     options: &Options<'_>,
 ) -> Result<Vec<Wanted>, NotDone>
     ensures asks { IfOk result (λ all. All AsksItsSource all.items) }
-    // They are the logs of the archive, one at least.
+    // They are the logs of the archive that aren't stopped, one at least.
     ensures some { IfOk result (λ all. all.items ≢ []) }
     ensures logs { HasCleanDisk (state A.Store conn.new) → (state A.Store conn.old).now.schema ≡ archive_schema
         → IfOk result (λ all. AreKeptLogs (state A.Store conn.old).now.trees all.items) }
@@ -68,12 +87,12 @@ fn kept_logs<A: Alter>(
         Ok(known) => known,
         Err(error) => return Err(NotDone::File(FileFault::of(error))),
     };
-    if known.is_empty() {
-        return Err(NotDone::File(FileFault::NoLogs));
-    }
     let mut all = Vec::new(alloc);
     for log in known {
-        add_wanted(&mut all, kept_log(alloc, log, options)?)?;
+        add_kept(alloc, &mut all, log, options)?;
+    }
+    if all.is_empty() {
+        return Err(NotDone::File(FileFault::NoLogs));
     }
     Ok(all)
 }

@@ -17,3 +17,4 @@ mod starting;
 mod whose;
 
 pub use keeping::{Chosen, keep_chosen, keep_each};
+pub use silent::is_same_device;

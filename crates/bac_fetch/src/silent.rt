@@ -8,7 +8,7 @@ use bac_asked::Ending;
 use bac_walk::{WalkFault, Why};
 
 /// Whether two logs are of one device.
-pub(crate) fn is_same_device(one: &Source, other: &Source) -> bool
+pub fn is_same_device(one: &Source, other: &Source) -> bool
     ensures { result ≡ is_same_device one.now other.now }
 {
     one.address == other.address && one.dnet == other.dnet && one.dadr == other.dadr
