@@ -2,7 +2,7 @@
 """kept.py PROGRAM ROOM RUNS SEED KILLS: judges `PROGRAM keep` from outside, for kept.sh.
 
 RUNS runs keep the logs of four sites, each in a file of its own, while the devices of kept_devices.py log records, lose
-datagrams, purge and overwrite their logs, set their clocks back and begin anew; most of the runs are ended by SIGKILL at any moment. Others
+datagrams, purge and overwrite their logs, set their clocks back, are started and begin anew; most of the runs are ended by SIGKILL at any moment. Others
 are ended before each of their calls on files in turn, by KILLS, the library of kills.c, or have that call fail. After each
 run the file is compared with what the devices logged (kept_judge.py). The cases of kept_cases.py follow. As many of all that as there
 are cores go on at once. Prints what is wrong, and `N passed, M failed` at the end."""
@@ -17,6 +17,7 @@ import sys
 import time
 
 import kept_cases
+from kept_apart import in_file
 from kept_devices import LAST, Device, Log, chance, lock, serve
 from kept_judge import Judge
 
@@ -33,11 +34,23 @@ def hasty(words):
     return ["keep", *words, "--timeout=20", "--retries=1"]
 
 
-def changed(log):
-    """Something happens to a log. One that began anew keeps all until a run has seen it: no octet would
-    tell a restart whose records are gone from a gap, nor one behind a large number from numbers that come round."""
+def started(device):
+    """A device is started, or its objects change, and it tells so; whether it tells that at all."""
+    if device.restart is not None and (device.revision is None or chance.random() < 0.5):
+        device.restart += datetime.timedelta(minutes=1)
+    elif device.revision is not None:
+        device.revision += 1
+    return device.word() != (None, None)
+
+
+def changed(device, log):
+    """Something happens to a log. One that began anew keeps all until a run has seen it, where its device doesn't tell so:
+    no octet would tell a restart whose records are gone from a gap, nor one behind a large number from numbers that come
+    round. Where it does, it keeps something."""
     what = chance.random()
-    if log.fresh:
+    if log.fresh and device.word() != (None, None):
+        log.log(chance.choice((0, 1, 20, 120, log.room_for + 50)))
+    elif log.fresh:
         log.log(chance.randrange(min(3, log.room_for - len(log.held))))
     elif what < 0.7:
         log.log(chance.choice((0, 1, 3, 20, 120)))
@@ -51,9 +64,20 @@ def changed(log):
         log.clock -= datetime.timedelta(hours=1)
         log.log(chance.choice((3, 120)))
     else:
-        kept = log.total
+        kept, tells = log.total, started(device)
         log.begin(0)
-        log.log(chance.choice((1, 5, min(kept + 3, log.room_for - 5))))
+        log.log(chance.choice((1, 5, kept + 100 if tells else min(kept + 3, log.room_for - 5))))
+
+
+def doubted(judge, name, devices, file, errors):
+    """Nothing is in doubt of a log whose device tells both when it was started and its revision, as they were when its
+    records were kept, in the file that was judged last. How many are."""
+    kept = {f"{address} {instance}": word for address, instance, *word in in_file(f"{file}.copy", "SELECT address, instance, restart, revision FROM logs")}
+    told = {device.address: list(device.word()) for device in devices}
+    in_doubt = [line.split(" began")[0] for line in errors.splitlines() if line.endswith(" began anew or its clock was set back")]
+    wrong = [log for log in in_doubt if None not in kept[log] and kept[log] == told[log.split()[0]]]
+    judge.is_right(f"{name}: what is in doubt", not wrong, wrong)
+    return len(in_doubt)
 
 
 def settle(judge, name, devices, file):
@@ -62,6 +86,7 @@ def settle(judge, name, devices, file):
         for device in devices:
             device.loses = 0.0
     status, out, errors = judge.ran(whole([file]))
+    doubted(judge, name, devices, file, errors)
     judge.is_right(f"{name}: a whole run", status == 0, f"status {status}: {out} {errors}")
     judge.judge(f"{name}: all of it", file, devices, True)
     for device in devices:
@@ -82,10 +107,12 @@ def a_run(judge, file, seconds):
 
 
 def site():
-    """64 logs of 8 devices."""
+    """64 logs of 8 devices. Some tell both when they were started and their revision, some one of them, and some neither."""
     devices = [Device([Log(number, chance.choice((40, 100, 400))) for number in range(1, 9)], f"plant {at}")
                for at in range(8)]
-    for device in devices:
+    for at, device in enumerate(devices):
+        device.restart = datetime.datetime(2024, 1, 1) if at % 4 < 2 else None
+        device.revision = at if at % 3 < 2 else None
         for log in device.logs.values():
             # The numbers of some come round in these runs.
             if chance.random() < 0.25:
@@ -108,17 +135,20 @@ def at_random(judge, runs):
     began = time.monotonic()
     settle(judge, "the first run", devices, file)
     took = time.monotonic() - began
-    ends, anew = collections.Counter(), 0
+    ends, anew, doubts = collections.Counter(), 0, 0
     for at in range(runs):
         with lock:
             for device in devices:
                 device.loses = chance.choice((0, 0, 0, 0.05, 0.3))
+                if chance.random() < 0.1:
+                    started(device)
                 for log in device.logs.values():
                     if chance.random() < 0.3:
-                        changed(log)
+                        changed(device, log)
         status, errors = a_run(judge, file, chance.uniform(0, 1.5 * took) if chance.random() < 0.75 else 120)
         ends[status] += 1
         anew += errors.count(" began anew\n")
+        doubts += doubted(judge, f"run {at}", devices, file, errors)
         judge.is_right(f"run {at}", status in (-signal.SIGKILL, 0, 2), f"status {status}: {errors}")
         judge.judge(f"run {at}", file, devices)
         if at % 10 == 9 or at == runs - 1:
@@ -126,8 +156,8 @@ def at_random(judge, runs):
     # Were there none of them, the runs above would show nothing.
     if runs >= 20:
         judge.is_right("runs are killed", ends[-signal.SIGKILL] >= runs // 5, dict(ends))
-        judge.is_right("devices begin anew", anew > 0)
-    return f"{runs} runs, {ends[-signal.SIGKILL]} of them killed, {ends[2]} lost a log; {anew} times a log began anew"
+        judge.is_right("devices begin anew", anew > 0 and doubts > 0, (anew, doubts))
+    return f"{runs} runs, {ends[-signal.SIGKILL]} of them killed, {ends[2]} lost a log; {anew} times a log began anew, {doubts} times it may have"
 
 
 def few():

@@ -103,7 +103,7 @@ def dead_devices(judge, _runs):
     # It answers once more: what came is kept, and then it isn't asked any more.
     for log in dead.logs.values():
         log.log(150)
-    dead.answers = 4
+    dead.answers = 6
     status, out, errors = judge.ran(["keep", file, *QUICK])
     told = out.splitlines(True)
     judge.is_right("lost on the way", (status, errors, len(told)) == (2, "", 4) and " 1 " in told[0] and " lost, next " in told[0]

@@ -16,12 +16,16 @@ import time
 from kept_apart import dead_devices, last_epoch
 from kept_clocks import clocks, either_line, questions
 from kept_devices import Device, Log, chance, lock, serve, wait_until_asked
+from kept_doubts import emptied, never_begun, told_at_once
 from kept_judge import wrongs
+from kept_moved import moved, moved_at_each_call, moved_at_random, moved_ways, told_later, two_of_one
+from kept_names import names
 from kept_rounds import one, rounds, said
 from kept_stopped import stopped
 from kept_terminal import terminals
 from kept_warehouse import warehouses
 from kept_whose import other_devices
+from kept_words import first_answers, own_lives, own_rule, own_words, renewed
 
 TOP = os.path.realpath(os.path.join(os.path.dirname(__file__), "../.."))
 USE = f"{TOP}/examples/use"
@@ -105,10 +109,10 @@ def beginnings(judge, _runs):
     # A first run that is lost, or ends early, has no such place.
     device, log = one(count=9)
     file = f"{judge.room}/lost.db"
-    device.answers = 2
+    device.answers = 4
     judge.same("counted, and then lost", judge.ran(["keep", file, device.address, "1", *QUICK]), (2, said(device, 0, 0, "lost, next 1"), ""))
     device.answers = None
-    judge.same("and whole", judge.ran(["keep", file]), (0, said(device, 9, 0, "caught up, next 10"), ""))
+    judge.same("and whole", judge.ran(["keep", file, device.address, "1"]), (0, said(device, 9, 0, "caught up, next 10"), ""))
     judge.judge("and whole", file, [device], True)
 
 
@@ -145,7 +149,7 @@ def losses(judge, _runs):
     device.answers = 0
     judge.same("a first run that is lost", judge.ran(["keep", file, device.address, "1", *QUICK]),
                (2, said(device, 0, 0, "lost, next 1"), ""))
-    device.answers = 3
+    device.answers = 6
     status, out, errors = judge.ran(["keep", file, device.address, "1", *QUICK])
     judge.is_right("lost after two answers", status == 2 and re.search(r" [1-9]\d* records? 0 gaps lost, next \d+\n", out), out)
     judge.judge("lost after two answers", file, [device])
@@ -596,12 +600,19 @@ def served(judge, _runs):
 def judgements(judge, _runs):
     """Each kind of judgement fails on a file that was broken so."""
     device = Device([Log(1, 50), Log(2, 50)], "broken")
+    device.restart, device.revision = datetime.datetime(2024, 1, 1), 7
+    was = device.address
+    device.move()
     serve([device])
     one_log, two = device.logs.values()
-    one_log.log(90)
-    two.log(20)
+    one_log.log(89)
+    two.log(19)
     file, broken = f"{judge.room}/a.db", f"{judge.room}/broken.db"
     judge.ran(["keep", file, device.address])
+    device.revision = 8
+    one_log.log(1)
+    two.log(1)
+    judge.ran(["keep", file])
     one_log.log(60)
     two.begin(0)
     two.log(10)
@@ -628,6 +639,11 @@ def judgements(judge, _runs):
         ("rows under another log", "UPDATE items SET id = id + (1 << 47) WHERE id >> 47 = 2", "which aren't there"),
         ("a beginning is one too high", "UPDATE beginnings SET number = number + 1 WHERE id >> 15 = 2", "is on record"),
         ("a beginning is removed", "DELETE FROM beginnings WHERE id >> 15 = 2", "None is on record"),
+        ("an instance that it never told", "UPDATE logs SET device = 7 WHERE id = 2", "no device has it"),
+        ("none", "UPDATE logs SET device = NULL WHERE id = 2", "device None is on record"),
+        ("a start that it never told", "UPDATE logs SET restart = '00' WHERE id = 1", "is its word on record"),
+        ("no revision", "UPDATE logs SET revision = NULL WHERE id = 1", "is its word on record"),
+        ("a place of before", f"UPDATE logs SET address = '{was}' WHERE id = 1", "is at {"),
         ("a log of nobody", "INSERT INTO logs (address, dnet, dadr, instance, stopped) VALUES ('10.0.0.1:1', 0, '', 1, 0)", "no device has it"),
         ("a log is lost", "DELETE FROM logs WHERE id = 2", "isn't kept"),
     ):
@@ -647,4 +663,5 @@ def judgements(judge, _runs):
 
 
 CASES = [judgements, run_after_run, beginnings, options, losses, line_by_line, step_limits, last_epoch, dead_devices, other_devices, words_and_names, no_archive, far_away, rounds, restarts, clocks, questions, cut_files, foreign_files, a_large_file, printed, taken_over, served,
-         stopped, terminals, warehouses]
+         stopped, terminals, warehouses, names, own_words, own_rule, own_lives, first_answers, renewed, moved, moved_ways, two_of_one, told_later,
+         moved_at_each_call, moved_at_random, emptied, never_begun, told_at_once]

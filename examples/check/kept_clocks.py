@@ -102,11 +102,11 @@ def questions(judge, _runs):
         device.questions.clear()
         before = device.asked
         judge.same(f"{name} is kept", judge.ran(["keep", file]), (0, said(device, more, 0, f"caught up, next {log.total + 1}"), ""))
-        # One question more is for the device's instance.
-        judge.same(f"{name}: what is asked", (device.questions, device.asked - before), (wanted, len(wanted) + 1))
+        # Three questions more are for what the device says of itself.
+        judge.same(f"{name}: what is asked", (device.questions, device.asked - before), (wanted, len(wanted) + 3))
     # An answer that doesn't come leaves all as it was.
     log.log(3)
-    for answers in (0, 1, 2, 3):
+    for answers in range(6):
         device.answers = answers
         judge.same(f"lost behind {answers}", judge.ran(["keep", file, "--timeout=60", "--retries=0"]), (2, said(device, 0, 0, "lost, next 22"), ""))
     device.answers = None

@@ -63,7 +63,7 @@ def rows_of(file):
         if not base.execute("SELECT 1 FROM sqlite_master WHERE name = 'gaps'").fetchall():
             # A first run that ended before it made the tables.
             return whole, [], [], {}
-        logs = base.execute("SELECT id, address, instance FROM logs").fetchall()
+        logs = base.execute("SELECT id, address, instance, device, restart, revision FROM logs").fetchall()
         items = base.execute("SELECT id, last, stamp, value, datum, flags FROM items ORDER BY id").fetchall()
         beginnings = dict(base.execute("SELECT id, number FROM beginnings").fetchall())
         return whole, logs, items, beginnings
@@ -82,23 +82,41 @@ def wrongs(file, devices, all_of_it):
     found, by_log = [], {}
     for item, last, *texts in items:
         by_log.setdefault(item >> 47, {}).setdefault(item >> 32 & 32767, []).append((item & 0xFFFFFFFF, last, tuple(texts)))
-    by_address = {device.address: device for device in devices}
-    if strangers := set(by_log) - {log_id for log_id, _, _ in logs}:
+    if strangers := set(by_log) - {log_id for log_id, *_ in logs}:
         found.append(f"items of the logs {strangers}, which aren't there")
     for log_id, epochs in by_log.items():
         for epoch, rows in epochs.items():
             if (said := beginnings.get(log_id << 15 | epoch)) != rows[0][0]:
                 found.append(f"epoch {epoch} of log {log_id} begins at {rows[0][0]}, and {said} is on record")
-    for log_id, address, instance in logs:
-        log = by_address[address].logs.get(instance) if address in by_address else None
+    places = {}
+    for log_id, address, instance, number, *word in logs:
+        device = device_of(devices, address, number)
+        log = device and device.logs.get(instance)
         wrong = wrong_of(log, by_log.get(log_id, {}), all_of_it) if log else "no device has it"
-        if wrong:
+        if wrong or (wrong := log and wrong_word(device, number, tuple(word), all_of_it)):
             found.append(f"{address} {instance}: {wrong}")
+        places.setdefault(number, set()).add(address)
+    found += [f"device {number} is at {at}" for number, at in places.items() if number is not None and len(at) > 1]
     if all_of_it:
-        kept = {(address, instance) for _, address, instance in logs}
+        kept = {(address, instance) for _, address, instance, *_ in logs}
         found += [f"{device.address} {number} isn't kept" for device in devices for number in device.logs
                   if (device.address, number) not in kept]
     return found
+
+
+def device_of(devices, address, number):
+    """The device that is or was at an address, and that told this number, if one is on record."""
+    return next((device for device in devices if address in device.places and (number is None or number in device.numbers)), None)
+
+
+def wrong_word(device, number, word, all_of_it):
+    """What is wrong with what is on record of a device's own word, or None."""
+    if word not in (device.words or {(None, None)}):
+        return f"{word} is its word on record, and {device.words} was told"
+    # The word may be an earlier one where nothing was kept since; its instance is the one that it told last.
+    if all_of_it and number != device.number:
+        return f"device {number} is on record, and {device.number} is told"
+    return None
 
 
 def first_behind(epochs, epoch):

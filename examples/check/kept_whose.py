@@ -22,7 +22,7 @@ def other_devices(judge, _runs):
         device.number, asked = other, device.asked
         device.logs[1].log(1)
         judge.same(f"{other} answers", judge.ran(["keep", file]), (3, line(device, 1, 0, end) + line(device, 2, 0, end), ""))
-        judge.same(f"{other} is asked once", device.asked - asked, 1)
+        judge.same(f"{other} is asked once", device.asked - asked, 3 if other else 1)
         judge.same(f"{other} answers for a log that is new", judge.ran(["keep", file, device.address, "3"]), (3, line(device, 3, 0, end), ""))
         judge.same(f"{other} leaves all as it was", [in_file(file, statement) for statement in every], before)
     device.number, asked = number, device.asked

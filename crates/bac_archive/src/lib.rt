@@ -18,7 +18,7 @@ mod shape;
 mod standing;
 mod trend_logs;
 
-pub use changes::{change_logs, changes_keep_logs};
+pub use changes::{change_logs, changes_keep_logs, renew_log};
 pub use creation::create;
 pub use epochs::{Beginning, begin_epoch, beginnings};
 pub use items::{Item, given_are_items, items_of, read_item};

@@ -5,7 +5,7 @@ use Rattle.bac_archive.specs.declared.trend_logs.Source.{Source}
 use Rattle.bac_query.specs.Ends.{end_line}
 use Rattle.bac_asked.specs.declared.end.End.{End}
 use Rattle.bac_asked.specs.declared.end.Ending.{Ending}
-use Rattle.bac_asked.specs.declared.end.Ending.TheVariants.{Walk, Back, Epochs, NotAsked, Other}
+use Rattle.bac_asked.specs.declared.end.Ending.TheVariants.{Walk, Back, Epochs, NotAsked, Other, Twice}
 
 -- a device's address, and for one behind a router its network and its address there
 unfoldable pub place_text : Source → List ℕ
@@ -33,6 +33,14 @@ who_text (Some told) = codes "another device answers: " ++ (decimal told ++ code
 unfoldable pub other_line : Option ℕ → ℕ → List ℕ
 other_line told kept = who_text told ++ (decimal kept ++ 10 ∷ [])
 
+-- that two devices tell one instance
+unfoldable pub twice_text : ℕ → List ℕ
+twice_text told = codes "two devices have the number " ++ decimal told
+
+-- the same, a line
+unfoldable pub twice_line : ℕ → List ℕ
+twice_line told = twice_text told ++ 10 ∷ []
+
 -- why a run over a log ended, and the sequence number that comes next
 unfoldable pub ending_line : Ending → ℕ → List ℕ
 ending_line (Walk why) next = end_line why next
@@ -40,6 +48,7 @@ ending_line Back next = reason_line (codes "its numbers went back") next
 ending_line Epochs next = reason_line (codes "it began anew, or its numbers came round, 32767 times") next
 ending_line NotAsked next = reason_line (codes "not asked") next
 ending_line (Other told kept) next = other_line told kept
+ending_line (Twice told) next = twice_line told
 
 -- where a log is, how many records and gaps were kept, and how the run over it ended
 unfoldable pub summary_line : Source → End → List ℕ
@@ -49,6 +58,19 @@ summary_line source end = source_text source ++ (32 ∷ (counted end.records (co
 -- that a log isn't asked any more
 unfoldable pub stopped_line : Source → List ℕ
 stopped_line source = source_text source ++ codes " stopped\n"
+
+-- two places with a text between them, a line
+unfoldable pub places_text : Source → List ℕ → Source → List ℕ
+places_text one between other = place_text one ++ (between ++ (place_text other ++ 10 ∷ []))
+
+-- that a device, known by its instance, is asked at one place from now on, and no more at another
+unfoldable pub moved_line : ℕ → Source → Source → List ℕ
+moved_line device from to =
+    (codes "device " ++ (decimal device ++ codes " has moved from ")) ++ places_text from (codes " to ") to
+
+-- that it is told at two places
+unfoldable pub both_line : ℕ → Source → Source → List ℕ
+both_line device one other = twice_text device ++ (codes ": " ++ places_text one (codes " and ") other)
 
 -- that the device of a log began anew
 unfoldable pub anew_line : Source → List ℕ

@@ -21,6 +21,8 @@ pub enum Ending {
     NotAsked,
     /// It wasn't asked, since its device told another instance, or none, than the one on record.
     Other(Option<u32>, u32),
+    /// It wasn't asked, since its device told an instance that is on record at another address, too.
+    Twice(u32),
 }
 
 /// What was kept of a log, and why the run over it ended.
@@ -76,5 +78,6 @@ pub fn end_status(why: Ending) -> u8
         Ending::Epochs => 6,
         Ending::NotAsked => 2,
         Ending::Other(_, _) => 3,
+        Ending::Twice(_) => 3,
     }
 }

@@ -19,8 +19,9 @@ pub use fault::{Fault, FileFault};
 pub use log_words::Asking;
 pub use options::Options;
 pub use summary::{
-    push_address, push_anew, push_short, push_source, push_stopped, push_summary,
+    push_address, push_anew, push_both, push_moved, push_short, push_source, push_stopped,
+    push_summary,
 };
 pub use wanted::{
-    Wanted, add_wanted, check_options, kept_log, named, named_all, of_words, source_of,
+    Wanted, add_wanted, check_options, kept_at, kept_log, named, named_all, of_words, source_of,
 };

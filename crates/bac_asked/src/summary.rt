@@ -3,7 +3,7 @@
 ghost use Rattle.std.specs.Prelude.{◌≡◌, ◌==◌, ◌++◌, if◌then◌else◌, decimal, OnOk, List, Some};
 ghost use Rattle.std.specs.Float.Ieee.{binary64};
 ghost use Rattle.ryu.specs.Parse.{parse_float};
-ghost use Rattle.bac_asked.specs.Lines.{anew_line, counted, ending_line, other_line, place_text, reason_line, source_text, stopped_line, summary_line, who_text};
+ghost use Rattle.bac_asked.specs.Lines.{anew_line, both_line, counted, ending_line, moved_line, other_line, place_text, places_text, reason_line, source_text, stopped_line, summary_line, twice_line, twice_text, who_text};
 
 use crate::end::{End, Ending};
 use bac_archive::Source;
@@ -99,6 +99,24 @@ fn push_other(text: &mut Vec<u8>, told: Option<u32>, kept: u32) -> Result<(), Al
     text.extend_from_slice(b"\n")
 }
 
+/// Appends that two devices tell one instance.
+#[tactic(auto, unfolding(crate::specs::Lines::twice_text))]
+fn push_number_of_two(text: &mut Vec<u8>, told: u32) -> Result<(), AllocError>
+    ensures { OnOk result (text.new.items ≡ text.old.items ++ twice_text told) }
+{
+    text.extend_from_slice(b"two devices have the number ")?;
+    push_number(text, u64::from(told))
+}
+
+/// Appends the same, a line.
+#[tactic(auto, unfolding(crate::specs::Lines::twice_line))]
+fn push_twice(text: &mut Vec<u8>, told: u32) -> Result<(), AllocError>
+    ensures { OnOk result (text.new.items ≡ text.old.items ++ twice_line told) }
+{
+    push_number_of_two(text, told)?;
+    text.extend_from_slice(b"\n")
+}
+
 /// Appends why a run over a log ended, and the number that comes next.
 #[tactic(auto, unfolding(crate::specs::Lines::ending_line))]
 fn push_ending(text: &mut Vec<u8>, why: Ending, next: u32) -> Result<(), AllocError>
@@ -114,6 +132,7 @@ fn push_ending(text: &mut Vec<u8>, why: Ending, next: u32) -> Result<(), AllocEr
         ),
         Ending::NotAsked => push_reason(text, b"not asked", next),
         Ending::Other(told, kept) => push_other(text, told, kept),
+        Ending::Twice(told) => push_twice(text, told),
     }
 }
 
@@ -146,4 +165,49 @@ pub fn push_anew(text: &mut Vec<u8>, source: &Source) -> Result<(), AllocError>
 {
     push_source(text, source)?;
     text.extend_from_slice(b" began anew\n")
+}
+
+/// Appends two places with a text between them, a line.
+#[tactic(auto, unfolding(crate::specs::Lines::places_text))]
+fn push_places(
+    text: &mut Vec<u8>,
+    one: &Source,
+    between: &[u8],
+    other: &Source,
+) -> Result<(), AllocError>
+    ensures { OnOk result (text.new.items ≡ text.old.items ++ places_text one.now between.now other.now) }
+{
+    push_address(text, one)?;
+    text.extend_from_slice(between)?;
+    push_address(text, other)?;
+    text.extend_from_slice(b"\n")
+}
+
+/// Appends that a device has moved from one place to another.
+#[tactic(auto, unfolding(crate::specs::Lines::moved_line))]
+pub fn push_moved(
+    text: &mut Vec<u8>,
+    device: u32,
+    from: &Source,
+    to: &Source,
+) -> Result<(), AllocError>
+    ensures { OnOk result (text.new.items ≡ text.old.items ++ moved_line device from.now to.now) }
+{
+    push_between(text, b"device ", device, b" has moved from ")?;
+    push_places(text, from, b" to ", to)
+}
+
+/// Appends that two devices tell one instance, and where.
+#[tactic(auto, unfolding(crate::specs::Lines::both_line))]
+pub fn push_both(
+    text: &mut Vec<u8>,
+    device: u32,
+    one: &Source,
+    other: &Source,
+) -> Result<(), AllocError>
+    ensures { OnOk result (text.new.items ≡ text.old.items ++ both_line device one.now other.now) }
+{
+    push_number_of_two(text, device)?;
+    text.extend_from_slice(b": ")?;
+    push_places(text, one, b" and ", other)
 }

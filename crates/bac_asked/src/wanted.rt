@@ -151,11 +151,19 @@ fn digits(alloc: Global, n: u32) -> Result<String, AllocError> {
     text_of(text)
 }
 
-/// How the log of a source is asked for.
+/// How the log of a source is asked for: by the source's own way to its device.
 fn asking_at(alloc: Global, source: &Source, options: &Options<'_>) -> Result<Asking, WordsFault> {
     let instance = digits(alloc, source.instance)?;
     if source.dnet == 0 {
-        return ask_as_log(alloc, &source.address, &instance, options);
+        let direct = Options {
+            steps: options.steps,
+            timeout: options.timeout,
+            local: options.local,
+            retries: options.retries,
+            dnet: None,
+            dadr: None,
+        };
+        return ask_as_log(alloc, &source.address, &instance, &direct);
     }
     let dnet = digits(alloc, u32::from(source.dnet))?;
     let by_router = Options {
@@ -169,13 +177,20 @@ fn asking_at(alloc: Global, source: &Source, options: &Options<'_>) -> Result<As
     ask_as_log(alloc, &source.address, &instance, &by_router)
 }
 
-/// How a log of an archive is asked for. Its address may be any text, but only the one that the
-/// program writes for a device names it: else its log would be kept under two addresses.
+/// How a log of an archive is asked for.
 pub fn kept_log(alloc: Global, log: Log, options: &Options<'_>) -> Result<Wanted, NotDone>
     ensures source { IfOk result (λ wanted. wanted.source ≡ log.source) }
     ensures asks { IfOk result AsksItsSource }
 {
-    let source = log.source;
+    kept_at(alloc, log.source, options)
+}
+
+/// How a log is asked for that is there by an archive. Its address may be any text, but only the one that the
+/// program writes for a device names it: else its log would be kept under two addresses.
+pub fn kept_at(alloc: Global, source: Source, options: &Options<'_>) -> Result<Wanted, NotDone>
+    ensures source { IfOk result (λ wanted. wanted.source ≡ source) }
+    ensures asks { IfOk result AsksItsSource }
+{
     let asking = match asking_at(alloc, &source, options) {
         Ok(asking) => asking,
         Err(WordsFault::Memory) => return Err(NotDone::Asking(Fault::Memory)),

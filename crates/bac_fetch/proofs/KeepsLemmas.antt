@@ -4,8 +4,7 @@ use Rattle.sqlite.specs.Effect.{Database}
 use Rattle.bac_wire.specs.Primitive.{Id}
 use Rattle.bac_archive.specs.Schema.{archive_schema}
 use Rattle.bac_archive.specs.declared.trend_logs.Log.{Log}
-use Rattle.bac_keep.specs.declared.courses.Word.{Word}
-use Rattle.bac_keep.specs.declared.courses.Word.TheVariants.{Untold}
+use Rattle.bac_archive.specs.declared.trend_logs.Told.{Told}
 use Rattle.bac_walk.specs.Outcomes.{why_of}
 use Rattle.bac_walk.specs.declared.outcome.Why.{Why}
 use Rattle.bac_archive.specs.declared.epochs.Beginning.{Beginning}
@@ -18,9 +17,13 @@ use Rattle.bac_link.specs.declared.link.Lost.{Lost as Loss}
 use Rattle.bac_ports.specs.declared.udp_link.UdpLink.{UdpLink}
 use Rattle.bac_asked.specs.declared.log_words.Asking.{Asking}
 use Rattle.bac_ports.specs.Sockets.{SocketRules, link_over, own_address, socket_asks}
-use Rattle.bac_fetch.specs.Keeps.{KeepsBegun, KeepsOn, Marks, MarksBegun, is_idle, KeepsLog, KeepsOverLink, KeepsHeard, KeepsSource, KeepsNext, KeepsUnless, PassesOver, KeepsAll, lines_of, greatest_status}
+use Rattle.bac_fetch.specs.Keeps.{KeepsBegun, KeepsEntered, KeepsOn, Marks, is_idle, KeepsLog, KeepsOverLink, KeepsHeard, KeepsSource, KeepsNext, KeepsUnless, PassesOver, KeepsAll, lines_of, greatest_status}
 use Rattle.bac_asked.specs.Lines.{summary_line}
-use Rattle.bac_fetch.specs.Whose.{device_of, hindrance, is_silent}
+use Rattle.bac_fetch.specs.Entries.{Admits, AdmitsRow, Renews, is_due}
+use Rattle.bac_fetch.specs.declared.entry.Entry.{Entry}
+use Rattle.bac_fetch.specs.declared.entry.Recorded.{Recorded}
+use Rattle.bac_fetch.specs.declared.entry.Recorded.TheVariants.{So, OldWord, Otherwise, Not}
+use Rattle.bac_fetch.specs.Whose.{hindrance, is_silent}
 use Rattle.bac_fetch.specs.declared.whose.Heard.{Heard}
 use Rattle.bac_asked.specs.declared.end.Ending.{Ending}
 use Rattle.bac_asked.specs.declared.end.Ending.TheVariants.{NotAsked}
@@ -39,38 +42,33 @@ over P route way retries tries r n it = subst (λ m. P (towards way) m) n (subst
 
 -- what is kept of a log whose beginning changed nothing, over a link
 pub keeps_begun : {L : Type 0} (asks : L → List ℕ → Result (List ℕ) Loss → L → Type 0) (way route : Option Place) (tries retries : ℕ) (link mid left : L)
-    (steps log : ℕ) (object : Id) (word : Word) (old between new : Database) (start : Start) (end : End)
-    → IsBegun asks (towards way) tries link mid log object word steps old.trees (Ok start) → route ≡ way → retries ≡ tries → between ≡ old
-    → ((last : Database) × KeepsBegun asks (towards route) retries mid left (Ok start) steps between last end
-    × Marks start.begins_at end last new)
-    → KeepsOverLink asks (towards way) tries link left steps log object word old new end
-keeps_begun asks way route tries retries link mid left steps log object word old between new start end begun r n same (last, keeps, marks) = (
+    (steps : ℕ) (entry : Entry) (object : Id) (old between new : Database) (start : Start) (end : End)
+    → IsBegun asks (towards way) tries link mid entry.row.id object entry.word steps old.trees (Ok start) → route ≡ way → retries ≡ tries → between ≡ old
+    → KeepsEntered asks (towards route) retries mid left (Ok start) steps entry between new end
+    → KeepsOverLink asks (towards way) tries link left steps entry object old new end
+keeps_begun asks way route tries retries link mid left steps entry object old between new start end begun r n same keeps = (
   Ok start,
   mid,
   begun,
-  (
-    last,
-    subst (λ d. KeepsBegun asks (towards way) tries mid left (Ok start) steps d last end) same
-        (over (λ path m. KeepsBegun asks path m mid left (Ok start) steps between last end) route way retries tries r n keeps),
-    marks,
-  ),
+  subst (λ d. KeepsEntered asks (towards way) tries mid left (Ok start) steps entry d new end) same
+      (over (λ path m. KeepsEntered asks path m mid left (Ok start) steps entry between new end) route way retries tries r n keeps),
 )
 
 -- the same over the socket that was opened for it, and closed behind it
-pub keeps_log : {S P : Type 0} (rules : SocketRules S P) (asking : Asking) (before middle after : S) (log : ℕ) (object given : Id) (old new : Database) (end : End)
+pub keeps_log : {S P : Type 0} (rules : SocketRules S P) (asking : Asking) (before middle after : S) (entry : Entry) (object given : Id) (old new : Database) (end : End)
     (port last : P) (link left : UdpLink P) (route : Option Place) (retries steps : ℕ)
     → rules.opens before (own_address asking.asked.local) asking.asked.timeout (Ok port) middle → link ≡ link_over asking.asked.address port
     → route ≡ asking.asked.route → retries ≡ asking.asked.retries → steps ≡ asking.steps → given ≡ object → last ≡ left.port → rules.closes middle last after
-    → KeepsOverLink (socket_asks rules) (towards route) retries link left steps log given Untold old new end → KeepsLog rules asking before after log object old new end
-keeps_log rules asking before middle after log object given old new end port last link left route retries steps opens is_link way tries many is is_last closes it =
+    → KeepsOverLink (socket_asks rules) (towards route) retries link left steps entry given old new end → KeepsLog rules asking before after entry object old new end
+keeps_log rules asking before middle after entry object given old new end port last link left route retries steps opens is_link way tries many is is_last closes it =
     let asks = socket_asks rules in
     let path = towards asking.asked.route in
     let over = link_over asking.asked.address port in
-    let it₁ = subst (λ (q : Option Place). KeepsOverLink asks (towards q) retries link left steps log given Untold old new end) way it in
-    let it₂ = subst (λ m. KeepsOverLink asks path m link left steps log given Untold old new end) tries it₁ in
-    let it₃ = subst (λ l. KeepsOverLink asks path asking.asked.retries l left steps log given Untold old new end) is_link it₂ in
-    let it₄ = subst (λ m. KeepsOverLink asks path asking.asked.retries over left m log given Untold old new end) many it₃ in
-    let it₅ = subst (λ (o : Id). KeepsOverLink asks path asking.asked.retries over left asking.steps log o Untold old new end) is it₄ in
+    let it₁ = subst (λ (q : Option Place). KeepsOverLink asks (towards q) retries link left steps entry given old new end) way it in
+    let it₂ = subst (λ m. KeepsOverLink asks path m link left steps entry given old new end) tries it₁ in
+    let it₃ = subst (λ l. KeepsOverLink asks path asking.asked.retries l left steps entry given old new end) is_link it₂ in
+    let it₄ = subst (λ m. KeepsOverLink asks path asking.asked.retries over left m entry given old new end) many it₃ in
+    let it₅ = subst (λ (o : Id). KeepsOverLink asks path asking.asked.retries over left asking.steps entry o old new end) is it₄ in
     (port, middle, last, opens, (left, it₅, is_last), closes)
 
 on_schema : {L : Type 0} (asks : L → List ℕ → Result (List ℕ) Loss → L → Type 0) (path : Path) (retries : ℕ) (link left : L) (start : Start) (why : Option Why) (steps : ℕ)
@@ -92,24 +90,42 @@ mark_schema (Some beginning) end old new it has = go (is_idle end) refl
     go true is = (it.0 is).schema
     go false is = ap (λ (d : Database). d.schema) (it.1 is) ∙ has
 
-marks_schema : (begun : Result Start End) (end : End) (old new : Database) → MarksBegun begun end old new → old.schema ≡ archive_schema → new.schema ≡ archive_schema
-marks_schema (Ok start) end old new it has = mark_schema start.begins_at end old new it has
-marks_schema (Err none) end old new it has = ap (λ (d : Database). d.schema) it ∙ has
+admit_row_schema : (recorded : Recorded) (row : Log) (old new : Database) → AdmitsRow recorded row old new → old.schema ≡ archive_schema → new.schema ≡ archive_schema
+admit_row_schema So row old new it has = ap (λ (d : Database). d.schema) it ∙ has
+admit_row_schema OldWord row old new it has = ap (λ (d : Database). d.schema) it ∙ has
+admit_row_schema Otherwise row old new it has = ap (λ (d : Database). d.schema) it ∙ has
+admit_row_schema Not row old new it has = it.schema
 
-source_schema : {S P : Type 0} (rules : SocketRules S P) (wanted : Wanted) (device : Option ℕ) (before after : S) (old new : Database) (end : End)
-    → KeepsSource rules wanted device before after old new end → old.schema ≡ archive_schema → new.schema ≡ archive_schema
-source_schema rules wanted device before after old new end h has =
-    let known : h.known.schema ≡ archive_schema = elim h.added [
-      | inl same ↦ ap (λ (d : Database). d.schema) same ∙ has
-      | inr more ↦ more.schema
-    ] in
-    let (begun, mid, at_begin, (last, keeps, marks)) = h.kept.4.1 in
-    marks_schema begun end last new marks (log_schema _ _ _ _ _ begun _ h.known last end keeps known)
+pub admit_schema : (entry : Entry) (old new : Database) → Admits entry old new → old.schema ≡ archive_schema → new.schema ≡ archive_schema
+admit_schema entry old new it has = admit_row_schema entry.recorded entry.row old new it has
 
-unless_schema : {S P : Type 0} (rules : SocketRules S P) (known : List Log) (wanted : Wanted) (device : Option ℕ) (why : Option Ending) (before after : S) (old new : Database) (end : End)
-    → KeepsUnless rules known wanted device why before after old new end → old.schema ≡ archive_schema → new.schema ≡ archive_schema
-unless_schema rules known wanted device (Some why) before after old new end h has = ap (λ (d : Database). d.schema) h.0 ∙ has
-unless_schema rules known wanted device None before after old new end h has = source_schema rules wanted device before after old new end h has
+renew_schema : (entry : Entry) (end : End) (old new : Database) → Renews entry end old new → old.schema ≡ archive_schema → new.schema ≡ archive_schema
+renew_schema entry end old new it has =
+    either_holds (is_due entry.recorded end) _ (new ≡ old) (new.schema ≡ archive_schema) (λ made. made.schema) (λ same. ap (λ (d : Database). d.schema) same ∙ has) it
+
+-- what was kept from a start on, and marked
+pub marked_schema : {L : Type 0} (asks : L → List ℕ → Result (List ℕ) Loss → L → Type 0) (path : Path) (retries : ℕ) (link left : L) (start : Start) (steps : ℕ)
+    (old last new : Database) (end : End) → KeepsBegun asks path retries link left (Ok start) steps old last end → Marks start.begins_at end last new
+    → old.schema ≡ archive_schema → new.schema ≡ archive_schema
+marked_schema asks path retries link left start steps old last new end keeps marks has =
+    mark_schema start.begins_at end last new marks (log_schema asks path retries link left (Ok start) steps old last end keeps has)
+
+entered_schema : {L : Type 0} (asks : L → List ℕ → Result (List ℕ) Loss → L → Type 0) (path : Path) (retries : ℕ) (link left : L) (begun : Result Start End) (steps : ℕ)
+    (entry : Entry) (old new : Database) (end : End) → KeepsEntered asks path retries link left begun steps entry old new end → old.schema ≡ archive_schema → new.schema ≡ archive_schema
+entered_schema asks path retries link left (Ok start) steps entry old new end (known, admits, last, keeps, marked, marks, renews) has =
+    renew_schema entry end marked new renews (marked_schema asks path retries link left start steps known last marked end keeps marks (admit_schema entry old known admits has))
+entered_schema asks path retries link left (Err none) steps entry old new end it has = ap (λ (d : Database). d.schema) it.0 ∙ has
+
+source_schema : {S P : Type 0} (rules : SocketRules S P) (known : List Log) (wanted : Wanted) (told : Told) (before after : S) (old new : Database) (end : End)
+    → KeepsSource rules known wanted told before after old new end → old.schema ≡ archive_schema → new.schema ≡ archive_schema
+source_schema rules known wanted told before after old new end h has =
+    let (begun, mid, at_begin, keeps) = h.kept.4.1 in
+    entered_schema _ _ _ mid _ begun _ h.entry old new end keeps has
+
+unless_schema : {S P : Type 0} (rules : SocketRules S P) (known : List Log) (wanted : Wanted) (told : Told) (why : Option Ending) (before after : S) (old new : Database) (end : End)
+    → KeepsUnless rules known wanted told why before after old new end → old.schema ≡ archive_schema → new.schema ≡ archive_schema
+unless_schema rules known wanted told (Some why) before after old new end h has = ap (λ (d : Database). d.schema) h.0 ∙ has
+unless_schema rules known wanted told None before after old new end h has = source_schema rules known wanted told before after old new end h has
 
 next_schema : {S P : Type 0} (rules : SocketRules S P) (known : List Log) (heard more : List Heard) (wanted : Wanted) (before after : S) (old new : Database) (end : End)
     → KeepsNext rules known heard more wanted before after old new end → old.schema ≡ archive_schema → new.schema ≡ archive_schema
@@ -117,7 +133,7 @@ next_schema rules known heard more wanted before after old new end h has =
     either_holds (is_silent heard wanted.source) (PassesOver known wanted NotAsked before after old new end × (more ≡ heard))
     (KeepsHeard rules known heard more wanted before after old new end) (new.schema ≡ archive_schema)
     (λ same. ap (λ (d : Database). d.schema) same.0.0 ∙ has)
-    (λ kept. unless_schema rules known wanted (device_of kept.identity) (hindrance kept.on_record kept.identity) kept.half after old new end kept.kept has) h
+    (λ kept. unless_schema rules known wanted kept.said.told (hindrance known heard wanted.source kept.on_record kept.said.identity) kept.half after old new end kept.kept has) h
 
 -- runs over an archive leave one
 pub all_schema : {S P : Type 0} (rules : SocketRules S P) (known : List Log) (heard last : List Heard) (all : List Wanted) (before after : S) (old new : Database) (ends : List End)

@@ -1,10 +1,11 @@
 -- A run takes nothing away.
-use Rattle.std.proofs.Common.{◌≡◌, ◌-◌, inl, inr, ℕ, ◌⊎◌, Bool, true, false, List, Option, None, Some, Result, Ok, Err, ap, refl, subst, sym, ◌∙◌, arith}
+use Rattle.std.proofs.Common.{◌≡◌, ◌-◌, inl, inr, ℕ, pos, ◌⊎◌, Bool, true, false, MatchBool, List, [], ◌∷◌, Option, None, Some, Result, Ok, Err, ap, refl, subst, sym, ◌∙◌, arith}
 use Rattle.std.specs.List.{Contains}
 use Rattle.std.proofs.lemmas.List.Elements.{Contains-append_left}
 use Rattle.std.proofs.lemmas.List.Sorted.{Contains-permutation}
+use Rattle.sqlite_value.specs.declared.value.Value.TheVariants.{Int}
 use Rattle.sqlite_value.specs.Order.{Row as Values}
-use Rattle.sqlite_trees.specs.Tree.{Trees}
+use Rattle.sqlite_trees.specs.Tree.{Trees, rowid}
 use Rattle.sqlite.specs.Effect.{Database}
 use Rattle.sqlite.specs.State.{State, HasCleanDisk, IsUnchanged, Survives}
 use Rattle.sqlite.proofs.StateLemmas.{survives_then}
@@ -17,48 +18,63 @@ use Rattle.bac_link.specs.Path.{Path}
 use Rattle.bac_link.specs.declared.link.Lost.{Lost as Loss}
 use Rattle.bac_walk.specs.Outcomes.{why_of}
 use Rattle.bac_walk.specs.declared.outcome.Why.{Why}
+use Rattle.bac_archive.specs.Changes.{ChangesLogs, HasChangedLogs, IsStill, KeepsLogs}
+use Rattle.bac_archive.proofs.ChangeLemmas.{changes_keep}
 use Rattle.bac_archive.specs.Logs.{AddsLog, HasNewLog}
 use Rattle.bac_archive.specs.declared.trend_logs.Log.{Log}
+use Rattle.bac_archive.specs.declared.trend_logs.Told.{Told}
 use Rattle.bac_ports.specs.Sockets.{SocketRules}
-use Rattle.bac_fetch.specs.Keeps.{KeepsBegun, KeepsOn, KeepsHeard, KeepsNext, KeepsSource, KeepsUnless, Marks, MarksBegun, PassesOver, is_idle}
-use Rattle.bac_fetch.specs.Whose.{device_of, hindrance, is_silent}
+use Rattle.bac_fetch.specs.Keeps.{KeepsBegun, KeepsEntered, KeepsOn, KeepsHeard, KeepsNext, KeepsSource, KeepsUnless, LeavesWord, Marks, PassesOver}
+use Rattle.bac_fetch.specs.Entries.{Admits, AdmitsRow, Renews, is_due}
+use Rattle.bac_fetch.specs.declared.entry.Entry.{Entry}
+use Rattle.bac_fetch.specs.declared.entry.Recorded.{Recorded}
+use Rattle.bac_fetch.specs.declared.entry.Recorded.TheVariants.{So, OldWord, Otherwise, Not}
+use Rattle.bac_fetch.specs.Whose.{hindrance, is_silent}
 use Rattle.bac_fetch.specs.declared.whose.Heard.{Heard}
 use Rattle.bac_asked.specs.declared.end.Ending.{Ending}
 use Rattle.bac_asked.specs.declared.end.Ending.TheVariants.{NotAsked}
-use Rattle.bac_fetch.specs.Stays.{HasAllOf}
+use Rattle.bac_fetch.specs.Stays.{HasAllOf, HasRows, HasSameLogs}
+use Rattle.bac_fetch.proofs.SameLemmas.{begun_same, marks_same, survives_as}
 use Rattle.bac_asked.specs.declared.end.End.{End}
 use Rattle.bac_fetch.specs.declared.starting.Start.{Start}
 use Rattle.bac_asked.specs.declared.wanted.Wanted.{Wanted}
 use Rattle.bac_fetch.proofs.SilentLemmas.{either_holds}
 
+-- a row is still there under its id
+still : (row : Values) (id : ℕ) → rowid row ≡ Int (pos id) → IsStill row row id
+still row id is = record { id_is = is; instance = refl; name = refl }
+
+-- rows that are all there are kept
+keep_logs : (a b : Trees) → ((row : Values) → Contains (known a) row → Contains (known b) row) → KeepsLogs a b
+keep_logs a b all = λ row id at is. (row, all row at, still row id is)
+
 pub all_itself : (trees : Trees) → HasAllOf trees trees
-all_itself trees = record { items = λ row at. at; logs = λ row at. at }
+all_itself trees = record { items = λ row at. at; logs = keep_logs trees trees (λ row at. at) }
+
+logs_then : (a b c : Trees) → KeepsLogs a b → KeepsLogs b c → KeepsLogs a c
+logs_then a b c one two = λ row id at is.
+    let first = one row id at is in
+    let next = two first.0 id first.1 first.2.id_is in
+    (next.0, next.1, record { id_is = next.2.id_is; instance = next.2.instance ∙ first.2.instance; name = next.2.name ∙ first.2.name })
 
 pub all_then : (a b c : Trees) → HasAllOf a b → HasAllOf b c → HasAllOf a c
-all_then a b c one two = record { items = λ row at. two.items row (one.items row at); logs = λ row at. two.logs row (one.logs row at) }
+all_then a b c one two = record { items = λ row at. two.items row (one.items row at); logs = logs_then a b c one.logs two.logs }
 
--- rows that are added take none away
-pub adds_all : (a b : Trees) (more : List Values) → Adds a b more → HasAllOf a b
-adds_all a b more it = record {
-  items = λ row at. Contains-permutation _ (kept b) row it.items (Contains-append_left (kept a) more row at);
-  logs = λ row at. subst (λ rows. Contains rows row) (sym it.logs) at;
-}
+-- what has the same logs has them all
+pub all_of_same : (a b : Trees) → HasSameLogs a b → HasAllOf a b
+all_of_same a b it = record { items = it.items; logs = keep_logs a b (λ row at. subst (λ rows. Contains rows row) (sym it.logs) at) }
 
 pub log_all : (a b : Trees) (log : Values) → AddsLog a b log → HasAllOf a b
 log_all a b log it = record {
   items = λ row at. subst (λ rows. Contains rows row) (sym it.items) at;
-  logs = λ row at. Contains-permutation _ (known b) row it.logs (Contains-append_left (known a) _ row at);
+  logs = keep_logs a b (λ row at. Contains-permutation _ (known b) row it.logs (Contains-append_left (known a) _ row at));
 }
 
--- what a call may leave in one sense it leaves in a wider one
-pub survives_as : (old new : State) (P Q : Trees → Type 0) → (HasCleanDisk new → (db : Trees) → P db → Q db) → Survives old new P → Survives old new Q
-survives_as old new P Q f it = record {
-  clean = it.clean;
-  shield = it.shield;
-  counts = it.counts;
-  limit = it.limit;
-  closes = it.closes;
-  crash = λ clean db may. elim (it.crash clean db may) [ inl was ↦ inl was | inr more ↦ inr (f clean db more) ];
+-- nor do changes of rows of logs
+pub changes_all : (a b : Trees) (logs : List Log) → ChangesLogs a b logs → HasAllOf a b
+changes_all a b logs it = record {
+  items = λ row at. subst (λ rows. Contains rows row) (sym it.items) at;
+  logs = changes_keep a b logs it;
 }
 
 -- two calls, the second over what the first made
@@ -67,50 +83,23 @@ pub stays_then : (old mid new : State) → HasAllOf old.now.trees mid.now.trees 
 stays_then old mid new all one two = survives_then old mid new _ _ (HasAllOf old.now.trees) (λ _ db it. it)
     (λ _ db it. all_then old.now.trees mid.now.trees db all it) one two
 
--- a log's row came or not
-pub log_stays : (old mid : State) (row : ℕ → Values) → Survives old mid (λ trees. (db : Database) × (id : ℕ) × HasNewLog old.now db (row id) × (trees ≡ db.trees))
-    → Survives old mid (HasAllOf old.now.trees)
-log_stays old mid row it = survives_as old mid _ (HasAllOf old.now.trees)
-    (λ _ db left. subst (HasAllOf old.now.trees) (sym left.3) (log_all old.now.trees left.0.trees _ left.2.rows)) it
+-- what may be left of a log whose row comes
+pub added_stays : (old new : State) (row : Values) → old.now.schema ≡ archive_schema
+    → Survives old new (λ trees. old.now.schema ≡ archive_schema → (db : Database) × HasNewLog old.now db row × (trees ≡ db.trees))
+    → Survives old new (HasAllOf old.now.trees)
+added_stays old new row has it = survives_as old new _ (HasAllOf old.now.trees)
+    (λ _ db left. let made = left has in subst (HasAllOf old.now.trees) (sym made.2) (log_all old.now.trees made.0.trees row made.1.rows)) it
 
--- a log is there or its row came, and then something is done that takes nothing away
-pub one_stays : (old mid new : State) (row : ℕ → Values) (id : ℕ) → old.now.schema ≡ archive_schema
-    → Survives old mid (λ trees. (db : Database) × (id : ℕ) × HasNewLog old.now db (row id) × (trees ≡ db.trees))
-    → (mid.now ≡ old.now) ⊎ HasNewLog old.now mid.now (row id)
-    → (mid.now.schema ≡ archive_schema → Survives mid new (HasAllOf mid.now.trees)) → Survives old new (HasAllOf old.now.trees)
-one_stays old mid new row id has crash added then =
-    let schema : mid.now.schema ≡ archive_schema = elim added [
-      | inl same ↦ ap (λ (d : Database). d.schema) same ∙ has
-      | inr more ↦ more.schema
-    ] in
-    let all : HasAllOf old.now.trees mid.now.trees = elim added [
-      | inl same ↦ subst (λ (d : Database). HasAllOf old.now.trees d.trees) (sym same) (all_itself old.now.trees)
-      | inr more ↦ log_all old.now.trees mid.now.trees (row id) more.rows
-    ] in
-    stays_then old mid new all (log_stays old mid row crash) (then schema)
-
--- a beginning takes nothing away
-pub begin_all : (a b : Trees) (rows : List Values) → AddsBeginnings a b rows → HasAllOf a b
-begin_all a b rows it = record {
-  items = λ row at. subst (λ rows. Contains rows row) (sym it.items) at;
-  logs = λ row at. subst (λ rows. Contains rows row) (sym it.logs) at;
-}
+-- and of changes of rows of logs
+pub changed_stays : (old new : State) (logs : List Log) → old.now.schema ≡ archive_schema
+    → Survives old new (λ trees. old.now.schema ≡ archive_schema → (db : Database) × HasChangedLogs old.now db logs × (trees ≡ db.trees))
+    → Survives old new (HasAllOf old.now.trees)
+changed_stays old new logs has it = survives_as old new _ (HasAllOf old.now.trees)
+    (λ _ db left. let made = left has in subst (HasAllOf old.now.trees) (sym made.2) (changes_all old.now.trees made.0.trees logs made.1.rows)) it
 
 -- nor does what is put on record behind a run
 pub marks_stay : (begins_at : Option Beginning) (end : End) (old new : Database) → Marks begins_at end old new → HasAllOf old.trees new.trees
-marks_stay None end old new it = subst (λ (d : Database). HasAllOf old.trees d.trees) (sym it) (all_itself old.trees)
-marks_stay (Some beginning) end old new it = go (is_idle end) refl
-  where
-    go : (idle : Bool) → is_idle end ≡ idle → HasAllOf old.trees new.trees
-    go true is = begin_all old.trees new.trees _ (it.0 is).rows
-    go false is = subst (λ (d : Database). HasAllOf old.trees d.trees) (sym (it.1 is)) (all_itself old.trees)
-
--- with what may be left of a beginning
-pub begin_stays : (old new : State) (row : Values) → old.now.schema ≡ archive_schema
-    → Survives old new (λ trees. old.now.schema ≡ archive_schema → (db : Database) × HasNewBeginning old.now db row × (trees ≡ db.trees))
-    → Survives old new (HasAllOf old.now.trees)
-begin_stays old new row has it = survives_as old new _ (HasAllOf old.now.trees)
-    (λ _ db left. let made = left has in subst (HasAllOf old.now.trees) (sym made.2) (begin_all old.now.trees made.0.trees _ made.1.rows)) it
+marks_stay begins_at end old new it = all_of_same old.trees new.trees (marks_same begins_at end old new it)
 
 pub quiet_then : (old mid new : State) → Survives old mid (λ _. ⊥) → Survives mid new (λ _. ⊥) → Survives old new (λ _. ⊥)
 quiet_then old mid new one two = survives_then old mid new (λ _. ⊥) (λ _. ⊥) (λ _. ⊥) (λ _ _ none. none) (λ _ _ none. none) one two
@@ -121,38 +110,46 @@ pub none_then : (old mid new : State) → (HasCleanDisk mid → IsUnchanged old 
 none_then old mid new same has one two = survives_then old mid new _ _ (λ _. ⊥) (λ _ _ none. none) (λ _ _ none. none) one
     (two (λ clean. ap (λ (d : Database). d.schema) (same clean).0.now_is ∙ has))
 
-on_stays : {L : Type 0} (asks : L → List ℕ → Result (List ℕ) Loss → L → Type 0) (path : Path) (retries : ℕ) (link left : L) (start : Start) (why : Option Why) (steps : ℕ)
-    (old new : Database) (end : End) → KeepsOn asks path retries link left start why steps old new end → HasAllOf old.trees new.trees
-on_stays asks path retries link left start (Some why) steps old new end h = subst (λ (d : Database). HasAllOf old.trees d.trees) (sym h.0) (all_itself old.trees)
-on_stays asks path retries link left start None steps old new end h = adds_all old.trees new.trees _ h.0.rows.rows
-
 pub begun_stays : {L : Type 0} (asks : L → List ℕ → Result (List ℕ) Loss → L → Type 0) (path : Path) (retries : ℕ) (link left : L) (begun : Result Start End) (steps : ℕ)
     (old new : Database) (end : End) → KeepsBegun asks path retries link left begun steps old new end → HasAllOf old.trees new.trees
-begun_stays asks path retries link left (Ok start) steps old new end (mid, rows, on) =
-    all_then old.trees mid.trees new.trees (adds_all old.trees mid.trees _ rows.rows)
-    (on_stays asks path retries link left start (why_of start.hand.gathered.step.ended) (steps - start.hand.took) mid new end on)
-begun_stays asks path retries link left (Err none) steps old new end it = subst (λ (d : Database). HasAllOf old.trees d.trees) (sym it.0) (all_itself old.trees)
+begun_stays asks path retries link left begun steps old new end it = all_of_same old.trees new.trees (begun_same asks path retries link left begun steps old new end it)
 
-marked_stays : (begun : Result Start End) (end : End) (old new : Database) → MarksBegun begun end old new → HasAllOf old.trees new.trees
-marked_stays (Ok start) end old new it = marks_stay start.begins_at end old new it
-marked_stays (Err none) end old new it = subst (λ (d : Database). HasAllOf old.trees d.trees) (sym it) (all_itself old.trees)
+admitted_row : (recorded : Recorded) (row : Log) (old new : Database) → AdmitsRow recorded row old new → HasAllOf old.trees new.trees
+admitted_row So row old new it = subst (λ (d : Database). HasAllOf old.trees d.trees) (sym it) (all_itself old.trees)
+admitted_row OldWord row old new it = subst (λ (d : Database). HasAllOf old.trees d.trees) (sym it) (all_itself old.trees)
+admitted_row Otherwise row old new it = subst (λ (d : Database). HasAllOf old.trees d.trees) (sym it) (all_itself old.trees)
+admitted_row Not row old new it = log_all old.trees new.trees _ it.rows
+
+-- the row of a log that comes takes nothing away
+pub admitted_stays : (entry : Entry) (old new : Database) → Admits entry old new → HasAllOf old.trees new.trees
+admitted_stays entry old new it = admitted_row entry.recorded entry.row old new it
+
+-- nor does one that is changed
+pub renewed_stays : (entry : Entry) (end : End) (old new : Database) → Renews entry end old new → HasAllOf old.trees new.trees
+renewed_stays entry end old new =
+    either_holds (is_due entry.recorded end) _ (new ≡ old) (HasAllOf old.trees new.trees)
+    (λ it. changes_all old.trees new.trees _ it.rows)
+    (λ it. subst (λ (d : Database). HasAllOf old.trees d.trees) (sym it) (all_itself old.trees))
+
+entered_stays : {L : Type 0} (asks : L → List ℕ → Result (List ℕ) Loss → L → Type 0) (path : Path) (retries : ℕ) (link left : L) (begun : Result Start End) (steps : ℕ)
+    (entry : Entry) (old new : Database) (end : End) → KeepsEntered asks path retries link left begun steps entry old new end → HasAllOf old.trees new.trees
+entered_stays asks path retries link left (Ok start) steps entry old new end (known, admits, last, keeps, marked, marks, renews) =
+    all_then old.trees known.trees new.trees (admitted_stays entry old known admits)
+    (all_then known.trees last.trees new.trees (begun_stays asks path retries link left (Ok start) steps known last end keeps)
+    (all_then last.trees marked.trees new.trees (marks_stay start.begins_at end last marked marks) (renewed_stays entry end marked new renews)))
+entered_stays asks path retries link left (Err none) steps entry old new end it = subst (λ (d : Database). HasAllOf old.trees d.trees) (sym it.0) (all_itself old.trees)
 
 -- what is kept of a log takes nothing away
-pub source_stays : {S P : Type 0} (over : SocketRules S P) (wanted : Wanted) (device : Option ℕ) (before after : S) (old new : Database) (end : End) →
-    KeepsSource over wanted device before after old new end → HasAllOf old.trees new.trees
-source_stays over wanted device before after old new end it =
-    let known : HasAllOf old.trees it.known.trees = elim it.added [
-      | inl same ↦ subst (λ (d : Database). HasAllOf old.trees d.trees) (sym same) (all_itself old.trees)
-      | inr more ↦ log_all old.trees it.known.trees _ more.rows
-    ] in
-    let (begun, mid, at_begin, (last, keeps, marks)) = it.kept.4.1 in
-    all_then old.trees it.known.trees new.trees known (all_then it.known.trees last.trees new.trees (begun_stays _ _ _ _ _ begun _ it.known last end keeps)
-    (marked_stays begun end last new marks))
+pub source_stays : {S P : Type 0} (over : SocketRules S P) (known : List Log) (wanted : Wanted) (told : Told) (before after : S) (old new : Database) (end : End) →
+    KeepsSource over known wanted told before after old new end → HasAllOf old.trees new.trees
+source_stays over known wanted told before after old new end it =
+    let (begun, mid, at_begin, keeps) = it.kept.4.1 in
+    entered_stays _ _ _ mid _ begun _ it.entry old new end keeps
 
-unless_stays : {S P : Type 0} (over : SocketRules S P) (known : List Log) (wanted : Wanted) (device : Option ℕ) (why : Option Ending) (before after : S) (old new : Database) (end : End) →
-    KeepsUnless over known wanted device why before after old new end → HasAllOf old.trees new.trees
-unless_stays over known wanted device (Some why) before after old new end it = subst (λ (d : Database). HasAllOf old.trees d.trees) (sym it.0) (all_itself old.trees)
-unless_stays over known wanted device None before after old new end it = source_stays over wanted device before after old new end it
+unless_stays : {S P : Type 0} (over : SocketRules S P) (known : List Log) (wanted : Wanted) (told : Told) (why : Option Ending) (before after : S) (old new : Database) (end : End) →
+    KeepsUnless over known wanted told why before after old new end → HasAllOf old.trees new.trees
+unless_stays over known wanted told (Some why) before after old new end it = subst (λ (d : Database). HasAllOf old.trees d.trees) (sym it.0) (all_itself old.trees)
+unless_stays over known wanted told None before after old new end it = source_stays over known wanted told before after old new end it
 
 -- nor does what is kept of one log, or of one that is passed over
 pub next_stays : {S P : Type 0} (over : SocketRules S P) (known : List Log) (heard more : List Heard) (wanted : Wanted) (before after : S) (old new : Database) (end : End) →
@@ -161,7 +158,7 @@ next_stays over known heard more wanted before after old new end =
     either_holds (is_silent heard wanted.source) (PassesOver known wanted NotAsked before after old new end × (more ≡ heard))
     (KeepsHeard over known heard more wanted before after old new end) (HasAllOf old.trees new.trees)
     (λ same. subst (λ (d : Database). HasAllOf old.trees d.trees) (sym same.0.0) (all_itself old.trees))
-    (λ kept. unless_stays over known wanted (device_of kept.identity) (hindrance kept.on_record kept.identity) kept.half after old new end kept.kept)
+    (λ kept. unless_stays over known wanted kept.said.told (hindrance known heard wanted.source kept.on_record kept.said.identity) kept.half after old new end kept.kept)
 
 -- what commits nothing takes nothing away
 pub quiet_stays : (old new : State) → Survives old new (λ _. ⊥) → Survives old new (HasAllOf old.now.trees)
@@ -195,3 +192,72 @@ itself_stays old = record {
   closes = λ clean on. inl on;
   crash = λ clean db may. inl may;
 }
+
+-- what was taken away of no log
+pub rows_of_same : (a b c : Trees) → HasRows a b → HasSameLogs b c → HasRows a c
+rows_of_same a b c one two = λ row at. subst (λ rows. Contains rows row) (sym two.logs) (one row at)
+
+-- nor by a row that comes
+pub rows_of_new : (a b : Trees) (log : Values) → AddsLog a b log → HasRows a b
+rows_of_new a b log it = λ row at. Contains-permutation _ (known b) row it.logs (Contains-append_left (known a) _ row at)
+
+pub rows_itself : (a : Trees) → HasRows a a
+rows_itself a = λ row at. at
+
+-- what may be left of a log whose row comes
+pub added_rows : (old new : State) (row : Values) → old.now.schema ≡ archive_schema
+    → Survives old new (λ trees. old.now.schema ≡ archive_schema → (db : Database) × HasNewLog old.now db row × (trees ≡ db.trees))
+    → Survives old new (HasRows old.now.trees)
+added_rows old new row has it = survives_as old new _ (HasRows old.now.trees)
+    (λ _ db left. let made = left has in subst (HasRows old.now.trees) (sym made.2) (rows_of_new old.now.trees made.0.trees row made.1.rows)) it
+
+admitted_rows : (recorded : Recorded) (row : Log) (old new : Database) → AdmitsRow recorded row old new → HasRows old.trees new.trees
+admitted_rows So row old new it = subst (λ (d : Database). HasRows old.trees d.trees) (sym it) (rows_itself old.trees)
+admitted_rows OldWord row old new it = subst (λ (d : Database). HasRows old.trees d.trees) (sym it) (rows_itself old.trees)
+admitted_rows Otherwise row old new it = subst (λ (d : Database). HasRows old.trees d.trees) (sym it) (rows_itself old.trees)
+admitted_rows Not row old new it = rows_of_new old.trees new.trees _ it.rows
+
+-- what may be left of a row that is changed
+pub renews_crash : (entry : Entry) (end : End) (old new : State) → is_due entry.recorded end ≡ true → old.now.schema ≡ archive_schema
+    → Survives old new (λ trees. old.now.schema ≡ archive_schema → (db : Database) × HasChangedLogs old.now db (entry.row ∷ []) × (trees ≡ db.trees))
+    → Survives old new (λ trees. (db : Database) × Renews entry end old.now db × (trees ≡ db.trees))
+renews_crash entry end old new is has it = survives_as old new _ _
+    (λ _ db left. let made = left has in
+    (made.0, subst (λ b. MatchBool b (HasChangedLogs old.now made.0 (entry.row ∷ [])) (made.0 ≡ old.now)) (sym is) made.1, made.2)) it
+
+-- what a crash leaves of calls that keep each log as it was, and of one behind them that keeps all
+pub leaves_word : (old mid new : State) (keeps : Database → Type 0) (more : Trees → Type 0) → Survives old mid (HasRows old.now.trees)
+    → (HasCleanDisk mid → (db : Trees) → more db → (it : Database) × keeps it × (db ≡ it.trees)) → Survives mid new more
+    → Survives old new (LeavesWord old.now.trees keeps)
+leaves_word old mid new keeps more one f two = survives_then old mid new (HasRows old.now.trees) more (LeavesWord old.now.trees keeps)
+    (λ _ db it. inl it) (λ clean db it. inr (f (omega (arith, clean, two.clean)) db it)) one two
+
+-- or of these alone
+pub leaves_rows : (old new : State) (keeps : Database → Type 0) → Survives old new (HasRows old.now.trees) → Survives old new (LeavesWord old.now.trees keeps)
+leaves_rows old new keeps it = survives_as old new (HasRows old.now.trees) (LeavesWord old.now.trees keeps) (λ _ db rows. inl rows) it
+
+-- two calls that keep each log as it was
+pub rows_then : (old mid new : State) → HasRows old.now.trees mid.now.trees → Survives old mid (HasRows old.now.trees)
+    → Survives mid new (HasSameLogs mid.now.trees) → Survives old new (HasRows old.now.trees)
+rows_then old mid new all one two = survives_then old mid new (HasRows old.now.trees) (HasSameLogs mid.now.trees) (HasRows old.now.trees)
+    (λ _ db it. it) (λ _ db it. rows_of_same old.now.trees mid.now.trees db all it) one two
+
+pub admitted_keeps : (entry : Entry) (old new : Database) → Admits entry old new → HasRows old.trees new.trees
+admitted_keeps entry old new it = admitted_rows entry.recorded entry.row old new it
+
+pub same_after : (old new : State) → Survives old new (HasSameLogs old.now.trees) → Survives old new (HasAllOf old.now.trees)
+same_after old new it = survives_as old new _ (HasAllOf old.now.trees) (λ _ db same. all_of_same old.now.trees db same) it
+
+-- the same behind what commits nothing
+pub quiet_word : (old mid new : State) (keeps more : Database → Type 0) → mid.now ≡ old.now → Survives old mid (λ _. ⊥)
+    → ((db : Database) → more db → keeps db) → Survives mid new (LeavesWord mid.now.trees more) → Survives old new (LeavesWord old.now.trees keeps)
+quiet_word old mid new keeps more same one f two = survives_then old mid new (λ _. ⊥) (LeavesWord mid.now.trees more) (LeavesWord old.now.trees keeps)
+    (λ _ db none. absurd none)
+    (λ _ db it. elim it [
+      | inl rows ↦ inl (subst (λ (d : Database). HasRows d.trees db) same rows)
+      | inr all ↦ inr (all.0, f all.0 all.1, all.2)
+    ])
+    one two
+
+pub quiet_rows : (old new : State) (keeps : Database → Type 0) → Survives old new (λ _. ⊥) → Survives old new (LeavesWord old.now.trees keeps)
+quiet_rows old new keeps it = survives_as old new (λ _. ⊥) (LeavesWord old.now.trees keeps) (λ _ db none. absurd none) it

@@ -9,16 +9,16 @@ use Rattle.bac_archive.specs.declared.trend_logs.Source.{Source}
 use Rattle.bac_fetch.specs.Silent.{is_same_device}
 use Rattle.bac_apdu.specs.Npdu.{Place}
 use Rattle.bac_wire.specs.Primitive.{Id}
-use Rattle.bac_link.specs.declared.exchanges.ExchangeFault.{ExchangeFault}
 use Rattle.bac_link.specs.Path.{towards}
 use Rattle.bac_ports.specs.declared.udp_link.UdpLink.{UdpLink}
 use Rattle.bac_words.specs.declared.job.Asked.{Asked}
 use Rattle.bac_asked.specs.declared.end.NotDone.{NotDone}
 use Rattle.bac_asked.specs.declared.log_words.Asking.{Asking}
 use Rattle.bac_ports.specs.Sockets.{SocketRules, link_over, own_address, socket_asks}
-use Rattle.bac_fetch.specs.Discovered.{IsObject, Reads, TellsObject}
-use Rattle.bac_fetch.specs.Whose.{Identifies, IsIdentity, IsOnRecord, TellsDevice, itself_asked}
-use Rattle.bac_fetch.specs.declared.whose.Identity.{Identity}
+use Rattle.bac_fetch.specs.Discovered.{IsObject, TellsObject}
+use Rattle.bac_fetch.specs.Said.{Identifies, Says, TellsDevice}
+use Rattle.bac_fetch.specs.Whose.{IsOnRecord}
+use Rattle.bac_fetch.specs.declared.said.Said.{Said}
 
 pub same_octets : (a b : List ℕ) → Some a ≡ Some b → a ≡ b
 same_octets a b h = cc
@@ -43,24 +43,24 @@ tells_one datagram a b is other =
 pub is_device : (datagram : List ℕ) (object : Id) → object.kind ≡ 8 → object.instance < 4194303 → TellsObject datagram object → TellsDevice datagram object.instance
 is_device datagram object kind less it = (less, subst (λ k. TellsObject datagram (record { kind = k; instance = object.instance })) kind it)
 
--- the same over a socket that was opened as words ask that ask so, and closed behind it
+-- what a device says over a socket that was opened as words ask that ask so, and closed behind it
 pub identifies_over : {S P : Type 0} (rules : SocketRules S P) (asking : Asking) (asked : Asked) (before middle after : S) (port last : P)
-    (link left : UdpLink P) (route : Option Place) (retries : ℕ) (result : Result Identity NotDone)
+    (link left : UdpLink P) (route : Option Place) (retries : ℕ) (result : Result Said NotDone)
     → asked ≡ asking.asked → rules.opens before (own_address asked.local) asked.timeout (Ok port) middle
     → link ≡ link_over asked.address port → route ≡ asked.route → retries ≡ asked.retries → last ≡ left.port → rules.closes middle last after
-    → IfOk result (λ identity. (answer : Result (List ℕ) ExchangeFault) × IsIdentity answer identity × Reads (socket_asks rules) (towards route) retries itself_asked link answer left)
-    → IfOk result (λ identity. Identifies rules asking before identity after)
+    → IfOk result (λ said. Says (socket_asks rules) (towards route) retries link said left)
+    → IfOk result (λ said. Identifies rules asking before said after)
 identifies_over rules asking asked before middle after port last link left route retries (Err fault) same opened is_link way tries is_last closes it = tt
-identifies_over rules asking asked before middle after port last link left route retries (Ok identity) same opened is_link way tries is_last closes it =
+identifies_over rules asking asked before middle after port last link left route retries (Ok said) same opened is_link way tries is_last closes it =
     let asks = socket_asks rules in
     let opened₁ = subst (λ (a : Asked). rules.opens before (own_address a.local) a.timeout (Ok port) middle) same opened in
     let link₁ = subst (λ (a : Asked). link ≡ link_over a.address port) same is_link in
     let route₁ = subst (λ (a : Asked). route ≡ a.route) same way in
     let retries₁ = subst (λ (a : Asked). retries ≡ a.retries) same tries in
-    let reads₁ = subst (λ (x : Option Place). Reads asks (towards x) retries itself_asked link it.0 left) route₁ it.2 in
-    let reads₂ = subst (λ x. Reads asks (towards asking.asked.route) x itself_asked link it.0 left) retries₁ reads₁ in
-    let reads₃ = subst (λ x. Reads asks (towards asking.asked.route) asking.asked.retries itself_asked x it.0 left) link₁ reads₂ in
-    (port, middle, last, opened₁, (left, (it.0, it.1, reads₃), is_last), closes)
+    let says₁ = subst (λ (x : Option Place). Says asks (towards x) retries link said left) route₁ it in
+    let says₂ = subst (λ x. Says asks (towards asking.asked.route) x link said left) retries₁ says₁ in
+    let says₃ = subst (λ x. Says asks (towards asking.asked.route) asking.asked.retries x said left) link₁ says₂ in
+    (port, middle, last, opened₁, (left, says₃, is_last), closes)
 
 only_one : {X : Type 0} (x y : X) → Contains (x ∷ []) y → x ≡ y
 only_one x y (zero, lt, is) = is

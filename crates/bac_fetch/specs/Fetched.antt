@@ -16,7 +16,7 @@ use Rattle.bac_keep.specs.declared.place.Place.{Place}
 use Rattle.bac_keep.specs.declared.sink.Refusal.TheVariants as refusal
 use Rattle.bac_asked.specs.declared.end.End.{End}
 use Rattle.bac_asked.specs.declared.end.Ending.{Ending}
-use Rattle.bac_asked.specs.declared.end.Ending.TheVariants.{Walk, Back, Epochs, NotAsked, Other}
+use Rattle.bac_asked.specs.declared.end.Ending.TheVariants.{Walk, Back, Epochs, NotAsked, Other, Twice}
 
 -- why a run over a log ended: as its walk did, or since the file has no place for the numbers that came
 abbrev pub IsEndingOf : Result Why NotKept → Ending → Type 0
@@ -40,6 +40,7 @@ IsRunTo Back steps took ended = (took < steps) × (ended ≡ StepLimit)
 IsRunTo Epochs steps took ended = (took < steps) × (ended ≡ StepLimit)
 IsRunTo NotAsked steps took ended = ⊥
 IsRunTo (Other told kept) steps took ended = ⊥
+IsRunTo (Twice told) steps took ended = ⊥
 
 -- the link is left as behind the last step; where what a step brought has no place, nothing is said of its questions
 abbrev pub IsLeftBy : {S : Type 0} → Ending → S → S → Type 0

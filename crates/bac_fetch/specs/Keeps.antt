@@ -2,7 +2,6 @@
 use Rattle.std.specs.Prelude.{◌≡◌, ◌⊎◌, ◌+◌, ◌-◌, ◌==◌, ◌&&◌, ℕ, map, max, Bool, true, false, MatchBool, List, [], ◌∷◌, ◌++◌, length}
 use Rattle.std.specs.Prelude.{Option, None, Some, option_map, Result, Ok, Err}
 use Rattle.std.specs.Io.KnownBytes.{Appends}
-use Rattle.std.specs.String.{string_bytes}
 use Rattle.sqlite.specs.Effect.{Database}
 use Rattle.sqlite_trees.specs.Tree.{Trees}
 use Rattle.bac_wire.specs.Primitive.{Id}
@@ -18,14 +17,12 @@ use Rattle.bac_archive.specs.Beginnings.{beginning_row}
 use Rattle.bac_archive.specs.Rows.{IsAppended, stored}
 use Rattle.bac_archive.specs.declared.epochs.Beginning.{Beginning}
 use Rattle.bac_archive.specs.Standing.{HasNewBeginning}
-use Rattle.bac_archive.specs.Logs.{AreLogs, HasNewLog, IsKnownAs, log_row}
+use Rattle.bac_archive.specs.Logs.{AreLogs}
 use Rattle.bac_archive.specs.declared.trend_logs.Log.{Log}
 use Rattle.bac_archive.specs.declared.trend_logs.Source.{Source}
 use Rattle.bac_archive.specs.declared.trend_logs.Told.{Told}
 use Rattle.bac_keep.specs.Items.{era, kept_rows}
 use Rattle.bac_keep.specs.Runs.{records_in, gaps_among}
-use Rattle.bac_keep.specs.declared.courses.Word.{Word}
-use Rattle.bac_keep.specs.declared.courses.Word.TheVariants.{Untold}
 use Rattle.bac_keep.specs.declared.keep.KeptStep.{KeptStep}
 use Rattle.bac_keep.specs.declared.place.Place.{Place}
 use Rattle.bac_asked.specs.declared.end.End.{End}
@@ -40,10 +37,14 @@ use Rattle.bac_ports.specs.Sockets.{SocketRules, UsesSocket, link_over, own_addr
 use Rattle.bac_ports.specs.declared.udp_link.UdpLink.{UdpLink}
 use Rattle.bac_fetch.specs.Fetched.{ComesFrom}
 use Rattle.bac_asked.specs.Lines.{summary_line}
-use Rattle.bac_fetch.specs.Silent.{IsIdAmong}
-use Rattle.bac_fetch.specs.Whose.{IsIdentified, IsOnRecord, device_of, heard_with, hindrance, is_silent}
+use Rattle.bac_fetch.specs.Entries.{Admits, IsEntry, Renews}
+use Rattle.bac_fetch.specs.Moves.{Settles}
+use Rattle.bac_fetch.specs.Silent.{IsAmong}
+use Rattle.bac_fetch.specs.Stays.{HasRows}
+use Rattle.bac_fetch.specs.Whose.{IsIdentified, IsOnRecord, heard_with, hindrance, is_silent}
+use Rattle.bac_fetch.specs.declared.entry.Entry.{Entry}
+use Rattle.bac_fetch.specs.declared.said.Said.{Said}
 use Rattle.bac_fetch.specs.declared.whose.Heard.{Heard}
-use Rattle.bac_fetch.specs.declared.whose.Identity.{Identity}
 use Rattle.bac_fetch.specs.Stands.{IsStand, kept_last}
 use Rattle.bac_fetch.specs.declared.stands.Stand.{Stand}
 use Rattle.bac_fetch.specs.Starts.{IsBegun}
@@ -96,46 +97,60 @@ Marks (Some beginning) end old new =
     (is_idle end ≡ true → HasNewBeginning old new (beginning_row beginning))
     × (is_idle end ≡ false → new ≡ old)
 
--- the same of a run that begins so
-abbrev pub MarksBegun : Result Start End → End → Database → Database → Type 0
-MarksBegun (Ok start) end old new = Marks start.begins_at end old new
-MarksBegun (Err none) end old new = new ≡ old
+-- What a run of at most so many steps over a log that begins so keeps: first the log has a row, then what is in hand and what
+-- comes behind it is kept, then its epoch begins if nothing came, and then its row says what its device told. Nothing, if the
+-- device didn't say where it begins.
+abbrev pub KeepsEntered : {S : Type 0} → (S → List ℕ → Result (List ℕ) Loss → S → Type 0) → Path → ℕ → S → S → Result Start End →
+    ℕ → Entry → Database → Database → End → Type 0
+KeepsEntered asks path retries link left (Ok start) steps entry old new end =
+    (known : Database) × Admits entry old known
+    × (last : Database) × KeepsBegun asks path retries link left (Ok start) steps known last end
+    × (marked : Database) × Marks start.begins_at end last marked × Renews entry end marked new
+KeepsEntered asks path retries link left (Err none) steps entry old new end = (new ≡ old) × (end ≡ none) × (left ≡ link)
 
--- A run of at most so many steps over the log of this id, which is this object of its device, over a link that it leaves
--- so: where it begins, by the archive's rows, by what the device tells over the link and by its own word, what it keeps
--- from there, that it came over the link as that was left then, and where the epoch begins, if nothing came.
+-- What a crash leaves of a run over a log that keeps so: each log as it was, and so its device's word by which the rows were
+-- kept that are there; or all that the run kept.
+abbrev pub LeavesWord : Trees → (Database → Type 0) → Trees → Type 0
+LeavesWord old keeps left = HasRows old left ⊎ ((db : Database) × keeps db × (left ≡ db.trees))
+
+-- A run of at most so many steps over a log, which is this object of its device, over a link that it leaves so: where it
+-- begins, by the archive's rows, by what the device tells over the link and by its own word, and what it keeps from there,
+-- which came over the link as that was left then.
 abbrev pub KeepsOverLink : {S : Type 0} → (S → List ℕ → Result (List ℕ) Loss → S → Type 0) → Path → ℕ → S → S → ℕ →
-    ℕ → Id → Word → Database → Database → End → Type 0
-KeepsOverLink {S = S} asks path retries link left steps log object word old new end =
-    (begun : Result Start End) × (mid : S) × IsBegun asks path retries link mid log object word steps old.trees begun
-    × ((last : Database) × KeepsBegun asks path retries mid left begun steps old last end × MarksBegun begun end last new)
+    Entry → Id → Database → Database → End → Type 0
+KeepsOverLink {S = S} asks path retries link left steps entry object old new end =
+    (begun : Result Start End) × (mid : S)
+    × IsBegun asks path retries link mid entry.row.id object entry.word steps old.trees begun
+    × KeepsEntered asks path retries mid left begun steps entry old new end
 
 -- The same over a socket: it was opened as the log is asked for, every datagram was asked of the device that is asked,
 -- and it was closed as the last of these left it.
-abbrev pub KeepsLog : {S P : Type 0} → SocketRules S P → Asking → S → S → ℕ → Id → Database → Database → End → Type 0
-KeepsLog {P = P} rules asking before after log object old new end =
+abbrev pub KeepsLog : {S P : Type 0} → SocketRules S P → Asking → S → S → Entry → Id → Database → Database → End → Type 0
+KeepsLog {P = P} rules asking before after entry object old new end =
     UsesSocket rules (own_address asking.asked.local) asking.asked.timeout before
     (λ port last. (left : UdpLink P) × KeepsOverLink (socket_asks rules) (towards asking.asked.route) asking.asked.retries
-    (link_over asking.asked.address port) left asking.steps log object Untold old new end × (last ≡ left.port))
+    (link_over asking.asked.address port) left asking.steps entry object old new end × (last ≡ left.port))
     after
 
 -- the Trend Log object of this instance (clause 12.25)
 abbrev pub trend_log : ℕ → Id
 trend_log instance = record { kind = 20; instance = instance }
 
--- what a device told that told this instance, or none
-abbrev pub told_by : Option ℕ → Told
-told_by device = record { device = device; restart = None; revision = None }
+-- a row is to be that of a log that is wanted, with what its device told, and not stopped
+abbrev pub IsRowOf : Wanted → Told → Log → Type 0
+IsRowOf wanted told row =
+    (row.source ≡ wanted.source) × (row.name ≡ wanted.name) × (row.told ≡ told) × (row.stopped ≡ false)
 
--- The log is one of the archive, or its row came to those of the logs, with the instance that its device told; then what a
--- run brought is kept under its id.
-pub record KeepsSource {S P : Type 0} (rules : SocketRules S P) (wanted : Wanted) (device : Option ℕ) (before after : S)
-    (old new : Database) (end : End) : Type 0 where
-  pub id : ℕ
-  pub known : Database
-  pub added : (known ≡ old) ⊎ HasNewLog old known (log_row id wanted.source (option_map string_bytes wanted.name) (told_by device) false)
-  pub log : IsKnownAs known.trees id wanted.source
-  pub kept : KeepsLog rules wanted.asking before after id (trend_log wanted.source.instance) known new end
+-- What is kept of a log, of which these logs were on record as a run began: under its id, or a free one, with what its
+-- device told.
+pub record KeepsSource {S P : Type 0} (rules : SocketRules S P) (known : List Log) (wanted : Wanted) (told : Told)
+    (before after : S) (old new : Database) (end : End) : Type 0 where
+  pub log : Option Log
+  pub among : IsAmong known wanted.source log
+  pub entry : Entry
+  pub entered : IsEntry old.trees log told entry
+  pub row : IsRowOf wanted told entry.row
+  pub kept : KeepsLog rules wanted.asking before after entry (trend_log wanted.source.instance) old new end
 
 -- the number that comes next of a log that stands there, or 1
 abbrev pub next_behind : Option Stand → ℕ
@@ -150,7 +165,7 @@ IsNextOf trees (Some id) next = (stand : Option Stand) × IsStand id trees stand
 -- the end of a run over a log of an archive that isn't fetched, for this reason
 abbrev pub IsWithout : List Log → Trees → Source → Ending → End → Type 0
 IsWithout known trees source why end = (end.records ≡ 0) × (end.gaps ≡ 0) × (end.why ≡ why) × (end.began ≡ GoesOn)
-    × (id : Option ℕ) × IsIdAmong known source id × IsNextOf trees id end.next
+    × (log : Option Log) × IsAmong known source log × IsNextOf trees (option_map (λ (l : Log). l.id) log) end.next
 
 -- a log is passed over, for this reason: no socket is opened, the archive is as it was, and the reason is told
 abbrev pub PassesOver : {S : Type 0} → List Log → Wanted → Ending → S → S → Database → Database → End → Type 0
@@ -158,23 +173,23 @@ PassesOver known wanted why before after old new end =
     (new ≡ old) × (after ≡ before) × IsWithout known old.trees wanted.source why end
 
 -- a log is passed over if there is a reason, and else kept
-abbrev pub KeepsUnless : {S P : Type 0} → SocketRules S P → List Log → Wanted → Option ℕ → Option Ending →
+abbrev pub KeepsUnless : {S P : Type 0} → SocketRules S P → List Log → Wanted → Told → Option Ending →
     S → S → Database → Database → End → Type 0
-KeepsUnless rules known wanted device (Some why) before after old new end = PassesOver known wanted why before after old new end
-KeepsUnless rules known wanted device None before after old new end = KeepsSource rules wanted device before after old new end
+KeepsUnless rules known wanted told (Some why) before after old new end = PassesOver known wanted why before after old new end
+KeepsUnless rules known wanted told None before after old new end = KeepsSource rules known wanted told before after old new end
 
--- A log of a device that was heard of, or is asked for its instance now: it is kept, unless the device gives no answer, or an
--- instance is on record of it and it doesn't tell that one. So the device of each log that is kept told the instance that is
--- on record, if one is.
+-- A log of a device that was heard of, or is asked now what it says of itself: it is kept, unless the device gives no answer, or
+-- an instance is on record of it and it doesn't tell that one, or it tells one that is on record elsewhere. So the device of
+-- each log that is kept told the instance that is on record, if one is.
 pub record KeepsHeard {S P : Type 0} (rules : SocketRules S P) (known : List Log) (heard more : List Heard) (wanted : Wanted)
     (before after : S) (old new : Database) (end : End) : Type 0 where
-  pub identity : Identity
+  pub said : Said
   pub half : S
-  pub asked : IsIdentified rules heard wanted before identity half
+  pub asked : IsIdentified rules heard wanted before said half
   pub on_record : Option ℕ
   pub on_record_is : IsOnRecord known wanted.source on_record
-  pub kept : KeepsUnless rules known wanted (device_of identity) (hindrance on_record identity) half after old new end
-  pub heard_is : more ≡ heard_with heard wanted.source identity end.why
+  pub kept : KeepsUnless rules known wanted said.told (hindrance known heard wanted.source on_record said.identity) half after old new end
+  pub heard_is : more ≡ heard_with heard wanted.source said end.why
 
 -- a log is passed over if its device gave no answer before; of any other the device is asked who it is, unless it was
 abbrev pub KeepsNext : {S P : Type 0} → SocketRules S P → List Log → List Heard → List Heard → Wanted → S → S → Database → Database → End → Type 0
@@ -191,10 +206,13 @@ KeepsAll {S = S} rules known heard last (wanted ∷ more) before after old new (
     × KeepsAll rules known now last more half after mid new ends
 KeepsAll rules known heard last _ before after old new _ = ⊥
 
--- so are they in a run, as which begins nothing was heard of a device, and the archive has these logs
+-- So are they in a run: first it is found whether the device of the first one has moved, and then they are kept in an archive
+-- that has these logs, with what was heard of that device.
 abbrev pub KeepsLogs : {S P : Type 0} → SocketRules S P → List Wanted → S → S → Database → Database → List End → Type 0
-KeepsLogs rules all before after old new ends =
-    (known : List Log) × AreLogs old.trees known × (last : List Heard) × KeepsAll rules known [] last all before after old new ends
+KeepsLogs {S = S} rules all before after old new ends =
+    (known : List Log) × AreLogs old.trees known × (heard : List Heard) × (half : S) × (mid : Database)
+    × Settles rules known all before heard half old mid
+    × (now : List Log) × AreLogs mid.trees now × (last : List Heard) × KeepsAll rules now heard last all half after mid new ends
 
 -- the lines of logs, in their order
 abbrev pub lines_of : List Wanted → List End → List ℕ

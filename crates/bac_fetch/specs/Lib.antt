@@ -5,6 +5,9 @@ pub mod Starts
 pub mod Fetched
 pub mod Discovered
 pub mod Silent
+pub mod Said
 pub mod Whose
+pub mod Entries
+pub mod Moves
 pub mod Stays
 pub mod Keeps

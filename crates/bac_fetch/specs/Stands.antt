@@ -11,6 +11,8 @@ use Rattle.bac_archive.specs.Rows.{kept}
 use Rattle.bac_archive.specs.declared.epochs.Beginning.{Beginning}
 use Rattle.bac_archive.specs.declared.row.Row.{Row}
 use Rattle.bac_keep.specs.Newest.{epoch_behind}
+use Rattle.bac_keep.specs.declared.courses.Word.{Word}
+use Rattle.bac_keep.specs.declared.courses.Word.TheVariants.{Same}
 use Rattle.bac_keep.specs.Looks.{KeptAs}
 use Rattle.bac_fetch.specs.declared.stands.Last.{Last}
 use Rattle.bac_fetch.specs.declared.stands.Stand.{Stand}
@@ -92,3 +94,8 @@ free_from (At begun) = 0
 abbrev pub epoch_of : Stand → ℕ
 epoch_of (Behind last) = last.item.epoch
 epoch_of (At begun) = begun.epoch
+
+-- what a device's word says of a log that stands there: before the number 1 nothing was logged, so that nothing can have
+-- begun anew
+abbrev pub word_at : Stand → Word → Word
+word_at stand word = if begins_at_one stand then Same else word

@@ -40,16 +40,15 @@ use Rattle.bac_asked.specs.declared.end.Ending.{Ending}
 use Rattle.bac_asked.specs.declared.end.Ending.TheVariants.{Walk, Epochs}
 use Rattle.bac_fetch.specs.Discovered.{Reads, Tells}
 use Rattle.bac_fetch.specs.Hands.{LooksAhead, Steps, StepsAt, TakesMore}
-use Rattle.bac_fetch.specs.Stands.{IsStand, begins_at_one, epoch_from, epoch_of, free_from, kept_last}
+use Rattle.bac_fetch.specs.Stands.{IsStand, begins_at_one, epoch_from, epoch_of, free_from, kept_last, word_at}
 use Rattle.bac_fetch.specs.declared.hands.Hand.{Hand}
 use Rattle.bac_fetch.specs.declared.questions.Count.{Count}
 use Rattle.bac_fetch.specs.declared.questions.Count.TheVariants.{Told, Untold, Lost}
 use Rattle.bac_fetch.specs.declared.stands.Stand.{Stand}
 use Rattle.bac_fetch.specs.declared.starting.Start.{Start}
 
--- What an answer to the question for a log's Total_Record_Count says: an Unsigned of 32 bits; or nothing that can be read
--- so, as if it is refused; or none came. The question fits a
--- request, so it is asked.
+-- What an answer to the question for a count says: an Unsigned of 32 bits; or nothing that can be read so, as if it is
+-- refused; or none came. The question fits a request, so it is asked.
 abbrev pub IsCount : Result (List ℕ) ExchangeFault → Count → Type 0
 IsCount (Ok answer) (Told count) = Tells answer (primitive.Unsigned count)
 IsCount (Ok answer) Untold = (count : ℕ) → count < 2 ^ 32 → Tells answer (primitive.Unsigned count) → ⊥
@@ -59,11 +58,15 @@ IsCount (Err (fault.Refused refusal)) count = count ≡ Untold
 IsCount (Err fault.BadReply) count = count ≡ Untold
 IsCount (Err fault.TooLong) count = ⊥
 
--- the Total_Record_Count of a log (clause 12.25) was asked for over a link, and so it was told, whoever answered
-abbrev pub Counts : {S : Type 0} → (S → List ℕ → Result (List ℕ) Loss → S → Type 0) → Path → ℕ → S → Id → Count → S → Type 0
-Counts asks path retries old log count new =
+-- a property of an object was asked for over a link, and so its count was told, whoever answered
+abbrev pub AsksFor : {S : Type 0} → (S → List ℕ → Result (List ℕ) Loss → S → Type 0) → Path → ℕ → S → Id → ℕ → Count → S → Type 0
+AsksFor asks path retries old object property count new =
     (answer : Result (List ℕ) ExchangeFault) × IsCount answer count
-    × Reads asks path retries (record { object = log; property = 145; index = None }) old answer new
+    × Reads asks path retries (record { object = object; property = property; index = None }) old answer new
+
+-- so was the Total_Record_Count of a log (145, clause 12.25)
+abbrev pub Counts : {S : Type 0} → (S → List ℕ → Result (List ℕ) Loss → S → Type 0) → Path → ℕ → S → Id → Count → S → Type 0
+Counts asks path retries old log count new = AsksFor asks path retries old log 145 count new
 
 -- the number from which a log's first epoch covers each one if it holds nothing: the one behind its count, or 1
 abbrev pub begins_behind : Count → ℕ
@@ -286,4 +289,4 @@ abbrev pub IsBegun : {S : Type 0} → (S → List ℕ → Result (List ℕ) Loss
 IsBegun asks path retries link left log object word steps trees begun =
     (IsStand log trees None × StartsNew asks path retries link log object begun left)
     ⊎ ((stand : Stand) × IsStand log trees (Some stand)
-    × GoesFrom asks path retries link log object word stand steps begun left)
+    × GoesFrom asks path retries link log object (word_at stand word) stand steps begun left)

@@ -12,8 +12,8 @@ ghost use Rattle.bac_fetch.specs.Hands.{stored_in};
 ghost use Rattle.bac_fetch.specs.Starts.{IsEither, OpensBehind, gap_up_to, next_from};
 
 use crate::hands::{Hand, take_step_at};
-use crate::stands::{Stand, last_kept};
-use crate::starting::{Start, none_behind, none_kept, number_behind};
+use crate::stands::{Stand, last_kept, number_behind};
+use crate::starting::{Start, none_behind, none_kept};
 use bac_archive::Row;
 use bac_asked::{Began, End, Ending, Fault, NotDone};
 use bac_keep::{Gathered, KeptStep, Place, beginning_of};

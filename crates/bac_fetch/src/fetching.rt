@@ -9,14 +9,16 @@ ghost use Rattle.bac_archive.specs.Schema.{archive_schema};
 ghost use Rattle.bac_link.specs.Path.{towards};
 ghost use Rattle.bac_ports.specs.Sockets.{link_over, own_address, socket_rules};
 ghost use Rattle.bac_fetch.specs.Fetched.{ComesFrom, HasFailed, IsEndingOf};
-ghost use Rattle.bac_fetch.specs.Keeps.{KeepsBegun, KeepsFrom, KeepsLog, KeepsOverLink, Marks, is_idle, trend_log};
-ghost use Rattle.bac_fetch.specs.Stays.{HasAllOf};
+ghost use Rattle.bac_fetch.specs.Keeps.{KeepsBegun, KeepsEntered, KeepsFrom, KeepsLog, KeepsOverLink, LeavesWord, Marks, is_idle, trend_log};
+ghost use Rattle.bac_fetch.specs.Stays.{HasAllOf, HasSameLogs};
+ghost use Rattle.bac_asked.specs.declared.end.End.{End as EndOf};
 ghost use Rattle.bac_fetch.specs.Starts.{IsBegun};
 
 use crate::count::Ahead;
+use crate::entry::{Entry, admit, renew};
 use crate::hands::Hand;
 use crate::stands::stand_of;
-use crate::starting::{Start, start_from, start_new};
+use crate::starting::{Start, start_at, start_new};
 use bac_apdu::Route;
 use bac_apdu::object_type::TREND_LOG;
 use bac_archive::{Beginning, begin_epoch, is_archive, newest};
@@ -95,7 +97,7 @@ fn where_to_start<L: LogLink, A: Alter>(
     ensures clean { HasCleanDisk (state A.Store conn.new) → HasCleanDisk (state A.Store conn.old) }
 {
     match stand_of(alloc, conn, id)? {
-        Some(stand) => start_from(alloc, link, transactions, id, log, word, &stand, steps),
+        Some(stand) => start_at(alloc, link, transactions, id, log, word, &stand, steps),
         None => start_new(alloc, link, transactions, id, log),
     }
 }
@@ -165,7 +167,7 @@ fn look_at<A: Alter>(
 /// Keeps what is in hand in one transaction.
 fn keep_hand<A: Alter>(conn: &mut Connection<A>, gathered: Gathered) -> Result<(), NotDone>
     ensures kept { HasCleanDisk (state A.Store conn.new) → OnOk result (IsAppended (state A.Store conn.old).now (state A.Store conn.new).now (map stored gathered.rows.items)) }
-    ensures stays { (state A.Store conn.old).now.schema ≡ archive_schema → Survives (state A.Store conn.old) (state A.Store conn.new) (HasAllOf (state A.Store conn.old).now.trees) }
+    ensures stays { (state A.Store conn.old).now.schema ≡ archive_schema → Survives (state A.Store conn.old) (state A.Store conn.new) (HasSameLogs (state A.Store conn.old).now.trees) }
     ensures clean { HasCleanDisk (state A.Store conn.new) → HasCleanDisk (state A.Store conn.old) }
 {
     if !is_archive(conn.schema()) {
@@ -200,9 +202,10 @@ fn keep_on<L: LogLink, A: Alter, P: Progress>(
     // In replies that came over the link.
     ensures came { HasCleanDisk (state A.Store conn.new) → (state A.Store conn.old).now.schema ≡ archive_schema
         → IfOk result (ComesFrom L.asks (towards transactions.old.route) transactions.old.retries link.old link.new place walk step steps (state A.Store conn.old).now (state A.Store conn.new).now) }
-    // Whatever comes of it, what a crash leaves then, or at any moment before, has all that was there.
+    // Whatever comes of it, what a crash leaves then, or at any moment before, has all that was there,
+    // and the same logs.
     ensures stays { HasCleanDisk (state A.Store conn.new) → (state A.Store conn.old).now.schema ≡ archive_schema
-        → Survives (state A.Store conn.old) (state A.Store conn.new) (HasAllOf (state A.Store conn.old).now.trees) }
+        → Survives (state A.Store conn.old) (state A.Store conn.new) (HasSameLogs (state A.Store conn.old).now.trees) }
     ensures clean { HasCleanDisk (state A.Store conn.new) → HasCleanDisk (state A.Store conn.old) }
 {
     let mut behind = Ahead::new(progress, step.records);
@@ -234,9 +237,10 @@ fn keep_from<L: LogLink, A: Alter, P: Progress>(
 ) -> Result<End, NotDone>
     ensures kept { HasCleanDisk (state A.Store conn.new) → (state A.Store conn.old).now.schema ≡ archive_schema
         → IfOk result (KeepsBegun L.asks (towards transactions.old.route) transactions.old.retries link.old link.new (Ok start) steps (state A.Store conn.old).now (state A.Store conn.new).now) }
-    // Whatever comes of it, what a crash leaves then, or at any moment before, has all that was there.
+    // Whatever comes of it, what a crash leaves then, or at any moment before, has all that was there,
+    // and the same logs.
     ensures stays { HasCleanDisk (state A.Store conn.new) → (state A.Store conn.old).now.schema ≡ archive_schema
-        → Survives (state A.Store conn.old) (state A.Store conn.new) (HasAllOf (state A.Store conn.old).now.trees) }
+        → Survives (state A.Store conn.old) (state A.Store conn.new) (HasSameLogs (state A.Store conn.old).now.trees) }
     ensures clean { HasCleanDisk (state A.Store conn.new) → HasCleanDisk (state A.Store conn.old) }
 {
     let Start {
@@ -295,7 +299,7 @@ fn mark<A: Alter>(
     ensures marks { HasCleanDisk (state A.Store conn.new) → (state A.Store conn.old).now.schema ≡ archive_schema
         → OnOk result (Marks begins_at end.now (state A.Store conn.old).now (state A.Store conn.new).now) }
     ensures stays { HasCleanDisk (state A.Store conn.new) → (state A.Store conn.old).now.schema ≡ archive_schema
-        → Survives (state A.Store conn.old) (state A.Store conn.new) (HasAllOf (state A.Store conn.old).now.trees) }
+        → Survives (state A.Store conn.old) (state A.Store conn.new) (HasSameLogs (state A.Store conn.old).now.trees) }
     ensures clean { HasCleanDisk (state A.Store conn.new) → HasCleanDisk (state A.Store conn.old) }
 {
     let Some(beginning) = begins_at else {
@@ -325,12 +329,42 @@ fn keep_and_mark<L: LogLink, A: Alter, P: Progress>(
         × KeepsBegun L.asks (towards transactions.old.route) transactions.old.retries link.old link.new (Ok start) steps (state A.Store conn.old).now last end
         × Marks start.begins_at end last (state A.Store conn.new).now) }
     ensures stays { HasCleanDisk (state A.Store conn.new) → (state A.Store conn.old).now.schema ≡ archive_schema
-        → Survives (state A.Store conn.old) (state A.Store conn.new) (HasAllOf (state A.Store conn.old).now.trees) }
+        → Survives (state A.Store conn.old) (state A.Store conn.new) (HasSameLogs (state A.Store conn.old).now.trees) }
     ensures clean { HasCleanDisk (state A.Store conn.new) → HasCleanDisk (state A.Store conn.old) }
 {
     let begins_at = start.begins_at;
     let end = keep_from(alloc, link, transactions, conn, start, steps, progress)?;
     mark(conn, begins_at, &end)?;
+    Ok(end)
+}
+
+/// Keeps what a log has from a start on, whose row is there before; behind that the row says what the
+/// device told.
+fn keep_entered<L: LogLink, A: Alter, P: Progress>(
+    alloc: Global,
+    link: &mut L,
+    transactions: &mut Transactions,
+    conn: &mut Connection<A>,
+    entry: &Entry,
+    start: Start,
+    steps: u32,
+    progress: &mut P,
+) -> Result<End, NotDone>
+    ensures kept { HasCleanDisk (state A.Store conn.new) → (state A.Store conn.old).now.schema ≡ archive_schema
+        → IfOk result (KeepsEntered L.asks (towards transactions.old.route) transactions.old.retries link.old link.new (Ok start) steps entry.now
+        (state A.Store conn.old).now (state A.Store conn.new).now) }
+    ensures stays { HasCleanDisk (state A.Store conn.new) → (state A.Store conn.old).now.schema ≡ archive_schema
+        → Survives (state A.Store conn.old) (state A.Store conn.new) (HasAllOf (state A.Store conn.old).now.trees) }
+    // What a crash leaves has the device's word from before, or all that the run kept.
+    ensures word { HasCleanDisk (state A.Store conn.new) → (state A.Store conn.old).now.schema ≡ archive_schema
+        → Survives (state A.Store conn.old) (state A.Store conn.new) (LeavesWord (state A.Store conn.old).now.trees
+        (λ db. (left : L) × (end : EndOf) × KeepsEntered L.asks (towards transactions.old.route) transactions.old.retries link.old left (Ok start) steps entry.now
+        (state A.Store conn.old).now db end)) }
+    ensures clean { HasCleanDisk (state A.Store conn.new) → HasCleanDisk (state A.Store conn.old) }
+{
+    admit(conn, entry)?;
+    let end = keep_and_mark(alloc, link, transactions, conn, start, steps, progress)?;
+    renew(conn, entry, &end)?;
     Ok(end)
 }
 
@@ -340,23 +374,45 @@ fn fetch_over<L: LogLink, A: Alter, P: Progress>(
     link: &mut L,
     transactions: &mut Transactions,
     conn: &mut Connection<A>,
-    id: u16,
+    entry: &Entry,
     log: ObjectId,
-    word: DeviceWord,
     steps: u32,
     progress: &mut P,
 ) -> Result<End, NotDone>
     requires { log.kind ≡ 20 }
     ensures kept { HasCleanDisk (state A.Store conn.new) → (state A.Store conn.old).now.schema ≡ archive_schema
-        → IfOk result (KeepsOverLink L.asks (towards transactions.old.route) transactions.old.retries link.old link.new steps id log word
+        → IfOk result (KeepsOverLink L.asks (towards transactions.old.route) transactions.old.retries link.old link.new steps entry.now log
         (state A.Store conn.old).now (state A.Store conn.new).now) }
     // Whatever comes of it, what a crash leaves then, or at any moment before, has all that was there.
     ensures stays { HasCleanDisk (state A.Store conn.new) → (state A.Store conn.old).now.schema ≡ archive_schema
         → Survives (state A.Store conn.old) (state A.Store conn.new) (HasAllOf (state A.Store conn.old).now.trees) }
+    // What a crash leaves has the device's word from before, or all that the run kept.
+    ensures word { HasCleanDisk (state A.Store conn.new) → (state A.Store conn.old).now.schema ≡ archive_schema
+        → Survives (state A.Store conn.old) (state A.Store conn.new) (LeavesWord (state A.Store conn.old).now.trees
+        (λ db. (left : L) × (end : EndOf) × KeepsOverLink L.asks (towards transactions.old.route) transactions.old.retries link.old left steps entry.now log
+        (state A.Store conn.old).now db end)) }
     ensures clean { HasCleanDisk (state A.Store conn.new) → HasCleanDisk (state A.Store conn.old) }
 {
-    match where_to_start(alloc, link, transactions, conn, id, log, word, steps)? {
-        Ok(start) => keep_and_mark(alloc, link, transactions, conn, start, steps, progress),
+    match where_to_start(
+        alloc,
+        link,
+        transactions,
+        conn,
+        entry.row.id,
+        log,
+        entry.word,
+        steps,
+    )? {
+        Ok(start) => keep_entered(
+            alloc,
+            link,
+            transactions,
+            conn,
+            entry,
+            start,
+            steps,
+            progress,
+        ),
         Err(end) => Ok(end),
     }
 }
@@ -366,16 +422,15 @@ pub(crate) fn fetch<S: Sockets, A: Alter, P: Progress>(
     alloc: Global,
     sockets: &mut S,
     conn: &mut Connection<A>,
-    id: u16,
-    instance: u32,
+    entry: &Entry,
     asking: Asking,
     progress: &mut P,
 ) -> Result<End, NotDone>
     // The rows of what the run brought come to those before, under this log, and it came over a
     // socket that was opened as asked, from the device that is asked, and closed behind it.
     ensures kept { HasCleanDisk (state A.Store conn.new) → (state A.Store conn.old).now.schema ≡ archive_schema
-        → IfOk result (KeepsLog (socket_rules S.opens S.closes S.Socket.sends S.Socket.receives S.Socket.receives_within) asking sockets.old sockets.new id (trend_log instance)
-        (state A.Store conn.old).now (state A.Store conn.new).now) }
+        → IfOk result (KeepsLog (socket_rules S.opens S.closes S.Socket.sends S.Socket.receives S.Socket.receives_within) asking sockets.old sockets.new entry.now
+        (trend_log entry.now.row.source.instance) (state A.Store conn.old).now (state A.Store conn.new).now) }
     // Whatever comes of it, what a crash leaves then, or at any moment before, has all that was there.
     ensures stays { HasCleanDisk (state A.Store conn.new) → (state A.Store conn.old).now.schema ≡ archive_schema
         → Survives (state A.Store conn.old) (state A.Store conn.new) (HasAllOf (state A.Store conn.old).now.trees) }
@@ -386,7 +441,7 @@ pub(crate) fn fetch<S: Sockets, A: Alter, P: Progress>(
         instance: _instance,
         steps,
     } = asking;
-    let Some(log) = ObjectId::new(TREND_LOG, instance) else {
+    let Some(log) = ObjectId::new(TREND_LOG, entry.row.source.instance) else {
         return Err(NotDone::Asking(Fault::BadValue(Word::Instance)));
     };
     let (mut link, mut transactions) = connect(sockets, asked)?;
@@ -395,9 +450,8 @@ pub(crate) fn fetch<S: Sockets, A: Alter, P: Progress>(
         &mut link,
         &mut transactions,
         conn,
-        id,
+        entry,
         log,
-        DeviceWord::Untold,
         steps,
         progress,
     );

@@ -1,35 +1,37 @@
 //! Logs are added to an archive, and what is new of them is kept.
 
-ghost use Rattle.std.specs.Prelude.{◌≡◌, ◌≢◌, ◌⊎◌, ◌∷◌, ◌++◌, ℕ, false, OnOk, IfOk, IfSome, List, [], map, option_map};
+ghost use Rattle.std.specs.Prelude.{◌≡◌, ◌≢◌, ◌∷◌, ◌++◌, OnOk, IfOk, List, [], map, option_map};
 ghost use Rattle.std.specs.List.{All};
-ghost use Rattle.std.specs.String.{string_bytes};
 ghost use Rattle.sqlite.specs.State.{HasCleanDisk, Survives};
 ghost use Rattle.sqlite.specs.Held.{state};
 ghost use Rattle.bac_archive.specs.Schema.{archive_schema};
-ghost use Rattle.bac_archive.specs.Logs.{HasNewLog, IsKnownAs, log_row};
+ghost use Rattle.bac_archive.specs.Logs.{AreLogs};
 ghost use Rattle.bac_ports.specs.Sockets.{socket_rules};
-ghost use Rattle.bac_fetch.specs.Keeps.{AreToldBy, IsToldBy, KeepsAll, KeepsHeard, KeepsLogs, KeepsNext, KeepsSource, KeepsUnless, told_by};
-ghost use Rattle.bac_fetch.specs.Silent.{HasLogs};
-ghost use Rattle.bac_fetch.specs.Whose.{IsOnRecord, device_of, heard_with, hindrance};
+ghost use Rattle.bac_fetch.specs.Keeps.{AreToldBy, IsRowOf, IsToldBy, KeepsAll, KeepsHeard, KeepsLog, KeepsLogs, KeepsNext, KeepsUnless, trend_log};
+ghost use Rattle.bac_fetch.specs.Entries.{IsEntry};
+ghost use Rattle.bac_fetch.specs.Moves.{Settles};
+ghost use Rattle.bac_fetch.specs.Whose.{heard_with};
+ghost use Rattle.bac_archive.specs.declared.trend_logs.Log.{Log as LogOf};
+ghost use Rattle.bac_fetch.specs.declared.entry.Entry.{Entry as EntryOf};
 ghost use Rattle.bac_fetch.specs.declared.whose.Heard.{Heard as HeardOf};
 ghost use Rattle.bac_fetch.specs.Discovered.{AreFound};
 ghost use Rattle.bac_asked.specs.Wanted.{AsksItsSource};
-ghost use Rattle.bac_archive.specs.declared.trend_logs.Log.{Log as LogOf};
 ghost use Rattle.bac_fetch.specs.Chosen.{AreChosen, AreKeptLogs, AskTheirSources, not_stopped};
 ghost use Rattle.bac_fetch.specs.Stays.{HasAllOf};
 ghost use Rattle.bac_asked.specs.declared.wanted.Wanted.{Wanted as WantedOf};
 
 use crate::count::Count;
 use crate::discovering::discover;
+use crate::entry::{Entry, enter};
 use crate::fetching::fetch;
+use crate::moving::settle;
 use crate::passing::{pass_by, pass_over, print_end};
-use crate::silent::id_among;
-use crate::whose::{
-    Heard, Identity, add_heard, device_of, device_on_record, hindrance, identity_of, is_silent,
-};
-use bac_archive::{Log, Source, Told, add_log, logs};
+use crate::said::Said;
+use crate::silent::log_among;
+use crate::whose::{Heard, add_heard, device_on_record, hindrance, is_silent, said_of};
+use bac_archive::{Log, Source, logs};
 use bac_asked::{
-    Asking, Began, Ending, Fault, FileFault, NotDone, Options, Wanted, add_wanted, end_status,
+    Asking, Began, End, Ending, Fault, FileFault, NotDone, Options, Wanted, add_wanted, end_status,
     kept_log, push_began,
 };
 use bac_ports::Sockets;
@@ -115,47 +117,27 @@ fn tell_anew<E: Write>(
     Ok(())
 }
 
-/// A text, if there is one.
-fn name_of(text: &Option<String>) -> Option<&str>
-    ensures { option_map (λ s. s.now) result ≡ option_map string_bytes text.now }
-{
-    match text {
-        Some(text) => Some(text.as_str()),
-        None => None,
-    }
-}
-
-/// The id of a log: that under which it is known, or that of the row which is added for it, with the
-/// instance that its device told.
-fn id_of<A: Alter>(
+/// Keeps what is new of one log; on a terminal its records are counted meanwhile.
+fn fetch_counted<S: Sockets, A: Alter, E: Write>(
+    sockets: &mut S,
     conn: &mut Connection<A>,
     alloc: Global,
-    known: Option<u16>,
-    source: &Source,
-    name: Option<&str>,
-    device: Option<u32>,
-) -> Result<u16, NotDone>
-    ensures added { HasCleanDisk (state A.Store conn.new) → (state A.Store conn.old).now.schema ≡ archive_schema → IfOk result (λ id.
-        ((state A.Store conn.new).now ≡ (state A.Store conn.old).now)
-        ⊎ HasNewLog (state A.Store conn.old).now (state A.Store conn.new).now (log_row id source.now (option_map (λ s. s.now) name.entry) (told_by device) false)) }
-    ensures known { HasCleanDisk (state A.Store conn.new) → (state A.Store conn.old).now.schema ≡ archive_schema
-        → IfSome known (λ id. IsKnownAs (state A.Store conn.old).now.trees id source.now) → IfOk result (λ id. IsKnownAs (state A.Store conn.new).now.trees id source.now) }
-    ensures crash { (state A.Store conn.old).now.schema ≡ archive_schema → Survives (state A.Store conn.old) (state A.Store conn.new)
-        (λ trees. (db : _) × (id : ℕ) × HasNewLog (state A.Store conn.old).now db (log_row id source.now (option_map (λ s. s.now) name.entry) (told_by device) false) × (trees ≡ db.trees)) }
+    entry: &Entry,
+    asking: Asking,
+    counts: bool,
+    errors: &mut E,
+) -> Result<End, NotDone>
+    ensures kept { HasCleanDisk (state A.Store conn.new) → (state A.Store conn.old).now.schema ≡ archive_schema
+        → IfOk result (KeepsLog (socket_rules S.opens S.closes S.Socket.sends S.Socket.receives S.Socket.receives_within) asking sockets.old sockets.new entry.now
+        (trend_log entry.now.row.source.instance) (state A.Store conn.old).now (state A.Store conn.new).now) }
+    ensures stays { HasCleanDisk (state A.Store conn.new) → (state A.Store conn.old).now.schema ≡ archive_schema
+        → Survives (state A.Store conn.old) (state A.Store conn.new) (HasAllOf (state A.Store conn.old).now.trees) }
     ensures clean { HasCleanDisk (state A.Store conn.new) → HasCleanDisk (state A.Store conn.old) }
 {
-    if let Some(id) = known {
-        return Ok(id);
-    }
-    let told = Told {
-        device,
-        restart: None,
-        revision: None,
-    };
-    match add_log(alloc, conn, source, name, &told) {
-        Ok(id) => Ok(id),
-        Err(fault) => Err(NotDone::File(FileFault::of_log(fault))),
-    }
+    let mut count = Count::new(alloc, &entry.row.source, errors, counts);
+    let fetched = fetch(alloc, sockets, conn, entry, asking, &mut count);
+    count.end();
+    fetched
 }
 
 /// Keeps what is new of one log, and prints its line; answers its status.
@@ -163,10 +145,10 @@ fn keep_one<S: Sockets, A: Alter, O: Write, E: Write>(
     sockets: &mut S,
     conn: &mut Connection<A>,
     alloc: Global,
-    known: Option<u16>,
+    log: Option<&Log>,
     heard: &mut Vec<Heard>,
     wanted: Wanted,
-    identity: Identity,
+    said: Said,
     counts: bool,
     output: &mut O,
     errors: &mut E,
@@ -174,10 +156,11 @@ fn keep_one<S: Sockets, A: Alter, O: Write, E: Write>(
     // What is told of a log is how its run ended, and so is the status.
     // The rows of what the run brought come to those before, under the id of this log.
     ensures told { IfOk result (IsToldBy (O.contents output.old) (O.contents output.new) wanted.source (λ end.
-        (heard.new.items ≡ heard_with heard.old.items wanted.source identity end.why)
-        × (HasCleanDisk (state A.Store conn.new) → (state A.Store conn.old).now.schema ≡ archive_schema
-        → IfSome known (λ id. IsKnownAs (state A.Store conn.old).now.trees id wanted.source) →
-        KeepsSource (socket_rules S.opens S.closes S.Socket.sends S.Socket.receives S.Socket.receives_within) wanted (device_of identity) sockets.old sockets.new (state A.Store conn.old).now (state A.Store conn.new).now end))) }
+        (heard.new.items ≡ heard_with heard.old.items wanted.source said end.why)
+        × (HasCleanDisk (state A.Store conn.new) → (state A.Store conn.old).now.schema ≡ archive_schema →
+        (entry : EntryOf) × IsEntry (state A.Store conn.old).now.trees (option_map (λ it. it.now) log.entry) said.told entry × IsRowOf wanted said.told entry.row
+        × KeepsLog (socket_rules S.opens S.closes S.Socket.sends S.Socket.receives S.Socket.receives_within) wanted.asking sockets.old sockets.new
+        entry (trend_log wanted.source.instance) (state A.Store conn.old).now (state A.Store conn.new).now end))) }
     // Whatever comes of it, no item and no log is lost: what is on the disk then, or is left by a
     // crash at any moment before, is what was there or has all of it.
     ensures stays { HasCleanDisk (state A.Store conn.new) → (state A.Store conn.old).now.schema ≡ archive_schema
@@ -189,23 +172,18 @@ fn keep_one<S: Sockets, A: Alter, O: Write, E: Write>(
         name,
         asking,
     } = wanted;
-    let device = device_of(identity);
-    let id = id_of(conn, alloc, known, &source, name_of(&name), device)?;
-    let mut count = Count::new(alloc, &source, errors, counts);
-    let fetched = fetch(
-        alloc,
-        sockets,
-        conn,
-        id,
-        source.instance,
-        asking,
-        &mut count,
-    );
-    count.end();
-    let end = fetched?;
-    tell_anew(alloc, &source, end.began, errors)?;
-    print_end(alloc, &source, &end, output)?;
-    add_heard(heard, source, identity, end.why)?;
+    let Said { identity, told } = said;
+    let entry = enter(conn, alloc, log, source, name, told)?;
+    let end = fetch_counted(sockets, conn, alloc, &entry, asking, counts, errors)?;
+    tell_anew(alloc, &entry.row.source, end.began, errors)?;
+    print_end(alloc, &entry.row.source, &end, output)?;
+    let Entry {
+        row,
+        recorded: _recorded,
+        word: _word,
+    } = entry;
+    let Log { source, told, .. } = row;
+    add_heard(heard, source, Said { identity, told }, end.why)?;
     Ok(end_status(end.why))
 }
 
@@ -218,26 +196,26 @@ fn keep_unless<S: Sockets, A: Alter, O: Write, E: Write>(
     at: usize,
     heard: &mut Vec<Heard>,
     wanted: Wanted,
-    identity: Identity,
+    said: Said,
     why: Option<Ending>,
     counts: bool,
     output: &mut O,
     errors: &mut E,
 ) -> Result<u8, NotDone>
     ensures told { IfOk result (IsToldBy (O.contents output.old) (O.contents output.new) wanted.source (λ end.
-        (heard.new.items ≡ heard_with heard.old.items wanted.source identity end.why)
-        × (HasCleanDisk (state A.Store conn.new) → (state A.Store conn.old).now.schema ≡ archive_schema → HasLogs (state A.Store conn.old).now.trees known.now →
-        KeepsUnless (socket_rules S.opens S.closes S.Socket.sends S.Socket.receives S.Socket.receives_within) known.now wanted (device_of identity) why sockets.old sockets.new (state A.Store conn.old).now (state A.Store conn.new).now end))) }
+        (heard.new.items ≡ heard_with heard.old.items wanted.source said end.why)
+        × (HasCleanDisk (state A.Store conn.new) → (state A.Store conn.old).now.schema ≡ archive_schema →
+        KeepsUnless (socket_rules S.opens S.closes S.Socket.sends S.Socket.receives S.Socket.receives_within) known.now wanted said.told why sockets.old sockets.new (state A.Store conn.old).now (state A.Store conn.new).now end))) }
     ensures stays { HasCleanDisk (state A.Store conn.new) → (state A.Store conn.old).now.schema ≡ archive_schema
         → Survives (state A.Store conn.old) (state A.Store conn.new) (HasAllOf (state A.Store conn.old).now.trees) }
     ensures clean { HasCleanDisk (state A.Store conn.new) → HasCleanDisk (state A.Store conn.old) }
 {
-    let id = id_among(known, at, &wanted.source);
+    let log = log_among(known, at, &wanted.source);
     match why {
         None => keep_one(
-            sockets, conn, alloc, id, heard, wanted, identity, counts, output, errors,
+            sockets, conn, alloc, log, heard, wanted, said, counts, output, errors,
         ),
-        Some(why) => pass_by(conn, alloc, id, heard, wanted.source, identity, why, output),
+        Some(why) => pass_by(conn, alloc, log, heard, wanted.source, said, why, output),
     }
 }
 
@@ -255,17 +233,23 @@ fn keep_heard<S: Sockets, A: Alter, O: Write, E: Write>(
     errors: &mut E,
 ) -> Result<u8, NotDone>
     ensures told { IfOk result (IsToldBy (O.contents output.old) (O.contents output.new) wanted.source (λ end.
-        HasCleanDisk (state A.Store conn.new) → (state A.Store conn.old).now.schema ≡ archive_schema → HasLogs (state A.Store conn.old).now.trees known.now →
+        HasCleanDisk (state A.Store conn.new) → (state A.Store conn.old).now.schema ≡ archive_schema →
         KeepsHeard (socket_rules S.opens S.closes S.Socket.sends S.Socket.receives S.Socket.receives_within) known.now heard.old.items heard.new.items wanted sockets.old sockets.new (state A.Store conn.old).now (state A.Store conn.new).now end)) }
     ensures stays { HasCleanDisk (state A.Store conn.new) → (state A.Store conn.old).now.schema ≡ archive_schema
         → Survives (state A.Store conn.old) (state A.Store conn.new) (HasAllOf (state A.Store conn.old).now.trees) }
     ensures clean { HasCleanDisk (state A.Store conn.new) → HasCleanDisk (state A.Store conn.old) }
 {
-    let identity = identity_of(sockets, heard.as_slice(), &wanted)?;
+    let said = said_of(sockets, alloc, heard.as_slice(), &wanted)?;
     let on_record = device_on_record(known, at, &wanted.source);
-    let why = hindrance(on_record, identity);
+    let why = hindrance(
+        known,
+        heard.as_slice(),
+        &wanted.source,
+        on_record,
+        said.identity,
+    );
     keep_unless(
-        sockets, conn, alloc, known, at, heard, wanted, identity, why, counts, output, errors,
+        sockets, conn, alloc, known, at, heard, wanted, said, why, counts, output, errors,
     )
 }
 
@@ -283,40 +267,42 @@ fn keep_next<S: Sockets, A: Alter, O: Write, E: Write>(
     errors: &mut E,
 ) -> Result<u8, NotDone>
     ensures told { IfOk result (IsToldBy (O.contents output.old) (O.contents output.new) wanted.source (λ end.
-        HasCleanDisk (state A.Store conn.new) → (state A.Store conn.old).now.schema ≡ archive_schema → HasLogs (state A.Store conn.old).now.trees known.now →
+        HasCleanDisk (state A.Store conn.new) → (state A.Store conn.old).now.schema ≡ archive_schema →
         KeepsNext (socket_rules S.opens S.closes S.Socket.sends S.Socket.receives S.Socket.receives_within) known.now heard.old.items heard.new.items wanted sockets.old sockets.new (state A.Store conn.old).now (state A.Store conn.new).now end)) }
     ensures stays { HasCleanDisk (state A.Store conn.new) → (state A.Store conn.old).now.schema ≡ archive_schema
         → Survives (state A.Store conn.old) (state A.Store conn.new) (HasAllOf (state A.Store conn.old).now.trees) }
     ensures clean { HasCleanDisk (state A.Store conn.new) → HasCleanDisk (state A.Store conn.old) }
 {
     if is_silent(heard.as_slice(), &wanted.source) {
-        let id = id_among(known, at, &wanted.source);
-        return pass_over(conn, alloc, id, &wanted.source, Ending::NotAsked, output);
+        let log = log_among(known, at, &wanted.source);
+        return pass_over(conn, alloc, log, &wanted.source, Ending::NotAsked, output);
     }
     keep_heard(
         sockets, conn, alloc, known, at, heard, wanted, counts, output, errors,
     )
 }
 
-/// Keeps what is new of each of these logs in an archive that has had these logs.
+/// Keeps what is new of each of these logs in an archive that has these logs, where this was heard
+/// of devices before.
 fn keep_known<S: Sockets, A: Alter, O: Write, E: Write>(
     sockets: &mut S,
     conn: &mut Connection<A>,
     alloc: Global,
     known: &[Log],
+    heard: Vec<Heard>,
     all: Vec<Wanted>,
     counts: bool,
     output: &mut O,
     errors: &mut E,
 ) -> Result<u8, NotDone>
     ensures told { IfOk result (AreToldBy (O.contents output.old) (O.contents output.new) all.items (λ ends.
-        HasCleanDisk (state A.Store conn.new) → (state A.Store conn.old).now.schema ≡ archive_schema → HasLogs (state A.Store conn.old).now.trees known.now →
-        (last : List HeardOf) × KeepsAll (socket_rules S.opens S.closes S.Socket.sends S.Socket.receives S.Socket.receives_within) known.now [] last all.items sockets.old sockets.new (state A.Store conn.old).now (state A.Store conn.new).now ends)) }
-    ensures stays { HasCleanDisk (state A.Store conn.new) → (state A.Store conn.old).now.schema ≡ archive_schema → HasLogs (state A.Store conn.old).now.trees known.now
+        HasCleanDisk (state A.Store conn.new) → (state A.Store conn.old).now.schema ≡ archive_schema →
+        (last : List HeardOf) × KeepsAll (socket_rules S.opens S.closes S.Socket.sends S.Socket.receives S.Socket.receives_within) known.now heard.items last all.items sockets.old sockets.new (state A.Store conn.old).now (state A.Store conn.new).now ends)) }
+    ensures stays { HasCleanDisk (state A.Store conn.new) → (state A.Store conn.old).now.schema ≡ archive_schema
         → Survives (state A.Store conn.old) (state A.Store conn.new) (HasAllOf (state A.Store conn.old).now.trees) }
     ensures clean { HasCleanDisk (state A.Store conn.new) → HasCleanDisk (state A.Store conn.old) }
 {
-    let mut heard = Vec::new(alloc);
+    let mut heard = heard;
     let mut greatest = 0u8;
     let mut at = 0usize;
     for wanted in all {
@@ -329,15 +315,86 @@ fn keep_known<S: Sockets, A: Alter, O: Write, E: Write>(
     Ok(greatest)
 }
 
+/// The logs of an archive.
+fn logs_of<A: Alter>(conn: &mut Connection<A>, alloc: Global) -> Result<Vec<Log>, NotDone>
+    ensures logs { HasCleanDisk (state A.Store conn.new) → (state A.Store conn.old).now.schema ≡ archive_schema
+        → IfOk result (λ all. AreLogs (state A.Store conn.old).now.trees all.items) }
+    ensures same { HasCleanDisk (state A.Store conn.new) → (state A.Store conn.old).now.schema ≡ archive_schema
+        → OnOk result ((state A.Store conn.new).now ≡ (state A.Store conn.old).now) }
+    ensures crash { (state A.Store conn.old).now.schema ≡ archive_schema → Survives (state A.Store conn.old) (state A.Store conn.new) (λ _. ⊥) }
+    ensures clean { HasCleanDisk (state A.Store conn.new) → HasCleanDisk (state A.Store conn.old) }
+{
+    match logs(alloc, conn) {
+        Ok(known) => Ok(known),
+        Err(error) => Err(NotDone::File(FileFault::of(error))),
+    }
+}
+
+/// Keeps what is new of each of these logs in an archive, where this was heard of devices before.
+fn keep_settled<S: Sockets, A: Alter, O: Write, E: Write>(
+    sockets: &mut S,
+    conn: &mut Connection<A>,
+    alloc: Global,
+    heard: Vec<Heard>,
+    all: Vec<Wanted>,
+    counts: bool,
+    output: &mut O,
+    errors: &mut E,
+) -> Result<u8, NotDone>
+    ensures told { IfOk result (AreToldBy (O.contents output.old) (O.contents output.new) all.items (λ ends.
+        HasCleanDisk (state A.Store conn.new) → (state A.Store conn.old).now.schema ≡ archive_schema →
+        (known : List LogOf) × AreLogs (state A.Store conn.old).now.trees known × (last : List HeardOf)
+        × KeepsAll (socket_rules S.opens S.closes S.Socket.sends S.Socket.receives S.Socket.receives_within) known heard.items last all.items sockets.old sockets.new (state A.Store conn.old).now (state A.Store conn.new).now ends)) }
+    ensures stays { HasCleanDisk (state A.Store conn.new) → (state A.Store conn.old).now.schema ≡ archive_schema
+        → Survives (state A.Store conn.old) (state A.Store conn.new) (HasAllOf (state A.Store conn.old).now.trees) }
+    ensures clean { HasCleanDisk (state A.Store conn.new) → HasCleanDisk (state A.Store conn.old) }
+{
+    let known = logs_of(conn, alloc)?;
+    keep_known(
+        sockets,
+        conn,
+        alloc,
+        known.as_slice(),
+        heard,
+        all,
+        counts,
+        output,
+        errors,
+    )
+}
+
+/// Where the device of the first of these logs stands is settled over the logs of an archive.
+fn settle_known<S: Sockets, A: Alter, E: Write>(
+    sockets: &mut S,
+    conn: &mut Connection<A>,
+    alloc: Global,
+    all: &[Wanted],
+    options: &Options<'_>,
+    errors: &mut E,
+) -> Result<Vec<Heard>, NotDone>
+    ensures settled { HasCleanDisk (state A.Store conn.new) → (state A.Store conn.old).now.schema ≡ archive_schema → IfOk result (λ heard.
+        (known : List LogOf) × AreLogs (state A.Store conn.old).now.trees known
+        × Settles (socket_rules S.opens S.closes S.Socket.sends S.Socket.receives S.Socket.receives_within) known all.now sockets.old heard.items sockets.new
+        (state A.Store conn.old).now (state A.Store conn.new).now) }
+    ensures stays { HasCleanDisk (state A.Store conn.new) → (state A.Store conn.old).now.schema ≡ archive_schema
+        → Survives (state A.Store conn.old) (state A.Store conn.new) (HasAllOf (state A.Store conn.old).now.trees) }
+    ensures clean { HasCleanDisk (state A.Store conn.new) → HasCleanDisk (state A.Store conn.old) }
+{
+    let known = logs_of(conn, alloc)?;
+    settle(sockets, conn, alloc, known.as_slice(), all, options, errors)
+}
+
 /// Keeps what is new of each of these logs in an archive; answers the greatest of their statuses. A
-/// device is asked for its instance once; one that tells another than the one on record isn't asked
-/// for its logs, nor is one that gave no answer before. If it counts, the errors have the
-/// number of a log's records while it is fetched: for a terminal.
+/// device is asked once what it says of itself; one that tells another instance than the one on
+/// record isn't asked for its logs, nor is one that gave no answer before. A device that tells at a
+/// new place the instance on record of logs at another one has moved, if nobody tells it there. If
+/// it counts, the errors have the number of a log's records while it is fetched: for a terminal.
 pub fn keep_each<S: Sockets, A: Alter, O: Write, E: Write>(
     sockets: &mut S,
     conn: &mut Connection<A>,
     alloc: Global,
     all: Vec<Wanted>,
+    options: &Options<'_>,
     counts: bool,
     output: &mut O,
     errors: &mut E,
@@ -354,20 +411,8 @@ pub fn keep_each<S: Sockets, A: Alter, O: Write, E: Write>(
         → Survives (state A.Store conn.old) (state A.Store conn.new) (HasAllOf (state A.Store conn.old).now.trees) }
     ensures clean { HasCleanDisk (state A.Store conn.new) → HasCleanDisk (state A.Store conn.old) }
 {
-    let known = match logs(alloc, conn) {
-        Ok(known) => known,
-        Err(error) => return Err(NotDone::File(FileFault::of(error))),
-    };
-    keep_known(
-        sockets,
-        conn,
-        alloc,
-        known.as_slice(),
-        all,
-        counts,
-        output,
-        errors,
-    )
+    let heard = settle_known(sockets, conn, alloc, all.as_slice(), options, errors)?;
+    keep_settled(sockets, conn, alloc, heard, all, counts, output, errors)
 }
 
 /// Which logs were chosen, in the order in which they are fetched.
@@ -422,5 +467,5 @@ pub fn keep_chosen<S: Sockets, A: Alter, O: Write, E: Write>(
     ensures clean { HasCleanDisk (state A.Store conn.new) → HasCleanDisk (state A.Store conn.old) }
 {
     let all = chosen_logs(sockets, conn, alloc, chosen, options)?;
-    keep_each(sockets, conn, alloc, all, counts, output, errors)
+    keep_each(sockets, conn, alloc, all, options, counts, output, errors)
 }

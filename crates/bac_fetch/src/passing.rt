@@ -1,6 +1,6 @@
 //! The line of a log is printed, also of one that isn't fetched.
 
-ghost use Rattle.std.specs.Prelude.{◌≡◌, OnOk, IfOk};
+ghost use Rattle.std.specs.Prelude.{◌≡◌, option_map, OnOk, IfOk};
 ghost use Rattle.std.specs.Io.KnownBytes.{Appends};
 ghost use Rattle.sqlite.specs.State.{HasCleanDisk, Survives};
 ghost use Rattle.sqlite.specs.Held.{state};
@@ -9,10 +9,10 @@ ghost use Rattle.bac_asked.specs.Lines.{summary_line};
 ghost use Rattle.bac_fetch.specs.Keeps.{IsNextOf, IsToldBy, next_behind};
 ghost use Rattle.bac_fetch.specs.Whose.{heard_with};
 
-use crate::stands::{Stand, last_kept, stand_of};
-use crate::starting::number_behind;
-use crate::whose::{Heard, Identity, add_heard};
-use bac_archive::Source;
+use crate::said::Said;
+use crate::stands::{Stand, last_kept, number_behind, stand_of};
+use crate::whose::{Heard, add_heard};
+use bac_archive::{Log, Source};
 use bac_asked::{Began, End, Ending, Fault, NotDone, end_status, push_summary};
 use bac_print::write_text;
 use sqlite::{Alter, Connection};
@@ -67,11 +67,21 @@ fn next_of<A: Alter>(
     Ok(next_behind(&stand_of(alloc, conn, id)?))
 }
 
+/// The id of a log that is on record.
+fn id_of(log: Option<&Log>) -> Option<u16>
+    ensures { result ≡ option_map (λ l. l.id) (option_map (λ it. it.now) log.entry) }
+{
+    match log {
+        Some(log) => Some(log.id),
+        None => None,
+    }
+}
+
 /// Tells of a log why it isn't fetched.
 pub(crate) fn pass_over<A: Alter, O: Write>(
     conn: &mut Connection<A>,
     alloc: Global,
-    id: Option<u16>,
+    log: Option<&Log>,
     source: &Source,
     why: Ending,
     output: &mut O,
@@ -79,7 +89,7 @@ pub(crate) fn pass_over<A: Alter, O: Write>(
     ensures told { IfOk result (IsToldBy (O.contents output.old) (O.contents output.new) source.now (λ end.
         (end.records ≡ 0) × (end.gaps ≡ 0) × (end.why ≡ why) × (end.began ≡ Began.GoesOn)
         × (HasCleanDisk (state A.Store conn.new) → (state A.Store conn.old).now.schema ≡ archive_schema
-        → ((state A.Store conn.new).now ≡ (state A.Store conn.old).now) × IsNextOf (state A.Store conn.old).now.trees id end.next))) }
+        → ((state A.Store conn.new).now ≡ (state A.Store conn.old).now) × IsNextOf (state A.Store conn.old).now.trees (option_map (λ l. l.id) (option_map (λ it. it.now) log.entry)) end.next))) }
     ensures crash { (state A.Store conn.old).now.schema ≡ archive_schema → Survives (state A.Store conn.old) (state A.Store conn.new) (λ _. ⊥) }
     ensures clean { HasCleanDisk (state A.Store conn.new) → HasCleanDisk (state A.Store conn.old) }
 {
@@ -87,7 +97,7 @@ pub(crate) fn pass_over<A: Alter, O: Write>(
         records: 0,
         gaps: 0,
         why,
-        next: next_of(conn, alloc, id)?,
+        next: next_of(conn, alloc, id_of(log))?,
         began: Began::GoesOn,
     };
     print_end(alloc, source, &end, output)?;
@@ -98,22 +108,22 @@ pub(crate) fn pass_over<A: Alter, O: Write>(
 pub(crate) fn pass_by<A: Alter, O: Write>(
     conn: &mut Connection<A>,
     alloc: Global,
-    id: Option<u16>,
+    log: Option<&Log>,
     heard: &mut Vec<Heard>,
     source: Source,
-    identity: Identity,
+    said: Said,
     why: Ending,
     output: &mut O,
 ) -> Result<u8, NotDone>
     ensures told { IfOk result (IsToldBy (O.contents output.old) (O.contents output.new) source (λ end.
-        (heard.new.items ≡ heard_with heard.old.items source identity end.why)
+        (heard.new.items ≡ heard_with heard.old.items source said end.why)
         × (end.records ≡ 0) × (end.gaps ≡ 0) × (end.why ≡ why) × (end.began ≡ Began.GoesOn)
         × (HasCleanDisk (state A.Store conn.new) → (state A.Store conn.old).now.schema ≡ archive_schema
-        → ((state A.Store conn.new).now ≡ (state A.Store conn.old).now) × IsNextOf (state A.Store conn.old).now.trees id end.next))) }
+        → ((state A.Store conn.new).now ≡ (state A.Store conn.old).now) × IsNextOf (state A.Store conn.old).now.trees (option_map (λ l. l.id) (option_map (λ it. it.now) log.entry)) end.next))) }
     ensures crash { (state A.Store conn.old).now.schema ≡ archive_schema → Survives (state A.Store conn.old) (state A.Store conn.new) (λ _. ⊥) }
     ensures clean { HasCleanDisk (state A.Store conn.new) → HasCleanDisk (state A.Store conn.old) }
 {
-    let status = pass_over(conn, alloc, id, &source, why, output)?;
-    add_heard(heard, source, identity, why)?;
+    let status = pass_over(conn, alloc, log, &source, why, output)?;
+    add_heard(heard, source, said, why)?;
     Ok(status)
 }

@@ -9,7 +9,7 @@ ghost use Rattle.bac_link.specs.Datagrams.{apdu_in};
 ghost use Rattle.bac_link.specs.Path.{towards};
 ghost use Rattle.bac_query.specs.Reading.{values_in};
 ghost use Rattle.bac_fetch.specs.Discovered.{IsObject, Reads, ReadsNumber, Tells, TellsObject};
-ghost use Rattle.bac_fetch.specs.Starts.{Counts};
+ghost use Rattle.bac_fetch.specs.Starts.{AsksFor, Counts};
 
 use bac_apdu::{Apdu, ReadProperty, ReadPropertyAck};
 use bac_link::{ExchangeFault, LogLink, Request, Transactions, exchange, read_datagram};
@@ -19,7 +19,7 @@ use bac_wire::{Datagram, ObjectId, Value, read_value};
 const TOTAL_RECORD_COUNT: u32 = 145;
 
 /// The octets of the values that an ACK has.
-fn values_in(datagram: &Datagram) -> Option<&[u8]>
+pub(crate) fn values_in(datagram: &Datagram) -> Option<&[u8]>
     ensures { GivesSome (λ values. values.now) result (values_in (apdu_in datagram.now)) }
 {
     match read_datagram(datagram.octets()) {
@@ -92,7 +92,7 @@ pub(crate) fn read<L: LogLink>(
     exchange(link, transactions, &request)
 }
 
-/// What a device tells of how many records a log has logged.
+/// A count that a device tells: how many records a log has logged, or how often the device changed.
 #[derive(Clone, Copy, Debug, PartialEq, Eq)]
 pub(crate) enum Count {
     /// So many.
@@ -120,6 +120,27 @@ fn number_in(answer: &Datagram) -> Option<u32>
     Some(number as u32)
 }
 
+/// Asks for a property that is a number of 32 bits.
+pub(crate) fn read_unsigned<L: LogLink>(
+    link: &mut L,
+    transactions: &mut Transactions,
+    object: ObjectId,
+    property: u32,
+) -> Count
+    ensures counts { AsksFor L.asks (towards transactions.old.route) transactions.old.retries link.old object property result link.new }
+    ensures retries { transactions.new.retries ≡ transactions.old.retries }
+    ensures route { transactions.new.route ≡ transactions.old.route }
+{
+    match read(link, transactions, object, property, None) {
+        Ok(answer) => match number_in(&answer) {
+            Some(count) => Count::Told(count),
+            None => Count::Untold,
+        },
+        Err(ExchangeFault::Lost) => Count::Lost,
+        Err(_) => Count::Untold,
+    }
+}
+
 /// Asks how many records a trend log has logged, by its property Total_Record_Count (145, clause
 /// 12.25): the number of the newest one.
 pub(crate) fn read_count<L: LogLink>(
@@ -131,14 +152,7 @@ pub(crate) fn read_count<L: LogLink>(
     ensures retries { transactions.new.retries ≡ transactions.old.retries }
     ensures route { transactions.new.route ≡ transactions.old.route }
 {
-    match read(link, transactions, log, TOTAL_RECORD_COUNT, None) {
-        Ok(answer) => match number_in(&answer) {
-            Some(count) => Count::Told(count),
-            None => Count::Untold,
-        },
-        Err(ExchangeFault::Lost) => Count::Lost,
-        Err(_) => Count::Untold,
-    }
+    read_unsigned(link, transactions, log, TOTAL_RECORD_COUNT)
 }
 
 /// Reads a number.

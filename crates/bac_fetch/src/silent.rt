@@ -1,7 +1,7 @@
 //! Which logs an archive had as a run began, and which of them are of one device.
 
-ghost use Rattle.std.specs.Prelude.{◌≡◌, IfSome, Some};
-ghost use Rattle.bac_fetch.specs.Silent.{IsIdAmong, is_lost, is_same_device};
+ghost use Rattle.std.specs.Prelude.{◌≡◌, IfSome, Some, option_map};
+ghost use Rattle.bac_fetch.specs.Silent.{IsAmong, is_lost, is_same_device};
 
 use bac_archive::{Log, Source};
 use bac_asked::Ending;
@@ -24,38 +24,38 @@ pub(crate) fn is_lost(why: Ending) -> bool
     }
 }
 
-/// The id of the log at this place, if it is this one.
-fn id_at(known: &[Log], at: usize, source: &Source) -> Option<u16>
-    ensures { IfSome result (λ id. IsIdAmong known.now source.now (Some id)) }
+/// The log at this place, if it is this one.
+fn log_at<'a>(known: &'a [Log], at: usize, source: &Source) -> Option<&'a Log>
+    ensures { IfSome result (λ log. IsAmong known.now source.now (Some log.now)) }
 {
     let Some(log) = known.get(at) else {
         return None;
     };
     if log.source == *source {
-        Some(log.id)
+        Some(log)
     } else {
         None
     }
 }
 
-/// The id of a log, if it is among these.
-fn first_id(known: &[Log], source: &Source) -> Option<u16>
-    ensures { IsIdAmong known.now source.now result }
+/// A log, if it is among these.
+fn first_log<'a>(known: &'a [Log], source: &Source) -> Option<&'a Log>
+    ensures { IsAmong known.now source.now (option_map (λ log. log.now) result) }
 {
     for log in known {
         if log.source == *source {
-            return Some(log.id);
+            return Some(log);
         }
     }
     None
 }
 
-/// The id of a log, if it is among these: most likely at this place.
-pub(crate) fn id_among(known: &[Log], at: usize, source: &Source) -> Option<u16>
-    ensures { IsIdAmong known.now source.now result }
+/// A log, if it is among these: most likely at this place.
+pub(crate) fn log_among<'a>(known: &'a [Log], at: usize, source: &Source) -> Option<&'a Log>
+    ensures { IsAmong known.now source.now (option_map (λ log. log.now) result) }
 {
-    match id_at(known, at, source) {
-        Some(id) => Some(id),
-        None => first_id(known, source),
+    match log_at(known, at, source) {
+        Some(log) => Some(log),
+        None => first_log(known, source),
     }
 }

@@ -6,11 +6,12 @@ ghost use Rattle.bac_archive.specs.Rows.{kept};
 ghost use Rattle.sqlite.specs.State.{HasCleanDisk, Survives};
 ghost use Rattle.sqlite.specs.Held.{state};
 ghost use Rattle.bac_archive.specs.Schema.{archive_schema};
-ghost use Rattle.bac_fetch.specs.Stands.{AreFlagsOf, BeganLast, IsItemOf, IsLastOf, IsStand, begins_at_one, epoch_from, epoch_of, flags_in, free_from, kept_last, number_before, octets, stand_by};
+ghost use Rattle.bac_link.specs.Ordinals.{number_after};
+ghost use Rattle.bac_fetch.specs.Stands.{AreFlagsOf, BeganLast, IsItemOf, IsLastOf, IsStand, begins_at_one, epoch_from, epoch_of, flags_in, free_from, kept_last, number_before, octets, stand_by, word_at};
 
 use bac_archive::{Beginning, NewestItem, Row, beginnings, head_of, is_archive, newest};
 use bac_asked::{FileFault, NotDone};
-use bac_keep::{LastKept, Place};
+use bac_keep::{LastKept, Place, Word};
 use sqlite::{Alter, Connection};
 use std::alloc::Global;
 
@@ -249,5 +250,24 @@ pub(crate) fn from_there(id: u16, stand: &Stand) -> Option<(Place, u64)>
             u64::from(last.item.number) + 1,
         )),
         Stand::At(begun) => Some((Place::new(id, begun.epoch)?, 0)),
+    }
+}
+
+/// The number behind this one: 1 behind the last that there is.
+pub(crate) fn number_behind(number: u32) -> u32
+    ensures { result ≡ number_after number 1 }
+{
+    if number == 4294967295 { 1 } else { number + 1 }
+}
+
+/// What a device's word says of a log that stands there: before the number 1 nothing was logged, so
+/// nothing can have begun anew.
+pub(crate) fn word_at(stand: &Stand, word: Word) -> Word
+    ensures { result ≡ word_at stand.now word }
+{
+    if begins_at_one(stand) {
+        Word::Same
+    } else {
+        word
     }
 }

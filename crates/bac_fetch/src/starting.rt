@@ -5,14 +5,16 @@ ghost use Rattle.bac_link.specs.Ordinals.{number_after};
 ghost use Rattle.bac_link.specs.Path.{towards};
 ghost use Rattle.bac_walk.specs.Place.{walk_at};
 ghost use Rattle.bac_keep.specs.Looks.{Looks};
-ghost use Rattle.bac_fetch.specs.Stands.{kept_last};
+ghost use Rattle.bac_fetch.specs.Stands.{kept_last, word_at};
 ghost use Rattle.bac_fetch.specs.Starts.{AsksBeginning, BeginsBy, BeginsWith, ByCount, ByCourse, ByHand, BySeen, CountsWhere, FindsBeginning, GoesFrom, IsAnew, IsFirst, KeepsNone, OpensFirst, OpensWith, StartsNew, asks_count, counted, next_from};
 
 use crate::behind::{go_on, look_ahead};
 use crate::either::begin_either;
 use crate::hands::{Hand, take_step, take_step_at};
 use crate::questions::{Count, read_count};
-use crate::stands::{Stand, begins_at_one, epoch_of, from_there, last_kept};
+use crate::stands::{
+    Stand, begins_at_one, epoch_of, from_there, last_kept, number_behind, word_at,
+};
 use bac_archive::Beginning;
 use bac_asked::{Began, End, Ending, Fault, NotDone};
 use bac_keep::{Course, Place, Seen, Word, beginning_of, course_of, look_for};
@@ -29,13 +31,6 @@ pub(crate) struct Start {
     pub began: Began,
     /// The beginning that is put on record if nothing comes.
     pub begins_at: Option<Beginning>,
-}
-
-/// The number behind this one: 1 behind the last that there is.
-pub(crate) fn number_behind(number: u32) -> u32
-    ensures { result ≡ number_after number 1 }
-{
-    if number == 4294967295 { 1 } else { number + 1 }
 }
 
 /// The end of a run that kept nothing.
@@ -440,7 +435,7 @@ fn walk_behind(log: ObjectId, stand: &Stand) -> Walk
 
 /// Where a run begins over a log that stands there: asks for what lies behind, and then for the
 /// record that was kept last. What came is kept if the log goes on. The run may take so many steps.
-pub(crate) fn start_from<L: LogLink>(
+fn start_from<L: LogLink>(
     alloc: Global,
     link: &mut L,
     transactions: &mut Transactions,
@@ -461,6 +456,26 @@ pub(crate) fn start_from<L: LogLink>(
     let walk = walk_behind(log, stand);
     let hand = look_ahead(alloc, link, transactions, walk, from, free, steps)?;
     start_behind(alloc, link, transactions, id, log, word, stand, from, hand)
+}
+
+/// The same by what the device's word says of a log that stands there.
+pub(crate) fn start_at<L: LogLink>(
+    alloc: Global,
+    link: &mut L,
+    transactions: &mut Transactions,
+    id: u16,
+    log: ObjectId,
+    word: Word,
+    stand: &Stand,
+    steps: u32,
+) -> Result<Result<Start, End>, NotDone>
+    requires { log.kind ≡ 20 }
+    ensures retries { transactions.new.retries ≡ transactions.old.retries }
+    ensures route { transactions.new.route ≡ transactions.old.route }
+    ensures starts { IfOk result (λ begun. GoesFrom L.asks (towards transactions.old.route) transactions.old.retries link.old id log (word_at stand.now word) stand.now steps begun link.new) }
+{
+    let told = word_at(stand, word);
+    start_from(alloc, link, transactions, id, log, told, stand, steps)
 }
 
 /// Where a run begins over a log of which nothing is on record: asks how many records it has logged,

@@ -1,134 +1,64 @@
-//! Whose records these are: a device is known by its instance, which it is asked for once in a run.
+//! Whose records these are: a device is known by its instance, and asked once in a run what it says.
 
-ghost use Rattle.std.specs.Prelude.{◌≡◌, ◌++◌, ◌∷◌, [], true, None, Some, IsNone, IfOk, IfSome, OnOk, ℕ};
-ghost use Rattle.bac_link.specs.Path.{towards};
+ghost use Rattle.std.specs.Prelude.{◌≡◌, ◌++◌, ◌∷◌, [], true, false, None, Some, IsNone, IfOk, IfSome, OnOk};
 ghost use Rattle.bac_ports.specs.Sockets.{socket_rules};
-ghost use Rattle.bac_fetch.specs.Discovered.{Reads};
 ghost use Rattle.bac_fetch.specs.Silent.{is_same_device};
-ghost use Rattle.bac_fetch.specs.Whose.{Identifies, IsHeard, IsIdentified, IsIdentity, IsOnRecord, TellsDevice, device_of, heard_with, hindrance, is_heard, is_lost_one, is_silent, itself_asked, other_than};
+ghost use Rattle.bac_fetch.specs.Whose.{HeardAs, IsHeard, IsIdentified, IsOnRecord, heard_with, hindrance, is_elsewhere, is_heard, is_silent, is_told, of_device, stands_elsewhere, told_elsewhere, told_one};
 
-use crate::discovering::{DEVICE, ITSELF, asked_like};
-use crate::fetching::connect;
-use crate::questions::{object_in, read};
+use crate::said::{Identity, Said, copy_said, identify, silent};
 use crate::silent::{is_lost, is_same_device};
 use bac_archive::{Log, Source};
-use bac_asked::{Asking, Ending, Fault, NotDone, Wanted};
-use bac_link::{ExchangeFault, LogLink, Transactions};
+use bac_asked::{Ending, Fault, NotDone, Wanted};
 use bac_ports::Sockets;
 use bac_walk::{WalkFault, Why};
-use bac_wire::{Datagram, ObjectId};
-use bac_words::Word;
+use std::alloc::Global;
 
-const OBJECT_IDENTIFIER: u32 = 75;
-
-/// What a device tells of its instance.
-#[derive(Clone, Copy, Debug, PartialEq, Eq)]
-pub(crate) enum Identity {
-    /// This one.
-    Told(u32),
-    /// It refuses, or its answer can't be read.
-    Untold,
-    /// No answer came.
-    Lost,
-}
-
-/// What the device of a log was heard to be.
+/// What the device of a log was heard to say.
 #[derive(Drop)]
 pub(crate) struct Heard {
     pub source: Source,
-    pub identity: Identity,
+    pub said: Said,
+    /// A log's line told that no answer came.
+    pub was_told: bool,
 }
 
-/// The instance that an answer tells.
-fn device_in(answer: &Datagram) -> Option<u32>
-    ensures found { IfSome result (TellsDevice answer.now) }
-    ensures none { IsNone result → (n : ℕ) → TellsDevice answer.now n → ⊥ }
-{
-    let Some(object) = object_in(answer) else {
-        return None;
-    };
-    if object.kind() != DEVICE {
-        return None;
-    }
-    if object.instance() >= ITSELF {
-        return None;
-    }
-    Some(object.instance())
-}
-
-/// Asks a device for its instance.
-fn read_identity<L: LogLink>(
-    link: &mut L,
-    transactions: &mut Transactions,
-) -> Result<Identity, NotDone>
-    ensures { IfOk result (λ identity. (answer : _) × IsIdentity answer identity × Reads L.asks (towards transactions.old.route) transactions.old.retries itself_asked link.old answer link.new) }
-{
-    let Some(itself) = ObjectId::new(DEVICE, ITSELF) else {
-        return Err(NotDone::Asking(Fault::BadValue(Word::Instance)));
-    };
-    match read(link, transactions, itself, OBJECT_IDENTIFIER, None) {
-        Ok(answer) => match device_in(&answer) {
-            Some(device) => Ok(Identity::Told(device)),
-            None => Ok(Identity::Untold),
-        },
-        Err(ExchangeFault::Lost) => Ok(Identity::Lost),
-        Err(_) => Ok(Identity::Untold),
-    }
-}
-
-/// Asks the device of a log for its instance.
-fn identify<S: Sockets>(sockets: &mut S, like: &Asking) -> Result<Identity, NotDone>
-    ensures { IfOk result (λ identity. Identifies (socket_rules S.opens S.closes S.Socket.sends S.Socket.receives S.Socket.receives_within) like.now sockets.old identity sockets.new) }
-{
-    let asked = asked_like(like, 0)?.asked;
-    let (mut link, mut transactions) = connect(sockets, asked)?;
-    let identity = read_identity(&mut link, &mut transactions);
-    sockets.close(link.into_port());
-    identity
-}
-
-/// What the device of a log was heard to be in this run.
-fn heard_of(heard: &[Heard], source: &Source) -> Option<Identity>
-    ensures { IsHeard heard.now source.now result }
+/// What the device of a log was heard to say in this run.
+fn heard_of<'a>(heard: &'a [Heard], source: &Source) -> Option<&'a Said>
+    ensures found { IfSome result (λ said. (one : _) × HeardAs heard.now source.now one × (one.said ≡ said.now)) }
+    ensures none { IsNone result → is_heard heard.now source.now ≡ false }
 {
     for one in heard {
         if is_same_device(&one.source, source) {
-            return Some(one.identity);
+            return Some(&one.said);
         }
     }
     None
 }
 
-/// Whether no answer came.
-fn is_lost_one(identity: Identity) -> bool
-    ensures { result ≡ is_lost_one identity }
-{
-    matches!(identity, Identity::Lost)
-}
-
-/// Whether the device of a log gave no answer in this run.
+/// Whether the device of a log gave no answer in this run, and a log's line told so.
 pub(crate) fn is_silent(heard: &[Heard], source: &Source) -> bool
     ensures { result ≡ is_silent heard.now source.now }
 {
     for one in heard {
-        if is_lost_one(one.identity) && is_same_device(&one.source, source) {
+        if one.was_told && is_same_device(&one.source, source) {
             return true;
         }
     }
     false
 }
 
-/// What the device of a log is: as it was heard to be in this run, or as it tells now.
-pub(crate) fn identity_of<S: Sockets>(
+/// What the device of a log says: as it was heard to in this run, or as it does now.
+pub(crate) fn said_of<S: Sockets>(
     sockets: &mut S,
+    alloc: Global,
     heard: &[Heard],
     wanted: &Wanted,
-) -> Result<Identity, NotDone>
-    ensures { IfOk result (λ identity. IsIdentified (socket_rules S.opens S.closes S.Socket.sends S.Socket.receives S.Socket.receives_within) heard.now wanted.now sockets.old identity sockets.new) }
+) -> Result<Said, NotDone>
+    ensures { IfOk result (λ said. IsIdentified (socket_rules S.opens S.closes S.Socket.sends S.Socket.receives S.Socket.receives_within) heard.now wanted.now sockets.old said sockets.new) }
 {
     match heard_of(heard, &wanted.source) {
-        Some(identity) => Ok(identity),
-        None => identify(sockets, &wanted.asking),
+        Some(said) => copy_said(alloc, said),
+        None => identify(sockets, alloc, &wanted.asking),
     }
 }
 
@@ -148,24 +78,34 @@ fn is_heard(heard: &[Heard], source: &Source) -> bool
 pub(crate) fn add_heard(
     heard: &mut Vec<Heard>,
     source: Source,
-    identity: Identity,
+    said: Said,
     why: Ending,
 ) -> Result<(), NotDone>
-    ensures { OnOk result (heard.new.items ≡ heard_with heard.old.items source identity why) }
+    ensures { OnOk result (heard.new.items ≡ heard_with heard.old.items source said why) }
 {
     if is_lost(why) {
-        return push_heard(heard, source, Identity::Lost);
+        return push_heard(heard, source, silent(), true);
     }
     if is_heard(heard.as_slice(), &source) {
         return Ok(());
     }
-    push_heard(heard, source, identity)
+    push_heard(heard, source, said, false)
 }
 
-fn push_heard(heard: &mut Vec<Heard>, source: Source, identity: Identity) -> Result<(), NotDone>
-    ensures { OnOk result (heard.new.items ≡ heard.old.items ++ record { source = source; identity = identity } ∷ []) }
+fn push_heard(
+    heard: &mut Vec<Heard>,
+    source: Source,
+    said: Said,
+    was_told: bool,
+) -> Result<(), NotDone>
+    ensures { OnOk result (heard.new.items ≡ heard.old.items ++ record { source = source; said = said; was_told = was_told } ∷ []) }
 {
-    match heard.push(Heard { source, identity }) {
+    let one = Heard {
+        source,
+        said,
+        was_told,
+    };
+    match heard.push(one) {
         Ok(()) => Ok(()),
         Err(_) => Err(NotDone::Asking(Fault::Memory)),
     }
@@ -218,37 +158,90 @@ pub(crate) fn device_on_record(known: &[Log], at: usize, source: &Source) -> Opt
     }
 }
 
-/// The instance that was told, if any.
-pub(crate) fn device_of(identity: Identity) -> Option<u32>
-    ensures { result ≡ device_of identity }
+/// Whether this instance is on record of a log.
+pub(crate) fn of_device(log: &Log, device: u32) -> bool
+    ensures { result ≡ of_device device log.now }
 {
-    match identity {
-        Identity::Told(device) => Some(device),
-        Identity::Untold | Identity::Lost => None,
+    match log.told.device {
+        Some(kept) => kept == device,
+        None => false,
     }
 }
 
-/// That another device answers than the one on record, if it does.
-fn other_than(kept: Option<u32>, told: u32) -> Option<Ending>
-    ensures { result ≡ other_than kept told }
+/// Whether this instance is on record of a log of another device than this one's.
+pub(crate) fn stands_elsewhere(log: &Log, source: &Source, device: u32) -> bool
+    ensures { result ≡ stands_elsewhere source.now device log.now }
 {
-    let Some(kept) = kept else {
-        return None;
-    };
-    if told == kept {
-        None
-    } else {
-        Some(Ending::Other(Some(told), kept))
+    of_device(log, device) && !is_same_device(&log.source, source)
+}
+
+/// Whether this instance is on record of another device than that of a log.
+fn is_elsewhere(known: &[Log], source: &Source, device: u32) -> bool
+    ensures { result ≡ is_elsewhere known.now source.now device }
+{
+    for log in known {
+        if stands_elsewhere(log, source, device) {
+            return true;
+        }
+    }
+    false
+}
+
+/// Whether it is this instance that a device tells.
+pub(crate) fn is_told(device: u32, identity: Identity) -> bool
+    ensures { result ≡ is_told device identity }
+{
+    match identity {
+        Identity::Told(told) => told == device,
+        Identity::Untold | Identity::Lost => false,
+    }
+}
+
+/// Whether another device than a log's told this instance in this run.
+fn told_elsewhere(heard: &[Heard], source: &Source, device: u32) -> bool
+    ensures { result ≡ told_elsewhere heard.now source.now device }
+{
+    for one in heard {
+        if is_told(device, one.said.identity) && !is_same_device(&one.source, source) {
+            return true;
+        }
+    }
+    false
+}
+
+/// Why the log of a device isn't fetched that tells this instance.
+fn told_one(
+    known: &[Log],
+    heard: &[Heard],
+    source: &Source,
+    kept: Option<u32>,
+    told: u32,
+) -> Option<Ending>
+    ensures { result ≡ told_one known.now heard.now source.now kept told }
+{
+    match kept {
+        Some(kept) if kept == told => None,
+        Some(kept) => Some(Ending::Other(Some(told), kept)),
+        None if is_elsewhere(known, source, told) || told_elsewhere(heard, source, told) => {
+            Some(Ending::Twice(told))
+        }
+        None => None,
     }
 }
 
 /// Why a log isn't fetched, if it isn't, by the instance on record and what its device told.
-pub(crate) fn hindrance(kept: Option<u32>, identity: Identity) -> Option<Ending>
-    ensures { result ≡ hindrance kept identity }
+pub(crate) fn hindrance(
+    known: &[Log],
+    heard: &[Heard],
+    source: &Source,
+    kept: Option<u32>,
+    identity: Identity,
+) -> Option<Ending>
+    ensures { result ≡ hindrance known.now heard.now source.now kept identity }
 {
     match identity {
         Identity::Lost => Some(Ending::Walk(Why::Fault(WalkFault::Lost))),
-        Identity::Told(told) => other_than(kept, told),
+        Identity::Told(told) => told_one(known, heard, source, kept, told),
         Identity::Untold => match kept {
             Some(kept) => Some(Ending::Other(None, kept)),
             None => None,

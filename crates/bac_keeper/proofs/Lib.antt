@@ -1,2 +1,4 @@
 pub mod ArchiveLemmas
+pub mod EndLemmas
 pub mod FileLemmas
+pub mod StopLemmas

@@ -1,5 +1,5 @@
--- By which status `keep` and `kept` end where a file is no use.
-use Rattle.std.specs.Prelude.{◌≡◌, ◌≢◌, ℕ}
+-- By which status `keep` and `kept` end.
+use Rattle.std.specs.Prelude.{◌≡◌, ◌≢◌, ℕ, Result, Ok, Err}
 use Rattle.bac_asked.specs.Status.{file_status}
 use Rattle.bac_asked.specs.declared.end.NotDone.{NotDone}
 use Rattle.bac_asked.specs.declared.end.NotDone.TheVariants as done
@@ -28,3 +28,9 @@ MayFail named (done.Asking why) = Unit {0}
 -- the status of a file that is no use, which was asked for by its name
 abbrev pub IsOfFile : Type 0 → ℕ → Type 0
 IsOfFile named status = (why : FileFault) × (status ≡ file_status why) × MayBeUnnamed why named
+
+-- the status of what was done, or of a file that is no use
+abbrev pub EndsBy : Result ℕ NotDone → ℕ → Type 0
+EndsBy (Ok value) status = status ≡ value
+EndsBy (Err (done.File why)) status = status ≡ file_status why
+EndsBy (Err (done.Asking why)) status = ⊥

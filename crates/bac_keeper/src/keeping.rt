@@ -35,7 +35,7 @@ pub(crate) fn text_of(name: &Option<Name>) -> Option<&str>
     }
 }
 
-fn options_of(options: &KeepOptions) -> Options<'_>
+pub(crate) fn options_of(options: &KeepOptions) -> Options<'_>
     ensures { given_in result ≡ given_of options.now }
 {
     Options {
@@ -95,7 +95,7 @@ fn keep_these<S: Sockets, A: Alter, O: Write, E: Write>(
     ensures clean { HasCleanDisk (state A.Store conn.new) → HasCleanDisk (state A.Store conn.old) }
 {
     match chosen {
-        Chosen::Named(all) => keep_each(sockets, conn, alloc, all, counts, output, errors),
+        Chosen::Named(all) => keep_each(sockets, conn, alloc, all, options, counts, output, errors),
         chosen => keep_chosen(
             sockets, conn, alloc, chosen, options, counts, output, errors,
         ),

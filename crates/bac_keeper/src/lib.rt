@@ -10,6 +10,7 @@ mod archives;
 mod keeping;
 mod printing;
 mod program;
+mod stopping;
 
 pub use bac_asked::Fault;
 pub use bac_files::DiskFiles;

@@ -1,17 +1,19 @@
 //! The tools `keep` and `kept`.
 
-ghost use Rattle.std.specs.Prelude.{◌≡◌, ◌⊎◌, IfOk, IfSome, false, is_some};
+ghost use Rattle.std.specs.Prelude.{◌≡◌, ◌⊎◌, IfOk, IfSome, false, is_some, true};
 ghost use Rattle.sqlite_wal.specs.Files.{image_at};
 ghost use Rattle.bac_asked.specs.Status.{file_status};
 ghost use Rattle.bac_files.specs.Files.{IsDoneTo, IsNamed, IsUnused};
 ghost use Rattle.bac_keeper.specs.Archives.{LosesNothing};
 ghost use Rattle.bac_keeper.specs.Done.{KeepsIn};
-ghost use Rattle.bac_keeper.specs.Ends.{IsOfFile};
+ghost use Rattle.bac_keeper.specs.Ends.{EndsBy, IsOfFile};
 ghost use Rattle.bac_keeper.specs.Shown.{PrintsIn};
+ghost use Rattle.bac_keeper.specs.Stops.{StopsIn};
 ghost use Rattle.bac_ports.specs.Sockets.{socket_rules};
 
 use crate::keeping::keep;
 use crate::printing::kept;
+use crate::stopping::stop;
 use bac_asked::{Fault, FileFault, NotDone};
 use bac_files::DiskFiles;
 use bac_ports::Sockets;
@@ -35,10 +37,25 @@ fn tell_file<E: Write>(alloc: Global, fault: FileFault, errors: &mut E) -> Resul
     }
 }
 
-/// Does what the words of `bac keep` ask for, and answers the exit status. What was kept of each log
-/// goes to the output; a file that is no use is told on the errors, and any other fault is the
-/// caller's to tell. `counts` is for a terminal: the errors have a count of records while a log is
-/// fetched.
+/// The exit status of what was done; a file that is no use is told on the errors.
+fn tell_done<E: Write>(
+    alloc: Global,
+    done: Result<u8, NotDone>,
+    errors: &mut E,
+) -> Result<u8, Fault>
+    ensures { IfOk result (λ status. EndsBy done status) }
+{
+    match done {
+        Ok(status) => Ok(status),
+        Err(NotDone::Asking(fault)) => Err(fault),
+        Err(NotDone::File(fault)) => tell_file(alloc, fault, errors),
+    }
+}
+
+/// Does what the words of `bac keep` ask for, and answers the exit status. What was kept of each
+/// log, or with `--stop` which logs were stopped, goes to the output; a file that is no use is told
+/// on the errors, and any other fault is the caller's to tell. `counts` is for a terminal: the errors
+/// have a count of records while a log is fetched.
 pub fn run_keep<S: Sockets, F: Start, O: Write, E: Write>(
     sockets: &mut S,
     files: &mut DiskFiles<'_, F>,
@@ -50,18 +67,24 @@ pub fn run_keep<S: Sockets, F: Start, O: Write, E: Write>(
 ) -> Result<u8, Fault>
     // The logs that the words choose were kept, in the archive that the files held; their lines were
     // printed, and the status is the greatest of theirs. Or the file is no use.
-    ensures kept { IfOk result (λ status. (IsNamed asked.now.file (is_some asked.now.address) files.new
+    ensures kept { asked.now.stop ≡ false → IfOk result (λ status. (IsNamed asked.now.file (is_some asked.now.address) files.new
         × KeepsIn (socket_rules S.opens S.closes S.Socket.sends S.Socket.receives S.Socket.receives_within) ⟦<FileFrom<F> as Disk>⟧ (image_at F.Start)
         asked.now sockets.old sockets.new (O.contents output.old) (O.contents output.new) files.new.closed status)
         ⊎ IsOfFile (IsNamed asked.now.file (is_some asked.now.address) files.new) status) }
+    // With `--stop` they were stopped, and nothing else of the archive changed; no socket is opened.
+    ensures stopped { asked.now.stop ≡ true → IfOk result (λ status. (IsNamed asked.now.file false files.new
+        × StopsIn ⟦<FileFrom<F> as Disk>⟧ (image_at F.Start) asked.now (O.contents output.old) (O.contents output.new) files.new.closed status)
+        ⊎ IsOfFile (IsNamed asked.now.file false files.new) status) }
+    ensures silent { asked.now.stop ≡ true → sockets.new ≡ sockets.old }
     // Whatever comes of it, of an archive that the files held no item and no log is lost.
     ensures stays { IsUnused files.old → IfSome files.new.closed (IsDoneTo ⟦<FileFrom<F> as Disk>⟧ (image_at F.Start) LosesNothing) }
 {
-    match keep(sockets, files, alloc, asked, counts, output, errors) {
-        Ok(status) => Ok(status),
-        Err(NotDone::Asking(fault)) => Err(fault),
-        Err(NotDone::File(fault)) => tell_file(alloc, fault, errors),
+    if asked.stop {
+        let done = stop(files, alloc, asked, output);
+        return tell_done(alloc, done, errors);
     }
+    let done = keep(sockets, files, alloc, asked, counts, output, errors);
+    tell_done(alloc, done, errors)
 }
 
 /// Does what the words of `bac kept` ask for, and answers the exit status. What the file keeps goes
@@ -79,9 +102,6 @@ pub fn run_kept<F: Start, O: Write, E: Write>(
         × PrintsIn ⟦<FileFrom<F> as Disk>⟧ (image_at F.Start) asked.now (O.contents output.old) (O.contents output.new) files.new.closed status)
         ⊎ IsOfFile (IsNamed asked.now.file false files.new) status) }
 {
-    match kept(files, alloc, asked, output) {
-        Ok(status) => Ok(status),
-        Err(NotDone::Asking(fault)) => Err(fault),
-        Err(NotDone::File(fault)) => tell_file(alloc, fault, errors),
-    }
+    let done = kept(files, alloc, asked, output);
+    tell_done(alloc, done, errors)
 }

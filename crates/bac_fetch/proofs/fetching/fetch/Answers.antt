@@ -11,9 +11,9 @@ returns-clause-kept g c clean has =
     let over = socket_rules g.S.Sockets.opens g.S.Sockets.closes g.S.Socket.Port.sends g.S.Socket.Port.receives g.S.Socket.Port.receives_within in
     let old = state g.A.Store c.args.conn.now in
     let new = state g.A.Store c.fetch_over-end.new.conn in
-    let object : c.in-Some.log ≡ trend_log c.args.instance = search rules in
-    IfOk-weaker c.fetch_over-end.result _ _ (λ end it. keeps_log over c.args.asking c.args.sockets.now c.connect.new.sockets c.close.new.self c.args.id
-    (trend_log c.args.instance) c.in-Some.log old.now new.now end c.in_ok-link.link.port c.into_port.result c.in_ok-link.link c.fetch_over-end.new.link
+    let object : c.in-Some.log ≡ trend_log c.args.entry.now.row.source.instance = search rules in
+    IfOk-weaker c.fetch_over-end.result _ _ (λ end it. keeps_log over c.args.asking c.args.sockets.now c.connect.new.sockets c.close.new.self c.args.entry.now
+    (trend_log c.args.entry.now.row.source.instance) c.in-Some.log old.now new.now end c.in_ok-link.link.port c.into_port.result c.in_ok-link.link c.fetch_over-end.new.link
     c.in_ok-link.transactions.route c.in_ok-link.transactions.retries c.args.asking.steps
     c.in_ok-link.ensures.opened c.in_ok-link.ensures.link c.in_ok-link.ensures.route c.in_ok-link.ensures.retries refl object c.into_port.ensures c.close.ensures it)
     (c.fetch_over-end.ensures.kept clean has)

@@ -7,28 +7,57 @@ use Rattle.bac_link.specs.Path.{towards}
 use Rattle.bac_archive.specs.Schema.{archive_schema}
 use Rattle.bac_fetch.specs.Starts.{IsBegun}
 use Rattle.bac_fetch.proofs.KeepsLemmas.{keeps_begun}
+use Rattle.bac_fetch.proofs.StaysLemmas.{quiet_rows, quiet_word}
 use Rattle.bac_fetch.proofs.fetching.fetch_over.Goals as goal
 
 pub returns-in-Ok-clause-kept : goal.returns-in-Ok-clause-kept
 returns-in-Ok-clause-kept g c clean has =
+    let entry = c.args.entry.now in
     let old = state g.A.Store c.args.conn.now in
     let mid = state g.A.Store c.where_to_start.new.conn in
-    let new = state g.A.Store c.keep_and_mark.new.conn in
-    let early : HasCleanDisk mid = c.keep_and_mark.ensures.clean clean in
+    let new = state g.A.Store c.keep_entered.new.conn in
+    let early : HasCleanDisk mid = c.keep_entered.ensures.clean clean in
     let same = c.in_ok-start.ensures.same early has in
     let schema : mid.now.schema ≡ archive_schema = ap (λ (d : Database). d.schema) same ∙ has in
-    let begun : IsBegun g.L.LogLink.asks (towards c.args.transactions.now.route) c.args.transactions.now.retries c.args.link.now c.where_to_start.new.link c.args.id c.args.log c.args.word c.args.steps old.now.trees (Ok c.in-Ok.start) = rw c.in-Ok.is at c.in_ok-start.ensures.begun early has in
-    IfOk-weaker c.keep_and_mark.result _ _
+    let begun : IsBegun g.L.LogLink.asks (towards c.args.transactions.now.route) c.args.transactions.now.retries c.args.link.now c.where_to_start.new.link entry.row.id c.args.log entry.word c.args.steps old.now.trees (Ok c.in-Ok.start) = rw c.in-Ok.is at c.in_ok-start.ensures.begun early has in
+    IfOk-weaker c.keep_entered.result _ _
     (λ end it. keeps_begun g.L.LogLink.asks c.args.transactions.now.route c.where_to_start.new.transactions.route
-    c.args.transactions.now.retries c.where_to_start.new.transactions.retries c.args.link.now c.where_to_start.new.link c.keep_and_mark.new.link
-    c.args.steps c.args.id c.args.log c.args.word old.now mid.now new.now c.in-Ok.start end
+    c.args.transactions.now.retries c.where_to_start.new.transactions.retries c.args.link.now c.where_to_start.new.link c.keep_entered.new.link
+    c.args.steps entry c.args.log old.now mid.now new.now c.in-Ok.start end
     begun c.in_ok-start.ensures.route c.in_ok-start.ensures.retries same it)
-    (c.keep_and_mark.ensures.kept clean schema)
+    (c.keep_entered.ensures.kept clean schema)
 
 pub returns-in-Err-clause-kept : goal.returns-in-Err-clause-kept
 returns-in-Err-clause-kept g c clean has =
+    let entry = c.args.entry.now in
+    let old = state g.A.Store c.args.conn.now in
+    let same = c.in_ok-start.ensures.same clean has in
+    let begun : IsBegun g.L.LogLink.asks (towards c.args.transactions.now.route) c.args.transactions.now.retries c.args.link.now c.where_to_start.new.link entry.row.id c.args.log entry.word c.args.steps old.now.trees (Err c.in-Err.end) = rw c.in-Err.is at c.in_ok-start.ensures.begun clean has in
+    (Err c.in-Err.end, c.where_to_start.new.link, begun, (same, refl, refl))
+
+pub returns-in-Ok-clause-word : goal.returns-in-Ok-clause-word
+returns-in-Ok-clause-word g c clean has =
+    let entry = c.args.entry.now in
     let old = state g.A.Store c.args.conn.now in
     let mid = state g.A.Store c.where_to_start.new.conn in
-    let same = c.in_ok-start.ensures.same clean has in
-    let begun : IsBegun g.L.LogLink.asks (towards c.args.transactions.now.route) c.args.transactions.now.retries c.args.link.now c.where_to_start.new.link c.args.id c.args.log c.args.word c.args.steps old.now.trees (Err c.in-Err.end) = rw c.in-Err.is at c.in_ok-start.ensures.begun clean has in
-    (Err c.in-Err.end, c.where_to_start.new.link, begun, (old.now, (refl, refl, refl), same))
+    let new = state g.A.Store c.keep_entered.new.conn in
+    let early : HasCleanDisk mid = c.keep_entered.ensures.clean clean in
+    let same = c.in_ok-start.ensures.same early has in
+    let schema : mid.now.schema ≡ archive_schema = ap (λ (d : Database). d.schema) same ∙ has in
+    let begun : IsBegun g.L.LogLink.asks (towards c.args.transactions.now.route) c.args.transactions.now.retries c.args.link.now c.where_to_start.new.link entry.row.id c.args.log entry.word c.args.steps old.now.trees (Ok c.in-Ok.start) = rw c.in-Ok.is at c.in_ok-start.ensures.begun early has in
+    quiet_word old mid new _ _ same (c.where_to_start.ensures.crash has)
+    (λ db it. (
+      it.0,
+      it.1,
+      keeps_begun g.L.LogLink.asks c.args.transactions.now.route c.where_to_start.new.transactions.route
+          c.args.transactions.now.retries c.where_to_start.new.transactions.retries c.args.link.now c.where_to_start.new.link it.0
+          c.args.steps entry c.args.log old.now mid.now db c.in-Ok.start it.1
+          begun c.in_ok-start.ensures.route c.in_ok-start.ensures.retries same it.2,
+    ))
+    (c.keep_entered.ensures.word clean schema)
+
+pub returns-in-Err-clause-word : goal.returns-in-Err-clause-word
+returns-in-Err-clause-word g c clean has = quiet_rows (state g.A.Store c.args.conn.now) (state g.A.Store c.where_to_start.new.conn) _ (c.where_to_start.ensures.crash has)
+
+pub returns-in_err-start-clause-word : goal.returns-in_err-start-clause-word
+returns-in_err-start-clause-word g c clean has = quiet_rows (state g.A.Store c.args.conn.now) (state g.A.Store c.where_to_start.new.conn) _ (c.where_to_start.ensures.crash has)

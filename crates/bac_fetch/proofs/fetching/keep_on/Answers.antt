@@ -6,9 +6,9 @@ use Rattle.sqlite.specs.Held.{state}
 use Rattle.bac_link.specs.Path.{towards}
 use Rattle.bac_fetch.specs.Fetched.{ComesFrom, IsEndingOf, IsLeftBy, IsRunTo}
 use Rattle.bac_fetch.specs.Keeps.{KeepsFrom}
-use Rattle.bac_fetch.specs.Stays.{HasAllOf}
+use Rattle.bac_fetch.specs.Stays.{HasSameLogs}
 use Rattle.bac_fetch.proofs.EndsLemmas.{before_left, before_steps, comes_from, either_way, keeps_from}
-use Rattle.bac_fetch.proofs.StaysLemmas.{adds_all, quiet_last, survives_as}
+use Rattle.bac_fetch.proofs.SameLemmas.{adds_same, same_quiet_last, survives_as}
 use Rattle.bac_fetch.proofs.fetching.keep_on.Goals as goal
 
 pub returns-clause-kept : goal.returns-clause-kept
@@ -61,14 +61,14 @@ pub returns-clause-stays : goal.returns-clause-stays
 returns-clause-stays g c clean has =
     let old = state g.A.Store c.args.conn.now in
     let mid = state g.A.Store c.keep_log-run.new.conn in
-    quiet_last old mid (state g.A.Store c.look_at.new.conn) (survives_as old mid _ (HasAllOf old.now.trees)
-    (λ clean db left. subst (HasAllOf old.now.trees) (sym left.8) (adds_all old.now.trees left.0.trees _ left.10.rows.rows)) c.keep_log-run.ensures.crash_over)
+    same_quiet_last old mid (state g.A.Store c.look_at.new.conn) (survives_as old mid _ (HasSameLogs old.now.trees)
+    (λ clean db left. subst (HasSameLogs old.now.trees) (sym left.8) (adds_same old.now.trees left.0.trees _ left.10.rows.rows)) c.keep_log-run.ensures.crash_over)
     c.look_at.ensures.crash
 
 pub returns-in_err-look_at-clause-stays : goal.returns-in_err-look_at-clause-stays
 returns-in_err-look_at-clause-stays g c clean has =
     let old = state g.A.Store c.args.conn.now in
     let mid = state g.A.Store c.keep_log-run.new.conn in
-    quiet_last old mid (state g.A.Store c.look_at.new.conn) (survives_as old mid _ (HasAllOf old.now.trees)
-    (λ clean db left. subst (HasAllOf old.now.trees) (sym left.8) (adds_all old.now.trees left.0.trees _ left.10.rows.rows)) c.keep_log-run.ensures.crash_over)
+    same_quiet_last old mid (state g.A.Store c.look_at.new.conn) (survives_as old mid _ (HasSameLogs old.now.trees)
+    (λ clean db left. subst (HasSameLogs old.now.trees) (sym left.8) (adds_same old.now.trees left.0.trees _ left.10.rows.rows)) c.keep_log-run.ensures.crash_over)
     c.look_at.ensures.crash

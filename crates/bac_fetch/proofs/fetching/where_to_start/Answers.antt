@@ -7,7 +7,7 @@ use Rattle.bac_fetch.proofs.fetching.where_to_start.Goals as goal
 pub returns-in-Some-clause-begun : goal.returns-in-Some-clause-begun
 returns-in-Some-clause-begun g c clean has =
     let is : IsStand c.args.id (state g.A.Store c.args.conn.now).now.trees (Some c.in-Some.stand) = rw c.in-Some.is at c.in_ok-stand.ensures.stands clean has in
-    IfOk-weaker c.start_from.result _ _ (λ begun it. inr (c.in-Some.stand, is, it)) c.start_from.ensures.starts
+    IfOk-weaker c.start_at.result _ _ (λ begun it. inr (c.in-Some.stand, is, it)) c.start_at.ensures.starts
 
 pub returns-in-None-clause-begun : goal.returns-in-None-clause-begun
 returns-in-None-clause-begun g c clean has =

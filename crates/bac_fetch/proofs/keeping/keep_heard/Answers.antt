@@ -5,7 +5,6 @@ use Rattle.sqlite.specs.Held.{state}
 use Rattle.bac_ports.specs.Sockets.{socket_rules}
 use Rattle.bac_asked.specs.declared.end.Ending.{Ending}
 use Rattle.bac_fetch.specs.Keeps.{KeepsUnless}
-use Rattle.bac_fetch.specs.Whose.{device_of}
 use Rattle.bac_fetch.proofs.keeping.keep_heard.Goals as goal
 
 pub returns-clause-told : goal.returns-clause-told
@@ -13,8 +12,8 @@ returns-clause-told g c =
     let over = socket_rules g.S.Sockets.opens g.S.Sockets.closes g.S.Socket.Port.sends g.S.Socket.Port.receives g.S.Socket.Port.receives_within in
     let wanted = c.args.wanted in
     let known = c.args.known.now in
-    let identity = c.in_ok-identity.identity in
-    let half = c.identity_of.new.sockets in
+    let said = c.in_ok-said.said in
+    let half = c.said_of.new.sockets in
     let after = c.keep_unless.new.sockets in
     let old = state g.A.Store c.args.conn.now in
     let new = state g.A.Store c.keep_unless.new.conn in
@@ -23,13 +22,13 @@ returns-clause-told g c =
       told.0,
       told.1,
       told.2,
-      λ clean has are. record {
-        identity = identity;
+      λ clean has. record {
+        said = said;
         half = half;
-        asked = rw c.as_slice.ensures.value at c.in_ok-identity.ensures;
+        asked = rw c.as_slice.ensures.value at c.in_ok-said.ensures;
         on_record = c.device_on_record-on_record.result;
         on_record_is = c.device_on_record-on_record.ensures;
-        kept = subst (λ (w : Option Ending). KeepsUnless over known wanted (device_of identity) w half after old.now new.now told.0) c.hindrance-why.ensures (told.3.1 clean has are);
+        kept = subst (λ (w : Option Ending). KeepsUnless over known wanted said.told w half after old.now new.now told.0) (rw c.as_slice-2.ensures.value at c.hindrance-why.ensures) (told.3.1 clean has);
         heard_is = told.3.0;
       },
     ))

@@ -8,10 +8,8 @@ use Rattle.bac_archive.specs.Schema.{archive_schema}
 use Rattle.bac_fetch.specs.declared.whose.Heard.{Heard}
 use Rattle.bac_ports.specs.Sockets.{socket_rules}
 use Rattle.bac_fetch.specs.Keeps.{AreToldBy, KeepsAll, lines_of}
-use Rattle.bac_fetch.specs.Silent.{HasLogs}
 use Rattle.bac_asked.specs.Lines.{summary_line}
 use Rattle.bac_fetch.proofs.KeepsLemmas.{all_schema, greatest_more, length_more, lines_more, one_more}
-use Rattle.bac_fetch.proofs.SilentLemmas.{logs_stay}
 use Rattle.bac_fetch.proofs.StaysLemmas.{all_itself, all_then, itself_stays, next_stays, stays_then}
 use Rattle.bac_fetch.proofs.keeping.keep_known.Goals as goal
 
@@ -38,21 +36,19 @@ loop-wanted-preserved g c =
         c.max-greatest.ensures ∙ ap₂ max was.2 it.1 ∙ sym (greatest_more was.0 it.0),
         subst (Appends (g.O.Write.contents c.args.output.now) (g.O.Write.contents c.keep_next.new.output)) (sym (lines_more yielded wanted was.0 it.0 was.1))
             (Appends-trans _ (g.O.Write.contents c.loop-wanted.output) _ (lines_of yielded was.0) (summary_line wanted.source it.0) was.3 it.2),
-        λ clean has are.
+        λ clean has.
             let early : HasCleanDisk mid = c.keep_next.ensures.clean clean in
-            let kept = was.4 early has are in
-            let schema = all_schema over known [] heard yielded before half old.now mid.now was.0 kept has in
-            let still = logs_stay old.now.trees mid.now.trees known (c.loop-wanted.invariant.stays early has are).0 are in
-            one_more over known [] heard more yielded wanted before half after old.now mid.now new.now was.0 it.0 kept (it.3 clean schema still),
+            let kept = was.4 early has in
+            let schema = all_schema over known c.args.heard.items heard yielded before half old.now mid.now was.0 kept has in
+            one_more over known c.args.heard.items heard more yielded wanted before half after old.now mid.now new.now was.0 it.0 kept (it.3 clean schema),
       );
       clean = λ late. c.loop-wanted.invariant.clean (c.keep_next.ensures.clean late);
-      stays = λ clean has are.
+      stays = λ clean has.
           let early : HasCleanDisk mid = c.keep_next.ensures.clean clean in
-          let kept = was.4 early has are in
-          let schema = all_schema over known [] heard yielded before half old.now mid.now was.0 kept has in
-          let stays = c.loop-wanted.invariant.stays early has are in
-          let still = logs_stay old.now.trees mid.now.trees known stays.0 are in (
-            all_then old.now.trees mid.now.trees new.now.trees stays.0 (next_stays over known heard more wanted half after mid.now new.now it.0 (it.3 clean schema still)),
+          let kept = was.4 early has in
+          let schema = all_schema over known c.args.heard.items heard yielded before half old.now mid.now was.0 kept has in
+          let stays = c.loop-wanted.invariant.stays early has in (
+            all_then old.now.trees mid.now.trees new.now.trees stays.0 (next_stays over known heard more wanted half after mid.now new.now it.0 (it.3 clean schema)),
             stays_then old mid new stays.0 stays.1 (c.keep_next.ensures.stays clean schema),
           );
     }
@@ -61,11 +57,10 @@ pub loop-wanted-init : goal.loop-wanted-init
 loop-wanted-init g c =
     let old = state g.A.Store c.args.conn.now in
     let quiet : Appends (g.O.Write.contents c.args.output.now) (g.O.Write.contents c.args.output.now) [] = search rules in
-    let none : c.new-heard.result.items ≡ [] = search rules in
     record {
-      told = ([], refl, refl, quiet, (λ clean has are. (refl, refl, none)));
+      told = ([], refl, refl, quiet, (λ clean has. (refl, refl, refl)));
       clean = λ clean. clean;
-      stays = λ clean has are. (all_itself old.now.trees, itself_stays old);
+      stays = λ clean has. (all_itself old.now.trees, itself_stays old);
     }
 
 pub returns-clause-told : goal.returns-clause-told
@@ -76,18 +71,17 @@ returns-clause-told g c =
     let told = c.loop-wanted.invariant.told in
     subst (λ l. AreToldBy (g.O.Write.contents c.args.output.now) (g.O.Write.contents c.loop-wanted.output) l
     (λ ends. HasCleanDisk (state g.A.Store c.loop-wanted.conn) → (state g.A.Store c.args.conn.now).now.schema ≡ archive_schema →
-    HasLogs (state g.A.Store c.args.conn.now).now.trees c.args.known.now →
-    (last : List Heard) × KeepsAll (socket_rules g.S.Sockets.opens g.S.Sockets.closes g.S.Socket.Port.sends g.S.Socket.Port.receives g.S.Socket.Port.receives_within) c.args.known.now [] last l c.args.sockets.now c.loop-wanted.sockets (state g.A.Store c.args.conn.now).now (state g.A.Store c.loop-wanted.conn).now ends) c.loop-wanted.greatest) all
-    (told.0, told.1, told.2, told.3, λ clean has are. (c.loop-wanted.heard.items, told.4 clean has are))
+    (last : List Heard) × KeepsAll (socket_rules g.S.Sockets.opens g.S.Sockets.closes g.S.Socket.Port.sends g.S.Socket.Port.receives g.S.Socket.Port.receives_within) c.args.known.now c.args.heard.items last l c.args.sockets.now c.loop-wanted.sockets (state g.A.Store c.args.conn.now).now (state g.A.Store c.loop-wanted.conn).now ends) c.loop-wanted.greatest) all
+    (told.0, told.1, told.2, told.3, λ clean has. (c.loop-wanted.heard.items, told.4 clean has))
 
 pub returns-in_err-status-clause-stays : goal.returns-in_err-status-clause-stays
-returns-in_err-status-clause-stays g c clean has are =
+returns-in_err-status-clause-stays g c clean has =
     let over = socket_rules g.S.Sockets.opens g.S.Sockets.closes g.S.Socket.Port.sends g.S.Socket.Port.receives g.S.Socket.Port.receives_within in
     let yielded = c.loop-wanted.yielded in
     let old = state g.A.Store c.args.conn.now in
     let mid = state g.A.Store c.loop-wanted.conn in
     let early : HasCleanDisk mid = c.keep_next.ensures.clean clean in
     let was = c.loop-wanted.invariant.told in
-    let schema = all_schema over c.args.known.now [] c.loop-wanted.heard.items yielded c.args.sockets.now c.loop-wanted.sockets old.now mid.now was.0 (was.4 early has are) has in
-    let stays = c.loop-wanted.invariant.stays early has are in
+    let schema = all_schema over c.args.known.now c.args.heard.items c.loop-wanted.heard.items yielded c.args.sockets.now c.loop-wanted.sockets old.now mid.now was.0 (was.4 early has) has in
+    let stays = c.loop-wanted.invariant.stays early has in
     stays_then old mid (state g.A.Store c.keep_next.new.conn) stays.0 stays.1 (c.keep_next.ensures.stays clean schema)

@@ -22,12 +22,12 @@ returns-then-is_silent-clause-told g c =
       told.0,
       told.1,
       told.2,
-      λ clean has are.
+      λ clean has.
           let it = told.3.4 clean has in
           let silent : is_silent heard wanted.source ≡ true = rw c.as_slice.ensures.value at (sym c.is_silent.ensures ∙ c.if-is_silent.true) in
           subst (λ b. MatchBool b (PassesOver known wanted NotAsked before before old.now new.now told.0 × (heard ≡ heard)) (KeepsHeard over known heard heard wanted before before old.now new.now told.0))
           (sym silent)
-          ((it.0, refl, (told.3.0, told.3.1, told.3.2, told.3.3, c.id_among-id.result, c.id_among-id.ensures, it.1)), refl),
+          ((it.0, refl, (told.3.0, told.3.1, told.3.2, told.3.3, _, c.log_among-log.ensures, it.1)), refl),
     ))
     c.pass_over.ensures.told
 
@@ -50,10 +50,10 @@ returns-clause-told g c =
       told.0,
       told.1,
       told.2,
-      λ clean has are.
+      λ clean has.
           let spoke : is_silent heard wanted.source ≡ false = rw c.as_slice.ensures.value at (sym c.is_silent.ensures ∙ c.if-is_silent.false) in
           subst (λ b. MatchBool b (PassesOver known wanted NotAsked before after old.now new.now told.0 × (more ≡ heard)) (KeepsHeard over known heard more wanted before after old.now new.now told.0))
           (sym spoke)
-          (told.3 clean has are),
+          (told.3 clean has),
     ))
     c.keep_heard.ensures.told

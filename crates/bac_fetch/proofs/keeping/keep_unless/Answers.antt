@@ -4,8 +4,6 @@ use Rattle.sqlite.specs.Held.{state}
 use Rattle.bac_ports.specs.Sockets.{socket_rules}
 use Rattle.bac_asked.specs.declared.end.Ending.{Ending}
 use Rattle.bac_fetch.specs.Keeps.{KeepsUnless}
-use Rattle.bac_fetch.specs.Whose.{device_of}
-use Rattle.bac_fetch.proofs.SilentLemmas.{known_among}
 use Rattle.bac_fetch.proofs.StaysLemmas.{quiet_stays}
 use Rattle.bac_fetch.proofs.keeping.keep_unless.Goals as goal
 
@@ -23,8 +21,10 @@ returns-in-None-clause-told g c =
       told.2,
       (
         told.3.0,
-        λ clean has are. subst (λ (w : Option Ending). KeepsUnless over known wanted (device_of c.args.identity) w c.args.sockets.now c.keep_one.new.sockets old.now new.now told.0) (sym c.in-None.is)
-            (told.3.1 clean has (known_among old.now.trees known wanted.source c.id_among-id.result are c.id_among-id.ensures)),
+        λ clean has.
+            let (entry, is, row, kept) = told.3.1 clean has in
+            subst (λ (w : Option Ending). KeepsUnless over known wanted c.args.said.told w c.args.sockets.now c.keep_one.new.sockets old.now new.now told.0) (sym c.in-None.is)
+            (record { log = _; among = c.log_among-log.ensures; entry = entry; entered = is; row = row; kept = kept }),
       ),
     ))
     c.keep_one.ensures.told
@@ -44,10 +44,10 @@ returns-in-Some-clause-told g c =
       told.2,
       (
         told.3.0,
-        λ clean has are.
+        λ clean has.
             let it = told.3.5 clean has in
-            subst (λ (w : Option Ending). KeepsUnless over known wanted (device_of c.args.identity) w before before old.now new.now told.0) (sym c.in-Some.is)
-            (it.0, refl, (told.3.1, told.3.2, told.3.3, told.3.4, c.id_among-id.result, c.id_among-id.ensures, it.1)),
+            subst (λ (w : Option Ending). KeepsUnless over known wanted c.args.said.told w before before old.now new.now told.0) (sym c.in-Some.is)
+            (it.0, refl, (told.3.1, told.3.2, told.3.3, told.3.4, _, c.log_among-log.ensures, it.1)),
       ),
     ))
     c.pass_by.ensures.told

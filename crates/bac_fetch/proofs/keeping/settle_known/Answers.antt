@@ -1,0 +1,40 @@
+use Rattle.std.proofs.Common.{◌≡◌, List, ap, subst, sym, ◌∙◌}
+use Rattle.std.proofs.lemmas.Result.{IfOk-weaker}
+use Rattle.sqlite.specs.Effect.{Database}
+use Rattle.sqlite.specs.State.{HasCleanDisk}
+use Rattle.sqlite.specs.Held.{state}
+use Rattle.bac_archive.specs.Logs.{AreLogs}
+use Rattle.bac_archive.specs.Schema.{archive_schema}
+use Rattle.bac_archive.specs.declared.trend_logs.Log.{Log}
+use Rattle.bac_ports.specs.Sockets.{socket_rules}
+use Rattle.bac_fetch.specs.Moves.{Settles}
+use Rattle.bac_fetch.proofs.StaysLemmas.{quiet_first, quiet_stays}
+use Rattle.bac_fetch.proofs.keeping.settle_known.Goals as goal
+
+pub returns-clause-settled : goal.returns-clause-settled
+returns-clause-settled g c clean has =
+    let over = socket_rules g.S.Sockets.opens g.S.Sockets.closes g.S.Socket.Port.sends g.S.Socket.Port.receives g.S.Socket.Port.receives_within in
+    let known = c.as_slice.result.now in
+    let old = state g.A.Store c.args.conn.now in
+    let mid = state g.A.Store c.logs_of.new.conn in
+    let new = state g.A.Store c.settle.new.conn in
+    let early : HasCleanDisk mid = c.settle.ensures.clean clean in
+    let same : mid.now ≡ old.now = c.in_ok-known.ensures.same early has in
+    let are : AreLogs old.now.trees known = subst (λ (l : List Log). AreLogs old.now.trees l) (sym c.as_slice.ensures.value) (c.in_ok-known.ensures.logs early has) in
+    let schema : mid.now.schema ≡ archive_schema = ap (λ (d : Database). d.schema) same ∙ has in
+    IfOk-weaker c.settle.result _ _
+    (λ heard it. (known, are, subst (λ (d : Database). Settles over known c.args.all.now c.args.sockets.now heard.items c.settle.new.sockets d new.now) same it))
+    (c.settle.ensures.settled clean schema)
+
+pub returns-clause-stays : goal.returns-clause-stays
+returns-clause-stays g c clean has =
+    let old = state g.A.Store c.args.conn.now in
+    let mid = state g.A.Store c.logs_of.new.conn in
+    let new = state g.A.Store c.settle.new.conn in
+    let early : HasCleanDisk mid = c.settle.ensures.clean clean in
+    let same : mid.now ≡ old.now = c.in_ok-known.ensures.same early has in
+    let schema : mid.now.schema ≡ archive_schema = ap (λ (d : Database). d.schema) same ∙ has in
+    quiet_first old mid new same (c.logs_of.ensures.crash has) (c.settle.ensures.stays schema)
+
+pub returns-in_err-known-clause-stays : goal.returns-in_err-known-clause-stays
+returns-in_err-known-clause-stays g c clean has = quiet_stays (state g.A.Store c.args.conn.now) (state g.A.Store c.logs_of.new.conn) (c.logs_of.ensures.crash has)

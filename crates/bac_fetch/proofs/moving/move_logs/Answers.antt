@@ -1,0 +1,9 @@
+use Rattle.sqlite.specs.Held.{state}
+use Rattle.bac_fetch.proofs.StaysLemmas.{changed_stays}
+use Rattle.bac_fetch.proofs.moving.move_logs.Goals as goal
+
+pub returns-in-Ok-change_logs-clause-stays : goal.returns-in-Ok-change_logs-clause-stays
+returns-in-Ok-change_logs-clause-stays g c has = changed_stays (state g.A.Store c.args.conn.now) (state g.A.Store c.change_logs.new.conn) _ has c.change_logs.ensures.crash
+
+pub returns-clause-stays : goal.returns-clause-stays
+returns-clause-stays g c has = changed_stays (state g.A.Store c.args.conn.now) (state g.A.Store c.change_logs.new.conn) _ has c.change_logs.ensures.crash

@@ -1,0 +1,15 @@
+use Rattle.std.proofs.lemmas.Result.{IfOk-weaker}
+use Rattle.sqlite.specs.Held.{state}
+use Rattle.bac_ports.specs.Sockets.{socket_rules}
+use Rattle.bac_fetch.proofs.MovesLemmas.{settles_of_first}
+use Rattle.bac_fetch.proofs.moving.settle.Goals as goal
+
+pub returns-in-len1-up-clause-settled : goal.returns-in-len1-up-clause-settled
+returns-in-len1-up-clause-settled g c clean has =
+    let over = socket_rules g.S.Sockets.opens g.S.Sockets.closes g.S.Socket.Port.sends g.S.Socket.Port.receives g.S.Socket.Port.receives_within in
+    let old = state g.A.Store c.args.conn.now in
+    let new = state g.A.Store c.settle_unless.new.conn in
+    IfOk-weaker c.settle_unless.result _ _
+    (λ heard it. settles_of_first over c.args.known.now c.args.all.now c.first-item.result c.args.sockets.now heard.items c.settle_unless.new.sockets old.now new.now
+    c.in-len1-up.len_at_least c.first-item.is it)
+    (c.settle_unless.ensures.settled clean has)

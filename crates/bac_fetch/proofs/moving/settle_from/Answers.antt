@@ -1,0 +1,41 @@
+use Rattle.std.proofs.Common.{◌≡◌, ◌∙◌, MatchBool, List, refl, subst, sym}
+use Rattle.sqlite.specs.Held.{state}
+use Rattle.bac_archive.specs.Changes.{HasChangedLogs}
+use Rattle.bac_archive.specs.declared.trend_logs.Log.{Log}
+use Rattle.bac_ports.specs.Sockets.{socket_rules}
+use Rattle.bac_fetch.specs.Moves.{AreMoved, AsksThere}
+use Rattle.bac_fetch.proofs.QuietLemmas.{on_ok}
+use Rattle.bac_fetch.proofs.moving.settle_from.Goals as goal
+
+pub returns-then-is_told-clause-settled : goal.returns-then-is_told-clause-settled
+returns-then-is_told-clause-settled g c clean has =
+    let over = socket_rules g.S.Sockets.opens g.S.Sockets.closes g.S.Socket.Port.sends g.S.Socket.Port.receives g.S.Socket.Port.receives_within in
+    let old = (state g.A.Store c.args.conn.now).now in
+    let (there, asks, same, identifies) = c.in_ok-said.ensures in
+    let asked : AsksThere over c.args.device c.args.from.now c.args.to.now c.args.known.now c.args.sockets.now c.identify_there.new.sockets old old = (
+      there,
+      asks,
+      same,
+      c.in_ok-said.said,
+      identifies,
+      subst (λ b. MatchBool b (old ≡ old) ((moved : List Log) × AreMoved c.args.device c.args.from.now c.args.to.now c.args.known.now moved × HasChangedLogs old old moved))
+          (sym (sym c.is_told.ensures ∙ c.if-is_told.true)) refl,
+    ) in
+    on_ok _ _ asked
+
+pub returns-clause-settled : goal.returns-clause-settled
+returns-clause-settled g c clean has =
+    let over = socket_rules g.S.Sockets.opens g.S.Sockets.closes g.S.Socket.Port.sends g.S.Socket.Port.receives g.S.Socket.Port.receives_within in
+    let old = (state g.A.Store c.args.conn.now).now in
+    let new = (state g.A.Store c.move_logs.new.conn).now in
+    let (there, asks, same, identifies) = c.in_ok-said.ensures in
+    let asked : AsksThere over c.args.device c.args.from.now c.args.to.now c.args.known.now c.args.sockets.now c.identify_there.new.sockets old new = (
+      there,
+      asks,
+      same,
+      c.in_ok-said.said,
+      identifies,
+      subst (λ b. MatchBool b (new ≡ old) ((moved : List Log) × AreMoved c.args.device c.args.from.now c.args.to.now c.args.known.now moved × HasChangedLogs old new moved))
+          (sym (sym c.is_told.ensures ∙ c.if-is_told.false)) (c.in_ok-move_logs.ensures.moved clean has),
+    ) in
+    on_ok _ _ asked

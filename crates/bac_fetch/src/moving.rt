@@ -1,0 +1,337 @@
+//! A device that has moved: it tells at one place the instance that is on record of logs at another.
+
+ghost use Rattle.std.specs.Prelude.{◌≡◌, ◌++◌, map, true, IfOk, OnOk, option_map};
+ghost use Rattle.sqlite.specs.State.{HasCleanDisk, Survives};
+ghost use Rattle.sqlite.specs.Held.{state};
+ghost use Rattle.bac_archive.specs.Changes.{HasChangedLogs};
+ghost use Rattle.bac_archive.specs.Logs.{log_columns};
+ghost use Rattle.bac_archive.specs.Schema.{archive_schema};
+ghost use Rattle.bac_ports.specs.Sockets.{socket_rules};
+ghost use Rattle.bac_asked.specs.Wanted.{AsksItsSource};
+ghost use Rattle.bac_fetch.specs.Moves.{AreMoved, AsksThere, IsElsewhere, Settles, SettlesBy, SettlesFirst, SettlesUnless, is_placed, moved_columns, moved_of, stands};
+ghost use Rattle.bac_fetch.specs.Said.{Identifies};
+ghost use Rattle.bac_fetch.specs.Silent.{is_same_device};
+ghost use Rattle.bac_fetch.specs.Stays.{HasAllOf};
+
+use crate::said::{Identity, Said, copy_text, identify};
+use crate::silent::is_same_device;
+use crate::whose::{Heard, is_told, of_device, stands_elsewhere};
+use bac_archive::{Log, Source, Told, change_logs};
+use bac_asked::{Fault, FileFault, NotDone, Options, Wanted, kept_at, push_both, push_moved};
+use bac_ports::Sockets;
+use bac_print::write_text;
+use sqlite::{Alter, Connection};
+use std::alloc::{AllocError, Global};
+use std::io::Write;
+
+/// Whether a log of the device of this one is on record.
+fn is_placed(known: &[Log], source: &Source) -> bool
+    ensures { result ≡ is_placed known.now source.now }
+{
+    for log in known {
+        if is_same_device(&log.source, source) {
+            return true;
+        }
+    }
+    false
+}
+
+/// A log of another device of which this instance is on record, if there is one.
+fn elsewhere<'a>(known: &'a [Log], source: &Source, device: u32) -> Option<&'a Log>
+    ensures { IsElsewhere known.now source.now device (option_map (λ log. log.now) result) }
+{
+    for log in known {
+        if stands_elsewhere(log, source, device) {
+            return Some(log);
+        }
+    }
+    None
+}
+
+/// A log as it stands at the place of another.
+fn moved_log(alloc: Global, log: &Log, to: &Source) -> Result<Log, AllocError>
+    ensures { IfOk result (λ moved. log_columns moved ≡ moved_columns to.now log.now) }
+{
+    Ok(Log {
+        id: log.id,
+        source: Source {
+            address: String::from_str(alloc, &to.address)?,
+            dnet: to.dnet,
+            dadr: String::from_str(alloc, &to.dadr)?,
+            instance: log.source.instance,
+        },
+        name: copy_text(alloc, &log.name)?,
+        told: Told {
+            device: log.told.device,
+            restart: copy_text(alloc, &log.told.restart)?,
+            revision: log.told.revision,
+        },
+        stopped: log.stopped,
+    })
+}
+
+/// Puts a log behind those that move, if it stands at the old place.
+fn add_moved(
+    alloc: Global,
+    moved: &mut Vec<Log>,
+    log: &Log,
+    device: u32,
+    from: &Source,
+    to: &Source,
+) -> Result<(), AllocError>
+    ensures { OnOk result (map log_columns moved.new.items ≡ map log_columns moved.old.items ++ moved_of device from.now to.now log.now) }
+{
+    if of_device(log, device) && is_same_device(&log.source, from) {
+        moved.push(moved_log(alloc, log, to)?)?;
+    }
+    Ok(())
+}
+
+/// The logs of this instance that stand at a place, as they stand at another one.
+fn moved_to(
+    alloc: Global,
+    known: &[Log],
+    device: u32,
+    from: &Source,
+    to: &Source,
+) -> Result<Vec<Log>, AllocError>
+    ensures { IfOk result (λ moved. AreMoved device from.now to.now known.now moved.items) }
+{
+    let mut moved = Vec::new(alloc);
+    for log in known {
+        add_moved(alloc, &mut moved, log, device, from, to)?;
+    }
+    Ok(moved)
+}
+
+/// The logs of this instance that stand at a place stand at another one from now on.
+fn move_logs<A: Alter>(
+    conn: &mut Connection<A>,
+    alloc: Global,
+    known: &[Log],
+    device: u32,
+    from: &Source,
+    to: &Source,
+) -> Result<(), NotDone>
+    ensures moved { HasCleanDisk (state A.Store conn.new) → (state A.Store conn.old).now.schema ≡ archive_schema → OnOk result
+        ((moved : _) × AreMoved device from.now to.now known.now moved × HasChangedLogs (state A.Store conn.old).now (state A.Store conn.new).now moved) }
+    ensures stays { (state A.Store conn.old).now.schema ≡ archive_schema
+        → Survives (state A.Store conn.old) (state A.Store conn.new) (HasAllOf (state A.Store conn.old).now.trees) }
+    ensures clean { HasCleanDisk (state A.Store conn.new) → HasCleanDisk (state A.Store conn.old) }
+{
+    let Ok(moved) = moved_to(alloc, known, device, from, to) else {
+        return Err(NotDone::Asking(Fault::Memory));
+    };
+    match change_logs(conn, moved.as_slice()) {
+        Ok(()) => Ok(()),
+        Err(error) => Err(NotDone::File(FileFault::of(error))),
+    }
+}
+
+/// Tells that a device has moved, or that two have one number.
+fn tell_place<E: Write>(
+    alloc: Global,
+    device: u32,
+    from: &Source,
+    to: &Source,
+    has_moved: bool,
+    errors: &mut E,
+) -> Result<(), NotDone> {
+    let mut text = Vec::new(alloc);
+    let pushed = if has_moved {
+        push_moved(&mut text, device, from, to)
+    } else {
+        push_both(&mut text, device, from, to)
+    };
+    if pushed.is_err() {
+        return Err(NotDone::Asking(Fault::Memory));
+    }
+    let _ = write_text(errors, &text);
+    Ok(())
+}
+
+/// The same place once more.
+fn copy_source(alloc: Global, source: &Source) -> Result<Source, NotDone>
+    ensures { IfOk result (λ copy. is_same_device copy source.now ≡ true) }
+{
+    let (Ok(address), Ok(dadr)) = (
+        String::from_str(alloc, &source.address),
+        String::from_str(alloc, &source.dadr),
+    ) else {
+        return Err(NotDone::Asking(Fault::Memory));
+    };
+    Ok(Source {
+        address,
+        dnet: source.dnet,
+        dadr,
+        instance: source.instance,
+    })
+}
+
+/// What the device at an old place says of itself.
+fn identify_there<S: Sockets>(
+    sockets: &mut S,
+    alloc: Global,
+    from: &Source,
+    options: &Options<'_>,
+) -> Result<Said, NotDone>
+    ensures { IfOk result (λ said. (there : _) × AsksItsSource there × (is_same_device there.source from.now ≡ true)
+        × Identifies (socket_rules S.opens S.closes S.Socket.sends S.Socket.receives S.Socket.receives_within) there.asking sockets.old said sockets.new) }
+{
+    let there = kept_at(alloc, copy_source(alloc, from)?, options)?;
+    identify(sockets, alloc, &there.asking)
+}
+
+/// Settles whether a device has moved from one place to another: asks at the old one.
+fn settle_from<S: Sockets, A: Alter, E: Write>(
+    sockets: &mut S,
+    conn: &mut Connection<A>,
+    alloc: Global,
+    known: &[Log],
+    device: u32,
+    from: &Source,
+    to: &Source,
+    options: &Options<'_>,
+    errors: &mut E,
+) -> Result<(), NotDone>
+    ensures settled { HasCleanDisk (state A.Store conn.new) → (state A.Store conn.old).now.schema ≡ archive_schema → OnOk result
+        (AsksThere (socket_rules S.opens S.closes S.Socket.sends S.Socket.receives S.Socket.receives_within) device from.now to.now known.now sockets.old sockets.new
+        (state A.Store conn.old).now (state A.Store conn.new).now) }
+    ensures stays { (state A.Store conn.old).now.schema ≡ archive_schema
+        → Survives (state A.Store conn.old) (state A.Store conn.new) (HasAllOf (state A.Store conn.old).now.trees) }
+    ensures clean { HasCleanDisk (state A.Store conn.new) → HasCleanDisk (state A.Store conn.old) }
+{
+    let said = identify_there(sockets, alloc, from, options)?;
+    if is_told(device, said.identity) {
+        return tell_place(alloc, device, from, to, false, errors);
+    }
+    move_logs(conn, alloc, known, device, from, to)?;
+    tell_place(alloc, device, from, to, true, errors)
+}
+
+/// Settles where a device stands that tells its instance at a place of which no log is on record.
+fn settle_by<S: Sockets, A: Alter, E: Write>(
+    sockets: &mut S,
+    conn: &mut Connection<A>,
+    alloc: Global,
+    known: &[Log],
+    to: &Source,
+    identity: Identity,
+    options: &Options<'_>,
+    errors: &mut E,
+) -> Result<(), NotDone>
+    ensures settled { HasCleanDisk (state A.Store conn.new) → (state A.Store conn.old).now.schema ≡ archive_schema → OnOk result
+        (SettlesBy (socket_rules S.opens S.closes S.Socket.sends S.Socket.receives S.Socket.receives_within) known.now to.now identity sockets.old sockets.new
+        (state A.Store conn.old).now (state A.Store conn.new).now) }
+    ensures stays { (state A.Store conn.old).now.schema ≡ archive_schema
+        → Survives (state A.Store conn.old) (state A.Store conn.new) (HasAllOf (state A.Store conn.old).now.trees) }
+    ensures clean { HasCleanDisk (state A.Store conn.new) → HasCleanDisk (state A.Store conn.old) }
+{
+    let Identity::Told(device) = identity else {
+        return Ok(());
+    };
+    match elsewhere(known, to, device) {
+        Some(log) => settle_from(
+            sockets,
+            conn,
+            alloc,
+            known,
+            device,
+            &log.source,
+            to,
+            options,
+            errors,
+        ),
+        None => Ok(()),
+    }
+}
+
+/// Asks the device of a log of which none is on record, and settles where it stands.
+fn settle_first<S: Sockets, A: Alter, E: Write>(
+    sockets: &mut S,
+    conn: &mut Connection<A>,
+    alloc: Global,
+    known: &[Log],
+    first: &Wanted,
+    options: &Options<'_>,
+    errors: &mut E,
+) -> Result<Heard, NotDone>
+    ensures settled { HasCleanDisk (state A.Store conn.new) → (state A.Store conn.old).now.schema ≡ archive_schema → IfOk result
+        (λ one. SettlesFirst (socket_rules S.opens S.closes S.Socket.sends S.Socket.receives S.Socket.receives_within) known.now first.now sockets.old one sockets.new
+        (state A.Store conn.old).now (state A.Store conn.new).now) }
+    ensures stays { (state A.Store conn.old).now.schema ≡ archive_schema
+        → Survives (state A.Store conn.old) (state A.Store conn.new) (HasAllOf (state A.Store conn.old).now.trees) }
+    ensures clean { HasCleanDisk (state A.Store conn.new) → HasCleanDisk (state A.Store conn.old) }
+{
+    let source = copy_source(alloc, &first.source)?;
+    let said = identify(sockets, alloc, &first.asking)?;
+    let identity = said.identity;
+    settle_by(
+        sockets,
+        conn,
+        alloc,
+        known,
+        &first.source,
+        identity,
+        options,
+        errors,
+    )?;
+    Ok(Heard {
+        source,
+        said,
+        was_told: false,
+    })
+}
+
+/// The same, unless a log of that device is on record.
+fn settle_unless<S: Sockets, A: Alter, E: Write>(
+    sockets: &mut S,
+    conn: &mut Connection<A>,
+    alloc: Global,
+    known: &[Log],
+    first: &Wanted,
+    options: &Options<'_>,
+    errors: &mut E,
+) -> Result<Vec<Heard>, NotDone>
+    ensures settled { HasCleanDisk (state A.Store conn.new) → (state A.Store conn.old).now.schema ≡ archive_schema → IfOk result
+        (λ heard. SettlesUnless (socket_rules S.opens S.closes S.Socket.sends S.Socket.receives S.Socket.receives_within) known.now first.now sockets.old heard.items sockets.new
+        (state A.Store conn.old).now (state A.Store conn.new).now) }
+    ensures stays { (state A.Store conn.old).now.schema ≡ archive_schema
+        → Survives (state A.Store conn.old) (state A.Store conn.new) (HasAllOf (state A.Store conn.old).now.trees) }
+    ensures clean { HasCleanDisk (state A.Store conn.new) → HasCleanDisk (state A.Store conn.old) }
+{
+    let mut heard = Vec::new(alloc);
+    if is_placed(known, &first.source) {
+        return Ok(heard);
+    }
+    let one = settle_first(sockets, conn, alloc, known, first, options, errors)?;
+    match heard.push(one) {
+        Ok(()) => Ok(heard),
+        Err(_) => Err(NotDone::Asking(Fault::Memory)),
+    }
+}
+
+/// Settles where the device of the first of these logs stands, if no log of it is on record: it is
+/// asked what it says of itself; if the instance that it tells is on record of logs at another
+/// place, that place is asked, too, and if nobody tells it there, they stand at the new one.
+pub(crate) fn settle<S: Sockets, A: Alter, E: Write>(
+    sockets: &mut S,
+    conn: &mut Connection<A>,
+    alloc: Global,
+    known: &[Log],
+    all: &[Wanted],
+    options: &Options<'_>,
+    errors: &mut E,
+) -> Result<Vec<Heard>, NotDone>
+    ensures settled { HasCleanDisk (state A.Store conn.new) → (state A.Store conn.old).now.schema ≡ archive_schema → IfOk result
+        (λ heard. Settles (socket_rules S.opens S.closes S.Socket.sends S.Socket.receives S.Socket.receives_within) known.now all.now sockets.old heard.items sockets.new
+        (state A.Store conn.old).now (state A.Store conn.new).now) }
+    ensures stays { (state A.Store conn.old).now.schema ≡ archive_schema
+        → Survives (state A.Store conn.old) (state A.Store conn.new) (HasAllOf (state A.Store conn.old).now.trees) }
+    ensures clean { HasCleanDisk (state A.Store conn.new) → HasCleanDisk (state A.Store conn.old) }
+{
+    match all {
+        [first, ..] => settle_unless(sockets, conn, alloc, known, first, options, errors),
+        [] => Ok(Vec::new(alloc)),
+    }
+}

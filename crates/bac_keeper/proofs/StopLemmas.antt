@@ -1,0 +1,59 @@
+-- What stopping logs comes to.
+use Rattle.std.proofs.Common.{◌≡◌, ◌∙◌, ◌∷◌, ◌++◌, [], ◌+◌, ◌<◌, ℕ, List, Option, Result, Ok, Err, IfOk, OnOk, ap, subst, sym, take, get_or, length, map, filter, append-nil}
+use Rattle.std.proofs.lemmas.List.{map-append, take_more}
+use Rattle.std.proofs.lemmas.List.Elements.{filter-append}
+use Rattle.std.proofs.lemmas.Grind.{flat_map-append}
+use Rattle.sqlite_disk.specs.declared.Disk as disk
+use Rattle.sqlite_disk.specs.declared.Files.{Files}
+use Rattle.sqlite_store.specs.declared.store.FileStore.{FileStore}
+use Rattle.sqlite_wal.specs.Recovery.{Image}
+use Rattle.sqlite.specs.Effect.{Database}
+use Rattle.sqlite.specs.Files.{file_state}
+use Rattle.sqlite.specs.Held.{Held as Connected}
+use Rattle.sqlite.specs.State.{HasCleanDisk, State, Survives}
+use Rattle.bac_archive.specs.Changes.{HasChangedLogs}
+use Rattle.bac_archive.specs.Schema.{archive_schema}
+use Rattle.bac_archive.specs.declared.trend_logs.Log.{Log}
+use Rattle.bac_asked.specs.Lines.{stopped_line}
+use Rattle.bac_asked.specs.declared.end.NotDone.{NotDone}
+use Rattle.bac_fetch.proofs.StaysLemmas.{changed_stays, quiet_first}
+use Rattle.bac_fetch.specs.Stays.{HasAllOf}
+use Rattle.bac_files.specs.Files.{IsClosedBy, IsOpenedBy}
+use Rattle.bac_keeper.proofs.FileLemmas.{some_done}
+use Rattle.bac_keeper.specs.Stops.{Means, StopsArchive, StopsIn, is_meant, stopped, stopped_lines, stopped_logs}
+use Rattle.bac_keeper.specs.declared.stopping.Meant.{Meant}
+use Rattle.bac_print.specs.Output.{Held}
+use Rattle.bac_words.specs.declared.job.Keep.{Keep}
+
+pub stopped_more : (which : Meant) (xs ys : List Log) → stopped_logs which (xs ++ ys) ≡ stopped_logs which xs ++ stopped_logs which ys
+stopped_more which xs ys = ap (map stopped) (filter-append (is_meant which) xs ys) ∙ map-append stopped (filter (is_meant which) xs) (filter (is_meant which) ys)
+
+pub one_line_more : (all : List Log) (at : ℕ) (x : Log) → at < length all → x ≡ get_or all at x
+    → stopped_lines (take at all) ++ stopped_line x.source ≡ stopped_lines (take (at + 1) all)
+one_line_more all at x lt is =
+    ap (λ l. stopped_lines (take at all) ++ l) (sym (append-nil (stopped_line x.source)))
+    ∙ sym (flat_map-append (λ (log : Log). stopped_line log.source) (take at all) (x ∷ []))
+    ∙ ap stopped_lines (ap (λ z. take at all ++ z ∷ []) is ∙ sym (take_more all at x lt))
+
+-- logs are read, and then some are changed
+pub changes_stay : (old mid new : State) (logs : List Log) → (HasCleanDisk mid → mid.now ≡ old.now) → old.now.schema ≡ archive_schema → Survives old mid (λ _. ⊥)
+    → Survives mid new (λ trees. mid.now.schema ≡ archive_schema → (db : Database) × HasChangedLogs mid.now db logs × (trees ≡ db.trees))
+    → HasCleanDisk mid → Survives old new (HasAllOf old.now.trees)
+changes_stay old mid new logs same has one two clean =
+    let is = same clean in
+    quiet_first old mid new is one (changed_stays mid new logs (ap (λ (d : Database). d.schema) is ∙ has) two)
+
+module _ {D : Type 0} {g : disk.Ghosts D} (image : Image) (opened last : Connected (FileStore D g)) (closed : Option (Files D)) (is : IsOpenedBy image opened)
+    (clean : HasCleanDisk (file_state last) → HasCleanDisk (file_state opened)) where
+  pub stops_in : (words : Keep) (which : Meant) (out out' : Held) (result done : Result ℕ NotDone) → Means words which → IfOk done (λ status. status ≡ 0)
+      → (HasCleanDisk (file_state last) → OnOk done (StopsArchive which out out' (file_state opened).now (file_state last).committed))
+      → IfOk result (λ v. done ≡ Ok v) → OnOk result (IsClosedBy last closed) → IfOk result (StopsIn g image words out out' closed)
+  stops_in words which out out' (Err e) done means zero told same shut = tt
+  stops_in words which out out' (Ok v) done means zero told same shut = (
+    subst (λ (r : Result ℕ NotDone). IfOk r (λ status. status ≡ 0)) same zero,
+    shut.0,
+    which,
+    means,
+    some_done image opened last closed is clean (StopsArchive which out out')
+        (λ c open'. subst (λ (r : Result ℕ NotDone). OnOk r (StopsArchive which out out' (file_state opened).now (file_state last).committed)) same (told c)) shut.1,
+  )

@@ -1,0 +1,73 @@
+-- What is done of the words of `bac keep --stop`. Read from the end.
+use Rattle.std.specs.Prelude.{◌≡◌, ℕ, Bool, true, List, [], ◌∷◌, map, flat_map, codes, Option, Some, IfSome, IsSome}
+use Rattle.std.specs.List.{filter, list_all, list_any}
+use Rattle.std.specs.Io.KnownBytes.{Appends}
+use Rattle.clap.specs.Words.{Text}
+use Rattle.sqlite.specs.Effect.{Database}
+use Rattle.sqlite_disk.specs.declared.Disk as disk
+use Rattle.sqlite_disk.specs.declared.Files.{Files}
+use Rattle.sqlite_wal.specs.Recovery.{Image}
+use Rattle.bac_archive.specs.Changes.{HasChangedLogs}
+use Rattle.bac_archive.specs.Logs.{AreLogs}
+use Rattle.bac_archive.specs.declared.trend_logs.Log.{Log}
+use Rattle.bac_asked.specs.AsLog.{Given, IsAskedBy, log_words}
+use Rattle.bac_asked.specs.Lines.{stopped_line}
+use Rattle.bac_asked.specs.Wanted.{AddNamed, AsksItsSource}
+use Rattle.bac_asked.specs.declared.wanted.Wanted.{Wanted}
+use Rattle.bac_fetch.specs.Silent.{is_same_device, is_same_log}
+use Rattle.bac_files.specs.Files.{IsDoneTo}
+use Rattle.bac_keeper.specs.Archives.{IsArchiveOf}
+use Rattle.bac_keeper.specs.Done.{given_of}
+use Rattle.bac_keeper.specs.declared.stopping.Meant.{Meant}
+use Rattle.bac_keeper.specs.declared.stopping.Meant.TheVariants as meant
+use Rattle.bac_print.specs.Output.{Held}
+use Rattle.bac_words.specs.declared.job.Keep.{Keep}
+
+-- a log is meant: it is of the device, or one of those that are named
+abbrev pub is_meant : Meant → Log → Bool
+is_meant (meant.Device source) log = is_same_device source log.source
+is_meant (meant.Logs all) log = list_any (λ (w : Wanted). is_same_log w.source log.source) all.items
+
+-- the logs that are meant are there: one of the device, or each that is named
+abbrev pub are_there : Meant → List Log → Bool
+are_there (meant.Device source) known = list_any (λ (log : Log). is_same_device source log.source) known
+are_there (meant.Logs all) known =
+    list_all (λ (w : Wanted). list_any (λ (log : Log). is_same_log w.source log.source) known) all.items
+
+-- With ADDRESS alone the logs of the device that `bac log` with these words asks; with INSTANCEs those that they name.
+abbrev pub MeansBy : Option Text → List Text → Given → Meant → Type 0
+MeansBy (Some address) [] given (meant.Device source) =
+    (wanted : Wanted) × IsAskedBy (log_words address (codes "0") given) wanted.asking × AsksItsSource wanted
+    × (source ≡ wanted.source)
+MeansBy (Some address) (instance ∷ more) given (meant.Logs all) =
+    AddNamed address given (instance ∷ more) [] all.items
+MeansBy _ _ _ _ = ⊥
+
+-- which logs the words mean
+abbrev pub Means : Keep → Meant → Type 0
+Means words which = MeansBy words.address words.instances (given_of words.options) which
+
+-- a log that isn't asked any more
+abbrev pub stopped : Log → Log
+stopped log = record log { stopped = true }
+
+-- those of these logs that are meant, stopped
+abbrev pub stopped_logs : Meant → List Log → List Log
+stopped_logs which known = map stopped (filter (is_meant which) known)
+
+-- a line for each log
+abbrev pub stopped_lines : List Log → List ℕ
+stopped_lines = flat_map (λ (log : Log). stopped_line log.source)
+
+-- The logs that are meant are there, each is stopped, and nothing else of the archive changes; a line tells each.
+abbrev pub StopsArchive : Meant → Held → Held → Database → Database → Type 0
+StopsArchive which before after found left =
+    (archive : Database) × IsArchiveOf found archive × (known : List Log) × AreLogs archive.trees known
+    × (are_there which known ≡ true) × HasChangedLogs archive left (stopped_logs which known)
+    × Appends before after (stopped_lines (stopped_logs which known))
+
+-- The logs that the words mean were stopped in the archive that two files held, which the closed files hold now.
+abbrev pub StopsIn : {D : Type 0} → (g : disk.Ghosts D) → Image → Keep → Held → Held → Option (Files D) → ℕ → Type 0
+StopsIn g image words before after closed status =
+    (status ≡ 0) × IsSome closed × (which : Meant) × Means words which
+    × IfSome closed (IsDoneTo g image (StopsArchive which before after))

@@ -1,0 +1,245 @@
+//! `bac keep --stop`: the logs that words name aren't asked any more.
+
+ghost use Rattle.std.specs.Prelude.{◌≡◌, ◌∷◌, [], ◌++◌, IfErr, IfOk, IfSome, List, OnOk, false, true};
+ghost use Rattle.std.specs.List.{list_all, list_any};
+ghost use Rattle.std.specs.Io.KnownBytes.{Appends};
+ghost use Rattle.sqlite.specs.Held.{state};
+ghost use Rattle.sqlite.specs.State.{HasCleanDisk, Survives};
+ghost use Rattle.sqlite_wal.specs.Files.{image_at};
+ghost use Rattle.bac_archive.specs.Logs.{AreLogs};
+ghost use Rattle.bac_archive.specs.Changes.{HasChangedLogs};
+ghost use Rattle.bac_archive.specs.Schema.{archive_schema};
+ghost use Rattle.bac_archive.specs.declared.trend_logs.Log.{Log as LogOf};
+ghost use Rattle.bac_asked.specs.AsLog.{given_in};
+ghost use Rattle.bac_asked.specs.declared.wanted.Wanted.{Wanted as WantedOf};
+ghost use Rattle.bac_fetch.specs.Silent.{is_same_device, is_same_log};
+ghost use Rattle.bac_fetch.specs.Stays.{HasAllOf};
+ghost use Rattle.bac_files.specs.Files.{IsDoneTo, IsNamed, IsUnused};
+ghost use Rattle.bac_keeper.specs.Archives.{IsHeld, LosesNothing};
+ghost use Rattle.bac_keeper.specs.Done.{given_of};
+ghost use Rattle.bac_keeper.specs.Ends.{MayFail};
+ghost use Rattle.bac_keeper.specs.Stops.{Means, StopsArchive, StopsIn, are_there, is_meant, stopped_lines, stopped_logs};
+
+use crate::archives::{close_file, open_archive, open_file};
+use crate::keeping::{of_words, options_of};
+use bac_archive::{Log, Source, change_logs, logs};
+use bac_asked::{
+    Fault, FileFault, NotDone, Options, Wanted, named, named_all, of_error, push_stopped,
+};
+use bac_fetch::is_same_device;
+use bac_files::DiskFiles;
+use bac_print::write_text;
+use bac_words::{Keep, Word};
+use sqlite::{Alter, Connection, FileFrom, Start};
+use sqlite_disk::Disk;
+use std::alloc::{AllocError, Global};
+use std::io::Write;
+
+/// Which logs words mean.
+#[derive(Drop)]
+pub(crate) enum Meant {
+    /// Those of the device of this source, whose instance is of no matter.
+    Device(Source),
+    /// These.
+    Logs(Vec<Wanted>),
+}
+
+impl Meant {
+    /// Whether a log is one of them.
+    fn has(&self, log: &Log) -> bool
+        ensures { result ≡ is_meant self.now log.now }
+    {
+        match self {
+            Meant::Device(source) => is_same_device(source, &log.source),
+            Meant::Logs(all) => has_wanted(all.as_slice(), &log.source),
+        }
+    }
+
+    /// Whether they are among those that an archive knows: one of the device, or each of these.
+    fn are_there(&self, known: &[Log]) -> bool
+        ensures { result ≡ are_there self.now known.now }
+    {
+        match self {
+            Meant::Device(source) => has_device(known, source),
+            Meant::Logs(all) => have_each(known, all.as_slice()),
+        }
+    }
+}
+
+/// Whether two sources are of one log.
+fn is_same_log(one: &Source, other: &Source) -> bool
+    ensures { result ≡ is_same_log one.now other.now }
+{
+    one.address == other.address
+        && one.dnet == other.dnet
+        && one.dadr == other.dadr
+        && one.instance == other.instance
+}
+
+/// Whether a log is one of these.
+fn has_wanted(all: &[Wanted], source: &Source) -> bool
+    ensures { result ≡ list_any (λ (w : WantedOf). is_same_log w.source source.now) all.now }
+{
+    all.iter().any(|wanted| is_same_log(&wanted.source, source))
+}
+
+/// Whether one of these logs is of the device.
+fn has_device(known: &[Log], source: &Source) -> bool
+    ensures { result ≡ list_any (λ (log : LogOf). is_same_device source.now log.source) known.now }
+{
+    known.iter().any(|log| is_same_device(source, &log.source))
+}
+
+/// Whether a log is one of those that are known.
+fn has_log(known: &[Log], source: &Source) -> bool
+    ensures { result ≡ list_any (λ (log : LogOf). is_same_log source.now log.source) known.now }
+{
+    known.iter().any(|log| is_same_log(source, &log.source))
+}
+
+/// Whether each of these is one of those that are known.
+fn have_each(known: &[Log], all: &[Wanted]) -> bool
+    ensures { result ≡ list_all (λ (w : WantedOf). list_any (λ (log : LogOf). is_same_log w.source log.source) known.now) all.now }
+{
+    all.iter().all(|wanted| has_log(known, &wanted.source))
+}
+
+/// The logs that the words mean.
+fn choose(alloc: Global, asked: &Keep, options: &Options<'_>) -> Result<Meant, NotDone>
+    requires { given_in options.now ≡ given_of asked.now.options }
+    ensures { IfOk result (Means asked.now) }
+{
+    let Some(address) = &asked.address else {
+        return Err(NotDone::Asking(Fault::BadValue(Word::Stop)));
+    };
+    let address = address.as_str();
+    let instances = asked.instances.as_slice();
+    if instances.is_empty() {
+        return Ok(Meant::Device(named(alloc, address, "0", options)?.source));
+    }
+    Ok(Meant::Logs(named_all(alloc, address, instances, options)?))
+}
+
+/// Puts a log behind others, stopped, if it is meant.
+fn add_stopped(these: &mut Vec<Log>, log: Log, meant: &Meant) -> Result<(), NotDone>
+    ensures { OnOk result (these.new.items ≡ these.old.items ++ stopped_logs meant.now (log ∷ [])) }
+{
+    if !meant.has(&log) {
+        return Ok(());
+    }
+    let mut log = log;
+    log.stopped = true;
+    match these.push(log) {
+        Ok(()) => Ok(()),
+        Err(_) => Err(NotDone::Asking(Fault::Memory)),
+    }
+}
+
+/// Those of these logs that are meant, stopped.
+fn stopped_of(alloc: Global, known: Vec<Log>, meant: &Meant) -> Result<Vec<Log>, NotDone>
+    ensures { IfOk result (λ these. these.items ≡ stopped_logs meant.now known.items) }
+{
+    let mut these = Vec::new(alloc);
+    for log in known {
+        add_stopped(&mut these, log, meant)?;
+    }
+    Ok(these)
+}
+
+/// A line for each log that it is stopped.
+fn lines_of(alloc: Global, these: &[Log]) -> Result<Vec<u8>, AllocError>
+    ensures { IfOk result (λ text. text.items ≡ stopped_lines these.now) }
+{
+    let mut text = Vec::new(alloc);
+    for log in these {
+        push_stopped(&mut text, &log.source)?;
+    }
+    Ok(text)
+}
+
+/// Prints them.
+fn print_stopped<O: Write>(alloc: Global, these: &[Log], output: &mut O) -> Result<(), NotDone>
+    ensures { OnOk result (Appends (O.contents output.old) (O.contents output.new) (stopped_lines these.now)) }
+{
+    let Ok(text) = lines_of(alloc, these) else {
+        return Err(NotDone::Asking(Fault::Memory));
+    };
+    if write_text(output, &text).is_err() || output.flush().is_err() {
+        return Err(NotDone::Asking(Fault::Write));
+    }
+    Ok(())
+}
+
+/// Stops those logs of an archive that are meant, and answers them.
+fn stop_known<A: Alter>(
+    conn: &mut Connection<A>,
+    alloc: Global,
+    meant: &Meant,
+) -> Result<Vec<Log>, NotDone>
+    ensures stopped { HasCleanDisk (state A.Store conn.new) → (state A.Store conn.old).now.schema ≡ archive_schema
+        → IfOk result (λ these. (known : List LogOf) × AreLogs (state A.Store conn.old).now.trees known
+        × (are_there meant.now known ≡ true) × (these.items ≡ stopped_logs meant.now known)
+        × HasChangedLogs (state A.Store conn.old).now (state A.Store conn.new).now these.items
+        × ((state A.Store conn.new).committed ≡ (state A.Store conn.new).now)) }
+    // Whatever comes of it, no item and no log is lost.
+    ensures stays { HasCleanDisk (state A.Store conn.new) → (state A.Store conn.old).now.schema ≡ archive_schema
+        → Survives (state A.Store conn.old) (state A.Store conn.new) (HasAllOf (state A.Store conn.old).now.trees) }
+    ensures clean { HasCleanDisk (state A.Store conn.new) → HasCleanDisk (state A.Store conn.old) }
+{
+    let known = match logs(alloc, conn) {
+        Ok(known) => known,
+        Err(error) => return Err(of_error(error)),
+    };
+    if !meant.are_there(known.as_slice()) {
+        return Err(NotDone::File(FileFault::NoLog));
+    }
+    let these = stopped_of(alloc, known, meant)?;
+    match change_logs(conn, these.as_slice()) {
+        Ok(()) => Ok(these),
+        Err(error) => Err(of_error(error)),
+    }
+}
+
+/// Stops the logs that are meant in an open database, which has to be an archive.
+fn stop_in<A: Alter, O: Write>(
+    conn: &mut Connection<A>,
+    alloc: Global,
+    meant: &Meant,
+    output: &mut O,
+) -> Result<u8, NotDone>
+    ensures status { IfOk result (λ status. status ≡ 0) }
+    ensures stopped { HasCleanDisk (state A.Store conn.new) → OnOk result
+        (StopsArchive meant.now (O.contents output.old) (O.contents output.new) (state A.Store conn.old).now (state A.Store conn.new).committed) }
+    // Whatever comes of it, no item and no log is lost.
+    ensures stays { IsHeld (state A.Store conn.new) → (state A.Store conn.old).committed ≡ (state A.Store conn.old).now
+        → LosesNothing (state A.Store conn.old).now (state A.Store conn.new).committed }
+    ensures clean { HasCleanDisk (state A.Store conn.new) → HasCleanDisk (state A.Store conn.old) }
+{
+    open_archive(conn)?;
+    let these = stop_known(conn, alloc, meant)?;
+    print_stopped(alloc, these.as_slice(), output)?;
+    Ok(0)
+}
+
+/// `bac keep --stop`: opens the archive, stops the logs that the words name, and closes it.
+pub(crate) fn stop<F: Start, O: Write>(
+    files: &mut DiskFiles<'_, F>,
+    alloc: Global,
+    asked: &Keep,
+    output: &mut O,
+) -> Result<u8, NotDone>
+    ensures stopped { IfOk result (StopsIn ⟦<FileFrom<F> as Disk>⟧ (image_at F.Start) asked.now
+        (O.contents output.old) (O.contents output.new) files.new.closed) }
+    ensures named { OnOk result (IsNamed asked.now.file false files.new) }
+    ensures fault { IfErr result (MayFail (IsNamed asked.now.file false files.new)) }
+    ensures stays { IsUnused files.old → IfSome files.new.closed (IsDoneTo ⟦<FileFrom<F> as Disk>⟧ (image_at F.Start) LosesNothing) }
+{
+    let options = options_of(&asked.options);
+    let meant = match choose(alloc, asked, &options) {
+        Ok(meant) => meant,
+        Err(refused) => return Err(NotDone::Asking(of_words(refused))),
+    };
+    let mut conn = open_file(files, asked.file.as_str(), false)?;
+    let done = stop_in(&mut conn, alloc, &meant, output);
+    close_file(files, conn, done)
+}
