@@ -104,6 +104,7 @@ fn another_device_is_printed(rt: HostRuntime) -> Result<(), Fail> {
             why: Why::CaughtUp,
             next: 11,
             flaw: None,
+            said_more: false,
         }))
     );
     let want = [

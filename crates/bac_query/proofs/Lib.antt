@@ -1,7 +1,9 @@
 pub mod Lines
 pub mod Delivered
 pub mod CameOver
+pub mod JoinedBy
 pub mod Maps
+pub mod SaidMore
 pub mod Pending
 pub mod RunsAhead
 pub mod Requests

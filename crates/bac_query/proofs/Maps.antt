@@ -81,21 +81,18 @@ ends_maps f asks other maps t last steps came here mid (ended.Fault e) after new
 
 -- what a run brought
 pub brought_maps : {S T : Type 0} (f : S → T) (asks : Asking S) (other : Asking T) → Maps f asks other →
-    (t last : Transactions) (old : S) (before : WalkPlace) (steps : ℕ) (items : List Item) (why : Ended) (after : WalkPlace) (new : S) →
-    (came : List Came) × BroughtBy asks t old before steps came items why after last new →
-    (came : List Came) × BroughtBy other t (f old) before steps came items why after last (f new)
-brought_maps f asks other maps t last old before steps items why after new (came, run) = (
-  came,
-  record {
-    here = run.here;
-    mid = f run.mid;
-    half = run.half;
-    comes = comes_maps f asks other maps came t run.half old _ run.here run.mid run.comes;
-    ends = ends_maps f asks other maps run.half last steps came run.here run.mid why after new run.ends;
-    are = run.are;
-    few = run.few;
-  },
-)
+    (t last : Transactions) (old : S) (before : WalkPlace) (steps : ℕ) (came : List Came) (items : List Item) (why : Ended) (after : WalkPlace) (new : S) →
+    BroughtBy asks t old before steps came items why after last new → BroughtBy other t (f old) before steps came items why after last (f new)
+brought_maps f asks other maps t last old before steps came items why after new run =
+    record {
+      here = run.here;
+      mid = f run.mid;
+      half = run.half;
+      comes = comes_maps f asks other maps came t run.half old _ run.here run.mid run.comes;
+      ends = ends_maps f asks other maps run.half last steps came run.here run.mid why after new run.ends;
+      are = run.are;
+      few = run.few;
+    }
 
 asked_maps : {S T : Type 0} (f : S → T) (asks : Asking S) (other : Asking T) → Maps f asks other →
     (path : Path) (retries : ℕ) (w : WalkPlace) (result : Result (List ℕ) ExchangeFault) (new : S) →

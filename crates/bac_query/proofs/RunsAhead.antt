@@ -24,14 +24,16 @@ use Rattle.bac_walk.specs.declared.outcome.Why.{Why}
 use Rattle.bac_walk.specs.declared.outcome.Why.TheVariants as why
 use Rattle.bac_walk.proofs.Came.{brought_delivers}
 use Rattle.bac_walk.proofs.Transacted.{brought_plain, transacted_bounded}
-use Rattle.bac_walk.proofs.TransactedRuns.{brought_early, brought_joins, no_brought}
 use Rattle.bac_walk.proofs.Runs.{join_runs, no_run, run_early}
 use Rattle.bac_walk.proofs.Keeps.{put_length}
 use Rattle.bac_walk.proofs.Told.{Asking}
+use Rattle.bac_query.proofs.JoinedBy.{early_by, joins_by, none_by}
 use Rattle.bac_query.proofs.Maps.{Maps, brought_keeps, brought_maps, told_maps}
+use Rattle.bac_query.proofs.SaidMore.{more_append, step_more, tells_alike}
 use Rattle.bac_query.proofs.Pending.{prints_goes, prints_itself}
 use Rattle.bac_query.specs.Ahead.{FetchesAhead, IsLeftAhead, IsRunOver, Pending, PrintsLast, PrintsLeft, PrintsOn, PrintsRun, never}
 use Rattle.bac_query.specs.Fetching.{EndsAs, Fetching, PrintsEnd, PrintsItems, TellsRun}
+use Rattle.bac_query.specs.More.{TellsMore, more_after, more_last}
 use Rattle.bac_query.specs.Reading.{Held}
 use Rattle.bac_query.specs.declared.fault.QueryFault.{QueryFault}
 use Rattle.bac_query.specs.declared.fault.QueryFault.TheVariants.{Exchange, Write, Memory}
@@ -40,23 +42,27 @@ use Rattle.bac_query.proofs.Delivered.{behind_first, items_text-append, not_stop
 
 -- ---- runs
 
-pub none_over : {S : Type 0} (asks : Asking S) (t : Transactions) (link : S) (w : WalkPlace) → IsRunOver asks t link w 0 [] StepLimit w t link
-none_over asks t link w =
-    (no_brought asks t link w, ([], λ on. refl, no_run never t.retries 0 w, omega arith, λ e. omega arith), tt)
+pub none_over : {S : Type 0} (asks : Asking S) (t : Transactions) (link : S) (w : WalkPlace) (was : Bool) → IsRunOver asks t link w 0 [] StepLimit w t link was was
+none_over asks t link w was =
+    (([], none_by asks t link w, refl), ([], λ on. refl, no_run never t.retries 0 w, omega arith, λ e. omega arith), tt)
 
 pub limit_on : StepLimit ≢ Stopped
 limit_on e = cc
 
-pub over_joins : {S : Type 0} (asks : Asking S) (t u z : Transactions) (link half new : S) (w mid after : WalkPlace) (n k : ℕ) (xs ys : List Item) (ended : Ended) →
-    IsRunOver asks t link w n xs StepLimit mid u half → IsRunOver asks u half mid k ys ended after z new →
-    IsRunOver asks t link w (n + k) (xs ++ ys) ended after z new
-over_joins asks t u z link half new w mid after n k xs ys ended (brought, (us, same, run, few, many), told) (more, (vs, as_well, goes, less, enough), last) =
+pub over_joins : {S : Type 0} (asks : Asking S) (t u z : Transactions) (link half new : S) (w mid after : WalkPlace) (n k : ℕ) (xs ys : List Item) (ended : Ended) (was here said : Bool) →
+    IsRunOver asks t link w n xs StepLimit mid u half was here → IsRunOver asks u half mid k ys ended after z new here said →
+    IsRunOver asks t link w (n + k) (xs ++ ys) ended after z new was said
+over_joins asks t u z link half new w mid after n k xs ys ended was here said (brought, (us, same, run, few, many), told) (more, (vs, as_well, goes, less, enough), last) =
     let joined = length-append us vs in
     let leaves = transacted_bounded asks t u link half w mid n brought.0 xs StepLimit brought.1 in
     let R : ℕ → Type 0 = λ r. IsRun never never r 0 0 mid after k ended vs in
     let P : Path → Type 0 = λ q. Told asks q u.retries ended after new in
     let Q : ℕ → Type 0 = λ r. Told asks (towards t.route) r ended after new in (
-      brought_joins asks t u z link half new w mid after n k xs ys ended brought more,
+      (
+        brought.0 ++ more.0,
+        joins_by asks t u z link half new w mid after n k brought.0 more.0 xs ys ended brought.1 more.1,
+        more.2 ∙ ap (λ b. more_after b more.0) brought.2 ∙ sym (more_append was brought.0 more.0),
+      ),
       (
         us ++ vs,
         λ on. ap (λ l. l ++ vs) (same limit_on) ∙ ap (λ l. xs ++ l) (as_well on),
@@ -67,10 +73,10 @@ over_joins asks t u z link half new w mid after n k xs ys ended (brought, (us, s
       subst Q leaves.3 (subst P (ap towards leaves.2) last),
     )
 
-pub over_early : {S : Type 0} (asks : Asking S) (t z : Transactions) (link new : S) (w after : WalkPlace) (n steps : ℕ) (xs : List Item) (ended : Ended) → ended ≢ StepLimit → n ≤ steps →
-    IsRunOver asks t link w n xs ended after z new → IsRunOver asks t link w steps xs ended after z new
-over_early asks t z link new w after n steps xs ended other le (brought, (us, same, run, few, many), told) = (
-  brought_early asks t z link new w after n steps xs ended other le brought,
+pub over_early : {S : Type 0} (asks : Asking S) (t z : Transactions) (link new : S) (w after : WalkPlace) (n steps : ℕ) (xs : List Item) (ended : Ended) (was said : Bool) → ended ≢ StepLimit → n ≤ steps →
+    IsRunOver asks t link w n xs ended after z new was said → IsRunOver asks t link w steps xs ended after z new was said
+over_early asks t z link new w after n steps xs ended was said other le (brought, (us, same, run, few, many), told) = (
+  (brought.0, early_by asks t z link new w after n steps brought.0 xs ended other le brought.1, brought.2),
   (
     us,
     same,
@@ -106,12 +112,13 @@ Learns {S = S} asks t link walk steps result failures more last left old new =
     FetchesAhead asks t link walk steps result last left old new
     × PrintsRun asks (towards t.route) t.retries walk steps result failures more left old new
 
-learns_both : {S : Type 0} (asks : Asking S) (t u z : Transactions) (link mid left : S) (walk after : WalkPlace) (steps n : ℕ) (items : List Item) (ended : Ended) (result : Fetching) (failures more : ℕ) (old new : Held) →
-    n ≤ steps → (run : IsRunOver asks t link walk n items ended after u mid) → Told asks (towards t.route) t.retries ended after left →
+learns_both : {S : Type 0} (asks : Asking S) (t u z : Transactions) (link mid left : S) (walk after : WalkPlace) (steps n : ℕ) (items : List Item) (ended : Ended) (result : Fetching) (failures more : ℕ) (old new : Held) (said : Bool) →
+    n ≤ steps → (run : IsRunOver asks t link walk n items ended after u mid false said) → TellsMore said result → Told asks (towards t.route) t.retries ended after left →
     TellsRun (λ cause. IsLeftAhead asks u mid after z left cause) items steps n ended after result old new →
     TellsRun (λ cause. IsLeftAhead asks u mid after z left cause) run.1.0 steps n ended after result old new →
     Learns asks t link walk steps result failures more z left old new
-learns_both asks t u z link mid left walk after steps n items ended result failures more old new few (brought, (us, same, run, less, many), last) told tells covers =
+learns_both asks t u z link mid left walk after steps n items ended result failures more old new said few (brought, (us, same, run, less, many), last) says told tells covers =
+    let M : Bool → Type 0 = λ b. TellsMore b result in
     let here : Why → Type 0 = λ cause. IsLeftAhead asks u mid after z left cause in (
       (
         brought.0,
@@ -126,6 +133,7 @@ learns_both asks t u z link mid left walk after steps n items ended result failu
         λ H M low s said at some back window place.
             brought_delivers asks (towards t.route) t.retries link mid walk after n brought.0 items ended H M low s
             (brought_plain asks t u link mid walk after n brought.0 items ended brought.1) said at some back window place,
+        subst M brought.2 says,
       ),
       (
         us,
@@ -141,24 +149,24 @@ learns_both asks t u z link mid left walk after steps n items ended result failu
       ),
     )
 
-learns : {S : Type 0} (asks : Asking S) (t u z : Transactions) (link mid left : S) (walk after : WalkPlace) (steps n : ℕ) (items : List Item) (ended : Ended) (result : Fetching) (failures more : ℕ) (old new : Held) →
-    n ≤ steps → ended ≢ Stopped → IsRunOver asks t link walk n items ended after u mid → Told asks (towards t.route) t.retries ended after left →
+learns : {S : Type 0} (asks : Asking S) (t u z : Transactions) (link mid left : S) (walk after : WalkPlace) (steps n : ℕ) (items : List Item) (ended : Ended) (result : Fetching) (failures more : ℕ) (old new : Held) (said : Bool) →
+    n ≤ steps → ended ≢ Stopped → IsRunOver asks t link walk n items ended after u mid false said → TellsMore said result → Told asks (towards t.route) t.retries ended after left →
     TellsRun (λ cause. IsLeftAhead asks u mid after z left cause) items steps n ended after result old new →
     Learns asks t link walk steps result failures more z left old new
-learns asks t u z link mid left walk after steps n items ended result failures more old new few on run told tells =
+learns asks t u z link mid left walk after steps n items ended result failures more old new said few on run says told tells =
     let P : List Item → Type 0 = λ l. TellsRun (λ cause. IsLeftAhead asks u mid after z left cause) l steps n ended after result old new in
-    learns_both asks t u z link mid left walk after steps n items ended result failures more old new few run told tells (subst P (sym (run.1.1 on)) tells)
+    learns_both asks t u z link mid left walk after steps n items ended result failures more old new said few run says told tells (subst P (sym (run.1.1 on)) tells)
 
 -- ---- how they end
 
 -- All lines were printed; what came after them wasn't, since there was no memory for it.
 pub without_lines : {S : Type 0} (asks : Asking S) (t u z : Transactions) (link mid new : S) (walk w after : WalkPlace) (steps n j : ℕ) (items more : List Item) (ended : Ended) (next : ℕ)
-    (result : Fetching) (failures over : ℕ) (old half out : Held) →
-    IsRunOver asks t link walk n items StepLimit w u mid → n < steps → next ≡ w.next → IsRunOver asks u mid w j more ended after z new → j ≤ 2 →
-    Appends old half (items_text items) → PrintsEnd why.Memory next result half out →
+    (result : Fetching) (failures over : ℕ) (old half out : Held) (was said any : Bool) →
+    IsRunOver asks t link walk n items StepLimit w u mid false was → n < steps → next ≡ w.next → IsRunOver asks u mid w j more ended after z new was said → j ≤ 2 →
+    Appends old half (items_text items) → PrintsEnd why.Memory next result half out → TellsMore any result →
     Learns asks t link walk steps result failures over z new old out
-without_lines asks t u z link mid new walk w after steps n j items more ended next result failures over old half out run few at last two printed end =
-    learns asks t u z link mid new walk w steps n items StepLimit result failures over old out (omega (arith, few)) limit_on run tt
+without_lines asks t u z link mid new walk w after steps n j items more ended next result failures over old half out was said any run few at last two printed end says =
+    learns asks t u z link mid new walk w steps n items StepLimit result failures over old out was (omega (arith, few)) limit_on run (tells_alike any was why.Memory next result half out (λ e. cc) end says) tt
     (tells_end (λ cause. IsLeftAhead asks u mid w z new cause) items steps n StepLimit w why.Memory next result old half out (few, refl) at
     (j, last.0.0, more, ended, after, two, last.0.1) printed end)
 
@@ -182,30 +190,30 @@ part_longer items more old new part =
 
 -- a write of lines was refused, and one step more came
 pub refused_lines : {S : Type 0} (asks : Asking S) (t u z : Transactions) (link mid new : S) (walk w after : WalkPlace) (steps n j : ℕ) (items last : List Item) (ended : Ended)
-    (result : Fetching) (failures over : ℕ) (old out : Held) →
-    IsRunOver asks t link walk n items StepLimit w u mid → IsRunOver asks u mid w j last ended after z new → n + j ≤ steps → result ≡ Err Write →
+    (result : Fetching) (failures over : ℕ) (old out : Held) (was said : Bool) →
+    IsRunOver asks t link walk n items StepLimit w u mid false was → IsRunOver asks u mid w j last ended after z new was said → n + j ≤ steps → result ≡ Err Write →
     AppendsPart old out (items_text items) → Learns asks t link walk steps result failures over z new old out
 unfolding over_joins
-refused_lines asks t u z link mid new walk w after steps n j items last ended result failures over old out first rest few is part =
+refused_lines asks t u z link mid new walk w after steps n j items last ended result failures over old out was said first rest few is part =
     let P : Fetching → Type 0 = λ r. Learns asks t link walk steps r failures over z new old out in
-    let all = over_joins asks t u z link mid new walk w after n j items last ended first rest in
+    let all = over_joins asks t u z link mid new walk w after n j items last ended false was said first rest in
     let Q : List Item → Type 0 = λ l. AppendsPart old out (items_text (l ++ rest.1.0)) in
-    subst P (sym is) (learns_both asks t z z link new new walk after steps (n + j) (items ++ last) ended (Err Write) failures over old out few all all.2
+    subst P (sym is) (learns_both asks t z z link new new walk after steps (n + j) (items ++ last) ended (Err Write) failures over old out said few all tt all.2
     (inl (few, (refl, refl), part_longer items last old out part)) (inl (few, (refl, refl), subst Q (sym (first.1.1 limit_on)) (part_longer items rest.1.0 old out part))))
 
 -- a step failed beside which lines were to be printed
 pub fails : {S : Type 0} (asks : Asking S) (t u v z : Transactions) (link mid half new : S) (walk w here after : WalkPlace) (steps n k : ℕ) (items left last : List Item) (ended : Ended) (told : ℕ) (fault : QueryFault)
-    (failures over : ℕ) (old now out : Held) →
-    IsRunOver asks t link walk n items StepLimit w u mid → IsRunOver asks u mid w k left StepLimit here v half → IsRunOver asks v half here 1 last ended after z new →
+    (failures over : ℕ) (old now out : Held) (was known said : Bool) →
+    IsRunOver asks t link walk n items StepLimit w u mid false was → IsRunOver asks u mid w k left StepLimit here v half was known → IsRunOver asks v half here 1 last ended after z new known said →
     n + k < steps → k ≤ 1 → told ≡ w.next → Appends old now (items_text items) → PrintsLeft {A = Ended} left (Err fault) now out →
     Learns asks t link walk steps (Err fault) failures over z new old out
-fails asks t u v z link mid half new walk w here after steps n k items left last ended told Write failures over old now out first second third few one at printed part =
-    refused_lines asks t v z link half new walk here after steps (n + k) 1 (items ++ left) last ended (Err Write) failures over old out
-    (over_joins asks t u v link mid half walk w here n k items left StepLimit first second) third (omega (arith, few)) refl (part_printed items left old now out printed part)
-fails asks t u v z link mid half new walk w here after steps n k items left last ended told Memory failures over old now out first second third few one at printed (some, kept) =
-    without_lines asks t u z link mid new walk w after steps n (k + 1) items (left ++ last) ended told (Err Memory) failures over old out out first (omega (arith, few)) at
-    (over_joins asks u v z mid half new w here after k 1 left last ended second third) (omega (arith, one)) (Appends-kept old now out (items_text items) printed kept) (Keeps-refl out)
-fails asks t u v z link mid half new walk w here after steps n k items left last ended told (Exchange fault) failures over old now out first second third few one at printed none = absurd none
+fails asks t u v z link mid half new walk w here after steps n k items left last ended told Write failures over old now out was known said first second third few one at printed part =
+    refused_lines asks t v z link half new walk here after steps (n + k) 1 (items ++ left) last ended (Err Write) failures over old out known said
+    (over_joins asks t u v link mid half walk w here n k items left StepLimit false was known first second) third (omega (arith, few)) refl (part_printed items left old now out printed part)
+fails asks t u v z link mid half new walk w here after steps n k items left last ended told Memory failures over old now out was known said first second third few one at printed (some, kept) =
+    without_lines asks t u z link mid new walk w after steps n (k + 1) items (left ++ last) ended told (Err Memory) failures over old out out was said said first (omega (arith, few)) at
+    (over_joins asks u v z mid half new w here after k 1 left last ended was known said second third) (omega (arith, one)) (Appends-kept old now out (items_text items) printed kept) (Keeps-refl out) tt
+fails asks t u v z link mid half new walk w here after steps n k items left last ended told (Exchange fault) failures over old now out was known said first second third few one at printed none = absurd none
 
 -- a run that isn't stopped left the link as it is
 pub whole_ahead : {S : Type 0} (asks : Asking S) (u : Transactions) (mid : S) (here : WalkPlace) (ended : Ended) (cause : Why) → is_stopped ended ≡ false → why_of ended ≡ Some cause →
@@ -220,22 +228,22 @@ whole_ahead asks u mid here (Fault e) why.Memory on is = absurd (cc)
 
 -- the lines of the last step are printed, and the end line, as far as there is memory and no write is refused
 pub finishes : {S : Type 0} (asks : Asking S) (t u z : Transactions) (link mid new : S) (walk w after : WalkPlace) (steps n j whole : ℕ) (items last : List Item) (ended : Ended) (cause : Why) (next told : ℕ)
-    (result : Fetching) (failures over : ℕ) (old half out : Held) →
-    IsRunOver asks t link walk n items StepLimit w u mid → IsRunOver asks u mid w j last ended after z new → ended ≢ Stopped →
-    IsRunOver asks t link walk whole (items ++ last) ended after z new → whole ≤ steps → IsRunOf cause steps whole ended → IsLeftAhead asks z new after z new cause →
+    (result : Fetching) (failures over : ℕ) (old half out : Held) (was said : Bool) →
+    IsRunOver asks t link walk n items StepLimit w u mid false was → IsRunOver asks u mid w j last ended after z new was said → ended ≢ Stopped →
+    IsRunOver asks t link walk whole (items ++ last) ended after z new false said → TellsMore said result → whole ≤ steps → IsRunOf cause steps whole ended → IsLeftAhead asks z new after z new cause →
     n + j ≤ steps → j ≤ 1 → next ≡ after.next → told ≡ w.next → Appends old half (items_text items) → PrintsLast last cause next told result half out →
     Learns asks t link walk steps result failures over z new old out
-finishes asks t u z link mid new walk w after steps n j whole items last ended cause next told result failures over old half out first rest on all few ends left sum one at before printed (inl (now, more, end)) =
-    learns asks t z z link new new walk after steps whole (items ++ last) ended result failures over old out few on all all.2
+finishes asks t u z link mid new walk w after steps n j whole items last ended cause next told result failures over old half out was said first rest on all says few ends left sum one at before printed (inl (now, more, end)) =
+    learns asks t z z link new new walk after steps whole (items ++ last) ended result failures over old out said few on all says all.2
     (tells_end (λ c. IsLeftAhead asks z new after z new c) (items ++ last) steps whole ended after cause next result old now out ends at left
     (more_printed items last old half now printed more) end)
-finishes asks t u z link mid new walk w after steps n j whole items last ended cause next told result failures over old half out first rest on all few ends left sum one at before printed (inr (inl (now, some, kept, end))) =
+finishes asks t u z link mid new walk w after steps n j whole items last ended cause next told result failures over old half out was said first rest on all says few ends left sum one at before printed (inr (inl (now, some, kept, end))) =
     let same = ap length (rest.1.1 on) in
-    without_lines asks t u z link mid new walk w after steps n j items last ended told result failures over old now out first (omega (arith, some, same, rest.1.3, sum)) before rest (omega (arith, one))
-    (Appends-kept old half now (items_text items) printed kept) end
-finishes asks t u z link mid new walk w after steps n j whole items last ended cause next told result failures over old half out first rest on all few ends left sum one at before printed (inr (inr (is, part))) =
+    without_lines asks t u z link mid new walk w after steps n j items last ended told result failures over old now out was said said first (omega (arith, some, same, rest.1.3, sum)) before rest (omega (arith, one))
+    (Appends-kept old half now (items_text items) printed kept) end says
+finishes asks t u z link mid new walk w after steps n j whole items last ended cause next told result failures over old half out was said first rest on all says few ends left sum one at before printed (inr (inr (is, part))) =
     let P : Fetching → Type 0 = λ r. Learns asks t link walk steps r failures over z new old out in
-    subst P (sym is) (learns asks t z z link new new walk after steps whole (items ++ last) ended (Err Write) failures over old out few on all all.2
+    subst P (sym is) (learns asks t z z link new new walk after steps whole (items ++ last) ended (Err Write) failures over old out said few on all tt all.2
     (inl (few, (refl, refl), part_printed items last old half out printed part)))
 
 -- ---- one step
@@ -262,16 +270,21 @@ filled_whole items old calls new ended none taken on =
     all_filled items old calls new (subst P (not_stopped ended on) taken) ∙ ap (λ l. l ++ put_items calls) none
 
 -- what a step into such a sink brought, seen over the link below
-pub over_step : {S T K : Type 0} (f : S → T) (asks : Asking S) (other : Asking T) → Maps f asks other → (items : K → List Item) (t z : Transactions) (failures more : ℕ)
-    (old new : S) (sink left : K) (w after : WalkPlace) (ended : Ended) → items sink ≡ [] →
+pub over_step : {S T K : Type 0} (f : S → T) (asks : Asking S) (other : Asking T) → Maps f asks other → (items : K → List Item) (last : S → Option (List ℕ)) →
+    ((a b : S) (octets datagram : List ℕ) → asks a octets (Ok datagram) b → last b ≡ Some datagram) → (t z : Transactions) (failures more : ℕ)
+    (old new : S) (sink left : K) (w after : WalkPlace) (ended : Ended) (was said : Bool) → said ≡ more_last was ended (last new) → items sink ≡ [] →
     BroughtIntoBy asks t (λ s gap item taken t. Fills items s gap item taken t) old sink w 1 ended after left z new →
     Delivery (λ s gap item taken t. Fills items s gap item taken t) sink left never never t.retries failures more w after 1 ended → Told asks (towards t.route) t.retries ended after new →
-    (brought : List Item) × (ended ≢ Stopped → items left ≡ brought) × IsRunOver other t (f old) w 1 brought ended after z (f new)
-over_step f asks other maps items t z failures more old new sink left w after ended none (calls, taken, few, gap, brought) (again, as_well, less, gaps, run, enough) told = (
+    (brought : List Item) × (ended ≢ Stopped → items left ≡ brought) × IsRunOver other t (f old) w 1 brought ended after z (f new) was said
+over_step f asks other maps items last keeps t z failures more old new sink left w after ended was said says none (calls, taken, few, gap, brought) (again, as_well, less, gaps, run, enough) told = (
   put_items calls,
   filled_whole items sink calls left ended none taken,
   (
-    brought_maps f asks other maps t z old w 1 (put_items calls) ended after new brought,
+    (
+      brought.0,
+      brought_maps f asks other maps t z old w 1 brought.0 (put_items calls) ended after new brought.1,
+      says ∙ step_more asks last keeps was t z old new w after brought.0 (put_items calls) ended brought.1,
+    ),
     (
       put_items again,
       λ on. sym (filled_whole items sink again left ended none as_well on) ∙ filled_whole items sink calls left ended none taken on,

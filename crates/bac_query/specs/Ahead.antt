@@ -21,6 +21,7 @@ use Rattle.bac_walk.specs.declared.outcome.Ended.TheVariants.{StepLimit, Stopped
 use Rattle.bac_walk.specs.declared.outcome.Why.{Why}
 use Rattle.bac_walk.specs.declared.outcome.Why.TheVariants as why
 use Rattle.bac_query.specs.Fetching.{EndsAs, Fetching, IsFetched, IsHeadline, PrintsEnd, PrintsItems, TellsRun}
+use Rattle.bac_query.specs.More.{TellsMore, more_after, said_more}
 use Rattle.bac_query.specs.Reading.{Held}
 use Rattle.bac_query.specs.declared.fault.QueryFault.{QueryFault}
 use Rattle.bac_query.specs.declared.fault.QueryFault.TheVariants.{Exchange, Write, Memory}
@@ -72,12 +73,14 @@ PrintsLeft left (Err (Exchange fault)) old new = ⊥
 abbrev pub never : ℕ → List Moment → History → Type 0
 never r M H = ⊥
 
--- A run of at most so many steps: what it brought, by which transactions; and that its items, all of them if it wasn't
--- stopped, cover all between the places, and how many they are; and what it was told last.
+-- A run of at most so many steps: what it brought, by which transactions, and whether the last reply with records said
+-- that more is there, before it and now; and that its items, all of them if it wasn't stopped, cover all between the
+-- places, and how many they are; and what it was told last.
 abbrev pub IsRunOver : {S : Type 0} → (S → List ℕ → Result (List ℕ) Lost → S → Type 0) →
-    Transactions → S → WalkPlace → ℕ → List Item → Ended → WalkPlace → Transactions → S → Type 0
-IsRunOver {S = S} asks first old before n items ended after last new =
-    ((came : List Came) × BroughtBy asks first old before n came items ended after last new)
+    Transactions → S → WalkPlace → ℕ → List Item → Ended → WalkPlace → Transactions → S → Bool → Bool → Type 0
+IsRunOver {S = S} asks first old before n items ended after last new was said =
+    ((came : List Came) × BroughtBy asks first old before n came items ended after last new
+    × (said ≡ more_after was came))
     × ((covered : List Item) × (ended ≢ Stopped → covered ≡ items)
     × IsRun never never first.retries 0 0 before after n ended covered
     × (length covered ≤ 101 * n) × (ended ≡ StepLimit → n ≤ length covered))
@@ -106,14 +109,15 @@ IsLeftAhead asks half mid here last new why.Memory =
 -- Fetching from a place on, over any link, each question asked before the lines of the reply before it are printed:
 -- replies came, one after the other, from this link on, each to the next of these transactions; what is printed are the
 -- lines of the items that they brought, and the end of their run; and if they say what one log holds, those are the
--- headline's.
+-- headline's; and it is told whether the last of them with records said that more is there, and yet the walk is caught
+-- up.
 abbrev pub FetchesAhead : {S : Type 0} → (S → List ℕ → Result (List ℕ) Lost → S → Type 0) →
     Transactions → S → WalkPlace → ℕ → Fetching → Transactions → S → Held → Held → Type 0
 FetchesAhead {S = S} asks first link walk steps result last left old new =
     (came : List Came) × (items : List Item) × (n : ℕ) × (ended : Ended) × (after : WalkPlace)
     × (half : Transactions) × (mid : S) × BroughtBy asks first link walk n came items ended after half mid
     × TellsRun (λ cause. IsLeftAhead asks half mid after last left cause) items steps n ended after result old new
-    × IsHeadline walk came items ended after
+    × IsHeadline walk came items ended after × TellsMore (said_more came) result
 
 -- The items are those of a run of this walk, at most so many steps, over a link that nobody claims to be ours; the
 -- last exchange over the link told why it ended.

@@ -38,7 +38,13 @@ flaw_if_bad cause flaw = None
 
 -- the same end with it
 abbrev pub with_flaw : Fetched → Option ReplyFlaw → Fetched
-with_flaw fetched flaw = record { why = fetched.why; next = fetched.next; flaw = flaw_if_bad fetched.why flaw }
+with_flaw fetched flaw =
+    record {
+      why = fetched.why;
+      next = fetched.next;
+      flaw = flaw_if_bad fetched.why flaw;
+      said_more = fetched.said_more;
+    }
 
 -- what is told of the reply that a walk ended with: nothing, but of a bad one what is wrong with it
 abbrev pub TellsFlawOf : {S : Type 0} → (S → List ℕ → Result (List ℕ) Lost → S → Type 0) →

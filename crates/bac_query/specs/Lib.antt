@@ -1,6 +1,7 @@
 pub mod Values
 pub mod Reading
 pub mod Fetching
+pub mod More
 pub mod Writing
 pub mod Ahead
 pub mod Announcements

@@ -7,10 +7,12 @@ ghost use Rattle.std.proofs.Common.{◌∙◌};
 ghost use Rattle.bac_walk.specs.Walks.{gap_items, item_of};
 ghost use Rattle.bac_query.specs.Ahead.{pending, port_asks, PrintsLeft, PrintsLast, PrintsOn};
 ghost use Rattle.bac_query.specs.Fetching.{PrintsEnd};
+ghost use Rattle.bac_query.specs.More.{TellsMore};
 
 use crate::fault::QueryFault;
 use crate::fetching::{Fetched, end};
 use crate::items::push_items;
+use crate::more::if_caught_up;
 use crate::reading::print;
 use crate::record_lines::Lines;
 use bac_link::{Item, LogLink, Lost};
@@ -35,6 +37,8 @@ pub(crate) struct Ahead<'a, P, W> {
     pub(crate) last: Option<Datagram>,
     /// What is wrong with it, if it is a bad reply.
     pub(crate) flaw: Option<ReplyFlaw>,
+    /// The last reply that brought records said that more is there.
+    pub(crate) said_more: bool,
 }
 
 impl<'a, P: Port, W: Write> Ahead<'a, P, W> {
@@ -51,6 +55,7 @@ impl<'a, P: Port, W: Write> Ahead<'a, P, W> {
         ensures out { result.out.now ≡ out.old }
         ensures left { result.left.now ≡ left.old }
         ensures refused { result.is_refused ≡ false }
+        ensures said_more { result.said_more ≡ false }
     {
         Ahead {
             link,
@@ -60,6 +65,7 @@ impl<'a, P: Port, W: Write> Ahead<'a, P, W> {
             is_refused: false,
             last: None,
             flaw: None,
+            said_more: false,
         }
     }
 
@@ -76,6 +82,7 @@ impl<'a, P: Port, W: Write> Ahead<'a, P, W> {
         ensures well { OnOk result (self.new.is_refused ≡ false) }
         ensures link { self.new.link.now ≡ self.old.link.now }
         ensures flaw { self.new.flaw ≡ self.old.flaw }
+        ensures said_more { self.new.said_more ≡ self.old.said_more }
         ensures same_link { self.new.link.ghost_name ≡ self.old.link.ghost_name }
         ensures same_out { self.new.out.ghost_name ≡ self.old.out.ghost_name }
     {
@@ -104,12 +111,14 @@ impl<'a, P: Port, W: Write> Ahead<'a, P, W> {
     /// Prints the line of a walk's end.
     pub(crate) fn end(&mut self, why: Why, next: u32) -> Result<Fetched, QueryFault>
         ensures prints { PrintsEnd why next result (W.contents self.old.out.now) (W.contents self.new.out.now) }
+        ensures more { TellsMore self.old.said_more result }
         ensures link { self.new.link.now ≡ self.old.link.now }
         ensures flaw { self.new.flaw ≡ self.old.flaw }
         ensures same_link { self.new.link.ghost_name ≡ self.old.link.ghost_name }
         ensures same_out { self.new.out.ghost_name ≡ self.old.out.ghost_name }
     {
-        end(&mut *self.lines, why, next, &mut *self.out)
+        let said_more = if_caught_up(why, self.said_more);
+        end(&mut *self.lines, why, next, said_more, &mut *self.out)
     }
 
     /// Prints what is left, and then the line of the end. If there is no memory for what is left,
@@ -117,6 +126,7 @@ impl<'a, P: Port, W: Write> Ahead<'a, P, W> {
     pub(crate) fn finish(&mut self, why: Why, next: u32, told: u32) -> Result<Fetched, QueryFault>
         requires { self.old.is_refused ≡ false }
         ensures prints { PrintsLast self.old.left.now.items why next told result (W.contents self.old.out.now) (W.contents self.new.out.now) }
+        ensures more { TellsMore self.old.said_more result }
         ensures link { self.new.link.now ≡ self.old.link.now }
         ensures flaw { self.new.flaw ≡ self.old.flaw }
         ensures same_link { self.new.link.ghost_name ≡ self.old.link.ghost_name }

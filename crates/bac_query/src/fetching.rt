@@ -1,6 +1,6 @@
 //! Fetching the records of a trend log, and what is printed of them.
 
-ghost use Rattle.std.specs.Prelude.{◌≡◌, ◌≢◌, ◌≤◌, ℕ, List, length, None, IfOk};
+ghost use Rattle.std.specs.Prelude.{◌≡◌, ◌≢◌, ◌≤◌, ℕ, false, List, length, None, IfOk};
 ghost use Rattle.std.specs.Io.KnownBytes.{Appends};
 ghost use Rattle.bac_link.specs.declared.item.Item.{Item};
 ghost use Rattle.bac_query.specs.Ends.{end_line};
@@ -33,6 +33,9 @@ pub struct Fetched {
     /// What is wrong with a bad reply: [`fetch_log_ahead`](crate::fetch_log_ahead) tells it, and
     /// [`fetch_log`] doesn't see replies.
     pub flaw: Option<ReplyFlaw>,
+    /// The walk is caught up, and yet the last reply that brought records said that more is there:
+    /// [`fetch_log_ahead`](crate::fetch_log_ahead) tells it, as above.
+    pub said_more: bool,
 }
 
 /// Walks a log for at most so many steps, and prints a line for each record and each gap, those of
@@ -62,6 +65,7 @@ pub fn fetch_log<L: LogLink, W: Write>(
     ensures transacted { FetchesBy L.asks transactions.old link.old walk steps result transactions.new link.new
         (W.contents out.old) (W.contents out.new) }
     ensures flaw { IfOk result (λ fetched. fetched.flaw ≡ None) }
+    ensures said_more { IfOk result (λ fetched. fetched.said_more ≡ false) }
 {
     let mut lines = Lines {
         text: Vec::new(alloc),
@@ -69,15 +73,15 @@ pub fn fetch_log<L: LogLink, W: Write>(
     for done in 0..steps {
         let before = walk.next_number();
         let ended = match deliver_lines(link, transactions, &mut walk, &mut lines) {
-            Ended::Stopped => return end(&mut lines, Why::Memory, before, out),
+            Ended::Stopped => return end(&mut lines, Why::Memory, before, false, out),
             ended => ended,
         };
         print(&lines.text, out)?;
         if let Some(why) = ended.why() {
-            return end(&mut lines, why, walk.next_number(), out);
+            return end(&mut lines, why, walk.next_number(), false, out);
         }
     }
-    end(&mut lines, Why::StepLimit, walk.next_number(), out)
+    end(&mut lines, Why::StepLimit, walk.next_number(), false, out)
 }
 
 /// One step of a walk, and the lines of what it brought.
@@ -109,10 +113,12 @@ pub(crate) fn end<W: Write>(
     lines: &mut Lines,
     why: Why,
     next: u32,
+    said_more: bool,
     out: &mut W,
 ) -> Result<Fetched, QueryFault>
     ensures prints { PrintsEnd why next result (W.contents out.old) (W.contents out.new) }
     ensures flaw { IfOk result (λ fetched. fetched.flaw ≡ None) }
+    ensures said_more { IfOk result (λ fetched. fetched.said_more ≡ said_more) }
 {
     lines.text.clear();
     if push_end(&mut lines.text, why, next).is_err() {
@@ -123,5 +129,6 @@ pub(crate) fn end<W: Write>(
         why,
         next,
         flaw: None,
+        said_more,
     })
 }

@@ -12,6 +12,7 @@ ghost use Rattle.bac_query.specs.Flaws.{IsBadlyFetched, IsFlawed, TellsFlaw, las
 use crate::ahead::{Ahead, Reply};
 use crate::fault::QueryFault;
 use crate::fetching::Fetched;
+use crate::more::more_last;
 use crate::record_lines::Lines;
 use bac_link::Transactions;
 use bac_ports::{Port, UdpLink};
@@ -23,7 +24,8 @@ use std::io::Write;
 /// What [`fetch_log`](crate::fetch_log) does, over a port: the lines of a reply are made and
 /// written once the next question is sent, while its answer is on its way. If a write is refused,
 /// the records of the reply after it have come too; if there is no memory for the lines of a reply,
-/// the next number is the one before it. Of a bad reply it tells what is wrong.
+/// the next number is the one before it. Of a bad reply it tells what is wrong, and of a walk that is
+/// caught up whether the last reply with records said that more is there.
 pub fn fetch_log_ahead<P: Port, W: Write>(
     alloc: Global,
     link: &mut UdpLink<P>,
@@ -64,6 +66,7 @@ fn fetch_told<P: Port, W: Write>(
 ) -> Result<Fetched, QueryFault>
     requires well { ahead.old.is_refused ≡ false }
     requires none { ahead.old.left.now.items ≡ [] }
+    requires unsaid { ahead.old.said_more ≡ false }
     ensures printed { PrintsRun (port_asks P.sends P.receives) (towards transactions.old.route) transactions.old.retries
         walk steps result ahead.old.link.now.failures ahead.new.link.now.failures ahead.new.link.now
         (W.contents ahead.old.out.now) (W.contents ahead.new.out.now) }
@@ -92,6 +95,7 @@ fn with_flaw(fetched: Fetched, flaw: Option<ReplyFlaw>) -> Fetched
         why: fetched.why,
         next: fetched.next,
         flaw,
+        said_more: fetched.said_more,
     }
 }
 
@@ -104,6 +108,7 @@ fn fetch<P: Port, W: Write>(
 ) -> Result<Fetched, QueryFault>
     requires well { ahead.old.is_refused ≡ false }
     requires none { ahead.old.left.now.items ≡ [] }
+    requires unsaid { ahead.old.said_more ≡ false }
     ensures printed { PrintsRun (port_asks P.sends P.receives) (towards transactions.old.route) transactions.old.retries
         walk steps result ahead.old.link.now.failures ahead.new.link.now.failures ahead.new.link.now
         (W.contents ahead.old.out.now) (W.contents ahead.new.out.now) }
@@ -150,7 +155,8 @@ fn turn<P: Port, W: Write>(
     requires { ahead.old.is_refused ≡ false }
     ensures ran { (ended : EndedOf) × (items : List ItemOf) × IfOk result (λ is. (is ≡ ended) × (ended ≢ Ended.Stopped → ahead.new.left.now.items ≡ items))
         × IsRunOver (port_asks P.sends P.receives) transactions.old
-        ahead.old.link.now walk.old 1 items ended walk.new transactions.new ahead.new.link.now }
+        ahead.old.link.now walk.old 1 items ended walk.new transactions.new ahead.new.link.now
+        ahead.old.said_more ahead.new.said_more }
     ensures prints { PrintsLeft ahead.old.left.now.items result (W.contents ahead.old.out.now) (W.contents ahead.new.out.now) }
     ensures well { OnOk result (ahead.new.is_refused ≡ false) }
     ensures begun { transactions.new.begun ≤ transactions.old.begun + 2 }
@@ -181,7 +187,8 @@ fn step<P: Port, W: Write>(
 ) -> Ended
     ensures ran { (items : List ItemOf) × (result ≢ Ended.Stopped → reply.new.items.items ≡ items)
         × IsRunOver (port_asks P.sends P.receives) transactions.old
-        ahead.old.link.now walk.old 1 items result walk.new transactions.new ahead.new.link.now }
+        ahead.old.link.now walk.old 1 items result walk.new transactions.new ahead.new.link.now
+        ahead.old.said_more ahead.new.said_more }
     ensures beside { PrintsOn (pending ahead.old.is_refused ahead.old.left.now.items (W.contents ahead.old.out.now))
         (pending ahead.new.is_refused ahead.new.left.now.items (W.contents ahead.new.out.now))
         × (ahead.new.link.ghost_name ≡ ahead.old.link.ghost_name) × (ahead.new.out.ghost_name ≡ ahead.old.out.ghost_name) }
@@ -193,8 +200,10 @@ fn step<P: Port, W: Write>(
     ensures route { transactions.new.route ≡ transactions.old.route }
 {
     reply.items.clear();
+    let said_more = ahead.said_more;
     let ended = deliver(ahead, transactions, walk, 1, reply);
     ahead.flaw = last_flaw(ended, walk, &ahead.last);
+    ahead.said_more = more_last(said_more, ended, &ahead.last);
     ended
 }
 

@@ -21,6 +21,7 @@ mod find_fault;
 mod finding;
 mod items;
 mod line;
+mod more;
 mod reading;
 mod record_lines;
 mod request;

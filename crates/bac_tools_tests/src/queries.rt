@@ -190,7 +190,8 @@ fn records_are_printed_a_reply_at_a_time(rt: HostRuntime) -> Result<(), Fail> {
         Ok(Fetched {
             why: Why::CaughtUp,
             next: 7,
-            flaw: None
+            flaw: None,
+            said_more: false
         })
     );
     let want = [

@@ -1,4 +1,4 @@
-use Rattle.std.proofs.Common.{ℕ, ◌≡◌, ◌≢◌, ◌+◌, ◌++◌, List, [], Some, refl, sym, ap, subst, ◌∙◌, arith}
+use Rattle.std.proofs.Common.{Bool, false, ℕ, ◌≡◌, ◌≢◌, ◌+◌, ◌++◌, List, [], Some, refl, sym, ap, subst, ◌∙◌, arith}
 use Rattle.std.proofs.KnownBytes.{Appends-kept, Appends-nil}
 use Rattle.bac_link.specs.Path.{towards}
 use Rattle.bac_link.specs.declared.item.Item.{Item}
@@ -25,8 +25,9 @@ loop-done-init g c =
     let link = c.args.ahead.now.link.now in
     let failures = link.failures in
     let old = g.W.Write.contents c.args.ahead.now.out.now in
-    let none = none_over asks t link c.args.walk in
-    let P : List Item → Type 0 = λ l. IsRunOver asks t link c.args.walk 0 l StepLimit c.args.walk t link in
+    let none = none_over asks t link c.args.walk c.args.ahead.now.said_more in
+    let P : List Item → Type 0 = λ l. IsRunOver asks t link c.args.walk 0 l StepLimit c.args.walk t link c.args.ahead.now.said_more c.args.ahead.now.said_more in
+    let B : Bool → Type 0 = λ b. IsRunOver asks t link c.args.walk 0 [] StepLimit c.args.walk t link b c.args.ahead.now.said_more in
     record {
       well = c.requires.well;
       same_link = refl;
@@ -35,7 +36,7 @@ loop-done-init g c =
       route = refl;
       begun = omega arith;
       log = refl;
-      so_far = ([], 0, 0, t, link, c.args.walk, none, subst P (sym c.requires.none) none, omega arith, omega arith, c.next_number-told.ensures.next, Appends-nil old);
+      so_far = ([], 0, 0, t, link, c.args.walk, c.args.ahead.now.said_more, subst B c.requires.unsaid none, subst P (sym c.requires.none) none, omega arith, omega arith, c.next_number-told.ensures.next, Appends-nil old);
     }
 
 pub returns-in-Err-Memory-clause-printed : goal.returns-in-Err-Memory-clause-printed
@@ -45,7 +46,7 @@ returns-in-Err-Memory-clause-printed g c =
     let link = c.args.ahead.now.link.now in
     let failures = link.failures in
     let old = g.W.Write.contents c.args.ahead.now.out.now in
-    let (items, n, k, u, mid, w, first, last, sum, one, told, printed) = c.loop-done.invariant.so_far in
+    let (items, n, k, u, mid, w, was, first, last, sum, one, told, printed) = c.loop-done.invariant.so_far in
     let half = c.loop-done.ahead.link.now in
     let left = c.loop-done.ahead.left.now.items in
     let now = g.W.Write.contents c.loop-done.ahead.out.now in
@@ -54,12 +55,13 @@ returns-in-Err-Memory-clause-printed g c =
     let (ended, brought, is, ran) = c.turn.ensures.ran in
     let v = c.loop-done.transactions in
     let z = c.turn.new.transactions in
-    let whole = over_joins asks t u c.loop-done.transactions link mid half c.args.walk w c.loop-done.walk n k items left StepLimit first last in
+    let whole = over_joins asks t u c.loop-done.transactions link mid half c.args.walk w c.loop-done.walk n k items left StepLimit false was c.loop-done.ahead.said_more first last in
     let kept = rw (c.in-Err-Memory.is, c.in-Err-Memory.field-0-is) at c.turn.ensures.prints in
     let P : UdpLink g.row.P.Denot → Type 0 = λ x. Learns asks t link c.args.walk c.args.steps c.end.result failures x.failures z x old (g.W.Write.contents c.end.new.self.out.now) in
-    let rest = over_joins asks u v z mid half new w c.loop-done.walk c.turn.new.walk k 1 left brought ended last ran in
+    let rest = over_joins asks u v z mid half new w c.loop-done.walk c.turn.new.walk k 1 left brought ended was c.loop-done.ahead.said_more c.turn.new.ahead.said_more last ran in
     let both = without_lines asks t u z link mid new c.args.walk w c.turn.new.walk c.args.steps n (k + 1) items (left ++ brought) ended c.loop-done.told c.end.result failures new.failures
-    old out (g.W.Write.contents c.end.new.self.out.now) first (omega (arith, sum, c.loop-done-test.true)) told rest (omega (arith, one)) (Appends-kept old now out (items_text items) printed kept.1) c.end.ensures.prints in
+    old out (g.W.Write.contents c.end.new.self.out.now) was c.turn.new.ahead.said_more c.turn.new.ahead.said_more first (omega (arith, sum, c.loop-done-test.true)) told rest (omega (arith, one))
+    (Appends-kept old now out (items_text items) printed kept.1) c.end.ensures.prints c.end.ensures.more in
     let all = subst P (sym c.end.ensures.link) both in
     all.1
 
@@ -70,7 +72,7 @@ returns-in-Err-Memory-clause-came g c =
     let link = c.args.ahead.now.link.now in
     let failures = link.failures in
     let old = g.W.Write.contents c.args.ahead.now.out.now in
-    let (items, n, k, u, mid, w, first, last, sum, one, told, printed) = c.loop-done.invariant.so_far in
+    let (items, n, k, u, mid, w, was, first, last, sum, one, told, printed) = c.loop-done.invariant.so_far in
     let half = c.loop-done.ahead.link.now in
     let left = c.loop-done.ahead.left.now.items in
     let now = g.W.Write.contents c.loop-done.ahead.out.now in
@@ -79,12 +81,13 @@ returns-in-Err-Memory-clause-came g c =
     let (ended, brought, is, ran) = c.turn.ensures.ran in
     let v = c.loop-done.transactions in
     let z = c.turn.new.transactions in
-    let whole = over_joins asks t u c.loop-done.transactions link mid half c.args.walk w c.loop-done.walk n k items left StepLimit first last in
+    let whole = over_joins asks t u c.loop-done.transactions link mid half c.args.walk w c.loop-done.walk n k items left StepLimit false was c.loop-done.ahead.said_more first last in
     let kept = rw (c.in-Err-Memory.is, c.in-Err-Memory.field-0-is) at c.turn.ensures.prints in
     let P : UdpLink g.row.P.Denot → Type 0 = λ x. Learns asks t link c.args.walk c.args.steps c.end.result failures x.failures z x old (g.W.Write.contents c.end.new.self.out.now) in
-    let rest = over_joins asks u v z mid half new w c.loop-done.walk c.turn.new.walk k 1 left brought ended last ran in
+    let rest = over_joins asks u v z mid half new w c.loop-done.walk c.turn.new.walk k 1 left brought ended was c.loop-done.ahead.said_more c.turn.new.ahead.said_more last ran in
     let both = without_lines asks t u z link mid new c.args.walk w c.turn.new.walk c.args.steps n (k + 1) items (left ++ brought) ended c.loop-done.told c.end.result failures new.failures
-    old out (g.W.Write.contents c.end.new.self.out.now) first (omega (arith, sum, c.loop-done-test.true)) told rest (omega (arith, one)) (Appends-kept old now out (items_text items) printed kept.1) c.end.ensures.prints in
+    old out (g.W.Write.contents c.end.new.self.out.now) was c.turn.new.ahead.said_more c.turn.new.ahead.said_more first (omega (arith, sum, c.loop-done-test.true)) told rest (omega (arith, one))
+    (Appends-kept old now out (items_text items) printed kept.1) c.end.ensures.prints c.end.ensures.more in
     let all = subst P (sym c.end.ensures.link) both in
     all.0
 
@@ -95,7 +98,7 @@ returns-in-Err g c =
     let link = c.args.ahead.now.link.now in
     let failures = link.failures in
     let old = g.W.Write.contents c.args.ahead.now.out.now in
-    let (items, n, k, u, mid, w, first, last, sum, one, told, printed) = c.loop-done.invariant.so_far in
+    let (items, n, k, u, mid, w, was, first, last, sum, one, told, printed) = c.loop-done.invariant.so_far in
     let half = c.loop-done.ahead.link.now in
     let left = c.loop-done.ahead.left.now.items in
     let now = g.W.Write.contents c.loop-done.ahead.out.now in
@@ -104,9 +107,9 @@ returns-in-Err g c =
     let (ended, brought, is, ran) = c.turn.ensures.ran in
     let v = c.loop-done.transactions in
     let z = c.turn.new.transactions in
-    let whole = over_joins asks t u c.loop-done.transactions link mid half c.args.walk w c.loop-done.walk n k items left StepLimit first last in
+    let whole = over_joins asks t u c.loop-done.transactions link mid half c.args.walk w c.loop-done.walk n k items left StepLimit false was c.loop-done.ahead.said_more first last in
     let all = fails asks t u v z link mid half new c.args.walk w c.loop-done.walk c.turn.new.walk c.args.steps n k items left brought ended c.loop-done.told c.in-Err.fault failures new.failures
-    old now out first last ran (omega (arith, sum, c.loop-done-test.true)) one told printed (rw c.in-Err.is at c.turn.ensures.prints) in
+    old now out was c.loop-done.ahead.said_more c.turn.new.ahead.said_more first last ran (omega (arith, sum, c.loop-done-test.true)) one told printed (rw c.in-Err.is at c.turn.ensures.prints) in
     record { printed = all.1; came = all.0; begun = omega (arith, c.turn.ensures.begun, c.loop-done.invariant.begun, c.loop-done-test.true); flaw = tt; same_link = c.turn.ensures.same_link ∙ c.loop-done.invariant.same_link; same_out = c.turn.ensures.same_out ∙ c.loop-done.invariant.same_out }
 
 pub returns-in-Stopped-clause-printed : goal.returns-in-Stopped-clause-printed
@@ -116,7 +119,7 @@ returns-in-Stopped-clause-printed g c =
     let link = c.args.ahead.now.link.now in
     let failures = link.failures in
     let old = g.W.Write.contents c.args.ahead.now.out.now in
-    let (items, n, k, u, mid, w, first, last, sum, one, told, printed) = c.loop-done.invariant.so_far in
+    let (items, n, k, u, mid, w, was, first, last, sum, one, told, printed) = c.loop-done.invariant.so_far in
     let half = c.loop-done.ahead.link.now in
     let left = c.loop-done.ahead.left.now.items in
     let now = g.W.Write.contents c.loop-done.ahead.out.now in
@@ -125,13 +128,13 @@ returns-in-Stopped-clause-printed g c =
     let (ended, brought, is, ran) = c.turn.ensures.ran in
     let v = c.loop-done.transactions in
     let z = c.turn.new.transactions in
-    let whole = over_joins asks t u c.loop-done.transactions link mid half c.args.walk w c.loop-done.walk n k items left StepLimit first last in
+    let whole = over_joins asks t u c.loop-done.transactions link mid half c.args.walk w c.loop-done.walk n k items left StepLimit false was c.loop-done.ahead.said_more first last in
     let lines = more_printed items left old now out printed (rw c.in-Ok.is at c.turn.ensures.prints) in
     let ok = rw c.in-Ok.is at is in
     let P : UdpLink g.row.P.Denot → Type 0 = λ x. Learns asks t link c.args.walk c.args.steps c.end-in-Stopped.result failures x.failures z x old (g.W.Write.contents c.end-in-Stopped.new.self.out.now) in
     let both = without_lines asks t v z link half new c.args.walk c.loop-done.walk c.turn.new.walk c.args.steps (n + k) 1 (items ++ left) brought ended c.next_number-before.result
-    c.end-in-Stopped.result failures new.failures old out (g.W.Write.contents c.end-in-Stopped.new.self.out.now) whole (omega (arith, sum, c.loop-done-test.true)) c.next_number-before.ensures.next ran (omega arith)
-    lines c.end-in-Stopped.ensures.prints in
+    c.end-in-Stopped.result failures new.failures old out (g.W.Write.contents c.end-in-Stopped.new.self.out.now) c.loop-done.ahead.said_more c.turn.new.ahead.said_more c.turn.new.ahead.said_more whole (omega (arith, sum, c.loop-done-test.true)) c.next_number-before.ensures.next ran (omega arith)
+    lines c.end-in-Stopped.ensures.prints c.end-in-Stopped.ensures.more in
     let all = subst P (sym c.end-in-Stopped.ensures.link) both in
     all.1
 
@@ -142,7 +145,7 @@ returns-in-Stopped-clause-came g c =
     let link = c.args.ahead.now.link.now in
     let failures = link.failures in
     let old = g.W.Write.contents c.args.ahead.now.out.now in
-    let (items, n, k, u, mid, w, first, last, sum, one, told, printed) = c.loop-done.invariant.so_far in
+    let (items, n, k, u, mid, w, was, first, last, sum, one, told, printed) = c.loop-done.invariant.so_far in
     let half = c.loop-done.ahead.link.now in
     let left = c.loop-done.ahead.left.now.items in
     let now = g.W.Write.contents c.loop-done.ahead.out.now in
@@ -151,13 +154,13 @@ returns-in-Stopped-clause-came g c =
     let (ended, brought, is, ran) = c.turn.ensures.ran in
     let v = c.loop-done.transactions in
     let z = c.turn.new.transactions in
-    let whole = over_joins asks t u c.loop-done.transactions link mid half c.args.walk w c.loop-done.walk n k items left StepLimit first last in
+    let whole = over_joins asks t u c.loop-done.transactions link mid half c.args.walk w c.loop-done.walk n k items left StepLimit false was c.loop-done.ahead.said_more first last in
     let lines = more_printed items left old now out printed (rw c.in-Ok.is at c.turn.ensures.prints) in
     let ok = rw c.in-Ok.is at is in
     let P : UdpLink g.row.P.Denot → Type 0 = λ x. Learns asks t link c.args.walk c.args.steps c.end-in-Stopped.result failures x.failures z x old (g.W.Write.contents c.end-in-Stopped.new.self.out.now) in
     let both = without_lines asks t v z link half new c.args.walk c.loop-done.walk c.turn.new.walk c.args.steps (n + k) 1 (items ++ left) brought ended c.next_number-before.result
-    c.end-in-Stopped.result failures new.failures old out (g.W.Write.contents c.end-in-Stopped.new.self.out.now) whole (omega (arith, sum, c.loop-done-test.true)) c.next_number-before.ensures.next ran (omega arith)
-    lines c.end-in-Stopped.ensures.prints in
+    c.end-in-Stopped.result failures new.failures old out (g.W.Write.contents c.end-in-Stopped.new.self.out.now) c.loop-done.ahead.said_more c.turn.new.ahead.said_more c.turn.new.ahead.said_more whole (omega (arith, sum, c.loop-done-test.true)) c.next_number-before.ensures.next ran (omega arith)
+    lines c.end-in-Stopped.ensures.prints c.end-in-Stopped.ensures.more in
     let all = subst P (sym c.end-in-Stopped.ensures.link) both in
     all.0
 
@@ -168,7 +171,7 @@ returns-in-Some g c =
     let link = c.args.ahead.now.link.now in
     let failures = link.failures in
     let old = g.W.Write.contents c.args.ahead.now.out.now in
-    let (items, n, k, u, mid, w, first, last, sum, one, told, printed) = c.loop-done.invariant.so_far in
+    let (items, n, k, u, mid, w, was, first, last, sum, one, told, printed) = c.loop-done.invariant.so_far in
     let half = c.loop-done.ahead.link.now in
     let left = c.loop-done.ahead.left.now.items in
     let now = g.W.Write.contents c.loop-done.ahead.out.now in
@@ -177,7 +180,7 @@ returns-in-Some g c =
     let (ended, brought, is, ran) = c.turn.ensures.ran in
     let v = c.loop-done.transactions in
     let z = c.turn.new.transactions in
-    let whole = over_joins asks t u c.loop-done.transactions link mid half c.args.walk w c.loop-done.walk n k items left StepLimit first last in
+    let whole = over_joins asks t u c.loop-done.transactions link mid half c.args.walk w c.loop-done.walk n k items left StepLimit false was c.loop-done.ahead.said_more first last in
     let lines = more_printed items left old now out printed (rw c.in-Ok.is at c.turn.ensures.prints) in
     let ok = rw c.in-Ok.is at is in
     let on : ended ≢ Stopped = λ e. c.in_default.not-Stopped (ok.0 ∙ e) in
@@ -185,10 +188,10 @@ returns-in-Some g c =
     let end = g.W.Write.contents c.finish.new.self.out.now in
     let P : UdpLink g.row.P.Denot → Type 0 = λ x. Learns asks t link c.args.walk c.args.steps c.finish.result failures x.failures z x old (g.W.Write.contents c.finish.new.self.out.now) in
     let Q : List Item → Type 0 = λ l. PrintsLast l c.in-Some.why c.next_number.result c.next_number-before.result c.finish.result out end in
-    let more = over_joins asks t v z link half new c.args.walk c.loop-done.walk c.turn.new.walk (n + k) 1 (items ++ left) brought ended whole ran in
-    let early = over_early asks t z link new c.args.walk c.turn.new.walk (n + k + 1) c.args.steps ((items ++ left) ++ brought) ended (not_limit ended c.in-Some.why some) (omega (arith, sum, c.loop-done-test.true)) more in
+    let more = over_joins asks t v z link half new c.args.walk c.loop-done.walk c.turn.new.walk (n + k) 1 (items ++ left) brought ended false c.loop-done.ahead.said_more c.turn.new.ahead.said_more whole ran in
+    let early = over_early asks t z link new c.args.walk c.turn.new.walk (n + k + 1) c.args.steps ((items ++ left) ++ brought) ended false c.turn.new.ahead.said_more (not_limit ended c.in-Some.why some) (omega (arith, sum, c.loop-done-test.true)) more in
     let both = finishes asks t v z link half new c.args.walk c.loop-done.walk c.turn.new.walk c.args.steps (n + k) 1 c.args.steps (items ++ left) brought ended c.in-Some.why c.next_number.result
-    c.next_number-before.result c.finish.result failures new.failures old out end whole ran on early (omega arith) (ends_run ended c.in-Some.why c.args.steps (not_stopped ended on) some)
+    c.next_number-before.result c.finish.result failures new.failures old out end c.loop-done.ahead.said_more c.turn.new.ahead.said_more whole ran on early c.finish.ensures.more (omega arith) (ends_run ended c.in-Some.why c.args.steps (not_stopped ended on) some)
     (whole_ahead asks z new c.turn.new.walk ended c.in-Some.why (not_stopped ended on) some) (omega (arith, sum, c.loop-done-test.true)) (omega arith) c.next_number.ensures.next
     c.next_number-before.ensures.next lines (subst Q (ok.1 on) c.finish.ensures.prints) in
     let all = subst P (sym c.finish.ensures.link) both in
@@ -208,7 +211,7 @@ loop-done-preserved g c =
     let link = c.args.ahead.now.link.now in
     let failures = link.failures in
     let old = g.W.Write.contents c.args.ahead.now.out.now in
-    let (items, n, k, u, mid, w, first, last, sum, one, told, printed) = c.loop-done.invariant.so_far in
+    let (items, n, k, u, mid, w, was, first, last, sum, one, told, printed) = c.loop-done.invariant.so_far in
     let half = c.loop-done.ahead.link.now in
     let left = c.loop-done.ahead.left.now.items in
     let now = g.W.Write.contents c.loop-done.ahead.out.now in
@@ -217,13 +220,13 @@ loop-done-preserved g c =
     let (ended, brought, is, ran) = c.turn.ensures.ran in
     let v = c.loop-done.transactions in
     let z = c.turn.new.transactions in
-    let whole = over_joins asks t u c.loop-done.transactions link mid half c.args.walk w c.loop-done.walk n k items left StepLimit first last in
+    let whole = over_joins asks t u c.loop-done.transactions link mid half c.args.walk w c.loop-done.walk n k items left StepLimit false was c.loop-done.ahead.said_more first last in
     let lines = more_printed items left old now out printed (rw c.in-Ok.is at c.turn.ensures.prints) in
     let ok = rw c.in-Ok.is at is in
     let on : ended ≢ Stopped = λ e. c.in_default.not-Stopped (ok.0 ∙ e) in
     let limit : ended ≡ StepLimit = goes_on ended (sym (ap why_of ok.0) ∙ sym c.why-why.ensures ∙ c.in_default-why.is) in
-    let R : Ended → Type 0 = λ e. IsRunOver asks v half c.loop-done.walk 1 brought e c.turn.new.walk z new in
-    let Q : List Item → Type 0 = λ l. IsRunOver asks v half c.loop-done.walk 1 l StepLimit c.turn.new.walk z new in
+    let R : Ended → Type 0 = λ e. IsRunOver asks v half c.loop-done.walk 1 brought e c.turn.new.walk z new c.loop-done.ahead.said_more c.turn.new.ahead.said_more in
+    let Q : List Item → Type 0 = λ l. IsRunOver asks v half c.loop-done.walk 1 l StepLimit c.turn.new.walk z new c.loop-done.ahead.said_more c.turn.new.ahead.said_more in
     record {
       well = rw c.in-Ok.is at c.turn.ensures.well;
       same_link = c.turn.ensures.same_link ∙ c.loop-done.invariant.same_link;
@@ -239,6 +242,7 @@ loop-done-preserved g c =
         v,
         half,
         c.loop-done.walk,
+        c.loop-done.ahead.said_more,
         whole,
         subst Q (sym (ok.1 on)) (subst R limit ran),
         omega (arith, sum),
@@ -255,15 +259,15 @@ returns-clause-printed g c =
     let link = c.args.ahead.now.link.now in
     let failures = link.failures in
     let old = g.W.Write.contents c.args.ahead.now.out.now in
-    let (items, n, k, u, mid, w, first, last, sum, one, told, printed) = c.loop-done.invariant.so_far in
+    let (items, n, k, u, mid, w, was, first, last, sum, one, told, printed) = c.loop-done.invariant.so_far in
     let half = c.loop-done.ahead.link.now in
     let left = c.loop-done.ahead.left.now.items in
     let now = g.W.Write.contents c.loop-done.ahead.out.now in
-    let whole = over_joins asks t u c.loop-done.transactions link mid half c.args.walk w c.loop-done.walk n k items left StepLimit first last in
+    let whole = over_joins asks t u c.loop-done.transactions link mid half c.args.walk w c.loop-done.walk n k items left StepLimit false was c.loop-done.ahead.said_more first last in
     let end = g.W.Write.contents c.finish-2.new.self.out.now in
     let P : UdpLink g.row.P.Denot → Type 0 = λ x. Learns asks t link c.args.walk c.args.steps c.finish-2.result failures x.failures c.loop-done.transactions x old (g.W.Write.contents c.finish-2.new.self.out.now) in
     let both = finishes asks t u c.loop-done.transactions link mid half c.args.walk w c.loop-done.walk c.args.steps n k (n + k) items left StepLimit why.StepLimit c.next_number-2.result c.loop-done.told
-    c.finish-2.result failures half.failures old now end first last limit_on whole (omega (arith, sum)) (omega (arith, sum), refl) (refl, refl) (omega (arith, sum)) one c.next_number-2.ensures.next told printed c.finish-2.ensures.prints in
+    c.finish-2.result failures half.failures old now end was c.loop-done.ahead.said_more first last limit_on whole c.finish-2.ensures.more (omega (arith, sum)) (omega (arith, sum), refl) (refl, refl) (omega (arith, sum)) one c.next_number-2.ensures.next told printed c.finish-2.ensures.prints in
     let all = subst P (sym c.finish-2.ensures.link) both in
     all.1
 
@@ -274,15 +278,15 @@ returns-clause-came g c =
     let link = c.args.ahead.now.link.now in
     let failures = link.failures in
     let old = g.W.Write.contents c.args.ahead.now.out.now in
-    let (items, n, k, u, mid, w, first, last, sum, one, told, printed) = c.loop-done.invariant.so_far in
+    let (items, n, k, u, mid, w, was, first, last, sum, one, told, printed) = c.loop-done.invariant.so_far in
     let half = c.loop-done.ahead.link.now in
     let left = c.loop-done.ahead.left.now.items in
     let now = g.W.Write.contents c.loop-done.ahead.out.now in
-    let whole = over_joins asks t u c.loop-done.transactions link mid half c.args.walk w c.loop-done.walk n k items left StepLimit first last in
+    let whole = over_joins asks t u c.loop-done.transactions link mid half c.args.walk w c.loop-done.walk n k items left StepLimit false was c.loop-done.ahead.said_more first last in
     let end = g.W.Write.contents c.finish-2.new.self.out.now in
     let P : UdpLink g.row.P.Denot → Type 0 = λ x. Learns asks t link c.args.walk c.args.steps c.finish-2.result failures x.failures c.loop-done.transactions x old (g.W.Write.contents c.finish-2.new.self.out.now) in
     let both = finishes asks t u c.loop-done.transactions link mid half c.args.walk w c.loop-done.walk c.args.steps n k (n + k) items left StepLimit why.StepLimit c.next_number-2.result c.loop-done.told
-    c.finish-2.result failures half.failures old now end first last limit_on whole (omega (arith, sum)) (omega (arith, sum), refl) (refl, refl) (omega (arith, sum)) one c.next_number-2.ensures.next told printed c.finish-2.ensures.prints in
+    c.finish-2.result failures half.failures old now end was c.loop-done.ahead.said_more first last limit_on whole c.finish-2.ensures.more (omega (arith, sum)) (omega (arith, sum), refl) (refl, refl) (omega (arith, sum)) one c.next_number-2.ensures.next told printed c.finish-2.ensures.prints in
     let all = subst P (sym c.finish-2.ensures.link) both in
     all.0
 

@@ -1,4 +1,4 @@
-use Rattle.std.proofs.Common.{◌≡◌, ◌+◌, ◌*◌, ◌≤◌, ℕ, false, List}
+use Rattle.std.proofs.Common.{◌≡◌, ◌+◌, ◌*◌, ◌≤◌, ℕ, Bool, false, List}
 use Rattle.std.specs.Io.KnownBytes.{Appends}
 use Rattle.bac_link.specs.declared.item.Item.{Item}
 use Rattle.bac_link.specs.declared.transactions.Transactions.{Transactions}
@@ -18,9 +18,9 @@ invariant-loop-done g l = record {
   route : l.transactions.route ≡ l.fn.transactions.route;
   begun : l.transactions.begun ≤ l.fn.transactions.begun + 2 * l.done;
   log : l.walk.log ≡ l.fn.walk.log;
-  so_far : (items : List Item) × (n : ℕ) × (k : ℕ) × (half : Transactions) × (mid : _) × (w : WalkPlace)
-      × IsRunOver (port_asks g.P.Port.sends g.P.Port.receives) l.fn.transactions l.fn.ahead.link.now l.fn.walk n items StepLimit w half mid
-      × IsRunOver (port_asks g.P.Port.sends g.P.Port.receives) half mid w k l.ahead.left.now.items StepLimit l.walk l.transactions l.ahead.link.now
+  so_far : (items : List Item) × (n : ℕ) × (k : ℕ) × (half : Transactions) × (mid : _) × (w : WalkPlace) × (was : Bool)
+      × IsRunOver (port_asks g.P.Port.sends g.P.Port.receives) l.fn.transactions l.fn.ahead.link.now l.fn.walk n items StepLimit w half mid false was
+      × IsRunOver (port_asks g.P.Port.sends g.P.Port.receives) half mid w k l.ahead.left.now.items StepLimit l.walk l.transactions l.ahead.link.now was l.ahead.said_more
       × (n + k ≡ l.done) × (k ≤ 1) × (l.told ≡ w.next)
       × Appends (g.W.Write.contents l.fn.ahead.out.now) (g.W.Write.contents l.ahead.out.now) (items_text items);
 }

@@ -22,9 +22,9 @@ returns-clause-ran g c =
     × (new.link.ghost_name ≡ old.link.ghost_name) × (new.out.ghost_name ≡ old.out.ghost_name) × (new.last ≡ result_ok answer) in
     let sink : Reply = record { items = c.clear.new.self } in
     let below : Ahead g.row.P.Denot g.row.W.Denot → UdpLink g.row.P.Denot = λ a. a.link.now in
-    over_step below asks (port_asks g.P.Port.sends g.P.Port.receives) (λ a b octets answer h. h.0) items_of c.args.transactions.now c.deliver-ended.new.transactions
+    over_step below asks (port_asks g.P.Port.sends g.P.Port.receives) (λ a b octets answer h. h.0) items_of (λ a. a.last) (λ a b octets datagram h. h.4) c.args.transactions.now c.deliver-ended.new.transactions
     c.args.ahead.now.link.now.failures c.deliver-ended.new.link.link.now.failures c.args.ahead.now c.deliver-ended.new.link sink c.deliver-ended.new.sink c.args.walk.now c.deliver-ended.new.walk c.deliver-ended.result
-    c.clear.ensures.items c.deliver-ended.ensures.transacted c.deliver-ended.ensures.delivers c.deliver-ended.ensures.told
+    c.args.ahead.now.said_more c.more_last-ahead.result c.more_last-ahead.ensures c.clear.ensures.items c.deliver-ended.ensures.transacted c.deliver-ended.ensures.delivers c.deliver-ended.ensures.told
 
 pub returns-clause-beside : goal.returns-clause-beside
 returns-clause-beside g c =

@@ -5,7 +5,7 @@ use Rattle.bac_query.proofs.fetching_ahead.turn.Goals as goal
 pub returns-in-Ok-clause-ran : goal.returns-in-Ok-clause-ran
 returns-in-Ok-clause-ran g c =
     let (items, kept, run) = c.step-ended.ensures.ran in
-    (c.step-ended.result, items, (refl, λ on. ap (λ v. v.items) c.swap.ensures.x_after ∙ kept on), rw c.print_left.ensures.link run)
+    (c.step-ended.result, items, (refl, λ on. ap (λ v. v.items) c.swap.ensures.x_after ∙ kept on), rw (c.print_left.ensures.link, c.print_left.ensures.said_more) run)
 
 pub returns-in-Ok-clause-prints : goal.returns-in-Ok-clause-prints
 returns-in-Ok-clause-prints g c =
@@ -17,7 +17,7 @@ returns-in-Ok-clause-prints g c =
 pub returns-in-Err-clause-ran : goal.returns-in-Err-clause-ran
 returns-in-Err-clause-ran g c =
     let (items, kept, run) = c.step-ended.ensures.ran in
-    (c.step-ended.result, items, tt, rw c.print_left.ensures.link run)
+    (c.step-ended.result, items, tt, rw (c.print_left.ensures.link, c.print_left.ensures.said_more) run)
 
 pub returns-in-Err-clause-prints : goal.returns-in-Err-clause-prints
 returns-in-Err-clause-prints g c =
