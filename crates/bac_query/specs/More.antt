@@ -43,7 +43,7 @@ more_after was (c ∷ came) = more_after (more_with was c.datagram c.items) came
 abbrev pub said_more : List Came → Bool
 said_more came = more_after false came
 
--- what was said last after a step that ended so, by its last datagram; caught up, or with a fault, it brought no records
+-- what was said last after a step that ended so, by its last datagram; caught up or with a fault it brought no records
 abbrev pub more_last : Bool → Ended → Option (List ℕ) → Bool
 more_last was ended.CaughtUp last = was
 more_last was (ended.Fault fault) last = was

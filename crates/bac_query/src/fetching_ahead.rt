@@ -24,8 +24,8 @@ use std::io::Write;
 /// What [`fetch_log`](crate::fetch_log) does, over a port: the lines of a reply are made and
 /// written once the next question is sent, while its answer is on its way. If a write is refused,
 /// the records of the reply after it have come too; if there is no memory for the lines of a reply,
-/// the next number is the one before it. Of a bad reply it tells what is wrong, and of a walk that is
-/// caught up whether the last reply with records said that more is there.
+/// the next number is the one before it. Of a bad reply it tells what is wrong, and of a walk that
+/// is caught up whether the last reply with records said that more is there.
 pub fn fetch_log_ahead<P: Port, W: Write>(
     alloc: Global,
     link: &mut UdpLink<P>,

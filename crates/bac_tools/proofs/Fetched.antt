@@ -1,17 +1,26 @@
 -- What `fetch_log` says of the run that it fetched.
-use Rattle.std.proofs.Common.{ℕ, List, Ok, Err, inl, inr}
+use Rattle.std.proofs.Common.{◌≡◌, Bool, true, false, ℕ, List, Option, Ok, Err, IfErr, inl, inr, sym, subst}
 use Rattle.bac_link.specs.Delivery.{History, Moment}
-use Rattle.bac_link.specs.Path.{towards}
+use Rattle.bac_link.specs.Path.{Path, towards}
 use Rattle.bac_link.specs.declared.item.Item.{Item}
 use Rattle.bac_ports.specs.Sockets.{SocketRules, socket_asks}
 use Rattle.bac_ports.specs.declared.udp_link.UdpLink.{UdpLink}
 use Rattle.bac_print.specs.Output.{Held}
 use Rattle.bac_query.specs.Fetching.{EndsAs, Fetching, IsFetched, PrintsItems, TellsRun}
+use Rattle.bac_query.specs.Flaws.{TellsFlawOf}
+use Rattle.bac_query.specs.More.{if_caught_up}
 use Rattle.bac_query.specs.declared.fault.QueryFault.TheVariants.{Exchange, Write, Memory}
-use Rattle.bac_tools.specs.Asking.{FetchesRun}
+use Rattle.bac_tools.specs.Asking.{FetchesRun, SaysMore}
+use Rattle.bac_tools.specs.Ending.{Ending}
+use Rattle.bac_tools.specs.LogEnds.{of_why}
 use Rattle.bac_walk.specs.Place.{WalkPlace}
 use Rattle.bac_walk.specs.Told.{Told}
+use Rattle.bac_walk.specs.declared.flaw.ReplyFlaw.{ReplyFlaw}
 use Rattle.bac_walk.specs.declared.outcome.Ended.{Ended}
+use Rattle.bac_walk.specs.declared.outcome.Why.{Why}
+use Rattle.bac_walk.specs.declared.outcome.Why.TheVariants as why
+use Rattle.bac_walk.proofs.Told.{Asking}
+use Rattle.bac_wire.specs.Primitive.{Id}
 use Rattle.bac_words.specs.declared.job.Asked.{Asked}
 
 -- what is printed, and how the run ended, in one
@@ -33,3 +42,27 @@ pub run_of : {S P : Type 0} (rules : SocketRules S P) (asked : Asked) (walk : Wa
     FetchesRun rules asked walk steps fetching left old new
 run_of rules asked walk steps retries failed fails was fetching left old new items prints (n, ended, after, ends, fetched, told) =
     (items, n, ended, after, tells items steps n ended after fetching old new prints ends, fetched.0.0, fetched.1, fetched.2, told)
+
+-- ---- what is said beside the end line
+
+unsaid : (more : Bool) (old new : Held) → more ≡ false → SaysMore more old new → new ≡ old
+unsaid true old new is says = absurd cc
+unsaid false old new is says = says
+
+after_any : (result : Ending) (old new : Held) → new ≡ old → IfErr result (λ fault. new ≡ old)
+after_any (Ok done) old new same = tt
+after_any (Err fault) old new same = same
+
+-- before a fault nothing is said, since a walk that is caught up ends with a status
+pub quiet_end : {S : Type 0} (asks : Asking S) (path : Path) (retries : ℕ) (log : Id) (next : ℕ) (left : S) (address : List ℕ) (cause : Why) (flaw : Option ReplyFlaw)
+    (more said : Bool) (old new : Held) → TellsFlawOf asks path retries log next flaw left cause → more ≡ if_caught_up cause said → SaysMore more old new →
+    IfErr (of_why address cause flaw) (λ fault. new ≡ old)
+quiet_end asks path retries log next left address why.CaughtUp flaw more said old new tells is says =
+    let P : Option ReplyFlaw → Type 0 = λ f. IfErr (of_why address why.CaughtUp f) (λ fault. new ≡ old) in
+    subst P (sym tells) tt
+quiet_end asks path retries log next left address why.StepLimit flaw more said old new tells is says =
+    after_any (of_why address why.StepLimit flaw) old new (unsaid more old new is says)
+quiet_end asks path retries log next left address (why.Fault fault) flaw more said old new tells is says =
+    after_any (of_why address (why.Fault fault) flaw) old new (unsaid more old new is says)
+quiet_end asks path retries log next left address why.Memory flaw more said old new tells is says =
+    after_any (of_why address why.Memory flaw) old new (unsaid more old new is says)

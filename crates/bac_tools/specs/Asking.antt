@@ -1,5 +1,5 @@
 -- What `bac rp`, `wp`, `log` and `logs` do: one socket, and over it what they ask one device for. Read from the end.
-use Rattle.std.specs.Prelude.{◌≡◌, ℕ, ◌*◌, ◌≤◌, List, length, Ok, Err}
+use Rattle.std.specs.Prelude.{◌≡◌, ℕ, ◌*◌, ◌≤◌, Bool, true, false, List, length, Ok, Err}
 use Rattle.bac_apdu.specs.declared.service.read_property.ReadProperty.{ReadProperty}
 use Rattle.bac_link.specs.Path.{towards}
 use Rattle.bac_link.specs.declared.item.Item.{Item}
@@ -7,7 +7,7 @@ use Rattle.bac_link.specs.declared.request.Request.{Request}
 use Rattle.bac_link.specs.declared.transactions.Transactions.{Transactions}
 use Rattle.bac_ports.specs.Sockets.{SocketRules, link_over, own_address, socket_asks}
 use Rattle.bac_ports.specs.declared.udp_link.UdpLink.{UdpLink}
-use Rattle.bac_print.specs.Output.{Held}
+use Rattle.bac_print.specs.Output.{AppendsPart, Held}
 use Rattle.bac_query.specs.Ahead.{FetchesAhead}
 use Rattle.bac_query.specs.Fetching.{Fetching, TellsRun}
 use Rattle.bac_query.specs.Flaws.{TellsFlaw}
@@ -18,6 +18,7 @@ use Rattle.bac_tools.specs.Ending.{Ending}
 use Rattle.bac_tools.specs.Faults.{of_query}
 use Rattle.bac_tools.specs.LogEnds.{of_why}
 use Rattle.bac_tools.specs.Sockets.{Opens, Outside, transactions_with}
+use Rattle.bac_tools.specs.Texts.{more_line}
 use Rattle.bac_walk.specs.Collects.{Goes}
 use Rattle.bac_walk.specs.Place.{WalkPlace}
 use Rattle.bac_walk.specs.Told.{Told}
@@ -80,6 +81,16 @@ abbrev pub of_fetching : List ℕ → Fetching → Ending
 of_fetching address (Ok fetched) = of_why address fetched.why fetched.flaw
 of_fetching address (Err fault) = Err (of_query address fault)
 
+-- a device that contradicted itself is told so, by the line or a front part of it, and of any other nothing is written
+abbrev pub SaysMore : Bool → Held → Held → Type 0
+SaysMore true old new = AppendsPart old new more_line
+SaysMore false old new = new ≡ old
+
+-- the same of what was fetched: the walk is caught up, and yet the last reply with records said that more is there
+abbrev pub SaysOf : Fetching → Held → Held → Type 0
+SaysOf (Ok fetched) old new = SaysMore fetched.said_more old new
+SaysOf (Err fault) old new = new ≡ old
+
 -- The items cover the numbers from the walk's on up to the next one. Each step brought at most 100 records and one gap,
 -- and a record at least if the run ended since there were so many; the last exchange told why it ended.
 abbrev pub FetchesRun : {S P : Type 0} → SocketRules S P →
@@ -94,14 +105,17 @@ FetchesRun rules asked walk steps fetching left old new =
 -- A log is fetched: replies came, one after the other, each to the next transaction of the client, which has begun none
 -- before, and begins two a step at most; what is printed are the lines of the items that they brought, and the end of
 -- their run; and if they say what one log holds, those are what it held. Of a bad reply, and of nothing else, it is
--- told what is wrong with it.
-abbrev pub Fetches : {S P : Type 0} → SocketRules S P → Asked → WalkPlace → ℕ → Outside S → Ending → Outside S → Type 0
-Fetches rules asked walk steps old result new =
+-- told what is wrong with it; and of a walk that is caught up, on the errors, that the last reply with records said that
+-- more is there.
+abbrev pub Fetches : {S P : Type 0} → SocketRules S P → Asked → WalkPlace → ℕ → Outside S → Ending → Outside S →
+    Held → Held → Type 0
+Fetches rules asked walk steps old result new errors told =
     AsksDevice rules asked
     (λ link fetching left had has.
     ((last : Transactions)
     × FetchesAhead (socket_asks rules) (transactions_with asked) link walk steps fetching last left had has
     × (last.begun ≤ 2 * steps))
     × FetchesRun rules asked walk steps fetching left had has
-    × TellsFlaw (socket_asks rules) (towards asked.route) asked.retries walk.log fetching left)
+    × TellsFlaw (socket_asks rules) (towards asked.route) asked.retries walk.log fetching left
+    × SaysOf fetching errors told)
     (of_fetching asked.address) old result new

@@ -1,5 +1,5 @@
 -- What the program does with its words: its streams, its sockets and its clock, before and now. Read from the end.
-use Rattle.std.specs.Prelude.{◌≡◌, ◌≤◌, ◌⊎◌, ℕ, ◌==◌, if◌then◌else◌}
+use Rattle.std.specs.Prelude.{◌≡◌, ◌≤◌, ◌⊎◌, ℕ, ◌==◌, if◌then◌else◌, IfErr}
 use Rattle.std.specs.List.{Contains}
 use Rattle.std.specs.Prelude.{List, [], map, Option, Some, None, Result, Ok, Err}
 use Rattle.std.specs.Io.KnownBytes.{Appends, Keeps}
@@ -94,7 +94,12 @@ abbrev pub IsElsewhere : {S C : Type 0} → Streams S C → Ending → Streams S
 IsElsewhere old result new =
     (result ≡ Err OtherTool) × Keeps old.output new.output × (new.input ≡ old.input) × IsIdle old new
 
--- The tool of a job, before its fault is told. Only `serve` looks at the clock, and tells that it is up.
+-- nothing is told before a fault, and the clock isn't looked at
+abbrev pub IsQuietAtFault : {S C : Type 0} → Ending → Streams S C → Streams S C → Type 0
+IsQuietAtFault result old new = IfErr result (λ fault. new.errors ≡ old.errors) × (new.clock ≡ old.clock)
+
+-- The tool of a job, before its fault is told. Only `serve` looks at the clock, and tells that it is up; and only `log`
+-- tells of a device that it contradicted itself.
 abbrev pub Works : {S P C : Type 0} → SocketRules S P → (C → Option CivilTime → C → Type 0) →
     Job → Streams S C → Ending → Streams S C → Type 0
 Works rules tells job.Replay old result new =
@@ -111,8 +116,8 @@ Works rules tells (job.Wp asked object_type instance property priority given ind
 Works rules tells (job.Log asked instance from steps) old result new =
     (((fault : Fault) × (IsNoWalk instance from fault × (result ≡ Err fault))
     × Keeps old.output new.output × (new.sockets ≡ old.sockets))
-    ⊎ Fetches rules asked (walk_from instance from) steps (outside_of old) result (outside_of new))
-    × IsQuiet old new
+    ⊎ Fetches rules asked (walk_from instance from) steps (outside_of old) result (outside_of new) old.errors new.errors)
+    × IsQuietAtFault result old new
 Works rules tells (job.Logs asked instances) old result new =
     (((fault : Fault) × (IsNoLogs instances fault × (result ≡ Err fault))
     × Keeps old.output new.output × (new.sockets ≡ old.sockets))

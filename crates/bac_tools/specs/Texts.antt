@@ -146,6 +146,12 @@ fault_text Memory = codes "out of memory"
 abbrev pub told_text : Fault → List ℕ
 told_text fault = fault_text fault ++ 10 ∷ []
 
+-- ---- a walk that is caught up
+
+-- its device contradicts itself, a line
+abbrev pub more_line : List ℕ
+more_line = codes "the last reply said that more is there" ++ 10 ∷ []
+
 -- ---- serving
 
 -- a device is up at an address, a line

@@ -9,7 +9,7 @@ ghost use Rattle.bac_ports.specs.Sockets.{link_over, own_address, socket_rules};
 ghost use Rattle.bac_tools.specs.Sockets.{outside, transactions_with};
 
 use crate::fault::Fault;
-use crate::log_end::ending_of;
+use crate::log_end::{ending_of, say_more};
 use bac_apdu::{ReadProperty, Route};
 use bac_link::{Request, Transactions};
 use bac_ports::{SocketFault, Sockets, UdpLink};
@@ -112,17 +112,21 @@ pub(crate) fn wp<S: Sockets, O: Write>(
     }
 }
 
-/// Walks a log, and prints what it brings.
-pub(crate) fn log<S: Sockets, O: Write>(
+/// Walks a log, and prints what it brings. If it is caught up, and yet the last reply with records
+/// said that more is there, that goes to the errors.
+pub(crate) fn log<S: Sockets, O: Write, E: Write>(
     sockets: &mut S,
     alloc: Global,
     asked: Asked,
     walk: Walk,
     steps: u32,
     output: &mut O,
+    errors: &mut E,
 ) -> Result<u8, Fault>
-    ensures { Fetches (socket_rules S.opens S.closes S.Socket.sends S.Socket.receives S.Socket.receives_within) asked walk steps
-        (outside sockets.old (O.contents output.old)) result (outside sockets.new (O.contents output.new)) }
+    ensures fetches { Fetches (socket_rules S.opens S.closes S.Socket.sends S.Socket.receives S.Socket.receives_within) asked walk steps
+        (outside sockets.old (O.contents output.old)) result (outside sockets.new (O.contents output.new))
+        (E.contents errors.old) (E.contents errors.new) }
+    ensures quiet { IfErr result (λ fault. E.contents errors.new ≡ E.contents errors.old) }
 {
     let address = asked.address;
     let Asking {
@@ -132,7 +136,10 @@ pub(crate) fn log<S: Sockets, O: Write>(
     let fetched = fetch_log_ahead(alloc, &mut link, &mut transactions, walk, steps, output);
     sockets.close(link.into_port());
     match fetched {
-        Ok(fetched) => ending_of(address, fetched.why, fetched.flaw),
+        Ok(fetched) => {
+            say_more(fetched.said_more, errors);
+            ending_of(address, fetched.why, fetched.flaw)
+        }
         Err(fault) => Err(Fault::of_query(address, fault)),
     }
 }

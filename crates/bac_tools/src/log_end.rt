@@ -1,10 +1,13 @@
 //! What the end of a log's walk comes to, beside its line.
 
 ghost use Rattle.std.specs.Prelude.{◌≡◌};
+ghost use Rattle.bac_tools.specs.Asking.{SaysMore};
 ghost use Rattle.bac_tools.specs.LogEnds.{of_cause, of_why};
 
 use crate::fault::{Fault, walk_status};
+use crate::telling::say;
 use bac_walk::{ReplyFlaw, WalkFault, Why};
+use std::io::Write;
 
 /// The status of an end, or what there is to say of it.
 fn of_cause(address: [u8; 6], why: Why) -> Result<u8, Fault>
@@ -25,5 +28,14 @@ pub(crate) fn ending_of(address: [u8; 6], why: Why, flaw: Option<ReplyFlaw>) -> 
     match flaw {
         Some(flaw) => Err(Fault::Flawed(flaw)),
         None => of_cause(address, why),
+    }
+}
+
+/// Says of a walk that is caught up that its last reply with records said that more is there.
+pub(crate) fn say_more<E: Write>(said_more: bool, errors: &mut E)
+    ensures { SaysMore said_more (E.contents errors.old) (E.contents errors.new) }
+{
+    if said_more {
+        say(b"the last reply said that more is there\n", errors);
     }
 }

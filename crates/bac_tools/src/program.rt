@@ -84,8 +84,8 @@ fn priority(number: u8) -> Option<u8>
     if number == 0 { None } else { Some(number) }
 }
 
-/// Does what a job asks for; answers the exit status. Of the errors, a server tells there that it is
-/// up.
+/// Does what a job asks for; answers the exit status. On the errors a server tells that it is up, and
+/// `log` of a device that it contradicted itself.
 fn work<S: Sockets, I: Read, O: Write, E: Write, C: Clock>(
     sockets: &mut S,
     alloc: Global,
@@ -156,7 +156,15 @@ fn work<S: Sockets, I: Read, O: Write, E: Write, C: Clock>(
             instance,
             from,
             steps,
-        } => log(sockets, alloc, asked, walk(instance, from)?, steps, output),
+        } => log(
+            sockets,
+            alloc,
+            asked,
+            walk(instance, from)?,
+            steps,
+            output,
+            errors,
+        ),
         Job::Logs { asked, instances } => {
             let named = trend_logs(alloc, instances.as_slice())?;
             logs(sockets, alloc, asked, &named, output)

@@ -1,10 +1,10 @@
 use Rattle.std.proofs.Common.{Err, ap, arith, inr, refl}
-use Rattle.bac_ports.specs.Sockets.{socket_rules}
-use Rattle.bac_tools.proofs.Fetched.{run_of}
+use Rattle.bac_ports.specs.Sockets.{socket_asks, socket_rules}
+use Rattle.bac_tools.proofs.Fetched.{quiet_end, run_of}
 use Rattle.bac_tools.proofs.asking.log.Goals as goal
 
-pub returns-in-Ok : goal.returns-in-Ok
-returns-in-Ok g c =
+pub returns-in-Ok-clause-fetches : goal.returns-in-Ok-clause-fetches
+returns-in-Ok-clause-fetches g c =
     let (opened, linked, begun) = c.in_ok-link.ensures.ok in
     let (items, prints, run) = c.fetch_log_ahead-fetched.ensures.printed in
     let most = rw begun at c.fetch_log_ahead-fetched.ensures.begun in
@@ -21,6 +21,7 @@ returns-in-Ok g c =
           run_of (socket_rules g.S.Sockets.opens g.S.Sockets.closes g.S.Socket.Port.sends g.S.Socket.Port.receives g.S.Socket.Port.receives_within)
               c.args.asked c.args.walk _ _ _ _ _ _ c.fetch_log_ahead-fetched.new.link _ _ items prints (rw (linked, begun) at run),
           rw begun at c.fetch_log_ahead-fetched.ensures.flaw,
+          rw c.in-Ok.is c.say_more.ensures,
         ),
         c.into_port.ensures,
         rw (c.in-Ok.is, c.ending_of.ensures) refl,
@@ -28,8 +29,8 @@ returns-in-Ok g c =
       c.close.ensures,
     )
 
-pub returns-in-Err : goal.returns-in-Err
-returns-in-Err g c =
+pub returns-in-Err-clause-fetches : goal.returns-in-Err-clause-fetches
+returns-in-Err-clause-fetches g c =
     let (opened, linked, begun) = c.in_ok-link.ensures.ok in
     let (items, prints, run) = c.fetch_log_ahead-fetched.ensures.printed in
     let most = rw begun at c.fetch_log_ahead-fetched.ensures.begun in
@@ -46,9 +47,18 @@ returns-in-Err g c =
           run_of (socket_rules g.S.Sockets.opens g.S.Sockets.closes g.S.Socket.Port.sends g.S.Socket.Port.receives g.S.Socket.Port.receives_within)
               c.args.asked c.args.walk _ _ _ _ _ _ c.fetch_log_ahead-fetched.new.link _ _ items prints (rw (linked, begun) at run),
           rw begun at c.fetch_log_ahead-fetched.ensures.flaw,
+          rw c.in-Err.is refl,
         ),
         c.into_port.ensures,
         rw c.in-Err.is (ap Err c.of_query.ensures),
       ),
       c.close.ensures,
     )
+
+pub returns-in-Ok-clause-quiet : goal.returns-in-Ok-clause-quiet
+returns-in-Ok-clause-quiet g c =
+    let rules = socket_rules g.S.Sockets.opens g.S.Sockets.closes g.S.Socket.Port.sends g.S.Socket.Port.receives g.S.Socket.Port.receives_within in
+    let (came, items, n, ended, after, half, mid, brought, tells, headline, more) = rw c.in-Ok.is at c.fetch_log_ahead-fetched.ensures.came in
+    let flawed = rw c.in-Ok.is at c.fetch_log_ahead-fetched.ensures.flaw in
+    let quiet = quiet_end (socket_asks rules) _ _ _ _ c.fetch_log_ahead-fetched.new.link c.args.asked.address c.in-Ok.fetched.why c.in-Ok.fetched.flaw c.in-Ok.fetched.said_more _ _ _ flawed more c.say_more.ensures in
+    rw c.ending_of.ensures quiet

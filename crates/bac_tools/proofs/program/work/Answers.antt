@@ -22,7 +22,7 @@ returns-in_ok-object-in-Wp g c =
 
 pub returns-in_ok-walk-in-Log : goal.returns-in_ok-walk-in-Log
 returns-in_ok-walk-in-Log g c =
-    rw c.in-Log.is (inr (rw c.in_ok-walk-in-Log.ensures.ok at c.log.ensures), (refl, refl))
+    rw c.in-Log.is (inr (rw c.in_ok-walk-in-Log.ensures.ok at c.log.ensures.fetches), (c.log.ensures.quiet, refl))
 
 pub returns-in_ok-named-in-Logs : goal.returns-in_ok-named-in-Logs
 returns-in_ok-named-in-Logs g c =
