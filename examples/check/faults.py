@@ -344,7 +344,7 @@ LONG = MOMENT + "1e 6d050080000001 1f"
 # What is asked, and the log's answer: two records each time, and the text of the second two is longer.
 ASKED = {
     "6e 2101 3164 6f": f"3a05a0 4902 5e {SHORT} {SHORT} 5f 6901",
-    "6e 2103 3164 6f": f"3a0560 4902 5e {LONG} {LONG} 5f 6903",
+    "6e 2103 3164 6f": f"3a0540 4902 5e {LONG} {LONG} 5f 6903",
     "6e 2105 3164 6f": "3a0500 4900 5e 5f",
     "7e a400010101 b400000000 3164 7f": f"3a05a0 4902 5e {SHORT} {SHORT} 5f 6901",
 }

@@ -105,8 +105,8 @@ FetchesRun rules asked walk steps fetching left old new =
 -- A log is fetched: replies came, one after the other, each to the next transaction of the client, which has begun none
 -- before, and begins two a step at most; what is printed are the lines of the items that they brought, and the end of
 -- their run; and if they say what one log holds, those are what it held. Of a bad reply, and of nothing else, it is
--- told what is wrong with it; and of a walk that is caught up, on the errors, that the last reply with records said that
--- more is there.
+-- told what is wrong with it; and of a walk that is caught up, on the errors, that the last reply with records said
+-- that more is there.
 abbrev pub Fetches : {S P : Type 0} → SocketRules S P → Asked → WalkPlace → ℕ → Outside S → Ending → Outside S →
     Held → Held → Type 0
 Fetches rules asked walk steps old result new errors told =

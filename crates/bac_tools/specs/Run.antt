@@ -116,7 +116,8 @@ Works rules tells (job.Wp asked object_type instance property priority given ind
 Works rules tells (job.Log asked instance from steps) old result new =
     (((fault : Fault) × (IsNoWalk instance from fault × (result ≡ Err fault))
     × Keeps old.output new.output × (new.sockets ≡ old.sockets))
-    ⊎ Fetches rules asked (walk_from instance from) steps (outside_of old) result (outside_of new) old.errors new.errors)
+    ⊎ Fetches rules asked (walk_from instance from) steps (outside_of old) result (outside_of new)
+    old.errors new.errors)
     × IsQuietAtFault result old new
 Works rules tells (job.Logs asked instances) old result new =
     (((fault : Fault) × (IsNoLogs instances fault × (result ≡ Err fault))

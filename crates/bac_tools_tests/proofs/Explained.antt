@@ -122,7 +122,7 @@ explained rules tells asked instance steps from old new status (inr (Err fault, 
       closes,
     )
 explained rules tells asked instance steps from old new status (inr (Err fault, said, (inr (inr (port, between, last, opens, (Err (query.Exchange bad), left, over, is_last, is), closes)), quiet), ends)) four =
-    let (came, items, n, ended, after, half, mid, brought, printed, headline) = over.0.1 in
+    let (came, items, n, ended, after, half, mid, brought, printed, headline, contradicts) = over.0.1 in
     absurd printed
 explained rules tells asked instance steps from old new status (inr (Err fault, said, (inr (inr (port, between, last, opens, (Err query.Write, left, over, is_last, is), closes)), quiet), ends)) four =
     absurd (named_told fault Write 2 said new.errors status (cc) refl (λ e. omega (arith, e)) ends four)

@@ -118,7 +118,7 @@ fetched : {S P : Type 0} (rules : SocketRules S P) (asked : Asked) (walk : WalkP
     Ok done ≡ of_fetching asked.address fetching → IsLogged rules asked walk port last old new
 fetched rules asked walk steps port last old new done (Err fault) end left zero is_last over is = absurd (cc)
 fetched rules asked walk steps port last old new done (Ok said) end left zero is_last over is =
-    let (came, items, n, ended, after, half, mid, brought, tells, headline) = over in
+    let (came, items, n, ended, after, half, mid, brought, tells, headline, contradicts) = over in
     let status : walk_status said.why ≡ 0 = sym (end_of asked.address done said.why said.flaw is) ∙ zero in
     let there = left_there (socket_asks rules) half end mid left after said.why last status is_last tells.1 in
     (came, items, n, ended, after, (mid, half, brought, there), (said.why, said.next, tells.2), headline)
@@ -184,7 +184,7 @@ rested : {S P : Type 0} (rules : SocketRules S P) (asked : Asked) (walk : WalkPl
     Ok done ≡ of_fetching asked.address fetching → IsLoggedAtRest rules asked walk steps port last old new
 rested rules asked walk steps port last old new done (Err fault) end left zero is_last fresh over is = absurd (cc)
 rested rules asked walk steps port last old new done (Ok said) end left zero is_last fresh over is =
-    let (came, items, n, ended, after, half, mid, begun, tells, headline) = over in
+    let (came, items, n, ended, after, half, mid, begun, tells, headline, contradicts) = over in
     let brought = brought_plain (socket_asks rules) (transactions_with asked) half (link_over asked.address port) mid walk after n came items ended begun in
     let status : walk_status said.why ≡ 0 = sym (end_of asked.address done said.why said.flaw is) ∙ zero in
     let there = left_there (socket_asks rules) half end mid left after said.why last status is_last tells.1 in (
@@ -280,7 +280,7 @@ printed_in_order rules tells asked instance steps from old new status (inr (resu
 printed_in_order rules tells asked instance steps from old new status (inr (result, said, (inr (inl (fault, opens, is_shut, closed)), quiet), ends)) =
     inl closed
 printed_in_order rules tells asked instance steps from old new status (inr (result, said, (inr (inr (port, between, last, opens, (fetching, left, over, is_last, is), closes)), quiet), ends)) =
-    let (came, items, n, ended, after, half, mid, begun, printed, headline) = over.0.1 in
+    let (came, items, n, ended, after, half, mid, begun, printed, headline, contradicts) = over.0.1 in
     let brought = brought_plain (socket_asks rules) (transactions_with asked) half (link_over asked.address port) mid (walk_from instance from) after n came items ended begun in
     inr (
       port,

@@ -203,7 +203,7 @@ no_status : {S P : Type 0} (rules : SocketRules S P) → IsSilent rules.receives
     Ok done ≡ of_fetching asked.address fetching → 0 < steps → done ≡ 0 → ⊥
 no_status rules silent asked w steps link (Err why) end left old new done over is some none = absurd (cc)
 no_status rules silent asked w steps link (Ok fetched) end left old new done over is some none =
-    let (came, items, n, ended, after, half, mid, begun, tells, headline) = over in
+    let (came, items, n, ended, after, half, mid, begun, tells, headline, contradicts) = over in
     let brought = brought_plain (socket_asks rules) (transactions_with asked) half link mid w after n came items ended begun in
     let e = end_of asked.address done fetched.why fetched.flaw is in
     no_end rules silent (towards asked.route) asked.retries n steps link w came items ended after mid fetched.why fetched.next brought tells.0 some (sym e ∙ none)
@@ -225,14 +225,14 @@ no_log rules tells asked instance steps from old new status (inr (Err why, said,
 no_log rules tells asked instance steps from old new status (inr (Ok done, said, (inr (inl (shut, opens, is_shut, closed)), quiet), ends)) silent =
     absurd (let e = is_shut in cc)
 no_log rules tells asked instance steps from old new status (inr (Err why, said, (inr (inr (port, between, last, opens, (fetching, left, over, is_last, is), closes)), quiet), ends)) silent =
-    let (came, items, n, ended, after, half, mid, begun, printed, headline) = over.0.1 in
+    let (came, items, n, ended, after, half, mid, begun, printed, headline, contradicts) = over.0.1 in
     let brought = brought_plain (socket_asks rules) (transactions_with asked) half (link_over asked.address port) mid (walk_from instance from) after n came items ended begun in
     let none = no_reply rules silent (towards asked.route) asked.retries n (link_over asked.address port) (walk_from instance from) came items ended after mid brought in (
       λ some zero. not_told why said new.errors status ends zero,
       end_alone items old.output new.output none.1 (cut_over (socket_asks rules) _ items steps n ended after fetching old.output new.output printed),
     )
 no_log rules tells asked instance steps from old new status (inr (Ok done, said, (inr (inr (port, between, last, opens, (fetching, left, over, is_last, is), closes)), quiet), ends)) silent =
-    let (came, items, n, ended, after, half, mid, begun, printed, headline) = over.0.1 in
+    let (came, items, n, ended, after, half, mid, begun, printed, headline, contradicts) = over.0.1 in
     let brought = brought_plain (socket_asks rules) (transactions_with asked) half (link_over asked.address port) mid (walk_from instance from) after n came items ended begun in
     let none = no_reply rules silent (towards asked.route) asked.retries n (link_over asked.address port) (walk_from instance from) came items ended after mid brought in (
       λ some zero. no_status rules silent asked (walk_from instance from) steps (link_over asked.address port) fetching over.0.0 left old.output new.output done over.0.1 is some (sym ends.0 ∙ zero),

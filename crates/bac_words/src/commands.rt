@@ -286,7 +286,8 @@ prints each record that trend log 1 holds, and at the end which number is next:
 bac log 192.168.1.20 1 43 then fetches what was logged since. Begin again at
 the number that was next after 'lost' or 'step limit', too: no record is lost or
 comes twice. A line 'gap 43 50' tells the numbers that the log no longer held.
-After 'bad reply' a line on standard error says what is wrong with the reply.
+After 'bad reply' a line on standard error says what is wrong with the reply;
+after 'caught up', if it did, that the last reply said that more is there.
 
 FLAGS are in-alarm, fault, overridden and out-of-service, each 0 or 1; or - if
 the record has none. VALUE is a number, or one of
