@@ -2,10 +2,11 @@
 use Rattle.std.specs.Prelude.{ℕ, ◌==◌, if◌then◌else◌, List, [], ◌∷◌, ◌++◌, codes, decimal, Option, None, Some}
 use Rattle.std.specs.String.{string_bytes}
 use Rattle.bac_archive.specs.declared.trend_logs.Source.{Source}
+use Rattle.bac_walk.specs.declared.outcome.Why.TheVariants.{CaughtUp}
 use Rattle.bac_query.specs.Ends.{end_line}
 use Rattle.bac_asked.specs.declared.end.End.{End}
 use Rattle.bac_asked.specs.declared.end.Ending.{Ending}
-use Rattle.bac_asked.specs.declared.end.Ending.TheVariants.{Walk, Back, Epochs, NotAsked, Other, Twice}
+use Rattle.bac_asked.specs.declared.end.Ending.TheVariants.{Walk, SaidMore, Back, Epochs, NotAsked, Other, Twice}
 
 -- a device's address, and for one behind a router its network and its address there
 unfoldable pub place_text : Source → List ℕ
@@ -41,9 +42,14 @@ twice_text told = codes "two devices have the number " ++ decimal told
 unfoldable pub twice_line : ℕ → List ℕ
 twice_line told = twice_text told ++ 10 ∷ []
 
+-- that it is caught up, and that the device had said otherwise (MORE_ITEMS, clause 15.8.1.2)
+unfoldable pub said_more_lines : ℕ → List ℕ
+said_more_lines next = end_line CaughtUp next ++ codes "the last reply said that more is there\n"
+
 -- why a run over a log ended, and the sequence number that comes next
 unfoldable pub ending_line : Ending → ℕ → List ℕ
 ending_line (Walk why) next = end_line why next
+ending_line SaidMore next = said_more_lines next
 ending_line Back next = reason_line (codes "its numbers went back") next
 ending_line Epochs next = reason_line (codes "it began anew, or its numbers came round, 32767 times") next
 ending_line NotAsked next = reason_line (codes "not asked") next

@@ -13,6 +13,8 @@ use sqlite::Error;
 pub enum Ending {
     /// As its walk did.
     Walk(Why),
+    /// Caught up, and yet the last reply with records said that more is there.
+    SaidMore,
     /// Its numbers went back.
     Back,
     /// It began anew, or its numbers came round, as often as the file can tell.
@@ -74,6 +76,7 @@ pub fn end_status(why: Ending) -> u8
 {
     match why {
         Ending::Walk(why) => walk_status(why),
+        Ending::SaidMore => 4,
         Ending::Back => 6,
         Ending::Epochs => 6,
         Ending::NotAsked => 2,

@@ -3,12 +3,13 @@
 ghost use Rattle.std.specs.Prelude.{◌≡◌, ◌==◌, ◌++◌, if◌then◌else◌, decimal, OnOk, List, Some};
 ghost use Rattle.std.specs.Float.Ieee.{binary64};
 ghost use Rattle.ryu.specs.Parse.{parse_float};
-ghost use Rattle.bac_asked.specs.Lines.{anew_line, both_line, counted, ending_line, moved_line, other_line, place_text, places_text, reason_line, source_text, stopped_line, summary_line, twice_line, twice_text, who_text};
+ghost use Rattle.bac_asked.specs.Lines.{anew_line, both_line, counted, ending_line, moved_line, other_line, place_text, places_text, reason_line, said_more_lines, source_text, stopped_line, summary_line, twice_line, twice_text, who_text};
 
 use crate::end::{End, Ending};
 use bac_archive::Source;
 use bac_print::push_number;
 use bac_query::push_end;
+use bac_walk::Why;
 use ryu::Buffer;
 use std::alloc::AllocError;
 
@@ -117,6 +118,15 @@ fn push_twice(text: &mut Vec<u8>, told: u32) -> Result<(), AllocError>
     text.extend_from_slice(b"\n")
 }
 
+/// Appends that it is caught up, and that the device had said otherwise.
+#[tactic(auto, unfolding(crate::specs::Lines::said_more_lines))]
+fn push_said_more(text: &mut Vec<u8>, next: u32) -> Result<(), AllocError>
+    ensures { OnOk result (text.new.items ≡ text.old.items ++ said_more_lines next) }
+{
+    push_end(text, Why::CaughtUp, next)?;
+    text.extend_from_slice(b"the last reply said that more is there\n")
+}
+
 /// Appends why a run over a log ended, and the number that comes next.
 #[tactic(auto, unfolding(crate::specs::Lines::ending_line))]
 fn push_ending(text: &mut Vec<u8>, why: Ending, next: u32) -> Result<(), AllocError>
@@ -124,6 +134,7 @@ fn push_ending(text: &mut Vec<u8>, why: Ending, next: u32) -> Result<(), AllocEr
 {
     match why {
         Ending::Walk(why) => push_end(text, why, next),
+        Ending::SaidMore => push_said_more(text, next),
         Ending::Back => push_reason(text, b"its numbers went back", next),
         Ending::Epochs => push_reason(
             text,

@@ -17,6 +17,8 @@ use Rattle.bac_link.specs.declared.link.Lost.{Lost as Loss}
 use Rattle.bac_ports.specs.declared.udp_link.UdpLink.{UdpLink}
 use Rattle.bac_asked.specs.declared.log_words.Asking.{Asking}
 use Rattle.bac_ports.specs.Sockets.{SocketRules, link_over, own_address, socket_asks}
+use Rattle.bac_fetch.specs.Heeds.{end_told, heeding, heeds}
+use Rattle.bac_fetch.specs.declared.heeding.Heeding.{Heeding}
 use Rattle.bac_fetch.specs.Keeps.{KeepsBegun, KeepsEntered, KeepsOn, Marks, is_idle, KeepsLog, KeepsOverLink, KeepsHeard, KeepsSource, KeepsNext, KeepsUnless, PassesOver, KeepsAll, lines_of, greatest_status}
 use Rattle.bac_asked.specs.Lines.{summary_line}
 use Rattle.bac_fetch.specs.Entries.{Admits, AdmitsRow, Renews, is_due}
@@ -55,21 +57,22 @@ keeps_begun asks way route tries retries link mid left steps entry object old be
 )
 
 -- the same over the socket that was opened for it, and closed behind it
-pub keeps_log : {S P : Type 0} (rules : SocketRules S P) (asking : Asking) (before middle after : S) (entry : Entry) (object given : Id) (old new : Database) (end : End)
-    (port last : P) (link left : UdpLink P) (route : Option Place) (retries steps : ℕ)
-    → rules.opens before (own_address asking.asked.local) asking.asked.timeout (Ok port) middle → link ≡ link_over asking.asked.address port
-    → route ≡ asking.asked.route → retries ≡ asking.asked.retries → steps ≡ asking.steps → given ≡ object → last ≡ left.port → rules.closes middle last after
-    → KeepsOverLink (socket_asks rules) (towards route) retries link left steps entry given old new end → KeepsLog rules asking before after entry object old new end
-keeps_log rules asking before middle after entry object given old new end port last link left route retries steps opens is_link way tries many is is_last closes it =
-    let asks = socket_asks rules in
+pub keeps_log : {S P : Type 0} (rules : SocketRules S P) (asking : Asking) (before middle after : S) (entry : Entry) (object given : Id) (old new : Database) (kept end : End)
+    (port last : P) (link left : Heeding (UdpLink P)) (route : Option Place) (retries steps : ℕ)
+    → rules.opens before (own_address asking.asked.local) asking.asked.timeout (Ok port) middle → link ≡ heeding (link_over asking.asked.address port)
+    → route ≡ asking.asked.route → retries ≡ asking.asked.retries → steps ≡ asking.steps → given ≡ object → last ≡ left.link.port → rules.closes middle last after
+    → end ≡ end_told left.more kept
+    → KeepsOverLink (heeds (socket_asks rules)) (towards route) retries link left steps entry given old new kept → KeepsLog rules asking before after entry object old new end
+keeps_log rules asking before middle after entry object given old new kept end port last link left route retries steps opens is_link way tries many is is_last closes told it =
+    let asks = heeds (socket_asks rules) in
     let path = towards asking.asked.route in
-    let over = link_over asking.asked.address port in
-    let it₁ = subst (λ (q : Option Place). KeepsOverLink asks (towards q) retries link left steps entry given old new end) way it in
-    let it₂ = subst (λ m. KeepsOverLink asks path m link left steps entry given old new end) tries it₁ in
-    let it₃ = subst (λ l. KeepsOverLink asks path asking.asked.retries l left steps entry given old new end) is_link it₂ in
-    let it₄ = subst (λ m. KeepsOverLink asks path asking.asked.retries over left m entry given old new end) many it₃ in
-    let it₅ = subst (λ (o : Id). KeepsOverLink asks path asking.asked.retries over left asking.steps entry o old new end) is it₄ in
-    (port, middle, last, opens, (left, it₅, is_last), closes)
+    let over = heeding (link_over asking.asked.address port) in
+    let it₁ = subst (λ (q : Option Place). KeepsOverLink asks (towards q) retries link left steps entry given old new kept) way it in
+    let it₂ = subst (λ m. KeepsOverLink asks path m link left steps entry given old new kept) tries it₁ in
+    let it₃ = subst (λ l. KeepsOverLink asks path asking.asked.retries l left steps entry given old new kept) is_link it₂ in
+    let it₄ = subst (λ m. KeepsOverLink asks path asking.asked.retries over left m entry given old new kept) many it₃ in
+    let it₅ = subst (λ (o : Id). KeepsOverLink asks path asking.asked.retries over left asking.steps entry o old new kept) is it₄ in
+    (port, middle, last, opens, (left, kept, it₅, told, is_last), closes)
 
 on_schema : {L : Type 0} (asks : L → List ℕ → Result (List ℕ) Loss → L → Type 0) (path : Path) (retries : ℕ) (link left : L) (start : Start) (why : Option Why) (steps : ℕ)
     (old new : Database) (end : End) → KeepsOn asks path retries link left start why steps old new end → old.schema ≡ archive_schema → new.schema ≡ archive_schema
@@ -119,8 +122,8 @@ entered_schema asks path retries link left (Err none) steps entry old new end it
 source_schema : {S P : Type 0} (rules : SocketRules S P) (known : List Log) (wanted : Wanted) (told : Told) (before after : S) (old new : Database) (end : End)
     → KeepsSource rules known wanted told before after old new end → old.schema ≡ archive_schema → new.schema ≡ archive_schema
 source_schema rules known wanted told before after old new end h has =
-    let (begun, mid, at_begin, keeps) = h.kept.4.1 in
-    entered_schema _ _ _ mid _ begun _ h.entry old new end keeps has
+    let (begun, mid, at_begin, keeps) = h.kept.4.2 in
+    entered_schema _ _ _ mid _ begun _ h.entry old new h.kept.4.1 keeps has
 
 unless_schema : {S P : Type 0} (rules : SocketRules S P) (known : List Log) (wanted : Wanted) (told : Told) (why : Option Ending) (before after : S) (old new : Database) (end : End)
     → KeepsUnless rules known wanted told why before after old new end → old.schema ≡ archive_schema → new.schema ≡ archive_schema

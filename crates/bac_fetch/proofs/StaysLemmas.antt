@@ -143,8 +143,8 @@ entered_stays asks path retries link left (Err none) steps entry old new end it 
 pub source_stays : {S P : Type 0} (over : SocketRules S P) (known : List Log) (wanted : Wanted) (told : Told) (before after : S) (old new : Database) (end : End) →
     KeepsSource over known wanted told before after old new end → HasAllOf old.trees new.trees
 source_stays over known wanted told before after old new end it =
-    let (begun, mid, at_begin, keeps) = it.kept.4.1 in
-    entered_stays _ _ _ mid _ begun _ it.entry old new end keeps
+    let (begun, mid, at_begin, keeps) = it.kept.4.2 in
+    entered_stays _ _ _ mid _ begun _ it.entry old new it.kept.4.1 keeps
 
 unless_stays : {S P : Type 0} (over : SocketRules S P) (known : List Log) (wanted : Wanted) (told : Told) (why : Option Ending) (before after : S) (old new : Database) (end : End) →
     KeepsUnless over known wanted told why before after old new end → HasAllOf old.trees new.trees

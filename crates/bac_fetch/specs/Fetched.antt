@@ -16,7 +16,7 @@ use Rattle.bac_keep.specs.declared.place.Place.{Place}
 use Rattle.bac_keep.specs.declared.sink.Refusal.TheVariants as refusal
 use Rattle.bac_asked.specs.declared.end.End.{End}
 use Rattle.bac_asked.specs.declared.end.Ending.{Ending}
-use Rattle.bac_asked.specs.declared.end.Ending.TheVariants.{Walk, Back, Epochs, NotAsked, Other, Twice}
+use Rattle.bac_asked.specs.declared.end.Ending.TheVariants.{Walk, SaidMore, Back, Epochs, NotAsked, Other, Twice}
 
 -- why a run over a log ended: as its walk did, or since the file has no place for the numbers that came
 abbrev pub IsEndingOf : Result Why NotKept → Ending → Type 0
@@ -36,6 +36,7 @@ HasFailed (Err other) = Unit {0}
 -- step brought has no place, fewer, each of which brought a whole reply.
 abbrev pub IsRunTo : Ending → ℕ → ℕ → Ended → Type 0
 IsRunTo (Walk why) steps took ended = IsRunOf why steps took ended
+IsRunTo SaidMore steps took ended = ⊥
 IsRunTo Back steps took ended = (took < steps) × (ended ≡ StepLimit)
 IsRunTo Epochs steps took ended = (took < steps) × (ended ≡ StepLimit)
 IsRunTo NotAsked steps took ended = ⊥

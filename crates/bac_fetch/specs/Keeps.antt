@@ -36,6 +36,8 @@ use Rattle.bac_asked.specs.declared.wanted.Wanted.{Wanted}
 use Rattle.bac_ports.specs.Sockets.{SocketRules, UsesSocket, link_over, own_address, socket_asks}
 use Rattle.bac_ports.specs.declared.udp_link.UdpLink.{UdpLink}
 use Rattle.bac_fetch.specs.Fetched.{ComesFrom}
+use Rattle.bac_fetch.specs.Heeds.{end_told, heeding, heeds}
+use Rattle.bac_fetch.specs.declared.heeding.Heeding.{Heeding}
 use Rattle.bac_asked.specs.Lines.{summary_line}
 use Rattle.bac_fetch.specs.Entries.{Admits, IsEntry, Renews}
 use Rattle.bac_fetch.specs.Moves.{Settles}
@@ -124,12 +126,14 @@ KeepsOverLink {S = S} asks path retries link left steps entry object old new end
     × KeepsEntered asks path retries mid left begun steps entry old new end
 
 -- The same over a socket: it was opened as the log is asked for, every datagram was asked of the device that is asked,
--- and it was closed as the last of these left it.
+-- and it was closed as the last of these left it. It is told if the device said that more is there than it had.
 abbrev pub KeepsLog : {S P : Type 0} → SocketRules S P → Asking → S → S → Entry → Id → Database → Database → End → Type 0
 KeepsLog {P = P} rules asking before after entry object old new end =
     UsesSocket rules (own_address asking.asked.local) asking.asked.timeout before
-    (λ port last. (left : UdpLink P) × KeepsOverLink (socket_asks rules) (towards asking.asked.route) asking.asked.retries
-    (link_over asking.asked.address port) left asking.steps entry object old new end × (last ≡ left.port))
+    (λ port last. (left : Heeding (UdpLink P)) × (before_told : End)
+    × KeepsOverLink (heeds (socket_asks rules)) (towards asking.asked.route) asking.asked.retries
+    (heeding (link_over asking.asked.address port)) left asking.steps entry object old new before_told
+    × (end ≡ end_told left.more before_told) × (last ≡ left.link.port))
     after
 
 -- the Trend Log object of this instance (clause 12.25)

@@ -3,6 +3,7 @@ pub mod Stands
 pub mod Hands
 pub mod Starts
 pub mod Fetched
+pub mod Heeds
 pub mod Discovered
 pub mod Silent
 pub mod Said

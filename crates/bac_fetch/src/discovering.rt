@@ -86,7 +86,7 @@ impl<L: LogLink> Station<L> {
         }
     }
 
-    /// The name of an object, if the device tells one that is a text in UTF-8.
+    /// The name of an object in Unicode, if the device tells one.
     fn name(&mut self, alloc: Global, object: ObjectId) -> Result<Option<String>, NotDone>
         ensures reads { IfOk result (λ name. ReadsName (Reads L.asks (towards self.old.transactions.route) self.old.transactions.retries)
             (name_of object) self.old.link name self.new.link) }

@@ -17,6 +17,7 @@ ghost use Rattle.bac_fetch.specs.Starts.{IsBegun};
 use crate::count::Ahead;
 use crate::entry::{Entry, admit, renew};
 use crate::hands::Hand;
+use crate::heeding::{Heeding, end_told};
 use crate::stands::stand_of;
 use crate::starting::{Start, start_at, start_new};
 use bac_apdu::Route;
@@ -444,7 +445,8 @@ pub(crate) fn fetch<S: Sockets, A: Alter, P: Progress>(
     let Some(log) = ObjectId::new(TREND_LOG, entry.row.source.instance) else {
         return Err(NotDone::Asking(Fault::BadValue(Word::Instance)));
     };
-    let (mut link, mut transactions) = connect(sockets, asked)?;
+    let (link, mut transactions) = connect(sockets, asked)?;
+    let mut link = Heeding::new(link);
     let end = fetch_over(
         alloc,
         &mut link,
@@ -455,6 +457,7 @@ pub(crate) fn fetch<S: Sockets, A: Alter, P: Progress>(
         steps,
         progress,
     );
+    let Heeding { link, more } = link;
     sockets.close(link.into_port());
-    end
+    Ok(end_told(more, end?))
 }

@@ -9,6 +9,7 @@ mod either;
 mod entry;
 mod fetching;
 mod hands;
+mod heeding;
 mod keeping;
 mod moving;
 mod passing;

@@ -1,7 +1,7 @@
-use Rattle.std.proofs.Common.{◌≡◌, refl, rules}
-use Rattle.std.proofs.lemmas.Result.{IfOk-weaker}
+use Rattle.std.proofs.Common.{◌≡◌, ap, refl, rules, ◌∙◌}
 use Rattle.sqlite.specs.Held.{state}
 use Rattle.bac_ports.specs.Sockets.{socket_rules}
+use Rattle.bac_fetch.specs.Heeds.{heeding}
 use Rattle.bac_fetch.specs.Keeps.{trend_log}
 use Rattle.bac_fetch.proofs.KeepsLemmas.{keeps_log}
 use Rattle.bac_fetch.proofs.fetching.fetch.Goals as goal
@@ -12,8 +12,9 @@ returns-clause-kept g c clean has =
     let old = state g.A.Store c.args.conn.now in
     let new = state g.A.Store c.fetch_over-end.new.conn in
     let object : c.in-Some.log ≡ trend_log c.args.entry.now.row.source.instance = search rules in
-    IfOk-weaker c.fetch_over-end.result _ _ (λ end it. keeps_log over c.args.asking c.args.sockets.now c.connect.new.sockets c.close.new.self c.args.entry.now
-    (trend_log c.args.entry.now.row.source.instance) c.in-Some.log old.now new.now end c.in_ok-link.link.port c.into_port.result c.in_ok-link.link c.fetch_over-end.new.link
+    keeps_log over c.args.asking c.args.sockets.now c.connect.new.sockets c.close.new.self c.args.entry.now
+    (trend_log c.args.entry.now.row.source.instance) c.in-Some.log old.now new.now c.in_ok-end.field-0 c.end_told.result
+    c.in_ok-link.link.port c.into_port.result c.new-link.result c.fetch_over-end.new.link
     c.in_ok-link.transactions.route c.in_ok-link.transactions.retries c.args.asking.steps
-    c.in_ok-link.ensures.opened c.in_ok-link.ensures.link c.in_ok-link.ensures.route c.in_ok-link.ensures.retries refl object c.into_port.ensures c.close.ensures it)
-    (c.fetch_over-end.ensures.kept clean has)
+    c.in_ok-link.ensures.opened (c.new-link.ensures ∙ ap heeding c.in_ok-link.ensures.link) c.in_ok-link.ensures.route c.in_ok-link.ensures.retries
+    refl object c.into_port.ensures c.close.ensures c.end_told.ensures (c.in_ok-end.ensures.kept clean has)
