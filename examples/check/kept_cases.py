@@ -18,6 +18,7 @@ from kept_clocks import clocks, either_line, questions
 from kept_devices import Device, Log, chance, lock, serve, wait_until_asked
 from kept_doubts import emptied, never_begun, told_at_once
 from kept_judge import wrongs
+from kept_more import said_more
 from kept_moved import moved, moved_at_each_call, moved_at_random, moved_ways, told_later, two_of_one
 from kept_names import names
 from kept_rounds import one, rounds, said
@@ -664,4 +665,4 @@ def judgements(judge, _runs):
 
 CASES = [judgements, run_after_run, beginnings, options, losses, line_by_line, step_limits, last_epoch, dead_devices, other_devices, words_and_names, no_archive, far_away, rounds, restarts, clocks, questions, cut_files, foreign_files, a_large_file, printed, taken_over, served,
          stopped, terminals, warehouses, names, own_words, own_rule, own_lives, first_answers, renewed, moved, moved_ways, two_of_one, told_later,
-         moved_at_each_call, moved_at_random, emptied, never_begun, told_at_once]
+         moved_at_each_call, moved_at_random, emptied, never_begun, told_at_once, said_more]
