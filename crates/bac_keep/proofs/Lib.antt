@@ -9,6 +9,7 @@ mod NewestLemmas
 mod UpToDateLemmas
 mod AskedLemmas
 mod QuestionLemmas
+mod RunCoverLemmas
 pub mod TurnLemmas
 mod BegunLemmas
 mod RoundLemmas
