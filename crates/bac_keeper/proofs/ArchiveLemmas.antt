@@ -1,5 +1,6 @@
 -- What is kept in an archive, and that nothing of it is lost.
-use Rattle.std.proofs.Common.{◌≡◌, ◌∙◌, inl, inr, ℕ, List, ap, subst, sym}
+use Rattle.std.proofs.Common.{◌≡◌, ◌∙◌, inl, inr, ℕ, List, ap, refl, subst, sym}
+use Rattle.std.specs.List.{Contains}
 use Rattle.sqlite.specs.Effect.{Database}
 use Rattle.sqlite.specs.State.{HasCleanDisk, State, Survives}
 use Rattle.sqlite_trees.specs.Tree.{Trees}
@@ -8,6 +9,7 @@ use Rattle.bac_asked.specs.declared.wanted.Wanted.{Wanted}
 use Rattle.bac_fetch.proofs.StaysLemmas.{all_itself}
 use Rattle.bac_fetch.specs.Stays.{HasAllOf}
 use Rattle.bac_fetch.specs.declared.keeping.Chosen.{Chosen}
+use Rattle.bac_keeper.specs.Archives.{HasSameItems}
 use Rattle.bac_keeper.specs.Done.{TellsThese}
 use Rattle.bac_ports.specs.Sockets.{SocketRules}
 use Rattle.bac_print.specs.Output.{Held}
@@ -19,6 +21,23 @@ pub tells_weaker : {S P : Type 0} (rules : SocketRules S P) (chosen : Chosen) (s
 tells_weaker rules chosen sockets before after kept told status f it =
     let ends = it.5 in
     (it.0, it.1, it.2, it.3, it.4, (ends.0, ends.1, ends.2, ends.3, f it.0 it.1 ends.0 ends.4))
+
+-- the same items are there, and none is lost
+pub all_of_items : (a b : Trees) → HasSameItems a b → HasAllOf a b
+all_of_items a b it = record { items = λ row at. subst (λ rows. Contains rows row) (sym it.items) at; logs = it.logs }
+
+items_themselves : (a : Trees) → HasSameItems a a
+items_themselves a = record { items = refl; logs = (all_itself a).logs }
+
+-- what is committed behind an archive that was found has its items
+pub keeps_items : (found archive last : State) → (found.committed ≡ found.now) → (archive.committed ≡ archive.now) → (archive.now ≡ found.now)
+    → ((db : Trees) → archive.may_leave db → db ≡ archive.committed.trees) → last.may_leave last.committed.trees → HasCleanDisk last
+    → Survives archive last (HasSameItems archive.now.trees) → HasSameItems found.now.trees last.committed.trees
+keeps_items found archive last was settled same only may clean survives =
+    subst (λ (d : Database). HasSameItems d.trees last.committed.trees) same (elim (survives.crash clean last.committed.trees may) [
+      | inl left ↦ subst (HasSameItems archive.now.trees) (ap (λ (d : Database). d.trees) (sym settled) ∙ sym (only last.committed.trees left)) (items_themselves archive.now.trees)
+      | inr all ↦ all
+    ])
 
 -- what is committed behind an archive that was found has all of it
 pub loses_nothing : (found archive last : State) → (found.committed ≡ found.now) → (archive.committed ≡ archive.now) → (archive.now ≡ found.now)

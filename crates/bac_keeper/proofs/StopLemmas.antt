@@ -1,5 +1,5 @@
 -- What stopping logs comes to.
-use Rattle.std.proofs.Common.{◌≡◌, ◌∙◌, ◌∷◌, ◌++◌, [], ◌+◌, ◌<◌, ℕ, List, Option, Result, Ok, Err, IfOk, OnOk, ap, subst, sym, take, get_or, length, map, filter, append-nil}
+use Rattle.std.proofs.Common.{◌≡◌, ◌∙◌, ◌∷◌, ◌++◌, [], ◌+◌, ◌<◌, ℕ, List, Option, Result, Ok, Err, IfOk, IfSome, OnOk, ap, subst, sym, take, get_or, length, map, filter, append-nil}
 use Rattle.std.proofs.lemmas.List.{map-append, take_more}
 use Rattle.std.proofs.lemmas.List.Elements.{filter-append}
 use Rattle.std.proofs.lemmas.Grind.{flat_map-append}
@@ -11,15 +11,19 @@ use Rattle.sqlite.specs.Effect.{Database}
 use Rattle.sqlite.specs.Files.{file_state}
 use Rattle.sqlite.specs.Held.{Held as Connected}
 use Rattle.sqlite.specs.State.{HasCleanDisk, State, Survives}
-use Rattle.bac_archive.specs.Changes.{HasChangedLogs}
+use Rattle.sqlite.proofs.StateLemmas.{survives_then}
+use Rattle.sqlite_trees.specs.Tree.{Trees}
+use Rattle.bac_archive.proofs.ChangeLemmas.{changes_keep}
+use Rattle.bac_archive.specs.Changes.{ChangesLogs, HasChangedLogs}
 use Rattle.bac_archive.specs.Schema.{archive_schema}
 use Rattle.bac_archive.specs.declared.trend_logs.Log.{Log}
 use Rattle.bac_asked.specs.Lines.{stopped_line}
 use Rattle.bac_asked.specs.declared.end.NotDone.{NotDone}
-use Rattle.bac_fetch.proofs.StaysLemmas.{changed_stays, quiet_first}
-use Rattle.bac_fetch.specs.Stays.{HasAllOf}
-use Rattle.bac_files.specs.Files.{IsClosedBy, IsOpenedBy}
-use Rattle.bac_keeper.proofs.FileLemmas.{some_done}
+use Rattle.bac_files.proofs.FilesLemmas.{opened_settled}
+use Rattle.bac_files.specs.Files.{IsClosedBy, IsDoneTo, IsOpenedBy}
+use Rattle.bac_keeper.proofs.ArchiveLemmas.{all_of_items}
+use Rattle.bac_keeper.proofs.FileLemmas.{loses_none, some_done}
+use Rattle.bac_keeper.specs.Archives.{HasSameItems, IsHeld, KeepsItems, LosesNothing}
 use Rattle.bac_keeper.specs.Stops.{Means, StopsArchive, StopsIn, is_meant, stopped, stopped_lines, stopped_logs}
 use Rattle.bac_keeper.specs.declared.stopping.Meant.{Meant}
 use Rattle.bac_print.specs.Output.{Held}
@@ -35,13 +39,22 @@ one_line_more all at x lt is =
     ∙ sym (flat_map-append (λ (log : Log). stopped_line log.source) (take at all) (x ∷ []))
     ∙ ap stopped_lines (ap (λ z. take at all ++ z ∷ []) is ∙ sym (take_more all at x lt))
 
+-- what changes in the rows of logs leaves the items
+items_of_changes : (a b : Trees) (logs : List Log) → ChangesLogs a b logs → HasSameItems a b
+items_of_changes a b logs it = record { items = it.items; logs = changes_keep a b logs it }
+
 -- logs are read, and then some are changed
 pub changes_stay : (old mid new : State) (logs : List Log) → (HasCleanDisk mid → mid.now ≡ old.now) → old.now.schema ≡ archive_schema → Survives old mid (λ _. ⊥)
     → Survives mid new (λ trees. mid.now.schema ≡ archive_schema → (db : Database) × HasChangedLogs mid.now db logs × (trees ≡ db.trees))
-    → HasCleanDisk mid → Survives old new (HasAllOf old.now.trees)
+    → HasCleanDisk mid → Survives old new (HasSameItems old.now.trees)
 changes_stay old mid new logs same has one two clean =
     let is = same clean in
-    quiet_first old mid new is one (changed_stays mid new logs (ap (λ (d : Database). d.schema) is ∙ has) two)
+    survives_then old mid new (λ _. ⊥) (λ trees. mid.now.schema ≡ archive_schema → (db : Database) × HasChangedLogs mid.now db logs × (trees ≡ db.trees))
+    (HasSameItems old.now.trees) (λ _ db none. absurd none)
+    (λ _ db left. let made = left (ap (λ (d : Database). d.schema) is ∙ has) in
+    subst (λ (d : Database). HasSameItems d.trees db) is
+    (subst (HasSameItems mid.now.trees) (sym made.2) (items_of_changes mid.now.trees made.0.trees logs made.1.rows)))
+    one two
 
 module _ {D : Type 0} {g : disk.Ghosts D} (image : Image) (opened last : Connected (FileStore D g)) (closed : Option (Files D)) (is : IsOpenedBy image opened)
     (clean : HasCleanDisk (file_state last) → HasCleanDisk (file_state opened)) where
@@ -57,3 +70,14 @@ module _ {D : Type 0} {g : disk.Ghosts D} (image : Image) (opened last : Connect
     some_done image opened last closed is clean (StopsArchive which out out')
         (λ c open'. subst (λ (r : Result ℕ NotDone). OnOk r (StopsArchive which out out' (file_state opened).now (file_state last).committed)) same (told c)) shut.1,
   )
+
+  -- what was kept of the items over the connection holds of the closed files
+  pub items_kept : (IsHeld (file_state last) → (file_state opened).committed ≡ (file_state opened).now → KeepsItems (file_state opened).now (file_state last).committed)
+      → IsClosedBy last closed → IfSome closed (IsDoneTo g image KeepsItems)
+  items_kept stays shut = some_done image opened last closed is clean KeepsItems (λ c open'. stays (c, open') (opened_settled image opened is (clean c))) shut.1
+
+  -- and so none of them is lost
+  pub items_stay : (IsHeld (file_state last) → (file_state opened).committed ≡ (file_state opened).now → KeepsItems (file_state opened).now (file_state last).committed)
+      → IsClosedBy last closed → IfSome closed (IsDoneTo g image LosesNothing)
+  items_stay stays shut = loses_none image opened last closed is clean
+      (λ held was has. all_of_items (file_state opened).now.trees (file_state last).committed.trees (stays held was has)) shut

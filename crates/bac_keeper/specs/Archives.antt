@@ -2,7 +2,10 @@
 use Rattle.std.specs.Prelude.{◌≡◌, List, IsTrue}
 use Rattle.sqlite.specs.Effect.{Database}
 use Rattle.sqlite.specs.State.{State, HasCleanDisk}
+use Rattle.sqlite_trees.specs.Tree.{Trees}
 use Rattle.bac_archive.specs.Archive.{IsArchive}
+use Rattle.bac_archive.specs.Changes.{KeepsLogs as HasLogs}
+use Rattle.bac_archive.specs.Rows.{kept as items_in}
 use Rattle.bac_archive.specs.Schema.{archive_schema}
 use Rattle.bac_asked.specs.declared.end.End.{End}
 use Rattle.bac_asked.specs.declared.wanted.Wanted.{Wanted}
@@ -36,3 +39,12 @@ pub record KeepsArchive {S P : Type 0} (rules : SocketRules S P) (chosen : Chose
 -- of an archive that was found no item and no log is lost
 abbrev pub LosesNothing : Database → Database → Type 0
 LosesNothing found left = found.schema ≡ archive_schema → HasAllOf found.trees left.trees
+
+-- an archive has the items of another and no other, and each log under its id, with its instance and its name
+pub record HasSameItems (old new : Trees) : Type 0 where
+  pub items : items_in new ≡ items_in old
+  pub logs : HasLogs old new
+
+-- of an archive that was found the items are the same, and no log is lost
+abbrev pub KeepsItems : Database → Database → Type 0
+KeepsItems found left = found.schema ≡ archive_schema → HasSameItems found.trees left.trees

@@ -5,6 +5,7 @@ use Rattle.bac_asked.specs.declared.end.NotDone.{NotDone}
 use Rattle.bac_asked.specs.declared.end.NotDone.TheVariants as done
 use Rattle.bac_asked.specs.declared.fault.FileFault.{FileFault}
 use Rattle.bac_asked.specs.declared.fault.FileFault.TheVariants as fault
+use Rattle.bac_print.specs.Output.{Held}
 use Rattle.bac_files.specs.declared.not_opened.NotOpened.{NotOpened}
 use Rattle.bac_files.specs.declared.not_opened.NotOpened.TheVariants as why
 
@@ -34,3 +35,9 @@ abbrev pub EndsBy : Result ℕ NotDone → ℕ → Type 0
 EndsBy (Ok value) status = status ≡ value
 EndsBy (Err (done.File why)) status = status ≡ file_status why
 EndsBy (Err (done.Asking why)) status = ⊥
+
+-- nothing is told on the errors, unless the file is at fault
+abbrev pub IsUntold : Result ℕ NotDone → Held → Held → Type 0
+IsUntold (Ok value) old new = new ≡ old
+IsUntold (Err (done.Asking why)) old new = new ≡ old
+IsUntold (Err (done.File why)) old new = Unit {0}

@@ -1,12 +1,12 @@
 //! The tools `keep` and `kept`.
 
-ghost use Rattle.std.specs.Prelude.{◌≡◌, ◌⊎◌, IfOk, IfSome, false, is_some, true};
+ghost use Rattle.std.specs.Prelude.{◌≡◌, ◌⊎◌, IfOk, IfSome, OnErr, false, is_some, true};
 ghost use Rattle.sqlite_wal.specs.Files.{image_at};
 ghost use Rattle.bac_asked.specs.Status.{file_status};
 ghost use Rattle.bac_files.specs.Files.{IsDoneTo, IsNamed, IsUnused};
-ghost use Rattle.bac_keeper.specs.Archives.{LosesNothing};
+ghost use Rattle.bac_keeper.specs.Archives.{KeepsItems, LosesNothing};
 ghost use Rattle.bac_keeper.specs.Done.{KeepsIn};
-ghost use Rattle.bac_keeper.specs.Ends.{EndsBy, IsOfFile};
+ghost use Rattle.bac_keeper.specs.Ends.{EndsBy, IsOfFile, IsUntold};
 ghost use Rattle.bac_keeper.specs.Shown.{PrintsIn};
 ghost use Rattle.bac_keeper.specs.Stops.{StopsIn};
 ghost use Rattle.bac_ports.specs.Sockets.{socket_rules};
@@ -26,7 +26,8 @@ use std::io::Write;
 
 /// Tells why a file is no use, and answers the exit status.
 fn tell_file<E: Write>(alloc: Global, fault: FileFault, errors: &mut E) -> Result<u8, Fault>
-    ensures { IfOk result (λ status. status ≡ file_status fault) }
+    ensures status { IfOk result (λ status. status ≡ file_status fault) }
+    ensures untold { OnErr result (E.contents errors.new ≡ E.contents errors.old) }
 {
     match fault.lines(alloc) {
         Ok(text) => {
@@ -43,7 +44,9 @@ fn tell_done<E: Write>(
     done: Result<u8, NotDone>,
     errors: &mut E,
 ) -> Result<u8, Fault>
-    ensures { IfOk result (λ status. EndsBy done status) }
+    ensures ends { IfOk result (λ status. EndsBy done status) }
+    ensures said { IsUntold done (E.contents errors.old) (E.contents errors.new) }
+    ensures untold { OnErr result (E.contents errors.new ≡ E.contents errors.old) }
 {
     match done {
         Ok(status) => Ok(status),
@@ -71,13 +74,18 @@ pub fn run_keep<S: Sockets, F: Start, O: Write, E: Write>(
         × KeepsIn (socket_rules S.opens S.closes S.Socket.sends S.Socket.receives S.Socket.receives_within) ⟦<FileFrom<F> as Disk>⟧ (image_at F.Start)
         asked.now sockets.old sockets.new (O.contents output.old) (O.contents output.new) files.new.closed status)
         ⊎ IsOfFile (IsNamed asked.now.file (is_some asked.now.address) files.new) status) }
-    // With `--stop` they were stopped, and nothing else of the archive changed; no socket is opened.
-    ensures stopped { asked.now.stop ≡ true → IfOk result (λ status. (IsNamed asked.now.file false files.new
+    // With `--stop` they were stopped, and nothing else of the archive changed; no socket is opened, and
+    // only that the file is no use is told on the errors.
+    ensures stopped { asked.now.stop ≡ true → IfOk result (λ status. ((IsNamed asked.now.file false files.new
         × StopsIn ⟦<FileFrom<F> as Disk>⟧ (image_at F.Start) asked.now (O.contents output.old) (O.contents output.new) files.new.closed status)
-        ⊎ IsOfFile (IsNamed asked.now.file false files.new) status) }
+        × (E.contents errors.new ≡ E.contents errors.old)) ⊎ IsOfFile (IsNamed asked.now.file false files.new) status) }
+    ensures untold { asked.now.stop ≡ true → OnErr result (E.contents errors.new ≡ E.contents errors.old) }
     ensures silent { asked.now.stop ≡ true → sockets.new ≡ sockets.old }
     // Whatever comes of it, of an archive that the files held no item and no log is lost.
     ensures stays { IsUnused files.old → IfSome files.new.closed (IsDoneTo ⟦<FileFrom<F> as Disk>⟧ (image_at F.Start) LosesNothing) }
+    // With `--stop` no item comes to it either.
+    ensures items { asked.now.stop ≡ true → IsUnused files.old
+        → IfSome files.new.closed (IsDoneTo ⟦<FileFrom<F> as Disk>⟧ (image_at F.Start) KeepsItems) }
 {
     if asked.stop {
         let done = stop(files, alloc, asked, output);
@@ -97,10 +105,12 @@ pub fn run_kept<F: Start, O: Write, E: Write>(
     output: &mut O,
     errors: &mut E,
 ) -> Result<u8, Fault>
-    // What the archive keeps of the logs that the words choose was printed; or the file is no use.
-    ensures { IfOk result (λ status. (IsNamed asked.now.file false files.new
+    // What the archive keeps of the logs that the words choose was printed; or the file is no use, which
+    // alone is told on the errors.
+    ensures printed { IfOk result (λ status. ((IsNamed asked.now.file false files.new
         × PrintsIn ⟦<FileFrom<F> as Disk>⟧ (image_at F.Start) asked.now (O.contents output.old) (O.contents output.new) files.new.closed status)
-        ⊎ IsOfFile (IsNamed asked.now.file false files.new) status) }
+        × (E.contents errors.new ≡ E.contents errors.old)) ⊎ IsOfFile (IsNamed asked.now.file false files.new) status) }
+    ensures untold { OnErr result (E.contents errors.new ≡ E.contents errors.old) }
 {
     let done = kept(files, alloc, asked, output);
     tell_done(alloc, done, errors)

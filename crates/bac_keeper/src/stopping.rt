@@ -13,9 +13,8 @@ ghost use Rattle.bac_archive.specs.declared.trend_logs.Log.{Log as LogOf};
 ghost use Rattle.bac_asked.specs.AsLog.{given_in};
 ghost use Rattle.bac_asked.specs.declared.wanted.Wanted.{Wanted as WantedOf};
 ghost use Rattle.bac_fetch.specs.Silent.{is_same_device, is_same_log};
-ghost use Rattle.bac_fetch.specs.Stays.{HasAllOf};
 ghost use Rattle.bac_files.specs.Files.{IsDoneTo, IsNamed, IsUnused};
-ghost use Rattle.bac_keeper.specs.Archives.{IsHeld, LosesNothing};
+ghost use Rattle.bac_keeper.specs.Archives.{HasSameItems, IsHeld, KeepsItems, LosesNothing};
 ghost use Rattle.bac_keeper.specs.Done.{given_of};
 ghost use Rattle.bac_keeper.specs.Ends.{MayFail};
 ghost use Rattle.bac_keeper.specs.Stops.{Means, StopsArchive, StopsIn, are_there, is_meant, stopped_lines, stopped_logs};
@@ -181,9 +180,9 @@ fn stop_known<A: Alter>(
         × (are_there meant.now known ≡ true) × (these.items ≡ stopped_logs meant.now known)
         × HasChangedLogs (state A.Store conn.old).now (state A.Store conn.new).now these.items
         × ((state A.Store conn.new).committed ≡ (state A.Store conn.new).now)) }
-    // Whatever comes of it, no item and no log is lost.
+    // Whatever comes of it, the items are the same, and no log is lost.
     ensures stays { HasCleanDisk (state A.Store conn.new) → (state A.Store conn.old).now.schema ≡ archive_schema
-        → Survives (state A.Store conn.old) (state A.Store conn.new) (HasAllOf (state A.Store conn.old).now.trees) }
+        → Survives (state A.Store conn.old) (state A.Store conn.new) (HasSameItems (state A.Store conn.old).now.trees) }
     ensures clean { HasCleanDisk (state A.Store conn.new) → HasCleanDisk (state A.Store conn.old) }
 {
     let known = match logs(alloc, conn) {
@@ -210,9 +209,9 @@ fn stop_in<A: Alter, O: Write>(
     ensures status { IfOk result (λ status. status ≡ 0) }
     ensures stopped { HasCleanDisk (state A.Store conn.new) → OnOk result
         (StopsArchive meant.now (O.contents output.old) (O.contents output.new) (state A.Store conn.old).now (state A.Store conn.new).committed) }
-    // Whatever comes of it, no item and no log is lost.
+    // Whatever comes of it, the items are the same, and no log is lost.
     ensures stays { IsHeld (state A.Store conn.new) → (state A.Store conn.old).committed ≡ (state A.Store conn.old).now
-        → LosesNothing (state A.Store conn.old).now (state A.Store conn.new).committed }
+        → KeepsItems (state A.Store conn.old).now (state A.Store conn.new).committed }
     ensures clean { HasCleanDisk (state A.Store conn.new) → HasCleanDisk (state A.Store conn.old) }
 {
     open_archive(conn)?;
@@ -233,6 +232,7 @@ pub(crate) fn stop<F: Start, O: Write>(
     ensures named { OnOk result (IsNamed asked.now.file false files.new) }
     ensures fault { IfErr result (MayFail (IsNamed asked.now.file false files.new)) }
     ensures stays { IsUnused files.old → IfSome files.new.closed (IsDoneTo ⟦<FileFrom<F> as Disk>⟧ (image_at F.Start) LosesNothing) }
+    ensures items { IsUnused files.old → IfSome files.new.closed (IsDoneTo ⟦<FileFrom<F> as Disk>⟧ (image_at F.Start) KeepsItems) }
 {
     let options = options_of(&asked.options);
     let meant = match choose(alloc, asked, &options) {

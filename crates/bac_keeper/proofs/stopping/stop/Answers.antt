@@ -1,8 +1,8 @@
 use Rattle.std.proofs.Common.{◌≡◌, ℕ, List, false, inl, inr, rules, subst}
 use Rattle.sqlite_wal.specs.Files.{image_at}
 use Rattle.bac_files.specs.Files.{IsNamed}
-use Rattle.bac_keeper.proofs.FileLemmas.{done_named, fails_named, loses_none, none_closed}
-use Rattle.bac_keeper.proofs.StopLemmas.{stops_in}
+use Rattle.bac_keeper.proofs.FileLemmas.{done_named, fails_named, none_closed}
+use Rattle.bac_keeper.proofs.StopLemmas.{items_kept, items_stay, stops_in}
 use Rattle.bac_keeper.proofs.stopping.stop.Goals as goal
 
 pub returns-clause-named : goal.returns-clause-named
@@ -29,5 +29,13 @@ returns-clause-stays g c unused =
     let done = c.stop_in-done in
     elim c.close_file.ensures.either [
       | inl still ↦ none_closed c.close_file.new.files.closed _ (still (c.open_file.ensures.unused unused))
-      | inr shut ↦ loses_none (image_at g.F.Start) c.in_ok-conn.conn done.new.conn c.close_file.new.files.closed c.in_ok-conn.ensures.opened done.ensures.clean done.ensures.stays shut
+      | inr shut ↦ items_stay (image_at g.F.Start) c.in_ok-conn.conn done.new.conn c.close_file.new.files.closed c.in_ok-conn.ensures.opened done.ensures.clean done.ensures.stays shut
+    ]
+
+pub returns-clause-items : goal.returns-clause-items
+returns-clause-items g c unused =
+    let done = c.stop_in-done in
+    elim c.close_file.ensures.either [
+      | inl still ↦ none_closed c.close_file.new.files.closed _ (still (c.open_file.ensures.unused unused))
+      | inr shut ↦ items_kept (image_at g.F.Start) c.in_ok-conn.conn done.new.conn c.close_file.new.files.closed c.in_ok-conn.ensures.opened done.ensures.clean done.ensures.stays shut
     ]

@@ -2,7 +2,7 @@ use Rattle.std.proofs.Common.{◌∙◌, ap}
 use Rattle.sqlite.specs.Effect.{Database}
 use Rattle.sqlite.specs.Held.{state}
 use Rattle.sqlite.specs.State.{HasCleanDisk}
-use Rattle.bac_keeper.proofs.ArchiveLemmas.{loses_nothing}
+use Rattle.bac_keeper.proofs.ArchiveLemmas.{keeps_items}
 use Rattle.bac_keeper.proofs.stopping.stop_in.Goals as goal
 
 pub returns-in_err-these-clause-stays : goal.returns-in_err-these-clause-stays
@@ -13,7 +13,7 @@ returns-in_err-these-clause-stays g c held was has =
     let early : HasCleanDisk archive = c.stop_known.ensures.clean held.0 in
     let opened = c.in_ok-open_archive.ensures.archive early in
     let same = opened.same has in
-    loses_nothing found archive last was (c.in_ok-open_archive.ensures.committed early) same
+    keeps_items found archive last was (c.in_ok-open_archive.ensures.committed early) same
     (λ db may. g.met.A.Store.settled c.open_archive.new.conn.store db (c.in_ok-open_archive.ensures.same early has) may)
     (g.met.A.Store.stays c.stop_known.new.conn.store held.1) held.0
     (c.stop_known.ensures.stays held.0 (ap (λ (d : Database). d.schema) same ∙ has))
@@ -26,7 +26,7 @@ returns-in_err-print_stopped-clause-stays g c held was has =
     let early : HasCleanDisk archive = c.stop_known.ensures.clean held.0 in
     let opened = c.in_ok-open_archive.ensures.archive early in
     let same = opened.same has in
-    loses_nothing found archive last was (c.in_ok-open_archive.ensures.committed early) same
+    keeps_items found archive last was (c.in_ok-open_archive.ensures.committed early) same
     (λ db may. g.met.A.Store.settled c.open_archive.new.conn.store db (c.in_ok-open_archive.ensures.same early has) may)
     (g.met.A.Store.stays c.stop_known.new.conn.store held.1) held.0
     (c.stop_known.ensures.stays held.0 (ap (λ (d : Database). d.schema) same ∙ has))
@@ -39,7 +39,7 @@ returns-clause-stays g c held was has =
     let early : HasCleanDisk archive = c.stop_known.ensures.clean held.0 in
     let opened = c.in_ok-open_archive.ensures.archive early in
     let same = opened.same has in
-    loses_nothing found archive last was (c.in_ok-open_archive.ensures.committed early) same
+    keeps_items found archive last was (c.in_ok-open_archive.ensures.committed early) same
     (λ db may. g.met.A.Store.settled c.open_archive.new.conn.store db (c.in_ok-open_archive.ensures.same early has) may)
     (g.met.A.Store.stays c.stop_known.new.conn.store held.1) held.0
     (c.stop_known.ensures.stays held.0 (ap (λ (d : Database). d.schema) same ∙ has))
