@@ -2,6 +2,8 @@
 from kept_devices import LAST
 from kept_rounds import one, said
 
+MORE = "the last reply said that more is there\n"
+
 # Each run: what its replies with records say of more items (None: what is so), how many records are new, and its status.
 RUNS = (
     ("more is said, and none comes", True, 3, 4),
@@ -26,10 +28,13 @@ def said_more(judge, _runs):
             log.log(count)
             file = f"{judge.room}/{begin}.db"
             line = said(device, count, 0, f"caught up, next {log.total % LAST + 1}")
-            more = "the last reply said that more is there\n" if status else ""
-            judge.same(name, judge.ran(["keep", file, device.address, "1"]), (status, line + more, ""))
+            judge.same(name, judge.ran(["keep", file, device.address, "1"]), (status, line + (MORE if status else ""), ""))
             judge.judge(name, file, [device], True)
     device, log = one()
     device.says_more = True
     judge.same("an empty log that says more", judge.ran(["keep", f"{judge.room}/empty.db", device.address, "1"]),
                (0, said(device, 0, 0, "caught up, next 1"), ""))
+    device, log = one(count=1)
+    device.says_more, device.by_number = True, False
+    judge.same("by number there is never one", judge.ran(["keep", f"{judge.room}/by_time.db", device.address, "1"]),
+               (4, said(device, 1, 0, "caught up, next 2") + MORE, ""))
