@@ -1,11 +1,8 @@
 //! The program `bac`: its words, its standard streams, the machine's sockets, its files and its
-//! clock. What it does with them is in the crates bac_tools and, of `keep` and `kept`, bac_keeper.
+//! clock. What it does with them is in the crate bac_run.
 #![tactic(auto)]
 
-mod whole;
-
-use crate::whole::run_whole;
-use bac_keeper::DiskFiles;
+use bac_run::{DiskFiles, run};
 use bac_tools::{Fault, SystemClock, UdpSockets, UntilRefused, tell};
 use sqlite::Unknown;
 use std::env::Args;
@@ -40,7 +37,7 @@ fn started(rt: &HostRuntime) -> Result<u8, Fault> {
     };
     // A count is for somebody who looks at both.
     let counts = rt.stdout().is_terminal() && rt.stderr().is_terminal();
-    Ok(run_whole(
+    Ok(run(
         &mut UdpSockets::new(rt),
         &mut DiskFiles::new(rt, Unknown),
         rt.alloc(),

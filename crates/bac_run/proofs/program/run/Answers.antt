@@ -1,0 +1,59 @@
+use Rattle.std.proofs.Common.{◌∙◌, Err, Ok, ap, map, refl}
+use Rattle.std.specs.String.{string_bytes}
+use Rattle.sqlite.below.sqlite_std_file.specs.contracts.host.Host.{the_row}
+use Rattle.sqlite.below.sqlite_std_file.specs.contracts.host.HostCalls.TheImpl as host
+use Rattle.sqlite_disk.specs.contracts.modelled.ModelledDisk.TheImpl as modelled
+use Rattle.bac_ports.specs.Sockets.{socket_rules}
+use Rattle.bac_run.proofs.Ran.{job_done, never_both, none_closed, unread}
+use Rattle.bac_tools.proofs.Told.{explained_of, wrong_of}
+use Rattle.bac_tools.specs.Streams.{streams}
+use Rattle.bac_words.specs.Outcome.{job_in}
+use Rattle.bac_run.proofs.program.run.Goals as goal
+
+pub returns-in-Ok-clause-done : goal.returns-in-Ok-clause-done
+returns-in-Ok-clause-done g c asked ask =
+    let disk = modelled.ghosts the_row g.row.F host.ghosts host.dict g.F.Start g.F.Start-dict g.F.Destruct-dict in
+    let rules = socket_rules g.S.Sockets.opens g.S.Sockets.closes g.S.Socket.Port.sends g.S.Socket.Port.receives g.S.Socket.Port.receives_within in
+    let words = map string_bytes c.args.words.now in
+    let old = streams (g.I.Read.remaining c.args.input.now) (g.O.Write.contents c.args.output.now) (g.E.Write.contents c.args.errors.now) c.args.sockets.now c.args.clock.now in
+    let new = streams (g.I.Read.remaining c.run_job.new.input) (g.O.Write.contents c.run_job.new.output) (g.E.Write.contents c.run_job.new.errors) c.run_job.new.sockets c.run_job.new.clock in
+    job_done rules g.C.Clock.tells disk old new c.args.files.now c.run_job.new.files c.run_job.result words c.in-Ok.job asked c.in-Ok.ensures.ok.1 ask c.run_job.ensures.ran
+
+pub returns-in-Err-clause-done : goal.returns-in-Err-clause-done
+returns-in-Err-clause-done g c asked ask =
+    let disk = modelled.ghosts the_row g.row.F host.ghosts host.dict g.F.Start g.F.Start-dict g.F.Destruct-dict in
+    let rules = socket_rules g.S.Sockets.opens g.S.Sockets.closes g.S.Socket.Port.sends g.S.Socket.Port.receives g.S.Socket.Port.receives_within in
+    let words = map string_bytes c.args.words.now in
+    let old = streams (g.I.Read.remaining c.args.input.now) (g.O.Write.contents c.args.output.now) (g.E.Write.contents c.args.errors.now) c.args.sockets.now c.args.clock.now in
+    let new = streams (g.I.Read.remaining c.run_read.new.input) (g.O.Write.contents c.run_read.new.output) (g.E.Write.contents c.run_read.new.errors) c.run_read.new.sockets c.run_read.new.clock in
+    unread rules g.C.Clock.tells disk old new c.args.files.now c.args.files.now c.run_read.result words c.in-Err.fault c.in-Err.ensures.err c.run_read.ensures refl asked ask
+
+pub returns-in-Ok-clause-stays : goal.returns-in-Ok-clause-stays
+returns-in-Ok-clause-stays g c unused not =
+    c.run_job.ensures.stays unused (λ it. not (it.0, (c.in-Ok.ensures.ok.0, c.in-Ok.ensures.ok.1 ∙ ap Ok it.1)))
+
+pub returns-in-Err-clause-stays : goal.returns-in-Err-clause-stays
+returns-in-Err-clause-stays g c unused not = none_closed c.args.files.now.closed _ unused
+
+pub returns-in-Ok-clause-bad_value : goal.returns-in-Ok-clause-bad_value
+returns-in-Ok-clause-bad_value g c word wrong =
+    never_both (job_in (map string_bytes c.args.words.now)) c.in-Ok.job word c.in-Ok.ensures.ok.1 wrong.1
+
+pub returns-in-Err-clause-bad_value : goal.returns-in-Err-clause-bad_value
+returns-in-Err-clause-bad_value g c word wrong =
+    let rules = socket_rules g.S.Sockets.opens g.S.Sockets.closes g.S.Socket.Port.sends g.S.Socket.Port.receives g.S.Socket.Port.receives_within in
+    let words = map string_bytes c.args.words.now in
+    let old = streams (g.I.Read.remaining c.args.input.now) (g.O.Write.contents c.args.output.now) (g.E.Write.contents c.args.errors.now) c.args.sockets.now c.args.clock.now in
+    let new = streams (g.I.Read.remaining c.run_read.new.input) (g.O.Write.contents c.run_read.new.output) (g.E.Write.contents c.run_read.new.errors) c.run_read.new.sockets c.run_read.new.clock in
+    (refl, wrong_of rules g.C.Clock.tells words (Err c.in-Err.fault) old c.run_read.result new tt c.in-Err.ensures.err c.run_read.ensures word wrong)
+
+pub returns-in-Ok-clause-explained : goal.returns-in-Ok-clause-explained
+returns-in-Ok-clause-explained g c mistaken = absurd (mistaken c.in-Ok.ensures.ok.0)
+
+pub returns-in-Err-clause-explained : goal.returns-in-Err-clause-explained
+returns-in-Err-clause-explained g c mistaken =
+    let rules = socket_rules g.S.Sockets.opens g.S.Sockets.closes g.S.Socket.Port.sends g.S.Socket.Port.receives g.S.Socket.Port.receives_within in
+    let words = map string_bytes c.args.words.now in
+    let old = streams (g.I.Read.remaining c.args.input.now) (g.O.Write.contents c.args.output.now) (g.E.Write.contents c.args.errors.now) c.args.sockets.now c.args.clock.now in
+    let new = streams (g.I.Read.remaining c.run_read.new.input) (g.O.Write.contents c.run_read.new.output) (g.E.Write.contents c.run_read.new.errors) c.run_read.new.sockets c.run_read.new.clock in
+    (refl, explained_of rules g.C.Clock.tells words (Err c.in-Err.fault) old c.run_read.result new tt c.in-Err.ensures.err c.run_read.ensures mistaken)

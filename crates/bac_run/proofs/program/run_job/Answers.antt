@@ -1,0 +1,29 @@
+use Rattle.std.proofs.Common.{refl}
+use Rattle.sqlite.below.sqlite_std_file.specs.contracts.host.Host.{the_row}
+use Rattle.sqlite.below.sqlite_std_file.specs.contracts.host.HostCalls.TheImpl as host
+use Rattle.sqlite_disk.specs.contracts.modelled.ModelledDisk.TheImpl as modelled
+use Rattle.bac_ports.specs.Sockets.{socket_rules}
+use Rattle.bac_run.proofs.Ran.{keep_over, none_closed, other_done}
+use Rattle.bac_tools.specs.Streams.{streams}
+use Rattle.bac_run.proofs.program.run_job.Goals as goal
+
+pub returns-in-Keep-clause-ran : goal.returns-in-Keep-clause-ran
+returns-in-Keep-clause-ran g c =
+    let disk = modelled.ghosts the_row g.row.F host.ghosts host.dict g.F.Start g.F.Start-dict g.F.Destruct-dict in
+    let rules = socket_rules g.S.Sockets.opens g.S.Sockets.closes g.S.Socket.Port.sends g.S.Socket.Port.receives g.S.Socket.Port.receives_within in
+    let done = c.keep_and_tell in
+    let old = streams (g.I.Read.remaining c.args.input.now) (g.O.Write.contents c.args.output.now) (g.E.Write.contents c.args.errors.now) c.args.sockets.now c.args.clock.now in
+    let new = streams (g.I.Read.remaining c.args.input.now) (g.O.Write.contents done.new.output) (g.E.Write.contents done.new.errors) done.new.sockets c.args.clock.now in
+    rw c.in-Keep.is (keep_over disk rules c.in-Keep.asked c.in-Keep.asked.stop old new done.result done.new.files done.ensures.ran, (refl, refl))
+
+pub returns-in_default-clause-ran : goal.returns-in_default-clause-ran
+returns-in_default-clause-ran g c =
+    let disk = modelled.ghosts the_row g.row.F host.ghosts host.dict g.F.Start g.F.Start-dict g.F.Destruct-dict in
+    let rules = socket_rules g.S.Sockets.opens g.S.Sockets.closes g.S.Socket.Port.sends g.S.Socket.Port.receives g.S.Socket.Port.receives_within in
+    let done = c.run_read in
+    let old = streams (g.I.Read.remaining c.args.input.now) (g.O.Write.contents c.args.output.now) (g.E.Write.contents c.args.errors.now) c.args.sockets.now c.args.clock.now in
+    let new = streams (g.I.Read.remaining done.new.input) (g.O.Write.contents done.new.output) (g.E.Write.contents done.new.errors) done.new.sockets done.new.clock in
+    other_done rules g.C.Clock.tells disk old new c.args.files.now c.args.files.now done.result c.args.job c.in_default.not-Keep c.in_default.not-Kept done.ensures refl
+
+pub returns-in_default-clause-stays : goal.returns-in_default-clause-stays
+returns-in_default-clause-stays g c unused not = none_closed c.args.files.now.closed _ unused

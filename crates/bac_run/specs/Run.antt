@@ -1,0 +1,96 @@
+-- What the program does with its words: its streams, its sockets and its clock, and the files, before and now. Read from
+-- the end.
+use Rattle.std.specs.Prelude.{◌≡◌, ◌⊎◌, ℕ, Bool, true, false, List, Option, is_some}
+use Rattle.clap.specs.Words.{Text}
+use Rattle.sqlite.below.sqlite_std_file.specs.contracts.host.HostCalls.TheImpl as host
+use Rattle.sqlite.below.sqlite_std_file.specs.declared.host.Host.{Host}
+use Rattle.sqlite_disk.specs.declared.Disk as disk
+use Rattle.sqlite_disk.specs.declared.modelled.Modelled.{Modelled}
+use Rattle.sqlite_disk.specs.declared.start.Start as start
+use Rattle.sqlite_wal.specs.Files.{image_at}
+use Rattle.bac_asked.specs.declared.fault.Fault.{Fault as KeepFault}
+use Rattle.bac_files.specs.Files.{IsNamed}
+use Rattle.bac_files.specs.declared.disk_files.DiskFiles.{DiskFiles}
+use Rattle.bac_keeper.specs.Done.{KeepsIn}
+use Rattle.bac_keeper.specs.Ends.{IsOfFile}
+use Rattle.bac_keeper.specs.Shown.{PrintsIn}
+use Rattle.bac_keeper.specs.Stops.{StopsIn}
+use Rattle.bac_ports.specs.Sockets.{SocketRules}
+use Rattle.std.specs.Io.KnownBytes.{Keeps}
+use Rattle.bac_print.specs.Output.{Held}
+use Rattle.bac_run.specs.Faults.{fault_of}
+use Rattle.bac_tools.specs.Run.{AskFor, IsTold, OnlyTells, Runs}
+use Rattle.bac_tools.specs.Streams.{Streams}
+use Rattle.bac_tools.specs.declared.fault.Fault.TheVariants.{Memory}
+use Rattle.bac_wire.specs.Stamp.{CivilTime}
+use Rattle.bac_words.specs.declared.job.Job.{Job}
+use Rattle.bac_words.specs.declared.job.Job.TheVariants as job
+use Rattle.bac_words.specs.declared.job.Keep.{Keep}
+use Rattle.bac_words.specs.declared.job.Kept.{Kept}
+
+-- a file of the machine that held what a `Start` says
+abbrev pub FileOf : {F : Type 0} → start.Ghosts F → Type 0
+FileOf {F = F} s = Modelled Host F host.ghosts s
+
+-- a job of `kept`
+abbrev pub IsOfKept : Job → Type 0
+IsOfKept asked = (kept : Kept) × (asked ≡ job.Kept kept)
+
+-- words that ask for one
+abbrev pub AskForKept : List Text → Type 0
+AskForKept words = (kept : Kept) × AskFor words (job.Kept kept)
+
+-- the input isn't read, and the clock isn't looked at
+abbrev pub IsStill : {S C : Type 0} → Streams S C → Streams S C → Type 0
+IsStill old new = (new.input ≡ old.input) × (new.clock ≡ old.clock)
+
+-- a fault of `keep` or `kept` is told with its status
+abbrev pub TellsFault : Held → Held → ℕ → Type 0
+TellsFault said errors status = (why : KeepFault) × IsTold (fault_of why) said errors status
+
+-- the same behind what was said before
+abbrev pub TellsLast : Held → ℕ → Type 0
+TellsLast errors status = (said : Held) × TellsFault said errors status
+
+module _ {S C F : Type 0} {s : start.Ghosts F} (g : disk.Ghosts (FileOf s)) where
+  -- `keep`: the logs that the words choose were kept in the archive that the files held; or the file is no use; or a fault
+  -- is told. With `--stop` those that the words mean were stopped, and no socket is opened.
+  abbrev pub RunsKeepBy : {P : Type 0} → SocketRules S P → Bool → Keep → Streams S C → ℕ → Streams S C → DiskFiles F s → Type 0
+  RunsKeepBy rules false asked old status new left =
+      (IsNamed asked.file (is_some asked.address) left
+      × KeepsIn rules g (image_at s) asked old.sockets new.sockets old.output new.output left.closed status)
+      ⊎ (IsOfFile (IsNamed asked.file (is_some asked.address) left) status
+      ⊎ TellsLast new.errors status)
+  RunsKeepBy rules true asked old status new left =
+      (((IsNamed asked.file false left × StopsIn g (image_at s) asked old.output new.output left.closed status)
+      × Keeps old.errors new.errors)
+      ⊎ (IsOfFile (IsNamed asked.file false left) status
+      ⊎ TellsFault old.errors new.errors status))
+      × (new.sockets ≡ old.sockets)
+
+  -- the same by the words
+  abbrev pub RunsKeep : {P : Type 0} → SocketRules S P → Keep → Streams S C → ℕ → Streams S C → DiskFiles F s → Type 0
+  RunsKeep rules asked old status new left = RunsKeepBy rules asked.stop asked old status new left
+
+  -- `kept`: what the archive keeps of the logs that the words choose was printed; or the file is no use; or a fault is told
+  abbrev pub RunsKept : Kept → Streams S C → ℕ → Streams S C → DiskFiles F s → Type 0
+  RunsKept asked old status new left =
+      ((IsNamed asked.file false left × PrintsIn g (image_at s) asked old.output new.output left.closed status)
+      × Keeps old.errors new.errors)
+      ⊎ (IsOfFile (IsNamed asked.file false left) status
+      ⊎ TellsFault old.errors new.errors status)
+
+  -- The tool of a job. Each other one than `keep` and `kept` leaves the files alone; `kept` opens no socket.
+  abbrev pub DoesAll : {P : Type 0} → SocketRules S P → (C → Option CivilTime → C → Type 0) → Job →
+      Streams S C → DiskFiles F s → ℕ → Streams S C → DiskFiles F s → Type 0
+  DoesAll rules tells (job.Keep asked) old files status new left =
+      RunsKeep rules asked old status new left × IsStill old new
+  DoesAll rules tells (job.Kept asked) old files status new left =
+      RunsKept asked old status new left × IsStill old new × (new.sockets ≡ old.sockets)
+  DoesAll rules tells other old files status new left = Runs rules tells other old status new × (left ≡ files)
+
+  -- What the words ask for is done; or nothing is, as there is no memory for the words.
+  abbrev pub RunsAll : {P : Type 0} → SocketRules S P → (C → Option CivilTime → C → Type 0) → Job →
+      Streams S C → DiskFiles F s → ℕ → Streams S C → DiskFiles F s → Type 0
+  RunsAll rules tells asked old files status new left =
+      (OnlyTells Memory old status new × (left ≡ files)) ⊎ DoesAll rules tells asked old files status new left

@@ -1,0 +1,150 @@
+//! All tools of the program.
+
+ghost use Rattle.std.specs.Prelude.{◌≡◌, [], map, None, IfSome};
+ghost use Rattle.std.specs.String.{string_bytes};
+ghost use Rattle.sqlite_wal.specs.Files.{image_at};
+ghost use Rattle.bac_files.specs.Files.{IsDoneTo, IsUnused};
+ghost use Rattle.bac_keeper.specs.Archives.{LosesNothing};
+ghost use Rattle.bac_ports.specs.Sockets.{socket_rules};
+ghost use Rattle.bac_tools.specs.Run.{AnswersWords, AreWrong, AskFor, Ends, OnlyTells, wrong_fault};
+ghost use Rattle.bac_tools.specs.Streams.{streams};
+ghost use Rattle.bac_words.specs.Outcome.{mistakes_of};
+ghost use Rattle.bac_words.specs.declared.job.Job.{Job as AnyJob};
+ghost use Rattle.bac_words.specs.declared.word.Word.{Word as AnyWord};
+ghost use Rattle.bac_run.specs.Faults.{ending_of, fault_of};
+ghost use Rattle.bac_run.specs.Run.{AskForKept, DoesAll, IsOfKept, RunsAll, RunsKeep, RunsKept};
+
+use bac_keeper::{DiskFiles, Fault as KeepFault, run_keep, run_kept};
+use bac_ports::Sockets;
+use bac_tools::{Clock, Fault, run_read, tell};
+use bac_words::{Job, Keep, Kept, read_words};
+use sqlite::{FileFrom, Start};
+use sqlite_disk::Disk;
+use std::alloc::Global;
+use std::io::{Read, Write};
+
+/// A fault of `keep` or `kept`, as one of the program.
+fn fault_of(fault: KeepFault) -> Fault
+    ensures { result ≡ fault_of fault }
+{
+    match fault {
+        KeepFault::BadValue(word) => Fault::BadValue(word),
+        KeepFault::LongNumber(word) => Fault::LongNumber(word),
+        KeepFault::Socket => Fault::Socket,
+        KeepFault::Exchange { address, fault } => Fault::Exchange { address, fault },
+        KeepFault::Write => Fault::Write,
+        KeepFault::Memory => Fault::Memory,
+    }
+}
+
+/// The status of `keep` or `kept`, whose fault is told.
+fn ended<E: Write>(alloc: Global, done: Result<u8, KeepFault>, errors: &mut E) -> u8
+    ensures { Ends (ending_of done) (E.contents errors.old) (E.contents errors.new) result }
+{
+    match done {
+        Ok(status) => status,
+        Err(fault) => tell(alloc, fault_of(fault), errors),
+    }
+}
+
+/// `keep`, and its fault is told.
+fn keep_and_tell<S: Sockets, F: Start, O: Write, E: Write>(
+    sockets: &mut S,
+    files: &mut DiskFiles<'_, F>,
+    alloc: Global,
+    asked: &Keep,
+    counts: bool,
+    output: &mut O,
+    errors: &mut E,
+) -> u8
+    ensures ran { RunsKeep ⟦<FileFrom<F> as Disk>⟧ (socket_rules S.opens S.closes S.Socket.sends S.Socket.receives S.Socket.receives_within) asked.now
+        (streams None (O.contents output.old) (E.contents errors.old) sockets.old (tt {0})) result
+        (streams None (O.contents output.new) (E.contents errors.new) sockets.new (tt {0})) files.new }
+    ensures stays { IsUnused files.old → IfSome files.new.closed (IsDoneTo ⟦<FileFrom<F> as Disk>⟧ (image_at F.Start) LosesNothing) }
+{
+    let done = run_keep(sockets, files, alloc, asked, counts, output, errors);
+    ended(alloc, done, errors)
+}
+
+/// `kept`, and its fault is told.
+fn print_and_tell<F: Start, O: Write, E: Write>(
+    files: &mut DiskFiles<'_, F>,
+    alloc: Global,
+    asked: &Kept,
+    output: &mut O,
+    errors: &mut E,
+) -> u8
+    ensures { RunsKept ⟦<FileFrom<F> as Disk>⟧ asked.now
+        (streams None (O.contents output.old) (E.contents errors.old) (tt {0}) (tt {0})) result
+        (streams None (O.contents output.new) (E.contents errors.new) (tt {0}) (tt {0})) files.new }
+{
+    let done = run_kept(files, alloc, asked, output, errors);
+    ended(alloc, done, errors)
+}
+
+/// Does what a job asks for, and answers the exit status.
+fn run_job<S: Sockets, F: Start, I: Read, O: Write, E: Write, C: Clock>(
+    sockets: &mut S,
+    files: &mut DiskFiles<'_, F>,
+    alloc: Global,
+    job: Job,
+    counts: bool,
+    input: &mut I,
+    output: &mut O,
+    errors: &mut E,
+    clock: &mut C,
+) -> u8
+    ensures ran { DoesAll ⟦<FileFrom<F> as Disk>⟧ (socket_rules S.opens S.closes S.Socket.sends S.Socket.receives S.Socket.receives_within) C.tells job
+        (streams (I.remaining input.old) (O.contents output.old) (E.contents errors.old) sockets.old clock.old) files.old result
+        (streams (I.remaining input.new) (O.contents output.new) (E.contents errors.new) sockets.new clock.new) files.new }
+    ensures stays { IsUnused files.old → (IsOfKept job → ⊥) → IfSome files.new.closed (IsDoneTo ⟦<FileFrom<F> as Disk>⟧ (image_at F.Start) LosesNothing) }
+{
+    match job {
+        Job::Keep(asked) => keep_and_tell(sockets, files, alloc, &asked, counts, output, errors),
+        Job::Kept(asked) => print_and_tell(files, alloc, &asked, output, errors),
+        other => run_read(sockets, alloc, Ok(other), input, output, errors, clock),
+    }
+}
+
+/// The program `bac`: does what its words ask for, the first of which is its name, and answers the
+/// exit status. Results and help go to the output; faults, and the line of a server that is up, go to
+/// the errors. `counts` is for a terminal: of `keep` the errors have a count of records while a log is
+/// fetched.
+pub fn run<S: Sockets, F: Start, I: Read, O: Write, E: Write, C: Clock>(
+    sockets: &mut S,
+    files: &mut DiskFiles<'_, F>,
+    alloc: Global,
+    words: &[String],
+    counts: bool,
+    input: &mut I,
+    output: &mut O,
+    errors: &mut E,
+    clock: &mut C,
+) -> u8
+    // The tool that the words name does what they say.
+    ensures done { (job : AnyJob) → AskFor (map string_bytes words.now) job →
+        RunsAll ⟦<FileFrom<F> as Disk>⟧ (socket_rules S.opens S.closes S.Socket.sends S.Socket.receives S.Socket.receives_within) C.tells job
+        (streams (I.remaining input.old) (O.contents output.old) (E.contents errors.old) sockets.old clock.old) files.old result
+        (streams (I.remaining input.new) (O.contents output.new) (E.contents errors.new) sockets.new clock.new) files.new }
+    // Whatever comes of it, of an archive that the files held no item and no log is lost.
+    ensures stays { IsUnused files.old → (AskForKept (map string_bytes words.now) → ⊥)
+        → IfSome files.new.closed (IsDoneTo ⟦<FileFrom<F> as Disk>⟧ (image_at F.Start) LosesNothing) }
+    // Of words with a wrong value this is told, and nothing else is done.
+    ensures bad_value { (word : AnyWord) → AreWrong (map string_bytes words.now) word → (files.new ≡ files.old)
+        × OnlyTells (wrong_fault (map string_bytes words.now) word)
+        (streams (I.remaining input.old) (O.contents output.old) (E.contents errors.old) sockets.old clock.old) result
+        (streams (I.remaining input.new) (O.contents output.new) (E.contents errors.new) sockets.new clock.new) }
+    // Words that ask for help or the version have it on the output, those with a mistake on the
+    // errors, and nothing else is done.
+    ensures explained { (mistakes_of (map string_bytes words.now) ≡ [] → ⊥) → (files.new ≡ files.old)
+        × AnswersWords (map string_bytes words.now)
+        (streams (I.remaining input.old) (O.contents output.old) (E.contents errors.old) sockets.old clock.old) result
+        (streams (I.remaining input.new) (O.contents output.new) (E.contents errors.new) sockets.new clock.new) }
+{
+    match read_words(alloc, words) {
+        Ok(job) => run_job(
+            sockets, files, alloc, job, counts, input, output, errors, clock,
+        ),
+        Err(fault) => run_read(sockets, alloc, Err(fault), input, output, errors, clock),
+    }
+}
