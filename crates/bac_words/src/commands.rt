@@ -359,7 +359,8 @@ Without INSTANCE it adds each trend log of the device's Object_List, and
 bac keep site.db fetches what is new of each log in the file. sqlite3 reads it.
 With --stop the file keeps what it has of these logs, and they are left out.
 
-Status: the greatest of its logs' as bac log has them, but 8 for a step limit;
+Status: the greatest of its logs' as bac log has them, but 8 for a step limit,
+and 4 where a log is caught up, though the last reply said that more is there;
 6 the file isn't an archive, can't be read or written, or is full; 7 another
 program has it open.";
     let command = tool(alloc, "keep", about, example);
