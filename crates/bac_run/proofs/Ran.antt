@@ -1,8 +1,7 @@
 -- What the program does, by what its tools did.
-use Rattle.std.proofs.Common.{◌≡◌, ℕ, Bool, true, false, List, inl, inr, Option, None, is_some, refl, Result, Ok, Err, IfOk, IfSome, OnErr, subst, sym, ◌⊎◌}
+use Rattle.std.proofs.Common.{◌≡◌, ℕ, Bool, true, false, List, inl, inr, Option, None, is_some, refl, Result, Ok, Err, IfOk, OnErr, subst, sym, ◌⊎◌}
 use Rattle.clap.specs.Words.{Text, IsAmong, kind_of}
 use Rattle.sqlite_disk.specs.declared.Disk as disk
-use Rattle.sqlite_disk.specs.declared.Files.{Files}
 use Rattle.sqlite_disk.specs.declared.start.Start as start
 use Rattle.sqlite_wal.specs.Files.{image_at}
 use Rattle.bac_asked.specs.declared.fault.Fault.{Fault as KeepFault}
@@ -15,7 +14,7 @@ use Rattle.bac_keeper.specs.Stops.{StopsIn}
 use Rattle.bac_ports.specs.Sockets.{SocketRules}
 use Rattle.bac_print.specs.Output.{Held}
 use Rattle.bac_run.specs.Faults.{ending_of, fault_of}
-use Rattle.bac_run.specs.Run.{DoesAll, FileOf, RunsAll, RunsKeepBy, RunsKept, TellsFault, TellsLast}
+use Rattle.bac_run.specs.Run.{DoesAll, FileOf, HasFaultStatus, RunsAll, RunsKeepBy, RunsKept, TellsFault}
 use Rattle.std.specs.Io.KnownBytes.{Keeps}
 use Rattle.bac_tools.specs.Run.{AskFor, Ends, IsTold, RunsRead}
 use Rattle.bac_tools.specs.Streams.{Streams, streams}
@@ -29,21 +28,24 @@ use Rattle.bac_words.specs.declared.job.Keep.{Keep as KeepWords}
 use Rattle.bac_words.specs.declared.job.Kept.{Kept as KeptWords}
 use Rattle.bac_words.specs.declared.word.Word.{Word}
 
--- of files that aren't closed nothing has to hold
-pub none_closed : {D : Type 0} (closed : Option (Files D)) (Q : Files D → Type 0) → closed ≡ None → IfSome closed Q
-none_closed closed Q is = subst (λ (o : Option (Files _)). IfSome o Q) (sym is) tt
+-- a fault that is told has its status
+status_told : (why : KeepFault) (said errors : Held) (status : ℕ) → IsTold (fault_of why) said errors status → HasFaultStatus status
+status_told why said errors status told = elim told [
+  | inl its ↦ (why, inl its.0)
+  | inr memory ↦ (why, inr memory.0)
+]
 
 -- a tool of the archive, and its fault is told
 told_so : (Done : ℕ → Type 0) (named : Type 0) (said errors : Held) (done : Result ℕ KeepFault) (status : ℕ)
     → IfOk done (λ n. Done n ⊎ IsOfFile named n) → Ends (ending_of done) said errors status
-    → Done status ⊎ (IsOfFile named status ⊎ TellsLast errors status)
+    → Done status ⊎ (IsOfFile named status ⊎ HasFaultStatus status)
 told_so Done named said errors (Ok n) status ok ends =
-    subst (λ (m : ℕ). Done m ⊎ (IsOfFile named m ⊎ TellsLast errors m)) (sym ends.0)
+    subst (λ (m : ℕ). Done m ⊎ (IsOfFile named m ⊎ HasFaultStatus m)) (sym ends.0)
     (elim ok [
       | inl is ↦ inl is
       | inr useless ↦ inr (inl useless)
     ])
-told_so Done named said errors (Err why) status ok ends = inr (inr (said, (why, ends)))
+told_so Done named said errors (Err why) status ok ends = inr (inr (status_told why said errors status ends))
 
 -- the same of one that told nothing before, unless the file is at fault
 told_alone : (Done : ℕ → Type 0) (named : Type 0) (before said errors : Held) (done : Result ℕ KeepFault) (status : ℕ)

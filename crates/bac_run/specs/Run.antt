@@ -20,6 +20,7 @@ use Rattle.std.specs.Io.KnownBytes.{Keeps}
 use Rattle.bac_print.specs.Output.{Held}
 use Rattle.bac_run.specs.Faults.{fault_of}
 use Rattle.bac_tools.specs.Run.{AskFor, IsTold, OnlyTells, Runs}
+use Rattle.bac_tools.specs.Status.{exit_status}
 use Rattle.bac_tools.specs.Streams.{Streams}
 use Rattle.bac_tools.specs.declared.fault.Fault.TheVariants.{Memory}
 use Rattle.bac_wire.specs.Stamp.{CivilTime}
@@ -48,19 +49,22 @@ IsStill old new = (new.input ≡ old.input) × (new.clock ≡ old.clock)
 abbrev pub TellsFault : Held → Held → ℕ → Type 0
 TellsFault said errors status = (why : KeepFault) × IsTold (fault_of why) said errors status
 
--- the same behind what was said before
-abbrev pub TellsLast : Held → ℕ → Type 0
-TellsLast errors status = (said : Held) × TellsFault said errors status
+-- The status is that of a fault of `keep`, or of no memory to tell it: what the runs over logs told on the errors before is
+-- nowhere said, so of what is told here nothing can be.
+abbrev pub HasFaultStatus : ℕ → Type 0
+HasFaultStatus status =
+    (why : KeepFault) × ((status ≡ exit_status (fault_of why)) ⊎ (status ≡ exit_status Memory))
 
 module _ {S C F : Type 0} {s : start.Ghosts F} (g : disk.Ghosts (FileOf s)) where
-  -- `keep`: the logs that the words choose were kept in the archive that the files held; or the file is no use; or a fault
-  -- is told. With `--stop` those that the words mean were stopped, and no socket is opened.
+  -- `keep`: the logs that the words choose were kept in the archive that the files held; or the file is no use; or the
+  -- status is a fault's. With `--stop` those that the words mean were stopped, or the file is no use, or a fault is told; and
+  -- no socket is opened.
   abbrev pub RunsKeepBy : {P : Type 0} → SocketRules S P → Bool → Keep → Streams S C → ℕ → Streams S C → DiskFiles F s → Type 0
   RunsKeepBy rules false asked old status new left =
       (IsNamed asked.file (is_some asked.address) left
       × KeepsIn rules g (image_at s) asked old.sockets new.sockets old.output new.output left.closed status)
       ⊎ (IsOfFile (IsNamed asked.file (is_some asked.address) left) status
-      ⊎ TellsLast new.errors status)
+      ⊎ HasFaultStatus status)
   RunsKeepBy rules true asked old status new left =
       (((IsNamed asked.file false left × StopsIn g (image_at s) asked old.output new.output left.closed status)
       × Keeps old.errors new.errors)

@@ -1,8 +1,9 @@
 //! The program `bac`: all its tools, over sockets, files, streams and a clock that the caller hands
 //! in.
 //!
-//! [`run`] reads the words, does what they ask for and answers the exit status. What each tool does is
-//! stated by the job that the words are (specs/Run), from what the caller hands in to what it leaves.
+//! [`run`] reads the words, does what they ask for and answers the exit status. What each tool does
+//! is stated by the job that the words are (specs/Run), from what the caller hands in to what it
+//! leaves.
 #![tactic(auto)]
 
 mod program;

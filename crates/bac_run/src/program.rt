@@ -107,9 +107,9 @@ fn run_job<S: Sockets, F: Start, I: Read, O: Write, E: Write, C: Clock>(
 }
 
 /// The program `bac`: does what its words ask for, the first of which is its name, and answers the
-/// exit status. Results and help go to the output; faults, and the line of a server that is up, go to
-/// the errors. `counts` is for a terminal: of `keep` the errors have a count of records while a log is
-/// fetched.
+/// exit status. Results and help go to the output; faults, and the line of a server that is up, go
+/// to the errors. `counts` is for a terminal: of `keep` the errors have a count of records while a
+/// log is fetched.
 pub fn run<S: Sockets, F: Start, I: Read, O: Write, E: Write, C: Clock>(
     sockets: &mut S,
     files: &mut DiskFiles<'_, F>,

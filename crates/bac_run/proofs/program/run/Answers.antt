@@ -3,8 +3,9 @@ use Rattle.std.specs.String.{string_bytes}
 use Rattle.sqlite.below.sqlite_std_file.specs.contracts.host.Host.{the_row}
 use Rattle.sqlite.below.sqlite_std_file.specs.contracts.host.HostCalls.TheImpl as host
 use Rattle.sqlite_disk.specs.contracts.modelled.ModelledDisk.TheImpl as modelled
+use Rattle.bac_keeper.proofs.FileLemmas.{none_closed}
 use Rattle.bac_ports.specs.Sockets.{socket_rules}
-use Rattle.bac_run.proofs.Ran.{job_done, never_both, none_closed, unread}
+use Rattle.bac_run.proofs.Ran.{job_done, never_both, unread}
 use Rattle.bac_tools.proofs.Told.{explained_of, wrong_of}
 use Rattle.bac_tools.specs.Streams.{streams}
 use Rattle.bac_words.specs.Outcome.{job_in}

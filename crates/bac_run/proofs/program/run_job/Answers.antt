@@ -2,8 +2,9 @@ use Rattle.std.proofs.Common.{refl}
 use Rattle.sqlite.below.sqlite_std_file.specs.contracts.host.Host.{the_row}
 use Rattle.sqlite.below.sqlite_std_file.specs.contracts.host.HostCalls.TheImpl as host
 use Rattle.sqlite_disk.specs.contracts.modelled.ModelledDisk.TheImpl as modelled
+use Rattle.bac_keeper.proofs.FileLemmas.{none_closed}
 use Rattle.bac_ports.specs.Sockets.{socket_rules}
-use Rattle.bac_run.proofs.Ran.{keep_over, none_closed, other_done}
+use Rattle.bac_run.proofs.Ran.{keep_over, other_done}
 use Rattle.bac_tools.specs.Streams.{streams}
 use Rattle.bac_run.proofs.program.run_job.Goals as goal
 
