@@ -10,4 +10,7 @@ pub mod FollowLemmas
 mod NewestLemmas
 pub mod ItemsLemmas
 mod StandingLemmas
+mod ChangeStatement
 pub mod ChangeLemmas
+mod CauseLemmas
+mod CreateLemmas

@@ -8,3 +8,5 @@ pub mod Latest
 pub mod Items
 pub mod Parts
 pub mod Standing
+pub mod Causes
+pub mod OpenCauses

@@ -1,5 +1,5 @@
 -- What runs keep of replies that came by transactions, one after the other.
-use Rattle.std.proofs.Common.{◌≡◌, ◌≢◌, ℕ, ◌+◌, ◌≤◌, List, [], ◌++◌, refl, sym, subst, ◌∙◌, arith}
+use Rattle.std.proofs.Common.{◌≡◌, ◌≢◌, ℕ, ◌+◌, ◌≤◌, List, [], ◌∷◌, ◌++◌, refl, sym, ap, subst, ◌∙◌, arith}
 use Rattle.sqlite.specs.Effect.{Database}
 use Rattle.sqlite_value.specs.Order.{Row as Values}
 use Rattle.bac_link.specs.declared.item.Item.{Item}
@@ -18,6 +18,7 @@ use Rattle.bac_archive.proofs.BeginLemmas.{adds_nothing}
 use Rattle.bac_keep.specs.declared.place.Place.{Place}
 use Rattle.bac_keep.specs.Items.{era, era_after, kept_rows}
 use Rattle.bac_keep.specs.Came.{CameBy, GathersBy, KeepsBy}
+use Rattle.bac_keep.specs.Rising.{free_after, free_behind}
 use Rattle.bac_keep.specs.Runs.{records_in, gaps_among}
 use Rattle.bac_keep.proofs.Eras.{rows-append, era-append}
 use Rattle.bac_keep.proofs.RunLemmas.{appended_then, gaps-append, records-append}
@@ -105,3 +106,35 @@ module _ {S : Type 0} (asks : Asking S) where
   came_last t u z link half left w mid n most steps few (came, items, run) (k, more, others, ended, after, less, step) =
       let both = brought_joins asks t u z link half left w mid after n k items others ended (came, run) (more, step) in
       (n + k, both.0, items ++ others, ended, after, omega (arith, few, less), both.1)
+
+  -- ---- the least number that may come behind what is kept
+
+  -- what is kept, and the number behind it
+  abbrev pub KeepsUpTo : Transactions → Place → Place → Database → Database → S → S → WalkPlace → WalkPlace → ℕ → Ended → ℕ → ℕ → Transactions → ℕ → ℕ → Type 0
+  KeepsUpTo first place reached old new link left before after steps ended records gaps last free now =
+      (kept : KeepsBy asks first place reached old new link left before after steps ended records gaps last) × (now ≡ free_after free kept.over.items)
+
+  pub up_to_nothing : (t : Transactions) (place : Place) (db : Database) (link : S) (w : WalkPlace) (free : ℕ) → db.schema ≡ archive_schema → KeepsUpTo t place place db db link link w w 0 StepLimit 0 0 t free free
+  unfolding by_nothing kept_by
+  up_to_nothing t place db link w free has = (by_nothing t place db link w has, refl)
+
+  free_after-append : (free : ℕ) (xs ys : List Item) → free_after free (xs ++ ys) ≡ free_after (free_after free xs) ys
+  free_after-append free [] ys = refl
+  free_after-append free (x ∷ xs) ys = free_after-append (free_behind x) xs ys
+
+  pub up_to_then : (t u z : Transactions) (place halfway reached : Place) (a b c : Database) (link half left : S) (before middle after : WalkPlace) (steps more : ℕ) (ended : Ended) (records gaps records_then gaps_then free there now : ℕ) →
+      KeepsUpTo t place halfway a b link half before middle steps StepLimit records gaps u free there →
+      KeepsUpTo u halfway reached b c half left middle after more ended records_then gaps_then z there now →
+      KeepsUpTo t place reached a c link left before after (steps + more) ended (records + records_then) (gaps + gaps_then) z free now
+  unfolding by_then kept_by
+  up_to_then t u z place halfway reached a b c link half left before middle after steps more ended records gaps records_then gaps_then free there now (p, is) (q, then) = (
+    by_then t u z place halfway reached a b c link half left before middle after steps more ended records gaps records_then gaps_then p q,
+    then ∙ ap (λ n. free_after n q.over.items) is ∙ sym (free_after-append free p.over.items q.over.items),
+  )
+
+  pub up_to_one : (t z : Transactions) (place reached : Place) (old new : Database) (link left : S) (before after : WalkPlace) (ended : Ended) (rows : List Values) (records gaps free now : ℕ) → after.log ≡ before.log →
+      (came : GathersBy asks t place reached rows records gaps link left before after ended z) × (now ≡ free_after free came.0.0) → IsAppended old new rows →
+      KeepsUpTo t place reached old new link left before after 1 ended records gaps z free now
+  unfolding by_one kept_by
+  up_to_one t z place reached old new link left before after ended rows records gaps free now log ((g, run), is) added =
+      (by_one t z place reached old new link left before after ended rows records gaps log (g, run) added, is)

@@ -13,3 +13,4 @@ mod RunCoverLemmas
 pub mod TurnLemmas
 mod BegunLemmas
 mod RoundLemmas
+mod CauseLemmas

@@ -15,7 +15,8 @@ use Rattle.bac_keep.specs.declared.place.Place.{Place}
 use Rattle.bac_link.specs.Path.{towards}
 use Rattle.bac_keep.specs.Came.{KeepsBy}
 use Rattle.bac_keep.specs.Runs.{KeepsRun}
-use Rattle.bac_keep.proofs.ByLemmas.{by_early, by_nothing, by_then, came_last, came_then, none_came}
+use Rattle.bac_keep.proofs.ByLemmas.{KeepsUpTo, by_early, by_nothing, by_then, came_last, came_then, none_came, up_to_nothing, up_to_then}
+use Rattle.bac_keep.proofs.CauseLemmas.{still_archive, unkept_at}
 use Rattle.bac_keep.proofs.CameLemmas.{leaves_over_more, leaves_over_then}
 use Rattle.bac_keep.proofs.RunLemmas.{keeps_nothing, keeps_then, keeps_early, leaves_more, leaves_then, tested_first}
 use Rattle.bac_keep.proofs.Taken.{goes_on}
@@ -31,9 +32,11 @@ loop-done-init g c = record {
   few_records = omega arith;
   few_gaps = omega arith;
   tested = λ h. absurd (omega (arith, h));
+  ended = λ h. absurd (omega (arith, h));
   none = λ h. (refl, refl, refl);
   kept = λ clean has. keeps_nothing (λ link id r M H. g.L.LogLink.is_ours link id r M H) (λ link. g.L.LogLink.failures link) c.args.place c.args.transactions.now.retries (state g.S.Store c.args.conn.now).now c.args.link.now c.args.walk has;
   transacted = λ clean has. by_nothing g.L.LogLink.asks c.args.transactions.now c.args.place (state g.S.Store c.args.conn.now).now c.args.link.now c.args.walk has;
+  behind = λ clean has. up_to_nothing g.L.LogLink.asks c.args.transactions.now c.args.place (state g.S.Store c.args.conn.now).now c.args.link.now c.args.walk c.args.free has;
   asked = none_came g.L.LogLink.asks c.args.transactions.now c.args.link.now c.args.walk;
   committed = λ clean same. same;
   crash_over = survives_weaker (state g.S.Store c.args.conn.now) (state g.S.Store c.args.conn.now) _ _ (λ clean db none. absurd none) (stays (state g.S.Store c.args.conn.now));
@@ -117,6 +120,7 @@ loop-done-preserved g c = record {
   tested = λ more.
       let X : Held g.row.S.Denot → Type 0 = λ h. (state g.S.Store h).now.schema ≡ archive_schema in
       tested_first X c.args.conn.now c.loop-done.conn c.loop-done.done c.loop-done.invariant.tested (λ e. (c.loop-done.invariant.none e).0) c.in-Ok.ensures.tested;
+  ended = λ h. c.in-Ok.ensures.ended;
   none = λ h. absurd (omega (arith, h));
   kept = λ clean has.
       let early : HasCleanDisk (state g.S.Store c.loop-done.conn) = omega (arith, clean, c.keep_next.ensures.crash.clean) in
@@ -138,6 +142,16 @@ loop-done-preserved g c = record {
       (state g.S.Store c.args.conn.now).now (state g.S.Store c.loop-done.conn).now (state g.S.Store c.keep_next.new.conn).now
       c.args.link.now c.loop-done.link c.keep_next.new.link c.args.walk c.loop-done.walk c.keep_next.new.walk c.loop-done.done 1 c.in-Ok.step.ended c.loop-done.records c.loop-done.gaps c.in-Ok.step.records c.in-Ok.step.gaps
       (c.loop-done.invariant.transacted early has) (c.in-Ok.ensures.transacted clean));
+  behind = λ clean has.
+      let early : HasCleanDisk (state g.S.Store c.loop-done.conn) = omega (arith, clean, c.keep_next.ensures.crash.clean) in
+      let limit = limit_reached c.in-Ok.step.ended (sym c.why.ensures ∙ c.in_default.is) in
+      let P : Ended → Type 0 = λ ended. KeepsUpTo g.L.LogLink.asks c.args.transactions.now c.args.place c.keep_next.new.place
+      (state g.S.Store c.args.conn.now).now (state g.S.Store c.keep_next.new.conn).now c.args.link.now c.keep_next.new.link c.args.walk c.keep_next.new.walk
+      (c.loop-done.done + 1) ended (c.loop-done.records + c.in-Ok.step.records) (c.loop-done.gaps + c.in-Ok.step.gaps) c.keep_next.new.transactions c.args.free c.keep_next.new.free in
+      subst P limit (up_to_then g.L.LogLink.asks c.args.transactions.now c.loop-done.transactions c.keep_next.new.transactions c.args.place c.loop-done.place c.keep_next.new.place
+      (state g.S.Store c.args.conn.now).now (state g.S.Store c.loop-done.conn).now (state g.S.Store c.keep_next.new.conn).now
+      c.args.link.now c.loop-done.link c.keep_next.new.link c.args.walk c.loop-done.walk c.keep_next.new.walk c.loop-done.done 1 c.in-Ok.step.ended c.loop-done.records c.loop-done.gaps c.in-Ok.step.records c.in-Ok.step.gaps
+      c.args.free c.loop-done.free c.keep_next.new.free (c.loop-done.invariant.behind early has) (c.in-Ok.ensures.behind clean));
   asked =
       let limit = limit_reached c.in-Ok.step.ended (sym c.why.ensures ∙ c.in_default.is) in
       let P : Ended → Type 0 = λ ended. (came : List Came) × (items : List Item)
@@ -289,3 +303,14 @@ returns-clause-crash_over g c =
     survives_weaker (state g.S.Store c.args.conn.now) (state g.S.Store c.loop-done.conn) _ _
     (λ clean db it. leaves_over_more g.L.LogLink.asks (towards c.args.transactions.now.route) c.args.transactions.now.retries c.args.place (state g.S.Store c.args.conn.now).now c.args.link.now c.args.walk c.loop-done.done c.args.steps db (omega arith) it)
     c.loop-done.invariant.crash_over
+
+-- the steps before are kept, and the next fails for its cause
+pub returns-in-Err-clause-cause : goal.returns-in-Err-clause-cause
+returns-in-Err-clause-cause g c clean has =
+    let early : HasCleanDisk (state g.S.Store c.loop-done.conn) = omega (arith, clean, c.keep_next.ensures.crash.clean) in
+    let there = still_archive (c.loop-done.invariant.transacted early has) in
+    let up_to = c.loop-done.invariant.behind early has in
+    let why = c.in-Err.ensures.cause clean there in
+    unkept_at g.L.LogLink.asks c.args.transactions.now c.loop-done.transactions c.args.place c.loop-done.place c.keep_next.new.place c.args.free c.loop-done.free g.S.Store c.args.conn.now c.loop-done.conn
+    c.args.link.now c.loop-done.link c.keep_next.new.link c.args.walk c.loop-done.walk c.keep_next.new.walk c.args.steps c.loop-done.done _ c.loop-done.records c.loop-done.gaps c.in-Err.error
+    (omega (arith, c.loop-done-test.true)) (λ e. (c.loop-done.invariant.none e).0) c.loop-done.invariant.ended (sym c.next_number-next.ensures.next) c.in-Err.ensures.stays c.loop-done.invariant.route c.loop-done.invariant.retries up_to why
