@@ -4,9 +4,10 @@
 
 use bac_run::{DiskFiles, run};
 use bac_tools::{Fault, SystemClock, UdpSockets, UntilRefused, tell};
+use bac_trace::{Traced, Writers};
 use sqlite::Unknown;
 use std::env::Args;
-use std::io::{BufWriter, ErrorKind, IsTerminal};
+use std::io::{BufWriter, ErrorKind, IsTerminal, Stderr};
 use std::process::ExitCode;
 use std::{env, io};
 
@@ -27,6 +28,20 @@ fn words_of(rt: &HostRuntime) -> Result<Vec<String>, Fault> {
     Ok(list)
 }
 
+/// Standard error, once for each port.
+#[derive(Drop)]
+struct StandardErrors<'a> {
+    rt: &'a HostRuntime,
+}
+
+impl<'a> Writers for StandardErrors<'a> {
+    type Writer = Stderr;
+
+    fn writer(&mut self) -> Stderr {
+        self.rt.stderr()
+    }
+}
+
 /// Runs the program, and answers its exit status.
 fn started(rt: &HostRuntime) -> Result<u8, Fault> {
     let words = words_of(rt)?;
@@ -38,7 +53,7 @@ fn started(rt: &HostRuntime) -> Result<u8, Fault> {
     // A count is for somebody who looks at both.
     let counts = rt.stdout().is_terminal() && rt.stderr().is_terminal();
     Ok(run(
-        &mut UdpSockets::new(rt),
+        &mut Traced::new(rt.alloc(), UdpSockets::new(rt), StandardErrors { rt }),
         &mut DiskFiles::new(rt, Unknown),
         rt.alloc(),
         &words,

@@ -1,5 +1,5 @@
 -- A log is asked for by the rules of `bac log`.
-use Rattle.std.specs.Prelude.{◌≡◌, ◌⊎◌, ℕ, List, [], ◌∷◌, ◌++◌, codes, Option, None, Some, option_map, unwrap_or, Ok}
+use Rattle.std.specs.Prelude.{◌≡◌, ◌⊎◌, ℕ, Bool, List, [], ◌∷◌, ◌++◌, codes, Option, None, Some, option_map, unwrap_or, Ok}
 use Rattle.clap.specs.Words.{Text}
 use Rattle.bac_words.specs.Names.{name_of}
 use Rattle.bac_words.specs.Outcome.{IsRefused, job_in, mistakes_of}
@@ -47,7 +47,9 @@ log_words address instance given = codes "bac" ∷ codes "log"
 
 -- a log is asked for as a job of `bac log` asks
 abbrev pub IsAskingOf : Job → Asking → Type 0
-IsAskingOf job asking = (from : Option ℕ) × (job ≡ Log asking.asked asking.instance from asking.steps)
+IsAskingOf job asking =
+    (from : Option ℕ) × (csv : Bool) × (trace : Bool)
+    × (job ≡ Log asking.asked asking.instance from asking.steps csv trace)
 
 -- a log is asked for as `bac log` with these words asks
 abbrev pub IsAskedBy : List Text → Asking → Type 0

@@ -1,13 +1,18 @@
--- Which fault an error of a database, a refused archive and refused words are.
+-- Which fault an error of a database, a refused archive, a refused log and refused words are.
+use Rattle.std.specs.Prelude.{◌≡◌}
 use Rattle.sqlite.specs.declared.error.Error.{Error}
 use Rattle.sqlite.specs.declared.error.Error.TheVariants.{SqliteFailure}
 use Rattle.sqlite.specs.declared.error.ErrorCode.TheVariants.{DatabaseBusy}
 use Rattle.bac_archive.specs.declared.opening.Refused.{Refused}
 use Rattle.bac_archive.specs.declared.opening.Refused.TheVariants as refused
+use Rattle.bac_archive.specs.declared.trend_logs.NotAdded.{NotAdded}
+use Rattle.bac_archive.specs.declared.trend_logs.NotAdded.TheVariants as unadded
+use Rattle.bac_asked.specs.declared.end.NotDone.{NotDone}
+use Rattle.bac_asked.specs.declared.end.NotDone.TheVariants.{Asking, File}
 use Rattle.bac_asked.specs.declared.fault.Fault.{Fault}
 use Rattle.bac_asked.specs.declared.fault.Fault.TheVariants as asking
 use Rattle.bac_asked.specs.declared.fault.FileFault.{FileFault}
-use Rattle.bac_asked.specs.declared.fault.FileFault.TheVariants.{InUse, Foreign, First, Version, Overlap, Orphan, Database}
+use Rattle.bac_asked.specs.declared.fault.FileFault.TheVariants.{Database, First, Foreign, Full, InUse, Orphan, Overlap, Version}
 use Rattle.bac_words.specs.declared.fault.WordsFault.{WordsFault}
 use Rattle.bac_words.specs.declared.fault.WordsFault.TheVariants as words
 use Rattle.bac_words.specs.declared.word.Word.TheVariants.{Tool}
@@ -26,9 +31,26 @@ of_refusal refused.Overlap = Overlap
 of_refusal refused.Orphan = Orphan
 of_refusal (refused.Database error) = of_error error
 
+-- of an archive that takes no further log
+abbrev pub of_not_added : NotAdded → FileFault
+of_not_added unadded.Full = Full
+of_not_added (unadded.Database error) = of_error error
+
 -- of words that aren't read
 abbrev pub of_words : WordsFault → Fault
 of_words (words.BadValue word) = asking.BadValue word
 of_words (words.LongNumber word) = asking.LongNumber word
 of_words (words.Usage error) = asking.BadValue Tool
 of_words words.Memory = asking.Memory
+
+-- memory is wanting; std doesn't tell why
+abbrev pub WantsMemory : NotDone → Type 0
+WantsMemory fault = fault ≡ Asking asking.Memory
+
+-- the output refused a line; std doesn't tell why
+abbrev pub RefusesLine : NotDone → Type 0
+RefusesLine fault = fault ≡ Asking asking.Write
+
+-- a file's database answers by an error
+abbrev pub IsOfDatabase : NotDone → Type 0
+IsOfDatabase fault = (error : Error) × (fault ≡ File (of_error error))

@@ -4,3 +4,4 @@ pub mod AsLog
 pub mod Faults
 pub mod Wanted
 pub mod Began
+pub mod Reasons

@@ -1,5 +1,5 @@
 -- Which logs are to be fetched, and of which device each is asked.
-use Rattle.std.specs.Prelude.{◌≡◌, ◌⊎◌, ◌==◌, ℕ, Bool, true, false, List, [], ◌∷◌, ◌++◌, codes, Option, None, Some, IsSome}
+use Rattle.std.specs.Prelude.{◌≡◌, ◌≢◌, ◌⊎◌, ◌==◌, if◌then◌else◌, decimal, ℕ, Bool, true, false, List, [], ◌∷◌, ◌++◌, codes, Option, None, Some, IsSome}
 use Rattle.std.specs.List.{Contains, list_any}
 use Rattle.std.specs.String.{string_bytes}
 use Rattle.hex.specs.Hex.{encode_lower}
@@ -8,6 +8,7 @@ use Rattle.bac_archive.specs.declared.trend_logs.Source.{Source}
 use Rattle.clap.specs.Words.{Text}
 use Rattle.bac_print.specs.Addresses.{address_text}
 use Rattle.bac_words.specs.declared.fault.WordsFault.{WordsFault}
+use Rattle.bac_words.specs.declared.fault.WordsFault.TheVariants.{Memory}
 use Rattle.bac_words.specs.declared.job.Asked.{Asked}
 use Rattle.bac_words.specs.declared.word.Word.TheVariants.{Address}
 use Rattle.bac_asked.specs.AsLog.{Given, IsAskedBy, IsUnasked, log_words}
@@ -70,3 +71,37 @@ abbrev pub AreNoOptions : Given → NotDone → Type 0
 AreNoOptions given fault =
     ((IsSome given.dnet ⊎ IsSome given.dadr) × (fault ≡ Unasked (BadValue Address)))
     ⊎ IsUnnamed (log_words (codes "0.0.0.0") (codes "0") given) fault
+
+-- the options with no way to a device
+abbrev pub without_way : Given → Given
+without_way given = record {
+  steps = given.steps;
+  timeout = given.timeout;
+  local = given.local;
+  retries = given.retries;
+  dnet = None;
+  dadr = None;
+}
+
+-- the options with the way of a source behind a router
+abbrev pub by_router : Given → Source → Given
+by_router given source = record {
+  steps = given.steps;
+  timeout = given.timeout;
+  local = given.local;
+  retries = given.retries;
+  dnet = Some (decimal source.dnet);
+  dadr = Some (string_bytes source.dadr);
+}
+
+-- the words of `bac log` for the log of a source, by the source's own way to its device
+abbrev pub words_at : Given → Source → List Text
+words_at given source = log_words (string_bytes source.address) (decimal source.instance)
+    (if source.dnet == 0 then without_way given else by_router given source)
+
+-- The address of a source is none: `bac log` by its way asks for no log, or for one that isn't kept under this source.
+abbrev pub HasNoAddress : Given → Source → Type 0
+HasNoAddress given source =
+    ((why : WordsFault) × (why ≢ Memory) × IsUnasked (words_at given source) why)
+    ⊎ ((asking : Asking) × IsAskedBy (words_at given source) asking
+    × (IsSourceOf asking.asked asking.instance source → ⊥))

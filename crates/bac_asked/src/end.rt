@@ -1,6 +1,7 @@
 //! How a run over a log ended.
 
 ghost use Rattle.std.specs.Prelude.{◌≡◌};
+ghost use Rattle.bac_asked.specs.Faults.{of_error};
 ghost use Rattle.bac_asked.specs.Status.{end_status, walk_status};
 
 use crate::began::Began;
@@ -52,7 +53,9 @@ pub enum NotDone {
 }
 
 /// What a database that fails says.
-pub fn of_error(error: Error) -> NotDone {
+pub fn of_error(error: Error) -> NotDone
+    ensures { result ≡ NotDone.File (of_error error) }
+{
     NotDone::File(FileFault::of(error))
 }
 

@@ -1,7 +1,9 @@
 //! Why logs aren't kept.
 
-ghost use Rattle.std.specs.Prelude.{◌≡◌};
-ghost use Rattle.bac_asked.specs.Faults.{of_error, of_refusal};
+ghost use Rattle.std.specs.Prelude.{◌≡◌, IfOk};
+ghost use Rattle.std.specs.String.{string_bytes};
+ghost use Rattle.bac_asked.specs.Faults.{of_error, of_not_added, of_refusal};
+ghost use Rattle.bac_asked.specs.Reasons.{AreLinesOf, file_lines, file_reason};
 ghost use Rattle.bac_asked.specs.Status.{file_status};
 
 use bac_archive::{NotAdded, Refused};
@@ -88,7 +90,9 @@ impl FileFault {
     }
 
     /// The fault of an archive that takes no further log.
-    pub fn of_log(fault: NotAdded) -> FileFault {
+    pub fn of_log(fault: NotAdded) -> FileFault
+        ensures { result ≡ of_not_added fault }
+    {
         match fault {
             NotAdded::Full => FileFault::Full,
             NotAdded::Database(error) => FileFault::of(error),
@@ -106,21 +110,19 @@ impl FileFault {
     }
 
     /// The lines that tell it.
-    pub fn lines(self, alloc: Global) -> Result<String, AllocError> {
-        let mut text = String::new(alloc);
+    pub fn lines(self, alloc: Global) -> Result<String, AllocError>
+        ensures { IfOk result (λ text. AreLinesOf self (string_bytes text)) }
+    {
         match self {
-            FileFault::InUse => text.push_str("file in use\n")?,
-            FileFault::Database(error) => push_error(&mut text, error)?,
-            fault => {
-                text.push_str("file fault\n")?;
-                text.push_str(fault.why())?;
-                text.push_str("\n")?;
-            }
+            FileFault::InUse => String::from_str(alloc, "file in use\n"),
+            FileFault::Database(error) => told(alloc, &told_by(alloc, error)?),
+            fault => told(alloc, fault.why()),
         }
-        Ok(text)
     }
 
-    fn why<'a>(self) -> &'a str {
+    fn why<'a>(self) -> &'a str
+        ensures { result.now ≡ file_reason self }
+    {
         match self {
             FileFault::Foreign =>
                 "it is a database with other tables, and no archive of trend logs",
@@ -139,10 +141,22 @@ impl FileFault {
     }
 }
 
-fn push_error(text: &mut String, error: Error) -> Result<(), AllocError> {
-    text.push_str("file fault\n")?;
+/// What a database's error says of itself.
+fn told_by(alloc: Global, error: Error) -> Result<String, AllocError> {
+    let mut text = String::new(alloc);
     if write!(text, "{error}").is_err() {
         return Err(AllocError);
     }
-    text.push_str("\n")
+    Ok(text)
+}
+
+/// The lines of a file that is no use, for this reason.
+fn told(alloc: Global, reason: &str) -> Result<String, AllocError>
+    ensures { IfOk result (λ text. string_bytes text ≡ file_lines reason.now) }
+{
+    let mut text = String::new(alloc);
+    text.push_str("file fault\n")?;
+    text.push_str(reason)?;
+    text.push_str("\n")?;
+    Ok(text)
 }

@@ -109,6 +109,8 @@ fn asking_of(job: Job) -> Result<Asking, WordsFault>
             instance,
             from: _from,
             steps,
+            csv: _csv,
+            trace: _trace,
         } => Ok(Asking {
             asked,
             instance,

@@ -1,11 +1,11 @@
 //! The logs that are to be fetched, and where they are.
 
-ghost use Rattle.std.specs.Prelude.{◌≡◌, IfErr, IfOk, OnOk, [], ◌∷◌, ◌++◌};
+ghost use Rattle.std.specs.Prelude.{◌≡◌, ◌⊎◌, IfErr, IfOk, OnOk, decimal, [], ◌∷◌, ◌++◌};
 ghost use Rattle.std.specs.List.{All};
 ghost use Rattle.std.specs.String.{string_bytes};
-ghost use Rattle.bac_asked.specs.AsLog.{IsAskedBy, given_in, log_words};
-ghost use Rattle.bac_asked.specs.Faults.{of_words};
-ghost use Rattle.bac_asked.specs.Wanted.{AddNamed, AddsOnce, AreNoOptions, AreUnnamed, AsksItsSource, IsSourceOf, IsUnnamed, has_instance};
+ghost use Rattle.bac_asked.specs.AsLog.{IsAskedBy, IsUnasked, given_in, log_words};
+ghost use Rattle.bac_asked.specs.Faults.{WantsMemory, of_words};
+ghost use Rattle.bac_asked.specs.Wanted.{AddNamed, AddsOnce, AreNoOptions, AreUnnamed, AsksItsSource, HasNoAddress, IsSourceOf, IsUnnamed, has_instance, words_at};
 
 use crate::end::NotDone;
 use crate::fault::{Fault, FileFault};
@@ -96,7 +96,8 @@ pub fn named(
 
 /// Puts a log behind others.
 pub fn add_wanted(all: &mut Vec<Wanted>, wanted: Wanted) -> Result<(), NotDone>
-    ensures { OnOk result (all.new.items ≡ all.old.items ++ wanted ∷ []) }
+    ensures added { OnOk result (all.new.items ≡ all.old.items ++ wanted ∷ []) }
+    ensures memory { IfErr result WantsMemory }
 {
     match all.push(wanted) {
         Ok(()) => Ok(()),
@@ -114,7 +115,7 @@ fn has_instance(all: &[Wanted], instance: u32) -> bool
 /// Puts a log behind others of its device, unless it is among them.
 fn add_once(all: &mut Vec<Wanted>, wanted: Wanted) -> Result<(), NotDone>
     ensures added { OnOk result (AddsOnce wanted all.old.items all.new.items) }
-    ensures memory { IfErr result (λ fault. fault ≡ NotDone.Asking Fault.Memory) }
+    ensures memory { IfErr result WantsMemory }
 {
     if has_instance(all.as_slice(), wanted.source.instance) {
         return Ok(());
@@ -145,14 +146,19 @@ pub fn named_all(
 }
 
 /// A number in decimal digits.
-fn digits(alloc: Global, n: u32) -> Result<String, AllocError> {
+fn digits(alloc: Global, n: u32) -> Result<String, AllocError>
+    ensures { IfOk result (λ text. string_bytes text ≡ decimal n) }
+{
     let mut text = Vec::new(alloc);
     push_number(&mut text, u64::from(n))?;
     text_of(text)
 }
 
 /// How the log of a source is asked for: by the source's own way to its device.
-fn asking_at(alloc: Global, source: &Source, options: &Options<'_>) -> Result<Asking, WordsFault> {
+fn asking_at(alloc: Global, source: &Source, options: &Options<'_>) -> Result<Asking, WordsFault>
+    ensures ok { IfOk result (IsAskedBy (words_at (given_in options.now) source.now)) }
+    ensures err { IfErr result (IsUnasked (words_at (given_in options.now) source.now)) }
+{
     let instance = digits(alloc, source.instance)?;
     if source.dnet == 0 {
         let direct = Options {
@@ -181,6 +187,7 @@ fn asking_at(alloc: Global, source: &Source, options: &Options<'_>) -> Result<As
 pub fn kept_log(alloc: Global, log: Log, options: &Options<'_>) -> Result<Wanted, NotDone>
     ensures source { IfOk result (λ wanted. wanted.source ≡ log.source) }
     ensures asks { IfOk result AsksItsSource }
+    ensures refused { IfErr result (λ fault. WantsMemory fault ⊎ ((fault ≡ NotDone.File FileFault.Address) × HasNoAddress (given_in options.now) log.source)) }
 {
     kept_at(alloc, log.source, options)
 }
@@ -190,21 +197,24 @@ pub fn kept_log(alloc: Global, log: Log, options: &Options<'_>) -> Result<Wanted
 pub fn kept_at(alloc: Global, source: Source, options: &Options<'_>) -> Result<Wanted, NotDone>
     ensures source { IfOk result (λ wanted. wanted.source ≡ source) }
     ensures asks { IfOk result AsksItsSource }
+    ensures refused { IfErr result (λ fault. WantsMemory fault ⊎ ((fault ≡ NotDone.File FileFault.Address) × HasNoAddress (given_in options.now) source)) }
 {
     let asking = match asking_at(alloc, &source, options) {
         Ok(asking) => asking,
         Err(WordsFault::Memory) => return Err(NotDone::Asking(Fault::Memory)),
         Err(_) => return Err(NotDone::File(FileFault::Address)),
     };
-    match source_of(alloc, &asking.asked, asking.instance) {
-        Ok(written) if written == source => Ok(Wanted {
-            source,
-            name: None,
-            asking,
-        }),
-        Ok(_) => Err(NotDone::File(FileFault::Address)),
-        Err(_) => Err(NotDone::Asking(Fault::Memory)),
+    let Ok(written) = source_of(alloc, &asking.asked, asking.instance) else {
+        return Err(NotDone::Asking(Fault::Memory));
+    };
+    if written != source {
+        return Err(NotDone::File(FileFault::Address));
     }
+    Ok(Wanted {
+        source,
+        name: None,
+        asking,
+    })
 }
 
 /// The options of `bac keep FILE`: no way to a device is among them.

@@ -30,7 +30,7 @@ pub use bac_link::{
     can_be_joined, can_be_resumed, delivers_each_once, exchange, judge, read_datagram,
 };
 pub use bac_log::{Datum, Entry};
-pub use bac_ports::{Heard, Port, SocketFault, UdpLink, UdpPort, exchanges_are_runs};
+pub use bac_ports::{Heard, OpenFault, Port, SocketFault, UdpLink, UdpPort, exchanges_are_runs};
 pub use bac_walk::{
     BadReply, Batch, Ended, Gap, Numbered, Outcome, Progress, Sink, Step, Walk, WalkFault, Why,
     brought_goes_on, brought_is_delivered, brought_tells_why, came_is_delivered, collect,

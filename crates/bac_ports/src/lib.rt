@@ -14,7 +14,7 @@ mod udp_link;
 mod udp_port;
 
 pub use laws::exchanges_are_runs;
-pub use port::{Heard, Port, SocketFault};
+pub use port::{Heard, OpenFault, Port, SocketFault};
 pub use sockets::{Sockets, UdpSockets};
 pub use udp_link::{RECEIVES, UdpLink};
 pub use udp_port::UdpPort;

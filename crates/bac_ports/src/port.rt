@@ -14,6 +14,19 @@ pub enum SocketFault {
     Failed,
 }
 
+/// Why a port couldn't be opened.
+#[derive(Clone, Copy, Debug, PartialEq, Eq)]
+pub enum OpenFault {
+    /// Another socket has the address.
+    InUse,
+    /// The address isn't one of this machine.
+    NotOurs,
+    /// The system doesn't permit it.
+    NotPermitted,
+    /// Anything else.
+    Failed,
+}
+
 /// A datagram that came.
 #[derive(Debug, Drop)]
 pub struct Heard {

@@ -1,6 +1,6 @@
 //! A port over a socket of the system.
 
-use crate::port::{Heard, Port, SocketFault};
+use crate::port::{Heard, OpenFault, Port, SocketFault};
 use bac_wire::Datagram;
 use std::io;
 use std::io::ErrorKind;
@@ -25,7 +25,7 @@ pub struct UdpPort {
 impl UdpPort {
     /// A socket at an address of this machine; port 0 is any free one. A receive waits at most so
     /// many milliseconds, and without limit at 0.
-    pub fn open<R: Net>(rt: &R, local: [u8; 6], timeout_ms: u32) -> Result<UdpPort, SocketFault> {
+    pub fn open<R: Net>(rt: &R, local: [u8; 6], timeout_ms: u32) -> Result<UdpPort, OpenFault> {
         match socket_at(rt, local, timeout_ms) {
             Ok(socket) => Ok(UdpPort {
                 socket,
@@ -33,7 +33,7 @@ impl UdpPort {
                 set_to: timeout_ms,
                 buffer: [0; BUFFER],
             }),
-            Err(_) => Err(SocketFault::Failed),
+            Err(error) => Err(open_fault(error.kind())),
         }
     }
 
@@ -80,6 +80,16 @@ impl UdpPort {
             Ok(()) => taken,
             Err(_) => Err(SocketFault::Failed),
         }
+    }
+}
+
+/// Why the system doesn't open a socket.
+fn open_fault(kind: ErrorKind) -> OpenFault {
+    match kind {
+        ErrorKind::AddrInUse => OpenFault::InUse,
+        ErrorKind::AddrNotAvailable => OpenFault::NotOurs,
+        ErrorKind::PermissionDenied => OpenFault::NotPermitted,
+        _ => OpenFault::Failed,
     }
 }
 

@@ -6,7 +6,9 @@ use Rattle.bac_link.specs.Path.{Path, towards}
 use Rattle.bac_link.specs.declared.transactions.Transactions.{Transactions}
 use Rattle.bac_link.specs.declared.item.Item.{Item}
 use Rattle.bac_print.specs.Output.{AppendsPart}
-use Rattle.bac_query.specs.Ends.{end_line}
+use Rattle.bac_query.specs.Layouts.{AppendsAll, AppendsItems}
+use Rattle.bac_query.specs.declared.layout.Layout.{Layout}
+use Rattle.bac_query.specs.declared.layout.Layout.TheVariants.{Lines}
 use Rattle.bac_query.specs.Items.{items_text}
 use Rattle.bac_walk.specs.Came.{Came, Brought}
 use Rattle.bac_walk.specs.Outcomes.{IsRunOf, why_of}
@@ -24,25 +26,26 @@ use Rattle.bac_query.specs.Fetching.{FetchesBy, FetchesOver, Fetching, IsEnd, Is
 use Rattle.bac_query.specs.Reading.{Held, Prints}
 use Rattle.bac_query.specs.declared.fault.QueryFault.{QueryFault}
 use Rattle.bac_query.specs.declared.fault.QueryFault.TheVariants.{Exchange, Write, Memory}
-use Rattle.bac_query.proofs.Delivered.{behind_first, items_text-append, kept_behind}
+use Rattle.bac_query.proofs.Delivered.{behind_first, items_text-append}
+use Rattle.bac_query.proofs.Laid.{laid_end_part, laid_ended, laid_kept}
 
 -- the end line was that of the run, or a front part of it, or there was no memory for it
-pub tells_end : (left : Why → Type 0) (items : List Item) (steps n : ℕ) (ended : Ended) (after : WalkPlace) (cause : Why) (next : ℕ) (result : Fetching) (old mid new : Held) →
-    IsRunOf cause steps n ended → next ≡ after.next → left cause → Appends old mid (items_text items) → PrintsEnd cause next result mid new →
-    TellsRun left items steps n ended after result old new
-tells_end left items steps n ended after cause next (Ok done) old mid new run at here first (same, is, last) =
-    let P : Why → Type 0 = λ w. IsEnd steps n ended after w done.next × left w × Appends old new (items_text items ++ end_line w done.next) in
-    let Q : ℕ → Type 0 = λ k. IsEnd steps n ended after cause k × left cause × Appends old new (items_text items ++ end_line cause k) in
-    subst P (sym same) (subst Q (sym is) ((run, at), here, Appends-trans old mid new (items_text items) (end_line cause next) first last))
-tells_end left items steps n ended after cause next (Err Write) old mid new run at here first part =
-    inr (cause, next, (run, at), here, behind_first old mid new (items_text items) (end_line cause next) first part)
-tells_end left items steps n ended after cause next (Err Memory) old mid new run at here first kept =
-    (cause, next, (run, at), here, kept_behind old mid new (items_text items) first kept)
-tells_end left items steps n ended after cause next (Err (Exchange fault)) old mid new run at here first never = absurd never
+pub tells_end : (layout : Layout) (left : Why → Type 0) (items : List Item) (steps n : ℕ) (ended : Ended) (after : WalkPlace) (cause : Why) (next : ℕ) (result : Fetching) (old mid new : Held) →
+    IsRunOf cause steps n ended → next ≡ after.next → left cause → AppendsItems layout items old mid → PrintsEnd layout cause next result mid new →
+    TellsRun layout left items steps n ended after result old new
+tells_end layout left items steps n ended after cause next (Ok done) old mid new run at here first (same, is, last) =
+    let P : Why → Type 0 = λ w. IsEnd steps n ended after w done.next × left w × AppendsAll layout items w done.next old new in
+    let Q : ℕ → Type 0 = λ k. IsEnd steps n ended after cause k × left cause × AppendsAll layout items cause k old new in
+    subst P (sym same) (subst Q (sym is) ((run, at), here, laid_ended layout items cause next old mid new first last))
+tells_end layout left items steps n ended after cause next (Err Write) old mid new run at here first part =
+    inr (cause, next, (run, at), here, laid_end_part layout items cause next old mid new first part)
+tells_end layout left items steps n ended after cause next (Err Memory) old mid new run at here first kept =
+    (cause, next, (run, at), here, laid_kept layout items old mid new first kept)
+tells_end layout left items steps n ended after cause next (Err (Exchange fault)) old mid new run at here first never = absurd never
 
 -- the write of the lines of more items was refused
 pub tells_refused : (left : Why → Type 0) (items more : List Item) (text : List ℕ) (steps n : ℕ) (ended : Ended) (after : WalkPlace) (fault : QueryFault) (old mid new : Held) → n ≤ steps → left why.StepLimit →
-    text ≡ items_text more → Appends old mid (items_text items) → Prints text (Err fault) mid new → TellsRun left (items ++ more) steps n ended after (Err fault) old new
+    text ≡ items_text more → Appends old mid (items_text items) → Prints text (Err fault) mid new → TellsRun Lines left (items ++ more) steps n ended after (Err fault) old new
 tells_refused left items more text steps n ended after Write old mid new le here same first part =
     let P : List ℕ → Type 0 = λ t. AppendsPart mid new t in
     let Q : List ℕ → Type 0 = λ t. AppendsPart old new t in
@@ -64,7 +67,7 @@ left_whole asks t mid here (Fault e) why.Memory on is = absurd (cc)
 -- what was printed is of what came, and that is the headline's if it says what one log holds
 pub fetches_by : {S : Type 0} (asks : Asking S) (t u z : Transactions) (link mid new : S) (walk after : WalkPlace) (steps n : ℕ) (items : List Item) (ended : Ended) (result : Fetching) (old out : Held) →
     (came : List Came) × BroughtBy asks t link walk n came items ended after u mid →
-    TellsRun (λ cause. IsLeftBy asks u mid after z new cause) items steps n ended after result old out →
+    TellsRun Lines (λ cause. IsLeftBy asks u mid after z new cause) items steps n ended after result old out →
     FetchesBy asks t link walk steps result z new old out
 fetches_by asks t u z link mid new walk after steps n items ended result old out (came, run) tells = (
   came,
@@ -83,7 +86,7 @@ fetches_by asks t u z link mid new walk after steps n items ended result old out
 
 -- less is said of how the link was left
 tells_less : (left less : Why → Type 0) (items : List Item) (steps n : ℕ) (ended : Ended) (after : WalkPlace) (result : Fetching) (old new : Held) → ((cause : Why) → left cause → less cause) →
-    TellsRun left items steps n ended after result old new → TellsRun less items steps n ended after result old new
+    TellsRun Lines left items steps n ended after result old new → TellsRun Lines less items steps n ended after result old new
 tells_less left less items steps n ended after (Ok done) old new goes (is, here, all) = (is, goes done.why here, all)
 tells_less left less items steps n ended after (Err Write) old new goes (inl (le, here, part)) = inl (le, goes why.StepLimit here, part)
 tells_less left less items steps n ended after (Err Write) old new goes (inr (cause, next, is, here, part)) = inr (cause, next, is, goes cause here, part)

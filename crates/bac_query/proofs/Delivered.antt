@@ -21,6 +21,7 @@ use Rattle.bac_walk.specs.declared.outcome.Why.TheVariants.{CaughtUp as WasUp}
 use Rattle.bac_walk.proofs.Near.{fewer_steps}
 use Rattle.bac_walk.proofs.Runs.{headline_of, join_run, not_limit, run_early}
 use Rattle.bac_query.specs.Ends.{end_line}
+use Rattle.bac_query.specs.declared.layout.Layout.TheVariants.{Lines}
 use Rattle.bac_query.specs.Fetching.{Delivers, EndsAs, Fetching, IsFetched, NextIs, PrintsEnd, PrintsItems}
 use Rattle.bac_print.specs.Output.{AppendsPart}
 use Rattle.bac_query.specs.Reading.{Held, Prints}
@@ -67,7 +68,7 @@ kept_behind (Some xs) (Some ys) (Some zs) text first kept = kept ∙ first
 
 -- the lines of the items, and then the end line
 pub ended_by : (items : List Item) (why : Why) (next : ℕ) (result : Fetching) (old mid new : Held) →
-    Appends old mid (items_text items) → PrintsEnd why next result mid new → PrintsItems items result old new
+    Appends old mid (items_text items) → PrintsEnd Lines why next result mid new → PrintsItems Lines items result old new
 ended_by items why next (Ok fetched) old mid new first (same, at, last) =
     let P : Why → Type 0 = λ w. Appends old new (items_text items ++ end_line w fetched.next) in
     let Q : ℕ → Type 0 = λ n. Appends old new (items_text items ++ end_line why n) in
@@ -78,7 +79,7 @@ ended_by items why next (Err (Exchange fault)) old mid new first never = absurd 
 
 -- the lines of more items, whose write was refused
 pub refused_by : (items more : List Item) (text : List ℕ) (fault : QueryFault) (old mid new : Held) → text ≡ items_text more →
-    Appends old mid (items_text items) → Prints text (Err fault) mid new → PrintsItems (items ++ more) (Err fault) old new
+    Appends old mid (items_text items) → Prints text (Err fault) mid new → PrintsItems Lines (items ++ more) (Err fault) old new
 refused_by items more text Write old mid new same first part =
     let P : List ℕ → Type 0 = λ t. AppendsPart mid new t in
     let Q : List ℕ → Type 0 = λ t. AppendsPart old new t in
@@ -107,7 +108,7 @@ delivered was is retries old new before after n steps ended items result le run 
     let h = headline_of was is retries old new before after n ended items run r M H s ours at (fewer_steps r H M before.fresh s n steps le near) in (h.0, h.1, h.2, h.3, next h.2 h.4, h.5)
 
 -- the number that was printed is the walk's
-pub next_is : (why : Why) (next : ℕ) (after : ℕ) (result : Fetching) (old new : Held) → next ≡ after → PrintsEnd why next result old new →
+pub next_is : (why : Why) (next : ℕ) (after : ℕ) (result : Fetching) (old new : Held) → next ≡ after → PrintsEnd Lines why next result old new →
     (t : ℕ) → after ≡ sequence_number t → NextIs result t
 next_is why next after (Ok fetched) old new same (is, at, last) t e = at ∙ same ∙ e
 next_is why next after (Err fault) old new same printed t e = tt
@@ -163,8 +164,8 @@ fetched was is retries old new more before after n ended items le run few many =
 
 -- the end line was that of the run, or a front part of it, or there was no memory for it
 pub ends_as : (items : List Item) (steps n : ℕ) (ended : Ended) (after : WalkPlace) (why : Why) (next : ℕ) (result : Fetching) (old mid new : Held) →
-    n ≤ steps → IsRunOf why steps n ended → next ≡ after.next → Appends old mid (items_text items) → PrintsEnd why next result mid new →
-    EndsAs items steps n ended after result old new
+    n ≤ steps → IsRunOf why steps n ended → next ≡ after.next → Appends old mid (items_text items) → PrintsEnd Lines why next result mid new →
+    EndsAs Lines items steps n ended after result old new
 ends_as items steps n ended after why next (Ok done) old mid new le run at first (same, is, last) =
     let P : Why → Type 0 = λ w. IsRunOf w steps n ended in (subst P (sym same) run, is ∙ at)
 ends_as items steps n ended after why next (Err Write) old mid new le run at first part =
@@ -174,7 +175,7 @@ ends_as items steps n ended after why next (Err (Exchange fault)) old mid new le
 
 -- the write of the lines of more items was refused
 pub ends_refused : (items more : List Item) (text : List ℕ) (steps n : ℕ) (ended : Ended) (after : WalkPlace) (fault : QueryFault) (old mid new : Held) → n ≤ steps →
-    text ≡ items_text more → Appends old mid (items_text items) → Prints text (Err fault) mid new → EndsAs (items ++ more) steps n ended after (Err fault) old new
+    text ≡ items_text more → Appends old mid (items_text items) → Prints text (Err fault) mid new → EndsAs Lines (items ++ more) steps n ended after (Err fault) old new
 ends_refused items more text steps n ended after Write old mid new le same first part =
     let P : List ℕ → Type 0 = λ t. AppendsPart mid new t in
     let Q : List ℕ → Type 0 = λ t. AppendsPart old new t in

@@ -16,6 +16,7 @@ use Rattle.bac_walk.specs.declared.outcome.Why.TheVariants as why
 use Rattle.bac_walk.proofs.Flaws.{have_flaws}
 use Rattle.bac_walk.proofs.Told.{Asking}
 use Rattle.bac_query.specs.Ahead.{PrintsLast}
+use Rattle.bac_query.specs.declared.layout.Layout.{Layout}
 use Rattle.bac_query.specs.Fetching.{Fetching, PrintsEnd}
 use Rattle.bac_query.specs.Flaws.{IsBadlyFetched, IsFlawed, TellsFlaw, TellsFlawOf, flaw_if_bad, last_flaw, with_flaw}
 use Rattle.bac_query.specs.Reading.{Held}
@@ -35,35 +36,35 @@ flaw_kept {S = S} f last asks other maps keeps path retries end w new flaw is ba
     (wrong, here ∙ flawed, (f link, invoke, datagram, said, answers_maps f asks other maps path invoke _ retries said link datagram new answers, flawed))
 
 -- the end line tells this end
-pub end_is : (cause : Why) (next : ℕ) (result : Fetching) (old new : Held) → PrintsEnd cause next result old new →
+pub end_is : (layout : Layout) (cause : Why) (next : ℕ) (result : Fetching) (old new : Held) → PrintsEnd layout cause next result old new →
     IfOk result (λ fetched. (fetched.why ≡ cause) × (fetched.next ≡ next))
-end_is cause next (Ok fetched) old new prints = (prints.0, prints.1)
-end_is cause next (Err Write) old new prints = tt
-end_is cause next (Err Memory) old new prints = tt
-end_is cause next (Err (Exchange fault)) old new prints = tt
+end_is layout cause next (Ok fetched) old new prints = (prints.0, prints.1)
+end_is layout cause next (Err Write) old new prints = tt
+end_is layout cause next (Err Memory) old new prints = tt
+end_is layout cause next (Err (Exchange fault)) old new prints = tt
 
 -- and if that isn't out of memory, nothing is told of a bad reply
-pub no_flaw : (cause : Why) (next : ℕ) (result : Fetching) (old new : Held) (P : Fetched → Type 0) → (cause ≡ why.Fault BadReply → ⊥) → PrintsEnd cause next result old new →
+pub no_flaw : (layout : Layout) (cause : Why) (next : ℕ) (result : Fetching) (old new : Held) (P : Fetched → Type 0) → (cause ≡ why.Fault BadReply → ⊥) → PrintsEnd layout cause next result old new →
     IfOk result (λ fetched. fetched.why ≡ why.Fault BadReply → P fetched)
-no_flaw cause next (Ok fetched) old new P other prints = λ bad. absurd (other (sym prints.0 ∙ bad))
-no_flaw cause next (Err fault) old new P other prints = tt
+no_flaw layout cause next (Ok fetched) old new P other prints = λ bad. absurd (other (sym prints.0 ∙ bad))
+no_flaw layout cause next (Err fault) old new P other prints = tt
 
 -- the same behind the lines that were left
-pub no_last_flaw : (left : List Item) (cause : Why) (next told : ℕ) (result : Fetching) (old new : Held) (P : Fetched → Type 0) → (cause ≡ why.Fault BadReply → ⊥) →
-    PrintsLast left cause next told result old new → IfOk result (λ fetched. fetched.why ≡ why.Fault BadReply → P fetched)
-no_last_flaw left cause next told result old new P other (inl (mid, lines, prints)) = no_flaw cause next result mid new P other prints
-no_last_flaw left cause next told result old new P other (inr (inl (mid, some, kept, prints))) = no_flaw why.Memory told result mid new P (λ e. cc) prints
-no_last_flaw left cause next told (Ok fetched) old new P other (inr (inr (is, part))) = absurd cc
-no_last_flaw left cause next told (Err fault) old new P other (inr (inr (is, part))) = tt
+pub no_last_flaw : (layout : Layout) (left : List Item) (cause : Why) (next told : ℕ) (result : Fetching) (old new : Held) (P : Fetched → Type 0) → (cause ≡ why.Fault BadReply → ⊥) →
+    PrintsLast layout left cause next told result old new → IfOk result (λ fetched. fetched.why ≡ why.Fault BadReply → P fetched)
+no_last_flaw layout left cause next told result old new P other (inl (mid, lines, prints)) = no_flaw layout cause next result mid new P other prints
+no_last_flaw layout left cause next told result old new P other (inr (inl (mid, some, kept, prints))) = no_flaw layout why.Memory told result mid new P (λ e. cc) prints
+no_last_flaw layout left cause next told (Ok fetched) old new P other (inr (inr (is, part))) = absurd cc
+no_last_flaw layout left cause next told (Err fault) old new P other (inr (inr (is, part))) = tt
 
 -- the end of a walk is told behind the lines that were left, or there was no memory for them
-pub last_is : (left : List Item) (cause : Why) (next told : ℕ) (result : Fetching) (old new : Held) (P : ℕ → Type 0) → (cause ≡ why.Fault BadReply → P next) →
-    PrintsLast left cause next told result old new → IfOk result (λ fetched. fetched.why ≡ why.Fault BadReply → P fetched.next)
-last_is left cause next told (Ok fetched) old new P holds (inl (mid, lines, prints)) =
+pub last_is : (layout : Layout) (left : List Item) (cause : Why) (next told : ℕ) (result : Fetching) (old new : Held) (P : ℕ → Type 0) → (cause ≡ why.Fault BadReply → P next) →
+    PrintsLast layout left cause next told result old new → IfOk result (λ fetched. fetched.why ≡ why.Fault BadReply → P fetched.next)
+last_is layout left cause next told (Ok fetched) old new P holds (inl (mid, lines, prints)) =
     λ bad. subst P (sym prints.1) (holds (sym prints.0 ∙ bad))
-last_is left cause next told (Ok fetched) old new P holds (inr (inl (mid, some, kept, prints))) = λ bad. absurd (let e = sym prints.0 ∙ bad in cc)
-last_is left cause next told (Ok fetched) old new P holds (inr (inr (is, part))) = absurd cc
-last_is left cause next told (Err fault) old new P holds prints = tt
+last_is layout left cause next told (Ok fetched) old new P holds (inr (inl (mid, some, kept, prints))) = λ bad. absurd (let e = sym prints.0 ∙ bad in cc)
+last_is layout left cause next told (Ok fetched) old new P holds (inr (inr (is, part))) = absurd cc
+last_is layout left cause next told (Err fault) old new P holds prints = tt
 
 -- of a walk of the log that was asked for
 pub badly : {S : Type 0} (asks : Asking S) (path way : Path) (retries tries : ℕ) (w : WalkPlace) (log : Id) (next : ℕ) (flaw was : Option ReplyFlaw) (new old : S) →

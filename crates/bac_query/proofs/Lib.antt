@@ -4,6 +4,8 @@ pub mod CameOver
 pub mod JoinedBy
 pub mod Maps
 pub mod SaidMore
+pub mod Rows
+pub mod Laid
 pub mod Pending
 pub mod RunsAhead
 pub mod Requests

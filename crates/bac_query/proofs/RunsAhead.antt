@@ -1,13 +1,12 @@
 -- Runs over a link whose lines are printed later, and how they end.
 use Rattle.std.proofs.Common.{Bool, true, Option, Result, [], ◌∷◌, append_assoc, append-nil, ◌≡◌, ◌≢◌, ◌+◌, ◌<◌, ◌≤◌, ℕ, false, inl, inr, Some, Ok, Err, List, ◌++◌, length, refl, sym, subst, ◌∙◌, ap, arith, length-append}
-use Rattle.std.specs.Io.KnownBytes.{Appends}
-use Rattle.std.proofs.KnownBytes.{Appends-kept, Appends-trans, Keeps-refl}
+use Rattle.std.proofs.KnownBytes.{Keeps-refl}
 use Rattle.bac_link.specs.Path.{Path, towards}
 use Rattle.bac_link.specs.declared.transactions.Transactions.{Transactions}
 use Rattle.bac_link.specs.declared.item.Item.{Item}
-use Rattle.bac_print.specs.Output.{AppendsPart}
-use Rattle.bac_query.specs.Ends.{end_line}
-use Rattle.bac_query.specs.Items.{items_text}
+use Rattle.bac_query.specs.Layouts.{AppendsItems, AppendsItemsPart}
+use Rattle.bac_query.specs.declared.layout.Layout.{Layout}
+use Rattle.bac_query.proofs.Laid.{laid_kept, laid_longer, laid_part, laid_then, part_ended}
 use Rattle.bac_link.specs.declared.link.Lost.{Lost as Loss}
 use Rattle.bac_walk.specs.Came.{Came, Brought}
 use Rattle.bac_walk.specs.Transacted.{BroughtIntoBy}
@@ -89,35 +88,35 @@ over_early asks t z link new w after n steps xs ended was said other le (brought
 
 -- ---- what is told of them
 
-tells_items : (left : Why → Type 0) (items : List Item) (steps n : ℕ) (ended : Ended) (after : WalkPlace) (result : Fetching) (old new : Held) →
-    TellsRun left items steps n ended after result old new → PrintsItems items result old new
-tells_items left items steps n ended after (Ok done) old new (is, here, all) = all
-tells_items left items steps n ended after (Err Write) old new (inl (le, here, part)) =
-    (why.CaughtUp, 0, part_of_longer old new (items_text items) (end_line why.CaughtUp 0) part)
-tells_items left items steps n ended after (Err Write) old new (inr (cause, next, is, here, part)) = (cause, next, part)
-tells_items left items steps n ended after (Err Memory) old new (cause, next, is, here, all) = all
-tells_items left items steps n ended after (Err (Exchange fault)) old new none = absurd none
+tells_items : (layout : Layout) (left : Why → Type 0) (items : List Item) (steps n : ℕ) (ended : Ended) (after : WalkPlace) (result : Fetching) (old new : Held) →
+    TellsRun layout left items steps n ended after result old new → PrintsItems layout items result old new
+tells_items layout left items steps n ended after (Ok done) old new (is, here, all) = all
+tells_items layout left items steps n ended after (Err Write) old new (inl (le, here, part)) =
+    (why.CaughtUp, 0, part_ended layout items why.CaughtUp 0 old new part)
+tells_items layout left items steps n ended after (Err Write) old new (inr (cause, next, is, here, part)) = (cause, next, part)
+tells_items layout left items steps n ended after (Err Memory) old new (cause, next, is, here, all) = all
+tells_items layout left items steps n ended after (Err (Exchange fault)) old new none = absurd none
 
-tells_ends : (left : Why → Type 0) (items : List Item) (steps n : ℕ) (ended : Ended) (after : WalkPlace) (result : Fetching) (old new : Held) → n ≤ steps →
-    TellsRun left items steps n ended after result old new → EndsAs items steps n ended after result old new
-tells_ends left items steps n ended after (Ok done) old new few (is, here, all) = is
-tells_ends left items steps n ended after (Err Write) old new few (inl (le, here, part)) = (few, inl part)
-tells_ends left items steps n ended after (Err Write) old new few (inr (cause, next, is, here, part)) = (few, inr (cause, next, is, part))
-tells_ends left items steps n ended after (Err Memory) old new few (cause, next, is, here, all) = (cause, next, is)
-tells_ends left items steps n ended after (Err (Exchange fault)) old new few none = absurd none
+tells_ends : (layout : Layout) (left : Why → Type 0) (items : List Item) (steps n : ℕ) (ended : Ended) (after : WalkPlace) (result : Fetching) (old new : Held) → n ≤ steps →
+    TellsRun layout left items steps n ended after result old new → EndsAs layout items steps n ended after result old new
+tells_ends layout left items steps n ended after (Ok done) old new few (is, here, all) = is
+tells_ends layout left items steps n ended after (Err Write) old new few (inl (le, here, part)) = (few, inl part)
+tells_ends layout left items steps n ended after (Err Write) old new few (inr (cause, next, is, here, part)) = (few, inr (cause, next, is, part))
+tells_ends layout left items steps n ended after (Err Memory) old new few (cause, next, is, here, all) = (cause, next, is)
+tells_ends layout left items steps n ended after (Err (Exchange fault)) old new few none = absurd none
 
 -- both that a caller learns
-abbrev pub Learns : {S : Type 0} → Asking S → Transactions → S → WalkPlace → ℕ → Fetching → ℕ → ℕ → Transactions → S → Held → Held → Type 0
-Learns {S = S} asks t link walk steps result failures more last left old new =
-    FetchesAhead asks t link walk steps result last left old new
-    × PrintsRun asks (towards t.route) t.retries walk steps result failures more left old new
+abbrev pub Learns : {S : Type 0} → Layout → Asking S → Transactions → S → WalkPlace → ℕ → Fetching → ℕ → ℕ → Transactions → S → Held → Held → Type 0
+Learns {S = S} layout asks t link walk steps result failures more last left old new =
+    FetchesAhead layout asks t link walk steps result last left old new
+    × PrintsRun layout asks (towards t.route) t.retries walk steps result failures more left old new
 
-learns_both : {S : Type 0} (asks : Asking S) (t u z : Transactions) (link mid left : S) (walk after : WalkPlace) (steps n : ℕ) (items : List Item) (ended : Ended) (result : Fetching) (failures more : ℕ) (old new : Held) (said : Bool) →
+learns_both : {S : Type 0} (layout : Layout) (asks : Asking S) (t u z : Transactions) (link mid left : S) (walk after : WalkPlace) (steps n : ℕ) (items : List Item) (ended : Ended) (result : Fetching) (failures more : ℕ) (old new : Held) (said : Bool) →
     n ≤ steps → (run : IsRunOver asks t link walk n items ended after u mid false said) → TellsMore said result → Told asks (towards t.route) t.retries ended after left →
-    TellsRun (λ cause. IsLeftAhead asks u mid after z left cause) items steps n ended after result old new →
-    TellsRun (λ cause. IsLeftAhead asks u mid after z left cause) run.1.0 steps n ended after result old new →
-    Learns asks t link walk steps result failures more z left old new
-learns_both asks t u z link mid left walk after steps n items ended result failures more old new said few (brought, (us, same, run, less, many), last) says told tells covers =
+    TellsRun layout (λ cause. IsLeftAhead asks u mid after z left cause) items steps n ended after result old new →
+    TellsRun layout (λ cause. IsLeftAhead asks u mid after z left cause) run.1.0 steps n ended after result old new →
+    Learns layout asks t link walk steps result failures more z left old new
+learns_both layout asks t u z link mid left walk after steps n items ended result failures more old new said few (brought, (us, same, run, less, many), last) says told tells covers =
     let M : Bool → Type 0 = λ b. TellsMore b result in
     let here : Why → Type 0 = λ cause. IsLeftAhead asks u mid after z left cause in (
       (
@@ -137,83 +136,65 @@ learns_both asks t u z link mid left walk after steps n items ended result failu
       ),
       (
         us,
-        tells_items here us steps n ended after result old new covers,
+        tells_items layout here us steps n ended after result old new covers,
         (
           n,
           ended,
           after,
-          tells_ends here us steps n ended after result old new few covers,
+          tells_ends layout here us steps n ended after result old new few covers,
           ((run.0, λ r M H s ours. absurd ours), less, many),
           told,
         ),
       ),
     )
 
-learns : {S : Type 0} (asks : Asking S) (t u z : Transactions) (link mid left : S) (walk after : WalkPlace) (steps n : ℕ) (items : List Item) (ended : Ended) (result : Fetching) (failures more : ℕ) (old new : Held) (said : Bool) →
+learns : {S : Type 0} (layout : Layout) (asks : Asking S) (t u z : Transactions) (link mid left : S) (walk after : WalkPlace) (steps n : ℕ) (items : List Item) (ended : Ended) (result : Fetching) (failures more : ℕ) (old new : Held) (said : Bool) →
     n ≤ steps → ended ≢ Stopped → IsRunOver asks t link walk n items ended after u mid false said → TellsMore said result → Told asks (towards t.route) t.retries ended after left →
-    TellsRun (λ cause. IsLeftAhead asks u mid after z left cause) items steps n ended after result old new →
-    Learns asks t link walk steps result failures more z left old new
-learns asks t u z link mid left walk after steps n items ended result failures more old new said few on run says told tells =
-    let P : List Item → Type 0 = λ l. TellsRun (λ cause. IsLeftAhead asks u mid after z left cause) l steps n ended after result old new in
-    learns_both asks t u z link mid left walk after steps n items ended result failures more old new said few run says told tells (subst P (sym (run.1.1 on)) tells)
+    TellsRun layout (λ cause. IsLeftAhead asks u mid after z left cause) items steps n ended after result old new →
+    Learns layout asks t link walk steps result failures more z left old new
+learns layout asks t u z link mid left walk after steps n items ended result failures more old new said few on run says told tells =
+    let P : List Item → Type 0 = λ l. TellsRun layout (λ cause. IsLeftAhead asks u mid after z left cause) l steps n ended after result old new in
+    learns_both layout asks t u z link mid left walk after steps n items ended result failures more old new said few run says told tells (subst P (sym (run.1.1 on)) tells)
 
 -- ---- how they end
 
 -- All lines were printed; what came after them wasn't, since there was no memory for it.
-pub without_lines : {S : Type 0} (asks : Asking S) (t u z : Transactions) (link mid new : S) (walk w after : WalkPlace) (steps n j : ℕ) (items more : List Item) (ended : Ended) (next : ℕ)
+pub without_lines : {S : Type 0} (layout : Layout) (asks : Asking S) (t u z : Transactions) (link mid new : S) (walk w after : WalkPlace) (steps n j : ℕ) (items more : List Item) (ended : Ended) (next : ℕ)
     (result : Fetching) (failures over : ℕ) (old half out : Held) (was said any : Bool) →
     IsRunOver asks t link walk n items StepLimit w u mid false was → n < steps → next ≡ w.next → IsRunOver asks u mid w j more ended after z new was said → j ≤ 2 →
-    Appends old half (items_text items) → PrintsEnd why.Memory next result half out → TellsMore any result →
-    Learns asks t link walk steps result failures over z new old out
-without_lines asks t u z link mid new walk w after steps n j items more ended next result failures over old half out was said any run few at last two printed end says =
-    learns asks t u z link mid new walk w steps n items StepLimit result failures over old out was (omega (arith, few)) limit_on run (tells_alike any was why.Memory next result half out (λ e. cc) end says) tt
-    (tells_end (λ cause. IsLeftAhead asks u mid w z new cause) items steps n StepLimit w why.Memory next result old half out (few, refl) at
+    AppendsItems layout items old half → PrintsEnd layout why.Memory next result half out → TellsMore any result →
+    Learns layout asks t link walk steps result failures over z new old out
+without_lines layout asks t u z link mid new walk w after steps n j items more ended next result failures over old half out was said any run few at last two printed end says =
+    learns layout asks t u z link mid new walk w steps n items StepLimit result failures over old out was (omega (arith, few)) limit_on run (tells_alike layout any was why.Memory next result half out (λ e. cc) end says) tt
+    (tells_end layout (λ cause. IsLeftAhead asks u mid w z new cause) items steps n StepLimit w why.Memory next result old half out (few, refl) at
     (j, last.0.0, more, ended, after, two, last.0.1) printed end)
 
--- the lines were printed, and those of more items
-pub more_printed : (items more : List Item) (old mid new : Held) → Appends old mid (items_text items) → Appends mid new (items_text more) → Appends old new (items_text (items ++ more))
-more_printed items more old mid new first last =
-    let P : List ℕ → Type 0 = λ t. Appends old new t in
-    subst P (sym (items_text-append items more)) (Appends-trans old mid new (items_text items) (items_text more) first last)
-
--- or a front part of those
-pub part_printed : (items more : List Item) (old mid new : Held) → Appends old mid (items_text items) → AppendsPart mid new (items_text more) → AppendsPart old new (items_text (items ++ more))
-part_printed items more old mid new first last =
-    let P : List ℕ → Type 0 = λ t. AppendsPart old new t in
-    subst P (sym (items_text-append items more)) (behind_first old mid new (items_text items) (items_text more) first last)
-
--- of whole steps, with more that came
-pub part_longer : (items more : List Item) (old new : Held) → AppendsPart old new (items_text items) → AppendsPart old new (items_text (items ++ more))
-part_longer items more old new part =
-    let P : List ℕ → Type 0 = λ t. AppendsPart old new t in
-    subst P (sym (items_text-append items more)) (part_of_longer old new (items_text items) (items_text more) part)
-
 -- a write of lines was refused, and one step more came
-pub refused_lines : {S : Type 0} (asks : Asking S) (t u z : Transactions) (link mid new : S) (walk w after : WalkPlace) (steps n j : ℕ) (items last : List Item) (ended : Ended)
+pub refused_lines : {S : Type 0} (layout : Layout) (asks : Asking S) (t u z : Transactions) (link mid new : S) (walk w after : WalkPlace) (steps n j : ℕ) (items last : List Item) (ended : Ended)
     (result : Fetching) (failures over : ℕ) (old out : Held) (was said : Bool) →
     IsRunOver asks t link walk n items StepLimit w u mid false was → IsRunOver asks u mid w j last ended after z new was said → n + j ≤ steps → result ≡ Err Write →
-    AppendsPart old out (items_text items) → Learns asks t link walk steps result failures over z new old out
+    AppendsItemsPart layout items old out → Learns layout asks t link walk steps result failures over z new old out
 unfolding over_joins
-refused_lines asks t u z link mid new walk w after steps n j items last ended result failures over old out was said first rest few is part =
-    let P : Fetching → Type 0 = λ r. Learns asks t link walk steps r failures over z new old out in
+refused_lines layout asks t u z link mid new walk w after steps n j items last ended result failures over old out was said first rest few is part =
+    let P : Fetching → Type 0 = λ r. Learns layout asks t link walk steps r failures over z new old out in
     let all = over_joins asks t u z link mid new walk w after n j items last ended false was said first rest in
-    let Q : List Item → Type 0 = λ l. AppendsPart old out (items_text (l ++ rest.1.0)) in
-    subst P (sym is) (learns_both asks t z z link new new walk after steps (n + j) (items ++ last) ended (Err Write) failures over old out said few all tt all.2
-    (inl (few, (refl, refl), part_longer items last old out part)) (inl (few, (refl, refl), subst Q (sym (first.1.1 limit_on)) (part_longer items rest.1.0 old out part))))
+    let Q : List Item → Type 0 = λ l. AppendsItemsPart layout (l ++ rest.1.0) old out in
+    subst P (sym is) (learns_both layout asks t z z link new new walk after steps (n + j) (items ++ last) ended (Err Write) failures over old out said few all tt all.2
+    (inl (few, (refl, refl), laid_longer layout items last old out part)) (inl (few, (refl, refl), subst Q (sym (first.1.1 limit_on)) (laid_longer layout items rest.1.0 old out part))))
 
 -- a step failed beside which lines were to be printed
-pub fails : {S : Type 0} (asks : Asking S) (t u v z : Transactions) (link mid half new : S) (walk w here after : WalkPlace) (steps n k : ℕ) (items left last : List Item) (ended : Ended) (told : ℕ) (fault : QueryFault)
+pub fails : {S : Type 0} (layout : Layout) (asks : Asking S) (t u v z : Transactions) (link mid half new : S) (walk w here after : WalkPlace) (steps n k : ℕ) (items left last : List Item) (ended : Ended) (told : ℕ) (fault : QueryFault)
     (failures over : ℕ) (old now out : Held) (was known said : Bool) →
     IsRunOver asks t link walk n items StepLimit w u mid false was → IsRunOver asks u mid w k left StepLimit here v half was known → IsRunOver asks v half here 1 last ended after z new known said →
-    n + k < steps → k ≤ 1 → told ≡ w.next → Appends old now (items_text items) → PrintsLeft {A = Ended} left (Err fault) now out →
-    Learns asks t link walk steps (Err fault) failures over z new old out
-fails asks t u v z link mid half new walk w here after steps n k items left last ended told Write failures over old now out was known said first second third few one at printed part =
-    refused_lines asks t v z link half new walk here after steps (n + k) 1 (items ++ left) last ended (Err Write) failures over old out known said
-    (over_joins asks t u v link mid half walk w here n k items left StepLimit false was known first second) third (omega (arith, few)) refl (part_printed items left old now out printed part)
-fails asks t u v z link mid half new walk w here after steps n k items left last ended told Memory failures over old now out was known said first second third few one at printed (some, kept) =
-    without_lines asks t u z link mid new walk w after steps n (k + 1) items (left ++ last) ended told (Err Memory) failures over old out out was said said first (omega (arith, few)) at
-    (over_joins asks u v z mid half new w here after k 1 left last ended was known said second third) (omega (arith, one)) (Appends-kept old now out (items_text items) printed kept) (Keeps-refl out) tt
-fails asks t u v z link mid half new walk w here after steps n k items left last ended told (Exchange fault) failures over old now out was known said first second third few one at printed none = absurd none
+    n + k < steps → k ≤ 1 → told ≡ w.next → AppendsItems layout items old now → PrintsLeft {A = Ended} layout left (Err fault) now out →
+    Learns layout asks t link walk steps (Err fault) failures over z new old out
+fails layout asks t u v z link mid half new walk w here after steps n k items left last ended told Write failures over old now out was known said first second third few one at printed part =
+    refused_lines layout asks t v z link half new walk here after steps (n + k) 1 (items ++ left) last ended (Err Write) failures over old out known said
+    (over_joins asks t u v link mid half walk w here n k items left StepLimit false was known first second) third (omega (arith, few)) refl (laid_part layout items left old now out printed part)
+fails layout asks t u v z link mid half new walk w here after steps n k items left last ended told Memory failures over old now out was known said first second third few one at printed (some, kept) =
+    without_lines layout asks t u z link mid new walk w after steps n (k + 1) items (left ++ last) ended told (Err Memory) failures over old out out was said said first (omega (arith, few)) at
+    (over_joins asks u v z mid half new w here after k 1 left last ended was known said second third) (omega (arith, one)) (laid_kept layout items old now out printed kept) (Keeps-refl out) tt
+fails layout asks t u v z link mid half new walk w here after steps n k items left last ended told (Exchange fault) failures over old now out was known said first second third few one at printed none = absurd none
 
 -- a run that isn't stopped left the link as it is
 pub whole_ahead : {S : Type 0} (asks : Asking S) (u : Transactions) (mid : S) (here : WalkPlace) (ended : Ended) (cause : Why) → is_stopped ended ≡ false → why_of ended ≡ Some cause →
@@ -227,24 +208,24 @@ whole_ahead asks u mid here Stopped why.Memory on is = absurd (cc)
 whole_ahead asks u mid here (Fault e) why.Memory on is = absurd (cc)
 
 -- the lines of the last step are printed, and the end line, as far as there is memory and no write is refused
-pub finishes : {S : Type 0} (asks : Asking S) (t u z : Transactions) (link mid new : S) (walk w after : WalkPlace) (steps n j whole : ℕ) (items last : List Item) (ended : Ended) (cause : Why) (next told : ℕ)
+pub finishes : {S : Type 0} (layout : Layout) (asks : Asking S) (t u z : Transactions) (link mid new : S) (walk w after : WalkPlace) (steps n j whole : ℕ) (items last : List Item) (ended : Ended) (cause : Why) (next told : ℕ)
     (result : Fetching) (failures over : ℕ) (old half out : Held) (was said : Bool) →
     IsRunOver asks t link walk n items StepLimit w u mid false was → IsRunOver asks u mid w j last ended after z new was said → ended ≢ Stopped →
     IsRunOver asks t link walk whole (items ++ last) ended after z new false said → TellsMore said result → whole ≤ steps → IsRunOf cause steps whole ended → IsLeftAhead asks z new after z new cause →
-    n + j ≤ steps → j ≤ 1 → next ≡ after.next → told ≡ w.next → Appends old half (items_text items) → PrintsLast last cause next told result half out →
-    Learns asks t link walk steps result failures over z new old out
-finishes asks t u z link mid new walk w after steps n j whole items last ended cause next told result failures over old half out was said first rest on all says few ends left sum one at before printed (inl (now, more, end)) =
-    learns asks t z z link new new walk after steps whole (items ++ last) ended result failures over old out said few on all says all.2
-    (tells_end (λ c. IsLeftAhead asks z new after z new c) (items ++ last) steps whole ended after cause next result old now out ends at left
-    (more_printed items last old half now printed more) end)
-finishes asks t u z link mid new walk w after steps n j whole items last ended cause next told result failures over old half out was said first rest on all says few ends left sum one at before printed (inr (inl (now, some, kept, end))) =
+    n + j ≤ steps → j ≤ 1 → next ≡ after.next → told ≡ w.next → AppendsItems layout items old half → PrintsLast layout last cause next told result half out →
+    Learns layout asks t link walk steps result failures over z new old out
+finishes layout asks t u z link mid new walk w after steps n j whole items last ended cause next told result failures over old half out was said first rest on all says few ends left sum one at before printed (inl (now, more, end)) =
+    learns layout asks t z z link new new walk after steps whole (items ++ last) ended result failures over old out said few on all says all.2
+    (tells_end layout (λ c. IsLeftAhead asks z new after z new c) (items ++ last) steps whole ended after cause next result old now out ends at left
+    (laid_then layout items last old half now printed more) end)
+finishes layout asks t u z link mid new walk w after steps n j whole items last ended cause next told result failures over old half out was said first rest on all says few ends left sum one at before printed (inr (inl (now, some, kept, end))) =
     let same = ap length (rest.1.1 on) in
-    without_lines asks t u z link mid new walk w after steps n j items last ended told result failures over old now out was said said first (omega (arith, some, same, rest.1.3, sum)) before rest (omega (arith, one))
-    (Appends-kept old half now (items_text items) printed kept) end says
-finishes asks t u z link mid new walk w after steps n j whole items last ended cause next told result failures over old half out was said first rest on all says few ends left sum one at before printed (inr (inr (is, part))) =
-    let P : Fetching → Type 0 = λ r. Learns asks t link walk steps r failures over z new old out in
-    subst P (sym is) (learns asks t z z link new new walk after steps whole (items ++ last) ended (Err Write) failures over old out said few on all tt all.2
-    (inl (few, (refl, refl), part_printed items last old half out printed part)))
+    without_lines layout asks t u z link mid new walk w after steps n j items last ended told result failures over old now out was said said first (omega (arith, some, same, rest.1.3, sum)) before rest (omega (arith, one))
+    (laid_kept layout items old half now printed kept) end says
+finishes layout asks t u z link mid new walk w after steps n j whole items last ended cause next told result failures over old half out was said first rest on all says few ends left sum one at before printed (inr (inr (is, part))) =
+    let P : Fetching → Type 0 = λ r. Learns layout asks t link walk steps r failures over z new old out in
+    subst P (sym is) (learns layout asks t z z link new new walk after steps whole (items ++ last) ended (Err Write) failures over old out said few on all tt all.2
+    (inl (few, (refl, refl), laid_part layout items last old half out printed part)))
 
 -- ---- one step
 

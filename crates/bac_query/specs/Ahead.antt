@@ -1,6 +1,6 @@
 -- What is printed while an answer is waited for, and what fetching a log so prints. Read from the end.
 use Rattle.std.specs.Prelude.{◌≡◌, ◌≢◌, ℕ, ◌*◌, ◌<◌, ◌≤◌, Bool, true, false, ◌⊎◌, List, [], length, Result, Ok, Err}
-use Rattle.std.specs.Io.KnownBytes.{Appends, Keeps}
+use Rattle.std.specs.Io.KnownBytes.{Keeps}
 use Rattle.bac_link.specs.Delivery.{History, Moment}
 use Rattle.bac_link.specs.Path.{Path, towards}
 use Rattle.bac_link.specs.declared.transactions.Transactions.{Transactions}
@@ -9,8 +9,7 @@ use Rattle.bac_link.specs.declared.link.Lost.{Lost}
 use Rattle.bac_ports.specs.Asking.{Asks}
 use Rattle.bac_ports.specs.Port.{Receiving, Sending}
 use Rattle.bac_ports.specs.declared.udp_link.UdpLink.{UdpLink}
-use Rattle.bac_print.specs.Output.{AppendsPart}
-use Rattle.bac_query.specs.Items.{items_text}
+use Rattle.bac_query.specs.Layouts.{AppendsItems, AppendsItemsPart}
 use Rattle.bac_walk.specs.Came.{Came}
 use Rattle.bac_walk.specs.Transacted.{BroughtBy}
 use Rattle.bac_walk.specs.Place.{WalkPlace}
@@ -23,35 +22,37 @@ use Rattle.bac_walk.specs.declared.outcome.Why.TheVariants as why
 use Rattle.bac_query.specs.Fetching.{EndsAs, Fetching, IsFetched, IsHeadline, PrintsEnd, PrintsItems, TellsRun}
 use Rattle.bac_query.specs.More.{TellsMore, more_after, said_more}
 use Rattle.bac_query.specs.Reading.{Held}
+use Rattle.bac_query.specs.declared.layout.Layout.{Layout}
 use Rattle.bac_query.specs.declared.fault.QueryFault.{QueryFault}
 use Rattle.bac_query.specs.declared.fault.QueryFault.TheVariants.{Exchange, Write, Memory}
 
 -- ---- beside one exchange
 
--- what is left to be printed, and what the output holds; or a write was refused
+-- in which layout, what is left to be printed, and what the output holds; or a write was refused
 pub record Pending : Type 0 where
+  pub layout : Layout
   pub is_refused : Bool
   pub left : List Item
   pub held : Held
 
--- the three together
-abbrev pub pending : Bool → List Item → Held → Pending
-pending refused left held = record { is_refused = refused; left = left; held = held }
+-- the four together
+abbrev pub pending : Layout → Bool → List Item → Held → Pending
+pending layout refused left held = record { layout = layout; is_refused = refused; left = left; held = held }
 
--- a write of the lines that were left was refused; or they were written; or none of them yet
-abbrev pub PrintsTo : Bool → List Item → Held → List Item → Held → Type 0
-PrintsTo true left old rest new = AppendsPart old new (items_text left)
-PrintsTo false left old rest new =
-    ((rest ≡ left) × Keeps old new) ⊎ ((rest ≡ []) × Appends old new (items_text left))
+-- a write of the text of what was left was refused; or it was written; or none of it yet
+abbrev pub PrintsTo : Layout → Bool → List Item → Held → List Item → Held → Type 0
+PrintsTo layout true left old rest new = AppendsItemsPart layout left old new
+PrintsTo layout false left old rest new =
+    ((rest ≡ left) × Keeps old new) ⊎ ((rest ≡ []) × AppendsItems layout left old new)
 
 -- once a write was refused nothing more is written
-abbrev pub PrintsFrom : Bool → List Item → Held → Pending → Type 0
-PrintsFrom true left old new = (new.is_refused ≡ true) × (new.left ≡ left) × Keeps old new.held
-PrintsFrom false left old new = PrintsTo new.is_refused left old new.left new.held
+abbrev pub PrintsFrom : Layout → Bool → List Item → Held → Pending → Type 0
+PrintsFrom layout true left old new = (new.is_refused ≡ true) × (new.left ≡ left) × Keeps old new.held
+PrintsFrom layout false left old new = PrintsTo layout new.is_refused left old new.left new.held
 
 -- what was left is printed, once, as far as no write is refused; or it is left still
 abbrev pub PrintsOn : Pending → Pending → Type 0
-PrintsOn old new = PrintsFrom old.is_refused old.left old.held new
+PrintsOn old new = (new.layout ≡ old.layout) × PrintsFrom old.layout old.is_refused old.left old.held new
 
 -- an ask over a port: the request is sent once to the peer, and at most 16 datagrams are taken, up to the first one
 -- that comes from the peer and answers it
@@ -60,12 +61,12 @@ abbrev pub port_asks : {P : Type 0} → (P → List ℕ → List ℕ → Sending
 port_asks sends receives old octets answer new =
     Asks sends receives old.peer octets 16 old.port answer new.port × (new.peer ≡ old.peer)
 
--- the lines that were left were written; or a write was refused; or there was no memory for them
-abbrev pub PrintsLeft : {A : Type 0} → List Item → Result A QueryFault → Held → Held → Type 0
-PrintsLeft left (Ok done) old new = Appends old new (items_text left)
-PrintsLeft left (Err Write) old new = AppendsPart old new (items_text left)
-PrintsLeft left (Err Memory) old new = (0 < length left) × Keeps old new
-PrintsLeft left (Err (Exchange fault)) old new = ⊥
+-- the text of what was left was written; or a write was refused; or there was no memory for it
+abbrev pub PrintsLeft : {A : Type 0} → Layout → List Item → Result A QueryFault → Held → Held → Type 0
+PrintsLeft layout left (Ok done) old new = AppendsItems layout left old new
+PrintsLeft layout left (Err Write) old new = AppendsItemsPart layout left old new
+PrintsLeft layout left (Err Memory) old new = (0 < length left) × Keeps old new
+PrintsLeft layout left (Err (Exchange fault)) old new = ⊥
 
 -- ---- a run
 
@@ -88,11 +89,11 @@ IsRunOver {S = S} asks first old before n items ended after last new was said =
 
 -- The lines that were left, and then the end line; or without memory for those lines the end line that says so, and
 -- told is the number before them; or a write of them was refused.
-abbrev pub PrintsLast : List Item → Why → ℕ → ℕ → Fetching → Held → Held → Type 0
-PrintsLast left cause next told result old new =
-    ((mid : Held) × Appends old mid (items_text left) × PrintsEnd cause next result mid new)
-    ⊎ (((mid : Held) × (0 < length left) × Keeps old mid × PrintsEnd why.Memory told result mid new)
-    ⊎ ((result ≡ Err Write) × AppendsPart old new (items_text left)))
+abbrev pub PrintsLast : Layout → List Item → Why → ℕ → ℕ → Fetching → Held → Held → Type 0
+PrintsLast layout left cause next told result old new =
+    ((mid : Held) × AppendsItems layout left old mid × PrintsEnd layout cause next result mid new)
+    ⊎ (((mid : Held) × (0 < length left) × Keeps old mid × PrintsEnd layout why.Memory told result mid new)
+    ⊎ ((result ≡ Err Write) × AppendsItemsPart layout left old new))
 
 -- The link and the transactions after a run that left the walk here and ended for this. They are as the run left them;
 -- but if there was no memory for the lines of a reply, that reply came too, and the one after it, if there was memory
@@ -111,20 +112,21 @@ IsLeftAhead asks half mid here last new why.Memory =
 -- lines of the items that they brought, and the end of their run; and if they say what one log holds, those are the
 -- headline's; and it is told whether the last of them with records said that more is there, and yet the walk is caught
 -- up.
-abbrev pub FetchesAhead : {S : Type 0} → (S → List ℕ → Result (List ℕ) Lost → S → Type 0) →
+abbrev pub FetchesAhead : {S : Type 0} → Layout → (S → List ℕ → Result (List ℕ) Lost → S → Type 0) →
     Transactions → S → WalkPlace → ℕ → Fetching → Transactions → S → Held → Held → Type 0
-FetchesAhead {S = S} asks first link walk steps result last left old new =
+FetchesAhead {S = S} layout asks first link walk steps result last left old new =
     (came : List Came) × (items : List Item) × (n : ℕ) × (ended : Ended) × (after : WalkPlace)
     × (half : Transactions) × (mid : S) × BroughtBy asks first link walk n came items ended after half mid
-    × TellsRun (λ cause. IsLeftAhead asks half mid after last left cause) items steps n ended after result old new
+    × TellsRun layout (λ cause. IsLeftAhead asks half mid after last left cause)
+    items steps n ended after result old new
     × IsHeadline walk came items ended after × TellsMore (said_more came) result
 
 -- The items are those of a run of this walk, at most so many steps, over a link that nobody claims to be ours; the
 -- last exchange over the link told why it ended.
-abbrev pub PrintsRun : {S : Type 0} → (S → List ℕ → Result (List ℕ) Lost → S → Type 0) →
+abbrev pub PrintsRun : {S : Type 0} → Layout → (S → List ℕ → Result (List ℕ) Lost → S → Type 0) →
     Path → ℕ → WalkPlace → ℕ → Fetching → ℕ → ℕ → S → Held → Held → Type 0
-PrintsRun {S = S} asks path retries walk steps result failures more left old new =
-    (items : List Item) × PrintsItems items result old new
-    × ((n : ℕ) × (ended : Ended) × (after : WalkPlace) × EndsAs items steps n ended after result old new
+PrintsRun {S = S} layout asks path retries walk steps result failures more left old new =
+    (items : List Item) × PrintsItems layout items result old new
+    × ((n : ℕ) × (ended : Ended) × (after : WalkPlace) × EndsAs layout items steps n ended after result old new
     × IsFetched never retries failures more walk after n ended items
     × Told asks path retries ended after left)

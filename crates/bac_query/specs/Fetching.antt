@@ -1,14 +1,14 @@
 -- What fetching the records of a trend log prints, over any link and any writer.
-use Rattle.std.specs.Prelude.{◌≡◌, ℕ, false, ◌+◌, ◌*◌, ◌<◌, ◌≤◌, ◌⊎◌, List, ◌++◌, length, Result, Ok, Err}
-use Rattle.std.specs.Io.KnownBytes.{Appends, Keeps}
+use Rattle.std.specs.Prelude.{◌≡◌, ℕ, false, ◌+◌, ◌*◌, ◌<◌, ◌≤◌, ◌⊎◌, List, length, Result, Ok, Err}
+use Rattle.std.specs.Io.KnownBytes.{Keeps}
 use Rattle.bac_log.specs.TrendLog.{sequence_number}
 use Rattle.bac_link.specs.Delivery.{History, Moment, DeliversTo, Leads}
 use Rattle.bac_link.specs.Path.{Path}
 use Rattle.bac_link.specs.declared.item.Item.{Item}
 use Rattle.bac_link.specs.declared.link.Lost.{Lost}
 use Rattle.bac_link.specs.declared.transactions.Transactions.{Transactions}
-use Rattle.bac_query.specs.Ends.{end_line}
-use Rattle.bac_query.specs.Items.{items_text}
+use Rattle.bac_query.specs.Layouts.{AppendsAll, AppendsAllPart, AppendsEnd, AppendsEndPart, AppendsItems}
+use Rattle.bac_query.specs.Layouts.{AppendsItemsPart}
 use Rattle.bac_link.specs.Moments.{NeverGoesBack}
 use Rattle.bac_walk.specs.Came.{Came, Brought, AreSaidAt, answers_of}
 use Rattle.bac_walk.specs.Collects.{IsCaughtUp, start_of}
@@ -22,32 +22,32 @@ use Rattle.bac_walk.specs.declared.outcome.Ended.{Ended}
 use Rattle.bac_walk.specs.declared.outcome.Ended.TheVariants.{CaughtUp, StepLimit, Stopped}
 use Rattle.bac_walk.specs.declared.outcome.Why.{Why}
 use Rattle.bac_walk.specs.declared.outcome.Why.TheVariants as why
-use Rattle.bac_print.specs.Output.{AppendsPart}
 use Rattle.bac_query.specs.Reading.{Held}
 use Rattle.bac_query.specs.declared.fault.QueryFault.{QueryFault}
 use Rattle.bac_query.specs.declared.fault.QueryFault.TheVariants.{Exchange, Write, Memory}
 use Rattle.bac_query.specs.declared.fetching.Fetched.{Fetched}
+use Rattle.bac_query.specs.declared.layout.Layout.{Layout}
+use Rattle.bac_query.specs.declared.layout.Layout.TheVariants.{Lines}
 
 -- what fetching answers
 abbrev pub Fetching : Type 0
 Fetching = Result Fetched QueryFault
 
 -- the end line was written, or a front part of it, or there was no memory for it
-abbrev pub PrintsEnd : Why → ℕ → Fetching → Held → Held → Type 0
-PrintsEnd why next (Ok fetched) old new =
-    (fetched.why ≡ why) × (fetched.next ≡ next) × Appends old new (end_line why next)
-PrintsEnd why next (Err Write) old new = AppendsPart old new (end_line why next)
-PrintsEnd why next (Err Memory) old new = Keeps old new
-PrintsEnd why next (Err (Exchange fault)) old new = ⊥
+abbrev pub PrintsEnd : Layout → Why → ℕ → Fetching → Held → Held → Type 0
+PrintsEnd layout why next (Ok fetched) old new =
+    (fetched.why ≡ why) × (fetched.next ≡ next) × AppendsEnd layout why next old new
+PrintsEnd layout why next (Err Write) old new = AppendsEndPart layout why next old new
+PrintsEnd layout why next (Err Memory) old new = Keeps old new
+PrintsEnd layout why next (Err (Exchange fault)) old new = ⊥
 
--- The lines of the items and the end line were written; after a refused write, a front part of these; if there was
--- no memory for the end line, the lines of the items.
-abbrev pub PrintsItems : List Item → Fetching → Held → Held → Type 0
-PrintsItems items (Ok fetched) old new = Appends old new (items_text items ++ end_line fetched.why fetched.next)
-PrintsItems items (Err Write) old new =
-    (why : Why) × (next : ℕ) × AppendsPart old new (items_text items ++ end_line why next)
-PrintsItems items (Err Memory) old new = Appends old new (items_text items)
-PrintsItems items (Err (Exchange fault)) old new = ⊥
+-- The text of the items and the end line were written; after a refused write, a front part of these; if there was
+-- no memory for the end line, the text of the items.
+abbrev pub PrintsItems : Layout → List Item → Fetching → Held → Held → Type 0
+PrintsItems layout items (Ok fetched) old new = AppendsAll layout items fetched.why fetched.next old new
+PrintsItems layout items (Err Write) old new = (why : Why) × (next : ℕ) × AppendsAllPart layout items why next old new
+PrintsItems layout items (Err Memory) old new = AppendsItems layout items old new
+PrintsItems layout items (Err (Exchange fault)) old new = ⊥
 
 -- the number that comes next is that of an ordinal
 abbrev pub NextIs : Fetching → ℕ → Type 0
@@ -68,15 +68,16 @@ IsEnd steps n ended after why next = IsRunOf why steps n ended × (next ≡ afte
 
 -- What was told or written at the end is the end of that run. If a write was refused, it was that of lines of items,
 -- or of the end line.
-abbrev pub EndsAs : List Item → ℕ → ℕ → Ended → WalkPlace → Fetching → Held → Held → Type 0
-EndsAs items steps n ended after (Ok fetched) old new = IsEnd steps n ended after fetched.why fetched.next
-EndsAs items steps n ended after (Err Write) old new =
+abbrev pub EndsAs : Layout → List Item → ℕ → ℕ → Ended → WalkPlace → Fetching → Held → Held → Type 0
+EndsAs layout items steps n ended after (Ok fetched) old new = IsEnd steps n ended after fetched.why fetched.next
+EndsAs layout items steps n ended after (Err Write) old new =
     (n ≤ steps)
-    × (AppendsPart old new (items_text items)
+    × (AppendsItemsPart layout items old new
     ⊎ ((why : Why) × (next : ℕ) × IsEnd steps n ended after why next
-    × AppendsPart old new (items_text items ++ end_line why next)))
-EndsAs items steps n ended after (Err Memory) old new = (why : Why) × (next : ℕ) × IsEnd steps n ended after why next
-EndsAs items steps n ended after (Err (Exchange fault)) old new = ⊥
+    × AppendsAllPart layout items why next old new))
+EndsAs layout items steps n ended after (Err Memory) old new =
+    (why : Why) × (next : ℕ) × IsEnd steps n ended after why next
+EndsAs layout items steps n ended after (Err (Exchange fault)) old new = ⊥
 
 -- The items are those of a run of n steps of the walk, over any link: each step brought at most 100 records and one
 -- gap, and a record at least if all were whole. Over a link of ours they are what its answers brought.
@@ -99,21 +100,22 @@ IsLeft asks path retries mid here new why.Memory =
     (came : List Came) × (items : List Item) × (after : WalkPlace)
     × Brought asks path retries mid here 1 came items Stopped after new
 
--- What is told and printed of a run of n steps with these items: their lines and the end line, which says how that run
--- ended. If a write was refused, it was that of lines of the items, or of the end line; if there was no memory for the
--- end line, the lines of the items are there. The link was left for the reason that the end line gives, or as after
+-- What is told and printed of a run of n steps with these items: their text and the end line, which says how that run
+-- ended. If a write was refused, it was that of the text of the items, or of the end line; if there was no memory for
+-- the end line, the text of the items is there. The link was left for the reason that the end line gives, or as after
 -- whole steps.
-abbrev pub TellsRun : (Why → Type 0) → List Item → ℕ → ℕ → Ended → WalkPlace → Fetching → Held → Held → Type 0
-TellsRun left items steps n ended after (Ok fetched) old new =
+abbrev pub TellsRun : Layout → (Why → Type 0) → List Item → ℕ → ℕ → Ended → WalkPlace → Fetching →
+    Held → Held → Type 0
+TellsRun layout left items steps n ended after (Ok fetched) old new =
     IsEnd steps n ended after fetched.why fetched.next × left fetched.why
-    × Appends old new (items_text items ++ end_line fetched.why fetched.next)
-TellsRun left items steps n ended after (Err Write) old new =
-    ((n ≤ steps) × left why.StepLimit × AppendsPart old new (items_text items))
+    × AppendsAll layout items fetched.why fetched.next old new
+TellsRun layout left items steps n ended after (Err Write) old new =
+    ((n ≤ steps) × left why.StepLimit × AppendsItemsPart layout items old new)
     ⊎ ((cause : Why) × (next : ℕ) × IsEnd steps n ended after cause next × left cause
-    × AppendsPart old new (items_text items ++ end_line cause next))
-TellsRun left items steps n ended after (Err Memory) old new =
-    (cause : Why) × (next : ℕ) × IsEnd steps n ended after cause next × left cause × Appends old new (items_text items)
-TellsRun left items steps n ended after (Err (Exchange fault)) old new = ⊥
+    × AppendsAllPart layout items cause next old new)
+TellsRun layout left items steps n ended after (Err Memory) old new =
+    (cause : Why) × (next : ℕ) × IsEnd steps n ended after cause next × left cause × AppendsItems layout items old new
+TellsRun layout left items steps n ended after (Err (Exchange fault)) old new = ⊥
 
 -- If the replies that came say what one log holds at these moments, in order, and the log never goes back, all within
 -- half of the count, then the items are what it held from the walk's number on, or from the oldest record that it held
@@ -135,7 +137,7 @@ abbrev pub FetchesOver : {S : Type 0} → (S → List ℕ → Result (List ℕ) 
 FetchesOver {S = S} asks path retries link walk steps result left old new =
     (came : List Came) × (items : List Item) × (n : ℕ) × (ended : Ended) × (after : WalkPlace) × (mid : S)
     × Brought asks path retries link walk n came items ended after mid
-    × TellsRun (λ cause. IsLeft asks path retries mid after left cause) items steps n ended after result old new
+    × TellsRun Lines (λ cause. IsLeft asks path retries mid after left cause) items steps n ended after result old new
     × IsHeadline walk came items ended after
 
 -- ---- by which transactions
@@ -158,5 +160,5 @@ abbrev pub FetchesBy : {S : Type 0} → (S → List ℕ → Result (List ℕ) Lo
 FetchesBy {S = S} asks first link walk steps result last left old new =
     (came : List Came) × (items : List Item) × (n : ℕ) × (ended : Ended) × (after : WalkPlace)
     × (half : Transactions) × (mid : S) × BroughtBy asks first link walk n came items ended after half mid
-    × TellsRun (λ cause. IsLeftBy asks half mid after last left cause) items steps n ended after result old new
+    × TellsRun Lines (λ cause. IsLeftBy asks half mid after last left cause) items steps n ended after result old new
     × IsHeadline walk came items ended after

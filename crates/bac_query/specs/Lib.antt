@@ -1,4 +1,6 @@
 pub mod Values
+pub mod Rows
+pub mod Layouts
 pub mod Reading
 pub mod Fetching
 pub mod More

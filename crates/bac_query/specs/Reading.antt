@@ -18,6 +18,7 @@ use Rattle.bac_link.specs.declared.transactions.Transactions.{Transactions}
 pub use Rattle.bac_print.specs.Output.{Held}
 use Rattle.bac_print.specs.Output.{AppendsPart}
 use Rattle.bac_query.specs.Values.{IsShown}
+use Rattle.bac_query.specs.declared.reals.Reals.{Reals}
 use Rattle.bac_query.specs.declared.fault.QueryFault.{QueryFault}
 use Rattle.bac_query.specs.declared.fault.QueryFault.TheVariants.{Exchange, Write, Memory}
 
@@ -39,27 +40,27 @@ values_in (Some (apdu.Complex segmented invoke service parameters)) =
 values_in other = None
 
 -- the text of the values was written, or a front part of it; without memory for the text nothing was
-abbrev pub PrintsShown : List ℕ → Answer → Held → Held → Type 0
-PrintsShown values (Ok done) old new = (text : List ℕ) × IsShown values text × Appends old new text
-PrintsShown values (Err Write) old new = (text : List ℕ) × IsShown values text × AppendsPart old new text
-PrintsShown values (Err Memory) old new = Keeps old new
-PrintsShown values (Err (Exchange fault)) old new = ⊥
+abbrev pub PrintsShown : Reals → List ℕ → Answer → Held → Held → Type 0
+PrintsShown reals values (Ok done) old new = (text : List ℕ) × IsShown reals values text × Appends old new text
+PrintsShown reals values (Err Write) old new = (text : List ℕ) × IsShown reals values text × AppendsPart old new text
+PrintsShown reals values (Err Memory) old new = Keeps old new
+PrintsShown reals values (Err (Exchange fault)) old new = ⊥
 
 -- nothing is printed of an ACK that can't be read
-abbrev pub PrintsValues : Option (List ℕ) → Answer → Held → Held → Type 0
-PrintsValues None result old new = (result ≡ Err (Exchange BadReply)) × Keeps old new
-PrintsValues (Some values) result old new = PrintsShown values result old new
+abbrev pub PrintsValues : Reals → Option (List ℕ) → Answer → Held → Held → Type 0
+PrintsValues reals None result old new = (result ≡ Err (Exchange BadReply)) × Keeps old new
+PrintsValues reals (Some values) result old new = PrintsShown reals values result old new
 
 -- nothing is printed if no ACK came
-abbrev pub PrintsAnswer : Result (List ℕ) ExchangeFault → Answer → Held → Held → Type 0
-PrintsAnswer (Err fault) result old new = (result ≡ Err (Exchange fault)) × Keeps old new
-PrintsAnswer (Ok datagram) result old new = PrintsValues (values_in (apdu_in datagram)) result old new
+abbrev pub PrintsAnswer : Reals → Result (List ℕ) ExchangeFault → Answer → Held → Held → Type 0
+PrintsAnswer reals (Err fault) result old new = (result ≡ Err (Exchange fault)) × Keeps old new
+PrintsAnswer reals (Ok datagram) result old new = PrintsValues reals (values_in (apdu_in datagram)) result old new
 
 -- an exchange of the request, and the values of its ACK are printed
-abbrev pub ReadsProperty : Path → ℕ → ReadProperty → Answer → Held → Held → Type 0
-ReadsProperty path invoke asked result old new =
+abbrev pub ReadsProperty : Path → ℕ → ReadProperty → Reals → Answer → Held → Held → Type 0
+ReadsProperty path invoke asked reals result old new =
     (answer : Result (List ℕ) ExchangeFault) × Concludes path invoke (request.ReadProperty asked) answer
-    × PrintsAnswer answer result old new
+    × PrintsAnswer reals answer result old new
 
 -- how a request goes: by a path, under an invoke ID, and so many times more as long as no answer comes (clause 5.4)
 pub record Way : Type 0 where
@@ -73,8 +74,8 @@ next_way t = record { path = towards t.route; invoke = next_invoke t.invoke; ret
 
 -- and that exchange was one over the link, which is left so
 abbrev pub ReadsOver : {S : Type 0} → (S → List ℕ → Result (List ℕ) Lost → S → Type 0) →
-    Way → ReadProperty → S → Answer → S → Held → Held → Type 0
-ReadsOver {S = S} asks way asked link result left old new =
+    Way → ReadProperty → Reals → S → Answer → S → Held → Held → Type 0
+ReadsOver {S = S} asks way asked reals link result left old new =
     (answer : Result (List ℕ) ExchangeFault)
     × Exchanges asks way.path way.invoke (request.ReadProperty asked) way.retries link answer left
-    × PrintsAnswer answer result old new
+    × PrintsAnswer reals answer result old new

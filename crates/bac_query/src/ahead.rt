@@ -11,14 +11,14 @@ ghost use Rattle.bac_query.specs.More.{TellsMore};
 
 use crate::fault::QueryFault;
 use crate::fetching::{Fetched, end};
-use crate::items::push_items;
+use crate::layout::{Layout, print_items};
 use crate::more::if_caught_up;
-use crate::reading::print;
 use crate::record_lines::Lines;
 use bac_link::{Item, LogLink, Lost};
 use bac_ports::{Port, UdpLink};
 use bac_walk::{Gap, Numbered, ReplyFlaw, Sink, Why};
 use bac_wire::Datagram;
+use std::alloc::Global;
 use std::io::Write;
 
 /// A link that, once a request is sent, prints what was left with it, and only then waits for the
@@ -31,6 +31,9 @@ pub(crate) struct Ahead<'a, P, W> {
     pub(crate) left: &'a mut Vec<Item>,
     /// Their text, or the end line.
     lines: &'a mut Lines,
+    /// How they are printed.
+    layout: Layout,
+    alloc: Global,
     /// A write was refused: nothing more is printed.
     is_refused: bool,
     /// The answer to the last request, if one came.
@@ -44,6 +47,8 @@ pub(crate) struct Ahead<'a, P, W> {
 impl<'a, P: Port, W: Write> Ahead<'a, P, W> {
     /// A link with these items still to print, and room for their lines.
     pub(crate) fn new(
+        alloc: Global,
+        layout: Layout,
         link: &'a mut UdpLink<P>,
         out: &'a mut W,
         left: &'a mut Vec<Item>,
@@ -54,6 +59,7 @@ impl<'a, P: Port, W: Write> Ahead<'a, P, W> {
         ensures link { result.link.now ≡ link.old }
         ensures out { result.out.now ≡ out.old }
         ensures left { result.left.now ≡ left.old }
+        ensures layout { result.layout ≡ layout }
         ensures refused { result.is_refused ≡ false }
         ensures said_more { result.said_more ≡ false }
     {
@@ -62,6 +68,8 @@ impl<'a, P: Port, W: Write> Ahead<'a, P, W> {
             out,
             left,
             lines,
+            layout,
+            alloc,
             is_refused: false,
             last: None,
             flaw: None,
@@ -69,16 +77,16 @@ impl<'a, P: Port, W: Write> Ahead<'a, P, W> {
         }
     }
 
-    /// Prints the lines of what is left, with one write. If there is no memory for them, it stays
-    /// left.
+    /// Prints the text of what is left, with one write. If there is no memory for it, it stays left.
     pub(crate) fn print_left(&mut self) -> Result<(), QueryFault>
         ensures prints { self.old.is_refused ≡ false →
-            PrintsLeft self.old.left.now.items result (W.contents self.old.out.now) (W.contents self.new.out.now) }
+            PrintsLeft self.old.layout self.old.left.now.items result (W.contents self.old.out.now) (W.contents self.new.out.now) }
         ensures refused { self.old.is_refused ≡ true →
             (result ≡ Err QueryFault.Write) × Keeps (W.contents self.old.out.now) (W.contents self.new.out.now) }
-        ensures on { PrintsOn (pending self.old.is_refused self.old.left.now.items (W.contents self.old.out.now))
-            (pending self.new.is_refused self.new.left.now.items (W.contents self.new.out.now)) }
+        ensures on { PrintsOn (pending self.old.layout self.old.is_refused self.old.left.now.items (W.contents self.old.out.now))
+            (pending self.new.layout self.new.is_refused self.new.left.now.items (W.contents self.new.out.now)) }
         ensures none { OnOk result (self.new.left.now.items ≡ []) }
+        ensures layout { self.new.layout ≡ self.old.layout }
         ensures well { OnOk result (self.new.is_refused ≡ false) }
         ensures link { self.new.link.now ≡ self.old.link.now }
         ensures flaw { self.new.flaw ≡ self.old.flaw }
@@ -92,15 +100,18 @@ impl<'a, P: Port, W: Write> Ahead<'a, P, W> {
         if self.left.is_empty() {
             return Ok(());
         }
-        self.lines.text.clear();
-        if push_items(&mut self.lines.text, self.left.as_slice()).is_err() {
-            return Err(QueryFault::Memory);
-        }
-        match print(&self.lines.text, &mut *self.out) {
+        match print_items(
+            self.alloc,
+            self.layout,
+            &mut self.lines.text,
+            self.left.as_slice(),
+            &mut *self.out,
+        ) {
             Ok(()) => {
                 self.left.clear();
                 Ok(())
             }
+            Err(QueryFault::Memory) => Err(QueryFault::Memory),
             Err(fault) => {
                 self.is_refused = true;
                 Err(fault)
@@ -108,9 +119,9 @@ impl<'a, P: Port, W: Write> Ahead<'a, P, W> {
         }
     }
 
-    /// Prints the line of a walk's end.
+    /// Prints the line of a walk's end; rows have none.
     pub(crate) fn end(&mut self, why: Why, next: u32) -> Result<Fetched, QueryFault>
-        ensures prints { PrintsEnd why next result (W.contents self.old.out.now) (W.contents self.new.out.now) }
+        ensures prints { PrintsEnd self.old.layout why next result (W.contents self.old.out.now) (W.contents self.new.out.now) }
         ensures more { TellsMore self.old.said_more result }
         ensures link { self.new.link.now ≡ self.old.link.now }
         ensures flaw { self.new.flaw ≡ self.old.flaw }
@@ -118,14 +129,22 @@ impl<'a, P: Port, W: Write> Ahead<'a, P, W> {
         ensures same_out { self.new.out.ghost_name ≡ self.old.out.ghost_name }
     {
         let said_more = if_caught_up(why, self.said_more);
-        end(&mut *self.lines, why, next, said_more, &mut *self.out)
+        match self.layout {
+            Layout::Lines => end(&mut *self.lines, why, next, said_more, &mut *self.out),
+            Layout::Csv => Ok(Fetched {
+                why,
+                next,
+                flaw: None,
+                said_more,
+            }),
+        }
     }
 
     /// Prints what is left, and then the line of the end. If there is no memory for what is left,
     /// the end is that, and the next number the one that is told.
     pub(crate) fn finish(&mut self, why: Why, next: u32, told: u32) -> Result<Fetched, QueryFault>
         requires { self.old.is_refused ≡ false }
-        ensures prints { PrintsLast self.old.left.now.items why next told result (W.contents self.old.out.now) (W.contents self.new.out.now) }
+        ensures prints { PrintsLast self.old.layout self.old.left.now.items why next told result (W.contents self.old.out.now) (W.contents self.new.out.now) }
         ensures more { TellsMore self.old.said_more result }
         ensures link { self.new.link.now ≡ self.old.link.now }
         ensures flaw { self.new.flaw ≡ self.old.flaw }
@@ -153,7 +172,7 @@ impl<'a, P: Port, W: Write> LogLink for Ahead<'a, P, W> {
 
     // An ask over its link; what was left is printed beside it, and the answer is kept.
     ghost asks = { λ old octets answer new. port_asks P.sends P.receives old.link.now octets answer new.link.now
-        × PrintsOn (pending old.is_refused old.left.now.items (W.contents old.out.now)) (pending new.is_refused new.left.now.items (W.contents new.out.now))
+        × PrintsOn (pending old.layout old.is_refused old.left.now.items (W.contents old.out.now)) (pending new.layout new.is_refused new.left.now.items (W.contents new.out.now))
         × (new.link.ghost_name ≡ old.link.ghost_name) × (new.out.ghost_name ≡ old.out.ghost_name)
         × (new.last ≡ result_ok answer) };
 

@@ -14,6 +14,7 @@ ghost use Rattle.bac_walk.specs.Transacted.{BroughtBy};
 ghost use Rattle.bac_walk.specs.declared.outcome.Ended.{Ended as EndedOf};
 ghost use Rattle.bac_query.specs.Fetching.{Delivers, EndsAs, FetchesBy, FetchesOver, IsFetched, PrintsEnd, PrintsItems};
 ghost use Rattle.bac_query.specs.Reading.{Prints};
+ghost use Rattle.bac_query.specs.declared.layout.Layout.TheVariants.{Lines as InLines};
 
 use crate::ends::push_end;
 use crate::fault::QueryFault;
@@ -52,9 +53,9 @@ pub fn fetch_log<L: LogLink, W: Write>(
 ) -> Result<Fetched, QueryFault>
     // What is printed are the lines of items, and the line that says how their run ended: so many
     // steps, or what the last exchange told. Over a link of ours the items are what the log holds.
-    ensures printed { (items : List Item) × PrintsItems items result (W.contents out.old) (W.contents out.new)
+    ensures printed { (items : List Item) × PrintsItems InLines items result (W.contents out.old) (W.contents out.new)
         × Delivers (λ r M H. L.is_ours link.old walk.log r M H) walk steps items result
-        × ((n : ℕ) × (ended : EndedOf) × (after : WalkPlace) × EndsAs items steps n ended after result (W.contents out.old) (W.contents out.new)
+        × ((n : ℕ) × (ended : EndedOf) × (after : WalkPlace) × EndsAs InLines items steps n ended after result (W.contents out.old) (W.contents out.new)
         × IsFetched (λ r M H. L.is_ours link.old walk.log r M H) transactions.old.retries (L.failures link.old) (L.failures link.new) walk after n ended items
         × Told L.asks (towards transactions.old.route) transactions.old.retries ended after link.new) }
     // Over any link, whoever answers, they are the lines of what the replies brought that came over
@@ -116,7 +117,7 @@ pub(crate) fn end<W: Write>(
     said_more: bool,
     out: &mut W,
 ) -> Result<Fetched, QueryFault>
-    ensures prints { PrintsEnd why next result (W.contents out.old) (W.contents out.new) }
+    ensures prints { PrintsEnd InLines why next result (W.contents out.old) (W.contents out.new) }
     ensures flaw { IfOk result (λ fetched. fetched.flaw ≡ None) }
     ensures said_more { IfOk result (λ fetched. fetched.said_more ≡ said_more) }
 {

@@ -12,6 +12,7 @@ ghost use Rattle.bac_query.specs.Flaws.{IsBadlyFetched, IsFlawed, TellsFlaw, las
 use crate::ahead::{Ahead, Reply};
 use crate::fault::QueryFault;
 use crate::fetching::Fetched;
+use crate::layout::Layout;
 use crate::more::more_last;
 use crate::record_lines::Lines;
 use bac_link::Transactions;
@@ -25,23 +26,26 @@ use std::io::Write;
 /// written once the next question is sent, while its answer is on its way. If a write is refused,
 /// the records of the reply after it have come too; if there is no memory for the lines of a reply,
 /// the next number is the one before it. Of a bad reply it tells what is wrong, and of a walk that
-/// is caught up whether the last reply with records said that more is there.
+/// is caught up whether the last reply with records said that more is there. As CSV there are rows in
+/// place of lines, and no line at the end; the row of names is
+/// [`begin_layout`](crate::begin_layout)'s.
 pub fn fetch_log_ahead<P: Port, W: Write>(
     alloc: Global,
     link: &mut UdpLink<P>,
     transactions: &mut Transactions,
     walk: Walk,
     steps: u32,
+    layout: Layout,
     out: &mut W,
 ) -> Result<Fetched, QueryFault>
     // What is printed are the lines of items, and the line that says how their run ended: so many
     // steps, or what the last exchange told.
-    ensures printed { PrintsRun (port_asks P.sends P.receives) (towards transactions.old.route) transactions.old.retries
+    ensures printed { PrintsRun layout (port_asks P.sends P.receives) (towards transactions.old.route) transactions.old.retries
         walk steps result link.old.failures link.new.failures link.new (W.contents out.old) (W.contents out.new) }
     // Over any port, whoever answers, they are the lines of what the replies brought that came over
     // it from here on, each to the next transaction; and if these say what one log holds, of what it
     // held.
-    ensures came { FetchesAhead (port_asks P.sends P.receives) transactions.old
+    ensures came { FetchesAhead layout (port_asks P.sends P.receives) transactions.old
         link.old walk steps result transactions.new link.new (W.contents out.old) (W.contents out.new) }
     // At most two transactions a step are begun.
     ensures begun { transactions.new.begun ≤ transactions.old.begun + 2 * steps }
@@ -52,7 +56,7 @@ pub fn fetch_log_ahead<P: Port, W: Write>(
     let mut lines = Lines {
         text: Vec::new(alloc),
     };
-    let mut ahead = Ahead::new(link, out, &mut left, &mut lines);
+    let mut ahead = Ahead::new(alloc, layout, link, out, &mut left, &mut lines);
     fetch_told(alloc, &mut ahead, transactions, walk, steps)
 }
 
@@ -67,10 +71,10 @@ fn fetch_told<P: Port, W: Write>(
     requires well { ahead.old.is_refused ≡ false }
     requires none { ahead.old.left.now.items ≡ [] }
     requires unsaid { ahead.old.said_more ≡ false }
-    ensures printed { PrintsRun (port_asks P.sends P.receives) (towards transactions.old.route) transactions.old.retries
+    ensures printed { PrintsRun ahead.old.layout (port_asks P.sends P.receives) (towards transactions.old.route) transactions.old.retries
         walk steps result ahead.old.link.now.failures ahead.new.link.now.failures ahead.new.link.now
         (W.contents ahead.old.out.now) (W.contents ahead.new.out.now) }
-    ensures came { FetchesAhead (port_asks P.sends P.receives) transactions.old
+    ensures came { FetchesAhead ahead.old.layout (port_asks P.sends P.receives) transactions.old
         ahead.old.link.now walk steps result transactions.new ahead.new.link.now (W.contents ahead.old.out.now) (W.contents ahead.new.out.now) }
     ensures begun { transactions.new.begun ≤ transactions.old.begun + 2 * steps }
     ensures flaw { TellsFlaw (port_asks P.sends P.receives) (towards transactions.old.route) transactions.old.retries walk.log result ahead.new.link.now }
@@ -109,10 +113,10 @@ fn fetch<P: Port, W: Write>(
     requires well { ahead.old.is_refused ≡ false }
     requires none { ahead.old.left.now.items ≡ [] }
     requires unsaid { ahead.old.said_more ≡ false }
-    ensures printed { PrintsRun (port_asks P.sends P.receives) (towards transactions.old.route) transactions.old.retries
+    ensures printed { PrintsRun ahead.old.layout (port_asks P.sends P.receives) (towards transactions.old.route) transactions.old.retries
         walk steps result ahead.old.link.now.failures ahead.new.link.now.failures ahead.new.link.now
         (W.contents ahead.old.out.now) (W.contents ahead.new.out.now) }
-    ensures came { FetchesAhead (port_asks P.sends P.receives) transactions.old
+    ensures came { FetchesAhead ahead.old.layout (port_asks P.sends P.receives) transactions.old
         ahead.old.link.now walk steps result transactions.new ahead.new.link.now (W.contents ahead.old.out.now) (W.contents ahead.new.out.now) }
     ensures begun { transactions.new.begun ≤ transactions.old.begun + 2 * steps }
     ensures flaw { IfOk result (λ fetched. fetched.why ≡ Why.Fault FaultOf.BadReply →
@@ -157,8 +161,9 @@ fn turn<P: Port, W: Write>(
         × IsRunOver (port_asks P.sends P.receives) transactions.old
         ahead.old.link.now walk.old 1 items ended walk.new transactions.new ahead.new.link.now
         ahead.old.said_more ahead.new.said_more }
-    ensures prints { PrintsLeft ahead.old.left.now.items result (W.contents ahead.old.out.now) (W.contents ahead.new.out.now) }
+    ensures prints { PrintsLeft ahead.old.layout ahead.old.left.now.items result (W.contents ahead.old.out.now) (W.contents ahead.new.out.now) }
     ensures well { OnOk result (ahead.new.is_refused ≡ false) }
+    ensures layout { ahead.new.layout ≡ ahead.old.layout }
     ensures begun { transactions.new.begun ≤ transactions.old.begun + 2 }
     ensures flaw { IfOk result (λ ended. ended ≡ Ended.Fault FaultOf.BadReply →
         IsFlawed (port_asks P.sends P.receives) (towards transactions.old.route) transactions.old.retries walk.new ahead.new.flaw ahead.new.link.now) }
@@ -189,8 +194,8 @@ fn step<P: Port, W: Write>(
         × IsRunOver (port_asks P.sends P.receives) transactions.old
         ahead.old.link.now walk.old 1 items result walk.new transactions.new ahead.new.link.now
         ahead.old.said_more ahead.new.said_more }
-    ensures beside { PrintsOn (pending ahead.old.is_refused ahead.old.left.now.items (W.contents ahead.old.out.now))
-        (pending ahead.new.is_refused ahead.new.left.now.items (W.contents ahead.new.out.now))
+    ensures beside { PrintsOn (pending ahead.old.layout ahead.old.is_refused ahead.old.left.now.items (W.contents ahead.old.out.now))
+        (pending ahead.new.layout ahead.new.is_refused ahead.new.left.now.items (W.contents ahead.new.out.now))
         × (ahead.new.link.ghost_name ≡ ahead.old.link.ghost_name) × (ahead.new.out.ghost_name ≡ ahead.old.out.ghost_name) }
     ensures begun { transactions.new.begun ≤ transactions.old.begun + 2 }
     ensures flaw { result ≡ Ended.Fault FaultOf.BadReply →

@@ -8,7 +8,7 @@ use bac_print::{push_gap, push_record};
 use std::alloc::AllocError;
 
 /// The number before another: before 1 comes 4294967295.
-fn number_before(n: u32) -> u32
+pub(crate) fn number_before(n: u32) -> u32
     ensures { result ≡ number_before n }
 {
     if n == 1 {

@@ -10,6 +10,7 @@ ghost use Rattle.bac_query.specs.Reading.{ReadsOver, ReadsProperty, PrintsValues
 ghost use Rattle.bac_query.specs.Values.{IsShown};
 
 use crate::fault::QueryFault;
+use crate::reals::Reals;
 use crate::values::push_values;
 use bac_apdu::{Apdu, ReadProperty, ReadPropertyAck};
 use bac_link::{ExchangeFault, LogLink, Request, Transactions, exchange, read_datagram};
@@ -17,8 +18,8 @@ use bac_print::write_text;
 use std::alloc::Global;
 use std::io::Write;
 
-/// Reads a property, and prints its values, a line each, with one write. If they aren't all
-/// values after application tags, the line is `raw(HEX)`; if there are none, nothing is
+/// Reads a property, and prints its values, a line each, with one write: REALs and Doubles as their
+/// octets, or the finite ones as numbers. If they aren't all values after application tags, the line is `raw(HEX)`; if there are none, nothing is
 /// printed. That the ACK has the object and the property that were asked for isn't looked at: a
 /// device answers for instance 4194303 with its own.
 pub fn read_property<L: LogLink, W: Write>(
@@ -26,17 +27,18 @@ pub fn read_property<L: LogLink, W: Write>(
     link: &mut L,
     transactions: &mut Transactions,
     asked: ReadProperty,
+    reals: Reals,
     out: &mut W,
 ) -> Result<(), QueryFault>
-    ensures printed { ReadsProperty (towards transactions.old.route) (next_invoke transactions.old.invoke) asked result (W.contents out.old) (W.contents out.new) }
+    ensures printed { ReadsProperty (towards transactions.old.route) (next_invoke transactions.old.invoke) asked reals result (W.contents out.old) (W.contents out.new) }
     // Over any link it is asked once, and as often again as the retries say; what is printed came
     // over the link.
-    ensures asked { ReadsOver L.asks (next_way transactions.old) asked
+    ensures asked { ReadsOver L.asks (next_way transactions.old) asked reals
         link.old result link.new (W.contents out.old) (W.contents out.new) }
 {
     let request = Request::ReadProperty(asked);
     match exchange(link, transactions, &request) {
-        Ok(datagram) => print_values(alloc, datagram.octets(), out),
+        Ok(datagram) => print_values(alloc, datagram.octets(), reals, out),
         Err(fault) => Err(QueryFault::Exchange(fault)),
     }
 }
@@ -55,14 +57,19 @@ pub(crate) fn values_in(datagram: &[u8]) -> Option<&[u8]>
 }
 
 /// Prints the values of an ACK.
-fn print_values<W: Write>(alloc: Global, datagram: &[u8], out: &mut W) -> Result<(), QueryFault>
-    ensures { PrintsValues (values_in (apdu_in datagram.now)) result (W.contents out.old) (W.contents out.new) }
+fn print_values<W: Write>(
+    alloc: Global,
+    datagram: &[u8],
+    reals: Reals,
+    out: &mut W,
+) -> Result<(), QueryFault>
+    ensures { PrintsValues reals (values_in (apdu_in datagram.now)) result (W.contents out.old) (W.contents out.new) }
 {
     let Some(values) = values_in(datagram) else {
         return Err(QueryFault::Exchange(ExchangeFault::BadReply));
     };
     let mut text = Vec::new(alloc);
-    if push_values(alloc, &mut text, values).is_err() {
+    if push_values(alloc, &mut text, values, reals).is_err() {
         return Err(QueryFault::Memory);
     }
     print(&text, out)

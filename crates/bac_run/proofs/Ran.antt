@@ -14,7 +14,7 @@ use Rattle.bac_keeper.specs.Stops.{StopsIn}
 use Rattle.bac_ports.specs.Sockets.{SocketRules}
 use Rattle.bac_print.specs.Output.{Held}
 use Rattle.bac_run.specs.Faults.{ending_of, fault_of}
-use Rattle.bac_run.specs.Run.{DoesAll, FileOf, HasFaultStatus, RunsAll, RunsKeepBy, RunsKept, TellsFault}
+use Rattle.bac_run.specs.Run.{DoesAll, DoesTold, FileOf, HasFaultStatus, RunsAll, RunsKeepBy, RunsKept, TellsFault}
 use Rattle.std.specs.Io.KnownBytes.{Keeps}
 use Rattle.bac_tools.specs.Run.{AskFor, Ends, IsTold, RunsRead}
 use Rattle.bac_tools.specs.Streams.{Streams, streams}
@@ -103,30 +103,32 @@ one_job said a b p q = cc
 pub never_both : {A : Type 0} (said : Result Job Word) (a : Job) (w : Word) → said ≡ Ok a → said ≡ Err w → A
 never_both said a w p q = absurd (cc)
 
-module _ {S P C F : Type 0} {s : start.Ghosts F} (rules : SocketRules S P) (tells : C → Option CivilTime → C → Type 0) (g : disk.Ghosts (FileOf s))
+module _ {S P C F : Type 0} {s : start.Ghosts F} (traces : S → Bool → S → Type 0) (rules : SocketRules S P) (tells : C → Option CivilTime → C → Type 0) (g : disk.Ghosts (FileOf s))
     (old new : Streams S C) (files left : DiskFiles F s) (status : ℕ) where
   -- what was done of the job of words
-  pub job_done : (words : List Text) (job asked : Job) → job_in words ≡ Ok job → AskFor words asked → DoesAll g rules tells job old files status new left
-      → RunsAll g rules tells asked old files status new left
-  job_done words job asked is ask does = inr (subst (λ (j : Job). DoesAll g rules tells j old files status new left) (one_job (job_in words) job asked is ask.1) does)
+  pub job_done : (words : List Text) (job asked : Job) → job_in words ≡ Ok job → AskFor words asked → DoesTold g traces rules tells job old files status new left
+      → RunsAll g traces rules tells asked old files status new left
+  job_done words job asked is ask does = inr (subst (λ (j : Job). DoesTold g traces rules tells j old files status new left) (one_job (job_in words) job asked is ask.1) does)
 
   -- words that ask for a job aren't read only without memory
   pub unread : (words : List Text) (why : WordsFault) → IsRefused words why → RunsRead rules tells (Err why) old status new → left ≡ files
-      → (asked : Job) → AskFor words asked → RunsAll g rules tells asked old files status new left
+      → (asked : Job) → AskFor words asked → RunsAll g traces rules tells asked old files status new left
   unread words (Usage e) refused ran same asked ask = absurd (subst (λ kinds. IsAmong (kind_of e) kinds) ask.0 refused)
   unread words (BadValue w) refused ran same asked ask = never_both (job_in words) asked w ask.1 refused.1
   unread words (LongNumber w) refused ran same asked ask = never_both (job_in words) asked w ask.1 refused.1
   unread words Memory refused ran same asked ask = inl (ran, same)
 
+module _ {S P C F : Type 0} {s : start.Ghosts F} (rules : SocketRules S P) (tells : C → Option CivilTime → C → Type 0) (g : disk.Ghosts (FileOf s))
+    (old new : Streams S C) (files left : DiskFiles F s) (status : ℕ) where
   -- a job of another tool than `keep` and `kept` was done beside the files
   pub other_done : (asked : Job) → ((words : KeepWords) → asked ≡ job.Keep words → ⊥) → ((words : KeptWords) → asked ≡ job.Kept words → ⊥)
       → RunsRead rules tells (Ok asked) old status new → left ≡ files → DoesAll g rules tells asked old files status new left
   other_done job.Replay none never ran same = (ran, same)
-  other_done (job.Wi stations min max dnet local timeout) none never ran same = (ran, same)
-  other_done (job.Rp asked object_type instance property index) none never ran same = (ran, same)
-  other_done (job.Wp asked object_type instance property priority given index) none never ran same = (ran, same)
-  other_done (job.Log asked instance from steps) none never ran same = (ran, same)
-  other_done (job.Logs asked instances) none never ran same = (ran, same)
+  other_done (job.Wi stations min max dnet local timeout trace) none never ran same = (ran, same)
+  other_done (job.Rp asked object_type instance property index numbers trace) none never ran same = (ran, same)
+  other_done (job.Wp asked object_type instance property priority given index trace) none never ran same = (ran, same)
+  other_done (job.Log asked instance from steps csv trace) none never ran same = (ran, same)
+  other_done (job.Logs asked instances trace) none never ran same = (ran, same)
   other_done (job.Serve address count) none never ran same = (ran, same)
   other_done (job.Keep words) none never ran same = absurd (none words refl)
   other_done (job.Kept words) none never ran same = absurd (never words refl)

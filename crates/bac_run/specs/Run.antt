@@ -21,9 +21,10 @@ use Rattle.bac_print.specs.Output.{Held}
 use Rattle.bac_run.specs.Faults.{fault_of}
 use Rattle.bac_tools.specs.Run.{AskFor, IsTold, OnlyTells, Runs}
 use Rattle.bac_tools.specs.Status.{exit_status}
-use Rattle.bac_tools.specs.Streams.{Streams}
+use Rattle.bac_tools.specs.Streams.{Streams, streams}
 use Rattle.bac_tools.specs.declared.fault.Fault.TheVariants.{Memory}
 use Rattle.bac_wire.specs.Stamp.{CivilTime}
+use Rattle.bac_words.specs.Jobs.{is_traced}
 use Rattle.bac_words.specs.declared.job.Job.{Job}
 use Rattle.bac_words.specs.declared.job.Job.TheVariants as job
 use Rattle.bac_words.specs.declared.job.Keep.{Keep}
@@ -93,8 +94,15 @@ module _ {S C F : Type 0} {s : start.Ghosts F} (g : disk.Ghosts (FileOf s)) wher
       RunsKept asked old status new left × IsStill old new × (new.sockets ≡ old.sockets)
   DoesAll rules tells other old files status new left = Runs rules tells other old status new × (left ≡ files)
 
+  -- The sockets are switched on to tell each datagram, or off, as the words say; the tool does its work over these.
+  abbrev pub DoesTold : {P : Type 0} → (S → Bool → S → Type 0) → SocketRules S P → (C → Option CivilTime → C → Type 0) →
+      Job → Streams S C → DiskFiles F s → ℕ → Streams S C → DiskFiles F s → Type 0
+  DoesTold traces rules tells asked old files status new left =
+      (sockets : S) × traces old.sockets (is_traced asked) sockets
+      × DoesAll rules tells asked (streams old.input old.output old.errors sockets old.clock) files status new left
+
   -- What the words ask for is done; or nothing is, as there is no memory for the words.
-  abbrev pub RunsAll : {P : Type 0} → SocketRules S P → (C → Option CivilTime → C → Type 0) → Job →
-      Streams S C → DiskFiles F s → ℕ → Streams S C → DiskFiles F s → Type 0
-  RunsAll rules tells asked old files status new left =
-      (OnlyTells Memory old status new × (left ≡ files)) ⊎ DoesAll rules tells asked old files status new left
+  abbrev pub RunsAll : {P : Type 0} → (S → Bool → S → Type 0) → SocketRules S P → (C → Option CivilTime → C → Type 0) →
+      Job → Streams S C → DiskFiles F s → ℕ → Streams S C → DiskFiles F s → Type 0
+  RunsAll traces rules tells asked old files status new left =
+      (OnlyTells Memory old status new × (left ≡ files)) ⊎ DoesTold traces rules tells asked old files status new left

@@ -12,11 +12,12 @@ ghost use Rattle.bac_words.specs.Outcome.{mistakes_of};
 ghost use Rattle.bac_words.specs.declared.job.Job.{Job as AnyJob};
 ghost use Rattle.bac_words.specs.declared.word.Word.{Word as AnyWord};
 ghost use Rattle.bac_run.specs.Faults.{ending_of, fault_of};
-ghost use Rattle.bac_run.specs.Run.{AskForKept, DoesAll, IsOfKept, RunsAll, RunsKeep, RunsKept};
+ghost use Rattle.bac_run.specs.Run.{AskForKept, DoesAll, DoesTold, IsOfKept, RunsAll, RunsKeep, RunsKept};
 
 use bac_keeper::{DiskFiles, Fault as KeepFault, run_keep, run_kept};
 use bac_ports::Sockets;
 use bac_tools::{Clock, Fault, run_read, tell};
+use bac_trace::Tracing;
 use bac_words::{Job, Keep, Kept, read_words};
 use sqlite::{FileFrom, Start};
 use sqlite_disk::Disk;
@@ -106,11 +107,34 @@ fn run_job<S: Sockets, F: Start, I: Read, O: Write, E: Write, C: Clock>(
     }
 }
 
+/// The same over sockets that tell each datagram, if the words ask for it.
+fn run_told<S: Tracing, F: Start, I: Read, O: Write, E: Write, C: Clock>(
+    sockets: &mut S,
+    files: &mut DiskFiles<'_, F>,
+    alloc: Global,
+    job: Job,
+    counts: bool,
+    input: &mut I,
+    output: &mut O,
+    errors: &mut E,
+    clock: &mut C,
+) -> u8
+    ensures ran { DoesTold ⟦<FileFrom<F> as Disk>⟧ S.traces (socket_rules S.opens S.closes S.Socket.sends S.Socket.receives S.Socket.receives_within) C.tells job
+        (streams (I.remaining input.old) (O.contents output.old) (E.contents errors.old) sockets.old clock.old) files.old result
+        (streams (I.remaining input.new) (O.contents output.new) (E.contents errors.new) sockets.new clock.new) files.new }
+    ensures stays { IsUnused files.old → (IsOfKept job → ⊥) → IfSome files.new.closed (IsDoneTo ⟦<FileFrom<F> as Disk>⟧ (image_at F.Start) LosesNothing) }
+{
+    sockets.trace(job.is_traced());
+    run_job(
+        sockets, files, alloc, job, counts, input, output, errors, clock,
+    )
+}
+
 /// The program `bac`: does what its words ask for, the first of which is its name, and answers the
 /// exit status. Results and help go to the output; faults, and the line of a server that is up, go
 /// to the errors. `counts` is for a terminal: of `keep` the errors have a count of records while a
 /// log is fetched.
-pub fn run<S: Sockets, F: Start, I: Read, O: Write, E: Write, C: Clock>(
+pub fn run<S: Tracing, F: Start, I: Read, O: Write, E: Write, C: Clock>(
     sockets: &mut S,
     files: &mut DiskFiles<'_, F>,
     alloc: Global,
@@ -123,7 +147,7 @@ pub fn run<S: Sockets, F: Start, I: Read, O: Write, E: Write, C: Clock>(
 ) -> u8
     // The tool that the words name does what they say.
     ensures done { (job : AnyJob) → AskFor (map string_bytes words.now) job →
-        RunsAll ⟦<FileFrom<F> as Disk>⟧ (socket_rules S.opens S.closes S.Socket.sends S.Socket.receives S.Socket.receives_within) C.tells job
+        RunsAll ⟦<FileFrom<F> as Disk>⟧ S.traces (socket_rules S.opens S.closes S.Socket.sends S.Socket.receives S.Socket.receives_within) C.tells job
         (streams (I.remaining input.old) (O.contents output.old) (E.contents errors.old) sockets.old clock.old) files.old result
         (streams (I.remaining input.new) (O.contents output.new) (E.contents errors.new) sockets.new clock.new) files.new }
     // Whatever comes of it, of an archive that the files held no item and no log is lost.
@@ -142,7 +166,7 @@ pub fn run<S: Sockets, F: Start, I: Read, O: Write, E: Write, C: Clock>(
         (streams (I.remaining input.new) (O.contents output.new) (E.contents errors.new) sockets.new clock.new) }
 {
     match read_words(alloc, words) {
-        Ok(job) => run_job(
+        Ok(job) => run_told(
             sockets, files, alloc, job, counts, input, output, errors, clock,
         ),
         Err(fault) => run_read(sockets, alloc, Err(fault), input, output, errors, clock),

@@ -1,5 +1,5 @@
 -- What `fetch_log` says of the run that it fetched.
-use Rattle.std.proofs.Common.{◌≡◌, Bool, true, false, ℕ, List, Option, Ok, Err, IfErr, inl, inr, sym, subst}
+use Rattle.std.proofs.Common.{◌≡◌, Bool, true, false, ℕ, List, Option, Ok, Err, IfErr, inl, inr, refl, sym, subst}
 use Rattle.bac_link.specs.Delivery.{History, Moment}
 use Rattle.bac_link.specs.Path.{Path, towards}
 use Rattle.bac_link.specs.declared.item.Item.{Item}
@@ -9,10 +9,15 @@ use Rattle.bac_print.specs.Output.{Held}
 use Rattle.bac_query.specs.Fetching.{EndsAs, Fetching, IsFetched, PrintsItems, TellsRun}
 use Rattle.bac_query.specs.Flaws.{TellsFlawOf}
 use Rattle.bac_query.specs.More.{if_caught_up}
+use Rattle.bac_query.specs.declared.layout.Layout.{Layout}
+use Rattle.bac_query.specs.declared.layout.Layout.TheVariants.{Lines, Csv}
+use Rattle.bac_query.specs.Layouts.{BeginsWith}
+use Rattle.bac_query.specs.Reading.{Answer}
+use Rattle.bac_query.specs.declared.fault.QueryFault.{QueryFault}
 use Rattle.bac_query.specs.declared.fault.QueryFault.TheVariants.{Exchange, Write, Memory}
 use Rattle.bac_tools.specs.Asking.{FetchesRun, SaysMore}
 use Rattle.bac_tools.specs.Ending.{Ending}
-use Rattle.bac_tools.specs.LogEnds.{of_why}
+use Rattle.bac_tools.specs.LogEnds.{ended_as, of_why}
 use Rattle.bac_walk.specs.Place.{WalkPlace}
 use Rattle.bac_walk.specs.Told.{Told}
 use Rattle.bac_walk.specs.declared.flaw.ReplyFlaw.{ReplyFlaw}
@@ -24,24 +29,24 @@ use Rattle.bac_wire.specs.Primitive.{Id}
 use Rattle.bac_words.specs.declared.job.Asked.{Asked}
 
 -- what is printed, and how the run ended, in one
-tells : (items : List Item) (steps n : ℕ) (ended : Ended) (after : WalkPlace) (fetching : Fetching) (old new : Held) →
-    PrintsItems items fetching old new → EndsAs items steps n ended after fetching old new →
-    TellsRun (λ cause. Unit {0}) items steps n ended after fetching old new
-tells items steps n ended after (Ok fetched) old new prints ends = (ends, tt, prints)
-tells items steps n ended after (Err Write) old new prints (few, inl part) = inl (few, tt, part)
-tells items steps n ended after (Err Write) old new prints (few, inr (why, next, end, part)) = inr (why, next, end, tt, part)
-tells items steps n ended after (Err Memory) old new prints (why, next, end) = (why, next, end, tt, prints)
-tells items steps n ended after (Err (Exchange fault)) old new prints ends = absurd ends
+tells : (layout : Layout) (items : List Item) (steps n : ℕ) (ended : Ended) (after : WalkPlace) (fetching : Fetching) (old new : Held) →
+    PrintsItems layout items fetching old new → EndsAs layout items steps n ended after fetching old new →
+    TellsRun layout (λ cause. Unit {0}) items steps n ended after fetching old new
+tells layout items steps n ended after (Ok fetched) old new prints ends = (ends, tt, prints)
+tells layout items steps n ended after (Err Write) old new prints (few, inl part) = inl (few, tt, part)
+tells layout items steps n ended after (Err Write) old new prints (few, inr (why, next, end, part)) = inr (why, next, end, tt, part)
+tells layout items steps n ended after (Err Memory) old new prints (why, next, end) = (why, next, end, tt, prints)
+tells layout items steps n ended after (Err (Exchange fault)) old new prints ends = absurd ends
 
-pub run_of : {S P : Type 0} (rules : SocketRules S P) (asked : Asked) (walk : WalkPlace) (steps retries failed fails : ℕ)
+pub run_of : {S P : Type 0} (rules : SocketRules S P) (layout : Layout) (asked : Asked) (walk : WalkPlace) (steps retries failed fails : ℕ)
     (was : ℕ → List Moment → History → Type 0) (fetching : Fetching) (left : UdpLink P) (old new : Held) (items : List Item) →
-    PrintsItems items fetching old new →
-    ((n : ℕ) × (ended : Ended) × (after : WalkPlace) × EndsAs items steps n ended after fetching old new
+    PrintsItems layout items fetching old new →
+    ((n : ℕ) × (ended : Ended) × (after : WalkPlace) × EndsAs layout items steps n ended after fetching old new
     × IsFetched was retries failed fails walk after n ended items
     × Told (socket_asks rules) (towards asked.route) asked.retries ended after left) →
-    FetchesRun rules asked walk steps fetching left old new
-run_of rules asked walk steps retries failed fails was fetching left old new items prints (n, ended, after, ends, fetched, told) =
-    (items, n, ended, after, tells items steps n ended after fetching old new prints ends, fetched.0.0, fetched.1, fetched.2, told)
+    FetchesRun rules layout asked walk steps fetching left old new
+run_of rules layout asked walk steps retries failed fails was fetching left old new items prints (n, ended, after, ends, fetched, told) =
+    (items, n, ended, after, tells layout items steps n ended after fetching old new prints ends, fetched.0.0, fetched.1, fetched.2, told)
 
 -- ---- what is said beside the end line
 
@@ -66,3 +71,20 @@ quiet_end asks path retries log next left address (why.Fault fault) flaw more sa
     after_any (of_why address (why.Fault fault) flaw) old new (unsaid more old new is says)
 quiet_end asks path retries log next left address why.Memory flaw more said old new tells is says =
     after_any (of_why address why.Memory flaw) old new (unsaid more old new is says)
+
+-- so it is where a status takes the place of the line
+pub quiet_as : (layout : Layout) (cause : Why) (ended : Ending) (old new : Held) → IfErr ended (λ fault. new ≡ old) →
+    IfErr (ended_as layout cause ended) (λ fault. new ≡ old)
+quiet_as Lines cause ended old new is = is
+quiet_as Csv why.CaughtUp ended old new is = is
+quiet_as Csv why.StepLimit ended old new is = tt
+quiet_as Csv (why.Fault fault) ended old new is = is
+quiet_as Csv why.Memory ended old new is = is
+
+-- ---- what stands before the items
+
+-- it was printed, if it wasn't refused
+pub begun_with : (layout : Layout) (result : Answer) (old new : Held) → ((fault : QueryFault) → result ≡ Err fault → ⊥) → BeginsWith layout result old new →
+    BeginsWith layout (Ok tt) old new
+begun_with layout (Ok done) old new well begins = begins
+begun_with layout (Err fault) old new well begins = absurd (well fault refl)

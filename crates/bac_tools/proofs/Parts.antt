@@ -8,13 +8,13 @@ use Rattle.bac_objects.specs.State.{State}
 use Rattle.bac_objects.specs.declared.lines.DeviceLine.{DeviceLine}
 use Rattle.bac_objects.specs.declared.lines.ObjectLine.{ObjectLine}
 use Rattle.bac_ports.specs.Sockets.{SocketRules}
-use Rattle.bac_ports.specs.declared.port.SocketFault.{SocketFault}
+use Rattle.bac_ports.specs.declared.port.OpenFault.{OpenFault}
 use Rattle.bac_tools.specs.Ending.{Ending}
 use Rattle.bac_script.specs.Reason.{AreNumbers}
 use Rattle.bac_tools.specs.Serving.{IsServed, IsUnbuilt}
 use Rattle.bac_tools.specs.Streams.{Streams}
 use Rattle.bac_tools.specs.declared.fault.Fault.{Fault}
-use Rattle.bac_tools.specs.declared.fault.Fault.TheVariants.{Memory, Socket}
+use Rattle.bac_tools.specs.declared.fault.Fault.TheVariants.{Memory, Unopened}
 use Rattle.bac_wire.specs.Stamp.{CivilTime}
 
 -- the whole of it is a front part too
@@ -40,11 +40,11 @@ pub unserved : {S P C : Type 0} (rules : SocketRules S P) (tells : C → Option 
     (wait count : ℕ) (device : State) (old new : Streams S C) (result : Ending) (fault : Fault) → result ≡ Err fault
     → new.errors ≡ old.errors → new.clock ≡ old.clock
     → ((fault ≡ Memory) × (new.sockets ≡ old.sockets))
-    ⊎ ((fault ≡ Socket) × ((why : SocketFault) × rules.opens old.sockets address wait (Err why) new.sockets))
+    ⊎ ((why : OpenFault) × (fault ≡ Unopened why) × rules.opens old.sockets address wait (Err why) new.sockets)
     → IsServed rules tells address wait count device old result new
 unserved rules tells address wait count device old new result fault said errors clock (inl (p, sockets)) =
     inl (said ∙ ap Err p, ((errors, clock), sockets))
-unserved rules tells address wait count device old new result fault said errors clock (inr (p, (why, opens))) =
+unserved rules tells address wait count device old new result fault said errors clock (inr (why, p, opens)) =
     inr (inl (why, opens, said ∙ ap Err p, (errors, clock)))
 
 -- lines that make no device are told by their numbers in the input, if its text was kept

@@ -1,5 +1,5 @@
 -- What `bac rp`, `wp`, `log` and `logs` do: one socket, and over it what they ask one device for. Read from the end.
-use Rattle.std.specs.Prelude.{◌≡◌, ℕ, ◌*◌, ◌≤◌, Bool, true, false, List, length, Ok, Err}
+use Rattle.std.specs.Prelude.{◌≡◌, ℕ, ◌*◌, ◌≤◌, ◌⊎◌, Bool, true, false, List, length, Ok, Err}
 use Rattle.bac_apdu.specs.declared.service.read_property.ReadProperty.{ReadProperty}
 use Rattle.bac_link.specs.Path.{towards}
 use Rattle.bac_link.specs.declared.item.Item.{Item}
@@ -11,12 +11,16 @@ use Rattle.bac_print.specs.Output.{AppendsPart, Held}
 use Rattle.bac_query.specs.Ahead.{FetchesAhead}
 use Rattle.bac_query.specs.Fetching.{Fetching, TellsRun}
 use Rattle.bac_query.specs.Flaws.{TellsFlaw}
+use Rattle.bac_query.specs.Layouts.{BeginsWith}
 use Rattle.bac_query.specs.Reading.{Answer, ReadsOver, next_way}
 use Rattle.bac_query.specs.Tables.{ListsLogs, client}
 use Rattle.bac_query.specs.Writing.{WritesOver}
+use Rattle.bac_query.specs.declared.fault.QueryFault.{QueryFault}
+use Rattle.bac_query.specs.declared.layout.Layout.{Layout}
+use Rattle.bac_query.specs.declared.reals.Reals.{Reals}
 use Rattle.bac_tools.specs.Ending.{Ending}
 use Rattle.bac_tools.specs.Faults.{of_query}
-use Rattle.bac_tools.specs.LogEnds.{of_why}
+use Rattle.bac_tools.specs.LogEnds.{ended_as, of_why}
 use Rattle.bac_tools.specs.Sockets.{Opens, Outside, transactions_with}
 use Rattle.bac_tools.specs.Texts.{more_line}
 use Rattle.bac_walk.specs.Collects.{Goes}
@@ -51,10 +55,11 @@ abbrev pub of_answer : List ℕ → Answer → Ending
 of_answer address (Ok done) = Ok 0
 of_answer address (Err fault) = Err (of_query address fault)
 
--- ReadProperty: an exchange with the device, and the values of its ACK
-abbrev pub Reads : {S P : Type 0} → SocketRules S P → Asked → ReadProperty → Outside S → Ending → Outside S → Type 0
-Reads rules asked question old result new =
-    AsksDevice rules asked (ReadsOver (socket_asks rules) (next_way (transactions_with asked)) question)
+-- ReadProperty: an exchange with the device, and the values of its ACK, with REALs and Doubles shown so
+abbrev pub Reads : {S P : Type 0} → SocketRules S P →
+    Asked → ReadProperty → Reals → Outside S → Ending → Outside S → Type 0
+Reads rules asked question reals old result new =
+    AsksDevice rules asked (ReadsOver (socket_asks rules) (next_way (transactions_with asked)) question reals)
     (of_answer asked.address) old result new
 
 -- WriteProperty, likewise
@@ -77,9 +82,9 @@ Lists rules asked logs old result new =
 -- ---- bac log
 
 -- the line of a walk's end is printed, whatever it says; what there is to say beside it is a fault
-abbrev pub of_fetching : List ℕ → Fetching → Ending
-of_fetching address (Ok fetched) = of_why address fetched.why fetched.flaw
-of_fetching address (Err fault) = Err (of_query address fault)
+abbrev pub of_fetching : Layout → List ℕ → Fetching → Ending
+of_fetching layout address (Ok fetched) = ended_as layout fetched.why (of_why address fetched.why fetched.flaw)
+of_fetching layout address (Err fault) = Err (of_query address fault)
 
 -- a device that contradicted itself is told so, by the line or a front part of it, and of any other nothing is written
 abbrev pub SaysMore : Bool → Held → Held → Type 0
@@ -94,28 +99,41 @@ SaysOf (Err fault) old new = new ≡ old
 -- The items cover the numbers from the walk's on up to the next one. Each step brought at most 100 records and one gap,
 -- and a record at least if the run ended since there were so many; the last exchange told why it ended.
 abbrev pub FetchesRun : {S P : Type 0} → SocketRules S P →
-    Asked → WalkPlace → ℕ → Fetching → UdpLink P → Held → Held → Type 0
-FetchesRun rules asked walk steps fetching left old new =
+    Layout → Asked → WalkPlace → ℕ → Fetching → UdpLink P → Held → Held → Type 0
+FetchesRun rules layout asked walk steps fetching left old new =
     (items : List Item) × (n : ℕ) × (ended : Ended) × (after : WalkPlace)
-    × TellsRun (λ cause. Unit {0}) items steps n ended after fetching old new
+    × TellsRun layout (λ cause. Unit {0}) items steps n ended after fetching old new
     × ((s : ℕ) → Goes walk.fresh walk.next s items after.fresh after.next)
     × (length items ≤ 101 * n) × (ended ≡ StepLimit → n ≤ length items)
     × Told (socket_asks rules) (towards asked.route) asked.retries ended after left
 
--- A log is fetched: replies came, one after the other, each to the next transaction of the client, which has begun none
--- before, and begins two a step at most; what is printed are the lines of the items that they brought, and the end of
--- their run; and if they say what one log holds, those are what it held. Of a bad reply, and of nothing else, it is
--- told what is wrong with it; and of a walk that is caught up, on the errors, that the last reply with records said
+-- A log is fetched over a link: replies came, one after the other, each to the next transaction of the client, which
+-- has begun none before, and begins two a step at most; what is printed is the text of the items that they brought, and
+-- the end of their run; and if they say what one log holds, those are what it held. Of a bad reply, and of nothing else,
+-- it is told what is wrong with it.
+abbrev pub FetchesOn : {S P : Type 0} → SocketRules S P → Layout → Asked → WalkPlace → ℕ →
+    UdpLink P → Fetching → UdpLink P → Held → Held → Type 0
+FetchesOn rules layout asked walk steps link fetching left had has =
+    ((last : Transactions)
+    × FetchesAhead layout (socket_asks rules) (transactions_with asked) link walk steps fetching last left had has
+    × (last.begun ≤ 2 * steps))
+    × FetchesRun rules layout asked walk steps fetching left had has
+    × TellsFlaw (socket_asks rules) (towards asked.route) asked.retries walk.log fetching left
+
+-- what stands before the items is printed, and then they are fetched; or it can't be, and nothing is asked
+abbrev pub FetchesOver : {S P : Type 0} → SocketRules S P → Layout → Asked → WalkPlace → ℕ →
+    UdpLink P → Fetching → UdpLink P → Held → Held → Type 0
+FetchesOver rules layout asked walk steps link fetching left had has =
+    ((fault : QueryFault) × BeginsWith layout (Err fault) had has × (fetching ≡ Err fault) × (left ≡ link))
+    ⊎ ((mid : Held) × BeginsWith layout (Ok tt) had mid
+    × FetchesOn rules layout asked walk steps link fetching left mid has)
+
+-- A log is fetched; and of a walk that is caught up it is told, on the errors, that the last reply with records said
 -- that more is there.
-abbrev pub Fetches : {S P : Type 0} → SocketRules S P → Asked → WalkPlace → ℕ → Outside S → Ending → Outside S →
-    Held → Held → Type 0
-Fetches rules asked walk steps old result new errors told =
+abbrev pub Fetches : {S P : Type 0} → SocketRules S P → Layout → Asked → WalkPlace → ℕ →
+    Outside S → Ending → Outside S → Held → Held → Type 0
+Fetches rules layout asked walk steps old result new errors told =
     AsksDevice rules asked
     (λ link fetching left had has.
-    ((last : Transactions)
-    × FetchesAhead (socket_asks rules) (transactions_with asked) link walk steps fetching last left had has
-    × (last.begun ≤ 2 * steps))
-    × FetchesRun rules asked walk steps fetching left had has
-    × TellsFlaw (socket_asks rules) (towards asked.route) asked.retries walk.log fetching left
-    × SaysOf fetching errors told)
-    (of_fetching asked.address) old result new
+    FetchesOver rules layout asked walk steps link fetching left had has × SaysOf fetching errors told)
+    (of_fetching layout asked.address) old result new

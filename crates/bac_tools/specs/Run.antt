@@ -1,5 +1,5 @@
 -- What the program does with its words: its streams, its sockets and its clock, before and now. Read from the end.
-use Rattle.std.specs.Prelude.{◌≡◌, ◌≤◌, ◌⊎◌, ℕ, ◌==◌, if◌then◌else◌, IfErr}
+use Rattle.std.specs.Prelude.{◌≡◌, ◌≤◌, ◌⊎◌, ℕ, ◌==◌, Bool, true, false, if◌then◌else◌, IfErr}
 use Rattle.std.specs.List.{Contains}
 use Rattle.std.specs.Prelude.{List, [], map, Option, Some, None, Result, Ok, Err}
 use Rattle.std.specs.Io.KnownBytes.{Appends, Keeps}
@@ -12,6 +12,10 @@ use Rattle.bac_apdu.specs.declared.service.write_property.WriteProperty.{WritePr
 use Rattle.bac_link.specs.declared.request.Request.TheVariants as request
 use Rattle.bac_ports.specs.Sockets.{SocketRules}
 use Rattle.bac_print.specs.Output.{AppendsPart, Held}
+use Rattle.bac_query.specs.declared.layout.Layout.{Layout}
+use Rattle.bac_query.specs.declared.layout.Layout.TheVariants.{Lines, Csv}
+use Rattle.bac_query.specs.declared.reals.Reals.{Reals}
+use Rattle.bac_query.specs.declared.reals.Reals.TheVariants.{Octets, Numbers}
 use Rattle.bac_tools.specs.Asking.{Fetches, Lists, Reads, Writes}
 use Rattle.bac_tools.specs.Ending.{Ending}
 use Rattle.bac_tools.specs.Finding.{Finds, search_of}
@@ -67,6 +71,16 @@ abbrev pub walk_from : ℕ → Option ℕ → WalkPlace
 walk_from instance None = walk_from_oldest (trend_log instance)
 walk_from instance (Some number) = walk_at (trend_log instance) number
 
+-- as CSV, or in lines
+abbrev pub layout_of : Bool → Layout
+layout_of true = Csv
+layout_of false = Lines
+
+-- REALs and Doubles as numbers, or as their octets
+abbrev pub reals_of : Bool → Reals
+reals_of true = Numbers
+reals_of false = Octets
+
 -- the parameters of a request, by the words
 abbrev pub question : ℕ → ℕ → ℕ → Option ℕ → ReadProperty
 question object_type instance property index =
@@ -104,29 +118,30 @@ abbrev pub Works : {S P C : Type 0} → SocketRules S P → (C → Option CivilT
     Job → Streams S C → Ending → Streams S C → Type 0
 Works rules tells job.Replay old result new =
     Plays old.input new.input old.output new.output result × IsIdle old new
-Works rules tells (job.Rp asked object_type instance property index) old result new =
+Works rules tells (job.Rp asked object_type instance property index numbers trace) old result new =
     ((IsOutside object_type instance × IsUnasked Instance (outside_of old) result (outside_of new))
-    ⊎ Reads rules asked (question object_type instance property index) (outside_of old) result (outside_of new))
+    ⊎ Reads rules asked (question object_type instance property index) (reals_of numbers)
+    (outside_of old) result (outside_of new))
     × IsQuiet old new
-Works rules tells (job.Wp asked object_type instance property priority given index) old result new =
+Works rules tells (job.Wp asked object_type instance property priority given index trace) old result new =
     ((IsOutside object_type instance × IsUnasked Instance (outside_of old) result (outside_of new))
     ⊎ ((w : WriteProperty) × (write_of_code w ≡ setting object_type instance property priority given index)
     × Writes rules asked (request.WriteProperty w) (outside_of old) result (outside_of new)))
     × IsQuiet old new
-Works rules tells (job.Log asked instance from steps) old result new =
+Works rules tells (job.Log asked instance from steps csv trace) old result new =
     (((fault : Fault) × (IsNoWalk instance from fault × (result ≡ Err fault))
     × Keeps old.output new.output × (new.sockets ≡ old.sockets))
-    ⊎ Fetches rules asked (walk_from instance from) steps (outside_of old) result (outside_of new)
+    ⊎ Fetches rules (layout_of csv) asked (walk_from instance from) steps (outside_of old) result (outside_of new)
     old.errors new.errors)
     × IsQuietAtFault result old new
-Works rules tells (job.Logs asked instances) old result new =
+Works rules tells (job.Logs asked instances trace) old result new =
     (((fault : Fault) × (IsNoLogs instances fault × (result ≡ Err fault))
     × Keeps old.output new.output × (new.sockets ≡ old.sockets))
     ⊎ Lists rules asked (map trend_log instances) (outside_of old) result (outside_of new))
     × IsQuiet old new
 Works rules tells (job.Serve address count) old result new =
     Serves rules tells address count old result new × Keeps old.output new.output
-Works rules tells (job.Wi stations min max dnet local timeout) old result new =
+Works rules tells (job.Wi stations min max dnet local timeout trace) old result new =
     Finds rules (search_of min max dnet) stations local timeout old.input new.input
     (outside_of old) result (outside_of new)
     × IsQuiet old new

@@ -3,10 +3,10 @@ use Rattle.std.specs.Prelude.{◌≡◌, ◌⊎◌, ℕ, List, None, Err}
 use Rattle.std.specs.Io.KnownBytes.{Keeps}
 use Rattle.bac_link.specs.declared.transactions.Transactions.{Transactions}
 use Rattle.bac_ports.specs.Sockets.{SocketRules, UsesSocket}
-use Rattle.bac_ports.specs.declared.port.SocketFault.{SocketFault}
+use Rattle.bac_ports.specs.declared.port.OpenFault.{OpenFault}
 use Rattle.bac_print.specs.Output.{Held}
 use Rattle.bac_tools.specs.Ending.{Ending}
-use Rattle.bac_tools.specs.declared.fault.Fault.TheVariants.{Socket}
+use Rattle.bac_tools.specs.declared.fault.Fault.TheVariants.{Unopened}
 use Rattle.bac_words.specs.declared.job.Asked.{Asked}
 
 -- ---- sockets
@@ -21,10 +21,10 @@ abbrev pub outside : {S : Type 0} → S → Held → Outside S
 outside sockets output = record { sockets = sockets; output = output }
 
 -- One socket is opened at this address, whose receives wait so many milliseconds, this is done over it, and it is closed.
--- Without one that is the fault, and all stays quiet.
+-- Without one the fault is why it isn't opened, and all stays quiet.
 abbrev pub IsDoneOver : {S P : Type 0} → SocketRules S P → List ℕ → ℕ → S → S → Ending → Type 0 → (P → P → Type 0) → Type 0
 IsDoneOver rules address wait old new result quiet does =
-    ((why : SocketFault) × rules.opens old address wait (Err why) new × (result ≡ Err Socket) × quiet)
+    ((why : OpenFault) × rules.opens old address wait (Err why) new × (result ≡ Err (Unopened why)) × quiet)
     ⊎ UsesSocket rules address wait old does new
 
 -- the same of sockets and an output, on which nothing is printed without a socket

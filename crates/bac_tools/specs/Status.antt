@@ -5,7 +5,7 @@ use Rattle.bac_link.specs.declared.exchanges.ExchangeFault.{ExchangeFault}
 use Rattle.bac_link.specs.declared.exchanges.ExchangeFault.TheVariants as exchange
 use Rattle.bac_tools.specs.declared.fault.Fault.{Fault}
 use Rattle.bac_tools.specs.declared.fault.Fault.TheVariants.{NotText, BadValue, LongNumber, OtherTool, NoDevice, Script}
-use Rattle.bac_tools.specs.declared.fault.Fault.TheVariants.{Socket, Refused}
+use Rattle.bac_tools.specs.declared.fault.Fault.TheVariants.{Unopened, Socket, Refused}
 use Rattle.bac_tools.specs.declared.fault.Fault.TheVariants.{NoAnswer, List, Exchange, Flawed, Silent, Declined}
 use Rattle.bac_tools.specs.declared.fault.Fault.TheVariants.{Write, Memory}
 use Rattle.bac_script.specs.declared.replay.fault.ReplayFault.{ReplayFault}
@@ -49,6 +49,7 @@ exit_status (LongNumber word) = 1
 exit_status OtherTool = 1
 exit_status NoDevice = 1
 exit_status (Script refused) = script_status refused.fault
+exit_status (Unopened why) = 2
 exit_status Socket = 2
 exit_status (Refused address) = 2
 exit_status (NoAnswer asked) = 2

@@ -4,6 +4,8 @@ use Rattle.bac_link.specs.declared.exchanges.ExchangeFault.{ExchangeFault}
 use Rattle.bac_link.specs.declared.exchanges.ExchangeFault.TheVariants as exchange
 use Rattle.bac_objects.specs.declared.build.BuildFault.{BuildFault}
 use Rattle.bac_objects.specs.declared.build.BuildFault.TheVariants as build
+use Rattle.bac_ports.specs.declared.port.OpenFault.{OpenFault}
+use Rattle.bac_ports.specs.declared.port.OpenFault.TheVariants as unopened
 use Rattle.bac_print.specs.Addresses.{address_text}
 use Rattle.bac_query.specs.Ends.{cause_text, refusal_text}
 use Rattle.bac_script.specs.declared.replay.fault.Refused.{Refused as Refusal}
@@ -13,7 +15,7 @@ use Rattle.bac_tools.specs.Flaws.{reply_text}
 use Rattle.bac_tools.specs.Reasons.{list_text, second_line, unanswered_text}
 use Rattle.bac_tools.specs.declared.fault.Fault.{Fault}
 use Rattle.bac_tools.specs.declared.fault.Fault.TheVariants.{NotText, BadValue, LongNumber, OtherTool, NoDevice, Script}
-use Rattle.bac_tools.specs.declared.fault.Fault.TheVariants.{Socket, Refused}
+use Rattle.bac_tools.specs.declared.fault.Fault.TheVariants.{Unopened, Socket, Refused}
 use Rattle.bac_tools.specs.declared.fault.Fault.TheVariants.{NoAnswer, List as ListOf, Exchange, Flawed}
 use Rattle.bac_tools.specs.declared.fault.Fault.TheVariants.{Silent, Declined, Write, Memory}
 use Rattle.bac_words.specs.Names.{name_of, is_option}
@@ -35,6 +37,8 @@ abbrev pub range_text : Word → List ℕ
 range_text word.Tool = codes "replay, wi, rp, wp, log, logs, keep, kept or serve"
 range_text word.File = codes "the name of a file"
 range_text word.Csv = codes "an option without a value"
+range_text word.Numbers = codes "an option without a value"
+range_text word.Trace = codes "an option without a value"
 range_text word.Stop = codes "an option without a value, beside ADDRESS"
 range_text word.Address = address_range ++ codes "; for bac wi also with /20 to /32 behind it"
 range_text word.Local = address_range
@@ -115,6 +119,13 @@ exchange_text address exchange.TooLong = bad_value ++ codes "the request is too 
 abbrev pub refused_text : List ℕ → List ℕ
 refused_text address = of_address (codes "socket fault") (codes "nothing was sent to ") address
 
+-- why a socket couldn't be opened, where the system says it
+abbrev pub open_text : OpenFault → List ℕ
+open_text unopened.InUse = 10 ∷ codes "another socket has the address"
+open_text unopened.NotOurs = 10 ∷ codes "the address isn't one of this machine"
+open_text unopened.NotPermitted = 10 ∷ codes "the system doesn't permit it"
+open_text unopened.Failed = []
+
 -- a word's value is none that it can have
 unfoldable pub wrong_text : Word → List ℕ
 wrong_text w = bad_value ++ (word_text w ++ (codes ": " ++ range_text w))
@@ -131,6 +142,7 @@ fault_text (LongNumber w) = long_text w
 fault_text OtherTool = bad_value ++ codes "this program has no keep and no kept"
 fault_text NoDevice = bad_value ++ codes "no device line"
 fault_text (Script refused) = refusal_lines refused
+fault_text (Unopened why) = codes "socket fault" ++ open_text why
 fault_text Socket = codes "socket fault"
 fault_text (Refused address) = refused_text address
 fault_text (NoAnswer asked) = unanswered_text asked

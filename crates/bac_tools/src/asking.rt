@@ -9,11 +9,13 @@ ghost use Rattle.bac_ports.specs.Sockets.{link_over, own_address, socket_rules};
 ghost use Rattle.bac_tools.specs.Sockets.{outside, transactions_with};
 
 use crate::fault::Fault;
-use crate::log_end::{ending_of, say_more};
+use crate::log_end::{ended_as, ending_of, say_more};
 use bac_apdu::{ReadProperty, Route};
 use bac_link::{Request, Transactions};
-use bac_ports::{SocketFault, Sockets, UdpLink};
-use bac_query::{fetch_log_ahead, list_logs, read_property, write_property};
+use bac_ports::{OpenFault, Sockets, UdpLink};
+use bac_query::{
+    Layout, Reals, begin_layout, fetch_log_ahead, list_logs, read_property, write_property,
+};
 use bac_walk::Walk;
 use bac_wire::{ObjectId, Value};
 use bac_words::{Asked, Given};
@@ -45,8 +47,8 @@ fn connect<S: Sockets>(sockets: &mut S, asked: Asked) -> Result<Asking<S::Socket
     ensures ok { IfOk result (λ asking. S.opens sockets.old (own_address asked.local) asked.timeout (Ok asking.link.port) sockets.new
         × (asking.link ≡ link_over asked.address asking.link.port)
         × (asking.transactions ≡ transactions_with asked)) }
-    ensures err { IfErr result (λ fault. (fault ≡ Fault.Socket)
-        × ((why : SocketFault) × S.opens sockets.old (own_address asked.local) asked.timeout (Err why) sockets.new)) }
+    ensures err { IfErr result (λ fault. ((why : OpenFault) × (fault ≡ Fault.Unopened why)
+        × S.opens sockets.old (own_address asked.local) asked.timeout (Err why) sockets.new)) }
 {
     let Asked {
         address,
@@ -60,7 +62,7 @@ fn connect<S: Sockets>(sockets: &mut S, asked: Asked) -> Result<Asking<S::Socket
             link: UdpLink::new(port, address),
             transactions: transactions_by(retries, route),
         }),
-        Err(_) => Err(Fault::Socket),
+        Err(why) => Err(Fault::Unopened(why)),
     }
 }
 
@@ -70,9 +72,10 @@ pub(crate) fn rp<S: Sockets, O: Write>(
     alloc: Global,
     asked: Asked,
     question: ReadProperty,
+    reals: Reals,
     output: &mut O,
 ) -> Result<u8, Fault>
-    ensures { Reads (socket_rules S.opens S.closes S.Socket.sends S.Socket.receives S.Socket.receives_within) asked question
+    ensures { Reads (socket_rules S.opens S.closes S.Socket.sends S.Socket.receives S.Socket.receives_within) asked question reals
         (outside sockets.old (O.contents output.old)) result (outside sockets.new (O.contents output.new)) }
 {
     let address = asked.address;
@@ -80,7 +83,7 @@ pub(crate) fn rp<S: Sockets, O: Write>(
         mut link,
         mut transactions,
     } = connect(sockets, asked)?;
-    let answered = read_property(alloc, &mut link, &mut transactions, question, output);
+    let answered = read_property(alloc, &mut link, &mut transactions, question, reals, output);
     sockets.close(link.into_port());
     match answered {
         Ok(()) => Ok(0),
@@ -112,18 +115,25 @@ pub(crate) fn wp<S: Sockets, O: Write>(
     }
 }
 
+/// What a log is asked for, and how it is printed.
+#[derive(Drop)]
+pub(crate) struct LogAsking {
+    pub walk: Walk,
+    pub steps: u32,
+    pub layout: Layout,
+}
+
 /// Walks a log, and prints what it brings. If it is caught up, and yet the last reply with records
 /// said that more is there, that goes to the errors.
 pub(crate) fn log<S: Sockets, O: Write, E: Write>(
     sockets: &mut S,
     alloc: Global,
     asked: Asked,
-    walk: Walk,
-    steps: u32,
+    asking: LogAsking,
     output: &mut O,
     errors: &mut E,
 ) -> Result<u8, Fault>
-    ensures fetches { Fetches (socket_rules S.opens S.closes S.Socket.sends S.Socket.receives S.Socket.receives_within) asked walk steps
+    ensures fetches { Fetches (socket_rules S.opens S.closes S.Socket.sends S.Socket.receives S.Socket.receives_within) asking.layout asked asking.walk asking.steps
         (outside sockets.old (O.contents output.old)) result (outside sockets.new (O.contents output.new))
         (E.contents errors.old) (E.contents errors.new) }
     ensures quiet { IfErr result (λ fault. E.contents errors.new ≡ E.contents errors.old) }
@@ -133,12 +143,30 @@ pub(crate) fn log<S: Sockets, O: Write, E: Write>(
         mut link,
         mut transactions,
     } = connect(sockets, asked)?;
-    let fetched = fetch_log_ahead(alloc, &mut link, &mut transactions, walk, steps, output);
+    let LogAsking {
+        walk,
+        steps,
+        layout,
+    } = asking;
+    if let Err(fault) = begin_layout(alloc, layout, output) {
+        sockets.close(link.into_port());
+        return Err(Fault::of_query(address, fault));
+    }
+    let fetched = fetch_log_ahead(
+        alloc,
+        &mut link,
+        &mut transactions,
+        walk,
+        steps,
+        layout,
+        output,
+    );
     sockets.close(link.into_port());
     match fetched {
         Ok(fetched) => {
             say_more(fetched.said_more, errors);
-            ending_of(address, fetched.why, fetched.flaw)
+            let ended = ending_of(address, fetched.why, fetched.flaw);
+            ended_as(layout, fetched.why, ended)
         }
         Err(fault) => Err(Fault::of_query(address, fault)),
     }

@@ -5,6 +5,7 @@ ghost use Rattle.bac_tools.specs.Faults.{of_query};
 ghost use Rattle.bac_tools.specs.Status.{exit_status, exchange_status, list_status, script_status, walk_status};
 
 use bac_link::{ExchangeFault, Refusal};
+use bac_ports::OpenFault;
 use bac_query::QueryFault;
 use bac_script::{Refused, ReplayFault};
 use bac_walk::{ReplyFlaw, WalkFault, Why};
@@ -26,7 +27,9 @@ pub enum Fault {
     /// A script or a configuration is wrong, or a stream refused while it was played; and what is
     /// to mend.
     Script(Refused),
-    /// A socket couldn't be opened, or it failed.
+    /// A socket couldn't be opened.
+    Unopened(OpenFault),
+    /// A socket failed.
     Socket,
     /// No request could be sent to this address.
     Refused([u8; 6]),
@@ -91,7 +94,7 @@ impl Fault {
             Fault::NotText | Fault::BadValue(_) | Fault::LongNumber(_) => 1,
             Fault::OtherTool | Fault::NoDevice => 1,
             Fault::Script(refused) => script_status(refused.fault),
-            Fault::Socket | Fault::Refused(_) | Fault::NoAnswer(_) => 2,
+            Fault::Unopened(_) | Fault::Socket | Fault::Refused(_) | Fault::NoAnswer(_) => 2,
             Fault::Silent(_) | Fault::Write => 2,
             Fault::List(fault) => list_status(*fault),
             Fault::Exchange { fault, .. } => exchange_status(*fault),

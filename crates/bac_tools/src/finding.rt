@@ -49,8 +49,9 @@ fn search_for<S: Sockets, O: Write>(
     ensures { Searches (socket_rules S.opens S.closes S.Socket.sends S.Socket.receives S.Socket.receives_within) search.now addresses.now local timeout
         (outside sockets.old (O.contents output.old)) result (outside sockets.new (O.contents output.new)) }
 {
-    let Ok(mut port) = sockets.open(local.unwrap_or(ANY), timeout) else {
-        return Err(Fault::Socket);
+    let mut port = match sockets.open(local.unwrap_or(ANY), timeout) {
+        Ok(port) => port,
+        Err(why) => return Err(Fault::Unopened(why)),
     };
     let asked = addresses.as_slice();
     let found = find_devices(alloc, &mut port, asked, search, output);

@@ -22,7 +22,7 @@ mod telling;
 mod tips;
 mod until_refused;
 
-pub use bac_ports::{Heard, Port, SocketFault, Sockets, UdpPort, UdpSockets};
+pub use bac_ports::{Heard, OpenFault, Port, SocketFault, Sockets, UdpPort, UdpSockets};
 pub use bac_script::{
     Configuration, ConfigurationText, Flaw, LIMIT, LineKind, Reason, Refused, ReplayFault,
     UnfitLine, Wanted, read_configuration, read_configuration_explained, run_replay,

@@ -2,12 +2,16 @@
 
 ghost use Rattle.std.specs.Prelude.{◌≡◌};
 ghost use Rattle.bac_tools.specs.Asking.{SaysMore};
-ghost use Rattle.bac_tools.specs.LogEnds.{of_cause, of_why};
+ghost use Rattle.bac_tools.specs.LogEnds.{ended_as, of_cause, of_why};
 
 use crate::fault::{Fault, walk_status};
 use crate::telling::say;
+use bac_query::Layout;
 use bac_walk::{ReplyFlaw, WalkFault, Why};
 use std::io::Write;
+
+/// The status of a run that ended at its step limit, where nothing printed says so.
+const MAY_BE_MORE: u8 = 8;
 
 /// The status of an end, or what there is to say of it.
 fn of_cause(address: [u8; 6], why: Why) -> Result<u8, Fault>
@@ -28,6 +32,19 @@ pub(crate) fn ending_of(address: [u8; 6], why: Why, flaw: Option<ReplyFlaw>) -> 
     match flaw {
         Some(flaw) => Err(Fault::Flawed(flaw)),
         None => of_cause(address, why),
+    }
+}
+
+/// The same where rows of CSV are printed, which have no line of the end, or lines.
+pub(crate) fn ended_as(layout: Layout, why: Why, ended: Result<u8, Fault>) -> Result<u8, Fault>
+    ensures { result ≡ ended_as layout why ended }
+{
+    match layout {
+        Layout::Lines => ended,
+        Layout::Csv => match why {
+            Why::StepLimit => Ok(MAY_BE_MORE),
+            Why::CaughtUp | Why::Fault(_) | Why::Memory => ended,
+        },
     }
 }
 

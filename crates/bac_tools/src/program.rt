@@ -5,14 +5,14 @@ ghost use Rattle.std.specs.Io.KnownBytes.{Appends};
 ghost use Rattle.std.specs.String.{string_bytes};
 ghost use Rattle.clap.specs.Values.{kind_of};
 ghost use Rattle.bac_print.specs.Output.{AppendsPart};
-ghost use Rattle.bac_tools.specs.Run.{AnswersWords, AreWrong, AskFor, Explains, IsNoLogs, IsNoWalk, IsOutside, IsTold, OnlyTells, Runs, RunsRead, Works, priority_of, trend_log, walk_from, wrong_fault};
+ghost use Rattle.bac_tools.specs.Run.{AnswersWords, AreWrong, AskFor, Explains, IsNoLogs, IsNoWalk, IsOutside, IsTold, OnlyTells, Runs, RunsRead, Works, layout_of, priority_of, reals_of, trend_log, walk_from, wrong_fault};
 ghost use Rattle.bac_ports.specs.Sockets.{socket_rules};
 ghost use Rattle.bac_tools.specs.Streams.{streams};
 ghost use Rattle.bac_words.specs.Outcome.{mistakes_of};
 ghost use Rattle.bac_words.specs.declared.job.Job.{Job as AnyJob};
 ghost use Rattle.bac_words.specs.declared.word.Word.{Word as AnyWord};
 
-use crate::asking::{log, logs, rp, value_of, wp};
+use crate::asking::{LogAsking, log, logs, rp, value_of, wp};
 use crate::fault::Fault;
 use crate::finding::{limits, wi};
 use crate::playing::replay;
@@ -24,7 +24,7 @@ use bac_apdu::{ReadProperty, WhoIs, WriteProperty};
 use bac_link::Request;
 use bac_ports::Sockets;
 use bac_print::{WriteRefused, write_text};
-use bac_query::Search;
+use bac_query::{Layout, Reals, Search};
 use bac_serve::Clock;
 use bac_walk::Walk;
 use bac_wire::ObjectId;
@@ -84,6 +84,24 @@ fn priority(number: u8) -> Option<u8>
     if number == 0 { None } else { Some(number) }
 }
 
+/// How records are printed.
+fn layout(csv: bool) -> Layout
+    ensures { result ≡ layout_of csv }
+{
+    if csv { Layout::Csv } else { Layout::Lines }
+}
+
+/// How REALs and Doubles are shown.
+fn reals(numbers: bool) -> Reals
+    ensures { result ≡ reals_of numbers }
+{
+    if numbers {
+        Reals::Numbers
+    } else {
+        Reals::Octets
+    }
+}
+
 /// Does what a job asks for; answers the exit status. On the errors a server tells that it is up, and
 /// `log` of a device that it contradicted itself.
 fn work<S: Sockets, I: Read, O: Write, E: Write, C: Clock>(
@@ -108,6 +126,7 @@ fn work<S: Sockets, I: Read, O: Write, E: Write, C: Clock>(
             dnet,
             local,
             timeout,
+            trace: _,
         } => {
             let search = Search {
                 network: dnet,
@@ -125,13 +144,15 @@ fn work<S: Sockets, I: Read, O: Write, E: Write, C: Clock>(
             instance,
             property,
             index,
+            numbers,
+            trace: _,
         } => {
             let question = ReadProperty {
                 object: object(object_type, instance)?,
                 property,
                 index,
             };
-            rp(sockets, alloc, asked, question, output)
+            rp(sockets, alloc, asked, question, reals(numbers), output)
         }
         Job::Wp {
             asked,
@@ -141,6 +162,7 @@ fn work<S: Sockets, I: Read, O: Write, E: Write, C: Clock>(
             priority: number,
             given,
             index,
+            trace: _,
         } => {
             let question = Request::WriteProperty(WriteProperty {
                 object: object(object_type, instance)?,
@@ -156,16 +178,21 @@ fn work<S: Sockets, I: Read, O: Write, E: Write, C: Clock>(
             instance,
             from,
             steps,
-        } => log(
-            sockets,
-            alloc,
+            csv,
+            trace: _,
+        } => {
+            let asking = LogAsking {
+                walk: walk(instance, from)?,
+                steps,
+                layout: layout(csv),
+            };
+            log(sockets, alloc, asked, asking, output, errors)
+        }
+        Job::Logs {
             asked,
-            walk(instance, from)?,
-            steps,
-            output,
-            errors,
-        ),
-        Job::Logs { asked, instances } => {
+            instances,
+            trace: _,
+        } => {
             let named = trend_logs(alloc, instances.as_slice())?;
             logs(sockets, alloc, asked, &named, output)
         }

@@ -11,7 +11,7 @@ ghost use Rattle.bac_tools.specs.Texts.{serving_line};
 use crate::fault::Fault;
 use crate::telling::{announcement, say};
 use bac_device::{Device, misfit};
-use bac_ports::{SocketFault, Sockets};
+use bac_ports::{OpenFault, Sockets};
 use bac_script::{
     Configuration, ConfigurationText, Reason, Refused, ReplayFault, read_configuration_explained,
     unfit_line,
@@ -79,17 +79,19 @@ fn open_socket<S: Sockets, E: Write>(
         × AppendsPart (E.contents errors.old) (E.contents errors.new) (serving_line address)) }
     ensures err { IfErr result (λ fault. (errors.new ≡ errors.old)
         × (((fault ≡ Fault.Memory) × (sockets.new ≡ sockets.old))
-        ⊎ ((fault ≡ Fault.Socket) × ((why : SocketFault) × S.opens sockets.old address wait (Err why) sockets.new)))) }
+        ⊎ ((why : OpenFault) × (fault ≡ Fault.Unopened why) × S.opens sockets.old address wait (Err why) sockets.new))) }
 {
     // The memory for the line comes first: a socket that is open is told.
     let Ok(line) = announcement(alloc, address) else {
         return Err(Fault::Memory);
     };
-    let Ok(port) = sockets.open(address, wait) else {
-        return Err(Fault::Socket);
-    };
-    say(&line, errors);
-    Ok(port)
+    match sockets.open(address, wait) {
+        Ok(port) => {
+            say(&line, errors);
+            Ok(port)
+        }
+        Err(why) => Err(Fault::Unopened(why)),
+    }
 }
 
 /// Is the device that the input describes, until so many datagrams have come.

@@ -1,17 +1,18 @@
 //! What is told on standard error.
 
-ghost use Rattle.std.specs.Prelude.{◌≡◌, ◌++◌, ◌∷◌, OnOk, IfOk};
+ghost use Rattle.std.specs.Prelude.{◌≡◌, ◌++◌, ◌∷◌, codes, OnOk, IfOk};
 ghost use Rattle.bac_print.specs.Output.{AppendsPart};
 ghost use Rattle.bac_query.specs.Ends.{cause_text, refusal_text};
 ghost use Rattle.bac_tools.specs.Run.{IsTold};
 ghost use Rattle.bac_print.specs.Addresses.{address_text};
-ghost use Rattle.bac_tools.specs.Texts.{bad_reply, build_text, exchange_text, fault_text, long_text, of_address, range_text, refusal_lines, script_text, serving_line, told_text, unbuilt_text, word_text, wrong_text};
+ghost use Rattle.bac_tools.specs.Texts.{bad_reply, build_text, exchange_text, fault_text, long_text, of_address, open_text, range_text, refusal_lines, script_text, serving_line, told_text, unbuilt_text, word_text, wrong_text};
 
 use crate::fault::Fault;
 use crate::flaw::push_reply_flaw;
 use crate::reason::{push_list, push_second_line, push_unanswered};
 use bac_device::BuildFault;
 use bac_link::{ExchangeFault, Refusal};
+use bac_ports::OpenFault;
 use bac_print::{push_address, push_number, write_text};
 use bac_query::{push_cause, push_refusal};
 use bac_script::{Refused, ReplayFault};
@@ -26,7 +27,7 @@ fn range_of<'a>(word: Word) -> &'a str
     match word {
         Word::Tool => "replay, wi, rp, wp, log, logs, keep, kept or serve",
         Word::File => "the name of a file",
-        Word::Csv => "an option without a value",
+        Word::Csv | Word::Numbers | Word::Trace => "an option without a value",
         Word::Stop => "an option without a value, beside ADDRESS",
         Word::Address =>
             "A.B.C.D or A.B.C.D:PORT, each of A to D from 0 to 255, PORT from 1 to 65535; for bac wi \
@@ -189,6 +190,27 @@ fn push_exchange(
     }
 }
 
+/// Appends a text on a line of its own.
+fn push_line(text: &mut Vec<u8>, said: &str) -> Result<(), AllocError>
+    ensures { OnOk result (text.new.items ≡ text.old.items ++ (10 ∷ said.now)) }
+{
+    text.push(b'\n')?;
+    text.extend_from_slice(said.as_bytes())
+}
+
+/// Appends that a socket couldn't be opened, and why if the system says it.
+fn push_unopened(text: &mut Vec<u8>, why: OpenFault) -> Result<(), AllocError>
+    ensures { OnOk result (text.new.items ≡ text.old.items ++ (codes "socket fault" ++ open_text why)) }
+{
+    text.extend_from_slice(b"socket fault")?;
+    match why {
+        OpenFault::InUse => push_line(text, "another socket has the address"),
+        OpenFault::NotOurs => push_line(text, "the address isn't one of this machine"),
+        OpenFault::NotPermitted => push_line(text, "the system doesn't permit it"),
+        OpenFault::Failed => Ok(()),
+    }
+}
+
 /// Appends what is told of a fault.
 #[tactic(auto, unfolding(crate::specs::Texts::fault_text))]
 fn push_fault(text: &mut Vec<u8>, fault: Fault) -> Result<(), AllocError>
@@ -203,6 +225,7 @@ fn push_fault(text: &mut Vec<u8>, fault: Fault) -> Result<(), AllocError>
         ),
         Fault::NoDevice => text.extend_from_slice(b"bad value\nno device line"),
         Fault::Script(refused) => push_refused(text, refused),
+        Fault::Unopened(why) => push_unopened(text, why),
         Fault::Socket => text.extend_from_slice(b"socket fault"),
         Fault::Refused(address) => push_of_address(
             text,

@@ -1,17 +1,18 @@
 -- What `run` says of `bac log` with status 4: a bad reply came, and what is told is wrong with it.
-use Rattle.std.proofs.Common.{◌≡◌, ◌∙◌, inl, inr, ℕ, List, Option, Ok, Err, refl, sym, ap, subst, arith}
+use Rattle.std.proofs.Common.{Bool, false, ◌≡◌, ◌∙◌, inl, inr, ℕ, List, Option, Ok, Err, refl, sym, ap, subst, arith}
 use Rattle.bac_link.specs.Path.{Path, towards}
 use Rattle.bac_print.specs.Output.{AppendsPart, Held}
 use Rattle.bac_query.specs.Flaws.{TellsFlawOf}
 use Rattle.bac_query.specs.declared.fault.QueryFault.TheVariants as query
 use Rattle.bac_tools.specs.LogEnds.{of_why}
 use Rattle.bac_tools.specs.Run.{IsNoWalk, IsTold, Runs, walk_from}
-use Rattle.bac_ports.specs.Sockets.{SocketRules, UsesSocket, own_address, socket_asks}
+use Rattle.bac_tools_tests.proofs.Plain.{in_lines}
+use Rattle.bac_ports.specs.Sockets.{link_over, SocketRules, UsesSocket, own_address, socket_asks}
 use Rattle.bac_tools.specs.Status.{exit_status}
 use Rattle.bac_tools.specs.Streams.{Streams}
 use Rattle.bac_tools.specs.Texts.{told_text}
 use Rattle.bac_tools.specs.declared.fault.Fault.{Fault}
-use Rattle.bac_tools.specs.declared.fault.Fault.TheVariants.{BadValue, Declined, Flawed, Memory, Silent, Socket, Write}
+use Rattle.bac_tools.specs.declared.fault.Fault.TheVariants.{BadValue, Declined, Flawed, Memory, Silent, Unopened, Write}
 use Rattle.bac_tools_tests.proofs.Settled.{end_of, told_is, unflawed, without_flaw}
 use Rattle.bac_tools_tests.specs.Logging.{IsExplained}
 use Rattle.bac_walk.specs.Flaws.{ToldFlaw}
@@ -97,22 +98,22 @@ told_flaw old new status fault told is (inr (same, part)) four = absurd (five_is
 -- ---- over a socket
 
 pub explained : {S P C : Type 0} (rules : SocketRules S P) (tells : C → Option CivilTime → C → Type 0) (asked : Asked)
-    (instance steps : ℕ) (from : Option ℕ) (old new : Streams S C) (status : ℕ) →
-    Runs rules tells (Log asked instance from steps) old status new → status ≡ 4 →
+    (instance steps : ℕ) (from : Option ℕ) (trace : Bool) (old new : Streams S C) (status : ℕ) →
+    Runs rules tells (Log asked instance from steps false trace) old status new → status ≡ 4 →
     UsesSocket rules (own_address asked.local) asked.timeout old.sockets
     (λ port last. IsExplained rules asked (walk_from instance from) last old.errors new.errors) new.sockets
-explained rules tells asked instance steps from old new status (inl told) four =
+explained rules tells asked instance steps from trace old new status (inl told) four =
     absurd (other_told Memory old.errors new.errors status (λ e. omega (arith, e)) told.0 four)
-explained rules tells asked instance steps from old new status (inr (Err fault, said, (inl unasked, quiet), ends)) four =
+explained rules tells asked instance steps from trace old new status (inr (Err fault, said, (inl unasked, quiet), ends)) four =
     absurd (no_walk instance from fault unasked.0 said new.errors status unasked.1.0 (let e = unasked.1.1 in cc) ends four)
-explained rules tells asked instance steps from old new status (inr (Ok done, said, (inl unasked, quiet), ends)) four =
+explained rules tells asked instance steps from trace old new status (inr (Ok done, said, (inl unasked, quiet), ends)) four =
     absurd (let e = unasked.1.1 in cc)
-explained rules tells asked instance steps from old new status (inr (Err fault, said, (inr (inl (shut, opens, is_shut, closed)), quiet), ends)) four =
-    absurd (named_told fault Socket 2 said new.errors status (let e = is_shut in cc) refl (λ e. omega (arith, e)) ends four)
-explained rules tells asked instance steps from old new status (inr (Ok done, said, (inr (inl (shut, opens, is_shut, closed)), quiet), ends)) four =
+explained rules tells asked instance steps from trace old new status (inr (Err fault, said, (inr (inl (shut, opens, is_shut, closed)), quiet), ends)) four =
+    absurd (named_told fault (Unopened shut) 2 said new.errors status (let e = is_shut in cc) refl (λ e. omega (arith, e)) ends four)
+explained rules tells asked instance steps from trace old new status (inr (Ok done, said, (inr (inl (shut, opens, is_shut, closed)), quiet), ends)) four =
     absurd (let e = is_shut in cc)
-explained rules tells asked instance steps from old new status (inr (Err fault, said, (inr (inr (port, between, last, opens, (Ok fetched, left, over, is_last, is), closes)), quiet), ends)) four =
-    let (w, told, own, wrong, same) = flaw_end (socket_asks rules) (towards asked.route) asked.retries (walk_from instance from).log fetched.next asked.address fetched.flaw left fetched.why fault said new.errors status over.2 is ends four in
+explained rules tells asked instance steps from trace old new status (inr (Err fault, said, (inr (inr (port, between, last, opens, (Ok fetched, left, over, is_last, is), closes)), quiet), ends)) four =
+    let (w, told, own, wrong, same) = flaw_end (socket_asks rules) (towards asked.route) asked.retries (walk_from instance from).log fetched.next asked.address fetched.flaw left fetched.why fault said new.errors status (in_lines rules asked (walk_from instance from) steps (link_over asked.address port) (Ok fetched) left old.output new.output over.0).2 is ends four in
     let Q : Held → Type 0 = λ h. AppendsPart h new.errors (told_text (Flawed told)) in (
       port,
       between,
@@ -121,14 +122,14 @@ explained rules tells asked instance steps from old new status (inr (Err fault, 
       (left, w, told, is_last, own, wrong, subst Q quiet.0 (told_flaw said new.errors status fault told same ends four)),
       closes,
     )
-explained rules tells asked instance steps from old new status (inr (Err fault, said, (inr (inr (port, between, last, opens, (Err (query.Exchange bad), left, over, is_last, is), closes)), quiet), ends)) four =
-    let (came, items, n, ended, after, half, mid, brought, printed, headline, contradicts) = over.0.1 in
+explained rules tells asked instance steps from trace old new status (inr (Err fault, said, (inr (inr (port, between, last, opens, (Err (query.Exchange bad), left, over, is_last, is), closes)), quiet), ends)) four =
+    let (came, items, n, ended, after, half, mid, brought, printed, headline, contradicts) = (in_lines rules asked (walk_from instance from) steps (link_over asked.address port) (Err (query.Exchange bad)) left old.output new.output over.0).0.1 in
     absurd printed
-explained rules tells asked instance steps from old new status (inr (Err fault, said, (inr (inr (port, between, last, opens, (Err query.Write, left, over, is_last, is), closes)), quiet), ends)) four =
+explained rules tells asked instance steps from trace old new status (inr (Err fault, said, (inr (inr (port, between, last, opens, (Err query.Write, left, over, is_last, is), closes)), quiet), ends)) four =
     absurd (named_told fault Write 2 said new.errors status (cc) refl (λ e. omega (arith, e)) ends four)
-explained rules tells asked instance steps from old new status (inr (Err fault, said, (inr (inr (port, between, last, opens, (Err query.Memory, left, over, is_last, is), closes)), quiet), ends)) four =
+explained rules tells asked instance steps from trace old new status (inr (Err fault, said, (inr (inr (port, between, last, opens, (Err query.Memory, left, over, is_last, is), closes)), quiet), ends)) four =
     absurd (named_told fault Memory 5 said new.errors status (cc) refl (λ e. omega (arith, e)) ends four)
-explained rules tells asked instance steps from old new status (inr (Ok done, said, (inr (inr (port, between, last, opens, (Err bad, left, over, is_last, is), closes)), quiet), ends)) four =
+explained rules tells asked instance steps from trace old new status (inr (Ok done, said, (inr (inr (port, between, last, opens, (Err bad, left, over, is_last, is), closes)), quiet), ends)) four =
     absurd (cc)
-explained rules tells asked instance steps from old new status (inr (Ok done, said, (inr (inr (port, between, last, opens, (Ok fetched, left, over, is_last, is), closes)), quiet), ends)) four =
-    absurd (bad_end (socket_asks rules) (towards asked.route) asked.retries (walk_from instance from).log fetched.next asked.address fetched.flaw left fetched.why done over.2 is (sym ends.0 ∙ four))
+explained rules tells asked instance steps from trace old new status (inr (Ok done, said, (inr (inr (port, between, last, opens, (Ok fetched, left, over, is_last, is), closes)), quiet), ends)) four =
+    absurd (bad_end (socket_asks rules) (towards asked.route) asked.retries (walk_from instance from).log fetched.next asked.address fetched.flaw left fetched.why done (in_lines rules asked (walk_from instance from) steps (link_over asked.address port) (Ok fetched) left old.output new.output over.0).2 is (sym ends.0 ∙ four))

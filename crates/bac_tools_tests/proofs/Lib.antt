@@ -1,3 +1,4 @@
+mod Plain
 mod AtRest
 mod Settled
 mod Explained

@@ -1,6 +1,6 @@
 -- What `run` says of `bac log`: with status 0 no fault was told, so what came over the socket is printed; if the log
 -- doesn't change, all of it; and whatever is refused, a front part of it.
-use Rattle.std.proofs.Common.{◌≡◌, ◌⊎◌, ◌∙◌, inl, inr, ℕ, ◌+◌, ◌-◌, ◌<◌, ◌≤◌, max, List, [], ◌∷◌, ◌++◌, Option, Some, Result, Ok, Err, false, refl, sym, ap, subst, append-nil, Bool, length, arith}
+use Rattle.std.proofs.Common.{Bool, ◌≡◌, ◌⊎◌, ◌∙◌, inl, inr, ℕ, ◌+◌, ◌-◌, ◌<◌, ◌≤◌, max, List, [], ◌∷◌, ◌++◌, Option, Some, Result, Ok, Err, false, refl, sym, ap, subst, append-nil, Bool, length, arith}
 use Rattle.std.specs.Io.KnownBytes.{Appends, Keeps}
 use Rattle.bac_walk.proofs.Transacted.{brought_plain}
 use Rattle.bac_tools.specs.Sockets.{transactions_with}
@@ -25,11 +25,13 @@ use Rattle.bac_script.specs.declared.replay.fault.ReplayFault.{ReplayFault}
 use Rattle.bac_script.specs.declared.replay.fault.ReplayFault.TheVariants as replay
 use Rattle.bac_tools.specs.Asking.{of_fetching}
 use Rattle.bac_tools.specs.Run.{IsTold, Runs, walk_from}
+use Rattle.bac_query.specs.declared.layout.Layout.TheVariants.{Lines}
+use Rattle.bac_tools_tests.proofs.Plain.{in_lines}
 use Rattle.bac_ports.specs.Sockets.{SocketRules, UsesSocket, link_over, own_address, socket_asks}
 use Rattle.bac_tools.specs.Status.{exchange_status, exit_status, list_status, script_status, walk_status}
 use Rattle.bac_tools.specs.Streams.{Streams}
 use Rattle.bac_tools.specs.declared.fault.Fault.{Fault}
-use Rattle.bac_tools.specs.declared.fault.Fault.TheVariants.{NotText, BadValue, LongNumber, OtherTool, NoDevice, Script, Socket, Refused}
+use Rattle.bac_tools.specs.declared.fault.Fault.TheVariants.{NotText, BadValue, LongNumber, OtherTool, NoDevice, Script, Unopened, Socket, Refused}
 use Rattle.bac_tools.specs.declared.fault.Fault.TheVariants.{NoAnswer, List as ListOf, Exchange, Flawed, Silent, Declined, Write, Memory}
 use Rattle.bac_tools_tests.proofs.AtRest.{few_batches, few_lines, leads_bring}
 use Rattle.bac_tools_tests.specs.Logging.{IsCut, IsLogged, IsLoggedAtRest, PrintsAll}
@@ -80,6 +82,7 @@ no_fault (LongNumber word) e = omega (arith, e)
 no_fault OtherTool e = omega (arith, e)
 no_fault NoDevice e = omega (arith, e)
 no_fault (Script refused) e = no_script refused.fault e
+no_fault (Unopened why) e = omega (arith, e)
 no_fault Socket e = omega (arith, e)
 no_fault (Refused address) e = omega (arith, e)
 no_fault (NoAnswer asked) e = omega (arith, e)
@@ -99,7 +102,7 @@ not_told fault old new status (inr (is, text)) zero = no_fault Memory (sym is �
 abbrev pub Over : {P : Type 0} → (UdpLink P → List ℕ → Result (List ℕ) Loss → UdpLink P → Type 0) → Asked → WalkPlace → ℕ →
     UdpLink P → Fetching → Transactions → UdpLink P → Held → Held → Type 0
 Over asks asked walk steps link fetching end left old new =
-    FetchesAhead asks (transactions_with asked) link walk steps fetching end left old new
+    FetchesAhead Lines asks (transactions_with asked) link walk steps fetching end left old new
 
 -- ---- with status 0
 
@@ -115,7 +118,7 @@ left_there asks half end mid left after why.Memory last zero is same = absurd (o
 fetched : {S P : Type 0} (rules : SocketRules S P) (asked : Asked) (walk : WalkPlace) (steps : ℕ) (port last : P) (old new : Held)
     (done : ℕ) (fetching : Fetching) (end : Transactions) (left : UdpLink P) → done ≡ 0 → last ≡ left.port →
     Over (socket_asks rules) asked walk steps (link_over asked.address port) fetching end left old new →
-    Ok done ≡ of_fetching asked.address fetching → IsLogged rules asked walk port last old new
+    Ok done ≡ of_fetching Lines asked.address fetching → IsLogged rules asked walk port last old new
 fetched rules asked walk steps port last old new done (Err fault) end left zero is_last over is = absurd (cc)
 fetched rules asked walk steps port last old new done (Ok said) end left zero is_last over is =
     let (came, items, n, ended, after, half, mid, brought, tells, headline, contradicts) = over in
@@ -181,7 +184,7 @@ all_printed H m s t steps n count items answers fresh e after why.Memory next ol
 rested : {S P : Type 0} (rules : SocketRules S P) (asked : Asked) (walk : WalkPlace) (steps : ℕ) (port last : P) (old new : Held)
     (done : ℕ) (fetching : Fetching) (end : Transactions) (left : UdpLink P) → done ≡ 0 → last ≡ left.port → walk.fresh ≡ false →
     Over (socket_asks rules) asked walk steps (link_over asked.address port) fetching end left old new →
-    Ok done ≡ of_fetching asked.address fetching → IsLoggedAtRest rules asked walk steps port last old new
+    Ok done ≡ of_fetching Lines asked.address fetching → IsLoggedAtRest rules asked walk steps port last old new
 rested rules asked walk steps port last old new done (Err fault) end left zero is_last fresh over is = absurd (cc)
 rested rules asked walk steps port last old new done (Ok said) end left zero is_last fresh over is =
     let (came, items, n, ended, after, half, mid, begun, tells, headline, contradicts) = over in
@@ -211,7 +214,7 @@ whole old new text appends = (text, [], sym (append-nil text), appends)
 
 pub cut_over : {P : Type 0} (asks : UdpLink P → List ℕ → Result (List ℕ) Loss → UdpLink P → Type 0) (left : Why → Type 0)
     (items : List Item) (steps n : ℕ) (e : Ended) (after : WalkPlace) (fetching : Fetching) (old new : Held) →
-    TellsRun left items steps n e after fetching old new →
+    TellsRun Lines left items steps n e after fetching old new →
     (w : Why) × (next : ℕ) × AppendsPart old new (items_text items ++ end_line w next)
 cut_over asks left items steps n e after (Ok fetched) old new tells =
     (fetched.why, fetched.next, whole old new _ tells.2)
@@ -225,62 +228,62 @@ cut_over asks left items steps n e after (Err (query.Exchange fault)) old new te
 -- ---- over a socket
 
 pub logged : {S P C : Type 0} (rules : SocketRules S P) (tells : C → Option CivilTime → C → Type 0) (asked : Asked)
-    (instance steps : ℕ) (from : Option ℕ) (old new : Streams S C) (status : ℕ) →
-    Runs rules tells (Log asked instance from steps) old status new → status ≡ 0 →
+    (instance steps : ℕ) (from : Option ℕ) (trace : Bool) (old new : Streams S C) (status : ℕ) →
+    Runs rules tells (Log asked instance from steps false trace) old status new → status ≡ 0 →
     UsesSocket rules (own_address asked.local) asked.timeout old.sockets
     (λ port last. IsLogged rules asked (walk_from instance from) port last old.output new.output) new.sockets
-logged rules tells asked instance steps from old new status (inl told) zero =
+logged rules tells asked instance steps from trace old new status (inl told) zero =
     absurd (not_told Memory old.errors new.errors status told.0 zero)
-logged rules tells asked instance steps from old new status (inr (Err fault, said, works, ends)) zero =
+logged rules tells asked instance steps from trace old new status (inr (Err fault, said, works, ends)) zero =
     absurd (not_told fault said new.errors status ends zero)
-logged rules tells asked instance steps from old new status (inr (Ok done, said, (inl unasked, quiet), ends)) zero =
+logged rules tells asked instance steps from trace old new status (inr (Ok done, said, (inl unasked, quiet), ends)) zero =
     absurd (let e = unasked.1.1 in cc)
-logged rules tells asked instance steps from old new status (inr (Ok done, said, (inr (inl (fault, opens, is_shut, closed)), quiet), ends)) zero =
+logged rules tells asked instance steps from trace old new status (inr (Ok done, said, (inr (inl (fault, opens, is_shut, closed)), quiet), ends)) zero =
     absurd (let e = is_shut in cc)
-logged rules tells asked instance steps from old new status (inr (Ok done, said, (inr (inr (port, between, last, opens, (fetching, left, over, is_last, is), closes)), quiet), ends)) zero = (
+logged rules tells asked instance steps from trace old new status (inr (Ok done, said, (inr (inr (port, between, last, opens, (fetching, left, over, is_last, is), closes)), quiet), ends)) zero = (
   port,
   between,
   last,
   opens,
-  fetched rules asked (walk_from instance from) steps port last old.output new.output done fetching over.0.0 left (sym ends.0 ∙ zero) is_last over.0.1 is,
+  fetched rules asked (walk_from instance from) steps port last old.output new.output done fetching (in_lines rules asked (walk_from instance from) steps (link_over asked.address port) fetching left old.output new.output over.0).0.0 left (sym ends.0 ∙ zero) is_last (in_lines rules asked (walk_from instance from) steps (link_over asked.address port) fetching left old.output new.output over.0).0.1 is,
   closes,
 )
 
 pub logged_at_rest : {S P C : Type 0} (rules : SocketRules S P) (tells : C → Option CivilTime → C → Type 0) (asked : Asked)
-    (instance steps number : ℕ) (old new : Streams S C) (status : ℕ) →
-    Runs rules tells (Log asked instance (Some number) steps) old status new → status ≡ 0 →
+    (instance steps number : ℕ) (trace : Bool) (old new : Streams S C) (status : ℕ) →
+    Runs rules tells (Log asked instance (Some number) steps false trace) old status new → status ≡ 0 →
     UsesSocket rules (own_address asked.local) asked.timeout old.sockets
     (λ port last. IsLoggedAtRest rules asked (walk_from instance (Some number)) steps port last old.output new.output)
     new.sockets
-logged_at_rest rules tells asked instance steps number old new status (inl told) zero =
+logged_at_rest rules tells asked instance steps number trace old new status (inl told) zero =
     absurd (not_told Memory old.errors new.errors status told.0 zero)
-logged_at_rest rules tells asked instance steps number old new status (inr (Err fault, said, works, ends)) zero =
+logged_at_rest rules tells asked instance steps number trace old new status (inr (Err fault, said, works, ends)) zero =
     absurd (not_told fault said new.errors status ends zero)
-logged_at_rest rules tells asked instance steps number old new status (inr (Ok done, said, (inl unasked, quiet), ends)) zero =
+logged_at_rest rules tells asked instance steps number trace old new status (inr (Ok done, said, (inl unasked, quiet), ends)) zero =
     absurd (let e = unasked.1.1 in cc)
-logged_at_rest rules tells asked instance steps number old new status (inr (Ok done, said, (inr (inl (fault, opens, is_shut, closed)), quiet), ends)) zero =
+logged_at_rest rules tells asked instance steps number trace old new status (inr (Ok done, said, (inr (inl (fault, opens, is_shut, closed)), quiet), ends)) zero =
     absurd (let e = is_shut in cc)
-logged_at_rest rules tells asked instance steps number old new status (inr (Ok done, said, (inr (inr (port, between, last, opens, (fetching, left, over, is_last, is), closes)), quiet), ends)) zero = (
+logged_at_rest rules tells asked instance steps number trace old new status (inr (Ok done, said, (inr (inr (port, between, last, opens, (fetching, left, over, is_last, is), closes)), quiet), ends)) zero = (
   port,
   between,
   last,
   opens,
-  rested rules asked (walk_from instance (Some number)) steps port last old.output new.output done fetching over.0.0 left (sym ends.0 ∙ zero) is_last refl over.0.1 is,
+  rested rules asked (walk_from instance (Some number)) steps port last old.output new.output done fetching (in_lines rules asked (walk_from instance (Some number)) steps (link_over asked.address port) fetching left old.output new.output over.0).0.0 left (sym ends.0 ∙ zero) is_last refl (in_lines rules asked (walk_from instance (Some number)) steps (link_over asked.address port) fetching left old.output new.output over.0).0.1 is,
   closes,
 )
 
 pub printed_in_order : {S P C : Type 0} (rules : SocketRules S P) (tells : C → Option CivilTime → C → Type 0) (asked : Asked)
-    (instance steps : ℕ) (from : Option ℕ) (old new : Streams S C) (status : ℕ) →
-    Runs rules tells (Log asked instance from steps) old status new →
+    (instance steps : ℕ) (from : Option ℕ) (trace : Bool) (old new : Streams S C) (status : ℕ) →
+    Runs rules tells (Log asked instance from steps false trace) old status new →
     Keeps old.output new.output
     ⊎ UsesSocket rules (own_address asked.local) asked.timeout old.sockets
     (λ port last. IsCut rules asked (walk_from instance from) port old.output new.output) new.sockets
-printed_in_order rules tells asked instance steps from old new status (inl told) = inl told.1
-printed_in_order rules tells asked instance steps from old new status (inr (result, said, (inl unasked, quiet), ends)) = inl unasked.2
-printed_in_order rules tells asked instance steps from old new status (inr (result, said, (inr (inl (fault, opens, is_shut, closed)), quiet), ends)) =
+printed_in_order rules tells asked instance steps from trace old new status (inl told) = inl told.1
+printed_in_order rules tells asked instance steps from trace old new status (inr (result, said, (inl unasked, quiet), ends)) = inl unasked.2
+printed_in_order rules tells asked instance steps from trace old new status (inr (result, said, (inr (inl (fault, opens, is_shut, closed)), quiet), ends)) =
     inl closed
-printed_in_order rules tells asked instance steps from old new status (inr (result, said, (inr (inr (port, between, last, opens, (fetching, left, over, is_last, is), closes)), quiet), ends)) =
-    let (came, items, n, ended, after, half, mid, begun, printed, headline, contradicts) = over.0.1 in
+printed_in_order rules tells asked instance steps from trace old new status (inr (result, said, (inr (inr (port, between, last, opens, (fetching, left, over, is_last, is), closes)), quiet), ends)) =
+    let (came, items, n, ended, after, half, mid, begun, printed, headline, contradicts) = (in_lines rules asked (walk_from instance from) steps (link_over asked.address port) fetching left old.output new.output over.0).0.1 in
     let brought = brought_plain (socket_asks rules) (transactions_with asked) half (link_over asked.address port) mid (walk_from instance from) after n came items ended begun in
     inr (
       port,

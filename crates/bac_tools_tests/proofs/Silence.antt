@@ -1,6 +1,6 @@
 -- Over sockets where no datagram comes none is answered; a lost answer was asked for; and a server ends with a socket
 -- fault only if a socket failed.
-use Rattle.std.proofs.Common.{◌≡◌, ◌∙◌, inl, inr, lit<, ℕ, zero, suc, ◌+◌, ◌<◌, List, [], ◌∷◌, ◌++◌, Option, Some, None, Ok, Err, refl, sym, ap, subst, append-nil, arith}
+use Rattle.std.proofs.Common.{Bool, false, ◌≡◌, ◌∙◌, inl, inr, lit<, ℕ, zero, suc, ◌+◌, ◌<◌, List, [], ◌∷◌, ◌++◌, Option, Some, None, Ok, Err, refl, sym, ap, subst, append-nil, arith}
 use Rattle.std.specs.Io.KnownBytes.{Keeps}
 use Rattle.bac_walk.proofs.Transacted.{brought_plain}
 use Rattle.bac_tools.specs.Sockets.{transactions_with}
@@ -31,17 +31,21 @@ use Rattle.bac_query.specs.Items.{items_text}
 use Rattle.bac_serve.specs.Serving.{Server, Serves as ServesDevice, ServesNext}
 use Rattle.bac_tools.specs.Asking.{Reads, Writes, of_answer, of_fetching}
 use Rattle.bac_tools.specs.Ending.{Ending}
-use Rattle.bac_tools.specs.Run.{Ends, Runs, Works, question, walk_from}
-use Rattle.bac_tools.specs.Serving.{IsConfigured, IsServedOver}
+use Rattle.bac_tools.specs.Run.{Ends, Runs, Works, question, reals_of, walk_from}
+use Rattle.bac_tools.specs.Serving.{IsConfigured, IsServedOver, refused_with}
+use Rattle.bac_query.specs.declared.layout.Layout.TheVariants.{Lines}
+use Rattle.bac_query.specs.declared.reals.Reals.{Reals}
+use Rattle.bac_tools_tests.proofs.Plain.{in_lines}
 use Rattle.bac_ports.specs.Sockets.{SocketRules, UsesSocket, link_over, own_address, socket_asks}
 use Rattle.bac_tools.specs.Sockets.{Outside}
 use Rattle.bac_tools.specs.Status.{walk_status}
 use Rattle.bac_tools.specs.Streams.{Streams}
+use Rattle.bac_script.specs.declared.replay.fault.Refused.{Refused}
 use Rattle.bac_tools.specs.declared.fault.Fault.{Fault}
 use Rattle.bac_tools.specs.declared.fault.Fault.TheVariants as fault
 use Rattle.bac_tools_tests.proofs.Logged.{cut_over, not_told}
 use Rattle.bac_tools_tests.proofs.Settled.{end_of}
-use Rattle.bac_tools_tests.specs.Silence.{IsSilent, LostWasAsked, NeverFails}
+use Rattle.bac_tools_tests.specs.Silence.{IsOfSocket, IsSilent, LostWasAsked, NeverFails}
 use Rattle.bac_walk.specs.Came.{Brought, Came}
 use Rattle.bac_walk.specs.Place.{WalkPlace}
 use Rattle.bac_walk.specs.declared.outcome.Ended.{Ended}
@@ -83,14 +87,14 @@ query_end : (address : List ℕ) (answer : Answer) (why : QueryFault) (result : 
     result ≡ of_answer address answer → result ≡ Ok done → ⊥
 query_end address answer why result done told is good = let e = sym good ∙ is ∙ ap (of_answer address) told in cc
 
-no_values : {S P : Type 0} (rules : SocketRules S P) → IsSilent rules.receives → (asked : Asked) (question : ReadProperty)
-    (old : Outside S) (result : Ending) (new : Outside S) → Reads rules asked question old result new →
+no_values : {S P : Type 0} (rules : SocketRules S P) → IsSilent rules.receives → (asked : Asked) (question : ReadProperty) (reals : Reals)
+    (old : Outside S) (result : Ending) (new : Outside S) → Reads rules asked question reals old result new →
     ((done : ℕ) → result ≡ Ok done → ⊥) × Keeps old.output new.output
-no_values rules silent asked question old result new (inl (why, opens, is, keeps)) =
+no_values rules silent asked question reals old result new (inl (why, opens, is, keeps)) =
     (λ done good. (let e = sym good ∙ is in cc), keeps)
-no_values rules silent asked question old result new (inr (port, between, last, opens, (answer, left, (Ok datagram, exchanged, prints), is_last, is), closes)) =
+no_values rules silent asked question reals old result new (inr (port, between, last, opens, (answer, left, (Ok datagram, exchanged, prints), is_last, is), closes)) =
     absurd (none_exchanged rules silent (towards asked.route) (next_invoke 0) (request.ReadProperty question) asked.retries (link_over asked.address port) datagram left exchanged)
-no_values rules silent asked question old result new (inr (port, between, last, opens, (answer, left, (Err why, exchanged, (told, keeps)), is_last, is), closes)) =
+no_values rules silent asked question reals old result new (inr (port, between, last, opens, (answer, left, (Err why, exchanged, (told, keeps)), is_last, is), closes)) =
     (λ done good. query_end asked.address answer (query.Exchange why) result done told is good, keeps)
 
 not_written : {S P : Type 0} (rules : SocketRules S P) → IsSilent rules.receives → (asked : Asked) (question : Request)
@@ -104,33 +108,33 @@ not_written rules silent asked question old result new (inr (port, between, last
     (λ done good. query_end asked.address answer (query.Exchange why) result done told is good, keeps)
 
 pub no_rp : {S P C : Type 0} (rules : SocketRules S P) (tells : C → Option CivilTime → C → Type 0) (asked : Asked)
-    (object_type instance property : ℕ) (index : Option ℕ) (old new : Streams S C) (status : ℕ) →
-    Runs rules tells (Rp asked object_type instance property index) old status new → IsSilent rules.receives →
+    (object_type instance property : ℕ) (index : Option ℕ) (numbers trace : Bool) (old new : Streams S C) (status : ℕ) →
+    Runs rules tells (Rp asked object_type instance property index numbers trace) old status new → IsSilent rules.receives →
     (status ≡ 0 → ⊥) × Keeps old.output new.output
-no_rp rules tells asked object_type instance property index old new status (inl told) silent =
+no_rp rules tells asked object_type instance property index numbers trace old new status (inl told) silent =
     (λ none. not_told fault.Memory old.errors new.errors status told.0 none, told.1)
-no_rp rules tells asked object_type instance property index old new status (inr (Err why, said, (inl unasked, quiet), ends)) silent =
+no_rp rules tells asked object_type instance property index numbers trace old new status (inr (Err why, said, (inl unasked, quiet), ends)) silent =
     (λ none. not_told why said new.errors status ends none, unasked.1.1)
-no_rp rules tells asked object_type instance property index old new status (inr (Err why, said, (inr reads, quiet), ends)) silent =
-    (λ none. not_told why said new.errors status ends none, (no_values rules silent asked _ _ _ _ reads).1)
-no_rp rules tells asked object_type instance property index old new status (inr (Ok done, said, (inl unasked, quiet), ends)) silent =
+no_rp rules tells asked object_type instance property index numbers trace old new status (inr (Err why, said, (inr reads, quiet), ends)) silent =
+    (λ none. not_told why said new.errors status ends none, (no_values rules silent asked _ _ _ _ _ reads).1)
+no_rp rules tells asked object_type instance property index numbers trace old new status (inr (Ok done, said, (inl unasked, quiet), ends)) silent =
     absurd (let e = unasked.1.0 in cc)
-no_rp rules tells asked object_type instance property index old new status (inr (Ok done, said, (inr reads, quiet), ends)) silent =
-    absurd ((no_values rules silent asked _ _ _ _ reads).0 done refl)
+no_rp rules tells asked object_type instance property index numbers trace old new status (inr (Ok done, said, (inr reads, quiet), ends)) silent =
+    absurd ((no_values rules silent asked _ _ _ _ _ reads).0 done refl)
 
 pub no_wp : {S P C : Type 0} (rules : SocketRules S P) (tells : C → Option CivilTime → C → Type 0) (asked : Asked)
-    (object_type instance property priority : ℕ) (given : Given) (index : Option ℕ) (old new : Streams S C) (status : ℕ) →
-    Runs rules tells (Wp asked object_type instance property priority given index) old status new → IsSilent rules.receives →
+    (object_type instance property priority : ℕ) (given : Given) (index : Option ℕ) (trace : Bool) (old new : Streams S C) (status : ℕ) →
+    Runs rules tells (Wp asked object_type instance property priority given index trace) old status new → IsSilent rules.receives →
     (status ≡ 0 → ⊥) × Keeps old.output new.output
-no_wp rules tells asked object_type instance property priority given index old new status (inl told) silent =
+no_wp rules tells asked object_type instance property priority given index trace old new status (inl told) silent =
     (λ none. not_told fault.Memory old.errors new.errors status told.0 none, told.1)
-no_wp rules tells asked object_type instance property priority given index old new status (inr (Err why, said, (inl unasked, quiet), ends)) silent =
+no_wp rules tells asked object_type instance property priority given index trace old new status (inr (Err why, said, (inl unasked, quiet), ends)) silent =
     (λ none. not_told why said new.errors status ends none, unasked.1.1)
-no_wp rules tells asked object_type instance property priority given index old new status (inr (Err why, said, (inr (w, is, writes), quiet), ends)) silent =
+no_wp rules tells asked object_type instance property priority given index trace old new status (inr (Err why, said, (inr (w, is, writes), quiet), ends)) silent =
     (λ none. not_told why said new.errors status ends none, (not_written rules silent asked _ _ _ _ writes).1)
-no_wp rules tells asked object_type instance property priority given index old new status (inr (Ok done, said, (inl unasked, quiet), ends)) silent =
+no_wp rules tells asked object_type instance property priority given index trace old new status (inr (Ok done, said, (inl unasked, quiet), ends)) silent =
     absurd (let e = unasked.1.0 in cc)
-no_wp rules tells asked object_type instance property priority given index old new status (inr (Ok done, said, (inr (w, is, writes), quiet), ends)) silent =
+no_wp rules tells asked object_type instance property priority given index trace old new status (inr (Ok done, said, (inr (w, is, writes), quiet), ends)) silent =
     absurd ((not_written rules silent asked _ _ _ _ writes).0 done refl)
 
 -- ---- log
@@ -199,8 +203,8 @@ nothing (Some xs) (Some ys) keeps = (why.CaughtUp, 0, ([], end_line why.CaughtUp
 
 no_status : {S P : Type 0} (rules : SocketRules S P) → IsSilent rules.receives → (asked : Asked) (w : WalkPlace) (steps : ℕ)
     (link : UdpLink P) (fetching : Fetching) (end : Transactions) (left : UdpLink P) (old new : Held) (done : ℕ) →
-    FetchesAhead (socket_asks rules) (transactions_with asked) link w steps fetching end left old new →
-    Ok done ≡ of_fetching asked.address fetching → 0 < steps → done ≡ 0 → ⊥
+    FetchesAhead Lines (socket_asks rules) (transactions_with asked) link w steps fetching end left old new →
+    Ok done ≡ of_fetching Lines asked.address fetching → 0 < steps → done ≡ 0 → ⊥
 no_status rules silent asked w steps link (Err why) end left old new done over is some none = absurd (cc)
 no_status rules silent asked w steps link (Ok fetched) end left old new done over is some none =
     let (came, items, n, ended, after, half, mid, begun, tells, headline, contradicts) = over in
@@ -209,33 +213,33 @@ no_status rules silent asked w steps link (Ok fetched) end left old new done ove
     no_end rules silent (towards asked.route) asked.retries n steps link w came items ended after mid fetched.why fetched.next brought tells.0 some (sym e ∙ none)
 
 pub no_log : {S P C : Type 0} (rules : SocketRules S P) (tells : C → Option CivilTime → C → Type 0) (asked : Asked)
-    (instance steps : ℕ) (from : Option ℕ) (old new : Streams S C) (status : ℕ) →
-    Runs rules tells (Log asked instance from steps) old status new → IsSilent rules.receives →
+    (instance steps : ℕ) (from : Option ℕ) (trace : Bool) (old new : Streams S C) (status : ℕ) →
+    Runs rules tells (Log asked instance from steps false trace) old status new → IsSilent rules.receives →
     (0 < steps → status ≡ 0 → ⊥) × ((w : Why) × (next : ℕ) × AppendsPart old.output new.output (end_line w next))
-no_log rules tells asked instance steps from old new status (inl told) silent =
+no_log rules tells asked instance steps from trace old new status (inl told) silent =
     (λ some none. not_told fault.Memory old.errors new.errors status told.0 none, nothing old.output new.output told.1)
-no_log rules tells asked instance steps from old new status (inr (result, said, (inl unasked, quiet), ends)) silent =
+no_log rules tells asked instance steps from trace old new status (inr (result, said, (inl unasked, quiet), ends)) silent =
     (λ some none. bad result unasked.1.1 ends none, nothing old.output new.output unasked.2)
   where
     bad : (r : Ending) → r ≡ Err unasked.0 → Ends r said new.errors status → status ≡ 0 → ⊥
     bad (Ok done) is ends none = absurd (cc)
     bad (Err why) is ends none = not_told why said new.errors status ends none
-no_log rules tells asked instance steps from old new status (inr (Err why, said, (inr (inl (shut, opens, is_shut, closed)), quiet), ends)) silent =
+no_log rules tells asked instance steps from trace old new status (inr (Err why, said, (inr (inl (shut, opens, is_shut, closed)), quiet), ends)) silent =
     (λ some none. not_told why said new.errors status ends none, nothing old.output new.output closed)
-no_log rules tells asked instance steps from old new status (inr (Ok done, said, (inr (inl (shut, opens, is_shut, closed)), quiet), ends)) silent =
+no_log rules tells asked instance steps from trace old new status (inr (Ok done, said, (inr (inl (shut, opens, is_shut, closed)), quiet), ends)) silent =
     absurd (let e = is_shut in cc)
-no_log rules tells asked instance steps from old new status (inr (Err why, said, (inr (inr (port, between, last, opens, (fetching, left, over, is_last, is), closes)), quiet), ends)) silent =
-    let (came, items, n, ended, after, half, mid, begun, printed, headline, contradicts) = over.0.1 in
+no_log rules tells asked instance steps from trace old new status (inr (Err why, said, (inr (inr (port, between, last, opens, (fetching, left, over, is_last, is), closes)), quiet), ends)) silent =
+    let (came, items, n, ended, after, half, mid, begun, printed, headline, contradicts) = (in_lines rules asked (walk_from instance from) steps (link_over asked.address port) fetching left old.output new.output over.0).0.1 in
     let brought = brought_plain (socket_asks rules) (transactions_with asked) half (link_over asked.address port) mid (walk_from instance from) after n came items ended begun in
     let none = no_reply rules silent (towards asked.route) asked.retries n (link_over asked.address port) (walk_from instance from) came items ended after mid brought in (
       λ some zero. not_told why said new.errors status ends zero,
       end_alone items old.output new.output none.1 (cut_over (socket_asks rules) _ items steps n ended after fetching old.output new.output printed),
     )
-no_log rules tells asked instance steps from old new status (inr (Ok done, said, (inr (inr (port, between, last, opens, (fetching, left, over, is_last, is), closes)), quiet), ends)) silent =
-    let (came, items, n, ended, after, half, mid, begun, printed, headline, contradicts) = over.0.1 in
+no_log rules tells asked instance steps from trace old new status (inr (Ok done, said, (inr (inr (port, between, last, opens, (fetching, left, over, is_last, is), closes)), quiet), ends)) silent =
+    let (came, items, n, ended, after, half, mid, begun, printed, headline, contradicts) = (in_lines rules asked (walk_from instance from) steps (link_over asked.address port) fetching left old.output new.output over.0).0.1 in
     let brought = brought_plain (socket_asks rules) (transactions_with asked) half (link_over asked.address port) mid (walk_from instance from) after n came items ended begun in
     let none = no_reply rules silent (towards asked.route) asked.retries n (link_over asked.address port) (walk_from instance from) came items ended after mid brought in (
-      λ some zero. no_status rules silent asked (walk_from instance from) steps (link_over asked.address port) fetching over.0.0 left old.output new.output done over.0.1 is some (sym ends.0 ∙ zero),
+      λ some zero. no_status rules silent asked (walk_from instance from) steps (link_over asked.address port) fetching (in_lines rules asked (walk_from instance from) steps (link_over asked.address port) fetching left old.output new.output over.0).0.0 left old.output new.output done (in_lines rules asked (walk_from instance from) steps (link_over asked.address port) fetching left old.output new.output over.0).0.1 is some (sym ends.0 ∙ zero),
       end_alone items old.output new.output none.1 (cut_over (socket_asks rules) _ items steps n ended after fetching old.output new.output printed),
     )
 
@@ -246,30 +250,30 @@ same_fault : (address : List ℕ) (answer : Answer) (why : ExchangeFault) → an
 same_fault address answer why told is = let e = is ∙ ap (of_answer address) told in cc
 
 -- an ACK isn't told as lost
-not_lost : (address : List ℕ) (values : Option (List ℕ)) (answer : Answer) (old new : Held) → PrintsValues values answer old new →
+not_lost : (reals : Reals) (address : List ℕ) (values : Option (List ℕ)) (answer : Answer) (old new : Held) → PrintsValues reals values answer old new →
     Err (fault.Exchange address exchange.Lost) ≡ of_answer address answer → ⊥
-not_lost address None answer old new prints is =
+not_lost reals address None answer old new prints is =
     let e = same_fault address answer exchange.BadReply prints.0 is in cc
-not_lost address (Some values) (Ok done) old new prints is = absurd (cc)
-not_lost address (Some values) (Err query.Write) old new prints is = absurd (cc)
-not_lost address (Some values) (Err query.Memory) old new prints is = absurd (cc)
-not_lost address (Some values) (Err (query.Exchange why)) old new prints is = prints
+not_lost reals address (Some values) (Ok done) old new prints is = absurd (cc)
+not_lost reals address (Some values) (Err query.Write) old new prints is = absurd (cc)
+not_lost reals address (Some values) (Err query.Memory) old new prints is = absurd (cc)
+not_lost reals address (Some values) (Err (query.Exchange why)) old new prints is = prints
 
 pub lost : {S P C : Type 0} (rules : SocketRules S P) (tells : C → Option CivilTime → C → Type 0) → LostWasAsked rules tells
-lost rules tells = λ asked object_type instance property index old new works. by asked object_type instance property index old new works
+lost rules tells = λ asked object_type instance property index numbers trace old new works. by asked object_type instance property index numbers trace old new works
   where
-    by : (asked : Asked) (object_type instance property : ℕ) (index : Option ℕ) (old new : Streams _ _) →
-        Works rules tells (Rp asked object_type instance property index) old (Err (fault.Exchange asked.address exchange.Lost)) new →
+    by : (asked : Asked) (object_type instance property : ℕ) (index : Option ℕ) (numbers trace : Bool) (old new : Streams _ _) →
+        Works rules tells (Rp asked object_type instance property index numbers trace) old (Err (fault.Exchange asked.address exchange.Lost)) new →
         UsesSocket rules (own_address asked.local) asked.timeout old.sockets
         (λ port last. (left : UdpLink _) × Unanswered (socket_asks rules)
         (request_octets (towards asked.route) (next_invoke 0) (request.ReadProperty (question object_type instance property index)))
         (asked.retries + 1) (link_over asked.address port) left × (last ≡ left.port))
         new.sockets
-    by asked object_type instance property index old new (inl unasked, quiet) = absurd (let e = unasked.1.0 in cc)
-    by asked object_type instance property index old new (inr (inl (shut, opens, is_shut, closed)), quiet) = absurd (let e = is_shut in cc)
-    by asked object_type instance property index old new (inr (inr (port, between, last, opens, (answer, left, (Ok datagram, exchanged, prints), is_last, is), closes)), quiet) =
-        absurd (not_lost asked.address (values_in (apdu_in datagram)) answer _ _ prints is)
-    by asked object_type instance property index old new (inr (inr (port, between, last, opens, (answer, left, (Err why, exchanged, told), is_last, is), closes)), quiet) =
+    by asked object_type instance property index numbers trace old new (inl unasked, quiet) = absurd (let e = unasked.1.0 in cc)
+    by asked object_type instance property index numbers trace old new (inr (inl (shut, opens, is_shut, closed)), quiet) = absurd (let e = is_shut in cc)
+    by asked object_type instance property index numbers trace old new (inr (inr (port, between, last, opens, (answer, left, (Ok datagram, exchanged, prints), is_last, is), closes)), quiet) =
+        absurd (not_lost (reals_of numbers) asked.address (values_in (apdu_in datagram)) answer _ _ prints is)
+    by asked object_type instance property index numbers trace old new (inr (inr (port, between, last, opens, (answer, left, (Err why, exchanged, told), is_last, is), closes)), quiet) =
         let P : ExchangeFault → Type 0 = λ f. Exchanges (socket_asks rules) (towards asked.route) (next_invoke 0) (request.ReadProperty (question object_type instance property index)) asked.retries (link_over asked.address port) (Err f) left in
         (port, between, last, opens, (left, subst P (same_fault asked.address answer why told.0 is) exchanged, is_last), closes)
 
@@ -296,42 +300,56 @@ device_stays sends receives tells sure (suc count) old why new (Ok done, mid, ne
     device_stays sends receives tells sure count mid why new rest
 
 -- the faults of a configuration and of a build aren't the socket's
-configured_not : (input left : Held) (why : Fault) → IsConfigured input left (Err why) → why ≡ fault.Socket → ⊥
-configured_not input left fault.NoDevice is e = absurd (cc)
-configured_not input left (fault.Script refused) is e = absurd (cc)
-configured_not input left fault.Socket is e = is
-configured_not input left fault.NotText is e = absurd (cc)
-configured_not input left fault.OtherTool is e = absurd (cc)
-configured_not input left (fault.BadValue word) is e = absurd (cc)
-configured_not input left (fault.LongNumber word) is e = absurd (cc)
-configured_not input left (fault.Refused address) is e = absurd (cc)
-configured_not input left (fault.NoAnswer asked) is e = absurd (cc)
-configured_not input left (fault.List said) is e = absurd (cc)
-configured_not input left (fault.Exchange address said) is e = absurd (cc)
-configured_not input left (fault.Flawed flaw) is e = absurd (cc)
-configured_not input left (fault.Silent address) is e = absurd (cc)
-configured_not input left (fault.Declined refusal) is e = absurd (cc)
-configured_not input left fault.Write is e = absurd (cc)
-configured_not input left fault.Memory is e = absurd (cc)
+configured_not : (input left : Held) (why said : Fault) → IsConfigured input left (Err why) → IsOfSocket said → why ≡ said → ⊥
+configured_not input left fault.NoDevice said is (inl p) e = let q = e ∙ p in absurd (cc)
+configured_not input left fault.NoDevice said is (inr (why, p)) e = let q = e ∙ p in absurd (cc)
+configured_not input left (fault.Script refused) said is (inl p) e = let q = e ∙ p in absurd (cc)
+configured_not input left (fault.Script refused) said is (inr (why, p)) e = let q = e ∙ p in absurd (cc)
+configured_not input left fault.Socket said is of e = is
+configured_not input left (fault.Unopened shut) said is of e = is
+configured_not input left fault.NotText said is of e = is
+configured_not input left fault.OtherTool said is of e = is
+configured_not input left (fault.BadValue word) said is of e = is
+configured_not input left (fault.LongNumber word) said is of e = is
+configured_not input left (fault.Refused address) said is of e = is
+configured_not input left (fault.NoAnswer asked) said is of e = is
+configured_not input left (fault.List wrong) said is of e = is
+configured_not input left (fault.Exchange address wrong) said is of e = is
+configured_not input left (fault.Flawed flaw) said is of e = is
+configured_not input left (fault.Silent address) said is of e = is
+configured_not input left (fault.Declined refusal) said is of e = is
+configured_not input left fault.Write said is of e = is
+configured_not input left fault.Memory said is of e = is
+
+-- nor is want of memory
+memory_not : (said : Fault) → IsOfSocket said → said ≡ fault.Memory → ⊥
+memory_not said (inl p) e = let q = sym e ∙ p in absurd (cc)
+memory_not said (inr (why, p)) e = let q = sym e ∙ p in absurd (cc)
+
+-- nor a script's
+script_not : (refused : Refused) (said : Fault) → IsOfSocket said → said ≡ fault.Script refused → ⊥
+script_not refused said (inl p) e = let q = sym e ∙ p in absurd (cc)
+script_not refused said (inr (why, p)) e = let q = sym e ∙ p in absurd (cc)
 
 over_stays : {S P C : Type 0} (rules : SocketRules S P) (tells : C → Option CivilTime → C → Type 0) → NeverFails rules →
-    (address : List ℕ) (count : ℕ) (device : State) (port last : P) (old new : Streams S C) →
-    IsServedOver rules tells address count device port last old (Err fault.Socket) new → ⊥
-over_stays rules tells sure address count device port last old new (Ok done, after, told, serves, is) = absurd (cc)
-over_stays rules tells sure address count device port last old new (Err why, after, told, serves, is) =
+    (address : List ℕ) (count : ℕ) (device : State) (said : Fault) (port last : P) (old new : Streams S C) →
+    IsServedOver rules tells address count device port last old (Err said) new → ⊥
+over_stays rules tells sure address count device said port last old new (Ok done, after, told, serves, is) = absurd (cc)
+over_stays rules tells sure address count device said port last old new (Err why, after, told, serves, is) =
     device_stays rules.sends rules.receives tells sure.1 count _ why _ serves
 
 pub stays : {S P C : Type 0} (rules : SocketRules S P) (tells : C → Option CivilTime → C → Type 0) (address : List ℕ) (count : ℕ)
-    (old new : Streams S C) → NeverFails rules → Works rules tells (Serve address count) old (Err fault.Socket) new → ⊥
-stays rules tells address count old new sure (inl (why, configured, is, idle), keeps) =
-    configured_not old.input new.input why configured (let e : why ≡ fault.Socket = cc in e)
-stays rules tells address count old new sure (inr (c, configured, inl (why, inl unbuilt, is, idle)), keeps) =
-    let e = unbuilt.1 in absurd (cc)
-stays rules tells address count old new sure (inr (c, configured, inl (why, inr unbuilt, is, idle)), keeps) =
-    let e = unbuilt.4 in absurd (cc)
-stays rules tells address count old new sure (inr (c, configured, inr (built, inl memory)), keeps) =
-    let e = memory.0 in absurd (cc)
-stays rules tells address count old new sure (inr (c, configured, inr (built, inr (inl (why, opens, is_shut, closed)))), keeps) =
+    (said : Fault) (old new : Streams S C) → NeverFails rules → IsOfSocket said →
+    Works rules tells (Serve address count) old (Err said) new → ⊥
+stays rules tells address count said old new sure of (inl (why, configured, is, idle), keeps) =
+    configured_not old.input new.input why said configured of (let e : why ≡ said = cc in e)
+stays rules tells address count said old new sure of (inr (c, configured, inl (why, inl unbuilt, is, idle)), keeps) =
+    let e = unbuilt.1 in memory_not said of (let p : said ≡ fault.Memory = cc in p)
+stays rules tells address count said old new sure of (inr (c, configured, inl (why, inr unbuilt, is, idle)), keeps) =
+    let e = unbuilt.4 in script_not (refused_with unbuilt.0) said of (let p : said ≡ fault.Script (refused_with unbuilt.0) = cc in p)
+stays rules tells address count said old new sure of (inr (c, configured, inr (built, inl memory)), keeps) =
+    let e = memory.0 in memory_not said of (let p : said ≡ fault.Memory = cc in p)
+stays rules tells address count said old new sure of (inr (c, configured, inr (built, inr (inl (why, opens, is_shut, closed)))), keeps) =
     sure.0 old.sockets new.sockets address _ why opens
-stays rules tells address count old new sure (inr (c, configured, inr (built, inr (inr (port, between, last, opens, served, closes)))), keeps) =
-    over_stays rules tells sure address count _ port last old new served
+stays rules tells address count said old new sure of (inr (c, configured, inr (built, inr (inr (port, between, last, opens, served, closes)))), keeps) =
+    over_stays rules tells sure address count _ said port last old new served

@@ -1,5 +1,5 @@
 -- Sockets over which nothing comes, and sockets that never fail.
-use Rattle.std.specs.Prelude.{◌≡◌, ℕ, ◌+◌, List, Option, Ok, Err}
+use Rattle.std.specs.Prelude.{◌≡◌, ◌⊎◌, ℕ, ◌+◌, Bool, List, Option, Ok, Err}
 use Rattle.bac_link.specs.Exchanges.{Unanswered}
 use Rattle.bac_link.specs.Path.{towards}
 use Rattle.bac_link.specs.Requests.{next_invoke, request_octets}
@@ -7,12 +7,14 @@ use Rattle.bac_link.specs.declared.exchanges.ExchangeFault.TheVariants as exchan
 use Rattle.bac_link.specs.declared.request.Request.TheVariants as request
 use Rattle.bac_ports.specs.Port.{Receiving}
 use Rattle.bac_ports.specs.declared.port.Heard.{Heard}
+use Rattle.bac_ports.specs.declared.port.OpenFault.{OpenFault}
 use Rattle.bac_ports.specs.declared.port.SocketFault.{SocketFault}
 use Rattle.bac_ports.specs.declared.udp_link.UdpLink.{UdpLink}
 use Rattle.bac_tools.specs.Run.{Works, question}
 use Rattle.bac_ports.specs.Sockets.{SocketRules, UsesSocket, link_over, own_address, socket_asks}
 use Rattle.bac_tools.specs.Streams.{Streams}
-use Rattle.bac_tools.specs.declared.fault.Fault.TheVariants.{Exchange, Socket}
+use Rattle.bac_tools.specs.declared.fault.Fault.{Fault}
+use Rattle.bac_tools.specs.declared.fault.Fault.TheVariants.{Exchange, Unopened, Socket}
 use Rattle.bac_wire.specs.Stamp.{CivilTime}
 use Rattle.bac_words.specs.declared.job.Asked.{Asked}
 use Rattle.bac_words.specs.declared.job.Job.TheVariants.{Rp, Serve}
@@ -28,15 +30,15 @@ IsSilentWithin {P = P} within = (old new : P) (wait : ℕ) (heard : Heard) → w
 -- each open gives a socket, and each receive a datagram
 abbrev pub NeverFails : {S P : Type 0} → SocketRules S P → Type 0
 NeverFails {S = S} {P = P} rules =
-    ((old new : S) (address : List ℕ) (wait : ℕ) (fault : SocketFault) → rules.opens old address wait (Err fault) new → ⊥)
+    ((old new : S) (address : List ℕ) (wait : ℕ) (fault : OpenFault) → rules.opens old address wait (Err fault) new → ⊥)
     × ((old new : P) (fault : SocketFault) → rules.receives old (Err fault) new → ⊥)
 
 -- If `rp` tells that its answer is lost, its request was asked over the socket that was opened, once and as often again
 -- as the retries say, with the same octets, no answer came, and nothing more was done before the socket was closed.
 abbrev pub LostWasAsked : {S P C : Type 0} → SocketRules S P → (C → Option CivilTime → C → Type 0) → Type 0
 LostWasAsked {S = S} {P = P} {C = C} rules tells =
-    (asked : Asked) (object_type instance property : ℕ) (index : Option ℕ) (old new : Streams S C) →
-    Works rules tells (Rp asked object_type instance property index) old
+    (asked : Asked) (object_type instance property : ℕ) (index : Option ℕ) (numbers trace : Bool) (old new : Streams S C) →
+    Works rules tells (Rp asked object_type instance property index numbers trace) old
     (Err (Exchange asked.address exchange.Lost)) new →
     UsesSocket rules (own_address asked.local) asked.timeout old.sockets
     (λ port last. (left : UdpLink P) × Unanswered (socket_asks rules)
@@ -45,8 +47,12 @@ LostWasAsked {S = S} {P = P} {C = C} rules tells =
     (asked.retries + 1) (link_over asked.address port) left × (last ≡ left.port))
     new.sockets
 
+-- a socket wasn't opened, or it failed
+abbrev pub IsOfSocket : Fault → Type 0
+IsOfSocket fault = (fault ≡ Socket) ⊎ ((why : OpenFault) × (fault ≡ Unopened why))
+
 -- a server doesn't end with a socket fault over sockets that never fail
 abbrev pub ServersStay : {S P C : Type 0} → SocketRules S P → (C → Option CivilTime → C → Type 0) → Type 0
 ServersStay {S = S} {C = C} rules tells =
-    (address : List ℕ) (count : ℕ) (old new : Streams S C) → NeverFails rules →
-    Works rules tells (Serve address count) old (Err Socket) new → ⊥
+    (address : List ℕ) (count : ℕ) (fault : Fault) (old new : Streams S C) → NeverFails rules → IsOfSocket fault →
+    Works rules tells (Serve address count) old (Err fault) new → ⊥

@@ -4,7 +4,9 @@
 use bac_apdu::{ReadProperty, WriteProperty};
 use bac_link::{ExchangeFault, Request, Transactions};
 use bac_print::write_text;
-use bac_query::{Fetched, QueryFault, fetch_log, push_values, read_property, write_property};
+use bac_query::{
+    Fetched, QueryFault, Reals, fetch_log, push_values, read_property, write_property,
+};
 use bac_scripted_link::ScriptedLink;
 use bac_walk::{Walk, Why};
 use bac_wire::{ObjectId, Value};
@@ -69,7 +71,7 @@ const DONE: [u8; 9] = [0x81, 0x0a, 0, 9, 1, 0, 0x20, 1, 0x0f];
 #[test]
 fn octets_of_a_value_that_is_cut_are_shown_as_they_are(rt: HostRuntime) -> Result<(), Fail> {
     let mut text = Vec::new(rt.alloc());
-    push_values(rt.alloc(), &mut text, &[0x22, 5])?;
+    push_values(rt.alloc(), &mut text, &[0x22, 5], Reals::Octets)?;
     assert_eq!(rt; text.as_slice(), b"raw(2205)\n".as_slice());
     Ok(())
 }
@@ -80,7 +82,14 @@ fn a_property_is_read(rt: HostRuntime) -> Result<(), Fail> {
     let mut transactions = Transactions::new(0);
     let mut out = new_paper(rt.alloc(), 1);
     assert_eq!(rt;
-        read_property(rt.alloc(), &mut link, &mut transactions, asked()?, &mut out),
+        read_property(
+            rt.alloc(),
+            &mut link,
+            &mut transactions,
+            asked()?,
+            Reals::Octets,
+            &mut out
+        ),
         Ok(())
     );
     assert_eq!(rt; out.text.as_slice(), b"object(8,123)\n".as_slice());
@@ -98,6 +107,7 @@ fn a_refused_write_is_told(rt: HostRuntime) -> Result<(), Fail> {
             &mut ScriptedLink::new(&[&OBJECT]),
             &mut transactions,
             asked()?,
+            Reals::Octets,
             &mut out
         ),
         Err(QueryFault::Write)

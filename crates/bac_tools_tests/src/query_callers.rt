@@ -9,6 +9,7 @@ ghost use Rattle.bac_link.specs.Path.{towards};
 ghost use Rattle.bac_link.specs.Requests.{next_invoke, request_octets, IsSendable};
 ghost use Rattle.bac_link.specs.declared.item.Item.{Item};
 ghost use Rattle.bac_query.specs.Fetching.{PrintsItems};
+ghost use Rattle.bac_query.specs.declared.layout.Layout.TheVariants.{Lines};
 ghost use Rattle.bac_query.specs.Ends.{end_line};
 ghost use Rattle.bac_query.specs.Items.{items_text};
 ghost use Rattle.bac_link.specs.Moments.{NeverGoesBack};
@@ -39,7 +40,7 @@ pub fn fetched_from_the_oldest<L: LogLink, W: Write>(
     ensures { IfSome result (λ fetched. (r : ℕ) (M : List Moment) (H : History) (low : ℕ) →
         L.is_ours link.old log r M H → AreInWindow low M →
         (items : List Item) × (answers : List (List Item)) × (t : ℕ)
-        × PrintsItems items fetched (W.contents out.old) (W.contents out.new)
+        × PrintsItems Lines items fetched (W.contents out.old) (W.contents out.new)
         × DeliversTo H (start_of true 1 M answers) items t M (length answers)) }
 {
     // For the prover alone: laws that the contract follows from.

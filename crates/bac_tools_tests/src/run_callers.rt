@@ -1,6 +1,6 @@
 //! What a user of the program needs, proved from its public contract alone.
 
-ghost use Rattle.std.specs.Prelude.{◌≡◌, ◌⊎◌, ℕ, map, Option, Some};
+ghost use Rattle.std.specs.Prelude.{◌≡◌, ◌⊎◌, ℕ, Bool, false, map, Option, Some};
 ghost use Rattle.std.specs.Io.KnownBytes.{Keeps};
 ghost use Rattle.std.specs.String.{string_bytes};
 ghost use Rattle.bac_tools.specs.Run.{AskFor, walk_from};
@@ -26,8 +26,8 @@ pub fn logged<S: Sockets, I: Read, O: Write, E: Write, C: Clock>(
     errors: &mut E,
     clock: &mut C,
 ) -> u8
-    ensures { (asked : AskedOf) (instance steps : ℕ) (from : Option ℕ) →
-        AskFor (map string_bytes words.now) (Log asked instance from steps) → result ≡ 0 →
+    ensures { (asked : AskedOf) (instance steps : ℕ) (from : Option ℕ) (trace : Bool) →
+        AskFor (map string_bytes words.now) (Log asked instance from steps false trace) → result ≡ 0 →
         UsesSocket (socket_rules S.opens S.closes S.Socket.sends S.Socket.receives S.Socket.receives_within) (own_address asked.local) asked.timeout
         sockets.old (λ port last. IsLogged (socket_rules S.opens S.closes S.Socket.sends S.Socket.receives S.Socket.receives_within) asked
         (walk_from instance from) port last (O.contents output.old) (O.contents output.new)) sockets.new }
@@ -46,8 +46,8 @@ pub fn logged_at_rest<S: Sockets, I: Read, O: Write, E: Write, C: Clock>(
     errors: &mut E,
     clock: &mut C,
 ) -> u8
-    ensures { (asked : AskedOf) (instance steps number : ℕ) →
-        AskFor (map string_bytes words.now) (Log asked instance (Some number) steps) → result ≡ 0 →
+    ensures { (asked : AskedOf) (instance steps number : ℕ) (trace : Bool) →
+        AskFor (map string_bytes words.now) (Log asked instance (Some number) steps false trace) → result ≡ 0 →
         UsesSocket (socket_rules S.opens S.closes S.Socket.sends S.Socket.receives S.Socket.receives_within) (own_address asked.local) asked.timeout
         sockets.old (λ port last. IsLoggedAtRest (socket_rules S.opens S.closes S.Socket.sends S.Socket.receives S.Socket.receives_within) asked
         (walk_from instance (Some number)) steps port last (O.contents output.old) (O.contents output.new)) sockets.new }
@@ -66,8 +66,8 @@ pub fn bad_reply_explained<S: Sockets, I: Read, O: Write, E: Write, C: Clock>(
     errors: &mut E,
     clock: &mut C,
 ) -> u8
-    ensures { (asked : AskedOf) (instance steps : ℕ) (from : Option ℕ) →
-        AskFor (map string_bytes words.now) (Log asked instance from steps) → result ≡ 4 →
+    ensures { (asked : AskedOf) (instance steps : ℕ) (from : Option ℕ) (trace : Bool) →
+        AskFor (map string_bytes words.now) (Log asked instance from steps false trace) → result ≡ 4 →
         UsesSocket (socket_rules S.opens S.closes S.Socket.sends S.Socket.receives S.Socket.receives_within) (own_address asked.local) asked.timeout
         sockets.old (λ port last. IsExplained (socket_rules S.opens S.closes S.Socket.sends S.Socket.receives S.Socket.receives_within) asked
         (walk_from instance from) last (E.contents errors.old) (E.contents errors.new)) sockets.new }
@@ -86,8 +86,8 @@ pub fn printed_in_order<S: Sockets, I: Read, O: Write, E: Write, C: Clock>(
     errors: &mut E,
     clock: &mut C,
 ) -> u8
-    ensures { (asked : AskedOf) (instance steps : ℕ) (from : Option ℕ) →
-        AskFor (map string_bytes words.now) (Log asked instance from steps) →
+    ensures { (asked : AskedOf) (instance steps : ℕ) (from : Option ℕ) (trace : Bool) →
+        AskFor (map string_bytes words.now) (Log asked instance from steps false trace) →
         Keeps (O.contents output.old) (O.contents output.new)
         ⊎ UsesSocket (socket_rules S.opens S.closes S.Socket.sends S.Socket.receives S.Socket.receives_within) (own_address asked.local) asked.timeout
         sockets.old (λ port last. IsCut (socket_rules S.opens S.closes S.Socket.sends S.Socket.receives S.Socket.receives_within) asked
@@ -107,8 +107,8 @@ pub fn printed_until_refused<S: Sockets, I: Read, E: Write, C: Clock>(
     errors: &mut E,
     clock: &mut C,
 ) -> u8
-    ensures { (asked : AskedOf) (instance steps : ℕ) (from : Option ℕ) →
-        AskFor (map string_bytes words.now) (Log asked instance from steps) →
+    ensures { (asked : AskedOf) (instance steps : ℕ) (from : Option ℕ) (trace : Bool) →
+        AskFor (map string_bytes words.now) (Log asked instance from steps false trace) →
         (output.new.text.items ≡ output.old.text.items)
         ⊎ UsesSocket (socket_rules S.opens S.closes S.Socket.sends S.Socket.receives S.Socket.receives_within) (own_address asked.local) asked.timeout
         sockets.old (λ port last. IsCut (socket_rules S.opens S.closes S.Socket.sends S.Socket.receives S.Socket.receives_within) asked

@@ -1,7 +1,7 @@
 //! What the program doesn't do over sockets where nothing comes, or that never fail, proved from
 //! its public contract alone.
 
-ghost use Rattle.std.specs.Prelude.{◌≡◌, ◌<◌, ℕ, map, List, Option};
+ghost use Rattle.std.specs.Prelude.{◌≡◌, ◌<◌, ℕ, Bool, false, map, List, Option};
 ghost use Rattle.std.specs.Io.KnownBytes.{Keeps};
 ghost use Rattle.std.specs.String.{string_bytes};
 ghost use Rattle.bac_print.specs.Output.{AppendsPart};
@@ -31,14 +31,14 @@ pub fn nothing_made_up<S: Sockets, I: Read, O: Write, E: Write, C: Clock>(
     errors: &mut E,
     clock: &mut C,
 ) -> u8
-    ensures rp { (asked : AskedOf) (object_type instance property : ℕ) (index : Option ℕ) →
-        AskFor (map string_bytes words.now) (Rp asked object_type instance property index) → IsSilent S.Socket.receives →
+    ensures rp { (asked : AskedOf) (object_type instance property : ℕ) (index : Option ℕ) (numbers trace : Bool) →
+        AskFor (map string_bytes words.now) (Rp asked object_type instance property index numbers trace) → IsSilent S.Socket.receives →
         (result ≡ 0 → ⊥) × Keeps (O.contents output.old) (O.contents output.new) }
-    ensures wp { (asked : AskedOf) (object_type instance property priority : ℕ) (given : AnyGiven) (index : Option ℕ) →
-        AskFor (map string_bytes words.now) (Wp asked object_type instance property priority given index) → IsSilent S.Socket.receives →
+    ensures wp { (asked : AskedOf) (object_type instance property priority : ℕ) (given : AnyGiven) (index : Option ℕ) (trace : Bool) →
+        AskFor (map string_bytes words.now) (Wp asked object_type instance property priority given index trace) → IsSilent S.Socket.receives →
         (result ≡ 0 → ⊥) × Keeps (O.contents output.old) (O.contents output.new) }
-    ensures log { (asked : AskedOf) (instance steps : ℕ) (from : Option ℕ) →
-        AskFor (map string_bytes words.now) (Log asked instance from steps) → IsSilent S.Socket.receives →
+    ensures log { (asked : AskedOf) (instance steps : ℕ) (from : Option ℕ) (trace : Bool) →
+        AskFor (map string_bytes words.now) (Log asked instance from steps false trace) → IsSilent S.Socket.receives →
         (0 < steps → result ≡ 0 → ⊥)
         × ((why : AnyWhy) × (next : ℕ) × AppendsPart (O.contents output.old) (O.contents output.new) (end_line why next)) }
 {
@@ -56,8 +56,8 @@ pub fn no_device_made_up<S: Sockets, I: Read, O: Write, E: Write, C: Clock>(
     errors: &mut E,
     clock: &mut C,
 ) -> u8
-    ensures { (addresses : List (List ℕ)) (min max dnet : Option ℕ) (local : Option (List ℕ)) (timeout : ℕ) →
-        AskFor (map string_bytes words.now) (Wi (Listed addresses) min max dnet local timeout) →
+    ensures { (addresses : List (List ℕ)) (min max dnet : Option ℕ) (local : Option (List ℕ)) (timeout : ℕ) (trace : Bool) →
+        AskFor (map string_bytes words.now) (Wi (Listed addresses) min max dnet local timeout trace) →
         IsSilent S.Socket.receives → IsSilentWithin S.Socket.receives_within →
         (result ≡ 0 → ⊥) × Keeps (O.contents output.old) (O.contents output.new) }
 {

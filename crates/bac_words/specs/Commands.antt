@@ -9,7 +9,7 @@ use Rattle.clap.specs.declared.builder.command.Command.TheViews.{out-Command}
 use Rattle.bac_words.specs.declared.word.Word.{Word}
 use Rattle.bac_words.specs.declared.word.Word.TheVariants.{Address, ObjectType, Instance, Property, Priority, Tag, From, File}
 use Rattle.bac_words.specs.declared.word.Word.TheVariants.{Index, Value, Min, Max, Steps, Count, Local, Timeout}
-use Rattle.bac_words.specs.declared.word.Word.TheVariants.{Retries, Dnet, Dadr, Csv, Stop}
+use Rattle.bac_words.specs.declared.word.Word.TheVariants.{Retries, Dnet, Dadr, Csv, Stop, Numbers, Trace}
 use Rattle.bac_words.specs.Names.{name_of}
 
 -- NAME, a word that has to be there
@@ -40,9 +40,9 @@ option_or w default = record (option w) { defaults = default ∷ [] }
 abbrev pub flag : Word → Rule
 flag w = record (new_rule (name_of w)) { long = Some (name_of w); action = Some SetTrue }
 
--- [--timeout=MS] [--local=ADDRESS]
+-- [--timeout=MS] [--local=ADDRESS] [--trace]
 abbrev pub timeout_rules : List Rule
-timeout_rules = option_or Timeout (codes "3000") ∷ option Local ∷ []
+timeout_rules = option_or Timeout (codes "3000") ∷ option Local ∷ flag Trace ∷ []
 
 -- [--dnet=N] [--dadr=HEX]: a device behind a router
 abbrev pub route_rules : List Rule
@@ -54,7 +54,7 @@ asking_rules = timeout_rules ++ option_or Retries (codes "3") ∷ route_rules
 
 -- the same without defaults
 abbrev pub keeping_rules : List Rule
-keeping_rules = option Timeout ∷ option Local ∷ option Retries ∷ route_rules
+keeping_rules = option Timeout ∷ option Local ∷ flag Trace ∷ option Retries ∷ route_rules
 
 -- ADDRESS TYPE INSTANCE PROPERTY
 abbrev pub property_rules : List Rule
@@ -73,19 +73,19 @@ replay_app = new_app (codes "replay")
 abbrev pub wi_app : App
 wi_app = with_rules (new_app (codes "wi")) (needed_list Address ∷ option Min ∷ option Max ∷ option Dnet ∷ timeout_rules)
 
--- bac rp ADDRESS TYPE INSTANCE PROPERTY [--index=N]
+-- bac rp ADDRESS TYPE INSTANCE PROPERTY [--index=N] [--numbers]
 abbrev pub rp_app : App
-rp_app = with_rules (new_app (codes "rp")) (property_rules ++ option Index ∷ asking_rules)
+rp_app = with_rules (new_app (codes "rp")) (property_rules ++ option Index ∷ flag Numbers ∷ asking_rules)
 
 -- bac wp ADDRESS TYPE INSTANCE PROPERTY PRIORITY TAG [--index=N] [--value=V]
 abbrev pub wp_app : App
 wp_app = with_rules (new_app (codes "wp"))
     (property_rules ++ needed Priority ∷ needed Tag ∷ option Index ∷ option Value ∷ asking_rules)
 
--- bac log ADDRESS INSTANCE FROM [--steps=N]
+-- bac log ADDRESS INSTANCE FROM [--steps=N] [--csv]
 abbrev pub log_app : App
 log_app = with_rules (new_app (codes "log"))
-    (needed Address ∷ needed Instance ∷ needed From ∷ option_or Steps (codes "1000") ∷ asking_rules)
+    (needed Address ∷ needed Instance ∷ needed From ∷ option_or Steps (codes "1000") ∷ flag Csv ∷ asking_rules)
 
 -- bac logs ADDRESS [INSTANCE..]
 abbrev pub logs_app : App

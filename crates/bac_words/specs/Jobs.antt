@@ -1,12 +1,12 @@
 -- The job that a tool's words and options say, or the first of them whose value isn't one that it can have.
-use Rattle.std.specs.Prelude.{ℕ, Bool, true, List, if◌then◌else◌, Option, None, Some, Result, Ok, Err, codes, option_and_then}
+use Rattle.std.specs.Prelude.{ℕ, Bool, true, false, List, if◌then◌else◌, Option, None, Some, Result, Ok, Err, codes, option_and_then}
 use Rattle.std.specs.Option.{ok_or}
 use Rattle.std.specs.Str.{bytes_eq}
 use Rattle.clap.specs.Words.{Row, Text}
 use Rattle.bac_words.specs.declared.word.Word.{Word}
 use Rattle.bac_words.specs.declared.word.Word.TheVariants.{Tool, Address, ObjectType, Instance, Property, Priority, Tag}
 use Rattle.bac_words.specs.declared.word.Word.TheVariants.{From, File, Index, Value, Min, Max, Steps, Count, Local, Timeout}
-use Rattle.bac_words.specs.declared.word.Word.TheVariants.{Retries, Dnet, Dadr, Csv, Stop}
+use Rattle.bac_words.specs.declared.word.Word.TheVariants.{Retries, Dnet, Dadr, Csv, Stop, Numbers, Trace}
 use Rattle.bac_words.specs.declared.job.Job.{Job}
 use Rattle.bac_words.specs.declared.job.Job.TheVariants.{Replay, Wi, Rp, Wp, Log, Logs, Serve}
 use Rattle.bac_words.specs.declared.job.Job.TheVariants as job
@@ -43,7 +43,7 @@ wi_at rows = do
   dnet ← maybe_number_at Dnet 1 65535 rows
   local ← local_at rows
   timeout ← number_at Timeout 1 60000 rows
-  Ok (Wi stations min max dnet local timeout)
+  Ok (Wi stations min max dnet local timeout (is_said Trace rows))
 
 -- bac rp
 unfoldable pub rp_at : List Row → Result Job Word
@@ -53,7 +53,7 @@ rp_at rows = do
   instance ← number_at Instance 0 4194303 rows
   property ← number_at Property 0 4294967295 rows
   index ← maybe_number_at Index 0 4294967295 rows
-  Ok (Rp asked object_type instance property index)
+  Ok (Rp asked object_type instance property index (is_said Numbers rows) (is_said Trace rows))
 
 -- the application tag of a value that can be given
 abbrev pub tag_at : List Row → Result ℕ Word
@@ -77,7 +77,7 @@ wp_at rows = do
   priority ← number_at Priority 0 16 rows
   given ← given_at rows
   index ← maybe_number_at Index 0 4294967295 rows
-  Ok (Wp asked object_type instance property priority given index)
+  Ok (Wp asked object_type instance property priority given index (is_said Trace rows))
 
 -- a number from 1, or `oldest`
 unfoldable pub from_in : Text → Option (Option ℕ)
@@ -96,14 +96,14 @@ log_at rows = do
   instance ← number_at Instance 0 4194303 rows
   from ← from_at rows
   steps ← number_at Steps 0 4294967295 rows
-  Ok (Log asked instance from steps)
+  Ok (Log asked instance from steps (is_said Csv rows) (is_said Trace rows))
 
 -- bac logs
 unfoldable pub logs_at : List Row → Result Job Word
 logs_at rows = do
   asked ← asked_at rows
   instances ← instances_at rows
-  Ok (Logs asked instances)
+  Ok (Logs asked instances (is_said Trace rows))
 
 -- the file of `keep` and `kept`
 abbrev pub file_at : List Row → Result Text Word
@@ -135,6 +135,7 @@ keep_at rows = do
     address = text_at Address rows;
     instances = texts_at Instance rows;
     stop = stop;
+    trace = is_said Trace rows;
     options = keep_options_at rows;
   }))
 
@@ -173,3 +174,17 @@ job_of_tool tool rows =
 abbrev pub job_of : Option (Text × List Row) → Result Job Word
 job_of None = Err Tool
 job_of (Some x) = job_of_tool x.0 x.1
+
+-- ---- of any job
+
+-- --trace was given
+abbrev pub is_traced : Job → Bool
+is_traced (Wi stations min max dnet local timeout trace) = trace
+is_traced (Rp asked object_type instance property index numbers trace) = trace
+is_traced (Wp asked object_type instance property priority given index trace) = trace
+is_traced (Log asked instance from steps csv trace) = trace
+is_traced (Logs asked instances trace) = trace
+is_traced (job.Keep asked) = asked.trace
+is_traced (job.Kept asked) = false
+is_traced (Serve address count) = false
+is_traced Replay = false

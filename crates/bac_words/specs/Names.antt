@@ -4,7 +4,7 @@ use Rattle.clap.specs.Words.{Text}
 use Rattle.bac_words.specs.declared.word.Word.{Word}
 use Rattle.bac_words.specs.declared.word.Word.TheVariants.{Tool, Address, ObjectType, Instance, Property, Priority, Tag}
 use Rattle.bac_words.specs.declared.word.Word.TheVariants.{From, File, Index, Value, Min, Max, Steps, Count, Local}
-use Rattle.bac_words.specs.declared.word.Word.TheVariants.{Timeout, Retries, Dnet, Dadr, Csv, Stop}
+use Rattle.bac_words.specs.declared.word.Word.TheVariants.{Timeout, Retries, Dnet, Dadr, Csv, Stop, Numbers, Trace}
 
 -- a word's name in the help; an option's, without its --
 abbrev pub name_of : Word → Text
@@ -25,6 +25,8 @@ name_of Steps = codes "steps"
 name_of Count = codes "count"
 name_of Csv = codes "csv"
 name_of Stop = codes "stop"
+name_of Numbers = codes "numbers"
+name_of Trace = codes "trace"
 name_of Local = codes "local"
 name_of Timeout = codes "timeout"
 name_of Retries = codes "retries"
@@ -41,6 +43,8 @@ is_option Steps = true
 is_option Count = true
 is_option Csv = true
 is_option Stop = true
+is_option Numbers = true
+is_option Trace = true
 is_option Local = true
 is_option Timeout = true
 is_option Retries = true
@@ -55,6 +59,8 @@ is_number Address = false
 is_number File = false
 is_number Csv = false
 is_number Stop = false
+is_number Numbers = false
+is_number Trace = false
 is_number Local = false
 is_number Value = false
 is_number Dadr = false

@@ -151,7 +151,9 @@ fn with_timeout<'a>(alloc: Global, command: Command<'a>) -> Result<Command<'a>, 
     let help = "Wait for an answer: 1 to 60000 ms";
     let command = with(command, option_or(alloc, Word::Timeout, "MS", "3000", help))?;
     let help = "Our own address and port; any where it is left out";
-    with(command, option(alloc, Word::Local, "ADDRESS", help))
+    let command = with(command, option(alloc, Word::Local, "ADDRESS", help))?;
+    let help = "Tell each datagram on standard error, in hex digits";
+    with(command, flag(alloc, Word::Trace, help))
 }
 
 fn with_route<'a>(alloc: Global, command: Command<'a>) -> Result<Command<'a>, AllocError>
@@ -180,6 +182,8 @@ fn with_keeping<'a>(alloc: Global, command: Command<'a>) -> Result<Command<'a>, 
     let command = with(command, option(alloc, Word::Timeout, "MS", help))?;
     let help = "Our own address and port; any where it is left out";
     let command = with(command, option(alloc, Word::Local, "ADDRESS", help))?;
+    let help = "Tell each datagram on standard error, in hex digits";
+    let command = with(command, flag(alloc, Word::Trace, help))?;
     let help = "How many times to ask again: 0 to 10; 3 if left out";
     let command = with(command, option(alloc, Word::Retries, "N", help))?;
     with_route(alloc, command)
@@ -244,6 +248,8 @@ SET 0 is UTF-8 (with quotes or control characters), 1 DBCS, 2 JIS X 0208,
     let command = with_property(alloc, tool(alloc, "rp", about, example))?;
     let help = "An element of an array; 0 is the number of elements";
     let command = with(command, option(alloc, Word::Index, "N", help))?;
+    let help = "A REAL or a Double as a decimal number";
+    let command = with(command, flag(alloc, Word::Numbers, help))?;
     with_asking(alloc, command)
 }
 
@@ -312,6 +318,8 @@ printed with its class and its code:"
     let command = with(command, needed(alloc, Word::From, help))?;
     let help = "Batches of up to 100 records to fetch";
     let command = with(command, option_or(alloc, Word::Steps, "N", "1000", help))?;
+    let help = "As CSV, with a first row of names and no last line";
+    let command = with(command, flag(alloc, Word::Csv, help))?;
     with_asking(alloc, command)
 }
 

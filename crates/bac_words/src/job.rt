@@ -1,5 +1,8 @@
 //! What the words ask for.
 
+ghost use Rattle.std.specs.Prelude.{◌≡◌};
+ghost use Rattle.bac_words.specs.Jobs.{is_traced};
+
 use crate::addresses::Addresses;
 use crate::instances::Instances;
 use crate::name::Name;
@@ -74,6 +77,8 @@ pub struct Keep {
     pub instances: Names,
     /// They aren't asked any more.
     pub stop: bool,
+    /// Each datagram is told.
+    pub trace: bool,
     pub options: KeepOptions,
 }
 
@@ -91,6 +96,7 @@ pub struct Kept {
 }
 
 /// A tool with its words and options; an option that wasn't given has its default, or is absent.
+/// Each tool that asks over the network has `trace`: each datagram is told.
 #[derive(Debug, Drop)]
 pub enum Job {
     /// `bac replay`
@@ -104,14 +110,18 @@ pub enum Job {
         dnet: Option<u16>,
         local: Option<[u8; 6]>,
         timeout: u32,
+        trace: bool,
     },
-    /// `bac rp`: ReadProperty (clause 15.5).
+    /// `bac rp`: ReadProperty (clause 15.5), its REALs and Doubles as decimal numbers or as their
+    /// octets.
     Rp {
         asked: Asked,
         object_type: u16,
         instance: u32,
         property: u32,
         index: Option<u32>,
+        numbers: bool,
+        trace: bool,
     },
     /// `bac wp`: WriteProperty (clause 15.9); priority 0 is none.
     Wp {
@@ -122,19 +132,24 @@ pub enum Job {
         priority: u8,
         given: Given,
         index: Option<u32>,
+        trace: bool,
     },
-    /// `bac log`: ReadRange (clause 15.8), from a number or from the oldest record.
+    /// `bac log`: ReadRange (clause 15.8), from a number or from the oldest record; in lines or as
+    /// CSV.
     Log {
         asked: Asked,
         instance: u32,
         from: Option<u32>,
         steps: u32,
+        csv: bool,
+        trace: bool,
     },
     /// `bac logs`: what these trend logs say of themselves, or each of the Object_List if there are
     /// none (clause 12.25).
     Logs {
         asked: Asked,
         instances: Instances,
+        trace: bool,
     },
     /// `bac keep`
     Keep(Keep),
@@ -145,4 +160,21 @@ pub enum Job {
         address: [u8; 6],
         count: u32,
     },
+}
+
+impl Job {
+    /// Each datagram is to be told (`--trace`).
+    pub fn is_traced(&self) -> bool
+        ensures { result ≡ is_traced self.now }
+    {
+        match self {
+            Job::Wi { trace, .. } => *trace,
+            Job::Rp { trace, .. } => *trace,
+            Job::Wp { trace, .. } => *trace,
+            Job::Log { trace, .. } => *trace,
+            Job::Logs { trace, .. } => *trace,
+            Job::Keep(keep) => keep.trace,
+            Job::Kept(_) | Job::Serve { .. } | Job::Replay => false,
+        }
+    }
 }

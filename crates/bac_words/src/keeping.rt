@@ -3,14 +3,14 @@
 ghost use Rattle.std.specs.Prelude.{◌≡◌, IfOk, map, option_map};
 ghost use Rattle.clap.specs.Words.{rows_of, found_of};
 ghost use Rattle.bac_words.specs.Steps.{Makes};
-ghost use Rattle.bac_words.specs.Rows.{is_said, text_at, texts_at};
+ghost use Rattle.bac_words.specs.Rows.{text_at, texts_at};
 ghost use Rattle.bac_words.specs.Jobs.{file_at, keep_options_at, keep_at, kept_at, stop_beside};
 
 use crate::fault::WordsFault;
 use crate::job::{Job, Keep, KeepOptions, Kept};
 use crate::name::Name;
 use crate::names::Names;
-use crate::rows::text;
+use crate::rows::{is_said, text};
 use crate::word::Word;
 use clap::ArgMatches;
 use std::alloc::{AllocError, Global};
@@ -73,16 +73,6 @@ fn keep_options_at(alloc: Global, matches: &ArgMatches) -> Result<KeepOptions, A
     })
 }
 
-/// Whether an option without a value was given.
-fn is_said(matches: &ArgMatches, word: Word) -> bool
-    ensures { result ≡ is_said word (rows_of (found_of matches.now)) }
-{
-    match text(matches, word) {
-        Some(text) => text.as_bytes() == b"true".as_slice(),
-        None => false,
-    }
-}
-
 /// That logs are stopped is said of a device.
 fn stop_beside(address: &Option<Name>, stop: bool) -> Result<bool, Word>
     ensures { result ≡ stop_beside address.now stop }
@@ -101,12 +91,14 @@ pub(crate) fn keep(alloc: Global, matches: &ArgMatches) -> Result<Job, WordsFaul
     let address = name_at(alloc, matches, Word::Address)?;
     let stop = stop_beside(&address, is_said(matches, Word::Stop))?;
     let instances = names_at(alloc, matches, Word::Instance)?;
+    let trace = is_said(matches, Word::Trace);
     let options = keep_options_at(alloc, matches)?;
     Ok(Job::Keep(Keep {
         file,
         address,
         instances,
         stop,
+        trace,
         options,
     }))
 }

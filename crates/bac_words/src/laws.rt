@@ -13,42 +13,46 @@ ghost use Rattle.bac_words.specs.Lines.{Says, Mistakes, station, by_default, by_
 pub fn lines_say_jobs()
     ensures replay { Says (codes "bac replay") (Ok Replay) }
     ensures wi { Says (codes "bac wi 10.0.0.1 10.0.0.2:258 --min=5 --timeout=60000")
-        (Ok (Wi (Listed (station ∷ (10 ∷ 0 ∷ 0 ∷ 2 ∷ 1 ∷ 2 ∷ []) ∷ [])) (Some 5) None None None 60000)) }
+        (Ok (Wi (Listed (station ∷ (10 ∷ 0 ∷ 0 ∷ 2 ∷ 1 ∷ 2 ∷ []) ∷ [])) (Some 5) None None None 60000 false)) }
     ensures subnet { Says (codes "bac wi 10.0.0.1:258/30")
-        (Ok (Wi (Listed ((10 ∷ 0 ∷ 0 ∷ 1 ∷ 1 ∷ 2 ∷ []) ∷ (10 ∷ 0 ∷ 0 ∷ 2 ∷ 1 ∷ 2 ∷ []) ∷ [])) None None None None 3000)) }
+        (Ok (Wi (Listed ((10 ∷ 0 ∷ 0 ∷ 1 ∷ 1 ∷ 2 ∷ []) ∷ (10 ∷ 0 ∷ 0 ∷ 2 ∷ 1 ∷ 2 ∷ []) ∷ [])) None None None None 3000 false)) }
     ensures pair { Says (codes "bac wi 10.0.0.1/31")
-        (Ok (Wi (Listed ((10 ∷ 0 ∷ 0 ∷ 0 ∷ 186 ∷ 192 ∷ []) ∷ station ∷ [])) None None None None 3000)) }
-    ensures input { Says (codes "bac wi - --timeout=500") (Ok (Wi Input None None None None 500)) }
-    ensures rp { Says (codes "bac rp 10.0.0.1 8 123 77") (Ok (Rp by_default 8 123 77 None)) }
+        (Ok (Wi (Listed ((10 ∷ 0 ∷ 0 ∷ 0 ∷ 186 ∷ 192 ∷ []) ∷ station ∷ [])) None None None None 3000 false)) }
+    ensures input { Says (codes "bac wi - --timeout=500") (Ok (Wi Input None None None None 500 false)) }
+    ensures rp { Says (codes "bac rp 10.0.0.1 8 123 77") (Ok (Rp by_default 8 123 77 None false false)) }
     ensures wp { Says (codes "bac wp 10.0.0.1 45 1 85 16 3 --value=-5")
-        (Ok (Wp by_default 45 1 85 16 (Signed (negsuc 4)) None)) }
+        (Ok (Wp by_default 45 1 85 16 (Signed (negsuc 4)) None false)) }
     ensures null { Says (codes "bac wp 10.0.0.1 5 1 87 0 0 --index=8")
-        (Ok (Wp by_default 5 1 87 0 Null (Some 8))) }
-    ensures log { Says (codes "bac log 10.0.0.1 7 oldest") (Ok (Log by_default 7 None 1000)) }
-    ensures number { Says (codes "bac log 10.0.0.1 7 43") (Ok (Log by_default 7 (Some 43) 1000)) }
-    ensures logs { Says (codes "bac logs 10.0.0.1 7 0") (Ok (Logs by_default (7 ∷ 0 ∷ []))) }
-    ensures every { Says (codes "bac logs 10.0.0.1") (Ok (Logs by_default [])) }
+        (Ok (Wp by_default 5 1 87 0 Null (Some 8) false)) }
+    ensures log { Says (codes "bac log 10.0.0.1 7 oldest") (Ok (Log by_default 7 None 1000 false false)) }
+    ensures number { Says (codes "bac log 10.0.0.1 7 43") (Ok (Log by_default 7 (Some 43) 1000 false false)) }
+    ensures logs { Says (codes "bac logs 10.0.0.1 7 0") (Ok (Logs by_default (7 ∷ 0 ∷ []) false)) }
+    ensures every { Says (codes "bac logs 10.0.0.1") (Ok (Logs by_default [] false)) }
     ensures keep { Says (codes "bac keep a.db")
-        (Ok (Keep (record { file = codes "a.db"; address = None; instances = []; stop = false; options = no_options }))) }
+        (Ok (Keep (record { file = codes "a.db"; address = None; instances = []; stop = false; trace = false; options = no_options }))) }
     ensures named { Says (codes "bac keep a.db 10.0.0.1 1 2 --steps=5")
         (Ok (Keep (record {
           file = codes "a.db";
           address = Some (codes "10.0.0.1");
           instances = codes "1" ∷ codes "2" ∷ [];
           stop = false;
+          trace = false;
           options = record no_options { steps = Some (codes "5") };
         }))) }
     ensures stop { Says (codes "bac keep a.db --stop 10.0.0.1")
-        (Ok (Keep (record { file = codes "a.db"; address = Some (codes "10.0.0.1"); instances = []; stop = true; options = no_options }))) }
+        (Ok (Keep (record { file = codes "a.db"; address = Some (codes "10.0.0.1"); instances = []; stop = true; trace = false; options = no_options }))) }
     ensures kept { Says (codes "bac kept a.db 10.0.0.1")
         (Ok (Kept (record { file = codes "a.db"; address = Some (codes "10.0.0.1"); instance = None; csv = false }))) }
     ensures csv { Says (codes "bac kept a.db --csv")
         (Ok (Kept (record { file = codes "a.db"; address = None; instance = None; csv = true }))) }
     ensures serve { Says (codes "bac serve 10.0.0.1") (Ok (Serve station 4294967295)) }
+    ensures rows { Says (codes "bac log 10.0.0.1 7 43 --csv") (Ok (Log by_default 7 (Some 43) 1000 true false)) }
+    ensures numbers { Says (codes "bac rp 10.0.0.1 8 123 77 --numbers") (Ok (Rp by_default 8 123 77 None true false)) }
+    ensures traced { Says (codes "bac wi - --trace") (Ok (Wi Input None None None None 3000 true)) }
     ensures network { Says (codes "bac wi 10.0.0.1 --dnet=65535")
-        (Ok (Wi (Listed (station ∷ [])) None None (Some 65535) None 3000)) }
+        (Ok (Wi (Listed (station ∷ [])) None None (Some 65535) None 3000 false)) }
     ensures router { Says (codes "bac rp 10.0.0.1 8 123 77 --dnet=7 --dadr=0A01")
-        (Ok (Rp (by_way 7 (10 ∷ 1 ∷ [])) 8 123 77 None)) }
+        (Ok (Rp (by_way 7 (10 ∷ 1 ∷ [])) 8 123 77 None false false)) }
 {}
 
 /// Lines with a bad value, and the word that has it.
@@ -56,6 +60,9 @@ pub fn lines_say_bad_values()
     ensures input { Says (codes "bac wi - 10.0.0.1") (Err Address) }
     ensures host { Says (codes "bac rp 10.0.0.256 8 123 77") (Err Address) }
     ensures port { Says (codes "bac rp 10.0.0.1:0 8 123 77") (Err Address) }
+    ensures rows { Says (codes "bac log 10.0.0.1 7 43 --csv") (Ok (Log by_default 7 (Some 43) 1000 true false)) }
+    ensures numbers { Says (codes "bac rp 10.0.0.1 8 123 77 --numbers") (Ok (Rp by_default 8 123 77 None true false)) }
+    ensures traced { Says (codes "bac wi - --trace") (Ok (Wi Input None None None None 3000 true)) }
     ensures network { Says (codes "bac wi 10.0.0.0/19") (Err Address) }
     ensures one { Says (codes "bac rp 10.0.0.1/32 8 123 77") (Err Address) }
     ensures retries { Says (codes "bac rp 10.0.0.1 8 123 77 --retries=11") (Err Retries) }

@@ -3,7 +3,7 @@
 ghost use Rattle.std.specs.Prelude.{◌≡◌, map, option_map};
 ghost use Rattle.clap.specs.Words.{rows_of, found_of};
 ghost use Rattle.bac_words.specs.Steps.{Makes};
-ghost use Rattle.bac_words.specs.Rows.{is_long_text, text_at, number_at, maybe_number_at, address_at, local_at, addresses_in, is_input, stations_in, stations_at};
+ghost use Rattle.bac_words.specs.Rows.{is_long_text, is_said, text_at, number_at, maybe_number_at, address_at, local_at, addresses_in, is_input, stations_in, stations_at};
 
 use crate::address::address;
 use crate::addresses::Addresses;
@@ -20,6 +20,16 @@ pub(crate) fn text<'a>(matches: &ArgMatches<'a>, word: Word) -> Option<&'a str>
     ensures { option_map (λ s. s.now) result ≡ text_at word (rows_of (found_of matches.now)) }
 {
     matches.get_str(word.name())
+}
+
+/// Whether an option without a value was given.
+pub(crate) fn is_said(matches: &ArgMatches, word: Word) -> bool
+    ensures { result ≡ is_said word (rows_of (found_of matches.now)) }
+{
+    match text(matches, word) {
+        Some(text) => text.as_bytes() == b"true".as_slice(),
+        None => false,
+    }
 }
 
 /// Whether a word of a number is digits alone, and more than a number has.

@@ -12,7 +12,7 @@ use crate::job::{Asked, Given, Job};
 use crate::numbers::number;
 use crate::route::route_at;
 use crate::rows::{
-    address_at, local_at, maybe_number_at, maybe_short_at, number_at, octet_at, short_at,
+    address_at, is_said, local_at, maybe_number_at, maybe_short_at, number_at, octet_at, short_at,
     stations_at, text,
 };
 use crate::word::Word;
@@ -63,6 +63,7 @@ pub(crate) fn wi(alloc: Global, matches: &ArgMatches) -> Result<Job, WordsFault>
     let dnet = maybe_short_at(matches, Word::Dnet, 1)?;
     let local = local_at(matches)?;
     let timeout = number_at(matches, Word::Timeout, 1, 60000)?;
+    let trace = is_said(matches, Word::Trace);
     Ok(Job::Wi {
         stations,
         min,
@@ -70,6 +71,7 @@ pub(crate) fn wi(alloc: Global, matches: &ArgMatches) -> Result<Job, WordsFault>
         dnet,
         local,
         timeout,
+        trace,
     })
 }
 
@@ -82,12 +84,16 @@ pub(crate) fn rp(matches: &ArgMatches) -> Result<Job, Word>
     let instance = number_at(matches, Word::Instance, 0, MAX_INSTANCE)?;
     let property = number_at(matches, Word::Property, 0, u32::MAX)?;
     let index = maybe_number_at(matches, Word::Index, u32::MAX)?;
+    let numbers = is_said(matches, Word::Numbers);
+    let trace = is_said(matches, Word::Trace);
     Ok(Job::Rp {
         asked,
         object_type,
         instance,
         property,
         index,
+        numbers,
+        trace,
     })
 }
 
@@ -120,6 +126,7 @@ pub(crate) fn wp(alloc: Global, matches: &ArgMatches) -> Result<Job, WordsFault>
     let priority = octet_at(matches, Word::Priority, 16)?;
     let given = given_at(alloc, matches)?;
     let index = maybe_number_at(matches, Word::Index, u32::MAX)?;
+    let trace = is_said(matches, Word::Trace);
     Ok(Job::Wp {
         asked,
         object_type,
@@ -128,6 +135,7 @@ pub(crate) fn wp(alloc: Global, matches: &ArgMatches) -> Result<Job, WordsFault>
         priority,
         given,
         index,
+        trace,
     })
 }
 
@@ -160,11 +168,15 @@ pub(crate) fn log(matches: &ArgMatches) -> Result<Job, Word>
     let instance = number_at(matches, Word::Instance, 0, MAX_INSTANCE)?;
     let from = from_at(matches)?;
     let steps = number_at(matches, Word::Steps, 0, u32::MAX)?;
+    let csv = is_said(matches, Word::Csv);
+    let trace = is_said(matches, Word::Trace);
     Ok(Job::Log {
         asked,
         instance,
         from,
         steps,
+        csv,
+        trace,
     })
 }
 
@@ -174,7 +186,12 @@ pub(crate) fn logs(alloc: Global, matches: &ArgMatches) -> Result<Job, WordsFaul
 {
     let asked = asked_at(matches)?;
     let instances = instances_at(alloc, matches)?;
-    Ok(Job::Logs { asked, instances })
+    let trace = is_said(matches, Word::Trace);
+    Ok(Job::Logs {
+        asked,
+        instances,
+        trace,
+    })
 }
 
 #[tactic(auto, unfolding(crate::specs::Jobs::serve_at))]

@@ -42,6 +42,10 @@ pub enum Word {
     Csv,
     /// Logs aren't asked any more.
     Stop,
+    /// REALs and Doubles as decimal numbers.
+    Numbers,
+    /// Each datagram is told.
+    Trace,
     /// Our own address.
     Local,
     /// How long to wait for an answer, in milliseconds.
@@ -77,6 +81,8 @@ impl Word {
             Word::Count => "count",
             Word::Csv => "csv",
             Word::Stop => "stop",
+            Word::Numbers => "numbers",
+            Word::Trace => "trace",
             Word::Local => "local",
             Word::Timeout => "timeout",
             Word::Retries => "retries",
@@ -99,6 +105,8 @@ impl Word {
                 | Word::Count
                 | Word::Csv
                 | Word::Stop
+                | Word::Numbers
+                | Word::Trace
                 | Word::Local
                 | Word::Timeout
                 | Word::Retries
@@ -118,6 +126,8 @@ impl Word {
                 | Word::File
                 | Word::Csv
                 | Word::Stop
+                | Word::Numbers
+                | Word::Trace
                 | Word::Local
                 | Word::Value
                 | Word::Dadr

@@ -16,6 +16,7 @@ use Rattle.bac_walk.proofs.TransactedRuns.{brought_early, brought_joins, no_brou
 use Rattle.bac_walk.proofs.Runs.{ends_run, goes_on, no_run, not_limit}
 use Rattle.bac_walk.proofs.Told.{told_same}
 use Rattle.bac_query.specs.Fetching.{EndsAs, Fetching, IsLeftBy, NextIs, PrintsItems, TellsRun}
+use Rattle.bac_query.specs.declared.layout.Layout.TheVariants.{Lines}
 use Rattle.bac_query.proofs.Delivered.{delivered, ended_by, ends_as, ends_refused, fetched, more_lines, next_is, not_stopped, refused_by, run_on, run_whole}
 use Rattle.bac_query.proofs.CameOver.{by_over, fetches_by, left_whole, tells_end, tells_refused}
 use Rattle.bac_query.proofs.fetching.fetch_log.Goals as goal
@@ -61,9 +62,9 @@ returns-in_err-print-clause-printed g c =
     (g.L.LogLink.failures c.args.link.now) (g.L.LogLink.failures c.loop-done.link) (g.L.LogLink.failures c.deliver_lines.new.link)
     c.args.walk c.loop-done.walk c.deliver_lines.new.walk c.loop-done.done c.deliver_lines.result v.0 step.0 v.1 v.2 v.3 v.5 step.2 in
     let e : c.from_residual.result ≡ Err c.in_err-print.field-0.0 = search rules in
-    let P : Fetching → Type 0 = λ r. PrintsItems (v.0 ++ step.0) r (g.W.Write.contents c.args.out.now) (g.W.Write.contents c.print.new.out) in
+    let P : Fetching → Type 0 = λ r. PrintsItems Lines (v.0 ++ step.0) r (g.W.Write.contents c.args.out.now) (g.W.Write.contents c.print.new.out) in
     let Q : Fetching → Type 0 = λ r. (t : ℕ) → c.deliver_lines.new.walk.next ≡ sequence_number t → NextIs r t in
-    let S : Fetching → Type 0 = λ r. EndsAs (v.0 ++ step.0) c.args.steps (c.loop-done.done + 1) c.deliver_lines.result c.deliver_lines.new.walk r
+    let S : Fetching → Type 0 = λ r. EndsAs Lines (v.0 ++ step.0) c.args.steps (c.loop-done.done + 1) c.deliver_lines.result c.deliver_lines.new.walk r
     (g.W.Write.contents c.args.out.now) (g.W.Write.contents c.print.new.out) in (
       v.0 ++ step.0,
       subst P (sym e) (refused_by v.0 step.0 c.deref.result.now c.in_err-print.field-0.0 _ _ _ same v.4 c.in_err-print.ensures),
@@ -189,7 +190,7 @@ returns-in-Stopped-clause-transacted g c =
     let B : Ended → Type 0 = λ e. BroughtBy g.L.LogLink.asks u c.loop-done.link c.loop-done.walk 1 bring.2.0 bring.0 e c.deliver_lines.new.walk z c.deliver_lines.new.link in
     fetches_by g.L.LogLink.asks c.args.transactions.now u z c.args.link.now c.loop-done.link c.deliver_lines.new.link c.args.walk c.loop-done.walk
     c.args.steps c.loop-done.done w.0 StepLimit c.end.result (g.W.Write.contents c.args.out.now) (g.W.Write.contents c.end.new.out) w.2
-    (tells_end (λ cause. IsLeftBy g.L.LogLink.asks u c.loop-done.link c.loop-done.walk z c.deliver_lines.new.link cause)
+    (tells_end Lines (λ cause. IsLeftBy g.L.LogLink.asks u c.loop-done.link c.loop-done.walk z c.deliver_lines.new.link cause)
     w.0 c.args.steps c.loop-done.done StepLimit c.loop-done.walk why.Memory c.next_number-before.result c.end.result _ _ _ (omega arith, refl) c.next_number-before.ensures.next
     (bring.2.0, bring.0, c.deliver_lines.new.walk, subst B c.in-Stopped.is bring.2.1) w.1 c.end.ensures.prints)
 
@@ -208,7 +209,7 @@ returns-in_err-print-clause-transacted g c =
     c.args.walk c.loop-done.walk c.deliver_lines.new.walk c.loop-done.done 1 w.0 bring.0 c.deliver_lines.result w.2 bring.2 in
     let e : c.from_residual.result ≡ Err c.in_err-print.field-0.0 = search rules in
     let left : Why → Type 0 = λ cause. IsLeftBy g.L.LogLink.asks z c.deliver_lines.new.link c.deliver_lines.new.walk z c.deliver_lines.new.link cause in
-    let T : Fetching → Type 0 = λ r. TellsRun left (w.0 ++ bring.0) c.args.steps (c.loop-done.done + 1) c.deliver_lines.result c.deliver_lines.new.walk r
+    let T : Fetching → Type 0 = λ r. TellsRun Lines left (w.0 ++ bring.0) c.args.steps (c.loop-done.done + 1) c.deliver_lines.result c.deliver_lines.new.walk r
     (g.W.Write.contents c.args.out.now) (g.W.Write.contents c.print.new.out) in
     fetches_by g.L.LogLink.asks t z z c.args.link.now c.deliver_lines.new.link c.deliver_lines.new.link c.args.walk c.deliver_lines.new.walk
     c.args.steps (c.loop-done.done + 1) (w.0 ++ bring.0) c.deliver_lines.result c.from_residual.result (g.W.Write.contents c.args.out.now) (g.W.Write.contents c.print.new.out) joined
@@ -234,7 +235,7 @@ returns-in-Some-clause-transacted g c =
     c.args.steps c.args.steps (w.0 ++ bring.0) c.deliver_lines.result c.end-in-Some.result (g.W.Write.contents c.args.out.now) (g.W.Write.contents c.end-in-Some.new.out)
     (brought_early g.L.LogLink.asks t z c.args.link.now c.deliver_lines.new.link c.args.walk c.deliver_lines.new.walk (c.loop-done.done + 1) c.args.steps
     (w.0 ++ bring.0) c.deliver_lines.result (not_limit c.deliver_lines.result c.in-Some.why some) (omega arith) joined)
-    (tells_end (λ cause. IsLeftBy g.L.LogLink.asks z c.deliver_lines.new.link c.deliver_lines.new.walk z c.deliver_lines.new.link cause)
+    (tells_end Lines (λ cause. IsLeftBy g.L.LogLink.asks z c.deliver_lines.new.link c.deliver_lines.new.walk z c.deliver_lines.new.link cause)
     (w.0 ++ bring.0) c.args.steps c.args.steps c.deliver_lines.result c.deliver_lines.new.walk c.in-Some.why c.next_number.result c.end-in-Some.result _ _ _
     (ends_run c.deliver_lines.result c.in-Some.why c.args.steps on some) c.next_number.ensures.next
     (left_whole g.L.LogLink.asks z c.deliver_lines.new.link c.deliver_lines.new.walk c.deliver_lines.result c.in-Some.why on some)
@@ -251,7 +252,7 @@ returns-clause-transacted g c =
     let u = c.loop-done.transactions in
     fetches_by g.L.LogLink.asks c.args.transactions.now u u c.args.link.now c.loop-done.link c.loop-done.link c.args.walk c.loop-done.walk
     c.args.steps c.loop-done.done w.0 StepLimit c.end-2.result (g.W.Write.contents c.args.out.now) (g.W.Write.contents c.end-2.new.out) w.2
-    (tells_end (λ cause. IsLeftBy g.L.LogLink.asks u c.loop-done.link c.loop-done.walk u c.loop-done.link cause)
+    (tells_end Lines (λ cause. IsLeftBy g.L.LogLink.asks u c.loop-done.link c.loop-done.walk u c.loop-done.link cause)
     w.0 c.args.steps c.loop-done.done StepLimit c.loop-done.walk why.StepLimit c.next_number-2.result c.end-2.result _ _ _ (omega arith, refl) c.next_number-2.ensures.next (refl, refl) w.1 c.end-2.ensures.prints)
 
 pub returns-clause-came : goal.returns-clause-came

@@ -1,26 +1,27 @@
-use Rattle.std.proofs.Common.{Bool, false, ℕ, ◌≡◌, ◌≢◌, ◌+◌, ◌++◌, List, [], Some, refl, sym, ap, subst, ◌∙◌, arith}
-use Rattle.std.proofs.KnownBytes.{Appends-kept, Appends-nil}
+use Rattle.std.proofs.Common.{Bool, false, ℕ, ◌≡◌, ◌≢◌, ◌+◌, ◌++◌, List, [], Some, Err, refl, sym, ap, subst, ◌∙◌, arith}
 use Rattle.bac_link.specs.Path.{towards}
 use Rattle.bac_link.specs.declared.item.Item.{Item}
 use Rattle.bac_ports.specs.declared.udp_link.UdpLink.{UdpLink}
-use Rattle.bac_query.specs.Items.{items_text}
 use Rattle.bac_walk.specs.Outcomes.{why_of}
 use Rattle.bac_walk.specs.declared.outcome.Ended.{Ended}
 use Rattle.bac_walk.specs.declared.outcome.Ended.TheVariants.{StepLimit, Stopped}
 use Rattle.bac_walk.specs.declared.outcome.Why.TheVariants as why
 use Rattle.bac_walk.proofs.Runs.{ends_run, goes_on, not_limit}
 use Rattle.bac_walk.proofs.Told.{Asking}
-use Rattle.bac_query.specs.Ahead.{IsRunOver, PrintsLast, port_asks}
+use Rattle.bac_query.specs.Ahead.{IsRunOver, PrintsLast, PrintsLeft, port_asks}
+use Rattle.bac_query.specs.declared.layout.Layout.{Layout}
 use Rattle.bac_walk.specs.declared.outcome.WalkFault.TheVariants.{BadReply}
 use Rattle.bac_query.specs.Flaws.{IsBadlyFetched}
 use Rattle.bac_query.proofs.Delivered.{not_stopped}
 use Rattle.bac_query.proofs.Flaws.{badly, last_is, no_flaw, no_last_flaw, why_bad}
-use Rattle.bac_query.proofs.RunsAhead.{Learns, fails, finishes, limit_on, more_printed, none_over, over_early, over_joins, whole_ahead, without_lines}
+use Rattle.bac_query.proofs.Laid.{laid_kept, laid_none, laid_then}
+use Rattle.bac_query.proofs.RunsAhead.{Learns, fails, finishes, limit_on, none_over, over_early, over_joins, whole_ahead, without_lines}
 use Rattle.bac_query.proofs.fetching_ahead.fetch.Goals as goal
 
 pub loop-done-init : goal.loop-done-init
 loop-done-init g c =
     let asks : Asking (UdpLink g.row.P.Denot) = port_asks g.P.Port.sends g.P.Port.receives in
+    let y = c.args.ahead.now.layout in
     let t = c.args.transactions.now in
     let link = c.args.ahead.now.link.now in
     let failures = link.failures in
@@ -31,17 +32,19 @@ loop-done-init g c =
     record {
       well = c.requires.well;
       same_link = refl;
+      layout = refl;
       same_out = refl;
       retries = refl;
       route = refl;
       begun = omega arith;
       log = refl;
-      so_far = ([], 0, 0, t, link, c.args.walk, c.args.ahead.now.said_more, subst B c.requires.unsaid none, subst P (sym c.requires.none) none, omega arith, omega arith, c.next_number-told.ensures.next, Appends-nil old);
+      so_far = ([], 0, 0, t, link, c.args.walk, c.args.ahead.now.said_more, subst B c.requires.unsaid none, subst P (sym c.requires.none) none, omega arith, omega arith, c.next_number-told.ensures.next, laid_none y old);
     }
 
 pub returns-in-Err-Memory-clause-printed : goal.returns-in-Err-Memory-clause-printed
 returns-in-Err-Memory-clause-printed g c =
     let asks : Asking (UdpLink g.row.P.Denot) = port_asks g.P.Port.sends g.P.Port.receives in
+    let y = c.args.ahead.now.layout in
     let t = c.args.transactions.now in
     let link = c.args.ahead.now.link.now in
     let failures = link.failures in
@@ -57,17 +60,18 @@ returns-in-Err-Memory-clause-printed g c =
     let z = c.turn.new.transactions in
     let whole = over_joins asks t u c.loop-done.transactions link mid half c.args.walk w c.loop-done.walk n k items left StepLimit false was c.loop-done.ahead.said_more first last in
     let kept = rw (c.in-Err-Memory.is, c.in-Err-Memory.field-0-is) at c.turn.ensures.prints in
-    let P : UdpLink g.row.P.Denot → Type 0 = λ x. Learns asks t link c.args.walk c.args.steps c.end.result failures x.failures z x old (g.W.Write.contents c.end.new.self.out.now) in
+    let P : UdpLink g.row.P.Denot → Type 0 = λ x. Learns y asks t link c.args.walk c.args.steps c.end.result failures x.failures z x old (g.W.Write.contents c.end.new.self.out.now) in
     let rest = over_joins asks u v z mid half new w c.loop-done.walk c.turn.new.walk k 1 left brought ended was c.loop-done.ahead.said_more c.turn.new.ahead.said_more last ran in
-    let both = without_lines asks t u z link mid new c.args.walk w c.turn.new.walk c.args.steps n (k + 1) items (left ++ brought) ended c.loop-done.told c.end.result failures new.failures
+    let both = without_lines y asks t u z link mid new c.args.walk w c.turn.new.walk c.args.steps n (k + 1) items (left ++ brought) ended c.loop-done.told c.end.result failures new.failures
     old out (g.W.Write.contents c.end.new.self.out.now) was c.turn.new.ahead.said_more c.turn.new.ahead.said_more first (omega (arith, sum, c.loop-done-test.true)) told rest (omega (arith, one))
-    (Appends-kept old now out (items_text items) printed kept.1) c.end.ensures.prints c.end.ensures.more in
+    (laid_kept y items old now out printed kept.1) (rw (c.turn.ensures.layout, c.loop-done.invariant.layout) at c.end.ensures.prints) c.end.ensures.more in
     let all = subst P (sym c.end.ensures.link) both in
     all.1
 
 pub returns-in-Err-Memory-clause-came : goal.returns-in-Err-Memory-clause-came
 returns-in-Err-Memory-clause-came g c =
     let asks : Asking (UdpLink g.row.P.Denot) = port_asks g.P.Port.sends g.P.Port.receives in
+    let y = c.args.ahead.now.layout in
     let t = c.args.transactions.now in
     let link = c.args.ahead.now.link.now in
     let failures = link.failures in
@@ -83,17 +87,18 @@ returns-in-Err-Memory-clause-came g c =
     let z = c.turn.new.transactions in
     let whole = over_joins asks t u c.loop-done.transactions link mid half c.args.walk w c.loop-done.walk n k items left StepLimit false was c.loop-done.ahead.said_more first last in
     let kept = rw (c.in-Err-Memory.is, c.in-Err-Memory.field-0-is) at c.turn.ensures.prints in
-    let P : UdpLink g.row.P.Denot → Type 0 = λ x. Learns asks t link c.args.walk c.args.steps c.end.result failures x.failures z x old (g.W.Write.contents c.end.new.self.out.now) in
+    let P : UdpLink g.row.P.Denot → Type 0 = λ x. Learns y asks t link c.args.walk c.args.steps c.end.result failures x.failures z x old (g.W.Write.contents c.end.new.self.out.now) in
     let rest = over_joins asks u v z mid half new w c.loop-done.walk c.turn.new.walk k 1 left brought ended was c.loop-done.ahead.said_more c.turn.new.ahead.said_more last ran in
-    let both = without_lines asks t u z link mid new c.args.walk w c.turn.new.walk c.args.steps n (k + 1) items (left ++ brought) ended c.loop-done.told c.end.result failures new.failures
+    let both = without_lines y asks t u z link mid new c.args.walk w c.turn.new.walk c.args.steps n (k + 1) items (left ++ brought) ended c.loop-done.told c.end.result failures new.failures
     old out (g.W.Write.contents c.end.new.self.out.now) was c.turn.new.ahead.said_more c.turn.new.ahead.said_more first (omega (arith, sum, c.loop-done-test.true)) told rest (omega (arith, one))
-    (Appends-kept old now out (items_text items) printed kept.1) c.end.ensures.prints c.end.ensures.more in
+    (laid_kept y items old now out printed kept.1) (rw (c.turn.ensures.layout, c.loop-done.invariant.layout) at c.end.ensures.prints) c.end.ensures.more in
     let all = subst P (sym c.end.ensures.link) both in
     all.0
 
 pub returns-in-Err : goal.returns-in-Err
 returns-in-Err g c =
     let asks : Asking (UdpLink g.row.P.Denot) = port_asks g.P.Port.sends g.P.Port.receives in
+    let y = c.args.ahead.now.layout in
     let t = c.args.transactions.now in
     let link = c.args.ahead.now.link.now in
     let failures = link.failures in
@@ -108,13 +113,15 @@ returns-in-Err g c =
     let v = c.loop-done.transactions in
     let z = c.turn.new.transactions in
     let whole = over_joins asks t u c.loop-done.transactions link mid half c.args.walk w c.loop-done.walk n k items left StepLimit false was c.loop-done.ahead.said_more first last in
-    let all = fails asks t u v z link mid half new c.args.walk w c.loop-done.walk c.turn.new.walk c.args.steps n k items left brought ended c.loop-done.told c.in-Err.fault failures new.failures
-    old now out was c.loop-done.ahead.said_more c.turn.new.ahead.said_more first last ran (omega (arith, sum, c.loop-done-test.true)) one told printed (rw c.in-Err.is at c.turn.ensures.prints) in
+    let L : Layout → Type 0 = λ l. PrintsLeft {A = Ended} l left (Err c.in-Err.fault) now out in
+    let all = fails y asks t u v z link mid half new c.args.walk w c.loop-done.walk c.turn.new.walk c.args.steps n k items left brought ended c.loop-done.told c.in-Err.fault failures new.failures
+    old now out was c.loop-done.ahead.said_more c.turn.new.ahead.said_more first last ran (omega (arith, sum, c.loop-done-test.true)) one told printed (subst L c.loop-done.invariant.layout (rw c.in-Err.is at c.turn.ensures.prints)) in
     record { printed = all.1; came = all.0; begun = omega (arith, c.turn.ensures.begun, c.loop-done.invariant.begun, c.loop-done-test.true); flaw = tt; same_link = c.turn.ensures.same_link ∙ c.loop-done.invariant.same_link; same_out = c.turn.ensures.same_out ∙ c.loop-done.invariant.same_out }
 
 pub returns-in-Stopped-clause-printed : goal.returns-in-Stopped-clause-printed
 returns-in-Stopped-clause-printed g c =
     let asks : Asking (UdpLink g.row.P.Denot) = port_asks g.P.Port.sends g.P.Port.receives in
+    let y = c.args.ahead.now.layout in
     let t = c.args.transactions.now in
     let link = c.args.ahead.now.link.now in
     let failures = link.failures in
@@ -129,18 +136,19 @@ returns-in-Stopped-clause-printed g c =
     let v = c.loop-done.transactions in
     let z = c.turn.new.transactions in
     let whole = over_joins asks t u c.loop-done.transactions link mid half c.args.walk w c.loop-done.walk n k items left StepLimit false was c.loop-done.ahead.said_more first last in
-    let lines = more_printed items left old now out printed (rw c.in-Ok.is at c.turn.ensures.prints) in
+    let lines = laid_then y items left old now out printed (rw (c.in-Ok.is, c.loop-done.invariant.layout) at c.turn.ensures.prints) in
     let ok = rw c.in-Ok.is at is in
-    let P : UdpLink g.row.P.Denot → Type 0 = λ x. Learns asks t link c.args.walk c.args.steps c.end-in-Stopped.result failures x.failures z x old (g.W.Write.contents c.end-in-Stopped.new.self.out.now) in
-    let both = without_lines asks t v z link half new c.args.walk c.loop-done.walk c.turn.new.walk c.args.steps (n + k) 1 (items ++ left) brought ended c.next_number-before.result
+    let P : UdpLink g.row.P.Denot → Type 0 = λ x. Learns y asks t link c.args.walk c.args.steps c.end-in-Stopped.result failures x.failures z x old (g.W.Write.contents c.end-in-Stopped.new.self.out.now) in
+    let both = without_lines y asks t v z link half new c.args.walk c.loop-done.walk c.turn.new.walk c.args.steps (n + k) 1 (items ++ left) brought ended c.next_number-before.result
     c.end-in-Stopped.result failures new.failures old out (g.W.Write.contents c.end-in-Stopped.new.self.out.now) c.loop-done.ahead.said_more c.turn.new.ahead.said_more c.turn.new.ahead.said_more whole (omega (arith, sum, c.loop-done-test.true)) c.next_number-before.ensures.next ran (omega arith)
-    lines c.end-in-Stopped.ensures.prints c.end-in-Stopped.ensures.more in
+    lines (rw (c.turn.ensures.layout, c.loop-done.invariant.layout) at c.end-in-Stopped.ensures.prints) c.end-in-Stopped.ensures.more in
     let all = subst P (sym c.end-in-Stopped.ensures.link) both in
     all.1
 
 pub returns-in-Stopped-clause-came : goal.returns-in-Stopped-clause-came
 returns-in-Stopped-clause-came g c =
     let asks : Asking (UdpLink g.row.P.Denot) = port_asks g.P.Port.sends g.P.Port.receives in
+    let y = c.args.ahead.now.layout in
     let t = c.args.transactions.now in
     let link = c.args.ahead.now.link.now in
     let failures = link.failures in
@@ -155,18 +163,19 @@ returns-in-Stopped-clause-came g c =
     let v = c.loop-done.transactions in
     let z = c.turn.new.transactions in
     let whole = over_joins asks t u c.loop-done.transactions link mid half c.args.walk w c.loop-done.walk n k items left StepLimit false was c.loop-done.ahead.said_more first last in
-    let lines = more_printed items left old now out printed (rw c.in-Ok.is at c.turn.ensures.prints) in
+    let lines = laid_then y items left old now out printed (rw (c.in-Ok.is, c.loop-done.invariant.layout) at c.turn.ensures.prints) in
     let ok = rw c.in-Ok.is at is in
-    let P : UdpLink g.row.P.Denot → Type 0 = λ x. Learns asks t link c.args.walk c.args.steps c.end-in-Stopped.result failures x.failures z x old (g.W.Write.contents c.end-in-Stopped.new.self.out.now) in
-    let both = without_lines asks t v z link half new c.args.walk c.loop-done.walk c.turn.new.walk c.args.steps (n + k) 1 (items ++ left) brought ended c.next_number-before.result
+    let P : UdpLink g.row.P.Denot → Type 0 = λ x. Learns y asks t link c.args.walk c.args.steps c.end-in-Stopped.result failures x.failures z x old (g.W.Write.contents c.end-in-Stopped.new.self.out.now) in
+    let both = without_lines y asks t v z link half new c.args.walk c.loop-done.walk c.turn.new.walk c.args.steps (n + k) 1 (items ++ left) brought ended c.next_number-before.result
     c.end-in-Stopped.result failures new.failures old out (g.W.Write.contents c.end-in-Stopped.new.self.out.now) c.loop-done.ahead.said_more c.turn.new.ahead.said_more c.turn.new.ahead.said_more whole (omega (arith, sum, c.loop-done-test.true)) c.next_number-before.ensures.next ran (omega arith)
-    lines c.end-in-Stopped.ensures.prints c.end-in-Stopped.ensures.more in
+    lines (rw (c.turn.ensures.layout, c.loop-done.invariant.layout) at c.end-in-Stopped.ensures.prints) c.end-in-Stopped.ensures.more in
     let all = subst P (sym c.end-in-Stopped.ensures.link) both in
     all.0
 
 pub returns-in-Some : goal.returns-in-Some
 returns-in-Some g c =
     let asks : Asking (UdpLink g.row.P.Denot) = port_asks g.P.Port.sends g.P.Port.receives in
+    let y = c.args.ahead.now.layout in
     let t = c.args.transactions.now in
     let link = c.args.ahead.now.link.now in
     let failures = link.failures in
@@ -181,19 +190,19 @@ returns-in-Some g c =
     let v = c.loop-done.transactions in
     let z = c.turn.new.transactions in
     let whole = over_joins asks t u c.loop-done.transactions link mid half c.args.walk w c.loop-done.walk n k items left StepLimit false was c.loop-done.ahead.said_more first last in
-    let lines = more_printed items left old now out printed (rw c.in-Ok.is at c.turn.ensures.prints) in
+    let lines = laid_then y items left old now out printed (rw (c.in-Ok.is, c.loop-done.invariant.layout) at c.turn.ensures.prints) in
     let ok = rw c.in-Ok.is at is in
     let on : ended ≢ Stopped = λ e. c.in_default.not-Stopped (ok.0 ∙ e) in
     let some : why_of ended ≡ Some c.in-Some.why = sym (ap why_of ok.0) ∙ sym c.why-why.ensures ∙ c.in-Some.is in
     let end = g.W.Write.contents c.finish.new.self.out.now in
-    let P : UdpLink g.row.P.Denot → Type 0 = λ x. Learns asks t link c.args.walk c.args.steps c.finish.result failures x.failures z x old (g.W.Write.contents c.finish.new.self.out.now) in
-    let Q : List Item → Type 0 = λ l. PrintsLast l c.in-Some.why c.next_number.result c.next_number-before.result c.finish.result out end in
+    let P : UdpLink g.row.P.Denot → Type 0 = λ x. Learns y asks t link c.args.walk c.args.steps c.finish.result failures x.failures z x old (g.W.Write.contents c.finish.new.self.out.now) in
+    let Q : List Item → Type 0 = λ l. PrintsLast y l c.in-Some.why c.next_number.result c.next_number-before.result c.finish.result out end in
     let more = over_joins asks t v z link half new c.args.walk c.loop-done.walk c.turn.new.walk (n + k) 1 (items ++ left) brought ended false c.loop-done.ahead.said_more c.turn.new.ahead.said_more whole ran in
     let early = over_early asks t z link new c.args.walk c.turn.new.walk (n + k + 1) c.args.steps ((items ++ left) ++ brought) ended false c.turn.new.ahead.said_more (not_limit ended c.in-Some.why some) (omega (arith, sum, c.loop-done-test.true)) more in
-    let both = finishes asks t v z link half new c.args.walk c.loop-done.walk c.turn.new.walk c.args.steps (n + k) 1 c.args.steps (items ++ left) brought ended c.in-Some.why c.next_number.result
+    let both = finishes y asks t v z link half new c.args.walk c.loop-done.walk c.turn.new.walk c.args.steps (n + k) 1 c.args.steps (items ++ left) brought ended c.in-Some.why c.next_number.result
     c.next_number-before.result c.finish.result failures new.failures old out end c.loop-done.ahead.said_more c.turn.new.ahead.said_more whole ran on early c.finish.ensures.more (omega arith) (ends_run ended c.in-Some.why c.args.steps (not_stopped ended on) some)
     (whole_ahead asks z new c.turn.new.walk ended c.in-Some.why (not_stopped ended on) some) (omega (arith, sum, c.loop-done-test.true)) (omega arith) c.next_number.ensures.next
-    c.next_number-before.ensures.next lines (subst Q (ok.1 on) c.finish.ensures.prints) in
+    c.next_number-before.ensures.next lines (subst Q (ok.1 on) (rw (c.turn.ensures.layout, c.loop-done.invariant.layout) at c.finish.ensures.prints)) in
     let all = subst P (sym c.finish.ensures.link) both in
     let flawed = rw c.in-Ok.is at c.turn.ensures.flaw in
     let N : ℕ → Type 0 = λ next. IsBadlyFetched asks (towards t.route) t.retries c.args.walk.log next c.finish.new.self.flaw c.finish.new.self.link.now in
@@ -201,12 +210,13 @@ returns-in-Some g c =
     badly asks (towards t.route) (towards c.loop-done.transactions.route) t.retries c.loop-done.transactions.retries c.turn.new.walk c.args.walk.log c.next_number.result c.finish.new.self.flaw
     c.turn.new.ahead.flaw c.finish.new.self.link.now new (ap towards c.loop-done.invariant.route) c.loop-done.invariant.retries (c.turn.ensures.log ∙ c.loop-done.invariant.log)
     c.next_number.ensures.next c.finish.ensures.flaw c.finish.ensures.link (flawed (ok.0 ∙ why_bad ended (some ∙ ap Some bad))) in
-    let told_flaw = last_is c.turn.new.ahead.left.now.items c.in-Some.why c.next_number.result c.next_number-before.result c.finish.result _ _ N badly_told c.finish.ensures.prints in
+    let told_flaw = last_is c.turn.new.ahead.layout c.turn.new.ahead.left.now.items c.in-Some.why c.next_number.result c.next_number-before.result c.finish.result _ _ N badly_told c.finish.ensures.prints in
     record { printed = all.1; came = all.0; begun = omega (arith, c.turn.ensures.begun, c.loop-done.invariant.begun, c.loop-done-test.true); flaw = told_flaw; same_link = c.finish.ensures.same_link ∙ c.turn.ensures.same_link ∙ c.loop-done.invariant.same_link; same_out = c.finish.ensures.same_out ∙ c.turn.ensures.same_out ∙ c.loop-done.invariant.same_out }
 
 pub loop-done-preserved : goal.loop-done-preserved
 loop-done-preserved g c =
     let asks : Asking (UdpLink g.row.P.Denot) = port_asks g.P.Port.sends g.P.Port.receives in
+    let y = c.args.ahead.now.layout in
     let t = c.args.transactions.now in
     let link = c.args.ahead.now.link.now in
     let failures = link.failures in
@@ -221,7 +231,7 @@ loop-done-preserved g c =
     let v = c.loop-done.transactions in
     let z = c.turn.new.transactions in
     let whole = over_joins asks t u c.loop-done.transactions link mid half c.args.walk w c.loop-done.walk n k items left StepLimit false was c.loop-done.ahead.said_more first last in
-    let lines = more_printed items left old now out printed (rw c.in-Ok.is at c.turn.ensures.prints) in
+    let lines = laid_then y items left old now out printed (rw (c.in-Ok.is, c.loop-done.invariant.layout) at c.turn.ensures.prints) in
     let ok = rw c.in-Ok.is at is in
     let on : ended ≢ Stopped = λ e. c.in_default.not-Stopped (ok.0 ∙ e) in
     let limit : ended ≡ StepLimit = goes_on ended (sym (ap why_of ok.0) ∙ sym c.why-why.ensures ∙ c.in_default-why.is) in
@@ -230,6 +240,7 @@ loop-done-preserved g c =
     record {
       well = rw c.in-Ok.is at c.turn.ensures.well;
       same_link = c.turn.ensures.same_link ∙ c.loop-done.invariant.same_link;
+      layout = c.turn.ensures.layout ∙ c.loop-done.invariant.layout;
       same_out = c.turn.ensures.same_out ∙ c.loop-done.invariant.same_out;
       retries = c.turn.ensures.retries ∙ c.loop-done.invariant.retries;
       route = c.turn.ensures.route ∙ c.loop-done.invariant.route;
@@ -255,6 +266,7 @@ loop-done-preserved g c =
 pub returns-clause-printed : goal.returns-clause-printed
 returns-clause-printed g c =
     let asks : Asking (UdpLink g.row.P.Denot) = port_asks g.P.Port.sends g.P.Port.receives in
+    let y = c.args.ahead.now.layout in
     let t = c.args.transactions.now in
     let link = c.args.ahead.now.link.now in
     let failures = link.failures in
@@ -265,15 +277,16 @@ returns-clause-printed g c =
     let now = g.W.Write.contents c.loop-done.ahead.out.now in
     let whole = over_joins asks t u c.loop-done.transactions link mid half c.args.walk w c.loop-done.walk n k items left StepLimit false was c.loop-done.ahead.said_more first last in
     let end = g.W.Write.contents c.finish-2.new.self.out.now in
-    let P : UdpLink g.row.P.Denot → Type 0 = λ x. Learns asks t link c.args.walk c.args.steps c.finish-2.result failures x.failures c.loop-done.transactions x old (g.W.Write.contents c.finish-2.new.self.out.now) in
-    let both = finishes asks t u c.loop-done.transactions link mid half c.args.walk w c.loop-done.walk c.args.steps n k (n + k) items left StepLimit why.StepLimit c.next_number-2.result c.loop-done.told
-    c.finish-2.result failures half.failures old now end was c.loop-done.ahead.said_more first last limit_on whole c.finish-2.ensures.more (omega (arith, sum)) (omega (arith, sum), refl) (refl, refl) (omega (arith, sum)) one c.next_number-2.ensures.next told printed c.finish-2.ensures.prints in
+    let P : UdpLink g.row.P.Denot → Type 0 = λ x. Learns y asks t link c.args.walk c.args.steps c.finish-2.result failures x.failures c.loop-done.transactions x old (g.W.Write.contents c.finish-2.new.self.out.now) in
+    let both = finishes y asks t u c.loop-done.transactions link mid half c.args.walk w c.loop-done.walk c.args.steps n k (n + k) items left StepLimit why.StepLimit c.next_number-2.result c.loop-done.told
+    c.finish-2.result failures half.failures old now end was c.loop-done.ahead.said_more first last limit_on whole c.finish-2.ensures.more (omega (arith, sum)) (omega (arith, sum), refl) (refl, refl) (omega (arith, sum)) one c.next_number-2.ensures.next told printed (rw c.loop-done.invariant.layout at c.finish-2.ensures.prints) in
     let all = subst P (sym c.finish-2.ensures.link) both in
     all.1
 
 pub returns-clause-came : goal.returns-clause-came
 returns-clause-came g c =
     let asks : Asking (UdpLink g.row.P.Denot) = port_asks g.P.Port.sends g.P.Port.receives in
+    let y = c.args.ahead.now.layout in
     let t = c.args.transactions.now in
     let link = c.args.ahead.now.link.now in
     let failures = link.failures in
@@ -284,17 +297,17 @@ returns-clause-came g c =
     let now = g.W.Write.contents c.loop-done.ahead.out.now in
     let whole = over_joins asks t u c.loop-done.transactions link mid half c.args.walk w c.loop-done.walk n k items left StepLimit false was c.loop-done.ahead.said_more first last in
     let end = g.W.Write.contents c.finish-2.new.self.out.now in
-    let P : UdpLink g.row.P.Denot → Type 0 = λ x. Learns asks t link c.args.walk c.args.steps c.finish-2.result failures x.failures c.loop-done.transactions x old (g.W.Write.contents c.finish-2.new.self.out.now) in
-    let both = finishes asks t u c.loop-done.transactions link mid half c.args.walk w c.loop-done.walk c.args.steps n k (n + k) items left StepLimit why.StepLimit c.next_number-2.result c.loop-done.told
-    c.finish-2.result failures half.failures old now end was c.loop-done.ahead.said_more first last limit_on whole c.finish-2.ensures.more (omega (arith, sum)) (omega (arith, sum), refl) (refl, refl) (omega (arith, sum)) one c.next_number-2.ensures.next told printed c.finish-2.ensures.prints in
+    let P : UdpLink g.row.P.Denot → Type 0 = λ x. Learns y asks t link c.args.walk c.args.steps c.finish-2.result failures x.failures c.loop-done.transactions x old (g.W.Write.contents c.finish-2.new.self.out.now) in
+    let both = finishes y asks t u c.loop-done.transactions link mid half c.args.walk w c.loop-done.walk c.args.steps n k (n + k) items left StepLimit why.StepLimit c.next_number-2.result c.loop-done.told
+    c.finish-2.result failures half.failures old now end was c.loop-done.ahead.said_more first last limit_on whole c.finish-2.ensures.more (omega (arith, sum)) (omega (arith, sum), refl) (refl, refl) (omega (arith, sum)) one c.next_number-2.ensures.next told printed (rw c.loop-done.invariant.layout at c.finish-2.ensures.prints) in
     let all = subst P (sym c.finish-2.ensures.link) both in
     all.0
 
 pub returns-in-Err-Memory-clause-flaw : goal.returns-in-Err-Memory-clause-flaw
-returns-in-Err-Memory-clause-flaw g c = no_flaw why.Memory c.loop-done.told c.end.result _ _ _ (λ e. cc) c.end.ensures.prints
+returns-in-Err-Memory-clause-flaw g c = no_flaw c.turn.new.ahead.layout why.Memory c.loop-done.told c.end.result _ _ _ (λ e. cc) c.end.ensures.prints
 
 pub returns-in-Stopped-clause-flaw : goal.returns-in-Stopped-clause-flaw
-returns-in-Stopped-clause-flaw g c = no_flaw why.Memory c.next_number-before.result c.end-in-Stopped.result _ _ _ (λ e. cc) c.end-in-Stopped.ensures.prints
+returns-in-Stopped-clause-flaw g c = no_flaw c.turn.new.ahead.layout why.Memory c.next_number-before.result c.end-in-Stopped.result _ _ _ (λ e. cc) c.end-in-Stopped.ensures.prints
 
 pub returns-clause-flaw : goal.returns-clause-flaw
-returns-clause-flaw g c = no_last_flaw c.loop-done.ahead.left.now.items why.StepLimit c.next_number-2.result c.loop-done.told c.finish-2.result _ _ _ (λ e. cc) c.finish-2.ensures.prints
+returns-clause-flaw g c = no_last_flaw c.loop-done.ahead.layout c.loop-done.ahead.left.now.items why.StepLimit c.next_number-2.result c.loop-done.told c.finish-2.result _ _ _ (λ e. cc) c.finish-2.ensures.prints

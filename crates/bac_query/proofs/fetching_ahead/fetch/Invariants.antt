@@ -1,8 +1,7 @@
 use Rattle.std.proofs.Common.{◌≡◌, ◌+◌, ◌*◌, ◌≤◌, ℕ, Bool, false, List}
-use Rattle.std.specs.Io.KnownBytes.{Appends}
 use Rattle.bac_link.specs.declared.item.Item.{Item}
 use Rattle.bac_link.specs.declared.transactions.Transactions.{Transactions}
-use Rattle.bac_query.specs.Items.{items_text}
+use Rattle.bac_query.specs.Layouts.{AppendsItems}
 use Rattle.bac_walk.specs.Place.{WalkPlace}
 use Rattle.bac_walk.specs.declared.outcome.Ended.TheVariants.{StepLimit}
 use Rattle.bac_query.specs.Ahead.{IsRunOver, port_asks}
@@ -12,6 +11,7 @@ use Rattle.bac_query.proofs.fetching_ahead.fetch.Given as goal
 abbrev pub invariant-loop-done : goal.invariant-loop-done
 invariant-loop-done g l = record {
   well : l.ahead.is_refused ≡ false;
+  layout : l.ahead.layout ≡ l.fn.ahead.layout;
   same_link : l.ahead.link.ghost_name ≡ l.fn.ahead.link.ghost_name;
   same_out : l.ahead.out.ghost_name ≡ l.fn.ahead.out.ghost_name;
   retries : l.transactions.retries ≡ l.fn.transactions.retries;
@@ -22,5 +22,5 @@ invariant-loop-done g l = record {
       × IsRunOver (port_asks g.P.Port.sends g.P.Port.receives) l.fn.transactions l.fn.ahead.link.now l.fn.walk n items StepLimit w half mid false was
       × IsRunOver (port_asks g.P.Port.sends g.P.Port.receives) half mid w k l.ahead.left.now.items StepLimit l.walk l.transactions l.ahead.link.now was l.ahead.said_more
       × (n + k ≡ l.done) × (k ≤ 1) × (l.told ≡ w.next)
-      × Appends (g.W.Write.contents l.fn.ahead.out.now) (g.W.Write.contents l.ahead.out.now) (items_text items);
+      × AppendsItems l.fn.ahead.layout items (g.W.Write.contents l.fn.ahead.out.now) (g.W.Write.contents l.ahead.out.now);
 }

@@ -18,7 +18,7 @@ items_of reply = reply.items.items
 pub returns-clause-ran : goal.returns-clause-ran
 returns-clause-ran g c =
     let asks : Asking (Ahead g.row.P.Denot g.row.W.Denot) = λ old octets answer new. port_asks g.P.Port.sends g.P.Port.receives old.link.now octets answer new.link.now
-    × PrintsOn (pending old.is_refused old.left.now.items (g.W.Write.contents old.out.now)) (pending new.is_refused new.left.now.items (g.W.Write.contents new.out.now))
+    × PrintsOn (pending old.layout old.is_refused old.left.now.items (g.W.Write.contents old.out.now)) (pending new.layout new.is_refused new.left.now.items (g.W.Write.contents new.out.now))
     × (new.link.ghost_name ≡ old.link.ghost_name) × (new.out.ghost_name ≡ old.out.ghost_name) × (new.last ≡ result_ok answer) in
     let sink : Reply = record { items = c.clear.new.self } in
     let below : Ahead g.row.P.Denot g.row.W.Denot → UdpLink g.row.P.Denot = λ a. a.link.now in
@@ -29,16 +29,16 @@ returns-clause-ran g c =
 pub returns-clause-beside : goal.returns-clause-beside
 returns-clause-beside g c =
     let asks : Asking (Ahead g.row.P.Denot g.row.W.Denot) = λ old octets answer new. port_asks g.P.Port.sends g.P.Port.receives old.link.now octets answer new.link.now
-    × PrintsOn (pending old.is_refused old.left.now.items (g.W.Write.contents old.out.now)) (pending new.is_refused new.left.now.items (g.W.Write.contents new.out.now))
+    × PrintsOn (pending old.layout old.is_refused old.left.now.items (g.W.Write.contents old.out.now)) (pending new.layout new.is_refused new.left.now.items (g.W.Write.contents new.out.now))
     × (new.link.ghost_name ≡ old.link.ghost_name) × (new.out.ghost_name ≡ old.out.ghost_name) × (new.last ≡ result_ok answer) in
     let b = c.deliver-ended.ensures.brought in
-    beside asks (λ a. pending a.is_refused a.left.now.items (g.W.Write.contents a.out.now)) (λ a. a.link.ghost_name) (λ a. a.out.ghost_name) (λ a b octets answer h. (h.1, h.2, h.3))
+    beside asks (λ a. pending a.layout a.is_refused a.left.now.items (g.W.Write.contents a.out.now)) (λ a. a.link.ghost_name) (λ a. a.out.ghost_name) (λ a b octets answer h. (h.1, h.2, h.3))
     (towards c.args.transactions.now.route) c.args.transactions.now.retries c.args.ahead.now c.args.walk.now 1 b.4.0 (put_items b.0) c.deliver-ended.result c.deliver-ended.new.walk c.deliver-ended.new.link b.4.1
 
 pub returns-clause-flaw : goal.returns-clause-flaw
 returns-clause-flaw g c =
     let asks : Asking (Ahead g.row.P.Denot g.row.W.Denot) = λ old octets answer new. port_asks g.P.Port.sends g.P.Port.receives old.link.now octets answer new.link.now
-    × PrintsOn (pending old.is_refused old.left.now.items (g.W.Write.contents old.out.now)) (pending new.is_refused new.left.now.items (g.W.Write.contents new.out.now))
+    × PrintsOn (pending old.layout old.is_refused old.left.now.items (g.W.Write.contents old.out.now)) (pending new.layout new.is_refused new.left.now.items (g.W.Write.contents new.out.now))
     × (new.link.ghost_name ≡ old.link.ghost_name) × (new.out.ghost_name ≡ old.out.ghost_name) × (new.last ≡ result_ok answer) in
     let below : Ahead g.row.P.Denot g.row.W.Denot → UdpLink g.row.P.Denot = λ a. a.link.now in
     λ bad.

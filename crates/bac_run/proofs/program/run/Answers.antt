@@ -17,8 +17,8 @@ returns-in-Ok-clause-done g c asked ask =
     let rules = socket_rules g.S.Sockets.opens g.S.Sockets.closes g.S.Socket.Port.sends g.S.Socket.Port.receives g.S.Socket.Port.receives_within in
     let words = map string_bytes c.args.words.now in
     let old = streams (g.I.Read.remaining c.args.input.now) (g.O.Write.contents c.args.output.now) (g.E.Write.contents c.args.errors.now) c.args.sockets.now c.args.clock.now in
-    let new = streams (g.I.Read.remaining c.run_job.new.input) (g.O.Write.contents c.run_job.new.output) (g.E.Write.contents c.run_job.new.errors) c.run_job.new.sockets c.run_job.new.clock in
-    job_done rules g.C.Clock.tells disk old new c.args.files.now c.run_job.new.files c.run_job.result words c.in-Ok.job asked c.in-Ok.ensures.ok.1 ask c.run_job.ensures.ran
+    let new = streams (g.I.Read.remaining c.run_told.new.input) (g.O.Write.contents c.run_told.new.output) (g.E.Write.contents c.run_told.new.errors) c.run_told.new.sockets c.run_told.new.clock in
+    job_done g.S.Tracing.traces rules g.C.Clock.tells disk old new c.args.files.now c.run_told.new.files c.run_told.result words c.in-Ok.job asked c.in-Ok.ensures.ok.1 ask c.run_told.ensures.ran
 
 pub returns-in-Err-clause-done : goal.returns-in-Err-clause-done
 returns-in-Err-clause-done g c asked ask =
@@ -27,11 +27,11 @@ returns-in-Err-clause-done g c asked ask =
     let words = map string_bytes c.args.words.now in
     let old = streams (g.I.Read.remaining c.args.input.now) (g.O.Write.contents c.args.output.now) (g.E.Write.contents c.args.errors.now) c.args.sockets.now c.args.clock.now in
     let new = streams (g.I.Read.remaining c.run_read.new.input) (g.O.Write.contents c.run_read.new.output) (g.E.Write.contents c.run_read.new.errors) c.run_read.new.sockets c.run_read.new.clock in
-    unread rules g.C.Clock.tells disk old new c.args.files.now c.args.files.now c.run_read.result words c.in-Err.fault c.in-Err.ensures.err c.run_read.ensures refl asked ask
+    unread g.S.Tracing.traces rules g.C.Clock.tells disk old new c.args.files.now c.args.files.now c.run_read.result words c.in-Err.fault c.in-Err.ensures.err c.run_read.ensures refl asked ask
 
 pub returns-in-Ok-clause-stays : goal.returns-in-Ok-clause-stays
 returns-in-Ok-clause-stays g c unused not =
-    c.run_job.ensures.stays unused (λ it. not (it.0, (c.in-Ok.ensures.ok.0, c.in-Ok.ensures.ok.1 ∙ ap Ok it.1)))
+    c.run_told.ensures.stays unused (λ it. not (it.0, (c.in-Ok.ensures.ok.0, c.in-Ok.ensures.ok.1 ∙ ap Ok it.1)))
 
 pub returns-in-Err-clause-stays : goal.returns-in-Err-clause-stays
 returns-in-Err-clause-stays g c unused not = none_closed c.args.files.now.closed _ unused

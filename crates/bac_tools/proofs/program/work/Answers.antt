@@ -4,7 +4,7 @@ use Rattle.bac_tools.proofs.program.work.Goals as goal
 
 pub returns-in_ok-object-in-Rp : goal.returns-in_ok-object-in-Rp
 returns-in_ok-object-in-Rp g c =
-    rw c.in-Rp.is (inr (rw c.in_ok-object-in-Rp.ensures.ok at c.rp.ensures), (refl, refl))
+    rw c.in-Rp.is (inr (rw (c.in_ok-object-in-Rp.ensures.ok, c.reals.ensures) at c.rp.ensures), (refl, refl))
 
 pub returns-in_ok-object-in-Wp : goal.returns-in_ok-object-in-Wp
 returns-in_ok-object-in-Wp g c =
@@ -22,7 +22,7 @@ returns-in_ok-object-in-Wp g c =
 
 pub returns-in_ok-walk-in-Log : goal.returns-in_ok-walk-in-Log
 returns-in_ok-walk-in-Log g c =
-    rw c.in-Log.is (inr (rw c.in_ok-walk-in-Log.ensures.ok at c.log.ensures.fetches), (c.log.ensures.quiet, refl))
+    rw c.in-Log.is (inr (rw (c.in_ok-walk-in-Log.ensures.ok, c.layout.ensures) at c.log.ensures.fetches), (c.log.ensures.quiet, refl))
 
 pub returns-in_ok-named-in-Logs : goal.returns-in_ok-named-in-Logs
 returns-in_ok-named-in-Logs g c =
