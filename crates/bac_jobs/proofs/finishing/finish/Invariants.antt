@@ -1,0 +1,7 @@
+use Rattle.bac_desks.specs.Served.{Runs}
+use Rattle.bac_jobs.proofs.finishing.finish.Given as goal
+
+abbrev pub invariant-loop : goal.invariant-loop
+invariant-loop g l =
+    Runs g.P.Port.sends g.P.Port.receives_within g.C.Clock.reads l.fn.desks.port l.fn.desks.clock l.fn.desks.table
+    l.desks.port l.desks.clock l.desks.table

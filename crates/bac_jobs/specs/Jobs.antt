@@ -1,0 +1,35 @@
+-- How jobs of many devices end. Read `AreEnded`.
+use Rattle.std.specs.Prelude.{◌≡◌, ℕ, List, Some, count_by, length, map, slice_get}
+use Rattle.bac_desks.specs.Seat.{is_open}
+use Rattle.bac_site.specs.Desk.{DeskState}
+use Rattle.bac_desks.specs.Event.{Event}
+use Rattle.bac_desks.specs.Served.{Keeps}
+use Rattle.bac_desks.specs.Table.{TableState, desks_of}
+use Rattle.bac_desks.specs.declared.seat.Seat.{Seat}
+use Rattle.bac_jobs.specs.declared.job.Turn.{Turn}
+use Rattle.bac_jobs.specs.declared.job.Turn.TheVariants.{Ended}
+use Rattle.bac_play.specs.declared.play.Outcome.{Outcome}
+
+-- no question is open
+abbrev pub IsIdle : TableState → Type 0
+IsIdle t = count_by is_open t.seats ≡ 0
+
+-- the job at a place ended so, by all that came to the questions of the desk at its place
+abbrev pub HasEnded : {J E : Type 0} → (J → List Outcome → Turn E → Type 0) → List J → List Seat → ℕ → E → Type 0
+HasEnded {J = J} plays jobs seats place end =
+    (job : J) × (seat : Seat) × (slice_get jobs place ≡ Some job) × (slice_get seats place ≡ Some seat)
+    × plays job seat.desk.outcomes (Ended end)
+
+-- so did each of them
+abbrev pub AreEnded : {J E : Type 0} → (J → List Outcome → Turn E → Type 0) → List J → List Seat → List E → Type 0
+AreEnded {E = E} plays jobs seats ends =
+    (length ends ≡ length jobs)
+    × ((place : ℕ) (end : E) → slice_get ends place ≡ Some end → HasEnded plays jobs seats place end)
+
+-- the addresses of the devices that the desks are for, in their order
+abbrev pub peers_of : TableState → List (List ℕ)
+peers_of t = map (λ (d : DeskState). d.peer) (desks_of t)
+
+-- they stay
+abbrev pub PlacesStay : Type 0
+PlacesStay = (old new : TableState) (es : List Event) → Keeps old es new → peers_of new ≡ peers_of old

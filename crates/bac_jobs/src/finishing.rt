@@ -1,0 +1,107 @@
+//! Jobs are brought to their ends.
+
+ghost use Rattle.std.specs.Prelude.{◌<◌, IfOk, IfSome, length};
+ghost use Rattle.bac_desks.specs.Served.{Runs, Serves};
+ghost use Rattle.bac_jobs.specs.Jobs.{AreEnded, HasEnded, IsIdle};
+
+use crate::job::{Job, Turn};
+use bac_desks::{Clock, Desks};
+use bac_ports::Port;
+use std::alloc::{AllocError, Global};
+
+/// Asks the question of the desk at a place that its job wants next, if it wants one and it may be
+/// asked now.
+fn ask_at<P: Port, C: Clock, J: Job>(
+    alloc: Global,
+    desks: &mut Desks<P, C>,
+    jobs: &[J],
+    place: usize,
+) -> Result<(), AllocError>
+    requires { place < length jobs.now }
+    ensures { Runs P.sends P.receives_within C.reads desks.old.port desks.old.clock desks.old.table desks.new.port desks.new.clock desks.new.table }
+{
+    let Some(outcomes) = desks.outcomes(place) else {
+        return Ok(());
+    };
+    if let Turn::Wants(question) = jobs[place].play(alloc, outcomes)? {
+        let _asked = desks.ask(place, &question)?;
+    }
+    Ok(())
+}
+
+/// Asks what each job wants next.
+fn ask_all<P: Port, C: Clock, J: Job>(
+    alloc: Global,
+    desks: &mut Desks<P, C>,
+    jobs: &[J],
+) -> Result<(), AllocError>
+    ensures { Runs P.sends P.receives_within C.reads desks.old.port desks.old.clock desks.old.table desks.new.port desks.new.clock desks.new.table }
+{
+    for place in 0..jobs.len() {
+        ask_at(alloc, desks, jobs, place)?;
+    }
+    Ok(())
+}
+
+/// How the job at a place ended, if it has.
+fn end_at<P: Port, C: Clock, J: Job>(
+    alloc: Global,
+    desks: &Desks<P, C>,
+    jobs: &[J],
+    place: usize,
+) -> Result<Option<J::End>, AllocError>
+    requires { place < length jobs.now }
+    ensures { IfOk result (λ end. IfSome end (HasEnded J.plays jobs.now desks.now.table.seats place)) }
+{
+    let Some(outcomes) = desks.outcomes(place) else {
+        return Ok(None);
+    };
+    match jobs[place].play(alloc, outcomes)? {
+        Turn::Wants(_) | Turn::Unfit => Ok(None),
+        Turn::Ended(end) => Ok(Some(end)),
+    }
+}
+
+/// How the jobs ended, if each has.
+fn ends_of<P: Port, C: Clock, J: Job>(
+    alloc: Global,
+    desks: &Desks<P, C>,
+    jobs: &[J],
+) -> Result<Option<Vec<J::End>>, AllocError>
+    ensures { IfOk result (λ ends. IfSome ends (λ all. AreEnded J.plays jobs.now desks.now.table.seats all.items)) }
+{
+    let mut ends = Vec::new(alloc);
+    for place in 0..jobs.len() {
+        let Some(end) = end_at(alloc, desks, jobs, place)? else {
+            return Ok(None);
+        };
+        ends.push(end)?;
+    }
+    Ok(Some(ends))
+}
+
+/// Brings jobs to their ends in so many turns at most, each over the questions of the desk at its
+/// place: how they ended, in their order; nothing if there are fewer desks than jobs, a record has an
+/// outcome of what its job doesn't ask, or more turns were needed.
+pub fn finish<P: Port, C: Clock, J: Job>(
+    alloc: Global,
+    desks: &mut Desks<P, C>,
+    jobs: &[J],
+    turns: u64,
+) -> Result<Option<Vec<J::End>>, AllocError>
+    // Each job ended by all that came to the questions of its desk, and none is open.
+    ensures ended { IfOk result (λ ends. IfSome ends (λ all. AreEnded J.plays jobs.now desks.new.table.seats all.items × IsIdle desks.new.table)) }
+    // Whatever comes of it: what was done at the port and by the clock, and what that makes of the desks.
+    ensures serves { Serves P.sends P.receives_within C.reads desks.old.port desks.old.clock desks.old.table desks.new.port desks.new.clock desks.new.table }
+{
+    for _ in 0..turns {
+        if desks.is_idle() {
+            if let Some(ends) = ends_of(alloc, desks, jobs)? {
+                return Ok(Some(ends));
+            }
+        }
+        ask_all(alloc, desks, jobs)?;
+        desks.turn();
+    }
+    Ok(None)
+}

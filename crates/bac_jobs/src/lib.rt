@@ -1,0 +1,11 @@
+//! Jobs of many devices at once: each asks its device question after question, and all go on beside
+//! one another.
+#![tactic(auto)]
+
+mod finishing;
+mod job;
+mod laws;
+
+pub use finishing::finish;
+pub use job::{Job, Turn};
+pub use laws::places_stay;
