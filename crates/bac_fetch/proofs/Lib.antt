@@ -9,3 +9,6 @@ pub mod DiscoveredLemmas
 pub mod WhoseLemmas
 pub mod MovesLemmas
 pub mod QuietLemmas
+pub mod FaultsLemmas
+pub mod UnfoundLemmas
+pub mod TakenLemmas

@@ -11,4 +11,6 @@ pub mod Whose
 pub mod Entries
 pub mod Moves
 pub mod Stays
+pub mod Unfound
+pub mod Faults
 pub mod Keeps

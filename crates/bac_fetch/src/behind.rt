@@ -1,9 +1,10 @@
 //! What lies behind the record that was kept last: one question of a walk, and then another.
 
-ghost use Rattle.std.specs.Prelude.{◌≡◌, ◌+◌, nat_lt, None, Ok, Err, IfOk};
+ghost use Rattle.std.specs.Prelude.{◌≡◌, ◌+◌, nat_lt, None, Ok, Err, IfOk, IfErr};
 ghost use Rattle.bac_link.specs.Path.{towards};
 ghost use Rattle.bac_walk.specs.declared.outcome.Ended.TheVariants.{StepLimit};
 ghost use Rattle.bac_asked.specs.declared.end.Ending.{Ending as EndingOf};
+ghost use Rattle.bac_asked.specs.Faults.{WantsMemory};
 ghost use Rattle.bac_fetch.specs.Hands.{GoesAhead, IsPutBehind, LooksAhead, TakesAnswer, TakesMore, steps_of};
 ghost use Rattle.bac_fetch.specs.Starts.{BeginsWith, GoesOn, asks_oldest_next};
 
@@ -55,6 +56,7 @@ fn take_answer<L: LogLink>(
     ensures retries { transactions.new.retries ≡ transactions.old.retries }
     ensures route { transactions.new.route ≡ transactions.old.route }
     ensures takes { IfOk result (λ hand. TakesAnswer L.asks (towards transactions.old.route) transactions.old.retries place free link.old walk hand link.new) }
+    ensures fault { IfErr result WantsMemory }
 {
     match gather_answer(alloc, link, transactions, &mut walk, place, free) {
         Ok(gathered) => {
@@ -73,7 +75,8 @@ fn take_answer<L: LogLink>(
 
 /// The counts of two questions, as those of one; it ended as the second did.
 fn sum_of(step: KeptStep, more: KeptStep) -> Result<KeptStep, NotDone>
-    ensures { IfOk result (λ it. (it.records ≡ step.records + more.records) × (it.gaps ≡ step.gaps + more.gaps) × (it.ended ≡ more.ended)) }
+    ensures sum { IfOk result (λ it. (it.records ≡ step.records + more.records) × (it.gaps ≡ step.gaps + more.gaps) × (it.ended ≡ more.ended)) }
+    ensures fault { IfErr result WantsMemory }
 {
     let (Some(records), Some(gaps)) = (
         step.records.checked_add(more.records),
@@ -90,7 +93,8 @@ fn sum_of(step: KeptStep, more: KeptStep) -> Result<KeptStep, NotDone>
 
 /// Puts what came to a question behind what was in hand before it.
 fn put_more(hand: Hand, more: Hand) -> Result<Hand, NotDone>
-    ensures { IfOk result (IsPutBehind hand (Ok more)) }
+    ensures put { IfOk result (IsPutBehind hand (Ok more)) }
+    ensures fault { IfErr result WantsMemory }
 {
     let Hand {
         gathered,
@@ -164,6 +168,7 @@ fn take_more<L: LogLink>(
     ensures retries { transactions.new.retries ≡ transactions.old.retries }
     ensures route { transactions.new.route ≡ transactions.old.route }
     ensures takes { IfOk result (λ all. TakesMore L.asks (towards transactions.old.route) transactions.old.retries link.old hand all link.new) }
+    ensures fault { IfErr result WantsMemory }
 {
     let walk = hand.walk.copy();
     let place = hand.gathered.place;
@@ -185,6 +190,7 @@ fn take_second<L: LogLink>(
     ensures retries { transactions.new.retries ≡ transactions.old.retries }
     ensures route { transactions.new.route ≡ transactions.old.route }
     ensures goes { IfOk result (λ all. GoesAhead L.asks (towards transactions.old.route) transactions.old.retries link.old hand steps StepLimit (Ok all) link.new) }
+    ensures fault { IfErr result WantsMemory }
 {
     if may_take_more(steps) {
         take_more(alloc, link, transactions, hand)
@@ -204,6 +210,7 @@ fn go_ahead<L: LogLink>(
     ensures retries { transactions.new.retries ≡ transactions.old.retries }
     ensures route { transactions.new.route ≡ transactions.old.route }
     ensures goes { IfOk result (λ ahead. GoesAhead L.asks (towards transactions.old.route) transactions.old.retries link.old hand steps hand.gathered.step.ended ahead link.new) }
+    ensures fault { IfErr result WantsMemory }
 {
     match hand.gathered.step.ended {
         Ended::Fault(fault) => Ok(Err(Ending::Walk(Why::Fault(fault)))),
@@ -226,6 +233,7 @@ pub(crate) fn look_ahead<L: LogLink>(
     ensures retries { transactions.new.retries ≡ transactions.old.retries }
     ensures route { transactions.new.route ≡ transactions.old.route }
     ensures looks { IfOk result (λ ahead. LooksAhead L.asks (towards transactions.old.route) transactions.old.retries place free link.old walk steps ahead link.new) }
+    ensures fault { IfErr result WantsMemory }
 {
     match take_answer(alloc, link, transactions, walk, place, free)? {
         Ok(hand) => go_ahead(alloc, link, transactions, hand, steps),
@@ -257,6 +265,7 @@ pub(crate) fn go_on<L: LogLink>(
     ensures retries { transactions.new.retries ≡ transactions.old.retries }
     ensures route { transactions.new.route ≡ transactions.old.route }
     ensures goes { IfOk result (λ begun. GoesOn L.asks (towards transactions.old.route) transactions.old.retries link.old hand seen begun link.new) }
+    ensures fault { IfErr result WantsMemory }
 {
     if asks_oldest_next(seen, hand.gathered.step.ended) {
         let all = take_more(alloc, link, transactions, hand)?;

@@ -1,9 +1,12 @@
 //! The trend logs in a device's Object_List.
 
-ghost use Rattle.std.specs.Prelude.{◌≡◌, Some, IfOk, OnOk};
+ghost use Rattle.std.specs.Prelude.{◌≡◌, ◌⊎◌, Some, IfErr, IfOk, OnOk};
 ghost use Rattle.std.specs.List.{All};
 ghost use Rattle.bac_link.specs.Path.{towards};
+ghost use Rattle.bac_asked.specs.Faults.{WantsMemory};
 ghost use Rattle.bac_fetch.specs.Discovered.{AddsObject, Finds, FindsOver, FindsTo, Reads, ReadsName, ReadsNumber, ReadsObject, TellsName, name_of};
+ghost use Rattle.bac_fetch.specs.Faults.{EndsFinding};
+ghost use Rattle.bac_fetch.specs.Unfound.{FailsToFind, LacksNumber, LacksObject, LacksPlace};
 ghost use Rattle.bac_ports.specs.Sockets.{socket_rules};
 ghost use Rattle.bac_asked.specs.Wanted.{AsksItsSource, IsAskedAs};
 
@@ -37,7 +40,9 @@ struct Station<L> {
 }
 
 impl<L: LogLink> Station<L> {
-    fn fault(&self, fault: ExchangeFault) -> NotDone {
+    fn fault(&self, fault: ExchangeFault) -> NotDone
+        ensures { result ≡ NotDone.Asking (Fault.Exchange self.now.address fault) }
+    {
         NotDone::Asking(Fault::Exchange {
             address: self.address,
             fault,
@@ -50,6 +55,10 @@ impl<L: LogLink> Station<L> {
             (record { object = device; property = 76; index = Some 0 }) self.old.link count self.new.link) }
         ensures retries { OnOk result (self.new.transactions.retries ≡ self.old.transactions.retries) }
         ensures route { OnOk result (self.new.transactions.route ≡ self.old.transactions.route) }
+        ensures lacks { IfErr result (λ fault. (why : _) × (fault ≡ NotDone.Asking (Fault.Exchange self.old.address why))
+            × LacksNumber (Reads L.asks (towards self.old.transactions.route) self.old.transactions.retries)
+            (record { object = device; property = 76; index = Some 0 }) self.old.link why self.new.link) }
+        ensures address { self.new.address ≡ self.old.address }
     {
         match read_number(
             &mut self.link,
@@ -69,6 +78,10 @@ impl<L: LogLink> Station<L> {
             (record { object = device; property = 76; index = Some place }) self.old.link object self.new.link) }
         ensures retries { OnOk result (self.new.transactions.retries ≡ self.old.transactions.retries) }
         ensures route { OnOk result (self.new.transactions.route ≡ self.old.transactions.route) }
+        ensures lacks { IfErr result (λ fault. (why : _) × (fault ≡ NotDone.Asking (Fault.Exchange self.old.address why))
+            × LacksObject (Reads L.asks (towards self.old.transactions.route) self.old.transactions.retries)
+            (record { object = device; property = 76; index = Some place }) self.old.link why self.new.link) }
+        ensures address { self.new.address ≡ self.old.address }
     {
         let answer = match read(
             &mut self.link,
@@ -92,6 +105,8 @@ impl<L: LogLink> Station<L> {
             (name_of object) self.old.link name self.new.link) }
         ensures retries { OnOk result (self.new.transactions.retries ≡ self.old.transactions.retries) }
         ensures route { OnOk result (self.new.transactions.route ≡ self.old.transactions.route) }
+        ensures fault { IfErr result WantsMemory }
+        ensures address { self.new.address ≡ self.old.address }
     {
         match read(
             &mut self.link,
@@ -108,7 +123,8 @@ impl<L: LogLink> Station<L> {
 
 /// The name that an answer tells, in Unicode.
 fn name_in(alloc: Global, answer: &Datagram) -> Result<Option<String>, NotDone>
-    ensures { IfOk result (TellsName answer.now) }
+    ensures tells { IfOk result (TellsName answer.now) }
+    ensures fault { IfErr result WantsMemory }
 {
     let Some((set, octets)) = text_in(answer) else {
         return Ok(None);
@@ -123,6 +139,7 @@ fn name_in(alloc: Global, answer: &Datagram) -> Result<Option<String>, NotDone>
 pub(crate) fn asked_like(like: &Asking, instance: u32) -> Result<Asking, NotDone>
     ensures alike { IfOk result (IsAskedAs like.now) }
     ensures instance { IfOk result (λ asking. asking.instance ≡ instance) }
+    ensures fault { IfErr result WantsMemory }
 {
     let Asked {
         address,
@@ -161,6 +178,8 @@ fn wanted_of<L: LogLink>(
         (name_of object) device.old.link wanted.name device.new.link) }
     ensures retries { OnOk result (device.new.transactions.retries ≡ device.old.transactions.retries) }
     ensures route { OnOk result (device.new.transactions.route ≡ device.old.transactions.route) }
+    ensures fault { IfErr result WantsMemory }
+    ensures address { device.new.address ≡ device.old.address }
 {
     let name = device.name(alloc, object)?;
     let asking = asked_like(like, object.instance())?;
@@ -188,6 +207,8 @@ fn add_object<L: LogLink>(
         device.old.link all.old.items all.new.items device.new.link) }
     ensures retries { OnOk result (device.new.transactions.retries ≡ device.old.transactions.retries) }
     ensures route { OnOk result (device.new.transactions.route ≡ device.old.transactions.route) }
+    ensures fault { IfErr result WantsMemory }
+    ensures address { device.new.address ≡ device.old.address }
 {
     if object.kind() != TREND_LOG {
         return Ok(());
@@ -210,6 +231,8 @@ fn add_listed<L: LogLink>(
     ensures alike { IfOk result (λ all. All (λ wanted. IsAskedAs like.now wanted.asking) all.items) }
     ensures finds { IfOk result (λ all. FindsTo (Reads L.asks (towards device.old.transactions.route) device.old.transactions.retries) count
         device.old.link all.items device.new.link) }
+    ensures lacks { IfErr result (λ fault. WantsMemory fault ⊎ ((why : _) × (fault ≡ NotDone.Asking (Fault.Exchange device.old.address why))
+        × LacksPlace (Reads L.asks (towards device.old.transactions.route) device.old.transactions.retries) count device.old.link why device.new.link)) }
 {
     let mut all = Vec::new(alloc);
     for place in 0..count {
@@ -229,6 +252,8 @@ fn find_all<L: LogLink>(
     ensures alike { IfOk result (λ all. All (λ wanted. IsAskedAs like.now wanted.asking) all.items) }
     ensures finds { IfOk result (λ all. Finds (Reads L.asks (towards device.old.transactions.route) device.old.transactions.retries)
         device.old.link all.items device.new.link) }
+    ensures lacks { IfErr result (λ fault. WantsMemory fault ⊎ ((why : _) × (fault ≡ NotDone.Asking (Fault.Exchange device.old.address why))
+        × FailsToFind (Reads L.asks (towards device.old.transactions.route) device.old.transactions.retries) device.old.link why device.new.link)) }
 {
     let Some(itself) = ObjectId::new(DEVICE, ITSELF) else {
         return Err(NotDone::Asking(Fault::BadValue(Word::Instance)));
@@ -248,6 +273,8 @@ pub(crate) fn discover<S: Sockets>(
     // They are those of the Object_List of the device that is asked, over a socket opened as asked,
     // and closed behind it.
     ensures found { IfOk result (λ all. FindsOver (socket_rules S.opens S.closes S.Socket.sends S.Socket.receives S.Socket.receives_within) like.now sockets.old all.items sockets.new) }
+    // Or it isn't asked, or doesn't tell its list.
+    ensures fault { IfErr result (EndsFinding (socket_rules S.opens S.closes S.Socket.sends S.Socket.receives S.Socket.receives_within) like.now sockets.old sockets.new) }
 {
     let address = like.asked.address;
     let asked = asked_like(like, 0)?.asked;

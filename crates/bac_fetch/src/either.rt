@@ -1,6 +1,6 @@
 //! A run over a log of which nobody can tell whether it began anew or its clock was set back.
 
-ghost use Rattle.std.specs.Prelude.{◌≡◌, ◌≤◌, ◌+◌, ◌*◌, ◌++◌, List, map, IfNone, IfOk, IfSome, OnOk};
+ghost use Rattle.std.specs.Prelude.{◌≡◌, ◌≤◌, ◌+◌, ◌*◌, ◌++◌, List, map, IfNone, IfOk, IfSome, OnOk, IfErr};
 ghost use Rattle.bac_archive.specs.Rows.{stored};
 ghost use Rattle.bac_link.specs.Path.{towards};
 ghost use Rattle.bac_link.specs.declared.item.Item.{Item};
@@ -8,6 +8,7 @@ ghost use Rattle.bac_link.specs.declared.item.Item.TheVariants.{Gap as GapOf};
 ghost use Rattle.bac_keep.specs.declared.place.Place.{Place as PlaceOf};
 ghost use Rattle.bac_keep.specs.Items.{era, era_after, kept_row, kept_rows};
 ghost use Rattle.bac_keep.specs.Runs.{gaps_among};
+ghost use Rattle.bac_asked.specs.Faults.{WantsMemory};
 ghost use Rattle.bac_fetch.specs.Hands.{stored_in};
 ghost use Rattle.bac_fetch.specs.Starts.{IsEither, OpensBehind, gap_up_to, next_from};
 
@@ -88,7 +89,8 @@ fn missing_up_to(from: Place, next: u32, oldest: u32) -> Option<Missing>
 
 /// Puts a row before others, if there is one.
 fn put_first(rows: &mut Vec<Row>, row: Option<Row>) -> Result<(), NotDone>
-    ensures { OnOk result (map stored rows.new.items ≡ stored_in row ++ map stored rows.old.items) }
+    ensures put { OnOk result (map stored rows.new.items ≡ stored_in row ++ map stored rows.old.items) }
+    ensures fault { IfErr result WantsMemory }
 {
     let Some(row) = row else {
         return Ok(());
@@ -106,6 +108,7 @@ fn put_gap(hand: Hand, first: Option<Row>, second: Option<Row>, more: u64) -> Re
     ensures gaps { IfOk result (λ it. it.gathered.step.gaps ≡ more + hand.gathered.step.gaps) }
     ensures ended { IfOk result (λ it. it.gathered.step.ended ≡ hand.gathered.step.ended) }
     ensures place { IfOk result (λ it. (it.gathered.place ≡ hand.gathered.place) × (it.gathered.free ≡ hand.gathered.free) × (it.walk ≡ hand.walk) × (it.took ≡ hand.took)) }
+    ensures fault { IfErr result WantsMemory }
 {
     let Hand {
         gathered,
@@ -147,8 +150,9 @@ fn open_behind(
     hand: Result<Hand, Ending>,
     next: u32,
 ) -> Result<Result<Start, End>, NotDone>
-    ensures { (from : PlaceOf) (gap : List Item) → stored_in missing.first ++ stored_in missing.second ≡ kept_rows (era from) gap
+    ensures opened { (from : PlaceOf) (gap : List Item) → stored_in missing.first ++ stored_in missing.second ≡ kept_rows (era from) gap
         → missing.gaps ≡ gaps_among gap → IfOk result (OpensBehind from gap hand next) }
+    ensures fault { IfErr result WantsMemory }
 {
     let hand = match hand {
         Ok(hand) => hand,
@@ -186,6 +190,7 @@ pub(crate) fn begin_either<L: LogLink>(
     ensures retries { transactions.new.retries ≡ transactions.old.retries }
     ensures route { transactions.new.route ≡ transactions.old.route }
     ensures either { IfOk result (λ begun. IsEither L.asks (towards transactions.old.route) transactions.old.retries link.old log stand.now from oldest begun link.new) }
+    ensures fault { IfErr result WantsMemory }
 {
     let next = number_behind(last_kept(stand).number);
     let Some(missing) = missing_up_to(from, next, oldest) else {

@@ -1,11 +1,12 @@
 //! A log as a run over it begins: how its row is to be, and how it is on record.
 
-ghost use Rattle.std.specs.Prelude.{◌≡◌, false, if◌then◌else◌, option_map, IfOk, OnOk};
+ghost use Rattle.std.specs.Prelude.{◌≡◌, false, if◌then◌else◌, option_map, IfOk, OnOk, IfErr};
 ghost use Rattle.std.specs.String.{string_bytes};
 ghost use Rattle.sqlite.specs.State.{HasCleanDisk, Survives};
 ghost use Rattle.sqlite.specs.Held.{state};
 ghost use Rattle.bac_archive.specs.Schema.{archive_schema};
 ghost use Rattle.bac_archive.specs.Beginnings.{IsFreshId};
+ghost use Rattle.bac_fetch.specs.Faults.{EndsLog};
 ghost use Rattle.bac_fetch.specs.Entries.{Admits, IsEntry, Renews, eq_number, eq_text, has_word, how_recorded, is_due, is_other_number, is_other_text, is_same_number, is_same_text, word_of};
 ghost use Rattle.bac_fetch.specs.Stays.{HasAllOf, HasRows};
 
@@ -156,6 +157,7 @@ fn free_id<A: Alter>(conn: &mut Connection<A>, alloc: Global) -> Result<u16, Not
         → OnOk result ((state A.Store conn.new).now ≡ (state A.Store conn.old).now) }
     ensures crash { (state A.Store conn.old).now.schema ≡ archive_schema → Survives (state A.Store conn.old) (state A.Store conn.new) (λ _. ⊥) }
     ensures clean { HasCleanDisk (state A.Store conn.new) → HasCleanDisk (state A.Store conn.old) }
+    ensures fault { IfErr result EndsLog }
 {
     match fresh_id(alloc, conn) {
         Ok(id) => Ok(id),
@@ -179,6 +181,7 @@ pub(crate) fn enter<A: Alter>(
         → OnOk result ((state A.Store conn.new).now ≡ (state A.Store conn.old).now) }
     ensures crash { (state A.Store conn.old).now.schema ≡ archive_schema → Survives (state A.Store conn.old) (state A.Store conn.new) (λ _. ⊥) }
     ensures clean { HasCleanDisk (state A.Store conn.new) → HasCleanDisk (state A.Store conn.old) }
+    ensures fault { IfErr result EndsLog }
 {
     let (id, recorded, word) = match known {
         Some(log) => (log.id, how_recorded(log, &told), word_of(&log.told, &told)),
@@ -216,6 +219,7 @@ pub(crate) fn admit<A: Alter>(conn: &mut Connection<A>, entry: &Entry) -> Result
     ensures rows { (state A.Store conn.old).now.schema ≡ archive_schema
         → Survives (state A.Store conn.old) (state A.Store conn.new) (HasRows (state A.Store conn.old).now.trees) }
     ensures clean { HasCleanDisk (state A.Store conn.new) → HasCleanDisk (state A.Store conn.old) }
+    ensures fault { IfErr result EndsLog }
 {
     if entry.recorded != Recorded::Not {
         return Ok(());
@@ -247,6 +251,7 @@ pub(crate) fn renew<A: Alter>(
     ensures crash { (state A.Store conn.old).now.schema ≡ archive_schema → Survives (state A.Store conn.old) (state A.Store conn.new)
         (λ trees. (db : _) × Renews entry.now end.now (state A.Store conn.old).now db × (trees ≡ db.trees)) }
     ensures clean { HasCleanDisk (state A.Store conn.new) → HasCleanDisk (state A.Store conn.old) }
+    ensures fault { IfErr result EndsLog }
 {
     if !is_due(entry.recorded, end) {
         return Ok(());

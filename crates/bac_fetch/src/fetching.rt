@@ -8,6 +8,7 @@ ghost use Rattle.bac_archive.specs.Rows.{IsAppended, stored};
 ghost use Rattle.bac_archive.specs.Schema.{archive_schema};
 ghost use Rattle.bac_link.specs.Path.{towards};
 ghost use Rattle.bac_ports.specs.Sockets.{link_over, own_address, socket_rules};
+ghost use Rattle.bac_fetch.specs.Faults.{EndsLog, EndsRun, IsNoInstance, IsUnopened};
 ghost use Rattle.bac_fetch.specs.Fetched.{ComesFrom, HasFailed, IsEndingOf};
 ghost use Rattle.bac_fetch.specs.Keeps.{KeepsBegun, KeepsEntered, KeepsFrom, KeepsLog, KeepsOverLink, LeavesWord, Marks, is_idle, trend_log};
 ghost use Rattle.bac_fetch.specs.Stays.{HasAllOf, HasSameLogs};
@@ -59,6 +60,7 @@ pub(crate) fn connect<S: Sockets>(
     ensures link { IfOk result (λ made. made.0 ≡ link_over asked.address made.0.port) }
     ensures retries { IfOk result (λ made. made.1.retries ≡ asked.retries) }
     ensures route { IfOk result (λ made. made.1.route ≡ asked.route) }
+    ensures refused { IfErr result (IsUnopened (socket_rules S.opens S.closes S.Socket.sends S.Socket.receives S.Socket.receives_within) asked sockets.old sockets.new) }
 {
     let Asked {
         address,
@@ -96,6 +98,7 @@ fn where_to_start<L: LogLink, A: Alter>(
     // Whatever comes of it, nothing is committed.
     ensures crash { (state A.Store conn.old).now.schema ≡ archive_schema → Survives (state A.Store conn.old) (state A.Store conn.new) (λ _. ⊥) }
     ensures clean { HasCleanDisk (state A.Store conn.new) → HasCleanDisk (state A.Store conn.old) }
+    ensures fault { IfErr result EndsLog }
 {
     match stand_of(alloc, conn, id)? {
         Some(stand) => start_at(alloc, link, transactions, id, log, word, &stand, steps),
@@ -107,6 +110,7 @@ fn where_to_start<L: LogLink, A: Alter>(
 fn ending_of(end: Result<Why, NotKept>) -> Result<Ending, NotDone>
     ensures ending { IfOk result (IsEndingOf end) }
     ensures failed { OnErr result (HasFailed end) }
+    ensures fault { IfErr result EndsLog }
 {
     match end {
         Ok(why) => Ok(Ending::Walk(why)),
@@ -124,6 +128,7 @@ fn end_of(run: KeptRun, step: KeptStep, began: Began) -> Result<End, NotDone>
         × (end.next ≡ run.next) × (end.began ≡ began)) }
     // An error is one of the file or of memory, and no end of the log; or it can't be counted.
     ensures failed { OnErr result (HasFailed run.end ⊎ (2 ^ 64 ≤ step.records + run.records) ⊎ (2 ^ 64 ≤ step.gaps + run.gaps)) }
+    ensures fault { IfErr result EndsLog }
 {
     let why = ending_of(run.end)?;
     let (Some(records), Some(gaps)) = (
@@ -152,6 +157,7 @@ fn look_at<A: Alter>(
     ensures same { HasCleanDisk (state A.Store conn.new) → OnOk result ((state A.Store conn.new).now ≡ (state A.Store conn.old).now) }
     ensures crash { Survives (state A.Store conn.old) (state A.Store conn.new) (λ _. ⊥) }
     ensures clean { HasCleanDisk (state A.Store conn.new) → HasCleanDisk (state A.Store conn.old) }
+    ensures fault { IfErr result EndsLog }
 {
     if end.is_ok() {
         return Ok(());
@@ -170,6 +176,7 @@ fn keep_hand<A: Alter>(conn: &mut Connection<A>, gathered: Gathered) -> Result<(
     ensures kept { HasCleanDisk (state A.Store conn.new) → OnOk result (IsAppended (state A.Store conn.old).now (state A.Store conn.new).now (map stored gathered.rows.items)) }
     ensures stays { (state A.Store conn.old).now.schema ≡ archive_schema → Survives (state A.Store conn.old) (state A.Store conn.new) (HasSameLogs (state A.Store conn.old).now.trees) }
     ensures clean { HasCleanDisk (state A.Store conn.new) → HasCleanDisk (state A.Store conn.old) }
+    ensures fault { IfErr result EndsLog }
 {
     if !is_archive(conn.schema()) {
         return Err(NotDone::File(FileFault::Foreign));
@@ -208,6 +215,7 @@ fn keep_on<L: LogLink, A: Alter, P: Progress>(
     ensures stays { HasCleanDisk (state A.Store conn.new) → (state A.Store conn.old).now.schema ≡ archive_schema
         → Survives (state A.Store conn.old) (state A.Store conn.new) (HasSameLogs (state A.Store conn.old).now.trees) }
     ensures clean { HasCleanDisk (state A.Store conn.new) → HasCleanDisk (state A.Store conn.old) }
+    ensures fault { IfErr result EndsLog }
 {
     let mut behind = Ahead::new(progress, step.records);
     let run = keep_log(
@@ -243,6 +251,7 @@ fn keep_from<L: LogLink, A: Alter, P: Progress>(
     ensures stays { HasCleanDisk (state A.Store conn.new) → (state A.Store conn.old).now.schema ≡ archive_schema
         → Survives (state A.Store conn.old) (state A.Store conn.new) (HasSameLogs (state A.Store conn.old).now.trees) }
     ensures clean { HasCleanDisk (state A.Store conn.new) → HasCleanDisk (state A.Store conn.old) }
+    ensures fault { IfErr result EndsLog }
 {
     let Start {
         hand,
@@ -302,6 +311,7 @@ fn mark<A: Alter>(
     ensures stays { HasCleanDisk (state A.Store conn.new) → (state A.Store conn.old).now.schema ≡ archive_schema
         → Survives (state A.Store conn.old) (state A.Store conn.new) (HasSameLogs (state A.Store conn.old).now.trees) }
     ensures clean { HasCleanDisk (state A.Store conn.new) → HasCleanDisk (state A.Store conn.old) }
+    ensures fault { IfErr result EndsLog }
 {
     let Some(beginning) = begins_at else {
         return Ok(());
@@ -332,6 +342,7 @@ fn keep_and_mark<L: LogLink, A: Alter, P: Progress>(
     ensures stays { HasCleanDisk (state A.Store conn.new) → (state A.Store conn.old).now.schema ≡ archive_schema
         → Survives (state A.Store conn.old) (state A.Store conn.new) (HasSameLogs (state A.Store conn.old).now.trees) }
     ensures clean { HasCleanDisk (state A.Store conn.new) → HasCleanDisk (state A.Store conn.old) }
+    ensures fault { IfErr result EndsLog }
 {
     let begins_at = start.begins_at;
     let end = keep_from(alloc, link, transactions, conn, start, steps, progress)?;
@@ -362,6 +373,7 @@ fn keep_entered<L: LogLink, A: Alter, P: Progress>(
         (λ db. (left : L) × (end : EndOf) × KeepsEntered L.asks (towards transactions.old.route) transactions.old.retries link.old left (Ok start) steps entry.now
         (state A.Store conn.old).now db end)) }
     ensures clean { HasCleanDisk (state A.Store conn.new) → HasCleanDisk (state A.Store conn.old) }
+    ensures fault { IfErr result EndsLog }
 {
     admit(conn, entry)?;
     let end = keep_and_mark(alloc, link, transactions, conn, start, steps, progress)?;
@@ -393,6 +405,7 @@ fn fetch_over<L: LogLink, A: Alter, P: Progress>(
         (λ db. (left : L) × (end : EndOf) × KeepsOverLink L.asks (towards transactions.old.route) transactions.old.retries link.old left steps entry.now log
         (state A.Store conn.old).now db end)) }
     ensures clean { HasCleanDisk (state A.Store conn.new) → HasCleanDisk (state A.Store conn.old) }
+    ensures fault { IfErr result EndsLog }
 {
     match where_to_start(
         alloc,
@@ -436,6 +449,7 @@ pub(crate) fn fetch<S: Sockets, A: Alter, P: Progress>(
     ensures stays { HasCleanDisk (state A.Store conn.new) → (state A.Store conn.old).now.schema ≡ archive_schema
         → Survives (state A.Store conn.old) (state A.Store conn.new) (HasAllOf (state A.Store conn.old).now.trees) }
     ensures clean { HasCleanDisk (state A.Store conn.new) → HasCleanDisk (state A.Store conn.old) }
+    ensures fault { IfErr result (EndsRun (socket_rules S.opens S.closes S.Socket.sends S.Socket.receives S.Socket.receives_within) (IsNoInstance entry.now.row.source.instance) ⊥ sockets.new) }
 {
     let Asking {
         asked,

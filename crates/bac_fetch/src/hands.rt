@@ -1,7 +1,8 @@
 //! What comes to the first questions of a run, before any of it is kept.
 
-ghost use Rattle.std.specs.Prelude.{◌≡◌, IfOk};
+ghost use Rattle.std.specs.Prelude.{◌≡◌, IfOk, IfErr};
 ghost use Rattle.bac_link.specs.Path.{towards};
+ghost use Rattle.bac_asked.specs.Faults.{WantsMemory};
 ghost use Rattle.bac_fetch.specs.Hands.{Steps, StepsAt};
 
 use bac_asked::{Ending, Fault, NotDone};
@@ -34,6 +35,7 @@ pub(crate) fn take_step<L: LogLink>(
     ensures retries { transactions.new.retries ≡ transactions.old.retries }
     ensures route { transactions.new.route ≡ transactions.old.route }
     ensures steps { IfOk result (λ hand. Steps L.asks (towards transactions.old.route) transactions.old.retries place free link.old walk hand link.new) }
+    ensures fault { IfErr result WantsMemory }
 {
     match gather(alloc, link, transactions, &mut walk, place, free) {
         Ok(gathered) => match gathered.step.ended {
@@ -64,6 +66,7 @@ pub(crate) fn take_step_at<L: LogLink>(
     ensures retries { transactions.new.retries ≡ transactions.old.retries }
     ensures route { transactions.new.route ≡ transactions.old.route }
     ensures steps { IfOk result (λ hand. StepsAt L.asks (towards transactions.old.route) transactions.old.retries place link.old log number hand link.new) }
+    ensures fault { IfErr result WantsMemory }
 {
     match Walk::from_number(log, number) {
         Some(walk) => take_step(alloc, link, transactions, walk, place, 0),

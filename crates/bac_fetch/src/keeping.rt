@@ -1,12 +1,14 @@
 //! Logs are added to an archive, and what is new of them is kept.
 
-ghost use Rattle.std.specs.Prelude.{◌≡◌, ◌≢◌, ◌∷◌, ◌++◌, OnOk, IfOk, List, [], map, option_map};
+ghost use Rattle.std.specs.Prelude.{◌≡◌, ◌≢◌, ◌⊎◌, ◌∷◌, ◌++◌, IfErr, IfOk, OnOk, List, [], map, option_map};
 ghost use Rattle.std.specs.List.{All};
 ghost use Rattle.sqlite.specs.State.{HasCleanDisk, Survives};
 ghost use Rattle.sqlite.specs.Held.{state};
 ghost use Rattle.bac_archive.specs.Schema.{archive_schema};
 ghost use Rattle.bac_archive.specs.Logs.{AreLogs};
 ghost use Rattle.bac_ports.specs.Sockets.{socket_rules};
+ghost use Rattle.bac_asked.specs.Faults.{WantsMemory};
+ghost use Rattle.bac_fetch.specs.Faults.{EndsChosen, EndsKeeping, EndsKept, EndsLog, EndsRun, HasNoInstance, HasNone, IsNoInstance, LacksAddress};
 ghost use Rattle.bac_fetch.specs.Keeps.{AreToldBy, IsRowOf, IsToldBy, KeepsAll, KeepsHeard, KeepsLog, KeepsLogs, KeepsNext, KeepsUnless, trend_log};
 ghost use Rattle.bac_fetch.specs.Entries.{IsEntry};
 ghost use Rattle.bac_fetch.specs.Moves.{Settles};
@@ -15,7 +17,8 @@ ghost use Rattle.bac_archive.specs.declared.trend_logs.Log.{Log as LogOf};
 ghost use Rattle.bac_fetch.specs.declared.entry.Entry.{Entry as EntryOf};
 ghost use Rattle.bac_fetch.specs.declared.whose.Heard.{Heard as HeardOf};
 ghost use Rattle.bac_fetch.specs.Discovered.{AreFound};
-ghost use Rattle.bac_asked.specs.Wanted.{AsksItsSource};
+ghost use Rattle.bac_asked.specs.AsLog.{given_in};
+ghost use Rattle.bac_asked.specs.Wanted.{AsksItsSource, HasNoAddress};
 ghost use Rattle.bac_fetch.specs.Chosen.{AreChosen, AreKeptLogs, AskTheirSources, not_stopped};
 ghost use Rattle.bac_fetch.specs.Stays.{HasAllOf};
 ghost use Rattle.bac_asked.specs.declared.wanted.Wanted.{Wanted as WantedOf};
@@ -61,6 +64,7 @@ fn add_kept(
     ensures asks { OnOk result (All AsksItsSource all.old.items → All AsksItsSource all.new.items) }
     ensures added { OnOk result (map (λ (w : WantedOf). w.source) all.new.items
         ≡ map (λ (w : WantedOf). w.source) all.old.items ++ map (λ (l : LogOf). l.source) (not_stopped (log ∷ []))) }
+    ensures fault { IfErr result (λ fault. WantsMemory fault ⊎ ((fault ≡ NotDone.File FileFault.Address) × HasNoAddress (given_in options.now) log.source)) }
 {
     if log.stopped {
         return Ok(());
@@ -84,6 +88,10 @@ fn kept_logs<A: Alter>(
         → OnOk result ((state A.Store conn.new).now ≡ (state A.Store conn.old).now) }
     ensures crash { (state A.Store conn.old).now.schema ≡ archive_schema → Survives (state A.Store conn.old) (state A.Store conn.new) (λ _. ⊥) }
     ensures clean { HasCleanDisk (state A.Store conn.new) → HasCleanDisk (state A.Store conn.old) }
+    ensures fault { IfErr result (EndsKept (HasCleanDisk (state A.Store conn.new) → (state A.Store conn.old).now.schema ≡ archive_schema
+        → HasNone (state A.Store conn.old).now.trees)
+        (HasCleanDisk (state A.Store conn.new) → (state A.Store conn.old).now.schema ≡ archive_schema
+        → LacksAddress (given_in options.now) (state A.Store conn.old).now.trees)) }
 {
     let known = match logs(alloc, conn) {
         Ok(known) => known,
@@ -105,7 +113,9 @@ fn tell_anew<E: Write>(
     source: &Source,
     began: Began,
     errors: &mut E,
-) -> Result<(), NotDone> {
+) -> Result<(), NotDone>
+    ensures fault { IfErr result WantsMemory }
+{
     if began == Began::GoesOn {
         return Ok(());
     }
@@ -133,6 +143,7 @@ fn fetch_counted<S: Sockets, A: Alter, E: Write>(
     ensures stays { HasCleanDisk (state A.Store conn.new) → (state A.Store conn.old).now.schema ≡ archive_schema
         → Survives (state A.Store conn.old) (state A.Store conn.new) (HasAllOf (state A.Store conn.old).now.trees) }
     ensures clean { HasCleanDisk (state A.Store conn.new) → HasCleanDisk (state A.Store conn.old) }
+    ensures fault { IfErr result (EndsRun (socket_rules S.opens S.closes S.Socket.sends S.Socket.receives S.Socket.receives_within) (IsNoInstance entry.now.row.source.instance) ⊥ sockets.new) }
 {
     let mut count = Count::new(alloc, &entry.row.source, errors, counts);
     let fetched = fetch(alloc, sockets, conn, entry, asking, &mut count);
@@ -166,6 +177,7 @@ fn keep_one<S: Sockets, A: Alter, O: Write, E: Write>(
     ensures stays { HasCleanDisk (state A.Store conn.new) → (state A.Store conn.old).now.schema ≡ archive_schema
         → Survives (state A.Store conn.old) (state A.Store conn.new) (HasAllOf (state A.Store conn.old).now.trees) }
     ensures clean { HasCleanDisk (state A.Store conn.new) → HasCleanDisk (state A.Store conn.old) }
+    ensures fault { IfErr result (EndsRun (socket_rules S.opens S.closes S.Socket.sends S.Socket.receives S.Socket.receives_within) (IsNoInstance wanted.source.instance) ⊥ sockets.new) }
 {
     let Wanted {
         source,
@@ -209,6 +221,7 @@ fn keep_unless<S: Sockets, A: Alter, O: Write, E: Write>(
     ensures stays { HasCleanDisk (state A.Store conn.new) → (state A.Store conn.old).now.schema ≡ archive_schema
         → Survives (state A.Store conn.old) (state A.Store conn.new) (HasAllOf (state A.Store conn.old).now.trees) }
     ensures clean { HasCleanDisk (state A.Store conn.new) → HasCleanDisk (state A.Store conn.old) }
+    ensures fault { IfErr result (EndsRun (socket_rules S.opens S.closes S.Socket.sends S.Socket.receives S.Socket.receives_within) (IsNoInstance wanted.source.instance) ⊥ sockets.new) }
 {
     let log = log_among(known, at, &wanted.source);
     match why {
@@ -238,6 +251,7 @@ fn keep_heard<S: Sockets, A: Alter, O: Write, E: Write>(
     ensures stays { HasCleanDisk (state A.Store conn.new) → (state A.Store conn.old).now.schema ≡ archive_schema
         → Survives (state A.Store conn.old) (state A.Store conn.new) (HasAllOf (state A.Store conn.old).now.trees) }
     ensures clean { HasCleanDisk (state A.Store conn.new) → HasCleanDisk (state A.Store conn.old) }
+    ensures fault { IfErr result (EndsRun (socket_rules S.opens S.closes S.Socket.sends S.Socket.receives S.Socket.receives_within) (IsNoInstance wanted.source.instance) ⊥ sockets.new) }
 {
     let said = said_of(sockets, alloc, heard.as_slice(), &wanted)?;
     let on_record = device_on_record(known, at, &wanted.source);
@@ -272,6 +286,7 @@ fn keep_next<S: Sockets, A: Alter, O: Write, E: Write>(
     ensures stays { HasCleanDisk (state A.Store conn.new) → (state A.Store conn.old).now.schema ≡ archive_schema
         → Survives (state A.Store conn.old) (state A.Store conn.new) (HasAllOf (state A.Store conn.old).now.trees) }
     ensures clean { HasCleanDisk (state A.Store conn.new) → HasCleanDisk (state A.Store conn.old) }
+    ensures fault { IfErr result (EndsRun (socket_rules S.opens S.closes S.Socket.sends S.Socket.receives S.Socket.receives_within) (IsNoInstance wanted.source.instance) ⊥ sockets.new) }
 {
     if is_silent(heard.as_slice(), &wanted.source) {
         let log = log_among(known, at, &wanted.source);
@@ -301,6 +316,7 @@ fn keep_known<S: Sockets, A: Alter, O: Write, E: Write>(
     ensures stays { HasCleanDisk (state A.Store conn.new) → (state A.Store conn.old).now.schema ≡ archive_schema
         → Survives (state A.Store conn.old) (state A.Store conn.new) (HasAllOf (state A.Store conn.old).now.trees) }
     ensures clean { HasCleanDisk (state A.Store conn.new) → HasCleanDisk (state A.Store conn.old) }
+    ensures fault { IfErr result (EndsRun (socket_rules S.opens S.closes S.Socket.sends S.Socket.receives S.Socket.receives_within) (HasNoInstance all.items) ⊥ sockets.new) }
 {
     let mut heard = heard;
     let mut greatest = 0u8;
@@ -323,6 +339,7 @@ fn logs_of<A: Alter>(conn: &mut Connection<A>, alloc: Global) -> Result<Vec<Log>
         → OnOk result ((state A.Store conn.new).now ≡ (state A.Store conn.old).now) }
     ensures crash { (state A.Store conn.old).now.schema ≡ archive_schema → Survives (state A.Store conn.old) (state A.Store conn.new) (λ _. ⊥) }
     ensures clean { HasCleanDisk (state A.Store conn.new) → HasCleanDisk (state A.Store conn.old) }
+    ensures fault { IfErr result EndsLog }
 {
     match logs(alloc, conn) {
         Ok(known) => Ok(known),
@@ -348,6 +365,7 @@ fn keep_settled<S: Sockets, A: Alter, O: Write, E: Write>(
     ensures stays { HasCleanDisk (state A.Store conn.new) → (state A.Store conn.old).now.schema ≡ archive_schema
         → Survives (state A.Store conn.old) (state A.Store conn.new) (HasAllOf (state A.Store conn.old).now.trees) }
     ensures clean { HasCleanDisk (state A.Store conn.new) → HasCleanDisk (state A.Store conn.old) }
+    ensures fault { IfErr result (EndsRun (socket_rules S.opens S.closes S.Socket.sends S.Socket.receives S.Socket.receives_within) (HasNoInstance all.items) ⊥ sockets.new) }
 {
     let known = logs_of(conn, alloc)?;
     keep_known(
@@ -379,6 +397,9 @@ fn settle_known<S: Sockets, A: Alter, E: Write>(
     ensures stays { HasCleanDisk (state A.Store conn.new) → (state A.Store conn.old).now.schema ≡ archive_schema
         → Survives (state A.Store conn.old) (state A.Store conn.new) (HasAllOf (state A.Store conn.old).now.trees) }
     ensures clean { HasCleanDisk (state A.Store conn.new) → HasCleanDisk (state A.Store conn.old) }
+    ensures fault { IfErr result (EndsRun (socket_rules S.opens S.closes S.Socket.sends S.Socket.receives S.Socket.receives_within) ⊥
+        (HasCleanDisk (state A.Store conn.new) → (state A.Store conn.old).now.schema ≡ archive_schema
+        → LacksAddress (given_in options.now) (state A.Store conn.old).now.trees) sockets.new) }
 {
     let known = logs_of(conn, alloc)?;
     settle(sockets, conn, alloc, known.as_slice(), all, options, errors)
@@ -410,6 +431,10 @@ pub fn keep_each<S: Sockets, A: Alter, O: Write, E: Write>(
     ensures stays { HasCleanDisk (state A.Store conn.new) → (state A.Store conn.old).now.schema ≡ archive_schema
         → Survives (state A.Store conn.old) (state A.Store conn.new) (HasAllOf (state A.Store conn.old).now.trees) }
     ensures clean { HasCleanDisk (state A.Store conn.new) → HasCleanDisk (state A.Store conn.old) }
+    // Or it ends before that.
+    ensures fault { IfErr result (EndsRun (socket_rules S.opens S.closes S.Socket.sends S.Socket.receives S.Socket.receives_within) (HasNoInstance all.items)
+        (HasCleanDisk (state A.Store conn.new) → (state A.Store conn.old).now.schema ≡ archive_schema
+        → LacksAddress (given_in options.now) (state A.Store conn.old).now.trees) sockets.new) }
 {
     let heard = settle_known(sockets, conn, alloc, all.as_slice(), options, errors)?;
     keep_settled(sockets, conn, alloc, heard, all, counts, output, errors)
@@ -434,6 +459,12 @@ fn chosen_logs<S: Sockets, A: Alter>(
         → OnOk result ((state A.Store conn.new).now ≡ (state A.Store conn.old).now) }
     ensures crash { (state A.Store conn.old).now.schema ≡ archive_schema → Survives (state A.Store conn.old) (state A.Store conn.new) (λ _. ⊥) }
     ensures clean { HasCleanDisk (state A.Store conn.new) → HasCleanDisk (state A.Store conn.old) }
+    ensures fault { IfErr result (EndsChosen (socket_rules S.opens S.closes S.Socket.sends S.Socket.receives S.Socket.receives_within) chosen
+        (HasCleanDisk (state A.Store conn.new) → (state A.Store conn.old).now.schema ≡ archive_schema
+        → HasNone (state A.Store conn.old).now.trees)
+        (HasCleanDisk (state A.Store conn.new) → (state A.Store conn.old).now.schema ≡ archive_schema
+        → LacksAddress (given_in options.now) (state A.Store conn.old).now.trees)
+        sockets.old sockets.new) }
 {
     match chosen {
         Chosen::Kept => kept_logs(alloc, conn, options),
@@ -465,6 +496,13 @@ pub fn keep_chosen<S: Sockets, A: Alter, O: Write, E: Write>(
     ensures stays { HasCleanDisk (state A.Store conn.new) → (state A.Store conn.old).now.schema ≡ archive_schema
         → Survives (state A.Store conn.old) (state A.Store conn.new) (HasAllOf (state A.Store conn.old).now.trees) }
     ensures clean { HasCleanDisk (state A.Store conn.new) → HasCleanDisk (state A.Store conn.old) }
+    // Or their names aren't found, or the run over them ends before that.
+    ensures fault { IfErr result (EndsKeeping (socket_rules S.opens S.closes S.Socket.sends S.Socket.receives S.Socket.receives_within) chosen
+        (HasCleanDisk (state A.Store conn.new) → (state A.Store conn.old).now.schema ≡ archive_schema
+        → HasNone (state A.Store conn.old).now.trees)
+        (HasCleanDisk (state A.Store conn.new) → (state A.Store conn.old).now.schema ≡ archive_schema
+        → LacksAddress (given_in options.now) (state A.Store conn.old).now.trees)
+        sockets.old sockets.new) }
 {
     let all = chosen_logs(sockets, conn, alloc, chosen, options)?;
     keep_each(sockets, conn, alloc, all, options, counts, output, errors)

@@ -1,13 +1,17 @@
 //! A device that has moved: it tells at one place the instance that is on record of logs at another.
 
-ghost use Rattle.std.specs.Prelude.{◌≡◌, ◌++◌, map, true, IfOk, OnOk, option_map};
+ghost use Rattle.std.specs.Prelude.{◌≡◌, ◌++◌, map, true, IfOk, OnOk, option_map, IfErr};
 ghost use Rattle.sqlite.specs.State.{HasCleanDisk, Survives};
 ghost use Rattle.sqlite.specs.Held.{state};
 ghost use Rattle.bac_archive.specs.Changes.{HasChangedLogs};
 ghost use Rattle.bac_archive.specs.Logs.{log_columns};
 ghost use Rattle.bac_archive.specs.Schema.{archive_schema};
 ghost use Rattle.bac_ports.specs.Sockets.{socket_rules};
-ghost use Rattle.bac_asked.specs.Wanted.{AsksItsSource};
+ghost use Rattle.std.specs.String.{string_bytes};
+ghost use Rattle.bac_asked.specs.Wanted.{AsksItsSource, HasNoAddress};
+ghost use Rattle.bac_asked.specs.AsLog.{given_in};
+ghost use Rattle.bac_asked.specs.Faults.{WantsMemory};
+ghost use Rattle.bac_fetch.specs.Faults.{EndsLog, EndsRun, HaveNoAddress};
 ghost use Rattle.bac_fetch.specs.Moves.{AreMoved, AsksThere, IsElsewhere, Settles, SettlesBy, SettlesFirst, SettlesUnless, is_placed, moved_columns, moved_of, stands};
 ghost use Rattle.bac_fetch.specs.Said.{Identifies};
 ghost use Rattle.bac_fetch.specs.Silent.{is_same_device};
@@ -118,6 +122,7 @@ fn move_logs<A: Alter>(
     ensures stays { (state A.Store conn.old).now.schema ≡ archive_schema
         → Survives (state A.Store conn.old) (state A.Store conn.new) (HasAllOf (state A.Store conn.old).now.trees) }
     ensures clean { HasCleanDisk (state A.Store conn.new) → HasCleanDisk (state A.Store conn.old) }
+    ensures fault { IfErr result EndsLog }
 {
     let Ok(moved) = moved_to(alloc, known, device, from, to) else {
         return Err(NotDone::Asking(Fault::Memory));
@@ -136,7 +141,9 @@ fn tell_place<E: Write>(
     to: &Source,
     has_moved: bool,
     errors: &mut E,
-) -> Result<(), NotDone> {
+) -> Result<(), NotDone>
+    ensures fault { IfErr result WantsMemory }
+{
     let mut text = Vec::new(alloc);
     let pushed = if has_moved {
         push_moved(&mut text, device, from, to)
@@ -152,7 +159,10 @@ fn tell_place<E: Write>(
 
 /// The same place once more.
 fn copy_source(alloc: Global, source: &Source) -> Result<Source, NotDone>
-    ensures { IfOk result (λ copy. is_same_device copy source.now ≡ true) }
+    ensures copy { IfOk result (λ copy. is_same_device copy source.now ≡ true) }
+    ensures same { IfOk result (λ copy. (string_bytes copy.address ≡ string_bytes source.now.address) × (copy.dnet ≡ source.now.dnet)
+        × (string_bytes copy.dadr ≡ string_bytes source.now.dadr) × (copy.instance ≡ source.now.instance)) }
+    ensures fault { IfErr result WantsMemory }
 {
     let (Ok(address), Ok(dadr)) = (
         String::from_str(alloc, &source.address),
@@ -175,8 +185,9 @@ fn identify_there<S: Sockets>(
     from: &Source,
     options: &Options<'_>,
 ) -> Result<Said, NotDone>
-    ensures { IfOk result (λ said. (there : _) × AsksItsSource there × (is_same_device there.source from.now ≡ true)
+    ensures identifies { IfOk result (λ said. (there : _) × AsksItsSource there × (is_same_device there.source from.now ≡ true)
         × Identifies (socket_rules S.opens S.closes S.Socket.sends S.Socket.receives S.Socket.receives_within) there.asking sockets.old said sockets.new) }
+    ensures fault { IfErr result (EndsRun (socket_rules S.opens S.closes S.Socket.sends S.Socket.receives S.Socket.receives_within) ⊥ (HasNoAddress (given_in options.now) from.now) sockets.new) }
 {
     let there = kept_at(alloc, copy_source(alloc, from)?, options)?;
     identify(sockets, alloc, &there.asking)
@@ -200,6 +211,7 @@ fn settle_from<S: Sockets, A: Alter, E: Write>(
     ensures stays { (state A.Store conn.old).now.schema ≡ archive_schema
         → Survives (state A.Store conn.old) (state A.Store conn.new) (HasAllOf (state A.Store conn.old).now.trees) }
     ensures clean { HasCleanDisk (state A.Store conn.new) → HasCleanDisk (state A.Store conn.old) }
+    ensures fault { IfErr result (EndsRun (socket_rules S.opens S.closes S.Socket.sends S.Socket.receives S.Socket.receives_within) ⊥ (HasNoAddress (given_in options.now) from.now) sockets.new) }
 {
     let said = identify_there(sockets, alloc, from, options)?;
     if is_told(device, said.identity) {
@@ -226,6 +238,7 @@ fn settle_by<S: Sockets, A: Alter, E: Write>(
     ensures stays { (state A.Store conn.old).now.schema ≡ archive_schema
         → Survives (state A.Store conn.old) (state A.Store conn.new) (HasAllOf (state A.Store conn.old).now.trees) }
     ensures clean { HasCleanDisk (state A.Store conn.new) → HasCleanDisk (state A.Store conn.old) }
+    ensures fault { IfErr result (EndsRun (socket_rules S.opens S.closes S.Socket.sends S.Socket.receives S.Socket.receives_within) ⊥ (HaveNoAddress (given_in options.now) known.now) sockets.new) }
 {
     let Identity::Told(device) = identity else {
         return Ok(());
@@ -262,6 +275,7 @@ fn settle_first<S: Sockets, A: Alter, E: Write>(
     ensures stays { (state A.Store conn.old).now.schema ≡ archive_schema
         → Survives (state A.Store conn.old) (state A.Store conn.new) (HasAllOf (state A.Store conn.old).now.trees) }
     ensures clean { HasCleanDisk (state A.Store conn.new) → HasCleanDisk (state A.Store conn.old) }
+    ensures fault { IfErr result (EndsRun (socket_rules S.opens S.closes S.Socket.sends S.Socket.receives S.Socket.receives_within) ⊥ (HaveNoAddress (given_in options.now) known.now) sockets.new) }
 {
     let source = copy_source(alloc, &first.source)?;
     let said = identify(sockets, alloc, &first.asking)?;
@@ -299,6 +313,7 @@ fn settle_unless<S: Sockets, A: Alter, E: Write>(
     ensures stays { (state A.Store conn.old).now.schema ≡ archive_schema
         → Survives (state A.Store conn.old) (state A.Store conn.new) (HasAllOf (state A.Store conn.old).now.trees) }
     ensures clean { HasCleanDisk (state A.Store conn.new) → HasCleanDisk (state A.Store conn.old) }
+    ensures fault { IfErr result (EndsRun (socket_rules S.opens S.closes S.Socket.sends S.Socket.receives S.Socket.receives_within) ⊥ (HaveNoAddress (given_in options.now) known.now) sockets.new) }
 {
     let mut heard = Vec::new(alloc);
     if is_placed(known, &first.source) {
@@ -329,6 +344,7 @@ pub(crate) fn settle<S: Sockets, A: Alter, E: Write>(
     ensures stays { (state A.Store conn.old).now.schema ≡ archive_schema
         → Survives (state A.Store conn.old) (state A.Store conn.new) (HasAllOf (state A.Store conn.old).now.trees) }
     ensures clean { HasCleanDisk (state A.Store conn.new) → HasCleanDisk (state A.Store conn.old) }
+    ensures fault { IfErr result (EndsRun (socket_rules S.opens S.closes S.Socket.sends S.Socket.receives S.Socket.receives_within) ⊥ (HaveNoAddress (given_in options.now) known.now) sockets.new) }
 {
     match all {
         [first, ..] => settle_unless(sockets, conn, alloc, known, first, options, errors),

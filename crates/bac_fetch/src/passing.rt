@@ -1,11 +1,12 @@
 //! The line of a log is printed, also of one that isn't fetched.
 
-ghost use Rattle.std.specs.Prelude.{◌≡◌, option_map, OnOk, IfOk};
+ghost use Rattle.std.specs.Prelude.{◌≡◌, option_map, OnOk, IfOk, IfErr};
 ghost use Rattle.std.specs.Io.KnownBytes.{Appends};
 ghost use Rattle.sqlite.specs.State.{HasCleanDisk, Survives};
 ghost use Rattle.sqlite.specs.Held.{state};
 ghost use Rattle.bac_archive.specs.Schema.{archive_schema};
 ghost use Rattle.bac_asked.specs.Lines.{summary_line};
+ghost use Rattle.bac_fetch.specs.Faults.{EndsLog};
 ghost use Rattle.bac_fetch.specs.Keeps.{IsNextOf, IsToldBy, next_behind};
 ghost use Rattle.bac_fetch.specs.Whose.{heard_with};
 
@@ -26,7 +27,8 @@ pub(crate) fn print_end<O: Write>(
     end: &End,
     output: &mut O,
 ) -> Result<(), NotDone>
-    ensures { OnOk result (Appends (O.contents output.old) (O.contents output.new) (summary_line source.now end.now)) }
+    ensures printed { OnOk result (Appends (O.contents output.old) (O.contents output.new) (summary_line source.now end.now)) }
+    ensures fault { IfErr result EndsLog }
 {
     let mut text = Vec::new(alloc);
     if push_summary(&mut text, source, end).is_err() {
@@ -60,6 +62,7 @@ fn next_of<A: Alter>(
         → OnOk result ((state A.Store conn.new).now ≡ (state A.Store conn.old).now) }
     ensures crash { (state A.Store conn.old).now.schema ≡ archive_schema → Survives (state A.Store conn.old) (state A.Store conn.new) (λ _. ⊥) }
     ensures clean { HasCleanDisk (state A.Store conn.new) → HasCleanDisk (state A.Store conn.old) }
+    ensures fault { IfErr result EndsLog }
 {
     let Some(id) = id else {
         return Ok(1);
@@ -92,6 +95,7 @@ pub(crate) fn pass_over<A: Alter, O: Write>(
         → ((state A.Store conn.new).now ≡ (state A.Store conn.old).now) × IsNextOf (state A.Store conn.old).now.trees (option_map (λ l. l.id) (option_map (λ it. it.now) log.entry)) end.next))) }
     ensures crash { (state A.Store conn.old).now.schema ≡ archive_schema → Survives (state A.Store conn.old) (state A.Store conn.new) (λ _. ⊥) }
     ensures clean { HasCleanDisk (state A.Store conn.new) → HasCleanDisk (state A.Store conn.old) }
+    ensures fault { IfErr result EndsLog }
 {
     let end = End {
         records: 0,
@@ -122,6 +126,7 @@ pub(crate) fn pass_by<A: Alter, O: Write>(
         → ((state A.Store conn.new).now ≡ (state A.Store conn.old).now) × IsNextOf (state A.Store conn.old).now.trees (option_map (λ l. l.id) (option_map (λ it. it.now) log.entry)) end.next))) }
     ensures crash { (state A.Store conn.old).now.schema ≡ archive_schema → Survives (state A.Store conn.old) (state A.Store conn.new) (λ _. ⊥) }
     ensures clean { HasCleanDisk (state A.Store conn.new) → HasCleanDisk (state A.Store conn.old) }
+    ensures fault { IfErr result EndsLog }
 {
     let status = pass_over(conn, alloc, log, &source, why, output)?;
     add_heard(heard, source, said, why)?;

@@ -1,6 +1,6 @@
 //! Single questions to a device.
 
-ghost use Rattle.std.specs.Prelude.{◌≡◌, Err, ◌<◌, ◌^◌, ℕ, IfOk, IfSome, IsNone, IsSomeAnd, List, OnOk};
+ghost use Rattle.std.specs.Prelude.{◌≡◌, Err, ◌<◌, ◌^◌, ℕ, IfErr, IfOk, IfSome, IsNone, IsSomeAnd, List, OnOk};
 ghost use Rattle.bac_wire.specs.OptionChain.{GivesSome};
 ghost use Rattle.bac_wire.specs.Primitive.{Chars, Id, Primitive, Unsigned};
 ghost use Rattle.bac_wire.specs.View.{view};
@@ -9,6 +9,7 @@ ghost use Rattle.bac_link.specs.Datagrams.{apdu_in};
 ghost use Rattle.bac_link.specs.Path.{towards};
 ghost use Rattle.bac_query.specs.Reading.{values_in};
 ghost use Rattle.bac_fetch.specs.Discovered.{IsObject, Reads, ReadsNumber, Tells, TellsObject};
+ghost use Rattle.bac_fetch.specs.Unfound.{LacksNumber};
 ghost use Rattle.bac_fetch.specs.Starts.{AsksFor, Counts};
 
 use bac_apdu::{Apdu, ReadProperty, ReadPropertyAck};
@@ -165,16 +166,15 @@ pub(crate) fn read_number<L: LogLink>(
 ) -> Result<u32, ExchangeFault>
     ensures reads { IfOk result (λ number. ReadsNumber (Reads L.asks (towards transactions.old.route) transactions.old.retries)
         (record { object = object; property = property; index = index }) link.old number link.new) }
+    ensures lacks { IfErr result (λ fault. LacksNumber (Reads L.asks (towards transactions.old.route) transactions.old.retries)
+        (record { object = object; property = property; index = index }) link.old fault link.new) }
     ensures retries { OnOk result (transactions.new.retries ≡ transactions.old.retries) }
     ensures route { OnOk result (transactions.new.route ≡ transactions.old.route) }
 {
     let answer = read(link, transactions, object, property, index)?;
-    let Some(Value::Unsigned(number)) = value_in(&answer) else {
-        return Err(ExchangeFault::BadReply);
-    };
-    match u32::try_from(number) {
-        Ok(number) => Ok(number),
-        Err(_) => Err(ExchangeFault::BadReply),
+    match number_in(&answer) {
+        Some(number) => Ok(number),
+        None => Err(ExchangeFault::BadReply),
     }
 }
 

@@ -1,10 +1,12 @@
 //! What a device says of itself: its instance, its last restart and the revision of its database.
 
-ghost use Rattle.std.specs.Prelude.{◌≡◌, Ok, IsNone, IfOk, IfSome, ℕ};
+ghost use Rattle.std.specs.Prelude.{◌≡◌, ◌<◌, Ok, IsNone, IfOk, IfSome, ℕ, IfErr};
 ghost use Rattle.std.specs.String.{string_bytes};
 ghost use Rattle.bac_archive.specs.Logs.{told_values};
 ghost use Rattle.bac_link.specs.Path.{towards};
 ghost use Rattle.bac_ports.specs.Sockets.{socket_rules};
+ghost use Rattle.bac_asked.specs.Faults.{WantsMemory};
+ghost use Rattle.bac_fetch.specs.Faults.{EndsAsking};
 ghost use Rattle.bac_fetch.specs.Discovered.{Reads};
 ghost use Rattle.bac_fetch.specs.Said.{AsksRestart, Identifies, IsIdentity, IsRestart, Says, SaysBehind, SaysMore, TellsDevice, copies, itself_asked, itself_of, nothing_told, says_all, silent};
 
@@ -101,6 +103,7 @@ fn read_identity<L: LogLink>(
     ensures says { IfOk result (λ identity. (answer : _) × IsIdentity answer identity × Reads L.asks (towards transactions.old.route) transactions.old.retries itself_asked link.old answer link.new) }
     ensures retries { transactions.new.retries ≡ transactions.old.retries }
     ensures route { transactions.new.route ≡ transactions.old.route }
+    ensures fault { IfErr result WantsMemory }
 {
     let Some(itself) = ObjectId::new(DEVICE, ITSELF) else {
         return Err(NotDone::Asking(Fault::BadValue(Word::Instance)));
@@ -117,7 +120,8 @@ fn read_identity<L: LogLink>(
 
 /// The restart that an answer tells.
 fn restart_in(alloc: Global, answer: &Datagram) -> Result<Restart, NotDone>
-    ensures { IfOk result (λ restart. IsRestart (Ok answer.now) restart) }
+    ensures restart { IfOk result (λ restart. IsRestart (Ok answer.now) restart) }
+    ensures fault { IfErr result WantsMemory }
 {
     let Some(values) = values_in(answer) else {
         return Ok(Restart::Untold);
@@ -138,6 +142,7 @@ fn read_restart<L: LogLink>(
     ensures asks { IfOk result (λ restart. AsksRestart L.asks (towards transactions.old.route) transactions.old.retries link.old itself restart link.new) }
     ensures retries { transactions.new.retries ≡ transactions.old.retries }
     ensures route { transactions.new.route ≡ transactions.old.route }
+    ensures fault { IfErr result WantsMemory }
 {
     match read(link, transactions, itself, TIME_OF_DEVICE_RESTART, None) {
         Ok(answer) => restart_in(alloc, &answer),
@@ -183,7 +188,8 @@ fn read_more<L: LogLink>(
     transactions: &mut Transactions,
     device: u32,
 ) -> Result<Said, NotDone>
-    ensures { IfOk result (λ said. SaysMore L.asks (towards transactions.old.route) transactions.old.retries link.old (itself_of device) said link.new) }
+    ensures says { IfOk result (λ said. SaysMore L.asks (towards transactions.old.route) transactions.old.retries link.old (itself_of device) said link.new) }
+    ensures fault { device < 4194304 → IfErr result WantsMemory }
 {
     let Some(itself) = ObjectId::new(DEVICE, device) else {
         return Err(NotDone::Asking(Fault::BadValue(Word::Instance)));
@@ -201,7 +207,8 @@ fn read_said<L: LogLink>(
     link: &mut L,
     transactions: &mut Transactions,
 ) -> Result<Said, NotDone>
-    ensures { IfOk result (λ said. Says L.asks (towards transactions.old.route) transactions.old.retries link.old said link.new) }
+    ensures says { IfOk result (λ said. Says L.asks (towards transactions.old.route) transactions.old.retries link.old said link.new) }
+    ensures fault { IfErr result WantsMemory }
 {
     match read_identity(link, transactions)? {
         Identity::Told(device) => read_more(alloc, link, transactions, device),
@@ -218,7 +225,8 @@ pub(crate) fn identify<S: Sockets>(
     alloc: Global,
     like: &Asking,
 ) -> Result<Said, NotDone>
-    ensures { IfOk result (λ said. Identifies (socket_rules S.opens S.closes S.Socket.sends S.Socket.receives S.Socket.receives_within) like.now sockets.old said sockets.new) }
+    ensures identifies { IfOk result (λ said. Identifies (socket_rules S.opens S.closes S.Socket.sends S.Socket.receives S.Socket.receives_within) like.now sockets.old said sockets.new) }
+    ensures fault { IfErr result (EndsAsking (socket_rules S.opens S.closes S.Socket.sends S.Socket.receives S.Socket.receives_within) like.now.asked sockets.old sockets.new) }
 {
     let asked = asked_like(like, 0)?.asked;
     let (mut link, mut transactions) = connect(sockets, asked)?;
@@ -241,6 +249,7 @@ pub(crate) fn copy_text(alloc: Global, text: &Option<String>) -> Result<Option<S
 pub(crate) fn copy_said(alloc: Global, said: &Said) -> Result<Said, NotDone>
     ensures identity { IfOk result (λ copy. copy.identity ≡ said.now.identity) }
     ensures told { IfOk result (λ copy. told_values copy.told ≡ told_values said.now.told) }
+    ensures fault { IfErr result WantsMemory }
 {
     let Ok(restart) = copy_text(alloc, &said.told.restart) else {
         return Err(NotDone::Asking(Fault::Memory));

@@ -1,12 +1,13 @@
 //! Where a log stands in an archive.
 
-ghost use Rattle.std.specs.Prelude.{◌≡◌, ◌<◌, ◌++◌, ◌∷◌, [], List, IfNone, IfOk, IfSome, OnOk};
+ghost use Rattle.std.specs.Prelude.{◌≡◌, ◌<◌, ◌++◌, ◌∷◌, [], List, IfNone, IfOk, IfSome, OnOk, IfErr};
 ghost use Rattle.bac_archive.specs.declared.epochs.Beginning.{Beginning as BeginningOf};
 ghost use Rattle.bac_archive.specs.Rows.{kept};
 ghost use Rattle.sqlite.specs.State.{HasCleanDisk, Survives};
 ghost use Rattle.sqlite.specs.Held.{state};
 ghost use Rattle.bac_archive.specs.Schema.{archive_schema};
 ghost use Rattle.bac_link.specs.Ordinals.{number_after};
+ghost use Rattle.bac_fetch.specs.Faults.{EndsLog};
 ghost use Rattle.bac_fetch.specs.Stands.{AreFlagsOf, BeganLast, IsItemOf, IsLastOf, IsStand, begins_at_one, epoch_from, epoch_of, flags_in, free_from, kept_last, number_before, octets, stand_by, word_at};
 
 use bac_archive::{Beginning, NewestItem, Row, beginnings, head_of, is_archive, newest};
@@ -72,6 +73,7 @@ fn began_last<A: Alter>(
     ensures crash { (HasCleanDisk (state A.Store conn.old) → (state A.Store conn.old).now.schema ≡ archive_schema)
         → Survives (state A.Store conn.old) (state A.Store conn.new) (λ _. ⊥) }
     ensures clean { HasCleanDisk (state A.Store conn.new) → HasCleanDisk (state A.Store conn.old) }
+    ensures fault { IfErr result EndsLog }
 {
     match beginnings(alloc, conn) {
         Ok(all) => Ok(last_of(all.as_slice(), id)),
@@ -106,6 +108,7 @@ fn last_flags<A: Alter>(
         → OnOk result ((state A.Store conn.new).now ≡ (state A.Store conn.old).now) }
     ensures crash { Survives (state A.Store conn.old) (state A.Store conn.new) (λ _. ⊥) }
     ensures clean { HasCleanDisk (state A.Store conn.new) → HasCleanDisk (state A.Store conn.old) }
+    ensures fault { IfErr result EndsLog }
 {
     if !is_archive(conn.schema()) {
         return Err(NotDone::File(FileFault::Foreign));
@@ -128,6 +131,7 @@ fn last_item<A: Alter>(
         → OnOk result ((state A.Store conn.new).now ≡ (state A.Store conn.old).now) }
     ensures crash { (state A.Store conn.old).now.schema ≡ archive_schema → Survives (state A.Store conn.old) (state A.Store conn.new) (λ _. ⊥) }
     ensures clean { HasCleanDisk (state A.Store conn.new) → HasCleanDisk (state A.Store conn.old) }
+    ensures fault { IfErr result EndsLog }
 {
     match newest(conn, id) {
         Ok(Some(item)) => {
@@ -170,6 +174,7 @@ pub(crate) fn stand_of<A: Alter>(
     // Whatever comes of it, nothing is committed.
     ensures crash { (state A.Store conn.old).now.schema ≡ archive_schema → Survives (state A.Store conn.old) (state A.Store conn.new) (λ _. ⊥) }
     ensures clean { HasCleanDisk (state A.Store conn.new) → HasCleanDisk (state A.Store conn.old) }
+    ensures fault { IfErr result EndsLog }
 {
     let last = last_item(alloc, conn, id)?;
     let begun = began_last(alloc, conn, id)?;

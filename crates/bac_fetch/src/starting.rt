@@ -1,10 +1,11 @@
 //! Where a run over a log begins: the one rule.
 
-ghost use Rattle.std.specs.Prelude.{◌≡◌, None, Ok, IfOk};
+ghost use Rattle.std.specs.Prelude.{◌≡◌, None, Ok, IfOk, IfErr};
 ghost use Rattle.bac_link.specs.Ordinals.{number_after};
 ghost use Rattle.bac_link.specs.Path.{towards};
 ghost use Rattle.bac_walk.specs.Place.{walk_at};
 ghost use Rattle.bac_keep.specs.Looks.{Looks};
+ghost use Rattle.bac_asked.specs.Faults.{WantsMemory};
 ghost use Rattle.bac_fetch.specs.Stands.{kept_last, word_at};
 ghost use Rattle.bac_fetch.specs.Starts.{AsksBeginning, BeginsBy, BeginsWith, ByCount, ByCourse, ByHand, BySeen, CountsWhere, FindsBeginning, GoesFrom, IsAnew, IsFirst, KeepsNone, OpensFirst, OpensWith, StartsNew, asks_count, counted, next_from};
 
@@ -86,6 +87,7 @@ fn begin_first<L: LogLink>(
     ensures retries { transactions.new.retries ≡ transactions.old.retries }
     ensures route { transactions.new.route ≡ transactions.old.route }
     ensures opens { IfOk result (OpensFirst L.asks (towards transactions.old.route) transactions.old.retries link.old link.new id log number) }
+    ensures fault { IfErr result WantsMemory }
 {
     let (Some(place), Some(walk)) = (Place::new(id, 0), Walk::oldest(log)) else {
         unreachable!()
@@ -112,6 +114,7 @@ fn start_first<L: LogLink>(
     ensures retries { transactions.new.retries ≡ transactions.old.retries }
     ensures route { transactions.new.route ≡ transactions.old.route }
     ensures first { IfOk result (λ begun. IsFirst L.asks (towards transactions.old.route) transactions.old.retries link.old id log count begun link.new) }
+    ensures fault { IfErr result WantsMemory }
 {
     match count {
         Count::Told(count) => {
@@ -186,6 +189,7 @@ fn begin_anew<L: LogLink>(
     ensures retries { transactions.new.retries ≡ transactions.old.retries }
     ensures route { transactions.new.route ≡ transactions.old.route }
     ensures anew { IfOk result (λ begun. IsAnew L.asks (towards transactions.old.route) transactions.old.retries link.old id log stand.now (Ok number) begun link.new) }
+    ensures fault { IfErr result WantsMemory }
 {
     let Some(place) = Place::new(id, epoch_of(stand).saturating_add(1)) else {
         return Ok(Err(none_behind(stand, Ending::Epochs)));
@@ -214,6 +218,7 @@ fn start_anew<L: LogLink>(
     ensures retries { transactions.new.retries ≡ transactions.old.retries }
     ensures route { transactions.new.route ≡ transactions.old.route }
     ensures anew { IfOk result (λ begun. IsAnew L.asks (towards transactions.old.route) transactions.old.retries link.old id log stand.now found begun link.new) }
+    ensures fault { IfErr result WantsMemory }
 {
     match found {
         Ok(number) => begin_anew(alloc, link, transactions, id, log, stand, number),
@@ -239,6 +244,7 @@ fn start_by<L: LogLink>(
     ensures retries { transactions.new.retries ≡ transactions.old.retries }
     ensures route { transactions.new.route ≡ transactions.old.route }
     ensures starts { IfOk result (λ begun. ByCourse L.asks (towards transactions.old.route) transactions.old.retries link.old id log stand.now from hand seen count course begun link.new) }
+    ensures fault { IfErr result WantsMemory }
 {
     match course {
         Course::GoOn => go_on(alloc, link, transactions, hand, seen),
@@ -281,6 +287,7 @@ fn start_counted<L: LogLink>(
     ensures retries { transactions.new.retries ≡ transactions.old.retries }
     ensures route { transactions.new.route ≡ transactions.old.route }
     ensures starts { IfOk result (λ begun. ByCount L.asks (towards transactions.old.route) transactions.old.retries link.old id log word stand.now from hand seen count begun link.new) }
+    ensures fault { IfErr result WantsMemory }
 {
     if count == Count::Lost {
         return Ok(Err(none_behind(stand, Ending::Walk(Why::Fault(WalkFault::Lost)))));
@@ -346,6 +353,7 @@ fn start_seen<L: LogLink>(
     ensures retries { transactions.new.retries ≡ transactions.old.retries }
     ensures route { transactions.new.route ≡ transactions.old.route }
     ensures starts { IfOk result (λ begun. BySeen L.asks (towards transactions.old.route) transactions.old.retries link.old id log word stand.now from hand found begun link.new) }
+    ensures fault { IfErr result WantsMemory }
 {
     let seen = match found {
         Ok(seen) => seen,
@@ -379,6 +387,7 @@ fn look_behind<L: LogLink>(
     ensures retries { transactions.new.retries ≡ transactions.old.retries }
     ensures route { transactions.new.route ≡ transactions.old.route }
     ensures looks { IfOk result (λ found. Looks L.asks (towards transactions.old.route) transactions.old.retries link.old log (kept_last stand.now) found link.new) }
+    ensures fault { IfErr result WantsMemory }
 {
     match look_for(alloc, link, transactions, log, last_kept(stand)) {
         Ok(found) => Ok(found),
@@ -402,6 +411,7 @@ fn start_behind<L: LogLink>(
     ensures retries { transactions.new.retries ≡ transactions.old.retries }
     ensures route { transactions.new.route ≡ transactions.old.route }
     ensures starts { IfOk result (λ begun. ByHand L.asks (towards transactions.old.route) transactions.old.retries link.old id log word stand.now from hand begun link.new) }
+    ensures fault { IfErr result WantsMemory }
 {
     let hand = match hand {
         Ok(hand) => hand,
@@ -449,6 +459,7 @@ fn start_from<L: LogLink>(
     ensures retries { transactions.new.retries ≡ transactions.old.retries }
     ensures route { transactions.new.route ≡ transactions.old.route }
     ensures starts { IfOk result (λ begun. GoesFrom L.asks (towards transactions.old.route) transactions.old.retries link.old id log word stand.now steps begun link.new) }
+    ensures fault { IfErr result WantsMemory }
 {
     let Some((from, free)) = from_there(id, stand) else {
         return Ok(Err(none_behind(stand, Ending::Epochs)));
@@ -473,6 +484,7 @@ pub(crate) fn start_at<L: LogLink>(
     ensures retries { transactions.new.retries ≡ transactions.old.retries }
     ensures route { transactions.new.route ≡ transactions.old.route }
     ensures starts { IfOk result (λ begun. GoesFrom L.asks (towards transactions.old.route) transactions.old.retries link.old id log (word_at stand.now word) stand.now steps begun link.new) }
+    ensures fault { IfErr result WantsMemory }
 {
     let told = word_at(stand, word);
     start_from(alloc, link, transactions, id, log, told, stand, steps)
@@ -491,6 +503,7 @@ pub(crate) fn start_new<L: LogLink>(
     ensures retries { transactions.new.retries ≡ transactions.old.retries }
     ensures route { transactions.new.route ≡ transactions.old.route }
     ensures starts { IfOk result (λ begun. StartsNew L.asks (towards transactions.old.route) transactions.old.retries link.old id log begun link.new) }
+    ensures fault { IfErr result WantsMemory }
 {
     let count = read_count(link, transactions, log);
     start_first(alloc, link, transactions, id, log, count)

@@ -1,7 +1,9 @@
 //! Whose records these are: a device is known by its instance, and asked once in a run what it says.
 
-ghost use Rattle.std.specs.Prelude.{◌≡◌, ◌++◌, ◌∷◌, [], true, false, None, Some, IsNone, IfOk, IfSome, OnOk};
+ghost use Rattle.std.specs.Prelude.{◌≡◌, ◌++◌, ◌∷◌, [], true, false, None, Some, IsNone, IfOk, IfSome, OnOk, IfErr};
 ghost use Rattle.bac_ports.specs.Sockets.{socket_rules};
+ghost use Rattle.bac_asked.specs.Faults.{WantsMemory};
+ghost use Rattle.bac_fetch.specs.Faults.{EndsAsking};
 ghost use Rattle.bac_fetch.specs.Silent.{is_same_device};
 ghost use Rattle.bac_fetch.specs.Whose.{HeardAs, IsHeard, IsIdentified, IsOnRecord, heard_with, hindrance, is_elsewhere, is_heard, is_silent, is_told, of_device, stands_elsewhere, told_elsewhere, told_one};
 
@@ -54,7 +56,8 @@ pub(crate) fn said_of<S: Sockets>(
     heard: &[Heard],
     wanted: &Wanted,
 ) -> Result<Said, NotDone>
-    ensures { IfOk result (λ said. IsIdentified (socket_rules S.opens S.closes S.Socket.sends S.Socket.receives S.Socket.receives_within) heard.now wanted.now sockets.old said sockets.new) }
+    ensures identified { IfOk result (λ said. IsIdentified (socket_rules S.opens S.closes S.Socket.sends S.Socket.receives S.Socket.receives_within) heard.now wanted.now sockets.old said sockets.new) }
+    ensures fault { IfErr result (EndsAsking (socket_rules S.opens S.closes S.Socket.sends S.Socket.receives S.Socket.receives_within) wanted.now.asking.asked sockets.old sockets.new) }
 {
     match heard_of(heard, &wanted.source) {
         Some(said) => copy_said(alloc, said),
@@ -81,7 +84,8 @@ pub(crate) fn add_heard(
     said: Said,
     why: Ending,
 ) -> Result<(), NotDone>
-    ensures { OnOk result (heard.new.items ≡ heard_with heard.old.items source said why) }
+    ensures heard { OnOk result (heard.new.items ≡ heard_with heard.old.items source said why) }
+    ensures fault { IfErr result WantsMemory }
 {
     if is_lost(why) {
         return push_heard(heard, source, silent(), true);
@@ -98,7 +102,8 @@ fn push_heard(
     said: Said,
     was_told: bool,
 ) -> Result<(), NotDone>
-    ensures { OnOk result (heard.new.items ≡ heard.old.items ++ record { source = source; said = said; was_told = was_told } ∷ []) }
+    ensures pushed { OnOk result (heard.new.items ≡ heard.old.items ++ record { source = source; said = said; was_told = was_told } ∷ []) }
+    ensures fault { IfErr result WantsMemory }
 {
     let one = Heard {
         source,

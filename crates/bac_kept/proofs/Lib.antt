@@ -1,3 +1,4 @@
 pub mod PrintedLemmas
 pub mod CsvLemmas
 pub mod LogLinesLemmas
+pub mod FaultsLemmas

@@ -1,3 +1,4 @@
 pub mod Csv
 pub mod Printed
 pub mod LogLines
+pub mod Faults

@@ -1,12 +1,13 @@
 //! What is kept of logs, as CSV (RFC 4180).
 
-ghost use Rattle.std.specs.Prelude.{◌≡◌, ◌∷◌, ◌++◌, [], decimal, map, IfOk, OnOk, List};
+ghost use Rattle.std.specs.Prelude.{◌≡◌, ◌∷◌, ◌++◌, [], decimal, map, IfOk, OnOk, List, IfErr};
 ghost use Rattle.std.specs.Io.KnownBytes.{Appends};
 ghost use Rattle.csv.specs.Writing.{default_writer, row_text};
 ghost use Rattle.sqlite.specs.State.{HasCleanDisk, IsUnchanged};
 ghost use Rattle.sqlite.specs.Held.{state};
 ghost use Rattle.bac_archive.specs.Rows.{kept};
 ghost use Rattle.bac_archive.specs.Schema.{archive_schema};
+ghost use Rattle.bac_kept.specs.Faults.{EndsLines};
 ghost use Rattle.bac_kept.specs.Csv.{AreFieldsOf, IsRowText, IsValueText, WritesItems, device_text, gap_text, item_fields, name_text, names};
 ghost use Rattle.bac_asked.specs.Lines.{place_text};
 
@@ -128,7 +129,8 @@ fn renew_gap(text: &mut Vec<u8>, first: u32, last: Option<u32>) -> Result<(), Al
 
 /// The text of a row of these fields, in the memory of another text.
 fn row_of(mut text: Vec<u8>, fields: &[&[u8]]) -> Result<Vec<u8>, NotDone>
-    ensures { IfOk result (λ text. text.items ≡ row_text default_writer (map (λ f. f.now) fields.now)) }
+    ensures row { IfOk result (λ text. text.items ≡ row_text default_writer (map (λ f. f.now) fields.now)) }
+    ensures fault { IfErr result EndsLines }
 {
     text.clear();
     let mut writer = Writer::from_writer(text);
@@ -143,7 +145,8 @@ fn row_of(mut text: Vec<u8>, fields: &[&[u8]]) -> Result<Vec<u8>, NotDone>
 
 /// Writes a text, and gives it back.
 fn write_out<O: Write>(text: Vec<u8>, output: &mut O) -> Result<Vec<u8>, NotDone>
-    ensures { OnOk result (Appends (O.contents output.old) (O.contents output.new) text.items) }
+    ensures written { OnOk result (Appends (O.contents output.old) (O.contents output.new) text.items) }
+    ensures fault { IfErr result EndsLines }
 {
     match write_text(output, text.as_slice()) {
         Ok(()) => Ok(text),
@@ -153,7 +156,8 @@ fn write_out<O: Write>(text: Vec<u8>, output: &mut O) -> Result<Vec<u8>, NotDone
 
 /// Writes the row of names.
 pub(crate) fn write_names<O: Write>(alloc: Global, output: &mut O) -> Result<(), NotDone>
-    ensures { OnOk result (Appends (O.contents output.old) (O.contents output.new) (row_text default_writer names)) }
+    ensures written { OnOk result (Appends (O.contents output.old) (O.contents output.new) (row_text default_writer names)) }
+    ensures fault { IfErr result EndsLines }
 {
     let text = row_of(Vec::new(alloc), &NAMES)?;
     write_out(text, output)?;
@@ -170,6 +174,7 @@ fn item_row(
     ensures log { (fields.new.address ≡ fields.old.address) × (fields.new.device ≡ fields.old.device) × (fields.new.instance ≡ fields.old.instance) }
     ensures text { IfOk result (λ text. (value : List _) × IsValueText item.now.value value
         × (text.items ≡ row_text default_writer (item_fields fields.old.address.items fields.old.device.items fields.old.instance.items name.now item.now value))) }
+    ensures fault { IfErr result EndsLines }
 {
     if fields.take(item).is_err() {
         return Err(NotDone::Asking(Fault::Memory));
@@ -191,8 +196,9 @@ fn fields_row<'a>(
     datum: &'a [u8],
     flags: &'a [u8],
 ) -> Result<Vec<u8>, NotDone>
-    ensures { IfOk result (λ text. text.items ≡ row_text default_writer (fields.now.address.items ∷ fields.now.device.items ∷ fields.now.instance.items ∷ name.now ∷ fields.now.epoch.items ∷ fields.now.number.items
+    ensures row { IfOk result (λ text. text.items ≡ row_text default_writer (fields.now.address.items ∷ fields.now.device.items ∷ fields.now.instance.items ∷ name.now ∷ fields.now.epoch.items ∷ fields.now.number.items
         ∷ stamp.now ∷ fields.now.value.items ∷ datum.now ∷ flags.now ∷ [])) }
+    ensures fault { IfErr result EndsLines }
 {
     row_of(
         text,
@@ -232,6 +238,7 @@ fn write_row<O: Write>(
     ensures log { AreFieldsOf log.now fields.old → AreFieldsOf log.now fields.new }
     ensures text { AreFieldsOf log.now fields.old
         → OnOk result ((text : List _) × IsRowText log.now row.now text × Appends (O.contents output.old) (O.contents output.new) text) }
+    ensures fault { IfErr result EndsLines }
 {
     let item = match read_item(row) {
         Ok(item) => item,
@@ -254,6 +261,7 @@ pub(crate) fn write_items<A: Alter, O: Write>(
     ensures same { HasCleanDisk (state A.Store conn.new) → (state A.Store conn.old).now.schema ≡ archive_schema
         → OnOk result (IsUnchanged (state A.Store conn.old) (state A.Store conn.new)) }
     ensures clean { OnOk result (HasCleanDisk (state A.Store conn.new) → HasCleanDisk (state A.Store conn.old)) }
+    ensures fault { IfErr result EndsLines }
 {
     let Ok(mut fields) = Fields::of(alloc, log) else {
         return Err(NotDone::Asking(Fault::Memory));

@@ -1,6 +1,6 @@
 //! What is kept of logs is printed, in the lines of `bac log`.
 
-ghost use Rattle.std.specs.Prelude.{◌≡◌, ◌∷◌, [], ◌++◌, IfOk, OnOk, OnErr};
+ghost use Rattle.std.specs.Prelude.{◌≡◌, ◌∷◌, [], ◌++◌, IfOk, OnOk, OnErr, IfErr};
 ghost use Rattle.std.specs.Io.KnownBytes.{Appends};
 ghost use Rattle.sqlite.specs.State.{HasCleanDisk, IsUnchanged};
 ghost use Rattle.sqlite.specs.Held.{state};
@@ -8,6 +8,7 @@ ghost use Rattle.bac_archive.specs.Items.{epoch_in};
 ghost use Rattle.bac_archive.specs.Rows.{kept};
 ghost use Rattle.bac_archive.specs.Schema.{archive_schema};
 ghost use Rattle.bac_print.specs.Output.{AppendsPart};
+ghost use Rattle.bac_kept.specs.Faults.{EndsLines};
 ghost use Rattle.bac_kept.specs.Printed.{PrintsFront, PrintsItems, anew_if, item_line, log_line, row_lines};
 
 use bac_archive::{Item, Log, items_of, read_item};
@@ -73,6 +74,7 @@ fn push_log(text: &mut Vec<u8>, log: &Log) -> Result<(), AllocError>
 pub(crate) fn print_head<O: Write>(alloc: Global, log: &Log, output: &mut O) -> Result<(), NotDone>
     ensures ok { OnOk result (Appends (O.contents output.old) (O.contents output.new) (log_line log.now)) }
     ensures err { OnErr result (AppendsPart (O.contents output.old) (O.contents output.new) (log_line log.now)) }
+    ensures fault { IfErr result EndsLines }
 {
     let mut text = Vec::new(alloc);
     if push_log(&mut text, log).is_err() {
@@ -94,6 +96,7 @@ fn print_row<O: Write>(
 ) -> Result<u16, NotDone>
     ensures ok { IfOk result (λ now. (now ≡ epoch_in row.now) × Appends (O.contents output.old) (O.contents output.new) (row_lines epoch row.now)) }
     ensures err { OnErr result (AppendsPart (O.contents output.old) (O.contents output.new) (row_lines epoch row.now)) }
+    ensures fault { IfErr result EndsLines }
 {
     let item = match read_item(row) {
         Ok(item) => item,
@@ -124,6 +127,7 @@ pub(crate) fn print_items<A: Alter, O: Write>(
     ensures same { HasCleanDisk (state A.Store conn.new) → (state A.Store conn.old).now.schema ≡ archive_schema
         → OnOk result (IsUnchanged (state A.Store conn.old) (state A.Store conn.new)) }
     ensures clean { OnOk result (HasCleanDisk (state A.Store conn.new) → HasCleanDisk (state A.Store conn.old)) }
+    ensures fault { IfErr result EndsLines }
 {
     let mut text = Vec::new(alloc);
     let mut epoch = None;

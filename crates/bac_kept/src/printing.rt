@@ -1,6 +1,7 @@
 //! What an archive keeps of logs is printed, in lines or as CSV.
 
-ghost use Rattle.std.specs.Prelude.{◌≡◌, ◌++◌, true, false, IfOk, OnOk, List};
+ghost use Rattle.std.specs.Prelude.{◌≡◌, ◌≢◌, ◌++◌, true, false, IfErr, IfOk, OnOk, List};
+ghost use Rattle.std.specs.List.{All};
 ghost use Rattle.std.specs.Io.KnownBytes.{Appends, Keeps};
 ghost use Rattle.csv.specs.Writing.{default_writer, row_text};
 ghost use Rattle.sqlite.specs.State.{HasCleanDisk};
@@ -9,6 +10,7 @@ ghost use Rattle.bac_archive.specs.Logs.{AreLogs};
 ghost use Rattle.bac_archive.specs.Rows.{kept};
 ghost use Rattle.bac_archive.specs.Schema.{archive_schema};
 ghost use Rattle.bac_archive.specs.declared.trend_logs.Log.{Log as LogOf};
+ghost use Rattle.bac_kept.specs.Faults.{EndsLines, EndsPrinting, HasNoneOf};
 ghost use Rattle.bac_kept.specs.Csv.{WritesLog, WritesLogs, names};
 ghost use Rattle.bac_kept.specs.Printed.{PrintsLog, PrintsLogs, head_line, is_chosen};
 
@@ -47,7 +49,8 @@ impl Shown {
 
     /// Prints the line that names a log, unless it is the one that was chosen.
     fn print_head<O: Write>(&self, alloc: Global, log: &Log, output: &mut O) -> Result<(), NotDone>
-        ensures { OnOk result (Appends (O.contents output.old) (O.contents output.new) (head_line self.now log.now)) }
+        ensures head { OnOk result (Appends (O.contents output.old) (O.contents output.new) (head_line self.now log.now)) }
+        ensures fault { IfErr result EndsLines }
     {
         match self {
             Shown::One(_) => Ok(()),
@@ -69,6 +72,8 @@ fn print_log<A: Alter, O: Write>(
     ensures same { HasCleanDisk (state A.Store conn.new) → (state A.Store conn.old).now.schema ≡ archive_schema
         → OnOk result ((state A.Store conn.new).now ≡ (state A.Store conn.old).now) }
     ensures clean { OnOk result (HasCleanDisk (state A.Store conn.new) → HasCleanDisk (state A.Store conn.old)) }
+    ensures fault { IfErr result EndsLines }
+    ensures chosen { IfOk result (λ was. was ≡ is_chosen shown.now log.now) }
 {
     if !shown.has(log) {
         return Ok(false);
@@ -76,6 +81,16 @@ fn print_log<A: Alter, O: Write>(
     shown.print_head(alloc, log, output)?;
     print_items(alloc, conn, log, output)?;
     Ok(true)
+}
+
+/// How many logs were chosen, behind one more that was, or wasn't.
+fn counted(count: usize, was: bool) -> usize
+    ensures { result ≡ 0 → (count ≡ 0) × (was ≡ false) }
+{
+    if was {
+        return count.saturating_add(1);
+    }
+    count
 }
 
 /// Prints each of the logs in lines; with several, each after a line that names it.
@@ -89,12 +104,12 @@ fn print_logs<A: Alter, O: Write>(
     ensures printed { HasCleanDisk (state A.Store conn.new) → (state A.Store conn.old).now.schema ≡ archive_schema
         → OnOk result ((text : List _) × PrintsLogs shown.now (kept (state A.Store conn.old).now.trees) all.now text × Appends (O.contents output.old) (O.contents output.new) text) }
     ensures clean { OnOk result (HasCleanDisk (state A.Store conn.new) → HasCleanDisk (state A.Store conn.old)) }
+    ensures fault { IfErr result EndsLines }
+    ensures none { IfOk result (λ count. count ≡ 0 → All (λ log. is_chosen shown.now log ≡ false) all.now) }
 {
     let mut count = 0usize;
     for log in all {
-        if print_log(alloc, conn, log, shown, output)? {
-            count = count.saturating_add(1);
-        }
+        count = counted(count, print_log(alloc, conn, log, shown, output)?);
     }
     Ok(count)
 }
@@ -112,6 +127,8 @@ fn write_log<A: Alter, O: Write>(
     ensures same { HasCleanDisk (state A.Store conn.new) → (state A.Store conn.old).now.schema ≡ archive_schema
         → OnOk result ((state A.Store conn.new).now ≡ (state A.Store conn.old).now) }
     ensures clean { OnOk result (HasCleanDisk (state A.Store conn.new) → HasCleanDisk (state A.Store conn.old)) }
+    ensures fault { IfErr result EndsLines }
+    ensures chosen { IfOk result (λ was. was ≡ is_chosen shown.now log.now) }
 {
     if !shown.has(log) {
         return Ok(false);
@@ -132,13 +149,13 @@ fn write_logs<A: Alter, O: Write>(
         → OnOk result ((text : List _) × WritesLogs shown.now (kept (state A.Store conn.old).now.trees) all.now text
         × Appends (O.contents output.old) (O.contents output.new) (row_text default_writer names ++ text)) }
     ensures clean { OnOk result (HasCleanDisk (state A.Store conn.new) → HasCleanDisk (state A.Store conn.old)) }
+    ensures fault { IfErr result EndsLines }
+    ensures none { IfOk result (λ count. count ≡ 0 → All (λ log. is_chosen shown.now log ≡ false) all.now) }
 {
     write_names(alloc, output)?;
     let mut count = 0usize;
     for log in all {
-        if write_log(alloc, conn, log, shown, output)? {
-            count = count.saturating_add(1);
-        }
+        count = counted(count, write_log(alloc, conn, log, shown, output)?);
     }
     Ok(count)
 }
@@ -163,6 +180,9 @@ pub fn print_shown<A: Alter, O: Write>(
         × (text : List _) × WritesLogs shown.now (kept (state A.Store conn.old).now.trees) all text
         × Appends (O.contents output.old) (O.contents output.new) (row_text default_writer names ++ text)) }
     ensures clean { OnOk result (HasCleanDisk (state A.Store conn.new) → HasCleanDisk (state A.Store conn.old)) }
+    // Or it ends before that; that no log was chosen is told only of an archive that has none such.
+    ensures fault { IfErr result (EndsPrinting (HasCleanDisk (state A.Store conn.new) → HasCleanDisk (state A.Store conn.old)
+        × ((state A.Store conn.old).now.schema ≡ archive_schema → HasNoneOf shown.now (state A.Store conn.old).now.trees))) }
 {
     let all = match logs(alloc, conn) {
         Ok(all) => all,
@@ -180,6 +200,7 @@ pub fn print_shown<A: Alter, O: Write>(
 fn ended<O: Write>(shown: &Shown, count: usize, output: &mut O) -> Result<u8, NotDone>
     ensures status { IfOk result (λ status. status ≡ 0) }
     ensures stays { Keeps (O.contents output.old) (O.contents output.new) }
+    ensures fault { IfErr result (EndsPrinting ((count ≡ 0) × (shown.now ≢ Shown.All))) }
 {
     if output.flush().is_err() {
         return Err(NotDone::Asking(Fault::Write));

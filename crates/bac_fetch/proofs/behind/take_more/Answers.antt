@@ -11,7 +11,7 @@ returns-in-Ok-clause-takes g c =
     let hand = c.args.hand in
     let W : WalkPlace → Type 0 = λ w. TakesAnswer g.L.LogLink.asks (towards t.route) t.retries hand.gathered.place hand.gathered.free c.args.link.now w (Ok c.in-Ok.more) c.take_answer.new.link in
     let takes : W c.copy-walk.result = rw c.in-Ok.is at c.in_ok-more.ensures.takes in
-    IfOk-weaker c.put_more.result _ _ (λ all it. (Ok c.in-Ok.more, subst W c.copy-walk.ensures takes, it)) c.put_more.ensures
+    IfOk-weaker c.put_more.result _ _ (λ all it. (Ok c.in-Ok.more, subst W c.copy-walk.ensures takes, it)) c.put_more.ensures.put
 
 pub returns-in-Err-clause-takes : goal.returns-in-Err-clause-takes
 returns-in-Err-clause-takes g c =

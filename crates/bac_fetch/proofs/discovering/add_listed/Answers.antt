@@ -1,5 +1,9 @@
-use Rattle.std.proofs.Common.{◌∙◌}
+use Rattle.std.proofs.Common.{rules, ap, inr, ◌∙◌}
 use Rattle.bac_fetch.proofs.DiscoveredLemmas.{next_place}
+use Rattle.bac_asked.specs.declared.end.NotDone.TheVariants.{Asking}
+use Rattle.bac_asked.specs.declared.fault.Fault.TheVariants.{Exchange}
+use Rattle.bac_fetch.proofs.FaultsLemmas.{because}
+use Rattle.bac_fetch.proofs.UnfoundLemmas.{place_lacks}
 use Rattle.bac_fetch.proofs.discovering.add_listed.Goals as goal
 
 pub loop-place-preserved : goal.loop-place-preserved
@@ -13,6 +17,7 @@ loop-place-preserved g c =
     record {
       asks = added.asks was.asks;
       alike = added.alike was.alike;
+      address = added.address ∙ read.address ∙ was.address;
       retries = added.retries ∙ read.retries ∙ was.retries;
       route = added.route ∙ read.route ∙ was.route;
       finds = next_place g.L.LogLink.asks first.route then.route last.route first.retries then.retries last.retries
@@ -20,3 +25,15 @@ loop-place-preserved g c =
           c.args.device.now.link c.loop-place.device.link c.object.new.self.link c.add_object.new.device.link
           was.route read.route was.retries read.retries c.requires was.finds read.reads added.adds;
     }
+
+pub returns-in_err-object-clause-lacks : goal.returns-in_err-object-clause-lacks
+returns-in_err-object-clause-lacks g c =
+    let was = c.loop-place.invariant in
+    let (why, is, lacks) = c.in_err-object.ensures.lacks in
+    because c.from_residual.result c.in_err-object.field-0.0 _ (search rules) (inr (
+      why,
+      is ∙ ap (λ a. Asking (Exchange a why)) was.address,
+      place_lacks g.L.LogLink.asks c.args.device.now.transactions.route c.loop-place.device.transactions.route c.args.device.now.transactions.retries c.loop-place.device.transactions.retries
+          c.args.itself c.loop-place.place c.args.count c.loop-place.all.items c.args.device.now.link c.loop-place.device.link c.object.new.self.link why
+          was.route was.retries c.requires (search rules) was.finds lacks,
+    ))

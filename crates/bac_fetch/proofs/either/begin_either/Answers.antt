@@ -25,4 +25,4 @@ returns-clause-either g c =
       subst (λ (n : ℕ). StepsAt g.L.LogLink.asks (towards t.route) t.retries place c.args.link.now c.args.log n hand c.take_step_at.new.link) c.beginning_of-number.ensures.number c.in_ok-hand.ensures.steps,
       subst (λ (n : ℕ). OpensBehind from (gap_up_to n oldest) hand n begun) is it,
     ))
-    (c.open_behind.ensures from (gap_up_to next oldest) c.in-Some.ensures.rows c.in-Some.ensures.gaps)
+    (c.open_behind.ensures.opened from (gap_up_to next oldest) c.in-Some.ensures.rows c.in-Some.ensures.gaps)

@@ -6,5 +6,5 @@ use Rattle.bac_fetch.proofs.keeping.add_kept.Goals as goal
 pub returns-clause-asks : goal.returns-clause-asks
 returns-clause-asks c before =
     let wanted = c.in_ok-kept_log.field-0 in
-    All-same AsksItsSource c.add_wanted.new.all.items (c.args.all.now.items ++ wanted ∷ []) c.in_ok-add_wanted.ensures
+    All-same AsksItsSource c.add_wanted.new.all.items (c.args.all.now.items ++ wanted ∷ []) c.in_ok-add_wanted.ensures.added
     (All-push AsksItsSource c.args.all.now.items wanted before c.in_ok-kept_log.ensures.asks)

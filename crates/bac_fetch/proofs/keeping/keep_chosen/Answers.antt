@@ -5,6 +5,9 @@ use Rattle.sqlite.specs.State.{HasCleanDisk}
 use Rattle.sqlite.specs.Held.{state}
 use Rattle.bac_ports.specs.Sockets.{socket_rules}
 use Rattle.bac_fetch.specs.Keeps.{KeepsLogs}
+use Rattle.bac_asked.specs.AsLog.{given_in}
+use Rattle.bac_fetch.specs.Faults.{LacksAddress}
+use Rattle.bac_fetch.proofs.FaultsLemmas.{run_of}
 use Rattle.bac_fetch.proofs.StaysLemmas.{quiet_first, quiet_stays}
 use Rattle.bac_fetch.proofs.keeping.keep_chosen.Goals as goal
 
@@ -36,6 +39,12 @@ returns g c =
             ),
           ))
           c.keep_each.ensures.told;
+      fault = run_of over c.args.chosen _ _ _ c.args.sockets.now between after all c.keep_each.result c.in_ok-all.ensures.found
+          (λ wrong clean has.
+          let early : HasCleanDisk mid = c.keep_each.ensures.clean clean in
+          let same = c.in_ok-all.ensures.same early has in
+          subst (λ (d : Database). LacksAddress (given_in c.args.options.now) d.trees) same (wrong clean (ap (λ (d : Database). d.schema) same ∙ has)))
+          c.keep_each.ensures.fault;
       stays = λ clean has.
           let early : HasCleanDisk mid = c.keep_each.ensures.clean clean in
           let same = c.in_ok-all.ensures.same early has in

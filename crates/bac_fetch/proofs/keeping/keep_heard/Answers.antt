@@ -25,7 +25,7 @@ returns-clause-told g c =
       λ clean has. record {
         said = said;
         half = half;
-        asked = rw c.as_slice.ensures.value at c.in_ok-said.ensures;
+        asked = rw c.as_slice.ensures.value at c.in_ok-said.ensures.identified;
         on_record = c.device_on_record-on_record.result;
         on_record_is = c.device_on_record-on_record.ensures;
         kept = subst (λ (w : Option Ending). KeepsUnless over known wanted said.told w half after old.now new.now told.0) (rw c.as_slice-2.ensures.value at c.hindrance-why.ensures) (told.3.1 clean has);

@@ -11,6 +11,10 @@ use Rattle.bac_fetch.specs.Keeps.{AreToldBy, KeepsAll, lines_of}
 use Rattle.bac_asked.specs.Lines.{summary_line}
 use Rattle.bac_fetch.proofs.KeepsLemmas.{all_schema, greatest_more, length_more, lines_more, one_more}
 use Rattle.bac_fetch.proofs.StaysLemmas.{all_itself, all_then, itself_stays, next_stays, stays_then}
+use Rattle.std.specs.List.{Contains}
+use Rattle.bac_fetch.specs.Faults.{HasNoInstance, IsNoInstance}
+use Rattle.bac_fetch.proofs.FaultsLemmas.{because, ends_so}
+use Rattle.bac_fetch.proofs.TakenLemmas.{has_taken}
 use Rattle.bac_fetch.proofs.keeping.keep_known.Goals as goal
 
 pub loop-wanted-preserved : goal.loop-wanted-preserved
@@ -85,3 +89,12 @@ returns-in_err-status-clause-stays g c clean has =
     let schema = all_schema over c.args.known.now c.args.heard.items c.loop-wanted.heard.items yielded c.args.sockets.now c.loop-wanted.sockets old.now mid.now was.0 (was.4 early has) has in
     let stays = c.loop-wanted.invariant.stays early has in
     stays_then old mid (state g.A.Store c.keep_next.new.conn) stays.0 stays.1 (c.keep_next.ensures.stays clean schema)
+
+pub returns-in_err-status-clause-fault : goal.returns-in_err-status-clause-fault
+returns-in_err-status-clause-fault g c =
+    let over = socket_rules g.S.Sockets.opens g.S.Sockets.closes g.S.Socket.Port.sends g.S.Socket.Port.receives g.S.Socket.Port.receives_within in
+    let there = subst (λ l. Contains l c.in-Some.wanted) c.into_iter-wanted-iterator.ensures.into_iter_gives.0
+    (has_taken c.into_iter-wanted-iterator.result c.loop-wanted.yielded c.loop-wanted.wanted-iterator c.next.new.self c.in-Some.wanted c.loop-wanted.yielded_by c.in-Some.ensures.steps) in
+    because c.from_residual.result c.in_err-status.field-0.0 _ (search rules)
+    (ends_so over (IsNoInstance c.in-Some.wanted.source.instance) (HasNoInstance c.args.all.items) ⊥ ⊥ c.keep_next.new.sockets c.in_err-status.field-0.0
+    (λ none. (c.in-Some.wanted, there, none)) (λ never. never) c.in_err-status.ensures.fault)

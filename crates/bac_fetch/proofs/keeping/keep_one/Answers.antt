@@ -15,9 +15,9 @@ returns-clause-told g c =
     let row = c.in_ok-entry.ensures.row in (
       c.in_ok-end.end,
       c.end_status.ensures,
-      rw row.0 at c.in_ok-print_end.ensures,
+      rw row.0 at c.in_ok-print_end.ensures.printed,
       (
-        rw (row.0, row.2) at c.in_ok-add_heard.ensures,
+        rw (row.0, row.2) at c.in_ok-add_heard.ensures.heard,
         λ clean has.
             let old = state g.A.Store c.args.conn.now in
             let mid = state g.A.Store c.enter.new.conn in

@@ -9,6 +9,9 @@ use Rattle.bac_archive.specs.declared.trend_logs.Log.{Log}
 use Rattle.bac_ports.specs.Sockets.{socket_rules}
 use Rattle.bac_fetch.specs.Moves.{Settles}
 use Rattle.bac_fetch.proofs.StaysLemmas.{quiet_first, quiet_stays}
+use Rattle.bac_asked.specs.AsLog.{given_in}
+use Rattle.bac_fetch.specs.Faults.{HaveNoAddress}
+use Rattle.bac_fetch.proofs.FaultsLemmas.{all_end_so}
 use Rattle.bac_fetch.proofs.keeping.settle_known.Goals as goal
 
 pub returns-clause-settled : goal.returns-clause-settled
@@ -38,3 +41,13 @@ returns-clause-stays g c clean has =
 
 pub returns-in_err-known-clause-stays : goal.returns-in_err-known-clause-stays
 returns-in_err-known-clause-stays g c clean has = quiet_stays (state g.A.Store c.args.conn.now) (state g.A.Store c.logs_of.new.conn) (c.logs_of.ensures.crash has)
+
+pub returns-clause-fault : goal.returns-clause-fault
+returns-clause-fault g c =
+    let over = socket_rules g.S.Sockets.opens g.S.Sockets.closes g.S.Socket.Port.sends g.S.Socket.Port.receives g.S.Socket.Port.receives_within in
+    let old = state g.A.Store c.args.conn.now in
+    all_end_so over ⊥ ⊥ (HaveNoAddress (given_in c.args.options.now) c.as_slice.result.now) _ c.settle.new.sockets c.settle.result (λ never. never)
+    (λ wrong clean has.
+    let early = c.settle.ensures.clean clean in
+    (c.as_slice.result.now, subst (λ (l : List Log). AreLogs old.now.trees l) (sym c.as_slice.ensures.value) (c.in_ok-known.ensures.logs early has), wrong))
+    c.settle.ensures.fault

@@ -1,11 +1,21 @@
-use Rattle.std.proofs.Common.{◌≡◌, true, sym, subst}
+use Rattle.std.proofs.Common.{rules, inr, inl, ◌≡◌, true, sym, subst}
 use Rattle.std.proofs.lemmas.Result.{IfOk-weaker}
 use Rattle.bac_archive.specs.declared.trend_logs.Source.{Source}
 use Rattle.bac_fetch.specs.Silent.{is_same_device}
+use Rattle.bac_asked.specs.AsLog.{given_in}
+use Rattle.bac_fetch.proofs.FaultsLemmas.{because, copy_no_address}
 use Rattle.bac_fetch.proofs.moving.identify_there.Goals as goal
 
-pub returns : goal.returns
-returns g c =
+pub returns-clause-identifies : goal.returns-clause-identifies
+returns-clause-identifies g c =
     let there = c.in_ok-there.there in
-    let same = subst (λ (s : Source). is_same_device s c.args.from.now ≡ true) (sym c.in_ok-there.ensures.source) c.in_ok-copy_source.ensures in
-    IfOk-weaker c.identify.result _ _ (λ said it. (there, c.in_ok-there.ensures.asks, same, it)) c.identify.ensures
+    let same = subst (λ (s : Source). is_same_device s c.args.from.now ≡ true) (sym c.in_ok-there.ensures.source) c.in_ok-copy_source.ensures.copy in
+    IfOk-weaker c.identify.result _ _ (λ said it. (there, c.in_ok-there.ensures.asks, same, it)) c.identify.ensures.identifies
+
+pub returns-in_err-there-clause-fault : goal.returns-in_err-there-clause-fault
+returns-in_err-there-clause-fault g c =
+    let same = c.in_ok-copy_source.ensures.same in
+    because c.from_residual-in_err-there.result c.in_err-there.field-0.0 _ (search rules) (elim c.in_err-there.ensures.refused [
+      | inl memory ↦ inl (inl memory)
+      | inr (is, wrong) ↦ inr (inr (inr (is, copy_no_address (given_in c.args.options.now) c.in_ok-copy_source.field-0 c.args.from.now same.0 same.1 same.2 same.3 wrong)))
+    ])

@@ -11,7 +11,7 @@ pub returns-then-is_told-clause-settled : goal.returns-then-is_told-clause-settl
 returns-then-is_told-clause-settled g c clean has =
     let over = socket_rules g.S.Sockets.opens g.S.Sockets.closes g.S.Socket.Port.sends g.S.Socket.Port.receives g.S.Socket.Port.receives_within in
     let old = (state g.A.Store c.args.conn.now).now in
-    let (there, asks, same, identifies) = c.in_ok-said.ensures in
+    let (there, asks, same, identifies) = c.in_ok-said.ensures.identifies in
     let asked : AsksThere over c.args.device c.args.from.now c.args.to.now c.args.known.now c.args.sockets.now c.identify_there.new.sockets old old = (
       there,
       asks,
@@ -28,7 +28,7 @@ returns-clause-settled g c clean has =
     let over = socket_rules g.S.Sockets.opens g.S.Sockets.closes g.S.Socket.Port.sends g.S.Socket.Port.receives g.S.Socket.Port.receives_within in
     let old = (state g.A.Store c.args.conn.now).now in
     let new = (state g.A.Store c.move_logs.new.conn).now in
-    let (there, asks, same, identifies) = c.in_ok-said.ensures in
+    let (there, asks, same, identifies) = c.in_ok-said.ensures.identifies in
     let asked : AsksThere over c.args.device c.args.from.now c.args.to.now c.args.known.now c.args.sockets.now c.identify_there.new.sockets old new = (
       there,
       asks,

@@ -4,8 +4,8 @@ use Rattle.bac_fetch.specs.declared.said.Said.{Said}
 use Rattle.bac_fetch.proofs.KeepsLemmas.{both_ok}
 use Rattle.bac_fetch.proofs.whose.said_of.Goals as goal
 
-pub returns-in-Some : goal.returns-in-Some
-returns-in-Some g c =
+pub returns-in-Some-clause-identified : goal.returns-in-Some-clause-identified
+returns-in-Some-clause-identified g c =
     let (one, heard, is) = c.in-Some.ensures.found in
     both_ok c.copy_said.result _ _ _
     (λ said identity told. inl ((one, heard, identity ∙ ap (λ (s : Said). s.identity) (sym is), told ∙ ap (λ (s : Said). told_values s.told) (sym is)), refl))

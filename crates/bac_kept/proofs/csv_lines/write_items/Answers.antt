@@ -1,9 +1,11 @@
-use Rattle.std.proofs.Common.{[], ◌∷◌, ◌++◌, rules, arith, ◌∙◌}
+use Rattle.std.proofs.Common.{inr, [], ◌∷◌, ◌++◌, rules, arith, ◌∙◌}
 use Rattle.std.proofs.KnownBytes.{Appends-trans}
 use Rattle.sqlite.specs.State.{HasCleanDisk}
 use Rattle.sqlite.specs.Held.{state}
 use Rattle.sqlite.proofs.Callers.{unchanged_then}
 use Rattle.bac_archive.specs.Items.{asked, items_text}
+use Rattle.sqlite.specs.declared.error.Error.TheVariants.{SqliteFailure}
+use Rattle.sqlite.specs.declared.error.ErrorCode.TheVariants.{OperationInterrupted}
 use Rattle.bac_kept.proofs.CsvLemmas.{row_more}
 use Rattle.bac_kept.proofs.PrintedLemmas.{all_given}
 use Rattle.bac_kept.proofs.csv_lines.write_items.Goals as goal
@@ -41,3 +43,6 @@ rows-preserved g c =
             Appends-trans (g.O.Write.contents c.args.output.now) (g.O.Write.contents c.rows.output) (g.O.Write.contents c.write_row.new.output) was.3 one.0 was.5 one.2,
           ),
     )
+
+pub returns-clause-fault : goal.returns-clause-fault
+returns-clause-fault g c = inr (inr (SqliteFailure OperationInterrupted, c.of_error-2.ensures))

@@ -6,6 +6,8 @@ use Rattle.sqlite.specs.Held.{state}
 use Rattle.sqlite.proofs.Callers.{unchanged_then}
 use Rattle.bac_archive.specs.Items.{asked, items_text}
 use Rattle.bac_print.specs.Output.{AppendsPart}
+use Rattle.sqlite.specs.declared.error.Error.TheVariants.{SqliteFailure}
+use Rattle.sqlite.specs.declared.error.ErrorCode.TheVariants.{OperationInterrupted}
 use Rattle.bac_kept.specs.Printed.{row_lines, rows_lines}
 use Rattle.bac_kept.proofs.PrintedLemmas.{all_given, first_given, last_epoch_more, on_err, rows_more, then_part, whole_part}
 use Rattle.bac_kept.proofs.kept.print_items.Goals as goal
@@ -76,3 +78,6 @@ returns-clause-err g c clean has =
     let late : HasCleanDisk (state g.A.Store c.rows.rows.conn.now) = search rules in
     let was = c.rows.invariant.2 late has in
     (was.0, inr (first_given g.A.Store c.args.log.now.id old c.rows.rows.conn.now was.0 has was.2 was.1), whole_part _ _ _ was.4)
+
+pub returns-clause-fault : goal.returns-clause-fault
+returns-clause-fault g c = inr (inr (SqliteFailure OperationInterrupted, c.of_error-2.ensures))

@@ -10,5 +10,5 @@ returns-clause-printed g c clean has =
     let chosen : is_chosen c.args.shown.now c.args.log.now ≡ true = search rules in (
       head ++ printed.0,
       (λ _. (printed.0, printed.1, refl), λ no. absurd (let both = sym chosen ∙ no in cc)),
-      Appends-trans (g.O.Write.contents c.args.output.now) (g.O.Write.contents c.print_head.new.output) (g.O.Write.contents c.print_items.new.output) head printed.0 c.in_ok-print_head.ensures printed.2,
+      Appends-trans (g.O.Write.contents c.args.output.now) (g.O.Write.contents c.print_head.new.output) (g.O.Write.contents c.print_items.new.output) head printed.0 c.in_ok-print_head.ensures.head printed.2,
     )

@@ -1,9 +1,11 @@
-use Rattle.std.proofs.Common.{◌++◌, ap, subst, sym, ◌∙◌, rules}
+use Rattle.std.proofs.Common.{◌≡◌, false, ◌++◌, ap, subst, sym, ◌∙◌, rules}
+use Rattle.std.specs.List.{All}
+use Rattle.std.proofs.lemmas.List.Elements.{All-push}
 use Rattle.std.proofs.KnownBytes.{Appends-trans}
 use Rattle.sqlite.specs.Effect.{Database}
 use Rattle.sqlite.specs.Held.{state}
 use Rattle.bac_archive.specs.Rows.{kept}
-use Rattle.bac_kept.specs.Printed.{PrintsLog, PrintsLogs}
+use Rattle.bac_kept.specs.Printed.{is_chosen, PrintsLog, PrintsLogs}
 use Rattle.bac_kept.proofs.PrintedLemmas.{log_more, take_one}
 use Rattle.bac_kept.proofs.printing.print_logs.Goals as goal
 
@@ -25,4 +27,8 @@ loop-log-preserved g c =
             subst (λ l. PrintsLogs c.args.shown.now items l (was.1 ++ one.0)) (sym taken) (log_more c.args.shown.now items _ log was.1 one.0 was.2 mine),
             Appends-trans (g.O.Write.contents c.args.output.now) (g.O.Write.contents c.loop-log.output) (g.O.Write.contents c.print_log.new.output) was.1 one.0 was.3 one.2,
           ),
+      λ zero.
+          let (before, unchosen) = c.counted-count.ensures zero in
+          subst (λ l. All (λ log. is_chosen c.args.shown.now log ≡ false) l) (sym taken)
+          (All-push (λ log. is_chosen c.args.shown.now log ≡ false) _ log (c.loop-log.invariant.2 before) (sym it.chosen ∙ unchosen)),
     )

@@ -1,11 +1,14 @@
-use Rattle.std.proofs.Common.{◌++◌, ap, subst, sym, append_assoc, ◌∙◌, rules}
+use Rattle.std.proofs.Common.{◌≡◌, false, ◌++◌, ap, subst, sym, append_assoc, ◌∙◌, rules}
 use Rattle.std.specs.Io.KnownBytes.{Appends}
+use Rattle.std.specs.List.{All}
+use Rattle.std.proofs.lemmas.List.Elements.{All-push}
 use Rattle.std.proofs.KnownBytes.{Appends-trans}
 use Rattle.csv.specs.Writing.{default_writer, row_text}
 use Rattle.sqlite.specs.Effect.{Database}
 use Rattle.sqlite.specs.Held.{state}
 use Rattle.bac_archive.specs.Rows.{kept}
 use Rattle.bac_kept.specs.Csv.{WritesLog, WritesLogs, names}
+use Rattle.bac_kept.specs.Printed.{is_chosen}
 use Rattle.bac_kept.proofs.CsvLemmas.{log_more}
 use Rattle.bac_kept.proofs.PrintedLemmas.{take_one}
 use Rattle.bac_kept.proofs.printing.write_logs.Goals as goal
@@ -30,4 +33,8 @@ loop-log-preserved g c =
             subst (λ l. WritesLogs c.args.shown.now items l (was.1 ++ one.0)) (sym taken) (log_more c.args.shown.now items _ log was.1 one.0 was.2 mine),
             subst (Appends (g.O.Write.contents c.args.output.now) (g.O.Write.contents c.write_log.new.output)) (append_assoc first was.1 one.0) all,
           ),
+      λ zero.
+          let (before, unchosen) = c.counted-count.ensures zero in
+          subst (λ l. All (λ log. is_chosen c.args.shown.now log ≡ false) l) (sym taken)
+          (All-push (λ log. is_chosen c.args.shown.now log ≡ false) _ log (c.loop-log.invariant.2 before) (sym it.chosen ∙ unchosen)),
     )

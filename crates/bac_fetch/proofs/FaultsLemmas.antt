@@ -1,0 +1,100 @@
+-- What ends a run.
+use Rattle.std.proofs.Common.{◌≡◌, ◌⊎◌, inl, inr, refl, subst, sym, ap, ◌∙◌, ℕ, List, ◌∷◌, Option, None, Some, Result, Ok, Err, IfErr}
+use Rattle.std.specs.List.{Contains}
+use Rattle.sqlite.specs.declared.error.Error.{Error}
+use Rattle.bac_archive.specs.declared.trend_logs.NotAdded.{NotAdded}
+use Rattle.bac_archive.specs.declared.trend_logs.NotAdded.TheVariants as unadded
+use Rattle.bac_asked.specs.Faults.{IsOfDatabase, RefusesLine, WantsMemory, of_error, of_not_added}
+use Rattle.bac_asked.specs.declared.end.NotDone.{NotDone}
+use Rattle.bac_asked.specs.declared.end.NotDone.TheVariants.{Asking, File}
+use Rattle.bac_asked.specs.declared.fault.FileFault.{FileFault}
+use Rattle.bac_asked.specs.declared.fault.FileFault.TheVariants.{Foreign, Full}
+use Rattle.bac_fetch.specs.Discovered.{AreFound}
+use Rattle.bac_fetch.specs.Faults.{EndsAsking, EndsChosen, EndsKeeping, EndsKept, EndsLog, EndsRun, HasNoInstance, LastFailed}
+use Rattle.bac_fetch.specs.declared.keeping.Chosen.{Chosen}
+use Rattle.bac_fetch.specs.declared.keeping.Chosen.TheVariants.{Device, Kept, Named}
+use Rattle.bac_asked.specs.declared.wanted.Wanted.{Wanted}
+use Rattle.bac_apdu.specs.Npdu.{Place}
+use Rattle.std.specs.String.{string_bytes}
+use Rattle.bac_archive.specs.declared.trend_logs.Source.{Source}
+use Rattle.bac_asked.specs.AsLog.{Given, IsAskedBy, IsUnasked}
+use Rattle.bac_asked.specs.Wanted.{HasNoAddress, IsBehind, words_at}
+use Rattle.bac_ports.specs.Sockets.{SocketRules}
+use Rattle.bac_words.specs.declared.job.Asked.{Asked}
+
+pub memory_ends : (fault : NotDone) → WantsMemory fault → EndsLog fault
+memory_ends fault it = inl it
+
+pub line_ends : (fault : NotDone) → RefusesLine fault → EndsLog fault
+line_ends fault it = inr (inl it)
+
+pub foreign_ends : (fault : NotDone) → fault ≡ File Foreign → EndsLog fault
+foreign_ends fault it = inr (inr (inl it))
+
+pub full_ends : (fault : NotDone) → fault ≡ File Full → EndsLog fault
+full_ends fault it = inr (inr (inr (inl it)))
+
+pub database_ends : (why : FileFault) (error : Error) → why ≡ of_error error → EndsLog (File why)
+database_ends why error is = inr (inr (inr (inr (error, ap File is))))
+
+-- a log that isn't added
+pub not_added_ends : (why : FileFault) (fault : NotAdded) → why ≡ of_not_added fault → EndsLog (File why)
+not_added_ends why unadded.Full is = full_ends (File why) (ap File is)
+not_added_ends why (unadded.Database error) is = database_ends why error is
+
+module _ {S P : Type 0} (rules : SocketRules S P) where
+  pub log_ends_run : (I A : Type 0) (after : S) (fault : NotDone) → EndsLog fault → EndsRun rules I A after fault
+  log_ends_run I A after fault it = inl it
+
+  -- a device that isn't asked ends the run
+  pub asking_ends_run : (I A : Type 0) (asked : Asked) (before after : S) (fault : NotDone) → EndsAsking rules asked before after fault → EndsRun rules I A after fault
+  asking_ends_run I A asked before after fault (inl it) = inl (inl it)
+  asking_ends_run I A asked before after fault (inr it) = inr (inl (before, asked, it))
+
+  -- what ends it for one reason ends it for another
+  pub ends_so : (I J A B : Type 0) (after : S) (fault : NotDone) → (I → J) → (A → B) → EndsRun rules I A after fault → EndsRun rules J B after fault
+  ends_so I J A B after fault f h (inl it) = inl it
+  ends_so I J A B after fault f h (inr (inl it)) = inr (inl it)
+  ends_so I J A B after fault f h (inr (inr (inl it))) = inr (inr (inl (it.0, f it.1)))
+  ends_so I J A B after fault f h (inr (inr (inr it))) = inr (inr (inr (it.0, h it.1)))
+
+  pub all_end_so : {T : Type 0} (I J A B : Type 0) (after : S) (r : Result T NotDone) → (I → J) → (A → B) → IfErr r (EndsRun rules I A after) → IfErr r (EndsRun rules J B after)
+  all_end_so I J A B after (Ok v) f h it = tt
+  all_end_so I J A B after (Err e) f h it = ends_so I J A B after e f h it
+
+-- an error is this one
+pub because : {T E : Type 0} (r : Result T E) (e : E) (P : E → Type 0) → r ≡ Err e → P e → IfErr r P
+because r e P is p = subst (λ x. IfErr x P) (sym is) p
+
+same_words : (given : Given) (a b : Source) → string_bytes a.address ≡ string_bytes b.address → a.dnet ≡ b.dnet → string_bytes a.dadr ≡ string_bytes b.dadr
+    → a.instance ≡ b.instance → words_at given a ≡ words_at given b
+same_words given a b address dnet dadr instance = rw (address, dnet, dadr, instance) refl
+
+-- an address is none of a source that is the same
+pub copy_no_address : (given : Given) (a b : Source) → string_bytes a.address ≡ string_bytes b.address → a.dnet ≡ b.dnet → string_bytes a.dadr ≡ string_bytes b.dadr
+    → a.instance ≡ b.instance → HasNoAddress given a → HasNoAddress given b
+copy_no_address given a b address dnet dadr instance (inl (why, other, unasked)) =
+    inl (why, other, subst (λ (ws : List (List ℕ)). IsUnasked ws why) (same_words given a b address dnet dadr instance) unasked)
+copy_no_address given a b address dnet dadr instance (inr (asking, by, none)) = inr (
+  asking,
+  subst (λ (ws : List (List ℕ)). IsAskedBy ws asking) (same_words given a b address dnet dadr instance) by,
+  λ of. none (record { address = address ∙ of.address; behind = behind asking.asked.route of.behind; instance_is = instance ∙ of.instance_is }),
+)
+  where
+    behind : (far : Option Place) → IsBehind far b → IsBehind far a
+    behind None it = (dnet ∙ it.0, dadr ∙ it.1)
+    behind (Some far) it = (dnet ∙ it.0, dadr ∙ it.1)
+
+-- the logs of a file aren't named, for which no socket is opened
+pub kept_there : {S P T : Type 0} (rules : SocketRules S P) (which : Chosen) (N A : Type 0) (sockets : S) (r : Result T NotDone) → which ≡ Kept → IfErr r (EndsKept N A)
+    → IfErr r (EndsChosen rules which N A sockets sockets)
+kept_there rules Kept N A sockets (Ok v) is it = tt
+kept_there rules Kept N A sockets (Err e) is it = (it, refl)
+kept_there rules (Device like) N A sockets r is it = absurd (cc)
+kept_there rules (Named all) N A sockets r is it = absurd (cc)
+
+-- the run over logs that were chosen ends
+pub run_of : {S P T : Type 0} (rules : SocketRules S P) (which : Chosen) (N A B : Type 0) (before between after : S) (all : List Wanted) (r : Result T NotDone)
+    → AreFound rules which before all between → (A → B) → IfErr r (EndsRun rules (HasNoInstance all) A after) → IfErr r (EndsKeeping rules which N B before after)
+run_of rules which N A B before between after all (Ok v) found f it = tt
+run_of rules which N A B before between after all (Err e) found f it = inr (all, between, found, ends_so rules (HasNoInstance all) (HasNoInstance all) A B after e (λ n. n) f it)

@@ -1,0 +1,8 @@
+use Rattle.bac_ports.specs.Sockets.{socket_rules}
+use Rattle.bac_fetch.proofs.FaultsLemmas.{kept_there}
+use Rattle.bac_fetch.proofs.keeping.chosen_logs.Goals as goal
+
+pub returns-in-Kept-clause-fault : goal.returns-in-Kept-clause-fault
+returns-in-Kept-clause-fault g c =
+    let over = socket_rules g.S.Sockets.opens g.S.Sockets.closes g.S.Socket.Port.sends g.S.Socket.Port.receives g.S.Socket.Port.receives_within in
+    kept_there over c.args.chosen _ _ c.args.sockets.now c.kept_logs.result c.in-Kept.is c.kept_logs.ensures.fault

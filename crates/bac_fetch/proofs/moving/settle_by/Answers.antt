@@ -1,0 +1,13 @@
+use Rattle.std.proofs.Common.{refl}
+use Rattle.bac_asked.specs.AsLog.{given_in}
+use Rattle.bac_asked.specs.Wanted.{HasNoAddress}
+use Rattle.bac_ports.specs.Sockets.{socket_rules}
+use Rattle.bac_fetch.specs.Faults.{HaveNoAddress}
+use Rattle.bac_fetch.proofs.FaultsLemmas.{all_end_so}
+use Rattle.bac_fetch.proofs.moving.settle_by.Goals as goal
+
+pub returns-in-Some-clause-fault : goal.returns-in-Some-clause-fault
+returns-in-Some-clause-fault g c =
+    let over = socket_rules g.S.Sockets.opens g.S.Sockets.closes g.S.Socket.Port.sends g.S.Socket.Port.receives g.S.Socket.Port.receives_within in
+    all_end_so over ⊥ ⊥ (HasNoAddress (given_in c.args.options.now) c.in-Some.log.now.source) (HaveNoAddress (given_in c.args.options.now) c.args.known.now) _ c.settle_from.result
+    (λ never. never) (λ wrong. (c.in-Some.log.now, (c.in-Some.ensures {u = tt}).0, wrong)) c.settle_from.ensures.fault

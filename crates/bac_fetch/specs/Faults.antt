@@ -1,0 +1,94 @@
+-- What ends a run over logs before each of them was told, and what can be seen of it.
+use Rattle.std.specs.Prelude.{◌≡◌, ◌⊎◌, ◌≤◌, ℕ, List, [], Err}
+use Rattle.std.specs.List.{Contains}
+use Rattle.sqlite_trees.specs.Tree.{Trees}
+use Rattle.bac_archive.specs.Logs.{AreLogs}
+use Rattle.bac_archive.specs.declared.trend_logs.Log.{Log}
+use Rattle.bac_asked.specs.AsLog.{Given}
+use Rattle.bac_asked.specs.Faults.{IsOfDatabase, RefusesLine, WantsMemory}
+use Rattle.bac_asked.specs.Wanted.{HasNoAddress}
+use Rattle.bac_asked.specs.declared.end.NotDone.{NotDone}
+use Rattle.bac_asked.specs.declared.end.NotDone.TheVariants.{Asking, File}
+use Rattle.bac_asked.specs.declared.fault.Fault.TheVariants.{BadValue, Exchange, Socket}
+use Rattle.bac_asked.specs.declared.fault.FileFault.TheVariants.{Address, Foreign, Full, NoLogs}
+use Rattle.bac_asked.specs.declared.log_words.Asking.{Asking as AskedFor}
+use Rattle.bac_asked.specs.declared.wanted.Wanted.{Wanted}
+use Rattle.bac_fetch.specs.Chosen.{not_stopped}
+use Rattle.bac_fetch.specs.Discovered.{AreFound}
+use Rattle.bac_fetch.specs.Unfound.{FailsOver}
+use Rattle.bac_fetch.specs.declared.keeping.Chosen.{Chosen}
+use Rattle.bac_fetch.specs.declared.keeping.Chosen.TheVariants.{Device, Kept, Named}
+use Rattle.bac_link.specs.declared.exchanges.ExchangeFault.{ExchangeFault}
+use Rattle.bac_ports.specs.Sockets.{SocketRules, own_address}
+use Rattle.bac_ports.specs.declared.port.OpenFault.{OpenFault}
+use Rattle.bac_words.specs.declared.job.Asked.{Asked}
+use Rattle.bac_words.specs.declared.word.Word.TheVariants.{Instance}
+
+-- A log's rows aren't read or written: memory is wanting; the output refused a line; the file isn't an archive, or has no id
+-- left; or its database answers by an error.
+abbrev pub EndsLog : NotDone → Type 0
+EndsLog fault = WantsMemory fault ⊎ (RefusesLine fault ⊎ ((fault ≡ File Foreign) ⊎ ((fault ≡ File Full) ⊎ IsOfDatabase fault)))
+
+-- a socket was asked for as a device is asked, and none was opened
+abbrev pub IsUnopened : {S P : Type 0} → SocketRules S P → Asked → S → S → NotDone → Type 0
+IsUnopened rules asked before after fault = (fault ≡ Asking Socket)
+    × (why : OpenFault) × rules.opens before (own_address asked.local) asked.timeout (Err why) after
+
+-- a device isn't asked who it is: memory is wanting, or no socket was opened for it
+abbrev pub EndsAsking : {S P : Type 0} → SocketRules S P → Asked → S → S → NotDone → Type 0
+EndsAsking rules asked before after fault = WantsMemory fault ⊎ IsUnopened rules asked before after fault
+
+-- the logs of a device aren't found: it isn't asked, or doesn't tell its list
+abbrev pub EndsFinding : {S P : Type 0} → SocketRules S P → AskedFor → S → S → NotDone → Type 0
+EndsFinding rules like before after fault = EndsAsking rules like.asked before after fault
+    ⊎ ((why : ExchangeFault) × (fault ≡ Asking (Exchange like.asked.address why)) × FailsOver rules like before why after)
+
+-- the last thing that was done to the sockets is an open that failed
+abbrev pub LastFailed : {S P : Type 0} → SocketRules S P → S → NotDone → Type 0
+LastFailed {S = S} rules after fault = (before : S) × (asked : Asked) × IsUnopened rules asked before after fault
+
+-- A run over logs ends: the rows of one aren't read or written; no socket was opened; one that is wanted has an instance
+-- that is none, as this says; or one that is on record has an address that is none, as this says.
+abbrev pub EndsRun : {S P : Type 0} → SocketRules S P → Type 0 → Type 0 → S → NotDone → Type 0
+EndsRun rules no_instance no_address after fault = EndsLog fault ⊎ (LastFailed rules after fault
+    ⊎ (((fault ≡ Asking (BadValue Instance)) × no_instance) ⊎ ((fault ≡ File Address) × no_address)))
+
+-- an instance is none (clause 20.2.14)
+abbrev pub IsNoInstance : ℕ → Type 0
+IsNoInstance instance = 4194304 ≤ instance
+
+-- one of the logs that are wanted has an instance that is none
+abbrev pub HasNoInstance : List Wanted → Type 0
+HasNoInstance all = (wanted : Wanted) × Contains all wanted × IsNoInstance wanted.source.instance
+
+-- one of the logs on record has an address that is none
+abbrev pub HaveNoAddress : Given → List Log → Type 0
+HaveNoAddress given known = (log : Log) × Contains known log × HasNoAddress given log.source
+
+-- so it is of one of the logs of an archive
+abbrev pub LacksAddress : Given → Trees → Type 0
+LacksAddress given trees = (known : List Log) × AreLogs trees known × HaveNoAddress given known
+
+-- an archive has no log that isn't stopped
+abbrev pub HasNone : Trees → Type 0
+HasNone trees = (known : List Log) × AreLogs trees known × (not_stopped known ≡ [])
+
+-- The logs of a file aren't named: memory is wanting; its database answers by an error; none is to be fetched, as this
+-- says; or one has an address that is none, as this says.
+abbrev pub EndsKept : Type 0 → Type 0 → NotDone → Type 0
+EndsKept none no_address fault = WantsMemory fault ⊎ (IsOfDatabase fault
+    ⊎ (((fault ≡ File NoLogs) × none) ⊎ ((fault ≡ File Address) × no_address)))
+
+-- The logs that were chosen aren't found: those of a file aren't named, for which no socket is opened; or a device doesn't
+-- tell its own.
+abbrev pub EndsChosen : {S P : Type 0} → SocketRules S P → Chosen → Type 0 → Type 0 → S → S → NotDone → Type 0
+EndsChosen rules Kept none no_address before after fault = EndsKept none no_address fault × (after ≡ before)
+EndsChosen rules (Device like) none no_address before after fault = EndsFinding rules like before after fault
+EndsChosen rules (Named all) none no_address before after fault = ⊥
+
+-- The logs that were chosen aren't kept: they aren't found; or the run over those that were ends.
+abbrev pub EndsKeeping : {S P : Type 0} → SocketRules S P → Chosen → Type 0 → Type 0 → S → S → NotDone → Type 0
+EndsKeeping {S = S} rules chosen none no_address before after fault =
+    EndsChosen rules chosen none no_address before after fault
+    ⊎ ((all : List Wanted) × (between : S) × AreFound rules chosen before all between
+    × EndsRun rules (HasNoInstance all) no_address after fault)

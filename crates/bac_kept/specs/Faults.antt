@@ -1,0 +1,29 @@
+-- What ends a print of what is kept, and what can be seen of it.
+use Rattle.std.specs.Prelude.{◌≡◌, ◌≢◌, ◌⊎◌, false, List}
+use Rattle.std.specs.List.{All}
+use Rattle.sqlite_trees.specs.Tree.{Trees}
+use Rattle.bac_archive.specs.Logs.{AreLogs}
+use Rattle.bac_archive.specs.declared.trend_logs.Log.{Log}
+use Rattle.bac_asked.specs.Faults.{IsOfDatabase, RefusesLine, WantsMemory}
+use Rattle.bac_asked.specs.declared.end.NotDone.{NotDone}
+use Rattle.bac_asked.specs.declared.end.NotDone.TheVariants.{File}
+use Rattle.bac_asked.specs.declared.fault.FileFault.TheVariants.{NoLog}
+use Rattle.bac_kept.specs.Printed.{is_chosen}
+use Rattle.bac_kept.specs.declared.printing.Shown.{Shown}
+use Rattle.bac_kept.specs.declared.printing.Shown.TheVariants.{All as Each}
+
+-- a log's lines aren't printed: memory is wanting; the output refused a line; or the database answers by an error
+abbrev pub EndsLines : NotDone → Type 0
+EndsLines fault = WantsMemory fault ⊎ (RefusesLine fault ⊎ IsOfDatabase fault)
+
+-- the same of the logs that were chosen; or none of those of the archive was, as this says
+abbrev pub EndsPrinting : Type 0 → NotDone → Type 0
+EndsPrinting none fault = EndsLines fault ⊎ ((fault ≡ File NoLog) × none)
+
+-- not each log was chosen, and none of these was
+abbrev pub AreUnchosen : Shown → List Log → Type 0
+AreUnchosen shown all = (shown ≢ Each) × All (λ log. is_chosen shown log ≡ false) all
+
+-- none of an archive was
+abbrev pub HasNoneOf : Shown → Trees → Type 0
+HasNoneOf shown trees = (all : List Log) × AreLogs trees all × AreUnchosen shown all
