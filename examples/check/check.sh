@@ -231,16 +231,19 @@ bac serve 127.0.0.1 < "$room/longer"
 ended 'a configuration of 1,048,577 octets' 1 $'script too long\n'
 bac serve 127.0.0.1 < .
 ended 'a folder as configuration' 2 $'read fault\n'
+elsewhere=$'socket fault\nthe address isn\'t one of this machine\n'
 bac rp 127.0.0.1 8 123 77 --local=192.0.2.1
-ended 'an address of another machine' 2 $'socket fault\n'
+ended 'an address of another machine' 2 "$elsewhere"
 bac wi 127.0.0.1 --local=192.0.2.1
-ended 'an address of another machine for wi' 2 $'socket fault\n'
+ended 'an address of another machine for wi' 2 "$elsewhere"
 bac wp 127.0.0.1 5 1 85 8 0 --local=192.0.2.1
-ended 'an address of another machine for wp' 2 $'socket fault\n'
+ended 'an address of another machine for wp' 2 "$elsewhere"
 bac log 127.0.0.1 1 1 --local=192.0.2.1
-ended 'an address of another machine for log' 2 $'socket fault\n'
+ended 'an address of another machine for log' 2 "$elsewhere"
+bac logs 127.0.0.1 1 --local=192.0.2.1
+ended 'an address of another machine for logs' 2 "$elsewhere"
 bac serve 192.0.2.1 < ../use/plant.conf
-ended 'a server at an address of another machine' 2 $'socket fault\n'
+ended 'a server at an address of another machine' 2 "$elsewhere"
 at=127.77.77.77:$((20000 + RANDOM))
 bac serve "$at" --count=0 < ../use/plant.conf
 ended 'a server of no datagram' 0 "serving $at"$'\n'

@@ -398,8 +398,11 @@ def lost_at(at):
     return f"lost\nno answer came from {at}\n".encode()
 
 
+FORBIDDEN = b"socket fault\nthe system doesn't permit it\n"
+
+
 def no_socket(_, ended):
-    ended.must(2, b"", b"socket fault\n")
+    ended.must(2, b"", FORBIDDEN)
 
 
 def sockets_refused(program, at):
@@ -489,7 +492,7 @@ def server_refused(program, configuration):
     failed = b"serving 127.77.77.77:47814\nsocket fault\n"
     Ended(*run, CALL="recvfrom", AT=1, MANY=1, ERROR=errno.EIO).must(2, b"", failed)
     for call in ("socket", "bind"):
-        Ended(*run, CALL=call, AT=1, MANY=1, ERROR=errno.EPERM).must(2, b"", b"socket fault\n")
+        Ended(*run, CALL=call, AT=1, MANY=1, ERROR=errno.EPERM).must(2, b"", FORBIDDEN)
     return "done"
 
 

@@ -26,7 +26,8 @@ is 'and one more' "$said" '|script too long|1'
 sed s/1476/50/ ../use/plant.conf > "$room/small.conf"
 served "$room/small.conf"
 bac rp 127.77.77.77:9 8 123 77 --local="$at" --timeout=100
-is 'an address in use' "$said" '|socket fault|2'
+is 'an address in use' "$said" '|socket fault
+another socket has the address|2'
 for turn in {1..20}; do
     bac wp "$at" 20 2 133 0 1 --value=$((turn % 2 ? 0 : 1))
 done

@@ -41,7 +41,8 @@ is 'nobody is there to walk' "$said" "lost, next 1|no answer came from $at|2"
 sed s/1476/50/ ../use/plant.conf > "$room/small.conf"
 served "$room/small.conf"
 bac serve "$at" --count=0 < ../use/plant.conf
-is 'an address in use' "$said" '|socket fault|2'
+is 'an address in use' "$said" '|socket fault
+another socket has the address|2'
 bac wi "$at" --min=124 --timeout=250
 is 'another instance' "$said" '|no answer
 addresses asked: 1; devices that answer by broadcast are heard with --local=0.0.0.0:47808|2'
@@ -76,6 +77,21 @@ bac wp "$at" 5 1 85 8 0
 is 'the command is taken back' "$said" 'written||0'
 bac rp "$at" 5 1 85
 is 'the pump is off again' "$said" 'enum(0)||0'
+bac rp "$at" 5 1 85 --trace
+is 'a trace of a question' "$said" "enum(0)|tx $at 810a001101040005010c0c014000011955
+rx $at 810a0014010030010c0c0140000119553e91003f|0"
+# How many lines of a trace tell what was sent, how many what was received, and how many anything else.
+traced() {
+    bac "$@" --trace
+    is "a trace of $1" "$(($(grep -c "^tx $at 810a" "$room/err") > 0)) $(($(grep -c "^rx $at 810a" "$room/err") > 0)) $(grep -vc "^[rt]x $at 810a" "$room/err")" '1 1 0'
+}
+traced wi "$at" --timeout=300
+traced wp "$at" 5 1 85 8 0
+traced log "$at" 2 oldest
+traced logs "$at" 2
+traced keep "$room/traced.db" "$at" 2
+bac rp "$at" 5 1 85
+is 'no trace unless it is asked for' "$said" 'enum(0)||0'
 bac wp "$at" 45 1 85 0 3 --value=-5
 is 'a level is written' "$said" 'written||0'
 bac rp "$at" 45 1 85

@@ -52,4 +52,12 @@ is 'they are printed, in one piece' "$(python3 -c 'import sys
 small, shown = (open(it).read() for it in sys.argv[1:])
 print(("\n" + small).count("\n" + shown))' "$room/small" "$room/shown")" 1
 
+# A trace, made a script: the device of the script answers as that of the trace did.
+printf '%s\n' 'tx 127.0.0.1:47808 810b000c0120ffff00ff1008' 'no answer' 'tx 127.0.0.1:47809 8104' \
+    'rx 127.0.0.1:47808 810a001401001000c40200007b2205c491032100' > "$room/trace"
+{ printf '%s\n' "$device"; awk -f ../use/trace2script.awk -v peer=127.0.0.1:47808 "$room/trace"; } > "$room/script"
+"$program" replay < "$room/script" > "$room/out"
+is 'a trace as a script' "$(cat "$room/out")" 'tx 810a001401001000c40200007b2205c491032100'
+is 'its answers in the script' "$(sed -n 's/^# //p' "$room/script")" "$(cat "$room/out")"
+
 counted

@@ -101,5 +101,12 @@ bac log "$at" 2 1 --steps=3 "${far[@]}"
 is 'three steps' "$(tail -n 1 "$room/out")|${said##*|}" 'step limit, next 4|0'
 bac log "$at" 2 oldest --dnet=8 --dadr=0a01 --timeout=100 --retries=0
 is 'a log on another network' "$said" "lost, next 1|no answer came from $at|2"
+bac logs "$device"
+here=$said
+bac logs "$at" "${far[@]}"
+is 'the logs are the same by both ways' "$said" "$here"
+is 'two logs' "$(cut -f 1,2 "$room/out" | tail -n 2 | tr '\t\n' '  ')" '1 "pump-trend" 2 "by-hand" '
+bac logs "$at" 2 --dnet=7 --dadr=0a02 --timeout=100 --retries=0
+is 'logs at another address' "$said" $'instance\tname\tlogs\tenable\ttype\tinterval\trecords\tbuffer\ttotal\tstop|lost\nno answer came from '"$at|2"
 
 ended
