@@ -32,8 +32,8 @@ pub use bac_link::{
 pub use bac_log::{Datum, Entry};
 pub use bac_ports::{Heard, OpenFault, Port, SocketFault, UdpLink, UdpPort, exchanges_are_runs};
 pub use bac_walk::{
-    BadReply, Batch, Ended, Gap, Numbered, Outcome, Progress, Sink, Step, Walk, WalkFault, Why,
-    brought_goes_on, brought_is_delivered, brought_tells_why, came_is_delivered, collect,
+    BadReply, Batch, Count, Ended, Gap, Numbered, Outcome, Progress, Sink, Step, Walk, WalkFault,
+    Why, brought_goes_on, brought_is_delivered, brought_tells_why, came_is_delivered, collect,
     collected_is_delivered, deliver, honest_is_delivered, links_are_honest, lost_is_asked,
     moments_never_go_back, nothing_came, numbers_have_ordinals, ours_are_honest, own_is_said,
     replies_are_loggable, rest_resumes, rests_all, runs_deliver, runs_join,

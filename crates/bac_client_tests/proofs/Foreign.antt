@@ -44,7 +44,7 @@ use Rattle.bac_apdu.specs.Npdu.{Place}
 use Rattle.bac_link.specs.Heard.{AckParameters, heard_at}
 use Rattle.bac_walk.specs.Place.{WalkPlace, walk_at}
 use Rattle.bac_link.specs.Heard.{heard_in}
-use Rattle.bac_link.specs.Standard.{Asked, FromNumber, FromOldest, IsSaidAt, HoldsNumber}
+use Rattle.bac_link.specs.Standard.{Asked, FromNumber, FromOldest, IsCount, IsSaidAt, HoldsNumber}
 use Rattle.bac_walk.specs.Walks.{asked_by, question_of, IsTakenFrom}
 use Rattle.bac_walk.specs.declared.outcome.Progress.{Progress}
 use Rattle.bac_walk.specs.declared.outcome.Progress.TheVariants.{Batch as BatchOf, AskOldest, CaughtUp}
@@ -69,41 +69,48 @@ reads_oldest : heard_in log from_oldest ≡ Some (record { first = Some 7; count
 unfolding token_at close_at wire_number_at length_at value_in tagged_at value_at context_at mark_at contents_as segment_at confirmed_at complex_at number_at error_at pair_at unconfirmed_at segment_ack_at apdu_behind apdu_at row_at optional_at form_at body_at frame_at place_at maybe_place_at hops_at header_at word_at octets_at read_range_ack_at carried_in message_in date_at time_at behind_at simple_at choice_at chosen_at datum_at flags_at entry_at entries_at heard_at
 reads_oldest = refl
 
--- ---- what is said
+-- ---- what is said, to questions for two records or more
 
-said_7 : IsSaidAt held history log (FromNumber 7) from_7
-said_7 = record {
+pub most_asked : IsCount 100
+most_asked = record { some = omega arith; most = omega arith }
+
+said_7 : (count : ℕ) → IsCount count → 2 ≤ count → IsSaidAt held history log (FromNumber 7 count) from_7
+said_7 count asks two = record {
+  asks = asks;
   heard = record { first = Some 7; count = 2; entries = record_7 ∷ record_8 ∷ [] };
   reads = reads_7;
   counts = refl;
-  says = (7, (refl, omega arith, ((omega arith, omega arith), (omega arith, refl), ((omega arith, omega arith), (omega arith, refl), tt))), inl refl);
+  says = (7, (refl, two, ((omega arith, omega arith), (omega arith, refl), ((omega arith, omega arith), (omega arith, refl), tt))), inl refl);
 }
 
-said_9 : IsSaidAt held history log (FromNumber 9) from_9
-said_9 = record {
+said_9 : (count : ℕ) → IsCount count → 2 ≤ count → IsSaidAt held history log (FromNumber 9 count) from_9
+said_9 count asks two = record {
+  asks = asks;
   heard = record { first = Some 9; count = 2; entries = record_9 ∷ record_10 ∷ [] };
   reads = reads_9;
   counts = refl;
-  says = (9, (refl, omega arith, ((omega arith, omega arith), (omega arith, refl), ((omega arith, omega arith), (omega arith, refl), tt))), inl refl);
+  says = (9, (refl, two, ((omega arith, omega arith), (omega arith, refl), ((omega arith, omega arith), (omega arith, refl), tt))), inl refl);
 }
 
 none_11 : HoldsNumber held 11 → ⊥
 none_11 holds = omega (arith, holds.1.0, holds.1.1, holds.2)
 
-said_11 : IsSaidAt held history log (FromNumber 11) none_from_11
-said_11 = record {
+said_11 : (count : ℕ) → IsCount count → IsSaidAt held history log (FromNumber 11 count) none_from_11
+said_11 count asks = record {
+  asks = asks;
   heard = record { first = None; count = 0; entries = [] };
   reads = reads_11;
   counts = refl;
   says = none_11;
 }
 
-said_oldest : IsSaidAt held history log FromOldest from_oldest
-said_oldest = record {
+said_oldest : (count : ℕ) → IsCount count → 2 ≤ count → IsSaidAt held history log (FromOldest count) from_oldest
+said_oldest count asks two = record {
+  asks = asks;
   heard = record { first = Some 7; count = 2; entries = record_7 ∷ record_8 ∷ [] };
   reads = reads_oldest;
   counts = refl;
-  says = (refl, omega arith, ((omega arith, omega arith), (omega arith, refl), ((omega arith, omega arith), (omega arith, refl), tt)));
+  says = (refl, two, ((omega arith, omega arith), (omega arith, refl), ((omega arith, omega arith), (omega arith, refl), tt)));
 }
 
 -- ---- what is asked
@@ -113,7 +120,7 @@ asked_for invoke w = request_octets (towards None) invoke (question w.log (quest
 
 -- where the walk is after number 11, too, brought nothing
 abbrev at_oldest : WalkPlace
-at_oldest = record { log = log; next = 11; fresh = false; asks_oldest = true }
+at_oldest = record { log = log; next = 11; fresh = false; asks_oldest = true; count = 100 }
 
 asks_7 : (invoke : ℕ) → said_to (asked_for invoke (walk_at log 7)) ≡ Some from_7
 unfolding context_octets value_octets open_octets close_octets frame_octets place_octets parameters_of request_apdu request_octets
@@ -195,7 +202,7 @@ comes_oldest retries (c ∷ came) old w after new here (mid, next, p, place, ask
     let T : WalkPlace → Type 0 = λ v. IsTakenFrom v (heard_in v.log c.datagram) (Ok p) next in
     let brings = taken_oldest p next (heard_as at_oldest from_oldest c.datagram (record { first = Some 7; count = 2; entries = record_7 ∷ record_8 ∷ [] }) p next d reads_oldest (subst T here taken)) in
     let more = comes_oldest retries came mid next after new brings.1 rest in
-    ((said_here at_oldest from_oldest c said_oldest (place ∙ here) d, more.0), ap (λ ys. ys ++ items_of (answers_of came)) (is ∙ brings.0) ∙ more.1)
+    ((said_here at_oldest from_oldest c (said_oldest 100 most_asked (omega arith)) (place ∙ here) d, more.0), ap (λ ys. ys ++ items_of (answers_of came)) (is ∙ brings.0) ∙ more.1)
 
 comes_11 : {S : Type 0} (retries : ℕ) (came : List Came) (old : S) (w after : WalkPlace) (new : S) → w ≡ walk_at log 11 →
     Comes (λ a octets answer b. IsSaid octets answer) (towards None) retries old w came after new → AreSaidAt history (held ∷ []) came × (items_of (answers_of came) ≡ [])
@@ -207,7 +214,7 @@ comes_11 retries (c ∷ came) old w after new here (mid, next, p, place, asked, 
     let T : WalkPlace → Type 0 = λ v. IsTakenFrom v (heard_in v.log c.datagram) (Ok p) next in
     let brings = taken_11 p next (heard_as (walk_at log 11) none_from_11 c.datagram (record { first = None; count = 0; entries = [] }) p next d reads_11 (subst T here taken)) in
     let more = comes_oldest retries came mid next after new brings.1 rest in
-    ((said_here (walk_at log 11) none_from_11 c said_11 (place ∙ here) d, more.0), ap (λ ys. ys ++ items_of (answers_of came)) (is ∙ brings.0) ∙ more.1)
+    ((said_here (walk_at log 11) none_from_11 c (said_11 100 most_asked) (place ∙ here) d, more.0), ap (λ ys. ys ++ items_of (answers_of came)) (is ∙ brings.0) ∙ more.1)
 
 comes_9 : {S : Type 0} (retries : ℕ) (came : List Came) (old : S) (w after : WalkPlace) (new : S) → w ≡ walk_at log 9 →
     Comes (λ a octets answer b. IsSaid octets answer) (towards None) retries old w came after new →
@@ -220,7 +227,7 @@ comes_9 retries (c ∷ came) old w after new here (mid, next, p, place, asked, t
     let T : WalkPlace → Type 0 = λ v. IsTakenFrom v (heard_in v.log c.datagram) (Ok p) next in
     let brings = taken_9 p next (heard_as (walk_at log 9) from_9 c.datagram (record { first = Some 9; count = 2; entries = record_9 ∷ record_10 ∷ [] }) p next d reads_9 (subst T here taken)) in
     let more = comes_11 retries came mid next after new brings.1 rest in
-    ((said_here (walk_at log 9) from_9 c said_9 (place ∙ here) d, more.0), ends c came (Logged 9 record_9) (Logged 10 record_10 ∷ []) [] (is ∙ brings.0) (λ empty. more.1))
+    ((said_here (walk_at log 9) from_9 c (said_9 100 most_asked (omega arith)) (place ∙ here) d, more.0), ends c came (Logged 9 record_9) (Logged 10 record_10 ∷ []) [] (is ∙ brings.0) (λ empty. more.1))
 
 comes_7 : {S : Type 0} (retries : ℕ) (came : List Came) (old : S) (w after : WalkPlace) (new : S) → w ≡ walk_at log 7 →
     Comes (λ a octets answer b. IsSaid octets answer) (towards None) retries old w came after new →
@@ -233,7 +240,7 @@ comes_7 retries (c ∷ came) old w after new here (mid, next, p, place, asked, t
     let T : WalkPlace → Type 0 = λ v. IsTakenFrom v (heard_in v.log c.datagram) (Ok p) next in
     let brings = taken_7 p next (heard_as (walk_at log 7) from_7 c.datagram (record { first = Some 7; count = 2; entries = record_7 ∷ record_8 ∷ [] }) p next d reads_7 (subst T here taken)) in
     let more = comes_9 retries came mid next after new brings.1 rest in (
-      (said_here (walk_at log 7) from_7 c said_7 (place ∙ here) d, more.0),
+      (said_here (walk_at log 7) from_7 c (said_7 100 most_asked (omega arith)) (place ∙ here) d, more.0),
       ends c came (Logged 7 record_7) (Logged 8 record_8 ∷ []) (Logged 9 record_9 ∷ Logged 10 record_10 ∷ []) (is ∙ brings.0) more.1,
     )
 
@@ -271,19 +278,19 @@ all_delivered old new way retries w after steps n came items ended reason near f
 
 -- ---- any question for its records
 
-asks_time : (invoke : ℕ) → said_to (asked_octets (towards None) invoke log FromOldest) ≡ Some from_oldest
+asks_time : (invoke count : ℕ) → said_to (asked_octets (towards None) invoke log (FromOldest count)) ≡ Some from_oldest
 unfolding context_octets value_octets open_octets close_octets frame_octets place_octets parameters_of request_apdu request_octets
-asks_time invoke = refl
+asks_time invoke count = refl
 
 -- the question by number, with these contents for the number
-with_number : ℕ → List ℕ → List ℕ
-with_number invoke contents =
+with_number : (invoke count : ℕ) → List ℕ → List ℕ
+with_number invoke count contents =
     frame_octets (header_octets (asking (towards None)) ++ apdu_octets (Confirmed false 1476 invoke 26
-    (context_octets 0 (Object log) ++ (context_octets 1 (Enumerated 131) ++ (open_octets 6 ++ (tagged 0 2 contents ++ (value_octets (Signed (pos 100)) ++ (close_octets 6 ++ []))))))))
+    (context_octets 0 (Object log) ++ (context_octets 1 (Enumerated 131) ++ (open_octets 6 ++ (tagged 0 2 contents ++ (value_octets (Signed (pos count)) ++ (close_octets 6 ++ []))))))))
 
-asks_with : (n invoke : ℕ) → asked_octets (towards None) invoke log (FromNumber n) ≡ with_number invoke (unsigned_octets n)
+asks_with : (n invoke count : ℕ) → asked_octets (towards None) invoke log (FromNumber n count) ≡ with_number invoke count (unsigned_octets n)
 unfolding with_number context_octets value_octets open_octets close_octets frame_octets place_octets parameters_of request_apdu request_octets
-asks_with n invoke = refl
+asks_with n invoke count = refl
 
 unknown_size : (size number : ℕ) → (size ≡ 33 → ⊥) → said_for 0x6e size number ≡ None
 unknown_size size number other = elim (cases_Bool (size == 33)) [
@@ -297,58 +304,60 @@ low_of n two is = elim (cases_Bool (nat_lt n 5)) [
   | inr e ↦ let P : Bool → Type 0 = λ b. 32 + (if b then n else 5) ≡ 33 in absurd (omega (arith, subst P e is))
 ]
 
-none_said : (invoke : ℕ) → said_to (with_number invoke []) ≡ None
+none_said : (invoke count : ℕ) → said_to (with_number invoke count []) ≡ None
 unfolding with_number context_octets value_octets open_octets close_octets frame_octets place_octets parameters_of request_apdu request_octets
-none_said invoke = refl
+none_said invoke count = refl
 
-one_said : (invoke a : ℕ) → said_to (with_number invoke (a ∷ [])) ≡ said_for 0x6e 0x21 a
+one_said : (invoke count a : ℕ) → said_to (with_number invoke count (a ∷ [])) ≡ said_for 0x6e 0x21 a
 unfolding with_number context_octets value_octets open_octets close_octets frame_octets place_octets parameters_of request_apdu request_octets
-one_said invoke a = refl
+one_said invoke count a = refl
 
-more_said : (invoke a b : ℕ) (rest : List ℕ) → said_to (with_number invoke (a ∷ b ∷ rest)) ≡ None
+more_said : (invoke count a b : ℕ) (rest : List ℕ) → said_to (with_number invoke count (a ∷ b ∷ rest)) ≡ None
 unfolding with_number context_octets value_octets open_octets close_octets frame_octets place_octets parameters_of request_apdu request_octets
-more_said invoke a b rest = unknown_size _ (get_or (with_number invoke (a ∷ b ∷ rest)) 19 0) (low_of (length (a ∷ b ∷ rest)) (omega arith))
+more_said invoke count a b rest = unknown_size _ (get_or (with_number invoke count (a ∷ b ∷ rest)) 19 0) (low_of (length (a ∷ b ∷ rest)) (omega arith))
 
-known : (a : ℕ) (seven nine eleven : Bool) (datagram : List ℕ) → (a == 7) ≡ seven → (a == 9) ≡ nine → (a == 11) ≡ eleven →
-    (if seven then Some from_7 else (if nine then Some from_9 else (if eleven then Some none_from_11 else None))) ≡ Some datagram → IsSaidAt held history log (FromNumber a) datagram
-known a true nine eleven datagram is_7 is_9 is_11 said =
-    let N : ℕ → Type 0 = λ n. IsSaidAt held history log (FromNumber n) datagram in
-    let D : List ℕ → Type 0 = λ d. IsSaidAt held history log (FromNumber 7) d in
-    subst N (sym (eqb-true a 7 is_7)) (subst D (same from_7 datagram said) said_7)
-known a false true eleven datagram is_7 is_9 is_11 said =
-    let N : ℕ → Type 0 = λ n. IsSaidAt held history log (FromNumber n) datagram in
-    let D : List ℕ → Type 0 = λ d. IsSaidAt held history log (FromNumber 9) d in
-    subst N (sym (eqb-true a 9 is_9)) (subst D (same from_9 datagram said) said_9)
-known a false false true datagram is_7 is_9 is_11 said =
-    let N : ℕ → Type 0 = λ n. IsSaidAt held history log (FromNumber n) datagram in
-    let D : List ℕ → Type 0 = λ d. IsSaidAt held history log (FromNumber 11) d in
-    subst N (sym (eqb-true a 11 is_11)) (subst D (same none_from_11 datagram said) said_11)
-known a false false false datagram is_7 is_9 is_11 said = absurd (cc)
+known : (a count : ℕ) (seven nine eleven : Bool) (datagram : List ℕ) → IsCount count → 2 ≤ count → (a == 7) ≡ seven → (a == 9) ≡ nine → (a == 11) ≡ eleven →
+    (if seven then Some from_7 else (if nine then Some from_9 else (if eleven then Some none_from_11 else None))) ≡ Some datagram → IsSaidAt held history log (FromNumber a count) datagram
+known a count true nine eleven datagram asks two is_7 is_9 is_11 said =
+    let N : ℕ → Type 0 = λ n. IsSaidAt held history log (FromNumber n count) datagram in
+    let D : List ℕ → Type 0 = λ d. IsSaidAt held history log (FromNumber 7 count) d in
+    subst N (sym (eqb-true a 7 is_7)) (subst D (same from_7 datagram said) (said_7 count asks two))
+known a count false true eleven datagram asks two is_7 is_9 is_11 said =
+    let N : ℕ → Type 0 = λ n. IsSaidAt held history log (FromNumber n count) datagram in
+    let D : List ℕ → Type 0 = λ d. IsSaidAt held history log (FromNumber 9 count) d in
+    subst N (sym (eqb-true a 9 is_9)) (subst D (same from_9 datagram said) (said_9 count asks two))
+known a count false false true datagram asks two is_7 is_9 is_11 said =
+    let N : ℕ → Type 0 = λ n. IsSaidAt held history log (FromNumber n count) datagram in
+    let D : List ℕ → Type 0 = λ d. IsSaidAt held history log (FromNumber 11 count) d in
+    subst N (sym (eqb-true a 11 is_11)) (subst D (same none_from_11 datagram said) (said_11 count asks))
+known a count false false false datagram asks two is_7 is_9 is_11 said = absurd (cc)
 
-by_contents : (contents : List ℕ) (n invoke : ℕ) (datagram : List ℕ) → number contents ≡ n → said_to (with_number invoke contents) ≡ Some datagram → IsSaidAt held history log (FromNumber n) datagram
-by_contents [] n invoke datagram is said = absurd (let e = sym (none_said invoke) ∙ said in cc)
-by_contents (a ∷ b ∷ rest) n invoke datagram is said = absurd (let e = sym (more_said invoke a b rest) ∙ said in cc)
-by_contents (a ∷ []) n invoke datagram is said =
-    let N : ℕ → Type 0 = λ k. IsSaidAt held history log (FromNumber k) datagram in
-    subst N (let e : a ≡ n = omega (arith, is) in e) (known a (a == 7) (a == 9) (a == 11) datagram refl refl refl (sym (one_said invoke a) ∙ said))
+by_contents : (contents : List ℕ) (n count invoke : ℕ) (datagram : List ℕ) → IsCount count → 2 ≤ count → number contents ≡ n → said_to (with_number invoke count contents) ≡ Some datagram →
+    IsSaidAt held history log (FromNumber n count) datagram
+by_contents [] n count invoke datagram asks two is said = absurd (let e = sym (none_said invoke count) ∙ said in cc)
+by_contents (a ∷ b ∷ rest) n count invoke datagram asks two is said = absurd (let e = sym (more_said invoke count a b rest) ∙ said in cc)
+by_contents (a ∷ []) n count invoke datagram asks two is said =
+    let N : ℕ → Type 0 = λ k. IsSaidAt held history log (FromNumber k count) datagram in
+    subst N (let e : a ≡ n = omega (arith, is) in e) (known a count (a == 7) (a == 9) (a == 11) datagram asks two refl refl refl (sym (one_said invoke count a) ∙ said))
 
 -- the reply to any of them
-pub reply_said : (low invoke : ℕ) (asked : Asked) (datagram : List ℕ) → IsAskedIn low asked → said_to (asked_octets (towards None) invoke log asked) ≡ Some datagram →
+pub reply_said : (low count invoke : ℕ) (asked : Asked) (datagram : List ℕ) → IsCount count → 2 ≤ count → IsAskedIn low count asked → said_to (asked_octets (towards None) invoke log asked) ≡ Some datagram →
     IsSaidAt held history log asked datagram
-reply_said low invoke FromOldest datagram is said =
-    let D : List ℕ → Type 0 = λ d. IsSaidAt held history log FromOldest d in subst D (same from_oldest datagram (sym (asks_time invoke) ∙ said)) said_oldest
-reply_said low invoke (FromNumber n) datagram (s, number, above, below) said =
-    by_contents (unsigned_octets n) n invoke datagram (unsigned_stands n (omega (arith, number))).1 (ap said_to (sym (asks_with n invoke)) ∙ said)
+reply_said low count invoke (FromOldest asked) datagram asks two is said =
+    let D : List ℕ → Type 0 = λ d. IsSaidAt held history log (FromOldest asked) d in
+    subst D (same from_oldest datagram (sym (asks_time invoke asked) ∙ said)) (said_oldest asked (subst IsCount (sym is) asks) (omega (arith, is, two)))
+reply_said low count invoke (FromNumber n asked) datagram asks two (is, (s, shown, above, below)) said =
+    by_contents (unsigned_octets n) n asked invoke datagram (subst IsCount (sym is) asks) (omega (arith, is, two)) (unsigned_stands n (omega (arith, shown))).1 (ap said_to (sym (asks_with n invoke asked)) ∙ said)
 
-one_ask : (M : List Moment) (low invoke : ℕ) (asked : Asked) (answer : Result (List ℕ) Lost) → held ∷ [] ≡ M → IsAskedIn low asked →
+one_ask : (M : List Moment) (low count invoke : ℕ) (asked : Asked) (answer : Result (List ℕ) Lost) → IsCount count → 2 ≤ count → held ∷ [] ≡ M → IsAskedIn low count asked →
     IsSaid (asked_octets (towards None) invoke log asked) answer → IsSaidOrLost (λ N. held ∷ [] ≡ N) M history log asked (asked_octets (towards None) invoke log asked) answer
-one_ask M low invoke asked (Err lost) stands is said = stands
-one_ask M low invoke asked (Ok datagram) stands is said =
+one_ask M low count invoke asked (Err lost) asks two stands is said = stands
+one_ask M low count invoke asked (Ok datagram) asks two stands is said =
     let P : List Moment → Type 0 = λ N. IsSaidAt (now N) history log asked datagram × (held ∷ [] ≡ later N) in
-    ((λ yes. subst P stands (reply_said low invoke asked datagram is said, refl)), λ no. stands)
+    ((λ yes. subst P stands (reply_said low count invoke asked datagram asks two is said, refl)), λ no. stands)
 
-pub honest_where : {S : Type 0} (low : ℕ) → IsHonestWhere {S = S} (λ a octets answer b. IsSaid octets answer) (towards None) log history low (λ link M. held ∷ [] ≡ M)
-honest_where low = λ old new M asked invoke answer stands some window is ask. one_ask M low invoke asked answer stands is ask
+pub honest_where : {S : Type 0} (count low : ℕ) → IsCount count → 2 ≤ count → IsHonestWhere {S = S} (λ a octets answer b. IsSaid octets answer) (towards None) log count history low (λ link M. held ∷ [] ≡ M)
+honest_where count low asks two = λ old new M asked invoke answer stands some window is ask. one_ask M low count invoke asked answer asks two stands is ask
 
 pub always_held : (i : ℕ) → moment_at (held ∷ []) i ≡ held
 always_held zero = refl
@@ -382,14 +391,14 @@ begins_held fresh s b answers items dropped start all is =
 pub walk_delivers : {S : Type 0} (old new : S) (way : Option Place) (w after : WalkPlace) (items : List Item) (reason : Why) (low s spare : ℕ) →
     HonestWhereItStands {S = S} (λ a octets answer b. IsSaid octets answer) (λ link M. held ∷ [] ≡ M) →
     DeliversSaid (λ a octets answer b. IsSaid octets answer) (towards way) spare old w items (ended_of reason) after new → way ≡ None → w.log ≡ log → w.next ≡ sequence_number s →
-    low ≤ 7 → (w.fresh ≡ false → (low ≤ s) × (s < low + 2147483648)) →
+    IsCount w.count → 2 ≤ w.count → low ≤ 7 → (w.fresh ≡ false → (low ≤ s) × (s < low + 2147483648)) →
     ((b : ℕ) × (a : ℕ) × (t : ℕ) × (w.fresh ≡ false → b ≡ s) × (after.next ≡ sequence_number t) × DeliversTo history b items t (held ∷ []) a × (reason ≡ why.CaughtUp → 10 < t)
     × (w.fresh ≡ true → (items ≡ []) ⊎ (b ≡ 7)))
     × ((e : WalkFault) → reason ≡ why.Fault e → e ≡ fault.Lost)
-walk_delivers {S = S} old new way w after items reason low s spare stands said near log_is next below at =
+walk_delivers {S = S} old new way w after items reason low s spare stands said near log_is next asks two below at =
     let W : Option Place → Type 0 = λ y. DeliversSaid {S = S} (λ a octets answer b. IsSaid octets answer) (towards y) spare old w items (ended_of reason) after new in
-    let I : Id → Type 0 = λ i. IsHonestWhere {S = S} (λ a octets answer b. IsSaid octets answer) (towards None) i history low (λ link M. held ∷ [] ≡ M) in
-    let honest = stands (towards None) w.log history low old (held ∷ []) (subst I (sym log_is) (honest_where {S = S} low)) refl in
+    let I : Id → Type 0 = λ i. IsHonestWhere {S = S} (λ a octets answer b. IsSaid octets answer) (towards None) i w.count history low (λ link M. held ∷ [] ≡ M) in
+    let honest = stands (towards None) w.log w.count history low old (held ∷ []) (subst I (sym log_is) (honest_where {S = S} w.count low asks two)) refl in
     let all = subst W near said history (held ∷ []) s low honest next (omega arith) tt (record { oldest = below; newest = omega arith }, tt) at in
     let E : Why → Type 0 = λ y. IsHonestEnd (ended_of y) in (
       (

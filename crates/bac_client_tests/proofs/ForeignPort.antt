@@ -24,7 +24,7 @@ use Rattle.bac_walk.specs.Place.{WalkPlace, walk_at}
 use Rattle.bac_link.specs.Honest.{IsAskedIn, IsSaidOrLost, IsHonestWhere, asked_octets}
 use Rattle.bac_walk.specs.Honest.{IsHonestEnd, HonestIsDelivered}
 use Rattle.bac_link.specs.Standard.{Asked, IsSaidAt}
-use Rattle.bac_client_tests.proofs.Foreign.{always_held, beyond, ended_up, reply_said}
+use Rattle.bac_client_tests.proofs.Foreign.{always_held, beyond, ended_up, most_asked, reply_said}
 use Rattle.bac_client_tests.proofs.Honest.{ended_as, is_loss}
 use Rattle.bac_client_tests.specs.Foreign.{all_held, held, history, log, record_7, record_8, record_9, record_10, said_to}
 use Rattle.bac_client_tests.specs.ForeignPort.{IsBrought, IsPut, PrintsHeld, device_at, moments_at}
@@ -92,7 +92,7 @@ to_device peer M stands some = by (bytes_eq peer device_at) refl
         ((bytes_eq-Decides peer device_at).0 of, sym (sym (ap (λ (b : Bool). if b then held ∷ [] else []) of) ∙ stands))
 
 one_ask : (M : List Moment) (low invoke : ℕ) (asked : Asked) (peer left : List ℕ) (answer : Result (List ℕ) Lost) →
-    moments_at peer ≡ M → 0 < length M → IsAskedIn low asked → left ≡ peer →
+    moments_at peer ≡ M → 0 < length M → IsAskedIn low 100 asked → left ≡ peer →
     ((datagram : List ℕ) → answer ≡ Ok datagram → peer ≡ device_at → said_to (asked_octets (towards None) invoke log asked) ≡ Some datagram) →
     IsSaidOrLost (λ N. moments_at left ≡ N) M history log asked (asked_octets (towards None) invoke log asked) answer
 one_ask M low invoke asked peer left (Err lost) stands some is same said = ap moments_at same ∙ stands
@@ -100,7 +100,7 @@ one_ask M low invoke asked peer left (Ok datagram) stands some is same said =
     let device = to_device peer M stands some in
     let stays : moments_at left ≡ M = ap moments_at same ∙ stands in
     let P : List Moment → Type 0 = λ N. (moments_at left ≡ N) → IsSaidAt (now N) history log asked datagram × (moments_at left ≡ later N) in
-    let reply = reply_said low invoke asked datagram is (said datagram refl device.0) in (
+    let reply = reply_said low 100 invoke asked datagram most_asked (omega arith) is (said datagram refl device.0) in (
       (λ yes. subst P (sym device.1) (λ at. (reply, at)) stays),
       λ no. stays,
     )
@@ -113,7 +113,7 @@ PortAsks question old octets answer new =
 
 pub port_is_honest : {P : Type 0} (question : P → List ℕ) (low : ℕ) →
     IsHonestWhere {S = UdpLink P} (λ old octets answer new. PortAsks question old octets answer new)
-    (towards None) log history low (λ link M. moments_at link.peer ≡ M)
+    (towards None) log 100 history low (λ link M. moments_at link.peer ≡ M)
 port_is_honest {P = P} question low = λ old new M asked invoke answer stands some window is ask.
     one_ask M low invoke asked old.peer new.peer answer stands some is ask.1
     (λ datagram told device.
@@ -193,7 +193,7 @@ none_left t k is small none =
 
 pub prints_held : {S : Type 0} (asks : S → List ℕ → Result (List ℕ) Lost → S → Type 0) (moments : S → List Moment) (link left : S)
     (way : Option Place) (retries : ℕ) (w : WalkPlace) (asked : Id) (steps : ℕ) (result : Fetching) (old new : Held) →
-    HonestIsDelivered asks (λ l M. moments l ≡ M) → ((low : ℕ) → IsHonestWhere asks (towards None) log history low (λ l M. moments l ≡ M)) →
+    HonestIsDelivered asks (λ l M. moments l ≡ M) → ((low : ℕ) → IsHonestWhere asks (towards None) log 100 history low (λ l M. moments l ≡ M)) →
     moments link ≡ held ∷ [] → way ≡ None → w ≡ walk_at asked 7 →
     FetchesOver asks (towards way) retries link w steps result left old new →
     IfOk result (λ done. asked ≡ log → PrintsHeld done old new)

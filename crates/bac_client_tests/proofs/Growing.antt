@@ -25,7 +25,7 @@ use Rattle.bac_link.specs.Path.{towards}
 use Rattle.bac_link.specs.Requests.{asking, parameters_of, request_apdu, request_octets}
 use Rattle.bac_link.specs.declared.link.Lost.{Lost}
 use Rattle.bac_apdu.specs.Apdu.{apdu_octets, Confirmed}
-use Rattle.bac_link.specs.Standard.{Asked, FromNumber, FromOldest, IsSaidAt, SaysAt}
+use Rattle.bac_link.specs.Standard.{Asked, FromNumber, FromOldest, IsCount, IsSaidAt, SaysAt, count_asked}
 use Rattle.bac_log.specs.TrendLog.{sequence_number}
 use Rattle.bac_client_tests.specs.Foreign.{log}
 use Rattle.bac_client_tests.specs.Growing.{about, answer_for, answer_to, logged_so_far, no_record, one_record, real, MayAnswer, MayGrow}
@@ -58,17 +58,21 @@ is_entry : (n k : ℕ) → 0 < k → k ≤ n → IsEntry (logged_so_far n).histo
 is_entry n k some few = (omega (arith, some), get_same n (k - (0 + 1)) (omega (arith, some, few)))
 
 -- the record of a number that is there
-said_one : (n invoke k : ℕ) (asked : Asked) → 0 < k → k ≤ n → k < 4294967296 → (asked ≡ FromNumber k) ⊎ ((asked ≡ FromOldest) × (k ≡ 1)) →
+said_one : (n invoke k count : ℕ) (asked : Asked) → IsCount count → 0 < k → k ≤ n → k < 4294967296 → (asked ≡ FromNumber k count) ⊎ ((asked ≡ FromOldest count) × (k ≡ 1)) →
     IsSaidAt (logged_so_far n).moment (logged_so_far n).history log asked (one_record invoke k)
-said_one n invoke k asked some few octet which = record {
+said_one n invoke k count asked asks some few octet which = record {
+  asks = elim which [
+    | inl is ↦ subst (λ a. IsCount (count_asked a)) (sym is) asks
+    | inr is ↦ subst (λ a. IsCount (count_asked a)) (sym is.0) asks
+  ];
   heard = record { first = Some (number (k ∷ [])); count = 1; entries = real ∷ [] };
   reads = reads_one invoke k (in_range k some octet);
   counts = refl;
   says = elim which [
     | inl is ↦ let P : Asked → Type 0 = λ a. SaysAt (logged_so_far n).moment (logged_so_far n).history a (Some (number (k ∷ []))) (real ∷ []) in
-        subst P (sym is) (k, (shown, omega arith, ((omega (arith, some), few), is_entry n k some few, tt)), inl (omega (arith, some, octet)))
+        subst P (sym is) (k, (shown, asks.some, ((omega (arith, some), few), is_entry n k some few, tt)), inl (omega (arith, some, octet)))
     | inr is ↦ let P : Asked → Type 0 = λ a. SaysAt (logged_so_far n).moment (logged_so_far n).history a (Some (number (k ∷ []))) (real ∷ []) in
-        subst P (sym is.0) (first is.1, omega arith, ((omega arith, omega (arith, some, few)), is_entry n 1 (omega arith) (omega (arith, some, few)), tt))
+        subst P (sym is.0) (first is.1, asks.some, ((omega arith, omega (arith, some, few)), is_entry n 1 (omega arith) (omega (arith, some, few)), tt))
   ];
 }
   where
@@ -79,8 +83,9 @@ said_one n invoke k asked some few octet which = record {
     first is = ap Some (let e : number (k ∷ []) ≡ sequence_number 1 = omega (arith, is) in e)
 
 -- no record of a number that isn't there
-said_none : (n invoke k : ℕ) → k < 4294967296 → ((0 < k) × (k ≤ n) → ⊥) → n < 2147483648 → IsSaidAt (logged_so_far n).moment (logged_so_far n).history log (FromNumber k) (no_record invoke)
-said_none n invoke k octet gone few = record {
+said_none : (n invoke k count : ℕ) → IsCount count → k < 4294967296 → ((0 < k) × (k ≤ n) → ⊥) → n < 2147483648 → IsSaidAt (logged_so_far n).moment (logged_so_far n).history log (FromNumber k count) (no_record invoke)
+said_none n invoke k count asks octet gone few = record {
+  asks = asks;
   heard = record { first = None; count = 0; entries = [] };
   reads = reads_none invoke;
   counts = refl;
@@ -88,8 +93,9 @@ said_none n invoke k octet gone few = record {
 }
 
 -- no record of a log that has none
-said_empty : (n invoke : ℕ) → n ≡ 0 → IsSaidAt (logged_so_far n).moment (logged_so_far n).history log FromOldest (no_record invoke)
-said_empty n invoke none = record {
+said_empty : (n invoke count : ℕ) → IsCount count → n ≡ 0 → IsSaidAt (logged_so_far n).moment (logged_so_far n).history log (FromOldest count) (no_record invoke)
+said_empty n invoke count asks none = record {
+  asks = asks;
   heard = record { first = None; count = 0; entries = [] };
   reads = reads_none invoke;
   counts = refl;
@@ -101,43 +107,43 @@ said_empty n invoke none = record {
 same : (a b : List ℕ) → Some a ≡ Some b → a ≡ b
 same a b is = cc
 
-about_said : (n invoke k : ℕ) (datagram : List ℕ) → k < 4294967296 → n < 2147483648 → Some (about n invoke k) ≡ Some datagram →
-    IsSaidAt (logged_so_far n).moment (logged_so_far n).history log (FromNumber k) datagram
-about_said n invoke k datagram octet few is = by (nat_lt 0 k) (nat_le k n) refl refl is
+about_said : (n invoke k count : ℕ) (datagram : List ℕ) → IsCount count → k < 4294967296 → n < 2147483648 → Some (about n invoke k) ≡ Some datagram →
+    IsSaidAt (logged_so_far n).moment (logged_so_far n).history log (FromNumber k count) datagram
+about_said n invoke k count datagram asks octet few is = by (nat_lt 0 k) (nat_le k n) refl refl is
   where
     by : (some there : Bool) → nat_lt 0 k ≡ some → nat_le k n ≡ there → Some (if some && there then one_record invoke k else no_record invoke) ≡ Some datagram →
-        IsSaidAt (logged_so_far n).moment (logged_so_far n).history log (FromNumber k) datagram
-    by true true a b is = subst (λ d. IsSaidAt (logged_so_far n).moment (logged_so_far n).history log (FromNumber k) d) (same (one_record invoke k) datagram is)
-        (said_one n invoke k (FromNumber k) (ltb-true 0 k a) (leb-true k n b) octet (inl refl))
-    by true false a b is = subst (λ d. IsSaidAt (logged_so_far n).moment (logged_so_far n).history log (FromNumber k) d) (same (no_record invoke) datagram is)
-        (said_none n invoke k octet (λ h. absurd (let e = sym b ∙ le-leb k n h.1 in cc)) few)
-    by false there a b is = subst (λ d. IsSaidAt (logged_so_far n).moment (logged_so_far n).history log (FromNumber k) d) (same (no_record invoke) datagram is)
-        (said_none n invoke k octet (λ h. absurd (let e = sym a ∙ lt-ltb 0 k h.0 in cc)) few)
+        IsSaidAt (logged_so_far n).moment (logged_so_far n).history log (FromNumber k count) datagram
+    by true true a b is = subst (λ d. IsSaidAt (logged_so_far n).moment (logged_so_far n).history log (FromNumber k count) d) (same (one_record invoke k) datagram is)
+        (said_one n invoke k count (FromNumber k count) asks (ltb-true 0 k a) (leb-true k n b) octet (inl refl))
+    by true false a b is = subst (λ d. IsSaidAt (logged_so_far n).moment (logged_so_far n).history log (FromNumber k count) d) (same (no_record invoke) datagram is)
+        (said_none n invoke k count asks octet (λ h. absurd (let e = sym b ∙ le-leb k n h.1 in cc)) few)
+    by false there a b is = subst (λ d. IsSaidAt (logged_so_far n).moment (logged_so_far n).history log (FromNumber k count) d) (same (no_record invoke) datagram is)
+        (said_none n invoke k count asks octet (λ h. absurd (let e = sym a ∙ lt-ltb 0 k h.0 in cc)) few)
 
-first_said : (n invoke : ℕ) (datagram : List ℕ) → Some (about n invoke 1) ≡ Some datagram →
-    IsSaidAt (logged_so_far n).moment (logged_so_far n).history log FromOldest datagram
-first_said n invoke datagram is = by (nat_le 1 n) refl is
+first_said : (n invoke count : ℕ) (datagram : List ℕ) → IsCount count → Some (about n invoke 1) ≡ Some datagram →
+    IsSaidAt (logged_so_far n).moment (logged_so_far n).history log (FromOldest count) datagram
+first_said n invoke count datagram asks is = by (nat_le 1 n) refl is
   where
     by : (there : Bool) → nat_le 1 n ≡ there → Some (if there then one_record invoke 1 else no_record invoke) ≡ Some datagram →
-        IsSaidAt (logged_so_far n).moment (logged_so_far n).history log FromOldest datagram
-    by true b is = subst (λ d. IsSaidAt (logged_so_far n).moment (logged_so_far n).history log FromOldest d) (same (one_record invoke 1) datagram is)
-        (said_one n invoke 1 FromOldest (omega arith) (leb-true 1 n b) (omega arith) (inr (refl, refl)))
-    by false b is = subst (λ d. IsSaidAt (logged_so_far n).moment (logged_so_far n).history log FromOldest d) (same (no_record invoke) datagram is)
-        (said_empty n invoke (let out : 1 ≤ n → ⊥ = λ le. absurd (let e = sym b ∙ le-leb 1 n le in cc) in elim (cases_lt 0 n) [ inl lt ↦ absurd (out (omega (arith, lt))) | inr ge ↦ omega (arith, ge) ]))
+        IsSaidAt (logged_so_far n).moment (logged_so_far n).history log (FromOldest count) datagram
+    by true b is = subst (λ d. IsSaidAt (logged_so_far n).moment (logged_so_far n).history log (FromOldest count) d) (same (one_record invoke 1) datagram is)
+        (said_one n invoke 1 count (FromOldest count) asks (omega arith) (leb-true 1 n b) (omega arith) (inr (refl, refl)))
+    by false b is = subst (λ d. IsSaidAt (logged_so_far n).moment (logged_so_far n).history log (FromOldest count) d) (same (no_record invoke) datagram is)
+        (said_empty n invoke count asks (let out : 1 ≤ n → ⊥ = λ le. absurd (let e = sym b ∙ le-leb 1 n le in cc) in elim (cases_lt 0 n) [ inl lt ↦ absurd (out (omega (arith, lt))) | inr ge ↦ omega (arith, ge) ]))
 
-asks_time : (n invoke : ℕ) → answer_to n (asked_octets (towards None) invoke log FromOldest) ≡ Some (about n invoke 1)
+asks_time : (n invoke count : ℕ) → answer_to n (asked_octets (towards None) invoke log (FromOldest count)) ≡ Some (about n invoke 1)
 unfolding context_octets value_octets open_octets close_octets frame_octets place_octets parameters_of request_apdu request_octets
-asks_time n invoke = refl
+asks_time n invoke count = refl
 
 -- the question by number, with these contents for the number
-with_number : ℕ → List ℕ → List ℕ
-with_number invoke contents =
+with_number : (invoke count : ℕ) → List ℕ → List ℕ
+with_number invoke count contents =
     frame_octets (header_octets (asking (towards None)) ++ apdu_octets (Confirmed false 1476 invoke 26
-    (context_octets 0 (Object log) ++ (context_octets 1 (Enumerated 131) ++ (open_octets 6 ++ (tagged 0 2 contents ++ (value_octets (Signed (pos 100)) ++ (close_octets 6 ++ []))))))))
+    (context_octets 0 (Object log) ++ (context_octets 1 (Enumerated 131) ++ (open_octets 6 ++ (tagged 0 2 contents ++ (value_octets (Signed (pos count)) ++ (close_octets 6 ++ []))))))))
 
-asks_with : (n invoke : ℕ) → asked_octets (towards None) invoke log (FromNumber n) ≡ with_number invoke (unsigned_octets n)
+asks_with : (n invoke count : ℕ) → asked_octets (towards None) invoke log (FromNumber n count) ≡ with_number invoke count (unsigned_octets n)
 unfolding with_number context_octets value_octets open_octets close_octets frame_octets place_octets parameters_of request_apdu request_octets
-asks_with n invoke = refl
+asks_with n invoke count = refl
 
 unknown_size : (n invoke size number : ℕ) → (size ≡ 33 → ⊥) → answer_for n invoke 0x6e size number ≡ None
 unknown_size n invoke size number other = elim (cases_Bool (size == 33)) [
@@ -151,32 +157,32 @@ low_of n two is = elim (cases_Bool (nat_lt n 5)) [
   | inr e ↦ let P : Bool → Type 0 = λ b. 32 + (if b then n else 5) ≡ 33 in absurd (omega (arith, subst P e is))
 ]
 
-none_said : (n invoke : ℕ) → answer_to n (with_number invoke []) ≡ None
+none_said : (n invoke count : ℕ) → answer_to n (with_number invoke count []) ≡ None
 unfolding with_number context_octets value_octets open_octets close_octets frame_octets place_octets parameters_of request_apdu request_octets
-none_said n invoke = refl
+none_said n invoke count = refl
 
-one_said : (n invoke a : ℕ) → answer_to n (with_number invoke (a ∷ [])) ≡ Some (about n invoke a)
+one_said : (n invoke count a : ℕ) → answer_to n (with_number invoke count (a ∷ [])) ≡ Some (about n invoke a)
 unfolding with_number context_octets value_octets open_octets close_octets frame_octets place_octets parameters_of request_apdu request_octets
-one_said n invoke a = refl
+one_said n invoke count a = refl
 
-more_said : (n invoke a b : ℕ) (rest : List ℕ) → answer_to n (with_number invoke (a ∷ b ∷ rest)) ≡ None
+more_said : (n invoke count a b : ℕ) (rest : List ℕ) → answer_to n (with_number invoke count (a ∷ b ∷ rest)) ≡ None
 unfolding with_number context_octets value_octets open_octets close_octets frame_octets place_octets parameters_of request_apdu request_octets
-more_said n invoke a b rest = unknown_size n invoke _ (get_or (with_number invoke (a ∷ b ∷ rest)) 19 0) (low_of (length (a ∷ b ∷ rest)) (omega arith))
+more_said n invoke count a b rest = unknown_size n invoke _ (get_or (with_number invoke count (a ∷ b ∷ rest)) 19 0) (low_of (length (a ∷ b ∷ rest)) (omega arith))
 
-by_contents : (contents : List ℕ) (n k invoke : ℕ) (datagram : List ℕ) → k < 4294967296 → n < 2147483648 → number contents ≡ k → answer_to n (with_number invoke contents) ≡ Some datagram →
-    IsSaidAt (logged_so_far n).moment (logged_so_far n).history log (FromNumber k) datagram
-by_contents [] n k invoke datagram least few is said = absurd (let e = sym (none_said n invoke) ∙ said in cc)
-by_contents (a ∷ b ∷ rest) n k invoke datagram least few is said = absurd (let e = sym (more_said n invoke a b rest) ∙ said in cc)
-by_contents (a ∷ []) n k invoke datagram least few is said =
-    let N : ℕ → Type 0 = λ x. IsSaidAt (logged_so_far n).moment (logged_so_far n).history log (FromNumber x) datagram in
+by_contents : (contents : List ℕ) (n k count invoke : ℕ) (datagram : List ℕ) → IsCount count → k < 4294967296 → n < 2147483648 → number contents ≡ k → answer_to n (with_number invoke count contents) ≡ Some datagram →
+    IsSaidAt (logged_so_far n).moment (logged_so_far n).history log (FromNumber k count) datagram
+by_contents [] n k count invoke datagram asks least few is said = absurd (let e = sym (none_said n invoke count) ∙ said in cc)
+by_contents (a ∷ b ∷ rest) n k count invoke datagram asks least few is said = absurd (let e = sym (more_said n invoke count a b rest) ∙ said in cc)
+by_contents (a ∷ []) n k count invoke datagram asks least few is said =
+    let N : ℕ → Type 0 = λ x. IsSaidAt (logged_so_far n).moment (logged_so_far n).history log (FromNumber x count) datagram in
     let e : a ≡ k = omega (arith, is) in
-    subst N e (about_said n invoke a datagram (omega (arith, e, least)) few (sym (one_said n invoke a) ∙ said))
+    subst N e (about_said n invoke a count datagram asks (omega (arith, e, least)) few (sym (one_said n invoke count a) ∙ said))
 
-answer_said : (n low invoke : ℕ) (asked : Asked) (datagram : List ℕ) → n < 2147483648 → IsAskedIn low asked → answer_to n (asked_octets (towards None) invoke log asked) ≡ Some datagram →
+answer_said : (n low count invoke : ℕ) (asked : Asked) (datagram : List ℕ) → IsCount count → n < 2147483648 → IsAskedIn low count asked → answer_to n (asked_octets (towards None) invoke log asked) ≡ Some datagram →
     IsSaidAt (logged_so_far n).moment (logged_so_far n).history log asked datagram
-answer_said n low invoke FromOldest datagram few is said = first_said n invoke datagram (sym (asks_time n invoke) ∙ said)
-answer_said n low invoke (FromNumber k) datagram few (s, shown, above, below) said =
-    by_contents (unsigned_octets k) n k invoke datagram (omega (arith, shown)) few (unsigned_stands k (omega (arith, shown))).1 (ap (answer_to n) (sym (asks_with k invoke)) ∙ said)
+answer_said n low count invoke (FromOldest asked) datagram asks few is said = first_said n invoke asked datagram (subst IsCount (sym is) asks) (sym (asks_time n invoke asked) ∙ said)
+answer_said n low count invoke (FromNumber k asked) datagram asks few (is, (s, shown, above, below)) said =
+    by_contents (unsigned_octets k) n k asked invoke datagram (subst IsCount (sym is) asks) (omega (arith, shown)) few (unsigned_stands k (omega (arith, shown))).1 (ap (answer_to n) (sym (asks_with k invoke asked)) ∙ said)
 
 -- ---- the log goes on
 
@@ -191,20 +197,20 @@ grown old new le few =
       stands = record { within = omega (arith, length-replicate new real); window = record { oldest = omega arith; newest = omega (arith, few) } };
     }
 
-given : (n invoke : ℕ) (asked : Asked) (answer : Result (List ℕ) Lost) → n < 2147483648 → IsAskedIn 1 asked → MayAnswer n (asked_octets (towards None) invoke log asked) answer →
+given : (n count invoke : ℕ) (asked : Asked) (answer : Result (List ℕ) Lost) → IsCount count → n < 2147483648 → IsAskedIn 1 count asked → MayAnswer n (asked_octets (towards None) invoke log asked) answer →
     IsGiven (logged_so_far n) log asked (asked_octets (towards None) invoke log asked) answer
-given n invoke asked (Err lost) few is may = tt
-given n invoke asked (Ok datagram) few is may = λ yes. answer_said n 1 invoke asked datagram few is may
+given n count invoke asked (Err lost) asks few is may = tt
+given n count invoke asked (Ok datagram) asks few is may = λ yes. answer_said n 1 count invoke asked datagram asks few is may
 
-pub stays : {S : Type 0} (logged : S → ℕ) (more : ℕ) (link : S) → logged link + 100 * more < 2147483648 →
-    StaysHonest {S = S} (λ old octets answer new. MayGrow (logged old) octets answer (logged new)) (towards None) log 1 more link (logged_so_far (logged link))
-stays logged zero link room = tt
-stays logged (suc more) link room = λ new asked invoke answer is ask.
+pub stays : {S : Type 0} (logged : S → ℕ) (count more : ℕ) (link : S) → IsCount count → logged link + 100 * more < 2147483648 →
+    StaysHonest {S = S} (λ old octets answer new. MayGrow (logged old) octets answer (logged new)) (towards None) log count 1 more link (logged_so_far (logged link))
+stays logged count zero link asks room = tt
+stays logged count (suc more) link asks room = λ new asked invoke answer is ask.
     let few : logged new + 100 * more < 2147483648 = omega (arith, room, ask.1) in (
       logged_so_far (logged new),
       grown (logged link) (logged new) ask.0 (omega (arith, few)),
-      given (logged new) invoke asked answer (omega (arith, few)) is ask.2,
-      stays logged more new few,
+      given (logged new) count invoke asked answer asks (omega (arith, few)) is ask.2,
+      stays logged count more new asks few,
     )
 
 pub begins : (n : ℕ) → n < 2147483648 → IsStanding 1 (logged_so_far n)

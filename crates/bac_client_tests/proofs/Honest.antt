@@ -34,7 +34,7 @@ is_loss BadReply end = absurd end
 
 pub honest_run : {S : Type 0} (asks : S → List ℕ → Result (List ℕ) Loss → S → Type 0) (stands : S → List Moment → Type 0) (old new : S) (way : Option Place) (retries : ℕ) (w after : WalkPlace)
     (steps n : ℕ) (came : List Came) (items : List Item) (ended : Ended) (reason : Why) (log : Id) (number : ℕ) (H : History) (M : List Moment) (low k : ℕ) →
-    way ≡ None → w ≡ walk_at log number → HonestIsDelivered asks stands → IsHonestWhere asks (towards None) log H low stands → stands old M → IsRunOf reason steps n ended →
+    way ≡ None → w ≡ walk_at log number → HonestIsDelivered asks stands → IsHonestWhere asks (towards None) log 100 H low stands → stands old M → IsRunOf reason steps n ended →
     Brought asks (towards way) retries old w n came items ended after new → number ≡ sequence_number k → (0 < length M) × NeverGoesBack M → AreInWindow low M → low ≤ k → k < low + 2147483648 →
     ((count : ℕ) × (t : ℕ) × (after.next ≡ sequence_number t) × DeliversTo H k items t M count) × ((e : WalkFault) → reason ≡ why.Fault e → e ≡ Lost)
 honest_run {S = S} asks stands old new way retries w after steps n came items ended reason log number H M low k near from law honest stood run ran here moments window above below =

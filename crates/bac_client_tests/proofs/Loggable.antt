@@ -1,5 +1,5 @@
 -- What is held where a walk of a log at rest got a reply is loggable.
-use Rattle.std.proofs.Common.{◌≡◌, ◌+◌, ℕ, zero, suc, ◌<◌, ◌⊎◌, inl, inr, max, nat_lt, Bool, true, false, if◌then◌else◌, Option, None, Result, List, [], ◌∷◌, ◌++◌, length, refl, subst, arith}
+use Rattle.std.proofs.Common.{◌≡◌, ◌+◌, ℕ, zero, suc, ◌<◌, ◌⊎◌, inl, inr, max, nat_le, nat_lt, Bool, true, false, if◌then◌else◌, Option, None, Result, List, [], ◌∷◌, ◌++◌, length, refl, subst, arith}
 use Rattle.std.specs.Prelude.{All}
 use Rattle.bac_wire.specs.Canon.{IsValid}
 use Rattle.bac_wire.specs.Primitive.{Id, Object}
@@ -23,15 +23,16 @@ use Rattle.bac_walk.specs.declared.outcome.Ended.TheVariants.{CaughtUp, StepLimi
 use Rattle.bac_walk.specs.declared.outcome.WalkFault.{WalkFault}
 use Rattle.bac_walk.specs.declared.outcome.Why.{Why}
 use Rattle.bac_walk.specs.declared.outcome.Why.TheVariants as why
+use Rattle.bac_client_tests.proofs.Foreign.{most_asked}
 
 -- at rest no walk ends with a fault
-rest_whole : (r : ℕ) (H : History) (m : Moment) (s steps : ℕ) (e : WalkFault) → (rest_from r H m s steps).ended ≡ Fault e → ⊥
+rest_whole : (r : ℕ) (H : History) (m : Moment) (s steps : ℕ) (e : WalkFault) → (rest_from r 100 H m s steps).ended ≡ Fault e → ⊥
 rest_whole r H m s zero e is = absurd cc
 rest_whole r H m s (suc steps) e is =
-    let by_oldest = nat_lt (s + 99) (max s m.oldest) in
-    let u = max s m.oldest + reply_count r H m by_oldest s in
-    let more = rest_from r H m u steps in
-    by (nat_lt m.newest (max s m.oldest)) (record { items = whole_reply r H m by_oldest s ++ more.items; next = more.next; ended = more.ended })
+    let by_oldest = nat_le (s + 100) (max s m.oldest) in
+    let u = max s m.oldest + reply_count r 100 H m by_oldest s in
+    let more = rest_from r 100 H m u steps in
+    by (nat_lt m.newest (max s m.oldest)) (record { items = whole_reply r 100 H m by_oldest s ++ more.items; next = more.next; ended = more.ended })
     (λ f. rest_whole r H m u steps e f) is
   where
     by : (b : Bool) (x : Rested) → (x.ended ≡ Fault e → ⊥) → (if b then record { items = []; next = s; ended = CaughtUp } else x).ended ≡ Fault e → ⊥
@@ -70,18 +71,18 @@ came_some asks place retries steps n came here after mid new (Fault f) why.StepL
 pub all_loggable : {S : Type 0} (asks : S → List ℕ → Result (List ℕ) Loss → S → Type 0) (ours : S → Id → ℕ → List Moment → History → Type 0) →
     RepliesAreLoggable asks ours → (way : Option Place) (retries steps n : ℕ) (came : List Came) (items : List Item) (ended : Ended) (reason : Why) (w after : WalkPlace) (old new : S)
     (log : Id) (number r s : ℕ) (m : Moment) (H : History) → way ≡ None → w ≡ walk_at log number → number ≡ sequence_number s → IsValid (Object log) → ours old log r (m ∷ []) H → 0 < steps →
-    IsRunOf reason steps steps (rest_from r H m s steps).ended → IsRunOf reason steps n ended → Brought asks (towards way) retries old w n came items ended after new →
+    IsRunOf reason steps steps (rest_from r 100 H m s steps).ended → IsRunOf reason steps n ended → Brought asks (towards way) retries old w n came items ended after new →
     (reason ≡ why.Memory) ⊎ All IsLoggable (log_at m H).entries
 all_loggable {S = S} asks ours law way retries steps n came items ended reason w after old new log number r s m H near from here valid is_ours some rests run ran =
     let P : Option Place → WalkPlace → Type 0 = λ y v. Brought asks (towards y) retries old v n came items ended after new in
     let B : Option Place → Type 0 = λ y. P y (walk_at log number) in
     let b : P None (walk_at log number) = subst B near (subst (P way) from ran) in
     elim (came_some asks None retries steps n came b.0 after b.1 new ended reason some
-    (λ e is. rest_whole r H m s steps e (whole_why reason steps (rest_from r H m s steps).ended e rests is)) run b.3) [
+    (λ e is. rest_whole r H m s steps e (whole_why reason steps (rest_from r 100 H m s steps).ended e rests is)) run b.3) [
       | inl memory ↦ inl memory
       | inr full ↦ inr (held came b.0 b.1 full b.2)
     ]
   where
     held : (came : List Came) (left : WalkPlace) (mid : S) → 0 < length came → Comes asks (towards None) retries old (walk_at log number) came left mid → All IsLoggable (log_at m H).entries
     held [] left mid full comes = absurd (omega (arith, full))
-    held (c ∷ more) left mid full comes = law None retries old mid (walk_at log number) left c more r s (m ∷ []) H is_ours tt valid here comes
+    held (c ∷ more) left mid full comes = law None retries old mid (walk_at log number) left c more r s (m ∷ []) H is_ours tt valid most_asked here comes

@@ -6,6 +6,7 @@ ghost use Rattle.bac_log.specs.TrendLog.{sequence_number};
 ghost use Rattle.bac_link.specs.Delivery.{DeliversTo};
 ghost use Rattle.bac_link.specs.Path.{towards};
 ghost use Rattle.bac_link.specs.Honest.{IsHonestWhere};
+ghost use Rattle.bac_link.specs.Standard.{IsCount};
 ghost use Rattle.bac_walk.specs.declared.outcome.WalkFault.{WalkFault as WalkFaultOf};
 ghost use Rattle.bac_walk.specs.declared.outcome.WalkFault.TheVariants as fault;
 ghost use Rattle.bac_walk.specs.declared.outcome.Why.TheVariants as why;
@@ -143,16 +144,18 @@ pub fn records_of_another_device(
     Some(collect(alloc, link, &mut transactions, &mut walk, steps))
 }
 
-/// To each question of a walk of its log, from whatever number on or for the oldest, the device
-/// answers by the standard, or the ask is lost: the link is honest for its log.
+/// To each question of a walk of its log for two records or more, from whatever number on or for
+/// the oldest, the device answers by the standard, or the ask is lost: the link is honest for its
+/// log.
 pub fn another_device_is_honest()
-    ensures { (low : ℕ) → IsHonestWhere {S = ForeignLinkOf} (λ old octets answer new. IsSaid octets answer) (towards None) log_one history low
+    ensures { (count low : ℕ) → IsCount count → 2 ≤ count →
+        IsHonestWhere {S = ForeignLinkOf} (λ old octets answer new. IsSaid octets answer) (towards None) log_one count history low
         (λ link M. held ∷ [] ≡ M) }
 {}
 
-/// So a walk of its log from any number delivers what the log holds from there on, and one from the
-/// oldest record what it holds from 7, its oldest, on: all of it where it is caught up. The only
-/// fault is a loss.
+/// So a walk of its log that asks for two records or more, from any number, delivers what the log
+/// holds from there on, and one from the oldest record what it holds from 7, its oldest, on: all of
+/// it where it is caught up. The only fault is a loss.
 pub fn walk_of_another_device(
     alloc: Global,
     link: &mut ForeignLink,
@@ -160,15 +163,16 @@ pub fn walk_of_another_device(
     walk: &mut Walk,
     steps: u32,
 ) -> Outcome
-    ensures { (s low : ℕ) → transactions.old.route ≡ None → walk.old.log ≡ log_one → walk.old.next ≡ sequence_number s → low ≤ 7 →
+    ensures { (s low : ℕ) → transactions.old.route ≡ None → walk.old.log ≡ log_one → walk.old.next ≡ sequence_number s → 2 ≤ walk.old.count → low ≤ 7 →
         (walk.old.fresh ≡ false → (low ≤ s) × (s < low + 2147483648)) →
         ((b : ℕ) × (a : ℕ) × (t : ℕ) × (walk.old.fresh ≡ false → b ≡ s) × (walk.new.next ≡ sequence_number t)
         × DeliversTo history b result.items.items t (held ∷ []) a × (result.why ≡ why.CaughtUp → 10 < t)
         × (walk.old.fresh ≡ true → (result.items.items ≡ []) ⊎ (b ≡ 7)))
         × ((e : WalkFaultOf) → result.why ≡ why.Fault e → e ≡ fault.Lost) }
 {
-    // For the prover alone: the law that the contract follows from.
+    // For the prover alone: the law that the contract follows from, and how many it may ask for.
     links_are_honest::<ForeignLink>();
+    let _count = walk.count();
     collect(alloc, link, transactions, walk, steps)
 }
 

@@ -4,6 +4,7 @@
 ghost use Rattle.std.specs.Prelude.{ℕ, ◌≡◌, ◌+◌, ◌*◌, ◌<◌, ◌≤◌, false, get_or, None, Some};
 ghost use Rattle.bac_log.specs.TrendLog.{sequence_number};
 ghost use Rattle.bac_link.specs.Growing.{StaysHonest};
+ghost use Rattle.bac_link.specs.Standard.{IsCount};
 ghost use Rattle.bac_link.specs.Path.{towards};
 ghost use Rattle.bac_walk.specs.Growing.{most_asks, HasDelivered};
 ghost use Rattle.bac_walk.specs.Told.{ended_of};
@@ -106,15 +107,17 @@ impl LogLink for GrowingLink {
     ghost keeps_on = { λ a b c h k. tt };
 }
 
-/// Whichever asks are lost, and however many records are logged between any two, up to a hundred: the
-/// link stays honest for its log, for as many asks as keep it within half of the count.
+/// However many records are asked for, 1 to 100, whichever asks are lost, and however many records
+/// are logged between any two, up to a hundred: the link stays honest for its log, for as many asks
+/// as keep it within half of the count.
 pub fn a_growing_log_stays_honest()
-    ensures { (more : ℕ) (link : GrowingLinkOf) → link.logged + 100 * more < 2147483648 →
-        StaysHonest {S = GrowingLinkOf} (λ old octets answer new. MayGrow old.logged octets answer new.logged) (towards None) log_one 1 more link
+    ensures { (count more : ℕ) (link : GrowingLinkOf) → IsCount count → link.logged + 100 * more < 2147483648 →
+        StaysHonest {S = GrowingLinkOf} (λ old octets answer new. MayGrow old.logged octets answer new.logged) (towards None) log_one count 1 more link
         (logged_so_far link.logged) }
 {}
 
-/// So a walk of its log, from any number or from the oldest record, delivers what the log held when
+/// So a walk of its log, from any number or from the oldest record, and however many it asks for at a
+/// time, delivers what the log held when
 /// each reply came, each record once, and ends with no fault but a loss.
 pub fn walk_of_a_growing_log(
     alloc: Global,
@@ -129,6 +132,8 @@ pub fn walk_of_a_growing_log(
         HasDelivered {S = GrowingLinkOf} (λ old octets answer new. MayGrow old.logged octets answer new.logged) (towards transactions.old.route)
         transactions.old.retries link.old 1 s (logged_so_far link.old.logged) walk.old result.items.items (ended_of result.why) walk.new }
 {
+    // For the prover alone: how many records it may ask for.
+    let _count = walk.count();
     collect(alloc, link, transactions, walk, steps)
 }
 

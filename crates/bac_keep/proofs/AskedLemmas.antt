@@ -9,7 +9,7 @@ use Rattle.bac_link.specs.declared.link.Lost.{Lost as Loss}
 use Rattle.bac_link.specs.Delivery.{AreHeld, Brings, DeliversTo, History, Holds, Leads, Moment, now, later}
 use Rattle.bac_link.specs.Exchanges.{Answers, IsNoAnswer, Unanswered}
 use Rattle.bac_link.specs.Heard.{heard_in}
-use Rattle.bac_link.specs.Honest.{IsHonest, IsSaidOrLost, asked_octets}
+use Rattle.bac_link.specs.Honest.{IsAskedIn, IsHonest, IsSaidOrLost, asked_octets}
 use Rattle.bac_link.specs.Laws.{after_answers, moment_at}
 use Rattle.bac_link.specs.Links.{question}
 use Rattle.bac_link.specs.Moments.{AreInWindow, IsInWindow, NeverGoesBack}
@@ -22,7 +22,7 @@ use Rattle.bac_link.proofs.Honest.{goes_on}
 use Rattle.bac_walk.specs.Came.{Came, Comes, answers_of}
 use Rattle.bac_walk.specs.Collects.{batches, turn_items}
 use Rattle.bac_walk.specs.Meant.{Means}
-use Rattle.bac_walk.specs.Place.{WalkPlace, walk_at, walk_from_oldest}
+use Rattle.bac_walk.specs.Place.{WalkPlace, asking, walk_at, walk_from_oldest}
 use Rattle.bac_walk.specs.Walks.{asked_by, asks_oldest_now, gap_items, item_of, items_in, question_of}
 use Rattle.bac_walk.specs.declared.batch.Batch.{Batch}
 use Rattle.bac_walk.specs.declared.batch.Numbered.{Numbered}
@@ -113,8 +113,9 @@ came_held H M kept b s t count delivers seen = go b.entries.items delivers seen
 -- ---- an exchange
 
 -- where a walk by number is asked for
-record Here (low : ℕ) (log : Id) (M : List Moment) (w : WalkPlace) (s : ℕ) : Type 0 where
+record Here (low : ℕ) (log : Id) (count : ℕ) (M : List Moment) (w : WalkPlace) (s : ℕ) : Type 0 where
   log_is : w.log ≡ log
+  count_is : w.count ≡ count
   next : w.next ≡ sequence_number s
   some : 0 < length M
   window : AreInWindow low M
@@ -125,19 +126,19 @@ record Here (low : ℕ) (log : Id) (M : List Moment) (w : WalkPlace) (s : ℕ) :
 abbrev asked_for : Path → ℕ → WalkPlace → List ℕ
 asked_for path invoke w = asked_octets path invoke w.log (asked_by w)
 
-module _ {S : Type 0} (asks : Asking S) (path : Path) (log : Id) (H : History) (low : ℕ) where
+module _ {S : Type 0} (asks : Asking S) (path : Path) (log : Id) (count : ℕ) (H : History) (low : ℕ) where
   abbrev stands : S → List Moment → Type 0
-  stands link M = IsHonest asks path log H low link M
+  stands link M = IsHonest asks path log count H low link M
 
-  one_ask : (M : List Moment) (w : WalkPlace) (s invoke : ℕ) (old new : S) (answer : Result (List ℕ) Loss) → Here low log M w s → stands old M →
+  one_ask : (M : List Moment) (w : WalkPlace) (s invoke : ℕ) (old new : S) (answer : Result (List ℕ) Loss) → Here low log count M w s → stands old M →
       asks old (asked_for path invoke w) answer new → IsSaidOrLost (λ N. stands new N) M H w.log (asked_by w) (asked_for path invoke w) answer
   one_ask M w s invoke old new answer here at asked =
       let P : Id → Type 0 = λ i. asks old (asked_octets path invoke i (asked_by w)) answer new in
       let Q : Id → Type 0 = λ i. IsSaidOrLost (λ N. stands new N) M H i (asked_by w) (asked_octets path invoke i (asked_by w)) answer in
       subst Q (sym here.log_is)
-      (goes_on asks path log H low old new M (asked_by w) invoke answer at here.some here.window (asked_in w low s here.next (λ f. (here.from, here.below))) (subst P here.log_is asked))
+      (goes_on asks path log count H low old new M (asked_by w) invoke answer at here.some here.window (subst (λ n. IsAskedIn low n (asked_by w)) here.count_is (asked_in w low s here.next (λ f. (here.from, here.below)))) (subst P here.log_is asked))
 
-  unanswered : (M : List Moment) (w : WalkPlace) (s invoke n : ℕ) (old mid : S) → Here low log M w s → stands old M →
+  unanswered : (M : List Moment) (w : WalkPlace) (s invoke n : ℕ) (old mid : S) → Here low log count M w s → stands old M →
       Unanswered asks (asked_for path invoke w) n old mid → stands mid M
   unanswered M w s invoke zero old mid here at none = subst (λ x. stands x M) (sym none) at
   unanswered M w s invoke (suc n) old mid here at (before, answer, first, asked, none) =
@@ -149,7 +150,7 @@ module _ {S : Type 0} (asks : Asking S) (path : Path) (log : Id) (H : History) (
       last (Ok datagram) said none = said.1 none
       last (Err lost) said none = said
 
-  answered : (M : List Moment) (w : WalkPlace) (s invoke retries : ℕ) (old : S) (datagram : List ℕ) (new : S) → Here low log M w s → stands old M →
+  answered : (M : List Moment) (w : WalkPlace) (s invoke retries : ℕ) (old : S) (datagram : List ℕ) (new : S) → Here low log count M w s → stands old M →
       Answers asks path invoke (question w.log (question_of w)) retries verdict.Ack old datagram new →
       IsSaidAt (now M) H w.log (asked_by w) datagram × stands new (later M)
   answered M w s invoke retries old datagram new here at (tries, mid, few, first, asked, is) =
@@ -172,7 +173,7 @@ module _ {S : Type 0} (asks : Asking S) (path : Path) (log : Id) (H : History) (
     stood : stands mid (after_answers (length came) M)
 
   -- what the last one tells
-  none_last : (M : List Moment) (w : WalkPlace) (s : ℕ) (items : List Item) (p : Progress) (next : WalkPlace) → Here low log M w s → items ≡ [] →
+  none_last : (M : List Moment) (w : WalkPlace) (s : ℕ) (items : List Item) (p : Progress) (next : WalkPlace) → Here low log count M w s → items ≡ [] →
       items ≡ turn_items (Ok p) → asks_oldest_now w ≡ false → Means H (now M) low s w p next → (next.next ≡ sequence_number s) × (Holds (now M) s → ⊥)
   none_last M w s items (BatchOf b) next here none is by means =
       let empty : items_in b ≡ [] = sym is ∙ none in
@@ -182,12 +183,13 @@ module _ {S : Type 0} (asks : Asking S) (path : Path) (log : Id) (H : History) (
   none_last M w s items CaughtUp next here none is by means = absurd (let e = means.0 in cc)
 
   -- where the walk is behind one of the others
-  here_then : (M : List Moment) (w : WalkPlace) (s : ℕ) (p : Progress) (next : WalkPlace) → Here low log M w s → Means H (now M) low s w p next →
-      (u : ℕ) × Here low log (later M) next u × Brings H (now M) s (turn_items (Ok p)) u
+  here_then : (M : List Moment) (w : WalkPlace) (s : ℕ) (p : Progress) (next : WalkPlace) → Here low log count M w s → Means H (now M) low s w p next →
+      (u : ℕ) × Here low log count (later M) next u × Brings H (now M) s (turn_items (Ok p)) u
   here_then M w s (BatchOf b) next here means = (
     means.0,
     record {
       log_is = ap (λ (v : WalkPlace). v.log) means.2 ∙ here.log_is;
+      count_is = ap (λ (v : WalkPlace). v.count) means.2 ∙ here.count_is;
       next = ap (λ (v : WalkPlace). v.next) means.2;
       some = some_later M here.some;
       window = window_later low M here.window;
@@ -201,6 +203,7 @@ module _ {S : Type 0} (asks : Asking S) (path : Path) (log : Id) (H : History) (
     s,
     record {
       log_is = ap (λ (v : WalkPlace). v.log) means.2 ∙ here.log_is;
+      count_is = ap (λ (v : WalkPlace). v.count) means.2 ∙ here.count_is;
       next = ap (λ (v : WalkPlace). v.next) means.2 ∙ here.next;
       some = some_later M here.some;
       window = window_later low M here.window;
@@ -214,6 +217,7 @@ module _ {S : Type 0} (asks : Asking S) (path : Path) (log : Id) (H : History) (
     s,
     record {
       log_is = ap (λ (v : WalkPlace). v.log) means.2 ∙ here.log_is;
+      count_is = ap (λ (v : WalkPlace). v.count) means.2 ∙ here.count_is;
       next = ap (λ (v : WalkPlace). v.next) means.2 ∙ here.next;
       some = some_later M here.some;
       window = window_later low M here.window;
@@ -224,12 +228,12 @@ module _ {S : Type 0} (asks : Asking S) (path : Path) (log : Id) (H : History) (
     refl,
   )
 
-  none_at : (retries : ℕ) (came : List Came) (M : List Moment) (w : WalkPlace) (s : ℕ) (old mid : S) (after : WalkPlace) → Here low log M w s → stands old M →
+  none_at : (retries : ℕ) (came : List Came) (M : List Moment) (w : WalkPlace) (s : ℕ) (old mid : S) (after : WalkPlace) → Here low log count M w s → stands old M →
       Comes asks path retries old w came after mid → EndsByNone came → NoneAt M s came after mid
   none_at retries [] M w s old mid after here at comes ends = absurd ends
   none_at retries (c ∷ []) M w s old mid after here at (half, next, p, place, asked, taken, is, rest) ends =
       let said = answered M w s asked.0 retries old c.datagram half here at asked.1 in
-      let means = said_means H (now M) low s w (heard_in w.log c.datagram) said.0.heard (Ok p) next said.0.reads (window_now low M here.some here.window) here.next
+      let means = said_means H (now M) low s w (heard_in w.log c.datagram) said.0.heard (Ok p) next said.0.reads said.0.asks (window_now low M here.some here.window) here.next
       (λ f. (here.from, here.below)) said.0.counts said.0.says taken in
       let by : asks_oldest_now w ≡ false = ap asks_oldest_now (sym place) ∙ ends.1 in
       let told = none_last M w s c.items p next here ends.0 is by means in
@@ -247,7 +251,7 @@ module _ {S : Type 0} (asks : Asking S) (path : Path) (log : Id) (H : History) (
       }
   none_at retries (c ∷ d ∷ came) M w s old mid after here at (half, next, p, place, asked, taken, is, rest) ends =
       let said = answered M w s asked.0 retries old c.datagram half here at asked.1 in
-      let means = said_means H (now M) low s w (heard_in w.log c.datagram) said.0.heard (Ok p) next said.0.reads (window_now low M here.some here.window) here.next
+      let means = said_means H (now M) low s w (heard_in w.log c.datagram) said.0.heard (Ok p) next said.0.reads said.0.asks (window_now low M here.some here.window) here.next
       (λ f. (here.from, here.below)) said.0.counts said.0.says taken in
       let more_here = here_then M w s p next here means in
       let more = none_at retries (d ∷ came) (later M) next more_here.0 half mid after more_here.1 said.1 rest ends in
@@ -268,25 +272,25 @@ module _ {S : Type 0} (asks : Asking S) (path : Path) (log : Id) (H : History) (
 
   -- it was held when it was found
   found_held : (retries : ℕ) (kept : KeptAs) (M : List Moment) (k : ℕ) (mid new : S) → stands mid M → 0 < length M → NeverGoesBack M → AreInWindow low M → low ≤ k →
-      k < low + 2147483648 → kept.number ≡ sequence_number k → Looks asks path retries mid log kept (Ok Same) new →
+      k < low + 2147483648 → kept.number ≡ sequence_number k → Looks asks path retries mid log count kept (Ok Same) new →
       (j : ℕ) × (n : ℕ) × Holds (moment_at M j) n × (kept.number ≡ sequence_number n)
   found_held retries kept M k mid new at some back window from below number (zeroth, looks) =
       let (answer, oldest, half, seen, first, more, none) = looks (omega (arith, number)) in by answer oldest half seen first more
     where
-      by : (answer oldest : Result Step WalkFault) (half : S) → IsSeen kept answer oldest (Ok Same) → CameTo asks path retries mid (walk_at log kept.number) answer half →
-          (AsksOldest answer → CameTo asks path retries half (walk_from_oldest log) oldest new) →
+      by : (answer oldest : Result Step WalkFault) (half : S) → IsSeen kept answer oldest (Ok Same) → CameTo asks path retries mid (asking count (walk_at log kept.number)) answer half →
+          (AsksOldest answer → CameTo asks path retries half (asking count (walk_from_oldest log)) oldest new) →
           (j : ℕ) × (n : ℕ) × Holds (moment_at M j) n × (kept.number ≡ sequence_number n)
       by (Ok (stepped.Batch b)) oldest half seen (came, after, brought) more =
-          let it = honest_delivers asks stands path retries mid half (walk_at log kept.number) after 1 came (items_in b) StepLimit H M low k
-          (goes_on asks path log H low) at brought number some back window (λ f. (from, below)) in
+          let it = honest_delivers asks stands path retries mid half (asking count (walk_at log kept.number)) after 1 came (items_in b) StepLimit H M low k
+          (goes_on asks path log count H low) at brought number some back window (λ f. (from, below)) in
           came_held H M kept b it.0.0 it.0.1 (length came) it.0.5 seen
       by (Ok stepped.CaughtUp) (Ok (stepped.Batch b)) half seen (came, after, brought) more =
-          let it = honest_delivers asks stands path retries mid half (walk_at log kept.number) after 1 came [] IsUp H M low k
-          (goes_on asks path log H low) at brought number some back window (λ f. (from, below)) in
+          let it = honest_delivers asks stands path retries mid half (asking count (walk_at log kept.number)) after 1 came [] IsUp H M low k
+          (goes_on asks path log count H low) at brought number some back window (λ f. (from, below)) in
           let n : ℕ = length came in
           let (others, last, oldest_brought) = more tt in
-          let others_are = honest_delivers asks stands path retries half new (walk_from_oldest log) last 1 others (items_in b) StepLimit H (after_answers n M) low 1
-          (goes_on asks path log H low) it.2 oldest_brought refl (some_after n M some) (back_after n M back) (window_after low n M window) (λ f. absurd (let e = f in cc)) in
+          let others_are = honest_delivers asks stands path retries half new (asking count (walk_from_oldest log)) last 1 others (items_in b) StepLimit H (after_answers n M) low 1
+          (goes_on asks path log count H low) it.2 oldest_brought refl (some_after n M some) (back_after n M back) (window_after low n M window) (λ f. absurd (let e = f in cc)) in
           let found = came_held H (after_answers n M) kept b others_are.0.0 others_are.0.1 (length others) others_are.0.5 seen in
           (n + found.0, found.1, subst (λ (N : List Moment). Holds (now N) found.1) (sym (after_answers-add n found.0 M)) found.2, found.3)
       by (Ok stepped.CaughtUp) (Ok stepped.CaughtUp) half seen first more = absurd (let e = seen in cc)
@@ -294,15 +298,15 @@ module _ {S : Type 0} (asks : Asking S) (path : Path) (log : Id) (H : History) (
       by (Err fault) oldest half seen first more = absurd (let e = seen in cc)
 
 pub asked_tells : {S : Type 0} (asks : Asking S) → AskedTellsCaughtUp asks
-asked_tells asks = λ path retries log kept old mid new came after H M low k honest some back window from below number comes ends looks.
-    let here : Here low log M (walk_at log (sequence_number (k + 1))) (k + 1) =
-    record { log_is = refl; next = refl; some = some; window = window; old = refl; from = omega arith; below = omega arith } in
-    let none = none_at asks path log H low retries came M (walk_at log (sequence_number (k + 1))) (k + 1) old mid after here honest comes ends in
+asked_tells asks = λ path retries log asked kept old mid new came after H M low k honest some back window from below number comes ends looks.
+    let here : Here low log asked M (asking asked (walk_at log (sequence_number (k + 1)))) (k + 1) =
+    record { log_is = refl; count_is = refl; next = refl; some = some; window = window; old = refl; from = omega arith; below = omega arith } in
+    let none = none_at asks path log asked H low retries came M (asking asked (walk_at log (sequence_number (k + 1)))) (k + 1) old mid after here honest comes ends in
     let count : ℕ = length came in
     let N : List Moment = after_answers count M in
     let some_left = some_after count M some in
     let window_left = window_after low count M window in
-    let found = found_held asks path log H low retries kept N k mid new none.stood some_left (back_after count M back) window_left from (omega arith) number looks in
+    let found = found_held asks path log asked H low retries kept N k mid new none.stood some_left (back_after count M back) window_left from (omega arith) number looks in
     let at = window_at low found.0 N some_left window_left in
     let not_later : found.1 ≤ k = not_behind low k found.1 from (omega arith) (omega (arith, at.oldest, found.2.0)) (omega (arith, at.newest, found.2.1)) (sym found.3 ∙ number) in
     let held : Holds (moment_at M (count + found.0)) found.1 = subst (λ (L : List Moment). Holds (now L) found.1) (sym (after_answers-add count found.0 M)) found.2 in (

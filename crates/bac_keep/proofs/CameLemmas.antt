@@ -125,8 +125,8 @@ module _ {S : Type 0} (asks : Asking S) where
 
   pub honest_kept : HonestIsKept asks
   honest_kept path retries place reached old new link left before after steps ended records gaps H M s low kept honest next some back window at =
-      let stands : S → List Moment → Type 0 = λ l N. IsHonest asks path before.log H low l N in
-      let said = honest_delivers asks stands path retries link left before after steps kept.came kept.items ended H M low s (goes_on asks path before.log H low) honest kept.brought next some back window at in
+      let stands : S → List Moment → Type 0 = λ l N. IsHonest asks path before.log before.count H low l N in
+      let said = honest_delivers asks stands path retries link left before after steps kept.came kept.items ended H M low s (goes_on asks path before.log before.count H low) honest kept.brought next some back window at in
       let ran = brought_ran asks path retries link left before after steps kept.came kept.items ended H M low s kept.brought said.1 next some back window at in (
         ran.0,
         ran.1,
@@ -202,14 +202,14 @@ reached-up asks log H low last trees next M (run ∷ runs) (kept, at, rows, id, 
 pub honest_one : {S : Type 0} (asks : Asking S) (log : Id) (H : History) (low first last to b s count : ℕ) (M : List Moment) (next : ℕ) (run : RanOver S) (kept : WasKept asks run) →
     IsKept H first last run.old.trees b s M count → HasNoneBehind last to (kept_in run.old.trees) → era run.reached ≤ to →
     next ≡ sequence_number s → low ≤ s → s < low + 2147483648 → 0 < length M → NeverGoesBack M → AreInWindow low M →
-    era run.place ≡ last → run.before.log ≡ log → run.before.fresh ≡ false → run.before.next ≡ next → IsHonest asks run.path log H low run.link (after_answers count M) →
+    era run.place ≡ last → run.before.log ≡ log → run.before.fresh ≡ false → run.before.next ≡ next → IsHonest asks run.path log run.before.count H low run.link (after_answers count M) →
     (t : ℕ) × (run.after.next ≡ sequence_number t) × IsKept H first (era run.reached) run.new.trees b t M (count + (length kept.came + run.unkept))
     × HasNoneBehind (era run.reached) to (kept_in run.new.trees) × (low ≤ t) × (t < low + 2147483648)
 honest_one asks log H low first last to b s count M next run kept was free up is above below some back window here id by_number at honest =
     let N : List Moment = after_answers count M in
     let answers : ℕ = length kept.came + run.unkept in
     let after : ℕ = era run.reached in
-    let Q : Id → Type 0 = λ i. IsHonest asks run.path i H low run.link N in
+    let Q : Id → Type 0 = λ i. IsHonest asks run.path i run.before.count H low run.link N in
     let d = honest_kept asks run.path run.retries run.place run.reached run.old run.new run.link run.left run.before run.after run.steps run.ended run.records run.gaps H N s low kept
     (subst Q (sym id) honest) (at ∙ is) (some_after count M some) (back_after count M back) (window_after low count M window) (λ f. (above, below)) in
     let D : ℕ → Type 0 = λ x. DeliversTo H x kept.items d.1 N (length kept.came) in

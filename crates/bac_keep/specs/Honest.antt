@@ -46,13 +46,13 @@ HonestIsKept {S = S} asks =
     (before after : WalkPlace) (steps : ℕ) (ended : Ended) (records gaps : ℕ)
     (H : History) (M : List Moment) (s low : ℕ)
     (kept : KeepsOver asks path retries place reached old new link left before after steps ended records gaps) →
-    IsHonest asks path before.log H low link M → before.next ≡ sequence_number s →
+    IsHonest asks path before.log before.count H low link M → before.next ≡ sequence_number s →
     0 < length M → NeverGoesBack M → AreInWindow low M →
     (before.fresh ≡ false → (low ≤ s) × (s < low + 2147483648)) →
     (b : ℕ) × (t : ℕ) × (before.fresh ≡ false → b ≡ s) × (after.next ≡ sequence_number t)
     × Adds old.trees new.trees (kept_rows (era place) kept.items) × (era reached ≡ era_after (era place) kept.items)
     × DeliversTo H b kept.items t M (length kept.came)
-    × IsLeftAt asks path before.log H low link left M (length kept.came)
+    × IsLeftAt asks path before.log before.count H low link left M (length kept.came)
     × (ended ≡ CaughtUp → IsCaughtUp before.fresh t M (answers_of kept.came)) × IsHonestEnd ended
     × (b ≡ start_of before.fresh s M (answers_of kept.came))
 
@@ -87,7 +87,7 @@ GoOnOver asks log H low last trees next M (run ∷ runs) =
     run.after run.steps run.ended run.records run.gaps)
     × (era run.place ≡ last) × (run.old.trees ≡ trees)
     × (run.before.log ≡ log) × (run.before.fresh ≡ false) × (run.before.next ≡ next)
-    × IsHonest asks run.path log H low run.link M
+    × IsHonest asks run.path log run.before.count H low run.link M
     × GoOnOver asks log H low (era run.reached) run.new.trees run.after.next
     (after_answers (length kept.came + run.unkept) M) runs
 

@@ -12,7 +12,7 @@ use Rattle.bac_keep.specs.declared.look.Seen.TheVariants.{Same, Another, Later, 
 use Rattle.bac_keep.specs.Items.{stamp_text}
 use Rattle.bac_link.specs.declared.link.Lost.{Lost as Loss}
 use Rattle.bac_link.specs.Path.{Path}
-use Rattle.bac_walk.specs.Place.{walk_at, walk_from_oldest}
+use Rattle.bac_walk.specs.Place.{asking, walk_at, walk_from_oldest}
 use Rattle.bac_wire.specs.Primitive.{Id}
 use Rattle.bac_keep.specs.Resumption.{AsksOldest, CameTo, is_before}
 
@@ -55,13 +55,13 @@ IsSeen kept (Err fault) oldest seen = seen ≡ Err fault
 IsSeen kept (Ok CaughtUp) oldest seen = IsSeenLast kept oldest seen
 IsSeen kept (Ok (BatchOf batch)) oldest seen = IsSeenBy kept batch.entries.items seen
 
--- The kept record of a log was looked for over a link, and this was seen, whoever answered: one of the number 0 isn't
--- asked for.
-abbrev pub Looks : {S : Type 0} → (S → List ℕ → Result (List ℕ) Loss → S → Type 0) → Path → ℕ → S → Id → KeptAs →
-    Result Seen WalkFault → S → Type 0
-Looks {S = S} asks path retries old log kept seen new =
+-- The kept record of a log was looked for over a link, with so many behind it, and this was seen, whoever answered: one
+-- of the number 0 isn't asked for.
+abbrev pub Looks : {S : Type 0} → (S → List ℕ → Result (List ℕ) Loss → S → Type 0) → Path → ℕ → S → Id →
+    (count : ℕ) → KeptAs → Result Seen WalkFault → S → Type 0
+Looks {S = S} asks path retries old log count kept seen new =
     (kept.number ≡ 0 → (seen ≡ Ok Another) × (new ≡ old))
     × (0 < kept.number → (answer : Result Step WalkFault) × (oldest : Result Step WalkFault) × (half : S)
-    × IsSeen kept answer oldest seen × CameTo asks path retries old (walk_at log kept.number) answer half
-    × (AsksOldest answer → CameTo asks path retries half (walk_from_oldest log) oldest new)
+    × IsSeen kept answer oldest seen × CameTo asks path retries old (asking count (walk_at log kept.number)) answer half
+    × (AsksOldest answer → CameTo asks path retries half (asking count (walk_from_oldest log)) oldest new)
     × ((AsksOldest answer → ⊥) → new ≡ half))

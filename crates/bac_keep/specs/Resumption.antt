@@ -11,7 +11,7 @@ use Rattle.bac_walk.specs.declared.outcome.Step.{Step}
 use Rattle.bac_walk.specs.declared.outcome.Step.TheVariants.{Batch as BatchOf, CaughtUp}
 use Rattle.bac_walk.specs.declared.outcome.WalkFault.{WalkFault}
 use Rattle.bac_link.specs.Ordinals.{is_ahead, number_after}
-use Rattle.bac_walk.specs.Place.{WalkPlace, walk_at, walk_from_oldest}
+use Rattle.bac_walk.specs.Place.{WalkPlace, asking, walk_at, walk_from_oldest}
 use Rattle.bac_link.specs.declared.link.Lost.{Lost as Loss}
 use Rattle.bac_link.specs.Path.{Path}
 use Rattle.bac_walk.specs.Came.{Brought, Came}
@@ -49,33 +49,33 @@ goes_on kept held =
 -- Where a walk begins over a log that its device began anew and that holds a record of this number: at 1, since a log that
 -- is cleared counts from 1 (clause 12.25), so that what was dropped since is told; or at the oldest record, if this one
 -- doesn't lie ahead of 1, which half of the numbers do.
-abbrev pub walk_anew : Id → ℕ → WalkPlace
-walk_anew log held = if is_ahead 1 held then walk_at log 1 else walk_from_oldest log
+abbrev pub walk_anew : Id → (count held : ℕ) → WalkPlace
+walk_anew log count held = asking count (if is_ahead 1 held then walk_at log 1 else walk_from_oldest log)
 
 -- behind the record that was kept last; or if the device began its log anew, where that begins
-abbrev pub IsWhere : Id → KeptRecord → ℕ → Bool → Resume → Type 0
-IsWhere log kept held true (GoOn walk) = walk ≡ walk_at log (number_after kept.number 1)
-IsWhere log kept held false (BeganAnew walk) = walk ≡ walk_anew log held
-IsWhere log kept held _ _ = ⊥
+abbrev pub IsWhere : Id → (count : ℕ) → KeptRecord → ℕ → Bool → Resume → Type 0
+IsWhere log count kept held true (GoOn walk) = walk ≡ asking count (walk_at log (number_after kept.number 1))
+IsWhere log count kept held false (BeganAnew walk) = walk ≡ walk_anew log count held
+IsWhere log count kept held _ _ = ⊥
 
 -- what the first of these records says
-abbrev pub IsToldBy : Id → KeptRecord → List Numbered → Resume → Type 0
-IsToldBy log kept [] told = ⊥
-IsToldBy log kept (held ∷ others) told = IsWhere log kept held.number (goes_on kept held) told
+abbrev pub IsToldBy : Id → (count : ℕ) → KeptRecord → List Numbered → Resume → Type 0
+IsToldBy log count kept [] told = ⊥
+IsToldBy log count kept (held ∷ others) told = IsWhere log count kept held.number (goes_on kept held) told
 
 -- What the question for the oldest records says, if the one by number found nothing: an empty log tells nothing, and
 -- goes on.
-abbrev pub IsToldLast : Id → KeptRecord → Result Step WalkFault → Resume → Type 0
-IsToldLast log kept (Err fault) told = told ≡ Fault fault
-IsToldLast log kept (Ok CaughtUp) told = told ≡ GoOn (walk_at log (number_after kept.number 1))
-IsToldLast log kept (Ok (BatchOf batch)) told = IsToldBy log kept batch.entries.items told
+abbrev pub IsToldLast : Id → (count : ℕ) → KeptRecord → Result Step WalkFault → Resume → Type 0
+IsToldLast log count kept (Err fault) told = told ≡ Fault fault
+IsToldLast log count kept (Ok CaughtUp) told = told ≡ GoOn (asking count (walk_at log (number_after kept.number 1)))
+IsToldLast log count kept (Ok (BatchOf batch)) told = IsToldBy log count kept batch.entries.items told
 
 -- What the question for the record that was kept last says: the records from it on, or if it isn't held the oldest
 -- behind it; if there is none, the oldest of all are asked for.
-abbrev pub IsTold : Id → KeptRecord → Result Step WalkFault → Result Step WalkFault → Resume → Type 0
-IsTold log kept (Err fault) oldest told = told ≡ Fault fault
-IsTold log kept (Ok CaughtUp) oldest told = IsToldLast log kept oldest told
-IsTold log kept (Ok (BatchOf batch)) oldest told = IsToldBy log kept batch.entries.items told
+abbrev pub IsTold : Id → (count : ℕ) → KeptRecord → Result Step WalkFault → Result Step WalkFault → Resume → Type 0
+IsTold log count kept (Err fault) oldest told = told ≡ Fault fault
+IsTold log count kept (Ok CaughtUp) oldest told = IsToldLast log count kept oldest told
+IsTold log count kept (Ok (BatchOf batch)) oldest told = IsToldBy log count kept batch.entries.items told
 
 -- the oldest records are asked for, since none was found from a number on
 abbrev pub AsksOldest : Result Step WalkFault → Type 0
@@ -90,13 +90,15 @@ CameTo {S = S} asks path retries old walk answer new =
     (came : List Came) × (after : WalkPlace)
     × Brought asks path retries old walk 1 came (step_items answer) (step_ended answer) after new
 
--- The record that was kept last of a log was asked for over a link, and this was told, whoever answered: of one of the
--- number 0, which no record has, nothing is asked, and nothing is known of what the device holds.
-abbrev pub Resumes : {S : Type 0} → (S → List ℕ → Result (List ℕ) Loss → S → Type 0) → Path → ℕ → S → Id → KeptRecord →
-    Resume → S → Type 0
-Resumes {S = S} asks path retries old log kept told new =
-    (kept.number ≡ 0 → (told ≡ BeganAnew (walk_from_oldest log)) × (new ≡ old))
+-- The record that was kept last of a log was asked for over a link, with so many behind it, and this was told, whoever
+-- answered: of one of the number 0, which no record has, nothing is asked, and nothing is known of what the device
+-- holds.
+abbrev pub Resumes : {S : Type 0} → (S → List ℕ → Result (List ℕ) Loss → S → Type 0) → Path → ℕ → S → Id →
+    (count : ℕ) → KeptRecord → Resume → S → Type 0
+Resumes {S = S} asks path retries old log count kept told new =
+    (kept.number ≡ 0 → (told ≡ BeganAnew (asking count (walk_from_oldest log))) × (new ≡ old))
     × (0 < kept.number → (answer : Result Step WalkFault) × (oldest : Result Step WalkFault) × (half : S)
-    × IsTold log kept answer oldest told × CameTo asks path retries old (walk_at log kept.number) answer half
-    × (AsksOldest answer → CameTo asks path retries half (walk_from_oldest log) oldest new)
+    × IsTold log count kept answer oldest told
+    × CameTo asks path retries old (asking count (walk_at log kept.number)) answer half
+    × (AsksOldest answer → CameTo asks path retries half (asking count (walk_from_oldest log)) oldest new)
     × ((AsksOldest answer → ⊥) → new ≡ half))

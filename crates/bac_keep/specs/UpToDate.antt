@@ -11,7 +11,7 @@ use Rattle.bac_link.specs.Moments.{AreInWindow, NeverGoesBack}
 use Rattle.bac_link.specs.Path.{Path}
 use Rattle.bac_walk.specs.Came.{Came, Comes, answers_of}
 use Rattle.bac_walk.specs.Collects.{IsCaughtUp, batches}
-use Rattle.bac_walk.specs.Place.{WalkPlace, walk_at}
+use Rattle.bac_walk.specs.Place.{WalkPlace, asking, walk_at}
 use Rattle.bac_walk.specs.Walks.{asks_oldest_now}
 use Rattle.bac_keep.specs.declared.look.Seen.TheVariants.{Same}
 use Rattle.bac_keep.specs.Looks.{KeptAs, Looks}
@@ -29,16 +29,17 @@ EndsByNone [] = ⊥
 EndsByNone (c ∷ []) = (c.items ≡ []) × (asks_oldest_now c.place ≡ false)
 EndsByNone (c ∷ d ∷ came) = EndsByNone (d ∷ came)
 
--- Over a link that is honest for a log, whoever answers: replies came to questions by number, from the one behind the
--- ordinal k on, and the last of them brought none. If the record of k is held then as it is kept, the log was caught up when
--- that reply was given, at the ordinal to which these replies led.
+-- Over a link that is honest for a log, whoever answers: replies came to questions for so many, from the number behind
+-- the ordinal k on, and the last of them brought none. If the record of k is held then as it is kept, the log was
+-- caught up when that reply was given, at the ordinal to which these replies led.
 abbrev pub AskedTellsCaughtUp : {S : Type 0} → (S → List ℕ → Result (List ℕ) Loss → S → Type 0) → Type 0
 AskedTellsCaughtUp {S = S} asks =
-    (path : Path) (retries : ℕ) (log : Id) (kept : KeptAs) (old mid new : S) (came : List Came) (after : WalkPlace)
+    (path : Path) (retries : ℕ) (log : Id) (asked : ℕ) (kept : KeptAs) (old mid new : S) (came : List Came)
+    (after : WalkPlace)
     (H : History) (M : List Moment) (low k : ℕ) →
-    IsHonest asks path log H low old M → 0 < length M → NeverGoesBack M → AreInWindow low M →
+    IsHonest asks path log asked H low old M → 0 < length M → NeverGoesBack M → AreInWindow low M →
     low ≤ k → k + 1 < low + 2147483648 → kept.number ≡ sequence_number k →
-    Comes asks path retries old (walk_at log (sequence_number (k + 1))) came after mid → EndsByNone came →
-    Looks asks path retries mid log kept (Ok Same) new →
+    Comes asks path retries old (asking asked (walk_at log (sequence_number (k + 1)))) came after mid →
+    EndsByNone came → Looks asks path retries mid log asked kept (Ok Same) new →
     (t : ℕ) × (after.next ≡ sequence_number t) × Leads H M (k + 1) (answers_of came) t
     × IsCaughtUp false t M (answers_of came)

@@ -44,6 +44,7 @@ pub fn look_ahead<L: LogLink>(
     last: LastKept<'_>,
 ) -> Result<Ahead, NotSeen>
     ensures log { walk.new.log ≡ walk.old.log }
+    ensures count { walk.new.count ≡ walk.old.count }
     ensures retries { transactions.new.retries ≡ transactions.old.retries }
     ensures route { transactions.new.route ≡ transactions.old.route }
     ensures never_falls { L.failures link.old ≤ L.failures link.new }
@@ -51,7 +52,7 @@ pub fn look_ahead<L: LogLink>(
     ensures came { IfOk result (λ ahead. (half : L)
         × GathersOver L.asks (towards transactions.old.route) transactions.old.retries place ahead.gathered.place
         (map stored ahead.gathered.rows.items) ahead.gathered.step.records ahead.gathered.step.gaps link.old half walk.old walk.new ahead.gathered.step.ended
-        × Looks L.asks (towards transactions.old.route) transactions.old.retries half walk.old.log
+        × Looks L.asks (towards transactions.old.route) transactions.old.retries half walk.old.log walk.old.count
         (record { number = last.entry.number; stamp = last.entry.stamp.now; datum = last.entry.datum.now; flags = last.entry.flags.now })
         (Ok ahead.seen) link.new) }
 {
@@ -62,7 +63,7 @@ pub fn look_ahead<L: LogLink>(
     if let Ended::Fault(fault) = gathered.step.ended {
         return Err(NotSeen::Fault(fault));
     }
-    match look_for(alloc, link, transactions, walk.log(), last) {
+    match look_for(alloc, link, transactions, walk.log(), walk.count(), last) {
         Ok(Ok(seen)) => Ok(Ahead { gathered, seen }),
         Ok(Err(fault)) => Err(NotSeen::Fault(fault)),
         Err(_) => Err(NotSeen::Refused(Refusal::Memory)),

@@ -2,7 +2,7 @@
 
 ghost use Rattle.std.specs.Prelude.{◌≡◌, ◌≤◌, ◌<◌, Result, Ok, IfOk};
 ghost use Rattle.bac_link.specs.Path.{towards};
-ghost use Rattle.bac_walk.specs.Place.{walk_at, walk_from_oldest};
+ghost use Rattle.bac_walk.specs.Place.{asking, walk_at, walk_from_oldest};
 ghost use Rattle.bac_walk.specs.declared.outcome.Step.{Step as StepOf};
 ghost use Rattle.bac_walk.specs.declared.outcome.WalkFault.{WalkFault as FaultOf};
 ghost use Rattle.bac_keep.specs.Looks.{IsSeen, IsSeenBy, IsSeenLast, is_held_as, seen_by};
@@ -12,7 +12,7 @@ use crate::courses::is_ahead;
 use crate::resumption::{is_before, oldest_of};
 use crate::texts::{datum_of, flags_of, stamp_of};
 use bac_link::{LogLink, Transactions};
-use bac_walk::{Batch, Numbered, Step, Walk, WalkFault};
+use bac_walk::{Batch, Count, Numbered, Step, Walk, WalkFault};
 use bac_wire::ObjectId;
 use std::alloc::{AllocError, Global};
 
@@ -41,14 +41,15 @@ pub enum Seen {
     Nothing,
 }
 
-/// What a device holds of the record that was kept last: asks for it by its number, and if no
-/// record is held from there on for the oldest. At most four exchanges; no row changes. A record
+/// What a device holds of the record that was kept last: asks for so many from its number on, and
+/// if no record is held from there on for the oldest. At most four exchanges; no row changes. A record
 /// of the number 0 is another one, and nothing is asked.
 pub fn look_for<L: LogLink>(
     alloc: Global,
     link: &mut L,
     transactions: &mut Transactions,
     log: ObjectId,
+    count: Count,
     last: LastKept<'_>,
 ) -> Result<Result<Seen, WalkFault>, AllocError>
     requires { log.kind ≡ 20 }
@@ -59,16 +60,17 @@ pub fn look_for<L: LogLink>(
     // The answers came over the link, and they say it.
     ensures seen { 0 < last.entry.number → IfOk result (λ seen. (answer : Result StepOf FaultOf) × (oldest : Result StepOf FaultOf) × (half : L)
         × IsSeen (record { number = last.entry.number; stamp = last.entry.stamp.now; datum = last.entry.datum.now; flags = last.entry.flags.now }) answer oldest seen
-        × CameTo L.asks (towards transactions.old.route) transactions.old.retries link.old (walk_at log last.entry.number) answer half
-        × (AsksOldest answer → CameTo L.asks (towards transactions.old.route) transactions.old.retries half (walk_from_oldest log) oldest link.new)
+        × CameTo L.asks (towards transactions.old.route) transactions.old.retries link.old (asking count (walk_at log last.entry.number)) answer half
+        × (AsksOldest answer → CameTo L.asks (towards transactions.old.route) transactions.old.retries half (asking count (walk_from_oldest log)) oldest link.new)
         × ((AsksOldest answer → ⊥) → link.new ≡ half)) }
 {
-    let Some(mut walk) = Walk::from_number(log, last.number) else {
+    let Some(walk) = Walk::from_number(log, last.number) else {
         return Ok(Ok(Seen::Another));
     };
+    let mut walk = walk.asking_for(count);
     match walk.step(link, transactions) {
         Ok(Step::Batch(batch)) => Ok(Ok(seen_first(alloc, last, &batch)?)),
-        Ok(Step::CaughtUp) => look_at_oldest(alloc, link, transactions, log, last),
+        Ok(Step::CaughtUp) => look_at_oldest(alloc, link, transactions, log, count, last),
         Err(fault) => Ok(Err(fault)),
     }
 }
@@ -79,6 +81,7 @@ fn look_at_oldest<L: LogLink>(
     link: &mut L,
     transactions: &mut Transactions,
     log: ObjectId,
+    count: Count,
     last: LastKept<'_>,
 ) -> Result<Result<Seen, WalkFault>, AllocError>
     requires { log.kind ≡ 20 }
@@ -87,9 +90,9 @@ fn look_at_oldest<L: LogLink>(
     ensures route { transactions.new.route ≡ transactions.old.route }
     ensures seen { IfOk result (λ seen. (oldest : Result StepOf FaultOf)
         × IsSeenLast (record { number = last.entry.number; stamp = last.entry.stamp.now; datum = last.entry.datum.now; flags = last.entry.flags.now }) oldest seen
-        × CameTo L.asks (towards transactions.old.route) transactions.old.retries link.old (walk_from_oldest log) oldest link.new) }
+        × CameTo L.asks (towards transactions.old.route) transactions.old.retries link.old (asking count (walk_from_oldest log)) oldest link.new) }
 {
-    let mut walk = oldest_of(log);
+    let mut walk = oldest_of(log, count);
     match walk.step(link, transactions) {
         Ok(Step::Batch(batch)) => Ok(Ok(seen_first(alloc, last, &batch)?)),
         Ok(Step::CaughtUp) => Ok(Ok(Seen::Nothing)),

@@ -21,11 +21,11 @@ use Rattle.bac_keep.specs.Runs.{KeepsRun}
 pub from_number : {L : Type 0} (ours : L → Id → ℕ → List Moment → History → Type 0) (failures : L → ℕ) → KeptIsDelivered ours failures →
     (place reached : Place) (retries : ℕ) (old new : Database) (link left : L) (w after : WalkPlace) (n steps records gaps : ℕ) (ended : Ended) (log : Id) (s next r : ℕ) (M : List Moment) (H : History) (k : ℕ) →
     w ≡ walk_at log s → after.next ≡ next → n ≤ steps → KeepsRun ours failures place reached retries old new link left w after n ended records gaps →
-    ours link log r M H → s ≡ sequence_number k → StaysNear r H M false k steps →
+    ours link log r M H → s ≡ sequence_number k → StaysNear r 100 H M false k steps →
     (items : List Item) × (t : ℕ) × (answers : ℕ) × (next ≡ sequence_number t) × Adds old.trees new.trees (kept_rows (era place) items) × (era reached ≡ era_after (era place) items) × DeliversTo H k items t M answers
 from_number ours failures law place reached retries old new link left w after n steps records gaps ended log s next r M H k at shown few keeps is_ours here near =
     let P : WalkPlace → Type 0 = λ x. KeepsRun ours failures place reached retries old new link left x after n ended records gaps in
-    let d = law place reached retries old new link left (walk_at log s) after n records gaps ended r M H k (subst P at keeps) is_ours here (fewer_steps r H M false k n steps few near) in
+    let d = law place reached retries old new link left (walk_at log s) after n records gaps ended r M H k (subst P at keeps) is_ours here (fewer_steps r 100 H M false k n steps few near) in
     let B : ℕ → Type 0 = λ b. DeliversTo H b d.0 d.2 M d.3 in
     (d.0, d.2, d.3, sym shown ∙ d.5, d.6, d.7, subst B (d.4 refl) d.8)
 
@@ -47,7 +47,7 @@ both_kept begins law H place halfway reached old mid new first rest k t u count 
 abbrev pub Again : {K : Type 0} → (K → Id → ℕ → List Moment → History → Type 0) → Place → Place → Database → K → Id → ℕ → ℕ → ℕ → ℕ → List Moment → History → ℕ → Type 0
 Again {K = K} ours place reached new later log steps next behind r M H k =
     (t : ℕ) × (count : ℕ) × (next ≡ sequence_number t)
-    × (ours later log r (after_answers count M) H → StaysNear r H (after_answers count M) false t steps → (u : ℕ) × (all : ℕ) × (behind ≡ sequence_number u) × IsKept H (era place) (era reached) new.trees k u M all)
+    × (ours later log r (after_answers count M) H → StaysNear r 100 H (after_answers count M) false t steps → (u : ℕ) × (all : ℕ) × (behind ≡ sequence_number u) × IsKept H (era place) (era reached) new.trees k u M all)
 
 pub kept_again : {L K : Type 0} (ours : L → Id → ℕ → List Moment → History → Type 0) (failures : L → ℕ) (ours_then : K → Id → ℕ → List Moment → History → Type 0) (failures_then : K → ℕ) →
     KeptIsDelivered ours failures → KeptIsDelivered ours_then failures_then → BeginsEmpty → AllRunsAreKept →
@@ -56,7 +56,7 @@ pub kept_again : {L K : Type 0} (ours : L → Id → ℕ → List Moment → His
     w ≡ walk_at log s → w_then ≡ walk_at log next → after.next ≡ next → after_then.next ≡ behind → n ≤ steps → more ≤ steps → rows_at place (kept old.trees) ≡ [] → HasNoneBehind (era place) (era reached) (kept old.trees) →
     KeepsRun ours failures place halfway retries old mid link half w after n ended records gaps →
     KeepsRun ours_then failures_then halfway reached retries_then mid new later left w_then after_then more ended_then records_then gaps_then →
-    (r : ℕ) (M : List Moment) (H : History) (k : ℕ) → ours link log r M H → s ≡ sequence_number k → StaysNear r H M false k steps → Again ours_then place reached new later log steps next behind r M H k
+    (r : ℕ) (M : List Moment) (H : History) (k : ℕ) → ours link log r M H → s ≡ sequence_number k → StaysNear r 100 H M false k steps → Again ours_then place reached new later log steps next behind r M H k
 kept_again ours failures ours_then failures_then law law_then begins all place halfway reached retries retries_then old mid new link half later left w after w_then after_then
     n more steps records gaps records_then gaps_then ended ended_then log s next behind at at_then shown shown_then few few_then none free keeps keeps_then r M H k is_ours here near =
     let d = from_number ours failures law place halfway retries old mid link half w after n steps records gaps ended log s next r M H k at shown few keeps is_ours here near in (

@@ -54,7 +54,7 @@ ends_there begins all covers ends stays once H place cut old left items k t coun
 -- what a second run keeps behind what a crash left, however it ends, over a link that is honest from the moments on that the rows there left, or from later ones
 abbrev pub BehindCrash : {K : Type 0} → Asking K → Path → ℕ → Place → Place → Database → K → WalkPlace → Id → List Moment → History → ℕ → ℕ → Type 0
 BehindCrash asks path retries place from mid later w log M H k low =
-    (count : ℕ) × ((wait : ℕ) → IsHonest asks path log H low later (after_answers (count + wait) M) →
+    (count : ℕ) × ((wait : ℕ) → IsHonest asks path log 100 H low later (after_answers (count + wait) M) →
     (reached : Place) (new : Database) (next : ℕ) → reached.log ≡ place.log → AnyEnd asks path retries from reached mid new later w next →
     (u : ℕ) × (all : ℕ) × (next ≡ sequence_number u) × IsKept H (era place) (era reached) new.trees k u M all)
 
@@ -62,7 +62,7 @@ pub behind_crash : {S K : Type 0} (asks : Asking S) (asks_then : Asking K) → H
     (path path_then : Path) (retries retries_then : ℕ) (place from : Place) (old mid : Database) (link : S) (later : K) (w w_then : WalkPlace) (log : Id) (s next steps : ℕ) (told : Option NewestItem) →
     w ≡ walk_at log s → w_then ≡ walk_at log next → rows_at place (kept old.trees) ≡ [] → HasNoneLater place (kept old.trees) → LeavesOver asks path retries place old link w steps mid.trees → TellsNewest place.log (kept mid.trees) told →
     from.log ≡ place.log → from.epoch ≡ next_epoch place.epoch told → next ≡ next_number place.epoch s told →
-    (H : History) (M : List Moment) (k low : ℕ) → IsHonest asks path log H low link M → s ≡ sequence_number k → 0 < length M → NeverGoesBack M → AreInWindow low M → low ≤ k → k < low + 2147483648 →
+    (H : History) (M : List Moment) (k low : ℕ) → IsHonest asks path log 100 H low link M → s ≡ sequence_number k → 0 < length M → NeverGoesBack M → AreInWindow low M → low ≤ k → k < low + 2147483648 →
     BehindCrash asks_then path_then retries_then place from mid later w_then log M H k low
 behind_crash asks asks_then law law_then begins all covers ends stays once path path_then retries retries_then place from old mid link later w w_then log s next steps told at at_then none free
     (db, half, after, n, ended, records, gaps, few, is, cut, keeps) tells log_is epoch_is next_is H M k low honest here some back window above below =

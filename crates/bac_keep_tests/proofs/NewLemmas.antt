@@ -9,7 +9,7 @@ use Rattle.bac_link.specs.Moments.{AreInWindow, NeverGoesBack}
 use Rattle.bac_link.specs.Ordinals.{number_after}
 use Rattle.bac_link.specs.Path.{Path}
 use Rattle.bac_walk.specs.Collects.{IsCaughtUp}
-use Rattle.bac_walk.specs.Place.{WalkPlace, walk_at}
+use Rattle.bac_walk.specs.Place.{WalkPlace, asking, walk_at}
 use Rattle.bac_walk.specs.declared.outcome.Ended.TheVariants.{CaughtUp}
 use Rattle.bac_walk.specs.declared.outcome.Progress.{Progress}
 use Rattle.bac_walk.specs.declared.outcome.Progress.TheVariants.{Batch as BatchOf, AskOldest, CaughtUp as NoMore}
@@ -23,26 +23,26 @@ use Rattle.bac_keep.specs.Questions.{AsksOnce, GathersAnswer, answer_ended}
 use Rattle.bac_keep.specs.UpToDate.{AskedTellsCaughtUp}
 
 -- a question for the number behind a record brought none, and that record is held
-pub nothing_new : {S : Type 0} (asks : S → List ℕ → Result (List ℕ) Loss → S → Type 0) → AskedTellsCaughtUp asks → (path : Path) (retries : ℕ) (log : Id) (kept : KeptAs) (old mid new : S)
-    (place : Place) (free : ℕ) (walk after : WalkPlace) (gathered : Gathered) → walk ≡ walk_at log (number_after kept.number 1) →
-    GathersAnswer asks path retries place free old walk gathered after mid → gathered.step.ended ≡ CaughtUp → Looks asks path retries mid log kept (Ok Same) new →
-    (H : History) (M : List Moment) (low k : ℕ) → IsHonest asks path log H low old M → 0 < length M → NeverGoesBack M → AreInWindow low M →
+pub nothing_new : {S : Type 0} (asks : S → List ℕ → Result (List ℕ) Loss → S → Type 0) → AskedTellsCaughtUp asks → (path : Path) (retries : ℕ) (log : Id) (asked : ℕ) (kept : KeptAs) (old mid new : S)
+    (place : Place) (free : ℕ) (walk after : WalkPlace) (gathered : Gathered) → walk ≡ asking asked (walk_at log (number_after kept.number 1)) →
+    GathersAnswer asks path retries place free old walk gathered after mid → gathered.step.ended ≡ CaughtUp → Looks asks path retries mid log asked kept (Ok Same) new →
+    (H : History) (M : List Moment) (low k : ℕ) → IsHonest asks path log asked H low old M → 0 < length M → NeverGoesBack M → AreInWindow low M →
     low ≤ k → k + 1 < low + 2147483648 → kept.number ≡ sequence_number k → IsCaughtUp false (k + 1) M ([] ∷ [])
-nothing_new {S = S} asks law path retries log kept old mid new place free walk after gathered at (answer, once, is, goes) ended looks H M low k honest some back window from below number =
-    let here : walk ≡ walk_at log (sequence_number (k + 1)) = at ∙ ap (λ n. walk_at log n) (ap (λ n. number_after n 1) number ∙ after-number k 1) in
+nothing_new {S = S} asks law path retries log asked kept old mid new place free walk after gathered at (answer, once, is, goes) ended looks H M low k honest some back window from below number =
+    let here : walk ≡ asking asked (walk_at log (sequence_number (k + 1))) = at ∙ ap (λ n. asking asked (walk_at log n)) (ap (λ n. number_after n 1) number ∙ after-number k 1) in
     let W : WalkPlace → Type 0 = λ w. AsksOnce asks path retries old w answer after mid in
     by answer (subst W here once) (sym is.ended ∙ ended)
   where
-    by : (answer : Result Progress WalkFault) → AsksOnce asks path retries old (walk_at log (sequence_number (k + 1))) answer after mid → answer_ended answer ≡ CaughtUp →
+    by : (answer : Result Progress WalkFault) → AsksOnce asks path retries old (asking asked (walk_at log (sequence_number (k + 1)))) answer after mid → answer_ended answer ≡ CaughtUp →
         IsCaughtUp false (k + 1) M ([] ∷ [])
     by (Ok (BatchOf b)) once is = absurd (let e = is in cc)
     by (Ok AskOldest) once is =
-        let it = law path retries log kept old mid new (record { place = walk_at log (sequence_number (k + 1)); datagram = once.0; items = [] } ∷ []) after H M low k
+        let it = law path retries log asked kept old mid new (record { place = asking asked (walk_at log (sequence_number (k + 1))); datagram = once.0; items = [] } ∷ []) after H M low k
         honest some back window from below number (mid, after, AskOldest, refl, once.1, once.2, refl, (refl, refl)) (refl, refl) looks in
         let same : it.0 ≡ k + 1 = it.2.2 ∙ it.2.1 in
         subst (λ t. IsCaughtUp false t M ([] ∷ [])) same it.3
     by (Ok NoMore) once is =
-        let it = law path retries log kept old mid new (record { place = walk_at log (sequence_number (k + 1)); datagram = once.0; items = [] } ∷ []) after H M low k
+        let it = law path retries log asked kept old mid new (record { place = asking asked (walk_at log (sequence_number (k + 1))); datagram = once.0; items = [] } ∷ []) after H M low k
         honest some back window from below number (mid, after, NoMore, refl, once.1, once.2, refl, (refl, refl)) (refl, refl) looks in
         let same : it.0 ≡ k + 1 = it.2.2 ∙ it.2.1 in
         subst (λ t. IsCaughtUp false t M ([] ∷ [])) same it.3

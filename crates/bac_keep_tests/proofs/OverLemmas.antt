@@ -49,7 +49,7 @@ any_end asks path retries place reached old new link left w steps next records g
 -- what a run from a number on adds and delivers
 pub from_any : {S : Type 0} (asks : Asking S) → HonestIsKept asks → (path : Path) (retries : ℕ) (place reached : Place) (old new : Database) (link : S) (w : WalkPlace) (log : Id) (s next : ℕ) →
     w ≡ walk_at log s → AnyEnd asks path retries place reached old new link w next →
-    (H : History) (M : List Moment) (k low : ℕ) → IsHonest asks path log H low link M → s ≡ sequence_number k → 0 < length M → NeverGoesBack M → AreInWindow low M → low ≤ k → k < low + 2147483648 →
+    (H : History) (M : List Moment) (k low : ℕ) → IsHonest asks path log 100 H low link M → s ≡ sequence_number k → 0 < length M → NeverGoesBack M → AreInWindow low M → low ≤ k → k < low + 2147483648 →
     (items : List Item) × (t : ℕ) × (answers : ℕ) × (next ≡ sequence_number t) × Adds old.trees new.trees (kept_rows (era place) items) × (era reached ≡ era_after (era place) items) × DeliversTo H k items t M answers
 from_any asks law path retries place reached old new link w log s next at (n, half, after, ended, records, gaps, shown, keeps) H M k low honest here some back window above below =
     let P : WalkPlace → Type 0 = λ x. KeepsOver asks path retries place reached old new link half x after n ended records gaps in
@@ -62,14 +62,14 @@ from_any asks law path retries place reached old new link w log s next at (n, ha
 abbrev pub AgainOver : {K : Type 0} → Asking K → Path → Place → Place → Trees → K → Id → ℕ → ℕ → List Moment → History → ℕ → ℕ → Type 0
 AgainOver asks path place reached new later log next behind M H k low =
     (t : ℕ) × (count : ℕ) × (next ≡ sequence_number t)
-    × ((wait : ℕ) → IsHonest asks path log H low later (after_answers (count + wait) M) →
+    × ((wait : ℕ) → IsHonest asks path log 100 H low later (after_answers (count + wait) M) →
     (u : ℕ) × (all : ℕ) × (behind ≡ sequence_number u) × IsKept H (era place) (era reached) new k u M all)
 
 pub again_over : {S K : Type 0} (asks : Asking S) (asks_then : Asking K) → HonestIsKept asks → HonestIsKept asks_then → BeginsEmpty → AllRunsAreKept →
     (path path_then : Path) (retries retries_then : ℕ) (place halfway reached : Place) (old mid new : Database) (link : S) (later : K) (w w_then : WalkPlace) (log : Id) (s next behind : ℕ) →
     w ≡ walk_at log s → w_then ≡ walk_at log next → rows_at place (kept old.trees) ≡ [] → HasNoneBehind (era place) (era reached) (kept old.trees) →
     AnyEnd asks path retries place halfway old mid link w next → AnyEnd asks_then path_then retries_then halfway reached mid new later w_then behind →
-    (H : History) (M : List Moment) (k low : ℕ) → IsHonest asks path log H low link M → s ≡ sequence_number k → 0 < length M → NeverGoesBack M → AreInWindow low M → low ≤ k → k < low + 2147483648 →
+    (H : History) (M : List Moment) (k low : ℕ) → IsHonest asks path log 100 H low link M → s ≡ sequence_number k → 0 < length M → NeverGoesBack M → AreInWindow low M → low ≤ k → k < low + 2147483648 →
     AgainOver asks_then path_then place reached new.trees later log next behind M H k low
 again_over asks asks_then law law_then begins all path path_then retries retries_then place halfway reached old mid new link later w w_then log s next behind at at_then none free first second H M k low honest here some back window above below =
     let d = from_any asks law path retries place halfway old mid link w log s next at first H M k low honest here some back window above below in

@@ -80,9 +80,9 @@ pub fn kept_after_a_crash<L: LogLink, K: LogLink, S: Alter, T: Alter>(
         (state S.Store conn.new).may_leave (state T.Store again.old).now.trees → (state T.Store again.old).now.schema ≡ archive_schema →
         IsTrue (state T.Store again.old).is_open → (state T.Store again.old).committed ≡ (state T.Store again.old).now →
         HasCleanDisk (state T.Store again.new) → IfSome result (λ run.
-        (H : History) (M : List Moment) (k low : ℕ) → IsHonest L.asks (towards None) log H low link.old M → s ≡ sequence_number k →
+        (H : History) (M : List Moment) (k low : ℕ) → IsHonest L.asks (towards None) log 100 H low link.old M → s ≡ sequence_number k →
         0 < length M → NeverGoesBack M → AreInWindow low M → low ≤ k → k < low + 2147483648 →
-        (count : ℕ) × ((wait : ℕ) → IsHonest K.asks (towards None) log H low later.old (after_answers (count + wait) M) →
+        (count : ℕ) × ((wait : ℕ) → IsHonest K.asks (towards None) log 100 H low later.old (after_answers (count + wait) M) →
         (IsTrue (state T.Store again.new).is_open →
         (u : ℕ) × (all : ℕ) × (run.next ≡ sequence_number u) × IsKept H (era place) (era run.place) (state T.Store again.new).committed.trees k u M all)
         × ((left : Trees) → (state T.Store again.new).may_leave left →

@@ -41,10 +41,10 @@ pub fn kept_of_any_device<L: LogLink, K: LogLink, S: Alter>(
         (state S.Store conn.old).now.schema ≡ archive_schema →
         rows_at place (kept (state S.Store conn.old).now.trees) ≡ [] → IfSome result (λ runs.
         HasNoneBehind (era place) (era runs.1.place) (kept (state S.Store conn.old).now.trees) →
-        (H : History) (M : List Moment) (k low : ℕ) → IsHonest L.asks (towards None) log H low link.old M → s ≡ sequence_number k →
+        (H : History) (M : List Moment) (k low : ℕ) → IsHonest L.asks (towards None) log 100 H low link.old M → s ≡ sequence_number k →
         0 < length M → NeverGoesBack M → AreInWindow low M → low ≤ k → k < low + 2147483648 →
         (t : ℕ) × (count : ℕ) × (runs.0.next ≡ sequence_number t)
-        × ((wait : ℕ) → IsHonest K.asks (towards None) log H low later.old (after_answers (count + wait) M) →
+        × ((wait : ℕ) → IsHonest K.asks (towards None) log 100 H low later.old (after_answers (count + wait) M) →
         (u : ℕ) × (all : ℕ) × (runs.1.next ≡ sequence_number u) × IsKept H (era place) (era runs.1.place) (state S.Store conn.new).now.trees k u M all)) }
 {
     // For the prover alone: laws that the contract follows from.

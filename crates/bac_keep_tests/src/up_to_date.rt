@@ -12,7 +12,7 @@ ghost use Rattle.bac_walk.specs.Collects.{IsCaughtUp};
 
 use bac_keep::{LastKept, Place, Seen, asked_tells_caught_up, gather_answer, look_for};
 use bac_link::{LogLink, Transactions};
-use bac_walk::{Ended, Walk};
+use bac_walk::{Count, Ended, Walk};
 use bac_wire::ObjectId;
 use std::alloc::Global;
 
@@ -23,34 +23,36 @@ fn number_behind(number: u32) -> u32
     if number == 4294967295 { 1 } else { number + 1 }
 }
 
-/// Asks for what lies behind the record that was kept last, and then for that record. True if
-/// nothing came and that is held as it is kept: then over a link that is honest for the log, whoever
+/// Asks for so many of what lies behind the record that was kept last, and then for that record. True
+/// if nothing came and that is held as it is kept: then over a link that is honest for the log, whoever
 /// answers, it held nothing behind that record when the first of the two was answered.
 pub fn has_nothing_new<L: LogLink>(
     alloc: Global,
     link: &mut L,
     transactions: &mut Transactions,
     log: ObjectId,
+    count: Count,
     last: LastKept<'_>,
     place: Place,
     free: u64,
 ) -> Option<()>
     requires { log.kind ≡ 20 }
     ensures { IfSome result (λ _. (H : History) (M : List Moment) (low k : ℕ) →
-        IsHonest L.asks (towards transactions.old.route) log H low link.old M → 0 < length M → NeverGoesBack M → AreInWindow low M →
+        IsHonest L.asks (towards transactions.old.route) log count H low link.old M → 0 < length M → NeverGoesBack M → AreInWindow low M →
         low ≤ k → k + 1 < low + 2147483648 → last.entry.number ≡ sequence_number k → IsCaughtUp false (k + 1) M ([] ∷ [])) }
 {
     // For the prover alone: the law that the contract follows from.
     asked_tells_caught_up::<L>();
     let next = number_behind(last.number);
-    let mut walk = Walk::from_number(log, next)?;
+    let walk = Walk::from_number(log, next)?;
+    let mut walk = walk.asking_for(count);
     let Ok(gathered) = gather_answer(alloc, link, transactions, &mut walk, place, free) else {
         return None;
     };
     let Ended::CaughtUp = gathered.step.ended else {
         return None;
     };
-    match look_for(alloc, link, transactions, log, last) {
+    match look_for(alloc, link, transactions, log, count, last) {
         Ok(Ok(Seen::Same)) => Some(()),
         _ => None,
     }

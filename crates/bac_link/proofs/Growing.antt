@@ -44,19 +44,19 @@ held_on : (H on : History) (m : Moment) (k : ℕ) (es : List Entry) → GoesOn H
 held_on H on m k [] goes are = tt
 held_on H on m k (e ∷ es) goes are = (are.0, entry_on H on k e goes are.1, held_on H on m (k + 1) es goes are.2)
 
-from_on : (H on : History) (m : Moment) (k : ℕ) (first : Option ℕ) (es : List Entry) → GoesOn H on → AreFrom H m k first es → AreFrom on m k first es
-from_on H on m k first es goes are = (are.0, are.1, held_on H on m k es goes are.2)
+from_on : (H on : History) (m : Moment) (k count : ℕ) (first : Option ℕ) (es : List Entry) → GoesOn H on → AreFrom H m k count first es → AreFrom on m k count first es
+from_on H on m k count first es goes are = (are.0, are.1, held_on H on m k es goes are.2)
 
 says_on : (H on : History) (m : Moment) (asked : Asked) (first : Option ℕ) (es : List Entry) → GoesOn H on → SaysAt m H asked first es → SaysAt m on asked first es
-says_on H on m (FromNumber n) first [] goes says = says
-says_on H on m (FromNumber n) first (e ∷ es) goes says = (says.0, from_on H on m says.0 first (e ∷ es) goes says.1, says.2)
-says_on H on m FromOldest first [] goes says = says
-says_on H on m FromOldest first (e ∷ es) goes says = from_on H on m m.oldest first (e ∷ es) goes says
+says_on H on m (FromNumber n count) first [] goes says = says
+says_on H on m (FromNumber n count) first (e ∷ es) goes says = (says.0, from_on H on m says.0 count first (e ∷ es) goes says.1, says.2)
+says_on H on m (FromOldest count) first [] goes says = says
+says_on H on m (FromOldest count) first (e ∷ es) goes says = from_on H on m m.oldest count first (e ∷ es) goes says
 
 -- a reply that was said at a moment is said at it of any history that goes on
 pub said_on : (H on : History) (m : Moment) (log : Id) (asked : Asked) (datagram : List ℕ) → GoesOn H on → IsSaidAt m H log asked datagram → IsSaidAt m on log asked datagram
 said_on H on m log asked datagram goes said =
-    record { heard = said.heard; reads = said.reads; counts = said.counts; says = says_on H on m asked said.heard.first said.heard.entries goes said.says }
+    record { asks = said.asks; heard = said.heard; reads = said.reads; counts = said.counts; says = says_on H on m asked said.heard.first said.heard.entries goes said.says }
 
 -- ---- where a log stands
 
@@ -78,24 +78,24 @@ within_on low at on is goes = omega (arith, is.within, goes.1, ap length goes.2,
 -- ---- links
 
 pub stands_on : {S : Type 0} (asks : Asking S) (stands : ℕ → S → Standing → Type 0) → StandingStaysHonest asks stands
-stands_on {S = S} asks stands = λ path log low more link at honest stood. all path log low more link at honest stood
+stands_on {S = S} asks stands = λ path log count low more link at honest stood. all path log count low more link at honest stood
   where
-    all : (path : Path) (log : Id) (low more : ℕ) (link : S) (at : Standing) → StaysHonestWhere asks path log low stands → stands more link at → StaysHonest asks path log low more link at
-    all path log low zero link at honest stood = tt
-    all path log low (suc more) link at honest stood = λ new asked invoke answer is ask.
+    all : (path : Path) (log : Id) (count low more : ℕ) (link : S) (at : Standing) → StaysHonestWhere asks path log count low stands → stands more link at → StaysHonest asks path log count low more link at
+    all path log count low zero link at honest stood = tt
+    all path log count low (suc more) link at honest stood = λ new asked invoke answer is ask.
         let x = honest.goes_on more link new at asked invoke answer stood is ask in
-        (x.0, x.1, x.2, all path log low more new x.0 honest x.3)
+        (x.0, x.1, x.2, all path log count low more new x.0 honest x.3)
 
-fewer_asks : {S : Type 0} (asks : Asking S) (path : Path) (log : Id) (low more : ℕ) (link : S) (at : Standing) → StaysHonest asks path log low (suc more) link at → StaysHonest asks path log low more link at
-fewer_asks asks path log low zero link at honest = tt
-fewer_asks asks path log low (suc more) link at honest = λ new asked invoke answer is ask.
+fewer_asks : {S : Type 0} (asks : Asking S) (path : Path) (log : Id) (count low more : ℕ) (link : S) (at : Standing) → StaysHonest asks path log count low (suc more) link at → StaysHonest asks path log count low more link at
+fewer_asks asks path log count low zero link at honest = tt
+fewer_asks asks path log count low (suc more) link at honest = λ new asked invoke answer is ask.
     let x = honest new asked invoke answer is ask in
-    (x.0, x.1, x.2, fewer_asks asks path log low more new x.0 x.3)
+    (x.0, x.1, x.2, fewer_asks asks path log count low more new x.0 x.3)
 
-pub stays_on : {S : Type 0} (asks : Asking S) (path : Path) (log : Id) (low : ℕ) → StaysHonestWhere asks path log low (λ n link at. StaysHonest asks path log low n link at)
-stays_on asks path log low = record {
+pub stays_on : {S : Type 0} (asks : Asking S) (path : Path) (log : Id) (count low : ℕ) → StaysHonestWhere asks path log count low (λ n link at. StaysHonest asks path log count low n link at)
+stays_on asks path log count low = record {
   goes_on = λ more old new at asked invoke answer honest is ask. honest new asked invoke answer is ask;
-  fewer = λ more link at honest. fewer_asks asks path log low more link at honest;
+  fewer = λ more link at honest. fewer_asks asks path log count low more link at honest;
 }
 
 -- ---- moments that are known before
@@ -126,14 +126,14 @@ left_later on low m (n ∷ []) left = record { some = left.some; back = left.bac
 left_later on low m (n ∷ o ∷ M) left = record { some = omega arith; back = left.back.2; window = left.window.1; within = left.within.1; oldest = left.back.0; newest = left.back.1 }
 
 -- an ask of a link that is honest at them
-known_ask : {S : Type 0} (asks : Asking S) (path : Path) (log : Id) (H on : History) (low more : ℕ) (new : S) (m : Moment) (M : List Moment) (asked : Asked) (octets : List ℕ) (answer : Result (List ℕ) Loss) →
-    (IsHonestFor asks path log H low more new M → StaysHonest asks path log low more new (record { history = on; moment = m })) →
-    (IsHonestFor asks path log H low more new (later M) → StaysHonest asks path log low more new (record { history = on; moment = now M })) →
-    GoesOn H on → IsStanding low (record { history = on; moment = m }) → Left on low m M → IsSaidOrLost (λ N. IsHonestFor asks path log H low more new N) M H log asked octets answer →
-    (next : Standing) × IsOnward low (record { history = on; moment = m }) next × IsGiven next log asked octets answer × StaysHonest asks path log low more new next
-known_ask asks path log H on low more new m M asked octets (Err lost) stays goes_to goes is left said =
+known_ask : {S : Type 0} (asks : Asking S) (path : Path) (log : Id) (count : ℕ) (H on : History) (low more : ℕ) (new : S) (m : Moment) (M : List Moment) (asked : Asked) (octets : List ℕ) (answer : Result (List ℕ) Loss) →
+    (IsHonestFor asks path log count H low more new M → StaysHonest asks path log count low more new (record { history = on; moment = m })) →
+    (IsHonestFor asks path log count H low more new (later M) → StaysHonest asks path log count low more new (record { history = on; moment = now M })) →
+    GoesOn H on → IsStanding low (record { history = on; moment = m }) → Left on low m M → IsSaidOrLost (λ N. IsHonestFor asks path log count H low more new N) M H log asked octets answer →
+    (next : Standing) × IsOnward low (record { history = on; moment = m }) next × IsGiven next log asked octets answer × StaysHonest asks path log count low more new next
+known_ask asks path log count H on low more new m M asked octets (Err lost) stays goes_to goes is left said =
     let here : Standing = record { history = on; moment = m } in (here, stays_there low here is, tt, stays said)
-known_ask asks path log H on low more new m M asked octets (Ok datagram) stays goes_to goes is left said = elim (cases_Bool (answers_to octets datagram)) [
+known_ask asks path log count H on low more new m M asked octets (Ok datagram) stays goes_to goes is left said = elim (cases_Bool (answers_to octets datagram)) [
   | inl answers ↦
       let x = said.0 answers in (
         record { history = on; moment = now M },
@@ -146,19 +146,19 @@ known_ask asks path log H on low more new m M asked octets (Ok datagram) stays g
       (here, stays_there low here is, (λ y. absurd (let e = sym y ∙ other in cc)), stays (said.1 other))
 ]
 
-known_before : {S : Type 0} (asks : Asking S) (path : Path) (log : Id) (H on : History) (low more : ℕ) (link : S) (m : Moment) (M : List Moment) →
-    IsHonestFor asks path log H low more link M → GoesOn H on → IsStanding low (record { history = on; moment = m }) → Left on low m M →
-    StaysHonest asks path log low more link (record { history = on; moment = m })
-known_before asks path log H on low zero link m M honest goes is left = tt
-known_before asks path log H on low (suc more) link m M honest goes is left = λ new asked invoke answer in_it ask.
-    known_ask asks path log H on low more new m M asked (asked_octets path invoke log asked) answer
-    (λ h. known_before asks path log H on low more new m M h goes is left)
-    (λ h. known_before asks path log H on low more new (now M) (later M) h goes (stands_now on low m M left) (left_later on low m M left))
+known_before : {S : Type 0} (asks : Asking S) (path : Path) (log : Id) (count : ℕ) (H on : History) (low more : ℕ) (link : S) (m : Moment) (M : List Moment) →
+    IsHonestFor asks path log count H low more link M → GoesOn H on → IsStanding low (record { history = on; moment = m }) → Left on low m M →
+    StaysHonest asks path log count low more link (record { history = on; moment = m })
+known_before asks path log count H on low zero link m M honest goes is left = tt
+known_before asks path log count H on low (suc more) link m M honest goes is left = λ new asked invoke answer in_it ask.
+    known_ask asks path log count H on low more new m M asked (asked_octets path invoke log asked) answer
+    (λ h. known_before asks path log count H on low more new m M h goes is left)
+    (λ h. known_before asks path log count H on low more new (now M) (later M) h goes (stands_now on low m M left) (left_later on low m M left))
     goes is left (honest new asked invoke answer left.some left.window in_it ask)
 
 pub honest_stays : {S : Type 0} (asks : Asking S) → HonestStaysHonest asks
-honest_stays asks = λ path log H on low more link M honest some back window goes within.
-    known_before asks path log H on low more link (now M) M honest goes (record { within = in_at on M some within; window = window_at low M some window })
+honest_stays asks = λ path log count H on low more link M honest some back window goes within.
+    known_before asks path log count H on low more link (now M) M honest goes (record { within = in_at on M some within; window = window_at low M some window })
     (record { some = some; back = back; window = window; within = within; oldest = omega arith; newest = omega arith })
 
 -- ---- a history that has the entries of moments

@@ -25,41 +25,42 @@ IsSaidOrLost stays M H log asked octets (Ok datagram) =
     × (answers_to octets datagram ≡ false → stays M)
 IsSaidOrLost stays M H log asked octets (Err lost) = stays M
 
--- a number that is asked for is that of an ordinal in the window
-abbrev pub IsAskedIn : ℕ → Asked → Type 0
-IsAskedIn low (FromNumber n) = (s : ℕ) × (n ≡ sequence_number s) × (low ≤ s) × (s < low + 2147483648)
-IsAskedIn low FromOldest = Unit {0}
+-- so many records are asked for, and a number that is asked for is that of an ordinal in the window
+abbrev pub IsAskedIn : (low count : ℕ) → Asked → Type 0
+IsAskedIn low count (FromNumber n asked) =
+    (asked ≡ count) × ((s : ℕ) × (n ≡ sequence_number s) × (low ≤ s) × (s < low + 2147483648))
+IsAskedIn low count (FromOldest asked) = asked ≡ count
 
--- A link is honest for a log where it stands: at whatever moments that is, each ask for its records brings that, and
--- what is left of the moments is where the link stands then. Moments and number lie in one window.
+-- A link is honest for a log where it stands: at whatever moments that is, each ask for so many of its records brings
+-- that, and what is left of the moments is where the link stands then. Moments and number lie in one window.
 abbrev pub IsHonestWhere : {S : Type 0} → (S → List ℕ → Result (List ℕ) Loss → S → Type 0) →
-    Path → Id → History → ℕ → (S → List Moment → Type 0) → Type 0
-IsHonestWhere {S = S} asks path log H low stands =
+    Path → Id → (count : ℕ) → History → ℕ → (S → List Moment → Type 0) → Type 0
+IsHonestWhere {S = S} asks path log count H low stands =
     (old new : S) (M : List Moment) (asked : Asked) (invoke : ℕ) (answer : Result (List ℕ) Loss) →
-    stands old M → 0 < length M → AreInWindow low M → IsAskedIn low asked →
+    stands old M → 0 < length M → AreInWindow low M → IsAskedIn low count asked →
     asks old (asked_octets path invoke log asked) answer new →
     IsSaidOrLost (λ N. stands new N) M H log asked (asked_octets path invoke log asked) answer
 
--- It is honest for a log from these moments on, for so many asks more: the next ask for its records brings that, and
--- what is left of the moments is where it is honest from then, for one ask less.
+-- It is honest for a log from these moments on, for so many asks more: the next ask for so many of its records brings
+-- that, and what is left of the moments is where it is honest from then, for one ask less.
 abbrev pub IsHonestFor : {S : Type 0} → (S → List ℕ → Result (List ℕ) Loss → S → Type 0) →
-    Path → Id → History → ℕ → ℕ → S → List Moment → Type 0
-IsHonestFor {S = S} asks path log H low zero old M = Unit {0}
-IsHonestFor {S = S} asks path log H low (suc more) old M =
+    Path → Id → (count : ℕ) → History → ℕ → ℕ → S → List Moment → Type 0
+IsHonestFor {S = S} asks path log count H low zero old M = Unit {0}
+IsHonestFor {S = S} asks path log count H low (suc more) old M =
     (new : S) (asked : Asked) (invoke : ℕ) (answer : Result (List ℕ) Loss) →
-    0 < length M → AreInWindow low M → IsAskedIn low asked →
+    0 < length M → AreInWindow low M → IsAskedIn low count asked →
     asks old (asked_octets path invoke log asked) answer new →
-    IsSaidOrLost (λ N. IsHonestFor asks path log H low more new N) M H log asked
+    IsSaidOrLost (λ N. IsHonestFor asks path log count H low more new N) M H log asked
     (asked_octets path invoke log asked) answer
 
 -- it is honest for a log from these moments on, however many asks come
 abbrev pub IsHonest : {S : Type 0} → (S → List ℕ → Result (List ℕ) Loss → S → Type 0) →
-    Path → Id → History → ℕ → S → List Moment → Type 0
-IsHonest asks path log H low link M = (more : ℕ) → IsHonestFor asks path log H low more link M
+    Path → Id → (count : ℕ) → History → ℕ → S → List Moment → Type 0
+IsHonest asks path log count H low link M = (more : ℕ) → IsHonestFor asks path log count H low more link M
 
 -- a link that stands at moments, where each ask is so answered, is honest from these on
 abbrev pub HonestWhereItStands : {S : Type 0} → (S → List ℕ → Result (List ℕ) Loss → S → Type 0) →
     (S → List Moment → Type 0) → Type 0
 HonestWhereItStands {S = S} asks stands =
-    (path : Path) (log : Id) (H : History) (low : ℕ) (link : S) (M : List Moment) →
-    IsHonestWhere asks path log H low stands → stands link M → IsHonest asks path log H low link M
+    (path : Path) (log : Id) (count : ℕ) (H : History) (low : ℕ) (link : S) (M : List Moment) →
+    IsHonestWhere asks path log count H low stands → stands link M → IsHonest asks path log count H low link M

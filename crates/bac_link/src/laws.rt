@@ -39,7 +39,7 @@ pub fn asks_tell_ours<L: LogLink>()
 pub fn links_are_honest<L: LogLink>()
     ensures told { (moments : L → List Moment) → HonestWhereItStands L.asks (λ link M. moments link ≡ M) }
     ensures ours { (log : Id) (r : ℕ) (H : History) → HonestWhereItStands L.asks (λ link M. L.is_ours link log r M H) }
-    ensures goes_on { (path : Path) (log : Id) (H : History) (low : ℕ) → IsHonestWhere L.asks path log H low (λ link M. IsHonest L.asks path log H low link M) }
+    ensures goes_on { (path : Path) (log : Id) (count : ℕ) (H : History) (low : ℕ) → IsHonestWhere L.asks path log count H low (λ link M. IsHonest L.asks path log count H low link M) }
 {}
 
 /// A link whose log goes on stays honest for so many asks more where each of them is answered by the
@@ -47,7 +47,7 @@ pub fn links_are_honest<L: LogLink>()
 /// that is honest at moments known before stays honest, too.
 pub fn links_stay_honest<L: LogLink>()
     ensures told { (standing : L → Standing) (most : L → ℕ) → StandingStaysHonest L.asks (λ more link at. (standing link ≡ at) × (more ≤ most link)) }
-    ensures goes_on { (path : Path) (log : Id) (low : ℕ) → StaysHonestWhere L.asks path log low (λ more link at. StaysHonest L.asks path log low more link at) }
+    ensures goes_on { (path : Path) (log : Id) (count low : ℕ) → StaysHonestWhere L.asks path log count low (λ more link at. StaysHonest L.asks path log count low more link at) }
     ensures honest { HonestStaysHonest L.asks }
 {}
 

@@ -26,31 +26,31 @@ played = λ path retries old new before after steps came items ended all right.
     (brought Plays Takes (λ link. link.outcomes.now) IsWet wet path retries old before steps came items ended after new all right).1
 
 -- an ask over a record that is by the standard
-pub said : (path : Path) (log : Id) (H : History) (low : ℕ) (outcomes rest : List Outcome) (M : List Moment) (asked : Asked) (invoke : ℕ) (answer : Result (List ℕ) Loss) →
-    AreSaid path log H low outcomes M → 0 < length M → AreInWindow low M → IsAskedIn low asked →
+pub said : (path : Path) (log : Id) (count : ℕ) (H : History) (low : ℕ) (outcomes rest : List Outcome) (M : List Moment) (asked : Asked) (invoke : ℕ) (answer : Result (List ℕ) Loss) →
+    AreSaid path log count H low outcomes M → 0 < length M → AreInWindow low M → IsAskedIn low count asked →
     Takes outcomes (asked_octets path invoke log asked) answer rest →
-    IsSaidOrLost (λ N. AreSaid path log H low rest N) M H log asked (asked_octets path invoke log asked) answer
-said path log H low outcomes rest M asked invoke answer are some window is took =
-    subst (λ (xs : List Outcome). AreSaid path log H low xs M) took are asked invoke some window is refl
+    IsSaidOrLost (λ N. AreSaid path log count H low rest N) M H log asked (asked_octets path invoke log asked) answer
+said path log count H low outcomes rest M asked invoke answer are some window is took =
+    subst (λ (xs : List Outcome). AreSaid path log count H low xs M) took are asked invoke some window is refl
 
-stands : (path : Path) (log : Id) (H : History) (low : ℕ) → IsHonestWhere Plays path log H low (λ link M. AreSaid path log H low link.outcomes.now M)
-stands path log H low = λ old new M asked invoke answer are some window is ask. here old new M asked invoke answer are some window is ask
+stands : (path : Path) (log : Id) (count : ℕ) (H : History) (low : ℕ) → IsHonestWhere Plays path log count H low (λ link M. AreSaid path log count H low link.outcomes.now M)
+stands path log count H low = λ old new M asked invoke answer are some window is ask. here old new M asked invoke answer are some window is ask
   where
     here : (old new : Play) (M : List Moment) (asked : Asked) (invoke : ℕ) (answer : Result (List ℕ) Loss) →
-        AreSaid path log H low old.outcomes.now M → 0 < length M → AreInWindow low M → IsAskedIn low asked →
+        AreSaid path log count H low old.outcomes.now M → 0 < length M → AreInWindow low M → IsAskedIn low count asked →
         Plays old (asked_octets path invoke log asked) answer new →
-        IsSaidOrLost (λ N. AreSaid path log H low new.outcomes.now N) M H log asked (asked_octets path invoke log asked) answer
-    here old new M asked invoke answer are some window is (inl (took, was, still_wet)) = said path log H low old.outcomes.now new.outcomes.now M asked invoke answer are some window is took
+        IsSaidOrLost (λ N. AreSaid path log count H low new.outcomes.now N) M H log asked (asked_octets path invoke log asked) answer
+    here old new M asked invoke answer are some window is (inl (took, was, still_wet)) = said path log count H low old.outcomes.now new.outcomes.now M asked invoke answer are some window is took
     here old new M asked invoke answer are some window is (inr (lost, same, dry, still, wants)) =
-        subst (λ (x : Result (List ℕ) Loss). IsSaidOrLost (λ N. AreSaid path log H low new.outcomes.now N) M H log asked (asked_octets path invoke log asked) x) (sym lost.1)
-        (subst (λ (xs : List Outcome). AreSaid path log H low xs M) (sym same) are)
+        subst (λ (x : Result (List ℕ) Loss). IsSaidOrLost (λ N. AreSaid path log count H low new.outcomes.now N) M H log asked (asked_octets path invoke log asked) x) (sym lost.1)
+        (subst (λ (xs : List Outcome). AreSaid path log count H low xs M) (sym same) are)
 
 -- so is the record by itself
-pub taken_honest : (path : Path) (log : Id) (H : History) (low : ℕ) (outcomes : List Outcome) (M : List Moment) → AreSaid path log H low outcomes M → IsHonest Takes path log H low outcomes M
-taken_honest path log H low outcomes M are = stands_honest Takes (λ xs N. AreSaid path log H low xs N) path log H low outcomes M (takes path log H low) are
+pub taken_honest : (path : Path) (log : Id) (count : ℕ) (H : History) (low : ℕ) (outcomes : List Outcome) (M : List Moment) → AreSaid path log count H low outcomes M → IsHonest Takes path log count H low outcomes M
+taken_honest path log count H low outcomes M are = stands_honest Takes (λ xs N. AreSaid path log count H low xs N) path log count H low outcomes M (takes path log count H low) are
   where
-    takes : (path : Path) (log : Id) (H : History) (low : ℕ) → IsHonestWhere Takes path log H low (λ xs N. AreSaid path log H low xs N)
-    takes path log H low = λ old new N asked invoke answer are some window is took. said path log H low old new N asked invoke answer are some window is took
+    takes : (path : Path) (log : Id) (count : ℕ) (H : History) (low : ℕ) → IsHonestWhere Takes path log count H low (λ xs N. AreSaid path log count H low xs N)
+    takes path log count H low = λ old new N asked invoke answer are some window is took. said path log count H low old new N asked invoke answer are some window is took
 
 pub honest : RecordsAreHonest
-honest = λ path log H low link M are. stands_honest Plays (λ l N. AreSaid path log H low l.outcomes.now N) path log H low link M (stands path log H low) are
+honest = λ path log count H low link M are. stands_honest Plays (λ l N. AreSaid path log count H low l.outcomes.now N) path log count H low link M (stands path log count H low) are

@@ -29,14 +29,14 @@ abbrev pub IsNext : List Outcome → List ℕ → Option (Result (List ℕ) Loss
 IsNext old octets None new = new ≡ old
 IsNext old octets (Some answer) new = Takes old octets answer new
 
--- Each outcome of a record that is one of a question for a log's records is by the standard, at the moment of its turn:
--- a reply uses the next moment up, a loss and a datagram that answers nothing leave it.
-abbrev pub AreSaid : Path → Id → History → ℕ → List Outcome → List Moment → Type 0
-AreSaid path log H low [] M = Unit {0}
-AreSaid path log H low (outcome ∷ outcomes) M =
-    (asked : Asked) (invoke : ℕ) → 0 < length M → AreInWindow low M → IsAskedIn low asked →
+-- Each outcome of a record that is one of a question for so many of a log's records is by the standard, at the moment
+-- of its turn: a reply uses the next moment up, a loss and a datagram that answers nothing leave it.
+abbrev pub AreSaid : Path → Id → (count : ℕ) → History → ℕ → List Outcome → List Moment → Type 0
+AreSaid path log count H low [] M = Unit {0}
+AreSaid path log count H low (outcome ∷ outcomes) M =
+    (asked : Asked) (invoke : ℕ) → 0 < length M → AreInWindow low M → IsAskedIn low count asked →
     outcome.request ≡ asked_octets path invoke log asked →
-    IsSaidOrLost (λ N. AreSaid path log H low outcomes N) M H log asked outcome.request outcome.answer
+    IsSaidOrLost (λ N. AreSaid path log count H low outcomes N) M H log asked outcome.request outcome.answer
 
 -- ---- a link that answers from one
 
@@ -78,8 +78,8 @@ PlayedIsBrought =
 -- such a link is honest for a log if its record is
 abbrev pub RecordsAreHonest : Type 0
 RecordsAreHonest =
-    (path : Path) (log : Id) (H : History) (low : ℕ) (link : Play) (M : List Moment) →
-    AreSaid path log H low link.outcomes.now M → IsHonest Plays path log H low link M
+    (path : Path) (log : Id) (count : ℕ) (H : History) (low : ℕ) (link : Play) (M : List Moment) →
+    AreSaid path log count H low link.outcomes.now M → IsHonest Plays path log count H low link M
 
 -- what a run over such a link wants that is dry in the end
 abbrev pub DryWantsMore : Type 0

@@ -1,7 +1,6 @@
 -- What came over a link, and what was printed of it.
 use Rattle.std.proofs.Common.{◌≡◌, ◌≤◌, ℕ, false, inl, inr, Some, Ok, Err, List, ◌++◌, ap, refl, sym, subst}
 use Rattle.std.specs.Io.KnownBytes.{Appends}
-use Rattle.std.proofs.KnownBytes.{Appends-trans}
 use Rattle.bac_link.specs.Path.{Path, towards}
 use Rattle.bac_link.specs.declared.transactions.Transactions.{Transactions}
 use Rattle.bac_link.specs.declared.item.Item.{Item}

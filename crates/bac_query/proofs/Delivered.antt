@@ -105,7 +105,7 @@ pub delivered : (was is : ℕ → List Moment → History → Type 0) (retries o
     (result : Fetching) → n ≤ steps → IsRun was is retries old new before after n ended items → ((t : ℕ) → after.next ≡ sequence_number t → NextIs result t) →
     Delivers was before steps items result
 delivered was is retries old new before after n steps ended items result le run next = λ r M H s ours at near.
-    let h = headline_of was is retries old new before after n ended items run r M H s ours at (fewer_steps r H M before.fresh s n steps le near) in (h.0, h.1, h.2, h.3, next h.2 h.4, h.5)
+    let h = headline_of was is retries old new before after n ended items run r M H s ours at (fewer_steps r before.count H M before.fresh s n steps le near) in (h.0, h.1, h.2, h.3, next h.2 h.4, h.5)
 
 -- the number that was printed is the walk's
 pub next_is : (why : Why) (next : ℕ) (after : ℕ) (result : Fetching) (old new : Held) → next ≡ after → PrintsEnd Lines why next result old new →
@@ -115,13 +115,13 @@ next_is why next after (Err fault) old new same printed t e = tt
 
 -- a run and the step after it, of one log and with as many retries
 pub run_on : (was mid is : Id → ℕ → List Moment → History → Type 0) (log here : Id) (retries now old half new : ℕ) (before middle after : WalkPlace)
-    (i : ℕ) (ended : Ended) (xs ys : List Item) → here ≡ log → now ≡ retries → old ≤ half →
+    (i : ℕ) (ended : Ended) (xs ys : List Item) → here ≡ log → now ≡ retries → old ≤ half → middle.count ≡ before.count →
     IsRun (was log) (mid log) retries old half before middle i StepLimit xs → IsRun (mid here) (is here) now half new middle after 1 ended ys →
     IsRun (was log) (is log) retries old new before after (i + 1) ended (xs ++ ys)
-run_on was mid is log here retries now old half new before middle after i ended xs ys same_log same_retries up first step =
+run_on was mid is log here retries now old half new before middle after i ended xs ys same_log same_retries up same_count first step =
     let P : Id → Type 0 = λ id. IsRun (mid id) (is id) now half new middle after 1 ended ys in
     let Q : ℕ → Type 0 = λ n. IsRun (mid log) (is log) n half new middle after 1 ended ys in
-    join_run (was log) (mid log) (is log) retries old half new before middle after i ended xs ys first (subst Q same_retries (subst P same_log step)) up
+    join_run (was log) (mid log) (is log) retries old half new before middle after i ended xs ys first (subst Q same_retries (subst P same_log step)) up same_count
 
 -- ---- how it ended
 

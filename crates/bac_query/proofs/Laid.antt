@@ -12,7 +12,7 @@ use Rattle.bac_query.specs.Rows.{AreRows}
 use Rattle.bac_query.specs.declared.layout.Layout.{Layout}
 use Rattle.bac_query.specs.declared.layout.Layout.TheVariants.{Lines, Csv}
 use Rattle.bac_walk.specs.declared.outcome.Why.{Why}
-use Rattle.bac_query.proofs.Delivered.{behind_first, items_text-append, kept_behind, part_of_longer}
+use Rattle.bac_query.proofs.Delivered.{behind_first, items_text-append, part_of_longer}
 
 -- ---- known bytes
 

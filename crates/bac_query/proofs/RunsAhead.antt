@@ -23,6 +23,7 @@ use Rattle.bac_walk.specs.declared.outcome.Why.{Why}
 use Rattle.bac_walk.specs.declared.outcome.Why.TheVariants as why
 use Rattle.bac_walk.proofs.Came.{brought_delivers}
 use Rattle.bac_walk.proofs.Transacted.{brought_plain, transacted_bounded}
+use Rattle.bac_walk.proofs.Joined.{limit_count}
 use Rattle.bac_walk.proofs.Runs.{join_runs, no_run, run_early}
 use Rattle.bac_walk.proofs.Keeps.{put_length}
 use Rattle.bac_walk.proofs.Told.{Asking}
@@ -37,7 +38,7 @@ use Rattle.bac_query.specs.Reading.{Held}
 use Rattle.bac_query.specs.declared.fault.QueryFault.{QueryFault}
 use Rattle.bac_query.specs.declared.fault.QueryFault.TheVariants.{Exchange, Write, Memory}
 use Rattle.bac_query.proofs.CameOver.{tells_end}
-use Rattle.bac_query.proofs.Delivered.{behind_first, items_text-append, not_stopped, part_of_longer}
+use Rattle.bac_query.proofs.Delivered.{not_stopped}
 
 -- ---- runs
 
@@ -65,7 +66,8 @@ over_joins asks t u z link half new w mid after n k xs ys ended was here said (b
       (
         us ++ vs,
         λ on. ap (λ l. l ++ vs) (same limit_on) ∙ ap (λ l. xs ++ l) (as_well on),
-        join_runs never never never t.retries 0 0 0 w mid after n k ended us vs run (subst R leaves.3 goes) (omega arith),
+        join_runs never never never t.retries 0 0 0 w mid after n k ended us vs run (subst R leaves.3 goes) (omega arith)
+            (limit_count asks (towards t.route) t.retries link half w mid n brought.0 xs (brought_plain asks t u link half w mid n brought.0 xs StepLimit brought.1)),
         omega (arith, joined, few, less),
         λ limit. omega (arith, joined, many refl, enough limit),
       ),

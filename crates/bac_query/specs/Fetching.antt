@@ -59,7 +59,7 @@ NextIs (Err fault) t = Unit {0}
 abbrev pub Delivers : (ℕ → List Moment → History → Type 0) → WalkPlace → ℕ → List Item → Fetching → Type 0
 Delivers was walk steps items result =
     (r : ℕ) (M : List Moment) (H : History) (s : ℕ) →
-    was r M H → walk.next ≡ sequence_number s → StaysNear r H M walk.fresh s steps →
+    was r M H → walk.next ≡ sequence_number s → StaysNear r walk.count H M walk.fresh s steps →
     (b : ℕ) × (a : ℕ) × (t : ℕ) × (walk.fresh ≡ false → b ≡ s) × NextIs result t × DeliversTo H b items t M a
 
 -- why the walk ended, and the number that comes next: those of a run of n steps that ended so and left the walk here

@@ -97,6 +97,7 @@ fn deliver_lines<L: LogLink>(
     ensures route { transactions.new.route ≡ transactions.old.route }
     ensures told { Told L.asks (towards transactions.old.route) transactions.old.retries result walk.new link.new }
     ensures log { walk.new.log ≡ walk.old.log }
+    ensures count { walk.new.count ≡ walk.old.count }
     ensures step { (items : List Item) × (result ≢ Ended.Stopped → lines.new.text.items ≡ items_text items)
         × IsRun (λ r M H. L.is_ours link.old walk.old.log r M H) (λ r M H. L.is_ours link.new walk.old.log r M H)
         transactions.old.retries (L.failures link.old) (L.failures link.new) walk.old walk.new 1 result items

@@ -52,7 +52,7 @@ Ours d e events = (n rounds : ℕ) → IsThere d n →
 over : (d e : State) (events : List LinkEvent) (n : ℕ) (fresh : Bool) (s steps : ℕ) (P : List ℕ → Type 0) (said : Option Log) → log_of d n ≡ said
     → 1 ≤ s → s ≤ 4294967295 → Ours d e events
     → ((n : ℕ) → log_of d n ≡ None → Lacks e (log_id n))
-    → ((r : ℕ) (m : Moment) (H : History) (k : ℕ) → IsAhead e events (log_id n) r (m ∷ []) H → s ≡ sequence_number k → (fresh ≡ false → IsNear k m) → P (rested_text (rest r H m fresh k steps)))
+    → ((r : ℕ) (m : Moment) (H : History) (k : ℕ) → IsAhead e events (log_id n) r (m ∷ []) H → s ≡ sequence_number k → (fresh ≡ false → IsNear k m) → P (rested_text (rest r 100 H m fresh k steps)))
     → (Lacks e (log_id n) → P (missed_text s steps))
     → P (walked_text d said fresh s steps)
 over d e events n fresh s steps P None is low high ours lacks rests missing = missing (lacks n is)
@@ -74,15 +74,15 @@ LacksRest d e = (n : ℕ) → log_of d n ≡ None → Lacks e (log_id n)
 -- what a walk over it says of its text
 abbrev Rested : State → List LinkEvent → WalkPlace → ℕ → (List ℕ → Type 0) → Type 0
 Rested e events w steps P = (r : ℕ) (m : Moment) (H : History) (k : ℕ) →
-    IsAhead e events w.log r (m ∷ []) H → w.next ≡ sequence_number k → (w.fresh ≡ false → IsNear k m) → P (rested_text (rest r H m w.fresh k steps))
+    IsAhead e events w.log r (m ∷ []) H → w.next ≡ sequence_number k → (w.fresh ≡ false → IsNear k m) → P (rested_text (rest r w.count H m w.fresh k steps))
 
 abbrev Missed : State → WalkPlace → ℕ → (List ℕ → Type 0) → Type 0
 Missed e w steps P = Lacks e w.log → P (missed_text w.next steps)
 
 at_log : (d e : State) (events : List LinkEvent) (log : Id) (fresh : Bool) (s steps : ℕ) (P : List ℕ → Type 0) → log.kind ≡ 20
     → 1 ≤ s → s ≤ 4294967295 → Ours d e events → LacksRest d e
-    → Rested e events (record { log = log; next = s; fresh = fresh; asks_oldest = false }) steps P
-    → Missed e (record { log = log; next = s; fresh = fresh; asks_oldest = false }) steps P
+    → Rested e events (record { log = log; next = s; fresh = fresh; asks_oldest = false; count = 100 }) steps P
+    → Missed e (record { log = log; next = s; fresh = fresh; asks_oldest = false; count = 100 }) steps P
     → P (walked_text d (log_of d log.instance) fresh s steps)
 at_log d e events log fresh s steps P kind low high ours lacks rests missing =
     let same : log_id log.instance ≡ log = log_is log kind in

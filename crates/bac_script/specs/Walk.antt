@@ -58,7 +58,7 @@ nearest oldest n =
 abbrev pub walked_text : device.State → Option Log → Bool → ℕ → ℕ → List ℕ
 walked_text d None fresh n steps = missed_text n steps
 walked_text d (Some log) fresh n steps =
-    rested_text (rest d.reply_size (held_by log) (moment_by log) fresh (nearest (moment_by log).oldest n) steps)
+    rested_text (rest d.reply_size 100 (held_by log) (moment_by log) fresh (nearest (moment_by log).oldest n) steps)
 
 -- a walk is one of a Trend Log, from a sequence number above 0 or from the oldest record
 abbrev pub begins : Id → Option ℕ → Bool

@@ -20,7 +20,7 @@ use Rattle.bac_log.proofs.Sizes.{entry_sized}
 use Rattle.bac_log.proofs.Filled.{greatest_within}
 use Rattle.bac_link.specs.Delivery.{History, Moment}
 use Rattle.bac_link.specs.Moments.{IsMoment, log_at, entries_from}
-use Rattle.bac_walk.specs.Replies.{IsShown, Wanted, FromOrdinal, FromOldest, extent_of, first_asked, asked_count, fitting, how_many}
+use Rattle.bac_walk.specs.Replies.{IsShown, Wanted, FromOrdinal, FromOldest, count_wanted, extent_of, first_asked, asked_count, fitting, how_many}
 use Rattle.bac_walk.specs.Replies.{IsAnswer}
 use Rattle.bac_walk.specs.Near.{IsNear}
 use Rattle.bac_walk.specs.Takes.{records_of, first_of}
@@ -69,8 +69,8 @@ greatest_same p q (suc n) same =
     ∙ ap (λ (g : ℕ). if q (suc n) then suc n else g) (greatest_same p q n (λ k a b. same k a (omega arith)))
 
 shows : (wanted : Wanted) → shows_number (extent_of wanted) ≡ true
-shows (FromOrdinal n) = refl
-shows FromOldest = refl
+shows (FromOrdinal n count) = refl
+shows (FromOldest count) = refl
 
 first-numbered : (wanted : Wanted) (first : ℕ) (es : List Entry) → 0 < length es → first_shown (extent_of wanted) (numbered first es) ≡ Some (sequence_number first)
 first-numbered wanted first [] some = absurd (omega arith)
@@ -111,8 +111,8 @@ fitting_some r first es room l some =
 
 -- an ordinal that is asked for by its number is near
 abbrev pub IsNearTo : Wanted → Moment → Type 0
-IsNearTo (FromOrdinal s) m = IsNear s m
-IsNearTo FromOldest m = Unit {0}
+IsNearTo (FromOrdinal s count) m = IsNear s m
+IsNearTo (FromOldest count) m = Unit {0}
 
 module _ (m : Moment) (H : History) (sound : IsMoment H.logged m) (within : m.newest ≤ H.logged + length H.entries) (loggable : All IsLoggable (log_at m H).entries) where
   length_held : length (log_at m H).entries ≡ m.newest + 1 - m.oldest
@@ -128,66 +128,66 @@ module _ (m : Moment) (H : History) (sound : IsMoment H.logged m) (within : m.ne
       (All-take IsLoggable c (drop (first - m.oldest) (log_at m H).entries) (All-drop IsLoggable (first - m.oldest) (log_at m H).entries loggable))
 
   part_loggable : (wanted : Wanted) → All IsLoggable (entries_from H (first_asked wanted m) (asked_count wanted m))
-  part_loggable (FromOrdinal s) = cut_loggable (max s m.oldest) (asked_count (FromOrdinal s) m) (omega arith) (omega arith)
-  part_loggable FromOldest = cut_loggable m.oldest (asked_count FromOldest m) (omega arith) (omega arith)
+  part_loggable (FromOrdinal s count) = cut_loggable (max s m.oldest) (asked_count (FromOrdinal s count) m) (omega arith) (omega arith)
+  part_loggable (FromOldest count) = cut_loggable m.oldest (asked_count (FromOldest count) m) (omega arith) (omega arith)
 
   pub shown : IsShown (log_at m H)
   shown = record { few = omega (arith, length_held, sound.few); loggable = loggable }
 
   -- what a walk's question selects
-  selected-is : (wanted : Wanted) → IsNearTo wanted m → selected (log_at m H) (extent_of wanted) ≡ numbered (first_asked wanted m) (entries_from H (first_asked wanted m) (asked_count wanted m))
-  selected-is (FromOrdinal s) near =
+  selected-is : (wanted : Wanted) → count_wanted wanted < 2147483648 → IsNearTo wanted m → selected (log_at m H) (extent_of wanted) ≡ numbered (first_asked wanted m) (entries_from H (first_asked wanted m) (asked_count wanted m))
+  selected-is (FromOrdinal s count) small near =
       let log : Log = log_at m H in
       let f : ℕ = max s m.oldest in
-      let count : min ((s + 100) - f) (m.newest + 1 - f) ≡ asked_count (FromOrdinal s) m = omega arith in
-      selected-by_number log s shown.few (omega (arith, oldest_is, near.above)) (omega (arith, oldest_is, near.below))
-      ∙ ap (λ k. numbered (max s k) (take ((s + 100) - max s k) (drop (max s k - k) log.entries))) oldest_is
-      ∙ ap (λ (l : List Entry). numbered f l) (held_part H m f ((s + 100) - f) sound.above (omega arith) ∙ ap (λ c. entries_from H f c) count)
-  selected-is FromOldest near = elim (cases_lt 0 (length (log_at m H).entries)) [
+      let many : min ((s + count) - f) (m.newest + 1 - f) ≡ asked_count (FromOrdinal s count) m = omega arith in
+      selected-by_number log s count (omega (arith, small)) shown.few (omega (arith, oldest_is, near.above)) (omega (arith, oldest_is, near.below))
+      ∙ ap (λ k. numbered (max s k) (take ((s + count) - max s k) (drop (max s k - k) log.entries))) oldest_is
+      ∙ ap (λ (l : List Entry). numbered f l) (held_part H m f ((s + count) - f) sound.above (omega arith) ∙ ap (λ c. entries_from H f c) many)
+  selected-is (FromOldest count) small near = elim (cases_lt 0 (length (log_at m H).entries)) [
     | inl some ↦
         let log : Log = log_at m H in
-        let count : min 100 (m.newest + 1 - m.oldest) ≡ asked_count FromOldest m = omega arith in
-        selected-from_oldest log shown some
-        ∙ ap (λ k. numbered k (take 100 log.entries)) oldest_is
-        ∙ ap (λ (l : List Entry). numbered m.oldest l) (take_min 100 (m.newest + 1 - m.oldest) (drop (m.oldest - (H.logged + 1)) H.entries) ∙ ap (λ c. entries_from H m.oldest c) count)
+        let many : min count (m.newest + 1 - m.oldest) ≡ asked_count (FromOldest count) m = omega arith in
+        selected-from_oldest log count shown some
+        ∙ ap (λ k. numbered k (take count log.entries)) oldest_is
+        ∙ ap (λ (l : List Entry). numbered m.oldest l) (take_min count (m.newest + 1 - m.oldest) (drop (m.oldest - (H.logged + 1)) H.entries) ∙ ap (λ c. entries_from H m.oldest c) many)
     | inr none ↦
         let zero_newest : m.newest + 1 - m.oldest ≡ 0 = omega (arith, length_held) in
-        let count : asked_count FromOldest m ≡ 0 = omega (arith, zero_newest) in
+        let nothing : asked_count (FromOldest count) m ≡ 0 = omega (arith, zero_newest) in
         let empty : (log_at m H).entries ≡ [] = ap (λ c. entries_from H m.oldest c) zero_newest in
-        none_selected (log_at m H) empty ∙ ap (λ c. numbered m.oldest (entries_from H m.oldest c)) (sym count)
+        none_selected (log_at m H) empty ∙ ap (λ c. numbered m.oldest (entries_from H m.oldest c)) (sym nothing)
   ]
     where
-      none_selected : (log : Log) → log.entries ≡ [] → selected log (extent_of FromOldest) ≡ []
+      none_selected : (log : Log) → log.entries ≡ [] → selected log (extent_of (FromOldest count)) ≡ []
       none_selected log none = rw none refl
 
   length_asked : (wanted : Wanted) → length (entries_from H (first_asked wanted m) (asked_count wanted m)) ≡ asked_count wanted m
-  length_asked (FromOrdinal s) = length-take-le (asked_count (FromOrdinal s) m) (drop (max s m.oldest - (H.logged + 1)) H.entries) (omega (arith, sound.above, length-drop (max s m.oldest - (H.logged + 1)) H.entries))
-  length_asked FromOldest = length-take-le (asked_count FromOldest m) (drop (m.oldest - (H.logged + 1)) H.entries) (omega (arith, sound.above, length-drop (m.oldest - (H.logged + 1)) H.entries))
+  length_asked (FromOrdinal s count) = length-take-le (asked_count (FromOrdinal s count) m) (drop (max s m.oldest - (H.logged + 1)) H.entries) (omega (arith, sound.above, length-drop (max s m.oldest - (H.logged + 1)) H.entries))
+  length_asked (FromOldest count) = length-take-le (asked_count (FromOldest count) m) (drop (m.oldest - (H.logged + 1)) H.entries) (omega (arith, sound.above, length-drop (m.oldest - (H.logged + 1)) H.entries))
 
   pub many_most : (r : ℕ) (wanted : Wanted) → how_many r H wanted m ≤ asked_count wanted m
   many_most r wanted = omega (arith, length_asked wanted, fitting_most r (first_asked wanted m) (entries_from H (first_asked wanted m) (asked_count wanted m)))
 
-  pub packed-is : (r : ℕ) (wanted : Wanted) → IsNearTo wanted m → packed (extent_of wanted) r (selected (log_at m H) (extent_of wanted)) ≡ numbered (first_asked wanted m) (entries_from H (first_asked wanted m) (how_many r H wanted m))
-  packed-is r wanted near =
+  pub packed-is : (r : ℕ) (wanted : Wanted) → count_wanted wanted < 2147483648 → IsNearTo wanted m → packed (extent_of wanted) r (selected (log_at m H) (extent_of wanted)) ≡ numbered (first_asked wanted m) (entries_from H (first_asked wanted m) (how_many r H wanted m))
+  packed-is r wanted small near =
       let f : ℕ = first_asked wanted m in
       let c : ℕ = asked_count wanted m in
       let n : ℕ = how_many r H wanted m in
       let least : min n c ≡ n = omega (arith, many_most r wanted) in
-      ap (λ (rs : List HeldEntry). packed (extent_of wanted) r rs) (selected-is wanted near)
+      ap (λ (rs : List HeldEntry). packed (extent_of wanted) r rs) (selected-is wanted small near)
       ∙ packed-numbered r wanted f (entries_from H f c)
       ∙ ap (λ (l : List Entry). numbered f l) (take_min n c (drop (f - (H.logged + 1)) H.entries) ∙ ap (λ k. entries_from H f k) least)
 
   -- the records and the first number of a reply of ours are the whole reply of the moment
-  pub answer_is : (r : ℕ) (wanted : Wanted) → IsNearTo wanted m → 44 ≤ r → IsAnswer r m H wanted (first_of r (log_at m H) (extent_of wanted)) (records_of r (log_at m H) (extent_of wanted))
-  answer_is r wanted near room =
+  pub answer_is : (r : ℕ) (wanted : Wanted) → count_wanted wanted < 2147483648 → IsNearTo wanted m → 44 ≤ r → IsAnswer r m H wanted (first_of r (log_at m H) (extent_of wanted)) (records_of r (log_at m H) (extent_of wanted))
+  answer_is r wanted small near room =
       let f : ℕ = first_asked wanted m in
       let n : ℕ = how_many r H wanted m in
       let size : length (entries_from H f n) ≡ n =
       ap (λ (l : List Entry). length l) (sym (take_min n (asked_count wanted m) (drop (f - (H.logged + 1)) H.entries) ∙ ap (λ k. entries_from H f k) (let e : min n (asked_count wanted m) ≡ n = omega (arith, many_most r wanted) in e)))
       ∙ length-take-le n (entries_from H f (asked_count wanted m)) (omega (arith, many_most r wanted, length_asked wanted)) in
       record {
-        entries = ap (λ (rs : List HeldEntry). entries_in rs) (packed-is r wanted near) ∙ entries_in-numbered f (entries_from H f n);
-        first_is = λ some. ap (λ (rs : List HeldEntry). first_shown (extent_of wanted) rs) (packed-is r wanted near) ∙ first-numbered wanted f (entries_from H f n) (omega (arith, size, some));
+        entries = ap (λ (rs : List HeldEntry). entries_in rs) (packed-is r wanted small near) ∙ entries_in-numbered f (entries_from H f n);
+        first_is = λ some. ap (λ (rs : List HeldEntry). first_shown (extent_of wanted) rs) (packed-is r wanted small near) ∙ first-numbered wanted f (entries_from H f n) (omega (arith, size, some));
         some = λ asked. fitting_some r f (entries_from H f (asked_count wanted m)) room (part_loggable wanted) (omega (arith, length_asked wanted, asked));
         most = many_most r wanted;
       }

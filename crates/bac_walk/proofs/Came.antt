@@ -1,5 +1,5 @@
 -- What came over a link is delivered.
-use Rattle.std.proofs.Common.{◌≡◌, ℕ, zero, suc, ◌+◌, ◌-◌, ◌<◌, ◌≤◌, ◌⊎◌, ◌||◌, if◌then◌else◌, inl, inr, Bool, true, false, Result, Ok, Err, List, [], ◌∷◌, length, length-append, drop, take, ◌++◌, refl, sym, ap, subst, ◌∙◌, arith, append_assoc, append-nil}
+use Rattle.std.proofs.Common.{◌≡◌, ℕ, zero, suc, ◌+◌, ◌<◌, ◌≤◌, ◌⊎◌, ◌||◌, if◌then◌else◌, inl, inr, Bool, true, false, Result, Ok, Err, List, [], ◌∷◌, length, length-append, drop, take, ◌++◌, refl, sym, ap, subst, ◌∙◌, arith, append_assoc, append-nil}
 use Rattle.std.proofs.Math.Seq.{take-append_seam}
 use Rattle.bac_link.proofs.Delivers.{brings_cut}
 pub use Rattle.bac_link.proofs.Growing.{window_at as window_now}
@@ -216,7 +216,7 @@ came_leads asks path retries [] old new w after H M low s comes said here some b
 came_leads asks path retries (c ∷ came) old new w after H M low s (mid, next, p, place, asked, taken, is, rest) said here some back window at =
     let P : WalkPlace → Type 0 = λ v. IsSaidAt (now M) H v.log (asked_by v) c.datagram in
     let says = subst P place said.0 in
-    let means = said_means H (now M) low s w (heard_in w.log c.datagram) says.heard (Ok p) next says.reads (window_now low M some window) here at says.counts says.says taken in
+    let means = said_means H (now M) low s w (heard_in w.log c.datagram) says.heard (Ok p) next says.reads says.asks (window_now low M some window) here at says.counts says.says taken in
     with_rest H M low s w next after p c came some back (window_now low M some window) means is place here at (after_is came rest)
     (λ u shown in_window. came_leads asks path retries came mid new next after H (later M) low u rest said.1 shown (some_later M some) (back_later M back) (window_later low M window) in_window)
   where
@@ -242,7 +242,7 @@ came_delivers asks = λ path retries old new w after came H M low s comes said h
 
 pub said_taken : SaidIsTaken
 said_taken = λ m H low s w after datagram bad says here window at taken.
-    said_means H m low s w (heard_in w.log datagram) says.heard (Err bad) after says.reads window here at says.counts says.says taken
+    said_means H m low s w (heard_in w.log datagram) says.heard (Err bad) after says.reads says.asks window here at says.counts says.says taken
 
 -- ---- answers that are cut
 

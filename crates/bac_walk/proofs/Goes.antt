@@ -45,15 +45,15 @@ goes_on next first s e es false is shows here =
     (_, rest.0, rest.1)
 
 -- the batch of a walk in either state
-goes_batch : (log : Id) (next s first : ℕ) (fresh asks : Bool) (e : Entry) (es : List Entry) (items : List Item) →
-    fits (record { log = log; next = next; fresh = fresh; asks_oldest = asks }) first (length (e ∷ es)) ≡ true →
-    items ≡ brought (record { log = log; next = next; fresh = fresh; asks_oldest = asks }) first (e ∷ es) →
+goes_batch : (log : Id) (next s first count : ℕ) (fresh asks : Bool) (e : Entry) (es : List Entry) (items : List Item) →
+    fits (record { log = log; next = next; fresh = fresh; asks_oldest = asks; count = count }) first (length (e ∷ es)) ≡ true →
+    items ≡ brought (record { log = log; next = next; fresh = fresh; asks_oldest = asks; count = count }) first (e ∷ es) →
     Goes fresh next s items false (number_after first (length (e ∷ es)))
-goes_batch log next s first true asks e es items fit is =
+goes_batch log next s first count true asks e es items fit is =
     let P : List Item → Type 0 = λ xs. Goes true next s xs false (number_after first (length (e ∷ es))) in
     subst P (sym is) (λ here. (_, (covers_shown s first (e ∷ es) here).0, (covers_shown s first (e ∷ es) here).1), refl)
-goes_batch log next s first false asks e es items fit is =
-    let shows : is_number first ≡ true = (and_parts (is_number first) _ (and_parts (nat_le (length (e ∷ es)) 100) _ fit).1).0 in
+goes_batch log next s first count false asks e es items fit is =
+    let shows : is_number first ≡ true = (and_parts (is_number first) _ (and_parts (nat_le (length (e ∷ es)) count) _ fit).1).0 in
     gone (nat_lt 0 (distance next first)) refl shows is
   where
     gone : (lt : Bool) → nat_lt 0 (distance next first) ≡ lt → is_number first ≡ true →
@@ -90,7 +90,7 @@ brings w s (Some g) count (e ∷ es) f items is eq = of_some (is_past w g) (coun
     of_some false true true fit h =
         let same : g ≡ f = cc in
         let Q : ℕ → Type 0 = λ n. fits w n (length (e ∷ es)) ≡ true in
-        goes_batch w.log w.next s f w.fresh w.asks_oldest e es items (subst Q same fit) eq
+        goes_batch w.log w.next s f w.count w.fresh w.asks_oldest e es items (subst Q same fit) eq
 
 by_verdict : (w : WalkPlace) (s : ℕ) (first : Option ℕ) (count : ℕ) (es : List Entry) (p : Progress) (after : WalkPlace) (v : NextAct) → verdict w first count es ≡ v →
     IsTaken w es v (Ok p) after → Goes w.fresh w.next s (turn_items (Ok p)) after.fresh after.next

@@ -89,13 +89,13 @@ first_of [] z = (z, [], refl)
 first_of (p ∷ pre) z = (p, pre ++ z ∷ [], refl)
 
 -- the answers of a run of one step, cut after an entry
-record CutRun (r : ℕ) (H : History) (M : List Moment) (fresh : Bool) (next retries old new k : ℕ) (items : List Item) (answers : List (List Item)) : Type 0 where
+record CutRun (r count : ℕ) (H : History) (M : List Moment) (fresh : Bool) (next retries old new k : ℕ) (items : List Item) (answers : List (List Item)) : Type 0 where
   t : ℕ
   shown : number_after k 1 ≡ sequence_number t
   cut : List (List Item)
-  count : length cut ≡ length answers
+  many : length cut ≡ length answers
   some : 0 < batches cut
-  run : Collected r H M fresh next 1 retries old new items t Stopped cut
+  run : Collected r count H M fresh next 1 retries old new items t Stopped cut
 
 -- one batch, from an ordinal
 cut_batch : (H : History) (m : Moment) (s t k : ℕ) (e : Entry) (pre post : List Item) (batch reply : List Item) (y : Item) (ys : List Item) →
@@ -122,26 +122,26 @@ same_second : (fresh : Bool) (next : ℕ) (M : List Moment) (x y : Item) (b ys :
 same_second true next M x y b ys = refl
 same_second false next M x y b ys = refl
 
-cut_run : (r : ℕ) (H : History) (M : List Moment) (fresh : Bool) (next retries old new t k : ℕ) (e : Entry) (pre post : List Item) (answers : List (List Item)) →
-    Collected r H M fresh next 1 retries old new (pre ++ Logged k e ∷ post) t StepLimit answers →
-    CutRun r H M fresh next retries old new k (pre ++ Logged k e ∷ []) answers
-cut_run r H M fresh next retries old new t k e [] post [] run = absurd (let h = run.all in cc)
-cut_run r H M fresh next retries old new t k e (p ∷ pre) post [] run = absurd (let h = run.all in cc)
-cut_run r H M fresh next retries old new t k e pre post ([] ∷ []) run = absurd run.end.1
-cut_run r H M fresh next retries old new t k e pre post ([] ∷ [] ∷ answers) run = absurd run.end.1
-cut_run r H M fresh next retries old new t k e pre post ((x ∷ b) ∷ z ∷ answers) run = absurd (omega (arith, run.end.0, whole_some z answers run.end.1))
-cut_run r H M fresh next retries old new t k e pre post ([] ∷ (x ∷ b) ∷ z ∷ answers) run = absurd (omega (arith, run.end.0, whole_some z answers run.end.1))
-cut_run r H M fresh next retries old new t k e pre post ((x ∷ b) ∷ []) run =
+cut_run : (r count : ℕ) (H : History) (M : List Moment) (fresh : Bool) (next retries old new t k : ℕ) (e : Entry) (pre post : List Item) (answers : List (List Item)) →
+    Collected r count H M fresh next 1 retries old new (pre ++ Logged k e ∷ post) t StepLimit answers →
+    CutRun r count H M fresh next retries old new k (pre ++ Logged k e ∷ []) answers
+cut_run r count H M fresh next retries old new t k e [] post [] run = absurd (let h = run.all in cc)
+cut_run r count H M fresh next retries old new t k e (p ∷ pre) post [] run = absurd (let h = run.all in cc)
+cut_run r count H M fresh next retries old new t k e pre post ([] ∷ []) run = absurd run.end.1
+cut_run r count H M fresh next retries old new t k e pre post ([] ∷ [] ∷ answers) run = absurd run.end.1
+cut_run r count H M fresh next retries old new t k e pre post ((x ∷ b) ∷ z ∷ answers) run = absurd (omega (arith, run.end.0, whole_some z answers run.end.1))
+cut_run r count H M fresh next retries old new t k e pre post ([] ∷ (x ∷ b) ∷ z ∷ answers) run = absurd (omega (arith, run.end.0, whole_some z answers run.end.1))
+cut_run r count H M fresh next retries old new t k e pre post ((x ∷ b) ∷ []) run =
     let (y, ys, same) = first_of pre (Logged k e) in
     let c = cut_batch H (now M) (start_of fresh next M ((x ∷ b) ∷ [])) run.leads.0 k e pre post (x ∷ b) _ y ys
     (sym (append-nil (x ∷ b)) ∙ run.all) same run.leads.1 run.leads.2 in
-    let P : List Item → Type 0 = λ l. CutRun r H M fresh next retries old new k l ((x ∷ b) ∷ []) in
-    let Q : ℕ → Type 0 = λ n. LeadsInSteps Stopped r H M false n ((y ∷ ys) ∷ []) c.0 in
+    let P : List Item → Type 0 = λ l. CutRun r count H M fresh next retries old new k l ((x ∷ b) ∷ []) in
+    let Q : ℕ → Type 0 = λ n. LeadsInSteps Stopped r count H M false n ((y ∷ ys) ∷ []) c.0 in
     subst P (sym same) (record {
       t = c.0;
       shown = c.1;
       cut = (y ∷ ys) ∷ [];
-      count = refl;
+      many = refl;
       some = omega arith;
       run = record {
         all = append-nil (y ∷ ys);
@@ -151,17 +151,17 @@ cut_run r H M fresh next retries old new t k e pre post ((x ∷ b) ∷ []) run =
         end = (omega arith, omega arith, tt);
       };
     })
-cut_run r H M fresh next retries old new t k e pre post ([] ∷ (x ∷ b) ∷ []) run =
+cut_run r count H M fresh next retries old new t k e pre post ([] ∷ (x ∷ b) ∷ []) run =
     let (y, ys, same) = first_of pre (Logged k e) in
     let c = cut_batch H (now (later M)) (start_of fresh next M ([] ∷ (x ∷ b) ∷ [])) run.leads.1.0 k e pre post (x ∷ b) _ y ys
     (sym (append-nil (x ∷ b)) ∙ run.all) same run.leads.1.1 run.leads.1.2 in
-    let P : List Item → Type 0 = λ l. CutRun r H M fresh next retries old new k l ([] ∷ (x ∷ b) ∷ []) in
-    let Q : ℕ → Type 0 = λ n. LeadsInSteps Stopped r H M false n ([] ∷ (y ∷ ys) ∷ []) c.0 in
+    let P : List Item → Type 0 = λ l. CutRun r count H M fresh next retries old new k l ([] ∷ (x ∷ b) ∷ []) in
+    let Q : ℕ → Type 0 = λ n. LeadsInSteps Stopped r count H M false n ([] ∷ (y ∷ ys) ∷ []) c.0 in
     subst P (sym same) (record {
       t = c.0;
       shown = c.1;
       cut = [] ∷ (y ∷ ys) ∷ [];
-      count = refl;
+      many = refl;
       some = omega arith;
       run = record {
         all = append-nil (y ∷ ys);
@@ -176,9 +176,9 @@ cut_run r H M fresh next retries old new t k e pre post ([] ∷ (x ∷ b) ∷ []
 abbrev pub IsStep : (ℕ → List Moment → History → Type 0) → (ℕ → List Moment → History → Type 0) → ℕ → ℕ → ℕ → WalkPlace → WalkPlace → Result Step WalkFault → Type 0
 IsStep was is retries old new before after z =
     ((s : ℕ) → Goes before.fresh before.next s (step_items z) after.fresh after.next)
-    × ((r : ℕ) (M : List Moment) (H : History) (s : ℕ) → was r M H → before.next ≡ sequence_number s → (before.fresh ≡ false → IsNearStep s M) →
+    × ((r : ℕ) (M : List Moment) (H : History) (s : ℕ) → was r M H → before.next ≡ sequence_number s → (before.fresh ≡ false → IsNearStep before.count s M) →
     (answers : List (List Item)) × (t : ℕ) × (after.next ≡ sequence_number t)
-    × Collected r H M before.fresh s 1 retries old new (step_items z) t (step_ended z) answers
+    × Collected r before.count H M before.fresh s 1 retries old new (step_items z) t (step_ended z) answers
     × is r (after_answers (length answers) M) H × (after.fresh ≡ is_fresh_after before.fresh z))
 
 -- a step is a run of one step
@@ -187,23 +187,23 @@ run_of_step : (was is : ℕ → List Moment → History → Type 0) (retries old
 run_of_step was is retries old new before after z step = (
   step.0,
   λ r M H s ours next near.
-      let run = step.1 r M H s ours next (at_once r H M before.fresh s 1 retries old (omega arith) near) in
-      (run.0, run.1, run.2, run.3, run.4, step_fresh r H M before.fresh after.fresh s retries old new run.1 z run.0 run.3 run.5),
+      let run = step.1 r M H s ours next (at_once r before.count H M before.fresh s 1 retries old (omega arith) near) in
+      (run.0, run.1, run.2, run.3, run.4, step_fresh r before.count H M before.fresh after.fresh s retries old new run.1 z run.0 run.3 run.5),
 )
 
 -- a step whose batch was cut
 run_of_cut : (was is : ℕ → List Moment → History → Type 0) (retries old new k : ℕ) (e : Entry) (before after : WalkPlace) (pre post : List Item) →
     IsRun was is retries old new before after 1 StepLimit (pre ++ Logged k e ∷ post) →
-    IsRun was is retries old new before (record { log = after.log; next = number_after k 1; fresh = false; asks_oldest = false }) 1 Stopped (pre ++ Logged k e ∷ [])
+    IsRun was is retries old new before (record after { next = number_after k 1; fresh = false; asks_oldest = false }) 1 Stopped (pre ++ Logged k e ∷ [])
 run_of_cut was is retries old new k e before after pre post run = (
   (λ s. cut_goes before.fresh before.next s pre k e post after.fresh after.next (run.0 s)),
   (λ r M H s ours next near.
       let whole = run.1 r M H s ours next near in
-      let c = cut_run r H M before.fresh s retries old new whole.1 k e pre post whole.0 whole.3 in
+      let c = cut_run r before.count H M before.fresh s retries old new whole.1 k e pre post whole.0 whole.3 in
       let P : ℕ → Type 0 = λ a. is r (after_answers a M) H in
       let some : 0 < batches whole.0 = omega (arith, whole.3.end.0) in
       let fresh : IsFreshAfter before.fresh c.cut false = record { none = λ h. absurd (omega (arith, h, c.some)); some = λ h. refl } in
-      (c.cut, c.t, c.shown, c.run, subst P (sym c.count) whole.4, fresh)),
+      (c.cut, c.t, c.shown, c.run, subst P (sym c.many) whole.4, fresh)),
 )
 
 pub map-append : (xs ys : List Numbered) → map item_of (xs ++ ys) ≡ map item_of xs ++ map item_of ys
@@ -237,8 +237,8 @@ of_batch puts sink left was is retries old new before mid b (Some n) most some r
     ∙ ap (λ l. gap_items b.gap ++ l) (map-append c.before (c.last ∷ []))
     ∙ sym (append_assoc (gap_items b.gap) (map item_of c.before) (one ∷ [])) in
     let P : List Item → Type 0 = λ l. IsRun was is retries old new before mid 1 StepLimit l in
-    let Q : ℕ → Type 0 = λ m. IsRun was is retries old new before (record { log = mid.log; next = number_after m 1; fresh = false; asks_oldest = false }) 1 Stopped (pre ++ one ∷ []) in
-    let R : List Item → Type 0 = λ l. IsRun was is retries old new before (record { log = mid.log; next = number_after n 1; fresh = false; asks_oldest = false }) 1 Stopped l in (
+    let Q : ℕ → Type 0 = λ m. IsRun was is retries old new before (record mid { next = number_after m 1; fresh = false; asks_oldest = false }) 1 Stopped (pre ++ one ∷ []) in
+    let R : List Item → Type 0 = λ l. IsRun was is retries old new before (record mid { next = number_after n 1; fresh = false; asks_oldest = false }) 1 Stopped l in (
       calls_of b.gap (c.before ++ c.last ∷ []),
       c.takes,
       omega (arith, length-calls b.gap (c.before ++ c.last ∷ []), ap length c.is, length-append c.before (c.last ∷ c.after), length-append c.before (c.last ∷ [])),

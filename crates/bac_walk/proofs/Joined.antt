@@ -17,8 +17,23 @@ use Rattle.bac_walk.specs.declared.outcome.Ended.TheVariants.{CaughtUp, StepLimi
 use Rattle.bac_walk.specs.declared.outcome.Progress.{Progress}
 use Rattle.bac_walk.specs.declared.outcome.Progress.TheVariants.{Batch as BatchOf, AskOldest, CaughtUp as IsUp}
 use Rattle.bac_walk.proofs.Told.{Asking}
+use Rattle.bac_walk.proofs.WalkTakes.{count_stays}
 use Rattle.bac_walk.proofs.Joins.{batches-append}
 use Rattle.bac_walk.proofs.Cuts.{items_of-append}
+
+-- ---- how many records are asked for
+
+pub comes_count : {S : Type 0} (asks : Asking S) (path : Path) (retries : ℕ) (came : List Came) (old new : S) (w after : WalkPlace) →
+    Comes asks path retries old w came after new → after.count ≡ w.count
+comes_count asks path retries [] old new w after comes = ap (λ (v : WalkPlace). v.count) comes.0
+comes_count asks path retries (c ∷ came) old new w after (half, next, p, place, asked, taken, is, more) =
+    comes_count asks path retries came half new next after more ∙ count_stays w (heard_in w.log c.datagram) p next taken
+
+-- a run whose steps were all whole leaves that
+pub limit_count : {S : Type 0} (asks : Asking S) (path : Path) (retries : ℕ) (old new : S) (w after : WalkPlace) (steps : ℕ) (came : List Came) (items : List Item) →
+    Brought asks path retries old w steps came items StepLimit after new → after.count ≡ w.count
+limit_count asks path retries old new w after steps came items (here, mid, comes, ends, are) =
+    ap (λ (v : WalkPlace). v.count) ends.2 ∙ comes_count asks path retries came old mid (restarted w) here comes
 
 -- ---- two in a row
 

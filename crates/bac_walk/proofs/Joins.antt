@@ -42,25 +42,25 @@ whole_of Stopped [] [] items reply is = ([], append-nil items ∙ is)
 whole_of (Fault e) [] [] items reply is = is
 
 -- whole steps, and others after them
-LeadsInSteps-append : (ended : Ended) (r : ℕ) (H : History) (M : List Moment) (s t u : ℕ) (xs ys : List (List Item)) → IsWhole xs →
-    LeadsInSteps StepLimit r H M false s xs t → LeadsInSteps ended r H (after_answers (length xs) M) false t ys u → LeadsInSteps ended r H M false s (xs ++ ys) u
-LeadsInSteps-append ended r H M s t u [] ys whole first rest = let P : ℕ → Type 0 = λ n. LeadsInSteps ended r H M false n ys u in subst P first rest
-LeadsInSteps-append ended r H M s t u ([] ∷ []) ys whole first rest = absurd whole
-LeadsInSteps-append ended r H M s t u ([] ∷ [] ∷ xs) ys whole first rest = absurd whole
-LeadsInSteps-append ended r H M s t u ([] ∷ (x ∷ b) ∷ xs) ys whole first rest = (
+LeadsInSteps-append : (ended : Ended) (r count : ℕ) (H : History) (M : List Moment) (s t u : ℕ) (xs ys : List (List Item)) → IsWhole xs →
+    LeadsInSteps StepLimit r count H M false s xs t → LeadsInSteps ended r count H (after_answers (length xs) M) false t ys u → LeadsInSteps ended r count H M false s (xs ++ ys) u
+LeadsInSteps-append ended r count H M s t u [] ys whole first rest = let P : ℕ → Type 0 = λ n. LeadsInSteps ended r count H M false n ys u in subst P first rest
+LeadsInSteps-append ended r count H M s t u ([] ∷ []) ys whole first rest = absurd whole
+LeadsInSteps-append ended r count H M s t u ([] ∷ [] ∷ xs) ys whole first rest = absurd whole
+LeadsInSteps-append ended r count H M s t u ([] ∷ (x ∷ b) ∷ xs) ys whole first rest = (
   first.0,
   (
     first.1.0,
     first.1.1,
     whole_of ended xs ys (x ∷ b) _ first.1.2,
-    LeadsInSteps-append ended r H (later (later M)) first.1.0 t u xs ys whole first.1.3 rest,
+    LeadsInSteps-append ended r count H (later (later M)) first.1.0 t u xs ys whole first.1.3 rest,
   ),
 )
-LeadsInSteps-append ended r H M s t u ((x ∷ b) ∷ xs) ys whole first rest = (
+LeadsInSteps-append ended r count H M s t u ((x ∷ b) ∷ xs) ys whole first rest = (
   first.0,
   first.1,
   whole_of ended xs ys (x ∷ b) _ first.2,
-  LeadsInSteps-append ended r H (later M) first.0 t u xs ys whole first.3 rest,
+  LeadsInSteps-append ended r count H (later M) first.0 t u xs ys whole first.3 rest,
 )
 
 pub whole_some : (y : List Item) (ys : List (List Item)) → IsWhole (y ∷ ys) → 0 < batches (y ∷ ys)
@@ -124,32 +124,32 @@ ended_after (Fault (Refused refusal)) fresh mid_fresh t M xs ys i j retries old 
 ended_after (Fault BadReply) fresh mid_fresh t M xs ys i j retries old mid new same count whole up ended = ended
 
 -- a run that brought something, and one after it
-join_some : (r : ℕ) (H : History) (M : List Moment) (fresh : Bool) (next i j retries old mid new : ℕ) (items more : List Item) (t u : ℕ) (why : Ended)
+join_some : (r count : ℕ) (H : History) (M : List Moment) (fresh : Bool) (next i j retries old mid new : ℕ) (items more : List Item) (t u : ℕ) (why : Ended)
     (x : List Item) (xs ys : List (List Item)) →
-    Collected r H M fresh next i retries old mid items t StepLimit (x ∷ xs) →
-    Collected r H (after_answers (length (x ∷ xs)) M) false t j retries mid new more u why ys → old ≤ mid →
-    Collected r H M fresh next (i + j) retries old new (items ++ more) u why ((x ∷ xs) ++ ys)
-join_some r H M fresh next i j retries old mid new items more t u why x xs ys first rest up =
+    Collected r count H M fresh next i retries old mid items t StepLimit (x ∷ xs) →
+    Collected r count H (after_answers (length (x ∷ xs)) M) false t j retries mid new more u why ys → old ≤ mid →
+    Collected r count H M fresh next (i + j) retries old new (items ++ more) u why ((x ∷ xs) ++ ys)
+join_some r count H M fresh next i j retries old mid new items more t u why x xs ys first rest up =
     let whole : IsWhole (x ∷ xs) = first.end.1 in
     let start : start_of fresh next M ((x ∷ xs) ++ ys) ≡ start_of fresh next M (x ∷ xs) = start_of-append fresh next M x xs ys whole in
-    let P : ℕ → Type 0 = λ n. LeadsInSteps why r H M false n ((x ∷ xs) ++ ys) u in
+    let P : ℕ → Type 0 = λ n. LeadsInSteps why r count H M false n ((x ∷ xs) ++ ys) u in
     record {
       all = items_of-append (x ∷ xs) ys ∙ ap (λ n. n ++ items_of ys) first.all ∙ ap (λ n. items ++ n) rest.all;
-      leads = subst P (sym start) (LeadsInSteps-append why r H M (start_of fresh next M (x ∷ xs)) t u (x ∷ xs) ys whole first.leads rest.leads);
+      leads = subst P (sym start) (LeadsInSteps-append why r count H M (start_of fresh next M (x ∷ xs)) t u (x ∷ xs) ys whole first.leads rest.leads);
       twice_steps = omega (arith, length-append (x ∷ xs) ys, first.twice_steps, rest.twice_steps);
       twice_batches = omega (arith, length-append (x ∷ xs) ys, batches-append (x ∷ xs) ys, whole_twice (x ∷ xs) whole, rest.twice_batches);
       end = ended_after why fresh false u M (x ∷ xs) ys i j retries old mid new (λ h. absurd (omega (arith, h, whole_some x xs whole))) first.end.0 whole up rest.end;
     }
 
 -- a run that brought nothing, and one after it
-join_none : (r : ℕ) (H : History) (M : List Moment) (fresh : Bool) (next i j retries old mid new : ℕ) (items more : List Item) (t u : ℕ) (why : Ended)
+join_none : (r count : ℕ) (H : History) (M : List Moment) (fresh : Bool) (next i j retries old mid new : ℕ) (items more : List Item) (t u : ℕ) (why : Ended)
     (ys : List (List Item)) →
-    Collected r H M fresh next i retries old mid items t StepLimit [] →
-    Collected r H M fresh t j retries mid new more u why ys → old ≤ mid →
-    Collected r H M fresh next (i + j) retries old new (items ++ more) u why ys
-join_none r H M fresh next i j retries old mid new [] more t u why ys first rest up =
+    Collected r count H M fresh next i retries old mid items t StepLimit [] →
+    Collected r count H M fresh t j retries mid new more u why ys → old ≤ mid →
+    Collected r count H M fresh next (i + j) retries old new (items ++ more) u why ys
+join_none r count H M fresh next i j retries old mid new [] more t u why ys first rest up =
     let same : t ≡ next = first.leads ∙ start_of-nil fresh next M in
-    let S : ℕ → Type 0 = λ n. Collected r H M fresh n j retries mid new more u why ys in
+    let S : ℕ → Type 0 = λ n. Collected r count H M fresh n j retries mid new more u why ys in
     let moved = subst S same rest in
     record {
       all = moved.all;
@@ -158,19 +158,19 @@ join_none r H M fresh next i j retries old mid new [] more t u why ys first rest
       twice_batches = moved.twice_batches;
       end = ended_after why fresh fresh u M [] ys i j retries old mid new (λ h. refl) first.end.0 tt up moved.end;
     }
-join_none r H M fresh next i j retries old mid new (x ∷ items) more t u why ys first rest up = absurd (let e = first.all in cc)
+join_none r count H M fresh next i j retries old mid new (x ∷ items) more t u why ys first rest up = absurd (let e = first.all in cc)
 
-pub join : (r : ℕ) (H : History) (M : List Moment) (fresh mid_fresh : Bool) (next i j retries old mid new : ℕ) (items more : List Item) (t u : ℕ) (why : Ended)
+pub join : (r count : ℕ) (H : History) (M : List Moment) (fresh mid_fresh : Bool) (next i j retries old mid new : ℕ) (items more : List Item) (t u : ℕ) (why : Ended)
     (xs ys : List (List Item)) →
-    Collected r H M fresh next i retries old mid items t StepLimit xs → IsFreshAfter fresh xs mid_fresh →
-    Collected r H (after_answers (length xs) M) mid_fresh t j retries mid new more u why ys → old ≤ mid →
-    Collected r H M fresh next (i + j) retries old new (items ++ more) u why (xs ++ ys)
-join r H M fresh mid_fresh next i j retries old mid new items more t u why [] ys first left rest up =
-    let P : Bool → Type 0 = λ b. Collected r H M b t j retries mid new more u why ys in
-    join_none r H M fresh next i j retries old mid new items more t u why ys first (subst P (left.none refl) rest) up
-join r H M fresh mid_fresh next i j retries old mid new items more t u why (x ∷ xs) ys first left rest up =
-    let P : Bool → Type 0 = λ b. Collected r H (after_answers (length (x ∷ xs)) M) b t j retries mid new more u why ys in
-    join_some r H M fresh next i j retries old mid new items more t u why x xs ys first (subst P (left.some (whole_some x xs first.end.1)) rest) up
+    Collected r count H M fresh next i retries old mid items t StepLimit xs → IsFreshAfter fresh xs mid_fresh →
+    Collected r count H (after_answers (length xs) M) mid_fresh t j retries mid new more u why ys → old ≤ mid →
+    Collected r count H M fresh next (i + j) retries old new (items ++ more) u why (xs ++ ys)
+join r count H M fresh mid_fresh next i j retries old mid new items more t u why [] ys first left rest up =
+    let P : Bool → Type 0 = λ b. Collected r count H M b t j retries mid new more u why ys in
+    join_none r count H M fresh next i j retries old mid new items more t u why ys first (subst P (left.none refl) rest) up
+join r count H M fresh mid_fresh next i j retries old mid new items more t u why (x ∷ xs) ys first left rest up =
+    let P : Bool → Type 0 = λ b. Collected r count H (after_answers (length (x ∷ xs)) M) b t j retries mid new more u why ys in
+    join_some r count H M fresh next i j retries old mid new items more t u why x xs ys first (subst P (left.some (whole_some x xs first.end.1)) rest) up
 
 pub fresh_join : (fresh mid_fresh new_fresh : Bool) (xs ys : List (List Item)) →
     IsFreshAfter fresh xs mid_fresh → IsFreshAfter mid_fresh ys new_fresh → IsFreshAfter fresh (xs ++ ys) new_fresh
@@ -185,9 +185,9 @@ fresh_join fresh mid_fresh new_fresh xs ys first rest = record {
     fresh_some fresh mid_fresh new_fresh xs ys first rest (suc n) is h = rest.some (omega arith)
 
 -- how whole steps end has nothing to do with what was lost
-pub at_limit : (r : ℕ) (H : History) (M : List Moment) (fresh : Bool) (s i retries old new tries was is : ℕ) (items : List Item) (t : ℕ) (answers : List (List Item)) →
-    Collected r H M fresh s i retries old new items t StepLimit answers → Collected r H M fresh s i tries was is items t StepLimit answers
-at_limit r H M fresh s i retries old new tries was is items t answers run = record {
+pub at_limit : (r count : ℕ) (H : History) (M : List Moment) (fresh : Bool) (s i retries old new tries was is : ℕ) (items : List Item) (t : ℕ) (answers : List (List Item)) →
+    Collected r count H M fresh s i retries old new items t StepLimit answers → Collected r count H M fresh s i tries was is items t StepLimit answers
+at_limit r count H M fresh s i retries old new tries was is items t answers run = record {
   all = run.all;
   leads = run.leads;
   twice_steps = run.twice_steps;
@@ -196,8 +196,8 @@ at_limit r H M fresh s i retries old new tries was is items t answers run = reco
 }
 
 -- a run of no steps
-pub no_steps : (r : ℕ) (H : History) (M : List Moment) (fresh : Bool) (next retries old : ℕ) → Collected r H M fresh next 0 retries old old [] next StepLimit []
-no_steps r H M fresh next retries old = record {
+pub no_steps : (r count : ℕ) (H : History) (M : List Moment) (fresh : Bool) (next retries old : ℕ) → Collected r count H M fresh next 0 retries old old [] next StepLimit []
+no_steps r count H M fresh next retries old = record {
   all = refl;
   leads = sym (start_of-nil fresh next M);
   twice_steps = omega arith;
@@ -206,9 +206,9 @@ no_steps r H M fresh next retries old = record {
 }
 
 -- a run that ended before its last step
-pub ended_early : (r : ℕ) (H : History) (M : List Moment) (fresh : Bool) (next i n retries old new : ℕ) (items : List Item) (t : ℕ) (why : Ended) (xs : List (List Item)) →
-    why ≢ StepLimit → i ≤ n → Collected r H M fresh next i retries old new items t why xs → Collected r H M fresh next n retries old new items t why xs
-ended_early r H M fresh next i n retries old new items t why xs not_limit le run = record {
+pub ended_early : (r count : ℕ) (H : History) (M : List Moment) (fresh : Bool) (next i n retries old new : ℕ) (items : List Item) (t : ℕ) (why : Ended) (xs : List (List Item)) →
+    why ≢ StepLimit → i ≤ n → Collected r count H M fresh next i retries old new items t why xs → Collected r count H M fresh next n retries old new items t why xs
+ended_early r count H M fresh next i n retries old new items t why xs not_limit le run = record {
   all = run.all;
   leads = run.leads;
   twice_steps = omega (arith, run.twice_steps);
@@ -225,17 +225,17 @@ ended_early r H M fresh next i n retries old new items t why xs not_limit le run
     early (Fault (Refused refusal)) fresh t M xs i n retries old new not_limit le e = e
     early (Fault BadReply) fresh t M xs i n retries old new not_limit le e = e
 
-pub step_fresh : (r : ℕ) (H : History) (M : List Moment) (before after : Bool) (t retries old new u : ℕ) (s : Result Step WalkFault) (ys : List (List Item)) →
-    Collected r H M before t 1 retries old new (step_items s) u (step_ended s) ys → after ≡ is_fresh_after before s → IsFreshAfter before ys after
-step_fresh r H M before after t retries old new u (Ok (StepOf b)) ys run is = record {
+pub step_fresh : (r count : ℕ) (H : History) (M : List Moment) (before after : Bool) (t retries old new u : ℕ) (s : Result Step WalkFault) (ys : List (List Item)) →
+    Collected r count H M before t 1 retries old new (step_items s) u (step_ended s) ys → after ≡ is_fresh_after before s → IsFreshAfter before ys after
+step_fresh r count H M before after t retries old new u (Ok (StepOf b)) ys run is = record {
   none = λ h. absurd (omega (arith, run.end.0));
   some = λ h. is;
 }
-step_fresh r H M before after t retries old new u (Ok NoStep) ys run is = record {
+step_fresh r count H M before after t retries old new u (Ok NoStep) ys run is = record {
   none = λ h. is;
   some = λ h. absurd (omega (arith, no_items ys run.all));
 }
-step_fresh r H M before after t retries old new u (Err e) ys run is = record {
+step_fresh r count H M before after t retries old new u (Err e) ys run is = record {
   none = λ h. is;
   some = λ h. absurd (omega (arith, no_items ys run.all));
 }

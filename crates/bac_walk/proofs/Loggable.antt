@@ -32,9 +32,9 @@ stays_ours asks ours tells log r M H extent place invoke octets is (suc n) old n
     (tells mid new octets answer log r M H extent (towards place) invoke (stays_ours asks ours tells log r M H extent place invoke octets is n old mid here first) is asked) none
 
 pub replies_loggable : {S : Type 0} (asks : Asking S) (ours : S → Id → ℕ → List Moment → History → Type 0) → TellsOurs asks ours → RepliesAreLoggable asks ours
-replies_loggable asks ours tells = λ place retries old new w after c came r s M H here way valid next
+replies_loggable asks ours tells = λ place retries old new w after c came r s M H here way valid many next
     (mid, onward, p, at, (invoke, (tries, half, few, first, asked, answers)), taken, items, rest).
     let octets : List ℕ = request_octets (towards place) invoke (question w.log (question_of w)) in
-    let is : IsQuestion w.log (question_of w) (towards place) invoke octets = (refl, ranged_of w (omega (arith, next)), valid, (way, tt)) in
+    let is : IsQuestion w.log (question_of w) (towards place) invoke octets = (refl, ranged_of w (omega (arith, next)) many, valid, (way, tt)) in
     (tells half mid octets (Ok c.datagram) w.log r M H (question_of w) (towards place) invoke
     (stays_ours asks ours tells w.log r M H (question_of w) place invoke octets is tries old half here first) is asked).0.0

@@ -16,31 +16,31 @@ use Rattle.bac_walk.proofs.Joins.{after_answers-add, at_limit, batches-append, j
 
 -- ---- fewer steps, the first, and one more
 
-pub fewer_steps : (r : ℕ) (H : History) (M : List Moment) (fresh : Bool) (s i n : ℕ) → i ≤ n → StaysNear r H M fresh s n → StaysNear r H M fresh s i
-fewer_steps r H M fresh s i n le near = λ j retries old new t items answers lt run not_fresh.
+pub fewer_steps : (r count : ℕ) (H : History) (M : List Moment) (fresh : Bool) (s i n : ℕ) → i ≤ n → StaysNear r count H M fresh s n → StaysNear r count H M fresh s i
+fewer_steps r count H M fresh s i n le near = λ j retries old new t items answers lt run not_fresh.
     near j retries old new t items answers (omega (arith, lt, le)) run not_fresh
 
-pub at_once : (r : ℕ) (H : History) (M : List Moment) (fresh : Bool) (s steps retries old : ℕ) → 0 < steps → StaysNear r H M fresh s steps → fresh ≡ false → IsNearStep s M
-at_once r H M fresh s steps retries old some near not_fresh = near 0 retries old old s [] [] some (no_steps r H M fresh s retries old) (λ none. not_fresh)
+pub at_once : (r count : ℕ) (H : History) (M : List Moment) (fresh : Bool) (s steps retries old : ℕ) → 0 < steps → StaysNear r count H M fresh s steps → fresh ≡ false → IsNearStep count s M
+at_once r count H M fresh s steps retries old some near not_fresh = near 0 retries old old s [] [] some (no_steps r count H M fresh s retries old) (λ none. not_fresh)
 
-pub next_steps : (r : ℕ) (H : History) (M : List Moment) (fresh mid_fresh : Bool) (s i j retries old mid t : ℕ) (items : List Item) (answers : List (List Item)) →
-    StaysNear r H M fresh s (i + j) → Collected r H M fresh s i retries old mid items t StepLimit answers → IsFreshAfter fresh answers mid_fresh →
-    StaysNear r H (after_answers (length answers) M) mid_fresh t j
-next_steps r H M fresh mid_fresh s i j retries old mid t items answers near run left = λ k tries was is u more others lt rest not_fresh.
+pub next_steps : (r count : ℕ) (H : History) (M : List Moment) (fresh mid_fresh : Bool) (s i j retries old mid t : ℕ) (items : List Item) (answers : List (List Item)) →
+    StaysNear r count H M fresh s (i + j) → Collected r count H M fresh s i retries old mid items t StepLimit answers → IsFreshAfter fresh answers mid_fresh →
+    StaysNear r count H (after_answers (length answers) M) mid_fresh t j
+next_steps r count H M fresh mid_fresh s i j retries old mid t items answers near run left = λ k tries was is u more others lt rest not_fresh.
     let N : List Moment = after_answers (length answers) M in
-    let first = at_limit r H M fresh s i retries old mid 0 0 0 items t answers run in
-    let second = at_limit r H N mid_fresh t k tries was is 0 0 0 more u others rest in
-    let both = join r H M fresh mid_fresh s i k 0 0 0 0 items more t u StepLimit answers others first left second (omega arith) in
+    let first = at_limit r count H M fresh s i retries old mid 0 0 0 items t answers run in
+    let second = at_limit r count H N mid_fresh t k tries was is 0 0 0 more u others rest in
+    let both = join r count H M fresh mid_fresh s i k 0 0 0 0 items more t u StepLimit answers others first left second (omega arith) in
     let place : after_answers (length (answers ++ others)) M ≡ after_answers (length others) N =
     ap (λ n. after_answers n M) (length-append answers others) ∙ after_answers-add (length answers) (length others) M in
-    let P : List Moment → Type 0 = λ l. IsNearStep u l in
+    let P : List Moment → Type 0 = λ l. IsNearStep count u l in
     subst P place (near (i + k) 0 0 0 u (items ++ more) (answers ++ others) (omega (arith, lt)) both
     (λ none. sym (left.none (omega (arith, batches-append answers others, none))) ∙ not_fresh (omega (arith, batches-append answers others, none))))
 
-pub next_step : (r : ℕ) (H : History) (M : List Moment) (fresh mid_fresh : Bool) (s i retries old mid t : ℕ) (items : List Item) (answers : List (List Item)) →
-    StaysNear r H M fresh s (i + 1) → Collected r H M fresh s i retries old mid items t StepLimit answers → IsFreshAfter fresh answers mid_fresh →
-    StaysNear r H (after_answers (length answers) M) mid_fresh t 1
-next_step r H M fresh mid_fresh s i retries old mid t items answers near run left = next_steps r H M fresh mid_fresh s i 1 retries old mid t items answers near run left
+pub next_step : (r count : ℕ) (H : History) (M : List Moment) (fresh mid_fresh : Bool) (s i retries old mid t : ℕ) (items : List Item) (answers : List (List Item)) →
+    StaysNear r count H M fresh s (i + 1) → Collected r count H M fresh s i retries old mid items t StepLimit answers → IsFreshAfter fresh answers mid_fresh →
+    StaysNear r count H (after_answers (length answers) M) mid_fresh t 1
+next_step r count H M fresh mid_fresh s i retries old mid t items answers near run left = next_steps r count H M fresh mid_fresh s i 1 retries old mid t items answers near run left
 
 -- ---- what an answer brings
 
@@ -75,11 +75,11 @@ rest_at H m s t ((x ∷ xs) ∷ answers) sound near goes =
     let all = stays_within H m goes.0 t answers goes.2 one.0 one.1 in
     near_within H m t sound all.0 all.1
 
-pub rest_near : (r : ℕ) (H : History) (m : Moment) (fresh : Bool) (s steps : ℕ) → AreServed r (m ∷ []) H → (fresh ≡ false → IsNear s m) → StaysNear r H (m ∷ []) fresh s steps
-rest_near r H m fresh s steps served near = λ i retries old new t items answers lt run not_fresh.
-    let P : List Moment → Type 0 = λ N. IsNearStep t N in
+pub rest_near : (r count : ℕ) (H : History) (m : Moment) (fresh : Bool) (s steps : ℕ) → AreServed r (m ∷ []) H → (fresh ≡ false → IsNear s m) → StaysNear r count H (m ∷ []) fresh s steps
+rest_near r count H m fresh s steps served near = λ i retries old new t items answers lt run not_fresh.
+    let P : List Moment → Type 0 = λ N. IsNearStep count t N in
     let close : IsNear t m = rest_at H m (start_of fresh s (m ∷ []) answers) t answers (all_sound r (m ∷ []) H served).0
-    (λ none. begins fresh (near (not_fresh none)) (not_fresh none) answers) (leads StepLimit r H (m ∷ []) false _ t answers run.leads) in
+    (λ none. begins fresh (near (not_fresh none)) (not_fresh none) answers) (leads StepLimit r count H (m ∷ []) false _ t answers run.leads) in
     subst P (sym (after_one (length answers) m)) (close, λ none. close)
   where
     begins : (b : Bool) → IsNear s m → b ≡ false → (answers : List (List Item)) → IsNear (start_of b s (m ∷ []) answers) m
@@ -133,12 +133,12 @@ start_in H low M true s ([] ∷ answers) w at old = start_in H low (later M) tru
 start_in H low M true s ((x ∷ xs) ∷ answers) w at old =
     let here = windowed_now H low M w in (here.1.oldest, omega (arith, here.1.newest, here.0.close))
 
-pub windows_near : (r : ℕ) (H : History) (M : List Moment) (low s steps : ℕ) (fresh : Bool) → AreServed r M H → AreInWindow low M →
-    (fresh ≡ false → (low ≤ s) × (s < low + 2147483648)) → StaysNear r H M fresh s steps
-windows_near r H M low s steps fresh served are at = λ i retries old new t items answers lt run not_fresh.
+pub windows_near : (r count : ℕ) (H : History) (M : List Moment) (low s steps : ℕ) (fresh : Bool) → AreServed r M H → AreInWindow low M →
+    (fresh ≡ false → (low ≤ s) × (s < low + 2147483648)) → StaysNear r count H M fresh s steps
+windows_near r count H M low s steps fresh served are at = λ i retries old new t items answers lt run not_fresh.
     let w = windowed r H M low served are in
     let begins = start_in H low M fresh s answers w at not_fresh in
-    let place = leads_within H low M (start_of fresh s M answers) t answers w begins.0 begins.1 (leads StepLimit r H M false _ t answers run.leads) in
+    let place = leads_within H low M (start_of fresh s M answers) t answers w begins.0 begins.1 (leads StepLimit r count H M false _ t answers run.leads) in
     let N : List Moment = after_answers (length answers) M in
     let v = windowed_after H low (length answers) M w in (
       near_in H low t (now N) (windowed_now H low N v) place.0 place.1,

@@ -1,5 +1,5 @@
 -- What a question by time from 1900 on brings: the oldest records held.
-use Rattle.std.proofs.Common.{◌≡◌, ℕ, ◌+◌, ◌-◌, ◌<◌, pos, true, List, [], ◌∷◌, length, take, drop, Option, Some, refl, ap, ◌∙◌, arith}
+use Rattle.std.proofs.Common.{◌≡◌, ℕ, zero, suc, ◌+◌, ◌-◌, ◌<◌, pos, true, List, [], ◌∷◌, length, take, drop, Option, Some, refl, sym, ap, ◌∙◌, arith}
 use Rattle.std.specs.Prelude.{All, find, option_map}
 use Rattle.std.specs.Ordering.{nat_cmp, ordering_then, is_gt}
 use Rattle.std.specs.declared.cmp.Ordering.{Ordering}
@@ -16,8 +16,8 @@ use Rattle.bac_link.specs.Standard.{first_date, first_time}
 use Rattle.bac_walk.specs.Replies.{IsShown}
 use Rattle.bac_log.proofs.Runs.{filter_run}
 
-abbrev pub from_oldest : Extent
-from_oldest = ByTime first_date first_time (pos 100)
+abbrev pub from_oldest : (count : ℕ) → Extent
+from_oldest count = ByTime first_date first_time (pos count)
 
 year_decides : (y : ℕ) (rest : Ordering) → 0 < y → is_gt (ordering_then (nat_cmp y 0) rest) ≡ true
 year_decides y rest p = rw (le-ltb y 0 (omega arith), ne_eqb y 0 (λ e. omega arith)) refl
@@ -32,14 +32,18 @@ first_found first [] some l = absurd (omega arith)
 first_found first (e ∷ es) some l =
     ap (λ (o : Option HeldEntry). option_map (λ (r : HeldEntry). r.ordinal) o) (cond-true (is_newer first_date first_time (record { ordinal = first; entry = e })) (Some (record { ordinal = first; entry = e })) (find (is_newer first_date first_time) (numbered (first + 1) es)) (is_later e (l 0 e (omega arith))))
 
-none_selected : (log : Log) → log.entries ≡ [] → selected log from_oldest ≡ numbered (oldest log) (take 100 log.entries)
-none_selected log none = rw none refl
+take_none : (n : ℕ) → take {A = Entry} n [] ≡ []
+take_none zero = refl
+take_none (suc n) = refl
 
-pub selected-from_oldest : (log : Log) → IsShown log → 0 < length log.entries → selected log from_oldest ≡ numbered (oldest log) (take 100 log.entries)
-selected-from_oldest log is some =
+none_selected : (log : Log) (count : ℕ) → log.entries ≡ [] → selected log (from_oldest count) ≡ numbered (oldest log) (take count log.entries)
+none_selected log count none = rw none (ap (numbered _) (sym (take_none count)))
+
+pub selected-from_oldest : (log : Log) (count : ℕ) → IsShown log → 0 < length log.entries → selected log (from_oldest count) ≡ numbered (oldest log) (take count log.entries)
+selected-from_oldest log count is some =
     let found : first_newer log first_date first_time ≡ Some (oldest log) = first_found (oldest log) log.entries some is.loggable in
-    let whole : (oldest log + 100) - oldest log ≡ 100 = omega arith in
+    let whole : (oldest log + count) - oldest log ≡ count = omega arith in
     let front : oldest log - oldest log ≡ 0 = omega arith in
-    filter_run (is_asked log from_oldest) (oldest log) (oldest log + 100) (oldest log) log.entries (omega arith) (λ k p q. ap (λ (o : Option ℕ). in_interval_at o (pos 100) k) found)
+    filter_run (is_asked log (from_oldest count)) (oldest log) (oldest log + count) (oldest log) log.entries (omega arith) (λ k p q. ap (λ (o : Option ℕ). in_interval_at o (pos count) k) found)
     ∙ ap (λ n. numbered (oldest log) (take n (drop (oldest log - oldest log) log.entries))) whole
-    ∙ ap (λ n. numbered (oldest log) (take 100 (drop n log.entries))) front
+    ∙ ap (λ n. numbered (oldest log) (take count (drop n log.entries))) front

@@ -1,5 +1,5 @@
 -- What a walk hears of a reply of ours is the whole reply of the moment.
-use Rattle.std.proofs.Common.{suc, ◌≡◌, ℕ, ◌≤◌, true, List, [], ◌∷◌, length, Option, Some, None, Ok, refl, sym, ap, subst, ◌∙◌, arith}
+use Rattle.std.proofs.Common.{suc, ◌≡◌, ℕ, ◌<◌, ◌≤◌, true, List, [], ◌∷◌, length, Option, Some, None, Ok, refl, sym, ap, subst, ◌∙◌, arith}
 use Rattle.std.specs.Prelude.{All, IsSomeAnd}
 use Rattle.std.specs.Result.{result_ok}
 use Rattle.std.proofs.lemmas.Bool.{eq-eqb}
@@ -18,7 +18,7 @@ use Rattle.bac_log.specs.Select.{selected, packed, reply_of}
 use Rattle.bac_log.specs.TrendLog.{Log}
 use Rattle.bac_log.proofs.Records.{entries_back}
 use Rattle.bac_log.proofs.Sizes.{entry_sized}
-use Rattle.bac_walk.specs.Replies.{Wanted, extent_of, IsShown}
+use Rattle.bac_walk.specs.Replies.{Wanted, count_wanted, extent_of, IsShown}
 use Rattle.bac_link.specs.Datagrams.{apdu_in}
 use Rattle.bac_link.specs.Heard.{AckParameters, heard_at, heard_if, heard_of, records_in, same_id}
 use Rattle.bac_link.specs.Links.{IsReply, reply_parameters}
@@ -55,9 +55,9 @@ heard_reply id log extent r is most valid =
     ap (λ x. heard_if id (option_map range_ack_in (result_ok x))) (reply_reads log extent r is most id valid)
     ∙ heard_shown id (reply_of log extent (selected log extent) (packed extent r (selected log extent))).flags (first_of r log extent) (records_of r log extent) (packed_loggable log extent r is most)
 
-says_reply : (result : Option (List ℕ)) (datagram : List ℕ) (r : ℕ) (M : List Moment) (H : History) (id : Id) (wanted : Wanted) (path : Path) (invoke : ℕ) → result ≡ parameters_in (apdu_in datagram) → AreServed r M H → IsNearTo wanted (now M) → IsValid (Object id) →
+says_reply : (result : Option (List ℕ)) (datagram : List ℕ) (r : ℕ) (M : List Moment) (H : History) (id : Id) (wanted : Wanted) (path : Path) (invoke : ℕ) → result ≡ parameters_in (apdu_in datagram) → AreServed r M H → count_wanted wanted < 2147483648 → IsNearTo wanted (now M) → IsValid (Object id) →
     IsReply r (now M) H id (extent_of wanted) path invoke datagram → IsSomeAnd result (λ p. Says r (now M) H wanted (heard_at id p))
-says_reply result datagram r M H id wanted path invoke gives served near valid reply =
+says_reply result datagram r M H id wanted path invoke gives served small near valid reply =
     let sound = Sound-now r M H served in
     let within = In-now r M H served in
     let is : IsShown (log_at (now M) H) = shown (now M) H sound within reply.0 in
@@ -65,7 +65,7 @@ says_reply result datagram r M H id wanted path invoke gives served near valid r
     let P : Option (List ℕ) → Type 0 = λ o. IsSomeAnd o (λ p. Says r (now M) H wanted (heard_at id p)) in
     let Q : Option AckParameters → Type 0 = λ o. Says r (now M) H wanted o in
     subst P (sym whole) (subst Q (sym (heard_reply id (log_at (now M) H) (extent_of wanted) r is served.greatest valid))
-    (answer_is (now M) H sound within reply.0 r wanted near (omega (arith, served.least)), refl))
+    (answer_is (now M) H sound within reply.0 r wanted small near (omega (arith, served.least)), refl))
 
 -- the same of a datagram
 says_heard : (o : Option (List ℕ)) (r : ℕ) (m : Moment) (H : History) (id : Id) (wanted : Wanted) → IsSomeAnd o (λ p. Says r m H wanted (heard_at id p)) →
@@ -73,7 +73,7 @@ says_heard : (o : Option (List ℕ)) (r : ℕ) (m : Moment) (H : History) (id : 
 says_heard None r m H id wanted h = absurd h
 says_heard (Some p) r m H id wanted h = h
 
-pub says_in : (datagram : List ℕ) (r : ℕ) (M : List Moment) (H : History) (id : Id) (wanted : Wanted) (path : Path) (invoke : ℕ) → AreServed r M H → IsNearTo wanted (now M) → IsValid (Object id) →
+pub says_in : (datagram : List ℕ) (r : ℕ) (M : List Moment) (H : History) (id : Id) (wanted : Wanted) (path : Path) (invoke : ℕ) → AreServed r M H → count_wanted wanted < 2147483648 → IsNearTo wanted (now M) → IsValid (Object id) →
     IsReply r (now M) H id (extent_of wanted) path invoke datagram → Says r (now M) H wanted (heard_in id datagram)
-says_in datagram r M H id wanted path invoke served near valid reply =
-    says_heard (parameters_in (apdu_in datagram)) r (now M) H id wanted (says_reply (parameters_in (apdu_in datagram)) datagram r M H id wanted path invoke refl served near valid reply)
+says_in datagram r M H id wanted path invoke served small near valid reply =
+    says_heard (parameters_in (apdu_in datagram)) r (now M) H id wanted (says_reply (parameters_in (apdu_in datagram)) datagram r M H id wanted path invoke refl served small near valid reply)

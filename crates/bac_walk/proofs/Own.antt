@@ -11,8 +11,8 @@ use Rattle.bac_link.specs.Heard.{AckParameters}
 use Rattle.bac_walk.specs.Near.{IsNear}
 use Rattle.bac_link.specs.Ordinals.{distance}
 use Rattle.bac_link.specs.Heard.{heard_in}
-use Rattle.bac_walk.specs.Replies.{Wanted, FromOrdinal, FromOldest, IsAnswer, asked_at, asked_count, how_many}
-use Rattle.bac_link.specs.Standard.{HoldsNumber, AreHeldFrom, SaysAt, IsSaidAt}
+use Rattle.bac_walk.specs.Replies.{Wanted, FromOrdinal, FromOldest, IsAnswer, asked_at, asked_count, count_wanted, how_many}
+use Rattle.bac_link.specs.Standard.{IsCount, count_asked, HoldsNumber, AreHeldFrom, SaysAt, IsSaidAt}
 use Rattle.bac_walk.specs.Takes.{Says}
 use Rattle.bac_walk.specs.Walks.{numbered}
 use Rattle.bac_walk.proofs.Bridge.{IsNearTo}
@@ -32,20 +32,20 @@ held_near H m s sound near (k, held, same) =
     (omega (arith, is, held.0), omega (arith, is, held.1))
 
 says_of : (r : ℕ) (m : Moment) (H : History) (wanted : Wanted) (first : Option ℕ) (es : List Entry) → Sound H m → m.newest ≤ H.logged + length H.entries →
-    IsNearOf wanted m → IsAnswer r m H wanted first es → SaysAt m H (asked_at wanted) first es
-says_of r m H (FromOrdinal s) first [] sound within near answer = λ holds.
+    0 < count_wanted wanted → IsNearOf wanted m → IsAnswer r m H wanted first es → SaysAt m H (asked_at wanted) first es
+says_of r m H (FromOrdinal s count) first [] sound within some near answer = λ holds.
     let held = held_near H m s sound near holds in
-    let n : 0 ≡ how_many r H (FromOrdinal s) m = ap length answer.entries
-    ∙ entries_count H m (max s m.oldest) (how_many r H (FromOrdinal s) m) sound within (omega arith) (λ h. omega (arith, answer.most)) in
-    let asked : 0 < asked_count (FromOrdinal s) m = omega (arith, held.0, held.1) in
+    let n : 0 ≡ how_many r H (FromOrdinal s count) m = ap length answer.entries
+    ∙ entries_count H m (max s m.oldest) (how_many r H (FromOrdinal s count) m) sound within (omega arith) (λ h. omega (arith, answer.most)) in
+    let asked : 0 < asked_count (FromOrdinal s count) m = omega (arith, held.0, held.1, some) in
     omega (arith, n, answer.some asked)
-says_of r m H (FromOrdinal s) first (e ∷ es) sound within near answer =
+says_of r m H (FromOrdinal s count) first (e ∷ es) sound within some near answer =
     let f = max s m.oldest in
-    let same : length (entries_from H f (how_many r H (FromOrdinal s) m)) ≡ how_many r H (FromOrdinal s) m =
-    entries_count H m f (how_many r H (FromOrdinal s) m) sound within (omega arith) (λ h. omega (arith, answer.most)) in
-    let n : length (e ∷ es) ≡ how_many r H (FromOrdinal s) m = ap length answer.entries ∙ same in
+    let same : length (entries_from H f (how_many r H (FromOrdinal s count) m)) ≡ how_many r H (FromOrdinal s count) m =
+    entries_count H m f (how_many r H (FromOrdinal s count) m) sound within (omega arith) (λ h. omega (arith, answer.most)) in
+    let n : length (e ∷ es) ≡ how_many r H (FromOrdinal s count) m = ap length answer.entries ∙ same in
     let Q : List Entry → Type 0 = λ xs. AreHeld H m f (numbered f xs) (f + length xs) in
-    let are = held_of H m f (f + length (e ∷ es)) (e ∷ es) (subst Q (sym answer.entries) (records H m f (how_many r H (FromOrdinal s) m) (omega (arith, sound.above)) (omega arith) (omega (arith, n, same, answer.most)))) in (
+    let are = held_of H m f (f + length (e ∷ es)) (e ∷ es) (subst Q (sym answer.entries) (records H m f (how_many r H (FromOrdinal s count) m) (omega (arith, sound.above)) (omega arith) (omega (arith, n, same, answer.most)))) in (
       f,
       (answer.first_is (omega (arith, n)), omega (arith, n, answer.most), are),
       elim (cases_lt s m.oldest) [
@@ -56,32 +56,37 @@ says_of r m H (FromOrdinal s) first (e ∷ es) sound within near answer =
         | inr ge ↦ inl (ap sequence_number (let e : s ≡ f = omega (arith, ge) in e))
       ],
     )
-says_of r m H FromOldest first [] sound within near answer =
-    let n : 0 ≡ how_many r H FromOldest m = ap length answer.entries
-    ∙ entries_count H m m.oldest (how_many r H FromOldest m) sound within (omega arith) (λ h. omega (arith, answer.most)) in
+says_of r m H (FromOldest count) first [] sound within some near answer =
+    let n : 0 ≡ how_many r H (FromOldest count) m = ap length answer.entries
+    ∙ entries_count H m m.oldest (how_many r H (FromOldest count) m) sound within (omega arith) (λ h. omega (arith, answer.most)) in
     elim (cases_lt m.newest m.oldest) [
       | inl lt ↦ lt
-      | inr ge ↦ let asked : 0 < asked_count FromOldest m = omega (arith, ge) in absurd (omega (arith, n, answer.some asked))
+      | inr ge ↦ let asked : 0 < asked_count (FromOldest count) m = omega (arith, ge, some) in absurd (omega (arith, n, answer.some asked))
     ]
-says_of r m H FromOldest first (e ∷ es) sound within near answer =
-    let same : length (entries_from H m.oldest (how_many r H FromOldest m)) ≡ how_many r H FromOldest m =
-    entries_count H m m.oldest (how_many r H FromOldest m) sound within (omega arith) (λ h. omega (arith, answer.most)) in
-    let n : length (e ∷ es) ≡ how_many r H FromOldest m = ap length answer.entries ∙ same in
+says_of r m H (FromOldest count) first (e ∷ es) sound within some near answer =
+    let same : length (entries_from H m.oldest (how_many r H (FromOldest count) m)) ≡ how_many r H (FromOldest count) m =
+    entries_count H m m.oldest (how_many r H (FromOldest count) m) sound within (omega arith) (λ h. omega (arith, answer.most)) in
+    let n : length (e ∷ es) ≡ how_many r H (FromOldest count) m = ap length answer.entries ∙ same in
     let Q : List Entry → Type 0 = λ xs. AreHeld H m m.oldest (numbered m.oldest xs) (m.oldest + length xs) in
-    let are = held_of H m m.oldest (m.oldest + length (e ∷ es)) (e ∷ es) (subst Q (sym answer.entries) (records H m m.oldest (how_many r H FromOldest m) sound.above (omega arith) (omega (arith, n, same, answer.most)))) in
+    let are = held_of H m m.oldest (m.oldest + length (e ∷ es)) (e ∷ es) (subst Q (sym answer.entries) (records H m m.oldest (how_many r H (FromOldest count) m) sound.above (omega arith) (omega (arith, n, same, answer.most)))) in
     (answer.first_is (omega (arith, n)), omega (arith, n, answer.most), are)
 
 near_of : (wanted : Wanted) (m : Moment) → IsNearOf wanted m → IsNearTo wanted m
-near_of (FromOrdinal s) m near = near
-near_of FromOldest m near = tt
+near_of (FromOrdinal s count) m near = near
+near_of (FromOldest count) m near = tt
+
+-- as many are asked for as are wanted
+count_same : (wanted : Wanted) → count_wanted wanted ≡ count_asked (asked_at wanted)
+count_same (FromOrdinal s count) = refl
+count_same (FromOldest count) = refl
 
 said_of : (r : ℕ) (m : Moment) (H : History) (log : Id) (wanted : Wanted) (datagram : List ℕ) (o : Option AckParameters) → Sound H m → m.newest ≤ H.logged + length H.entries →
-    IsNearOf wanted m → heard_in log datagram ≡ o → Says r m H wanted o → IsSaidAt m H log (asked_at wanted) datagram
-said_of r m H log wanted datagram None sound within near is says = absurd says
-said_of r m H log wanted datagram (Some h) sound within near is says =
-    record { heard = h; reads = is; counts = says.1; says = says_of r m H wanted h.first h.entries sound within near says.0 }
+    IsCount (count_wanted wanted) → IsNearOf wanted m → heard_in log datagram ≡ o → Says r m H wanted o → IsSaidAt m H log (asked_at wanted) datagram
+said_of r m H log wanted datagram None sound within asks near is says = absurd says
+said_of r m H log wanted datagram (Some h) sound within asks near is says =
+    record { asks = subst IsCount (count_same wanted) asks; heard = h; reads = is; counts = says.1; says = says_of r m H wanted h.first h.entries sound within asks.some near says.0 }
 
 pub own_said : OwnIsSaid
-own_said = λ r M H log wanted path invoke datagram served valid near reply.
-    said_of r (now M) H log wanted datagram (heard_in log datagram) (Sound-now r M H served) (In-now r M H served) near refl
-    (says_in datagram r M H log wanted path invoke served (near_of wanted (now M) near) valid reply)
+own_said = λ r M H log wanted path invoke datagram served valid asks near reply.
+    said_of r (now M) H log wanted datagram (heard_in log datagram) (Sound-now r M H served) (In-now r M H served) asks near refl
+    (says_in datagram r M H log wanted path invoke served (omega (arith, asks.most)) (near_of wanted (now M) near) valid reply)

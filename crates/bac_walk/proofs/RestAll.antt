@@ -1,8 +1,8 @@
 -- With steps enough, a walk over a log that doesn't change takes all that is held.
-use Rattle.std.proofs.Common.{◌≡◌, ℕ, zero, suc, Bool, true, false, ◌+◌, ◌-◌, ◌<◌, ◌≤◌, min, max, All, nat_lt, if◌then◌else◌, List, [], ◌∷◌, ◌++◌, length, take, drop, refl, sym, ap, subst, ◌∙◌, arith, append_assoc, zero-add, add-zero}
+use Rattle.std.proofs.Common.{◌≡◌, ℕ, zero, suc, Bool, true, false, ◌+◌, ◌-◌, ◌<◌, ◌≤◌, min, max, All, nat_le, nat_lt, if◌then◌else◌, List, [], ◌∷◌, ◌++◌, length, take, drop, refl, sym, ap, subst, ◌∙◌, arith, append_assoc, zero-add, add-zero}
 use Rattle.bac_log.specs.declared.entry.Entry.{Entry}
 use Rattle.std.proofs.Math.Seq.{drop-append_seam}
-use Rattle.std.proofs.lemmas.Bool.{ltb-true, ltb-false, le-ltb}
+use Rattle.std.proofs.lemmas.Bool.{leb-false, ltb-true, ltb-false, le-ltb}
 use Rattle.bac_link.specs.declared.item.Item.{Item}
 use Rattle.bac_link.specs.declared.item.Item.TheVariants.{Gap, Logged}
 use Rattle.bac_walk.specs.declared.outcome.Ended.TheVariants.{CaughtUp}
@@ -63,14 +63,14 @@ after_some H m b c false is above low high some =
     let near : nat_lt (b + c) m.oldest ≡ false = le-ltb (b + c) m.oldest (omega arith) in
     rw (is, near, top) (refl, refl, refl)
 
-count_some : (r : ℕ) (H : History) (m : Moment) (s : ℕ) (far : Bool) → AreServed r (m ∷ []) H → All IsLoggable (log_at m H).entries →
-    nat_lt (s + 99) (max s m.oldest) ≡ far → max s m.oldest ≤ m.newest →
-    (0 < reply_count r H m far s) × (max s m.oldest + reply_count r H m far s ≤ m.newest + 1)
-count_some r H m s far served loggable is held =
+count_some : (r count : ℕ) (H : History) (m : Moment) (s : ℕ) (far : Bool) → 0 < count → AreServed r (m ∷ []) H → All IsLoggable (log_at m H).entries →
+    nat_le (s + count) (max s m.oldest) ≡ far → max s m.oldest ≤ m.newest →
+    (0 < reply_count r count H m far s) × (max s m.oldest + reply_count r count H m far s ≤ m.newest + 1)
+count_some r count H m s far positive served loggable is held =
     let sound = Sound-now r (m ∷ []) H served in
     let within = In-now r (m ∷ []) H served in
     let b = max s m.oldest in
-    let c = (min ((if far then max s m.oldest else s) + 99) m.newest + 1) - max s m.oldest in
+    let c = min ((if far then max s m.oldest else s) + count) (m.newest + 1) - max s m.oldest in
     let some : (0 < c) × (b + c ≤ m.newest + 1) = at far is in
     let long : length (entries_from H b c) ≡ c = entries_count H m b c sound within (omega arith) (λ h. some.1) in (
       fitting_some r b (entries_from H b c) (omega (arith, served.least))
@@ -78,42 +78,42 @@ count_some r H m s far served loggable is held =
       omega (arith, fitting_most r b (entries_from H b c), long, some.1),
     )
   where
-    at : (f : Bool) → nat_lt (s + 99) (max s m.oldest) ≡ f →
-        (0 < (min ((if f then max s m.oldest else s) + 99) m.newest + 1) - max s m.oldest)
-        × (max s m.oldest + ((min ((if f then max s m.oldest else s) + 99) m.newest + 1) - max s m.oldest) ≤ m.newest + 1)
-    at true e = (omega (arith, held), omega (arith, held))
-    at false e = let near = ltb-false _ _ e in (omega (arith, near, held), omega (arith, near, held))
+    at : (f : Bool) → nat_le (s + count) (max s m.oldest) ≡ f →
+        (0 < min ((if f then max s m.oldest else s) + count) (m.newest + 1) - max s m.oldest)
+        × (max s m.oldest + (min ((if f then max s m.oldest else s) + count) (m.newest + 1) - max s m.oldest) ≤ m.newest + 1)
+    at true e = (omega (arith, held, positive), omega (arith, held))
+    at false e = let near = leb-false _ _ e in (omega (arith, near, held), omega (arith, near, held))
 
-pub rests_all : (r : ℕ) (H : History) (m : Moment) (s steps : ℕ) → AreServed r (m ∷ []) H → All IsLoggable (log_at m H).entries →
-    (m.newest + 1) - max s m.oldest < steps → rest_from r H m s steps ≡ rest_all H m s
-rests_all r H m s zero served loggable enough = absurd (omega arith)
-rests_all r H m s (suc n) served loggable enough = by_end (λ u ge lt. rests_all r H m u n served loggable lt) (nat_lt m.newest (max s m.oldest)) refl
+pub rests_all : (r count : ℕ) (H : History) (m : Moment) (s steps : ℕ) → 0 < count → AreServed r (m ∷ []) H → All IsLoggable (log_at m H).entries →
+    (m.newest + 1) - max s m.oldest < steps → rest_from r count H m s steps ≡ rest_all H m s
+rests_all r count H m s zero positive served loggable enough = absurd (omega arith)
+rests_all r count H m s (suc n) positive served loggable enough = by_end (λ u ge lt. rests_all r count H m u n positive served loggable lt) (nat_lt m.newest (max s m.oldest)) refl
   where
-    by_end : ((u : ℕ) → m.oldest ≤ u → (m.newest + 1) - max u m.oldest < n → rest_from r H m u n ≡ rest_all H m u) → (past : Bool) → nat_lt m.newest (max s m.oldest) ≡ past → rest_from r H m s (suc n) ≡ rest_all H m s
+    by_end : ((u : ℕ) → m.oldest ≤ u → (m.newest + 1) - max u m.oldest < n → rest_from r count H m u n ≡ rest_all H m u) → (past : Bool) → nat_lt m.newest (max s m.oldest) ≡ past → rest_from r count H m s (suc n) ≡ rest_all H m s
     by_end again true is = rw is refl
     by_end again false is =
         let sound = Sound-now r (m ∷ []) H served in
         let within = In-now r (m ∷ []) H served in
         let b = max s m.oldest in
-        let far = nat_lt (s + 99) (max s m.oldest) in
-        let c = reply_count r H m far s in
+        let far = nat_le (s + count) (max s m.oldest) in
+        let c = reply_count r count H m far s in
         let held : b ≤ m.newest = ltb-false _ _ is in
-        let count = count_some r H m s far served loggable refl held in
+        let many = count_some r count H m s far positive served loggable refl held in
         let es = entries_from H b c in
-        let long : length es ≡ c = entries_count H m b c sound within (omega arith) (λ h. count.1) in
-        let left = after_some H m b c (nat_lt m.newest (max (b + c) m.oldest)) refl (omega (arith, sound.above)) (omega arith) count.1 count.0 in
-        let next : rest_from r H m (b + c) n ≡ rest_all H m (b + c) = again (b + c) (omega arith) (omega (arith, count.0)) in
+        let long : length es ≡ c = entries_count H m b c sound within (omega arith) (λ h. many.1) in
+        let left = after_some H m b c (nat_lt m.newest (max (b + c) m.oldest)) refl (omega (arith, sound.above)) (omega arith) many.1 many.0 in
+        let next : rest_from r count H m (b + c) n ≡ rest_all H m (b + c) = again (b + c) (omega arith) (omega (arith, many.0)) in
         let G : List Item = (if nat_lt s m.oldest then Gap (sequence_number s) (sequence_number m.oldest) ∷ [] else []) in
-        let sum : c + ((m.newest + 1) - (b + c)) ≡ (m.newest + 1) - b = omega (arith, count.1) in
-        let joined : whole_reply r H m far s ++ (rest_all H m (b + c)).items ≡ G ++ numbered b (entries_from H b ((m.newest + 1) - b)) =
+        let sum : c + ((m.newest + 1) - (b + c)) ≡ (m.newest + 1) - b = omega (arith, many.1) in
+        let joined : whole_reply r count H m far s ++ (rest_all H m (b + c)).items ≡ G ++ numbered b (entries_from H b ((m.newest + 1) - b)) =
         append_assoc G (numbered b es) (rest_all H m (b + c)).items
         ∙ ap (λ l. G ++ (numbered b es ++ l)) (sym left.0)
         ∙ ap (λ k. G ++ (numbered b es ++ numbered (b + k) (entries_from H (b + c) ((m.newest + 1) - (b + c))))) (sym long)
         ∙ ap (λ l. G ++ l) (sym (numbered-append b es (entries_from H (b + c) ((m.newest + 1) - (b + c)))))
         ∙ ap (λ l. G ++ numbered b l) (sym (entries-split H b c ((m.newest + 1) - (b + c)) (omega (arith, sound.above))))
         ∙ ap (λ k. G ++ numbered b (entries_from H b k)) sum in
-        let more : Rested → Rested = λ x. record { items = whole_reply r H m far s ++ x.items; next = x.next; ended = x.ended } in
-        let one : more (rest_from r H m (b + c) n) ≡ more (rest_all H m (b + c)) = ap more next in
+        let more : Rested → Rested = λ x. record { items = whole_reply r count H m far s ++ x.items; next = x.next; ended = x.ended } in
+        let one : more (rest_from r count H m (b + c) n) ≡ more (rest_all H m (b + c)) = ap more next in
         let two : more (rest_all H m (b + c)) ≡ record { items = G ++ numbered b (entries_from H b ((m.newest + 1) - b)); next = m.newest + 1; ended = CaughtUp } =
         ap (λ (l : List Item). record { items = l; next = (rest_all H m (b + c)).next; ended = (rest_all H m (b + c)).ended }) joined
         ∙ ap (λ (k : ℕ). record { items = G ++ numbered b (entries_from H b ((m.newest + 1) - b)); next = k; ended = (rest_all H m (b + c)).ended }) (sym left.1)

@@ -1,6 +1,6 @@
 -- A run over one moment is a walk over a log that doesn't change.
-use Rattle.std.proofs.Common.{◌≡◌, ◌≢◌, ℕ, zero, suc, Bool, true, false, ◌+◌, ◌<◌, ◌≤◌, ◌-◌, min, max, drop, length-take, nat_lt, if◌then◌else◌, Result, Ok, Err, List, [], ◌∷◌, ◌++◌, length, refl, sym, ap, subst, ◌∙◌, arith}
-use Rattle.std.proofs.lemmas.Bool.{ltb-false, lt-ltb, le-ltb}
+use Rattle.std.proofs.Common.{◌≡◌, ◌≢◌, ℕ, zero, suc, Bool, true, false, ◌+◌, ◌<◌, ◌≤◌, ◌-◌, min, max, drop, length-take, nat_le, nat_lt, if◌then◌else◌, Result, Ok, Err, List, [], ◌∷◌, ◌++◌, length, refl, sym, ap, subst, ◌∙◌, arith}
+use Rattle.std.proofs.lemmas.Bool.{leb-false, ltb-false, lt-leb, lt-ltb, le-ltb}
 use Rattle.bac_link.specs.declared.item.Item.{Item}
 use Rattle.bac_link.specs.declared.item.Item.TheVariants.{Gap, Logged}
 use Rattle.bac_walk.specs.declared.outcome.Ended.{Ended}
@@ -11,7 +11,7 @@ use Rattle.bac_log.specs.TrendLog.{sequence_number}
 use Rattle.bac_link.specs.Delivery.{History, Moment, Holds, now, later, items_of, Brings}
 use Rattle.bac_link.specs.Moments.{entries_from}
 use Rattle.bac_link.proofs.Delivers.{after_one, held_length, first_held}
-use Rattle.bac_walk.specs.Turns.{NoneOfHundred, whole_reply, reply_count}
+use Rattle.bac_walk.specs.Turns.{NoneOfAsked, whole_reply, reply_count}
 use Rattle.bac_walk.specs.Delivers.{NoneFrom}
 use Rattle.bac_walk.specs.Walks.{items_in, numbered}
 use Rattle.bac_log.specs.declared.entry.Entry.{Entry}
@@ -51,57 +51,57 @@ reply_end H m s u es false is brings some =
     (omega (arith, some, length-numbered (max s m.oldest) es), omega (arith, numbered_end H m s u (max s m.oldest) es brings, ge))
 
 -- where a whole reply brings it, and that it has an entry
-whole_end : (r : ℕ) (H : History) (m : Moment) (by_oldest : Bool) (s u : ℕ) (items : List Item) → 0 < length items → Brings H m s items u →
-    items ≡ whole_reply r H m by_oldest s → (0 < reply_count r H m by_oldest s) × (u ≡ max s m.oldest + reply_count r H m by_oldest s)
-whole_end r H m by_oldest s u items some brings is =
+whole_end : (r count : ℕ) (H : History) (m : Moment) (by_oldest : Bool) (s u : ℕ) (items : List Item) → 0 < length items → Brings H m s items u →
+    items ≡ whole_reply r count H m by_oldest s → (0 < reply_count r count H m by_oldest s) × (u ≡ max s m.oldest + reply_count r count H m by_oldest s)
+whole_end r count H m by_oldest s u items some brings is =
     let f = max s m.oldest in
-    let c = reply_count r H m by_oldest s in
-    let n = (min ((if by_oldest then max s m.oldest else s) + 99) m.newest + 1) - max s m.oldest in
+    let c = reply_count r count H m by_oldest s in
+    let n = min ((if by_oldest then max s m.oldest else s) + count) (m.newest + 1) - max s m.oldest in
     let all : length (entries_from H f c) ≡ c = entries_all H f c n (fitting_most r f (entries_from H f n)) in
     let P : List Item → Type 0 = λ xs. Brings H m s xs u × (0 < length xs) in
     let both = subst P is (brings, some) in
     let end = reply_end H m s u (entries_from H f c) (nat_lt s m.oldest) refl both.0 both.1 in
     (omega (arith, end.0, all), omega (arith, end.1, all))
 
-count_most : (r : ℕ) (H : History) (m : Moment) (by_oldest : Bool) (s : ℕ) →
-    reply_count r H m by_oldest s ≤ (min ((if by_oldest then max s m.oldest else s) + 99) m.newest + 1) - max s m.oldest
-count_most r H m by_oldest s =
-    let c = (min ((if by_oldest then max s m.oldest else s) + 99) m.newest + 1) - max s m.oldest in
+count_most : (r count : ℕ) (H : History) (m : Moment) (by_oldest : Bool) (s : ℕ) →
+    reply_count r count H m by_oldest s ≤ min ((if by_oldest then max s m.oldest else s) + count) (m.newest + 1) - max s m.oldest
+count_most r count H m by_oldest s =
+    let c = min ((if by_oldest then max s m.oldest else s) + count) (m.newest + 1) - max s m.oldest in
     omega (arith, fitting_most r (max s m.oldest) (entries_from H (max s m.oldest) c), length-take c (drop (max s m.oldest - (H.logged + 1)) H.entries))
 
 -- a batch that the question by number brought, and one that the question for the oldest brought
-near_first : (r : ℕ) (H : History) (m : Moment) (s u : ℕ) (items : List Item) → 0 < length items → Brings H m s items u →
-    items ≡ whole_reply r H m false s → nat_lt (s + 99) (max s m.oldest) ≡ false
-near_first r H m s u items some brings is =
-    le-ltb (s + 99) (max s m.oldest) (omega (arith, (whole_end r H m false s u items some brings is).0, count_most r H m false s))
+near_first : (r count : ℕ) (H : History) (m : Moment) (s u : ℕ) (items : List Item) → 0 < length items → Brings H m s items u →
+    items ≡ whole_reply r count H m false s → nat_le (s + count) (max s m.oldest) ≡ false
+near_first r count H m s u items some brings is =
+    lt-leb (s + count) (max s m.oldest) (omega (arith, (whole_end r count H m false s u items some brings is).0, count_most r count H m false s))
 
-far_first : (H : History) (m : Moment) (s u : ℕ) (items : List Item) → 0 < length items → Brings H m s items u → NoneOfHundred s m →
-    (b : Bool) → nat_lt (s + 99) (max s m.oldest) ≡ b → b ≡ true
-far_first H m s u items some brings none true is = refl
-far_first H m s u items some brings none false is =
-    let le : max s m.oldest ≤ s + 99 = ltb-false _ _ is in
-    absurd (none (max s m.oldest) (omega arith) (omega (arith, le)) (batch_held H m s u items some brings))
+far_first : (count : ℕ) (H : History) (m : Moment) (s u : ℕ) (items : List Item) → 0 < length items → Brings H m s items u → NoneOfAsked count s m →
+    (b : Bool) → nat_le (s + count) (max s m.oldest) ≡ b → b ≡ true
+far_first count H m s u items some brings none true is = refl
+far_first count H m s u items some brings none false is =
+    let lt : max s m.oldest < s + count = leb-false _ _ is in
+    absurd (none (max s m.oldest) (omega arith) lt (batch_held H m s u items some brings))
 
 -- one step of a walk over one moment
-rest_step : (r : ℕ) (H : History) (m : Moment) (s u n : ℕ) (batch more : List Item) (t : ℕ) (why : Ended) (b : Bool) →
-    0 < length batch → Brings H m s batch u → nat_lt (s + 99) (max s m.oldest) ≡ b → batch ≡ whole_reply r H m b s →
-    record { items = more; next = t; ended = why } ≡ rest_from r H m u n →
-    record { items = batch ++ more; next = t; ended = why } ≡ rest_from r H m s (suc n)
-rest_step r H m s u n batch more t why b some brings far whole rest =
+rest_step : (r count : ℕ) (H : History) (m : Moment) (s u n : ℕ) (batch more : List Item) (t : ℕ) (why : Ended) (b : Bool) →
+    0 < length batch → Brings H m s batch u → nat_le (s + count) (max s m.oldest) ≡ b → batch ≡ whole_reply r count H m b s →
+    record { items = more; next = t; ended = why } ≡ rest_from r count H m u n →
+    record { items = batch ++ more; next = t; ended = why } ≡ rest_from r count H m s (suc n)
+rest_step r count H m s u n batch more t why b some brings far whole rest =
     let held : nat_lt m.newest (max s m.oldest) ≡ false = le-ltb m.newest (max s m.oldest) (batch_held H m s u batch some brings).1 in
-    let end : u ≡ max s m.oldest + reply_count r H m b s = (whole_end r H m b s u batch some brings whole).1 in
-    let after : ℕ → List Item → Rested = λ k xs. (let next = rest_from r H m k n in record { items = xs ++ next.items; next = next.next; ended = next.ended }) in
+    let end : u ≡ max s m.oldest + reply_count r count H m b s = (whole_end r count H m b s u batch some brings whole).1 in
+    let after : ℕ → List Item → Rested = λ k xs. (let next = rest_from r count H m k n in record { items = xs ++ next.items; next = next.next; ended = next.ended }) in
     let one : record { items = batch ++ more; next = t; ended = why } ≡ after u batch =
     ap (λ (x : Rested). record { items = batch ++ x.items; next = x.next; ended = x.ended }) rest in
-    let two : after u batch ≡ after (max s m.oldest + reply_count r H m b s) (whole_reply r H m b s) = ap (λ k. after k batch) end ∙ ap (after _) whole in
-    let by : Bool → Rested = λ c. after (max s m.oldest + reply_count r H m c s) (whole_reply r H m c s) in
+    let two : after u batch ≡ after (max s m.oldest + reply_count r count H m b s) (whole_reply r count H m b s) = ap (λ k. after k batch) end ∙ ap (after _) whole in
+    let by : Bool → Rested = λ c. after (max s m.oldest + reply_count r count H m c s) (whole_reply r count H m c s) in
     one ∙ two ∙ ap by (sym far) ∙ rw held refl
 
 -- nothing is left
-rest_end : (r : ℕ) (H : History) (m : Moment) (s n : ℕ) (b : Bool) → nat_lt m.newest (max s m.oldest) ≡ b → NoneFrom s m →
-    record { items = []; next = s; ended = CaughtUp } ≡ rest_from r H m s (suc n)
-rest_end r H m s n true is none = rw is refl
-rest_end r H m s n false is none =
+rest_end : (r count : ℕ) (H : History) (m : Moment) (s n : ℕ) (b : Bool) → nat_lt m.newest (max s m.oldest) ≡ b → NoneFrom s m →
+    record { items = []; next = s; ended = CaughtUp } ≡ rest_from r count H m s (suc n)
+rest_end r count H m s n true is none = rw is refl
+rest_end r count H m s n false is none =
     let le : max s m.oldest ≤ m.newest = ltb-false _ _ is in
     absurd (none (max s m.oldest) (omega arith) (omega arith, le))
 
@@ -112,20 +112,20 @@ Ends StepLimit m t answers steps = (batches answers ≡ steps) × IsWhole answer
 Ends (Fault e) m t answers steps = ⊥
 Ends Stopped m t answers steps = ⊥
 
-stops_at : (r : ℕ) (H : History) (m : Moment) (s steps : ℕ) (why : Ended) → Ends why m s [] steps →
-    record { items = []; next = s; ended = why } ≡ rest_from r H m s steps
-stops_at r H m s zero CaughtUp ends = absurd (omega (arith, ends.0))
-stops_at r H m s (suc n) CaughtUp ends = rest_end r H m s n _ refl ends.1
-stops_at r H m s zero StepLimit ends = refl
-stops_at r H m s (suc n) StepLimit ends = absurd (omega (arith, ends.0))
-stops_at r H m s steps (Fault e) ends = absurd ends
-stops_at r H m s steps Stopped ends = absurd ends
+stops_at : (r count : ℕ) (H : History) (m : Moment) (s steps : ℕ) (why : Ended) → Ends why m s [] steps →
+    record { items = []; next = s; ended = why } ≡ rest_from r count H m s steps
+stops_at r count H m s zero CaughtUp ends = absurd (omega (arith, ends.0))
+stops_at r count H m s (suc n) CaughtUp ends = rest_end r count H m s n _ refl ends.1
+stops_at r count H m s zero StepLimit ends = refl
+stops_at r count H m s (suc n) StepLimit ends = absurd (omega (arith, ends.0))
+stops_at r count H m s steps (Fault e) ends = absurd ends
+stops_at r count H m s steps Stopped ends = absurd ends
 
-stops : (r : ℕ) (H : History) (m : Moment) (s t steps : ℕ) (why : Ended) → t ≡ s → Ends why m t [] steps →
-    record { items = []; next = t; ended = why } ≡ rest_from r H m s steps
-stops r H m s t steps why is ends =
+stops : (r count : ℕ) (H : History) (m : Moment) (s t steps : ℕ) (why : Ended) → t ≡ s → Ends why m t [] steps →
+    record { items = []; next = t; ended = why } ≡ rest_from r count H m s steps
+stops r count H m s t steps why is ends =
     let P : ℕ → Type 0 = λ n. Ends why m n [] steps in
-    ap (λ (n : ℕ). record { items = []; next = n; ended = why }) is ∙ stops_at r H m s steps why (subst P is ends)
+    ap (λ (n : ℕ). record { items = []; next = n; ended = why }) is ∙ stops_at r count H m s steps why (subst P is ends)
 
 -- the ends of a run whose first answers are left out
 ends_more : (why : Ended) (m : Moment) (t n : ℕ) (x : Item) (xs : List Item) (answers : List (List Item)) →
@@ -170,27 +170,27 @@ whole_head StepLimit m t steps [] all items reply ends is = is
 whole_head Stopped m t steps [] all items reply ends is = absurd ends
 whole_head (Fault e) m t steps [] all items reply ends is = absurd ends
 
-pub rests : (r : ℕ) (H : History) (m : Moment) (why : Ended) (s t steps : ℕ) (answers : List (List Item)) →
-    LeadsInSteps why r H (m ∷ []) false s answers t → Ends why m t answers steps →
-    record { items = items_of answers; next = t; ended = why } ≡ rest_from r H m s steps
-rests r H m why s t steps [] leads ends = stops r H m s t steps why leads ends
-rests r H m why s t steps ([] ∷ []) leads ends = stops r H m s t steps why leads.1 (ends_none why m t steps ends)
-rests r H m why s t steps ([] ∷ [] ∷ []) leads ends = stops r H m s t steps why leads.1.2 (ends_two why m t steps [] refl ends)
-rests r H m why s t steps ([] ∷ [] ∷ a ∷ answers) leads ends = absurd (let e = leads.1.0 in cc)
-rests r H m why s t zero ([] ∷ (x ∷ xs) ∷ answers) leads ends = absurd (some_step why m t ([] ∷ (x ∷ xs) ∷ answers) (omega arith) ends)
-rests r H m why s t (suc n) ([] ∷ (x ∷ xs) ∷ answers) leads ends =
+pub rests : (r count : ℕ) (H : History) (m : Moment) (why : Ended) (s t steps : ℕ) (answers : List (List Item)) →
+    LeadsInSteps why r count H (m ∷ []) false s answers t → Ends why m t answers steps →
+    record { items = items_of answers; next = t; ended = why } ≡ rest_from r count H m s steps
+rests r count H m why s t steps [] leads ends = stops r count H m s t steps why leads ends
+rests r count H m why s t steps ([] ∷ []) leads ends = stops r count H m s t steps why leads.1 (ends_none why m t steps ends)
+rests r count H m why s t steps ([] ∷ [] ∷ []) leads ends = stops r count H m s t steps why leads.1.2 (ends_two why m t steps [] refl ends)
+rests r count H m why s t steps ([] ∷ [] ∷ a ∷ answers) leads ends = absurd (let e = leads.1.0 in cc)
+rests r count H m why s t zero ([] ∷ (x ∷ xs) ∷ answers) leads ends = absurd (some_step why m t ([] ∷ (x ∷ xs) ∷ answers) (omega arith) ends)
+rests r count H m why s t (suc n) ([] ∷ (x ∷ xs) ∷ answers) leads ends =
     let u = leads.1.0 in
     let brings = leads.1.1 in
     let whole = whole_head why m t (suc n) answers ([] ∷ (x ∷ xs) ∷ answers) (x ∷ xs) _ ends leads.1.2 in
-    rest_step r H m s u n (x ∷ xs) (items_of answers) t why true (omega arith) brings
-    (far_first H m s u (x ∷ xs) (omega arith) brings leads.0 _ refl) whole (rests r H m why u t n answers leads.1.3 (ends_idle why m t n x xs answers ends))
-rests r H m why s t zero ((x ∷ xs) ∷ answers) leads ends = absurd (some_step why m t ((x ∷ xs) ∷ answers) (omega arith) ends)
-rests r H m why s t (suc n) ((x ∷ xs) ∷ answers) leads ends =
+    rest_step r count H m s u n (x ∷ xs) (items_of answers) t why true (omega arith) brings
+    (far_first count H m s u (x ∷ xs) (omega arith) brings leads.0 _ refl) whole (rests r count H m why u t n answers leads.1.3 (ends_idle why m t n x xs answers ends))
+rests r count H m why s t zero ((x ∷ xs) ∷ answers) leads ends = absurd (some_step why m t ((x ∷ xs) ∷ answers) (omega arith) ends)
+rests r count H m why s t (suc n) ((x ∷ xs) ∷ answers) leads ends =
     let u = leads.0 in
     let brings = leads.1 in
     let whole = whole_head why m t (suc n) answers ((x ∷ xs) ∷ answers) (x ∷ xs) _ ends leads.2 in
-    rest_step r H m s u n (x ∷ xs) (items_of answers) t why false (omega arith) brings
-    (near_first r H m s u (x ∷ xs) (omega arith) brings whole) whole (rests r H m why u t n answers leads.3 (ends_more why m t n x xs answers ends))
+    rest_step r count H m s u n (x ∷ xs) (items_of answers) t why false (omega arith) brings
+    (near_first r count H m s u (x ∷ xs) (omega arith) brings whole) whole (rests r count H m why u t n answers leads.3 (ends_more why m t n x xs answers ends))
 
 ends_of : (why : Ended) (m : Moment) (fresh : Bool) (t : ℕ) (answers : List (List Item)) (steps retries old new : ℕ) → FoundEnd why → why ≢ Stopped →
     IsEnded why fresh t (m ∷ []) answers steps retries old new → Ends why m t answers steps
@@ -204,11 +204,11 @@ ends_of (Fault (Refused refusal)) m fresh t answers steps retries old new found 
 ends_of (Fault BadReply) m fresh t answers steps retries old new found on end = absurd end
 
 -- from an ordinal
-rest_at : (r : ℕ) (H : History) (m : Moment) (s steps : ℕ) (items : List Item) (t shown : ℕ) (why : Ended) (answers : List (List Item)) →
-    items_of answers ≡ items → LeadsInSteps why r H (m ∷ []) false s answers t → Ends why m t answers steps → shown ≡ sequence_number t →
-    IsRest (rest_from r H m s steps) items shown why
-rest_at r H m s steps items t shown why answers all leads ends is =
-    let eq = rests r H m why s t steps answers leads ends in
+rest_at : (r count : ℕ) (H : History) (m : Moment) (s steps : ℕ) (items : List Item) (t shown : ℕ) (why : Ended) (answers : List (List Item)) →
+    items_of answers ≡ items → LeadsInSteps why r count H (m ∷ []) false s answers t → Ends why m t answers steps → shown ≡ sequence_number t →
+    IsRest (rest_from r count H m s steps) items shown why
+rest_at r count H m s steps items t shown why answers all leads ends is =
+    let eq = rests r count H m why s t steps answers leads ends in
     (sym all ∙ ap (λ (x : Rested). x.items) eq, is ∙ ap sequence_number (ap (λ (x : Rested). x.next) eq), ap (λ (x : Rested). x.ended) eq)
 
 -- where a walk from the oldest entry begins
@@ -222,84 +222,84 @@ start_some next m [] some = absurd (omega arith)
 start_some next m ([] ∷ answers) some = start_some next m answers some
 start_some next m ((x ∷ xs) ∷ answers) some = refl
 
-some_held : (why : Ended) (r : ℕ) (H : History) (m : Moment) (by_oldest : Bool) (s t : ℕ) (answers : List (List Item)) → 0 < batches answers →
-    LeadsInSteps why r H (m ∷ []) by_oldest s answers t → m.oldest ≤ m.newest
-some_held why r H m by_oldest s t [] some leads = absurd (omega arith)
-some_held why r H m false s t ([] ∷ answers) some leads = some_held why r H m true s t answers some leads.1
-some_held why r H m true s t ([] ∷ answers) some leads = absurd (omega (arith, some, ap batches leads.0))
-some_held why r H m by_oldest s t ((x ∷ xs) ∷ answers) some leads =
+some_held : (why : Ended) (r count : ℕ) (H : History) (m : Moment) (by_oldest : Bool) (s t : ℕ) (answers : List (List Item)) → 0 < batches answers →
+    LeadsInSteps why r count H (m ∷ []) by_oldest s answers t → m.oldest ≤ m.newest
+some_held why r count H m by_oldest s t [] some leads = absurd (omega arith)
+some_held why r count H m false s t ([] ∷ answers) some leads = some_held why r count H m true s t answers some leads.1
+some_held why r count H m true s t ([] ∷ answers) some leads = absurd (omega (arith, some, ap batches leads.0))
+some_held why r count H m by_oldest s t ((x ∷ xs) ∷ answers) some leads =
     let held = batch_held H m s leads.0 (x ∷ xs) (omega arith) leads.1 in omega (arith, held.0, held.1)
 
-idle_stays : (why : Ended) (r : ℕ) (H : History) (M : List Moment) (by_oldest : Bool) (s t : ℕ) (answers : List (List Item)) → batches answers ≡ 0 →
-    LeadsInSteps why r H M by_oldest s answers t → t ≡ s
-idle_stays why r H M by_oldest s t [] none leads = leads
-idle_stays why r H M false s t ([] ∷ answers) none leads = idle_stays why r H (later M) true s t answers none leads.1
-idle_stays why r H M true s t ([] ∷ answers) none leads = leads.2
-idle_stays why r H M by_oldest s t ((x ∷ xs) ∷ answers) none leads = absurd (omega (arith, none))
+idle_stays : (why : Ended) (r count : ℕ) (H : History) (M : List Moment) (by_oldest : Bool) (s t : ℕ) (answers : List (List Item)) → batches answers ≡ 0 →
+    LeadsInSteps why r count H M by_oldest s answers t → t ≡ s
+idle_stays why r count H M by_oldest s t [] none leads = leads
+idle_stays why r count H M false s t ([] ∷ answers) none leads = idle_stays why r count H (later M) true s t answers none leads.1
+idle_stays why r count H M true s t ([] ∷ answers) none leads = leads.2
+idle_stays why r count H M by_oldest s t ((x ∷ xs) ∷ answers) none leads = absurd (omega (arith, none))
 
 no_items_of : (answers : List (List Item)) → batches answers ≡ 0 → items_of answers ≡ []
 no_items_of [] none = refl
 no_items_of ([] ∷ answers) none = no_items_of answers none
 no_items_of ((x ∷ xs) ∷ answers) none = absurd (omega (arith, none))
 
-rest_some : (r : ℕ) (H : History) (m : Moment) (s steps : ℕ) → 0 < steps → m.oldest ≤ m.newest → rest_from r H m m.oldest steps ≡ rest_oldest r H m s steps
-rest_some r H m s zero some held = absurd (omega arith)
-rest_some r H m s (suc n) some held = let no : nat_lt m.newest m.oldest ≡ false = le-ltb m.newest m.oldest held in rw no refl
+rest_some : (r count : ℕ) (H : History) (m : Moment) (s steps : ℕ) → 0 < steps → m.oldest ≤ m.newest → rest_from r count H m m.oldest steps ≡ rest_oldest r count H m s steps
+rest_some r count H m s zero some held = absurd (omega arith)
+rest_some r count H m s (suc n) some held = let no : nat_lt m.newest m.oldest ≡ false = le-ltb m.newest m.oldest held in rw no refl
 
-idle_oldest : (r : ℕ) (H : History) (m : Moment) (s steps t shown retries old new : ℕ) (why : Ended) (answers : List (List Item)) → FoundEnd why → why ≢ Stopped →
+idle_oldest : (r count : ℕ) (H : History) (m : Moment) (s steps t shown retries old new : ℕ) (why : Ended) (answers : List (List Item)) → FoundEnd why → why ≢ Stopped →
     batches answers ≡ 0 → t ≡ s → shown ≡ sequence_number t → IsEnded why true t (m ∷ []) answers steps retries old new →
-    IsRest (rest_oldest r H m s steps) [] shown why
-idle_oldest r H m s zero t shown retries old new CaughtUp answers found on none same is end = absurd (omega (arith, end.0))
-idle_oldest r H m s (suc n) t shown retries old new CaughtUp answers found on none same is end =
+    IsRest (rest_oldest r count H m s steps) [] shown why
+idle_oldest r count H m s zero t shown retries old new CaughtUp answers found on none same is end = absurd (omega (arith, end.0))
+idle_oldest r count H m s (suc n) t shown retries old new CaughtUp answers found on none same is end =
     let P : List Moment → Type 0 = λ N. (now N).newest < (now N).oldest in
     let empty : nat_lt m.newest m.oldest ≡ true = lt-ltb m.newest m.oldest (subst P (after_one end.1.0 m) (end.1.4 refl none)) in
-    let Q : Bool → Type 0 = λ b. IsRest (if b then record { items = []; next = s; ended = CaughtUp } else rest_from r H m m.oldest (suc n)) [] shown CaughtUp in
+    let Q : Bool → Type 0 = λ b. IsRest (if b then record { items = []; next = s; ended = CaughtUp } else rest_from r count H m m.oldest (suc n)) [] shown CaughtUp in
     subst Q (sym empty) (refl, is ∙ ap sequence_number same, refl)
-idle_oldest r H m s zero t shown retries old new StepLimit answers found on none same is end = (refl, is ∙ ap sequence_number same, refl)
-idle_oldest r H m s (suc n) t shown retries old new StepLimit answers found on none same is end = absurd (omega (arith, end.0, none))
-idle_oldest r H m s steps t shown retries old new Stopped answers found on none same is end = absurd (on refl)
-idle_oldest r H m s steps t shown retries old new (Fault Lost) answers found on none same is end = absurd found
-idle_oldest r H m s steps t shown retries old new (Fault (Refused refusal)) answers found on none same is end = absurd end
-idle_oldest r H m s steps t shown retries old new (Fault BadReply) answers found on none same is end = absurd end
+idle_oldest r count H m s zero t shown retries old new StepLimit answers found on none same is end = (refl, is ∙ ap sequence_number same, refl)
+idle_oldest r count H m s (suc n) t shown retries old new StepLimit answers found on none same is end = absurd (omega (arith, end.0, none))
+idle_oldest r count H m s steps t shown retries old new Stopped answers found on none same is end = absurd (on refl)
+idle_oldest r count H m s steps t shown retries old new (Fault Lost) answers found on none same is end = absurd found
+idle_oldest r count H m s steps t shown retries old new (Fault (Refused refusal)) answers found on none same is end = absurd end
+idle_oldest r count H m s steps t shown retries old new (Fault BadReply) answers found on none same is end = absurd end
 
-oldest_at : (r : ℕ) (H : History) (m : Moment) (s steps retries old new : ℕ) (items : List Item) (t shown : ℕ) (why : Ended) (answers : List (List Item)) (n : ℕ) →
-    batches answers ≡ n → FoundEnd why → why ≢ Stopped → Collected r H (m ∷ []) true s steps retries old new items t why answers → shown ≡ sequence_number t →
-    IsRest (rest_oldest r H m s steps) items shown why
-oldest_at r H m s steps retries old new items t shown why answers zero none found on run is =
+oldest_at : (r count : ℕ) (H : History) (m : Moment) (s steps retries old new : ℕ) (items : List Item) (t shown : ℕ) (why : Ended) (answers : List (List Item)) (n : ℕ) →
+    batches answers ≡ n → FoundEnd why → why ≢ Stopped → Collected r count H (m ∷ []) true s steps retries old new items t why answers → shown ≡ sequence_number t →
+    IsRest (rest_oldest r count H m s steps) items shown why
+oldest_at r count H m s steps retries old new items t shown why answers zero none found on run is =
     let nothing : items ≡ [] = sym run.all ∙ no_items_of answers none in
-    let same : t ≡ s = idle_stays why r H (m ∷ []) false _ t answers none run.leads ∙ start_none s (m ∷ []) answers none in
-    let Q : List Item → Type 0 = λ l. IsRest (rest_oldest r H m s steps) l shown why in
-    subst Q (sym nothing) (idle_oldest r H m s steps t shown retries old new why answers found on none same is run.end)
-oldest_at r H m s steps retries old new items t shown why answers (suc n) count found on run is =
-    let some : 0 < batches answers = omega (arith, count) in
+    let same : t ≡ s = idle_stays why r count H (m ∷ []) false _ t answers none run.leads ∙ start_none s (m ∷ []) answers none in
+    let Q : List Item → Type 0 = λ l. IsRest (rest_oldest r count H m s steps) l shown why in
+    subst Q (sym nothing) (idle_oldest r count H m s steps t shown retries old new why answers found on none same is run.end)
+oldest_at r count H m s steps retries old new items t shown why answers (suc n) many found on run is =
+    let some : 0 < batches answers = omega (arith, many) in
     let start : start_of true s (m ∷ []) answers ≡ m.oldest = start_some s m answers some in
     let ends = ends_of why m true t answers steps retries old new found on run.end in
-    let A : ℕ → Type 0 = λ u. LeadsInSteps why r H (m ∷ []) false u answers t in
+    let A : ℕ → Type 0 = λ u. LeadsInSteps why r count H (m ∷ []) false u answers t in
     let R : Rested → Type 0 = λ x. IsRest x items shown why in
     let leads = subst A start run.leads in
-    subst R (rest_some r H m s steps (some_steps steps refl some ends) (some_held why r H m false m.oldest t answers some leads))
-    (rest_at r H m m.oldest steps items t shown why answers run.all leads ends is)
+    subst R (rest_some r count H m s steps (some_steps steps refl some ends) (some_held why r count H m false m.oldest t answers some leads))
+    (rest_at r count H m m.oldest steps items t shown why answers run.all leads ends is)
   where
     some_steps : (k : ℕ) → k ≡ steps → 0 < batches answers → Ends why m t answers steps → 0 < steps
     some_steps zero is some ends =
         let E : ℕ → Type 0 = λ n. Ends why m t answers n in absurd (some_step why m t answers some (subst E (sym is) ends))
     some_steps (suc k) is some ends = omega (arith, is)
 
-pub rested : (r : ℕ) (H : History) (m : Moment) (fresh : Bool) (s steps retries old new : ℕ) (items : List Item) (t shown : ℕ) (why : Ended) (answers : List (List Item)) →
-    FoundEnd why → why ≢ Stopped → Collected r H (m ∷ []) fresh s steps retries old new items t why answers → shown ≡ sequence_number t →
-    IsRest (rest r H m fresh s steps) items shown why
-rested r H m false s steps retries old new items t shown why answers found on run is =
-    rest_at r H m s steps items t shown why answers run.all run.leads (ends_of why m false t answers steps retries old new found on run.end) is
-rested r H m true s steps retries old new items t shown why answers found on run is =
-    oldest_at r H m s steps retries old new items t shown why answers (batches answers) refl found on run is
+pub rested : (r count : ℕ) (H : History) (m : Moment) (fresh : Bool) (s steps retries old new : ℕ) (items : List Item) (t shown : ℕ) (why : Ended) (answers : List (List Item)) →
+    FoundEnd why → why ≢ Stopped → Collected r count H (m ∷ []) fresh s steps retries old new items t why answers → shown ≡ sequence_number t →
+    IsRest (rest r count H m fresh s steps) items shown why
+rested r count H m false s steps retries old new items t shown why answers found on run is =
+    rest_at r count H m s steps items t shown why answers run.all run.leads (ends_of why m false t answers steps retries old new found on run.end) is
+rested r count H m true s steps retries old new items t shown why answers found on run is =
+    oldest_at r count H m s steps retries old new items t shown why answers (batches answers) refl found on run is
 
 -- a step
-pub rested_step : (r : ℕ) (H : History) (m : Moment) (fresh : Bool) (s retries old new : ℕ) (t shown : ℕ) (z : Result Step WalkFault) (answers : List (List Item)) →
-    FoundStep z → Collected r H (m ∷ []) fresh s 1 retries old new (step_items z) t (step_ended z) answers → shown ≡ sequence_number t →
-    IsRest (rest r H m fresh s 1) (step_items z) shown (step_ended z)
-rested_step r H m fresh s retries old new t shown (Ok (StepOf b)) answers found run is =
-    rested r H m fresh s 1 retries old new (items_in b) t shown StepLimit answers tt (λ e. cc) run is
-rested_step r H m fresh s retries old new t shown (Ok NoStep) answers found run is =
-    rested r H m fresh s 1 retries old new [] t shown CaughtUp answers tt (λ e. cc) run is
-rested_step r H m fresh s retries old new t shown (Err e) answers found run is =
-    rested r H m fresh s 1 retries old new [] t shown (Fault e) answers found (λ x. cc) run is
+pub rested_step : (r count : ℕ) (H : History) (m : Moment) (fresh : Bool) (s retries old new : ℕ) (t shown : ℕ) (z : Result Step WalkFault) (answers : List (List Item)) →
+    FoundStep z → Collected r count H (m ∷ []) fresh s 1 retries old new (step_items z) t (step_ended z) answers → shown ≡ sequence_number t →
+    IsRest (rest r count H m fresh s 1) (step_items z) shown (step_ended z)
+rested_step r count H m fresh s retries old new t shown (Ok (StepOf b)) answers found run is =
+    rested r count H m fresh s 1 retries old new (items_in b) t shown StepLimit answers tt (λ e. cc) run is
+rested_step r count H m fresh s retries old new t shown (Ok NoStep) answers found run is =
+    rested r count H m fresh s 1 retries old new [] t shown CaughtUp answers tt (λ e. cc) run is
+rested_step r count H m fresh s retries old new t shown (Err e) answers found run is =
+    rested r count H m fresh s 1 retries old new [] t shown (Fault e) answers found (λ x. cc) run is

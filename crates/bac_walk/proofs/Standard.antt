@@ -11,7 +11,7 @@ use Rattle.bac_walk.specs.Meant.{MeansOf}
 use Rattle.bac_link.specs.Moments.{IsInWindow}
 use Rattle.bac_link.specs.Ordinals.{distance, number_after, is_ahead}
 use Rattle.bac_walk.specs.Place.{WalkPlace}
-use Rattle.bac_link.specs.Standard.{Asked, FromNumber, FromOldest, HoldsNumber, AreHeldFrom, AreFrom, SaysAt}
+use Rattle.bac_link.specs.Standard.{Asked, FromNumber, FromOldest, IsCount, count_asked, HoldsNumber, AreHeldFrom, AreFrom, SaysAt}
 use Rattle.bac_walk.specs.Turns.{base}
 use Rattle.bac_walk.specs.Walks.{shown_from, gap_of, asked_by, asks_oldest_now, is_past, fits, items_in, NextAct, Bring, End, Ask, verdict, IsTaken, IsTakenFrom, numbered}
 use Rattle.bac_walk.specs.declared.outcome.BadReply.{BadReply}
@@ -59,12 +59,12 @@ bring H m low s u w es (Ok (BatchOf b)) after window from taken some are gap =
     let next : number_after (sequence_number f) (length es) ≡ sequence_number (f + length es) = after-number f (length es) in
     let in_log = held_within H m f es some are in
     let B : ℕ → Type 0 = λ n. (t : ℕ) × Brings H m n (items_in b) t
-    × (after ≡ record { log = w.log; next = sequence_number t; fresh = false; asks_oldest = false })
+    × (after ≡ record w { next = sequence_number t; fresh = false; asks_oldest = false })
     × (low ≤ t) × (t < low + 2147483648) in
     subst B (sym from) (
       f + length es,
       subst P (sym items) (gapped H m u (f + length es) es (nat_lt u m.oldest) refl some (held_items H m f es are)),
-      taken.1 ∙ ap (λ (n : ℕ). record { log = w.log; next = n; fresh = false; asks_oldest = false }) next,
+      taken.1 ∙ ap (λ (n : ℕ). record w { next = n; fresh = false; asks_oldest = false }) next,
       omega (arith, window.oldest, in_log.0),
       omega (arith, window.newest, in_log.1),
     )
@@ -89,41 +89,41 @@ same_ordinal : (low s k : ℕ) → low ≤ s → s < low + 2147483648 → low �
 same_ordinal low s k a b c d e = omega (arith, a, b, c, d, e)
 
 -- where records begin that were asked for by number
-first_place : (H : History) (m : Moment) (low s k : ℕ) (next : ℕ) (first : Option ℕ) (es : List Entry) → IsInWindow low m → next ≡ sequence_number s →
-    low ≤ s → s < low + 2147483648 → 0 < length es → AreFrom H m k first es →
-    (next ≡ sequence_number k) ⊎ ((HoldsNumber m next → ⊥) × (k ≡ m.oldest) × (distance next (sequence_number k) + length es ≤ 100)) →
-    (k ≡ max s m.oldest) × (distance next (sequence_number k) + length es ≤ 100)
-first_place H m low s k next first es window is above below some (first_is, few, are) (inl same) =
+first_place : (H : History) (m : Moment) (low s k count : ℕ) (next : ℕ) (first : Option ℕ) (es : List Entry) → count ≤ 100 → IsInWindow low m → next ≡ sequence_number s →
+    low ≤ s → s < low + 2147483648 → 0 < length es → AreFrom H m k count first es →
+    (next ≡ sequence_number k) ⊎ ((HoldsNumber m next → ⊥) × (k ≡ m.oldest) × (distance next (sequence_number k) + length es ≤ count)) →
+    (k ≡ max s m.oldest) × (distance next (sequence_number k) + length es ≤ count)
+first_place H m low s k count next first es small window is above below some (first_is, few, are) (inl same) =
     let in_log = held_within H m k es some are in
     let here : s ≡ k = same_ordinal low s k above below (omega (arith, window.oldest, in_log.0)) (omega (arith, window.newest, in_log.1, some)) (sym is ∙ same) in
     let zero : distance (sequence_number k) (sequence_number k) ≡ 0 = omega (arith, distance-number k k (omega arith) (omega arith)) in
     let near : distance next (sequence_number k) ≡ 0 = ap (λ n. distance n (sequence_number k)) same ∙ zero in
     (omega (arith, here, in_log.0), omega (arith, near, few))
-first_place H m low s k next first es window is above below some (first_is, few, are) (inr gone) =
+first_place H m low s k count next first es small window is above below some (first_is, few, are) (inr gone) =
     elim (cases_lt m.oldest s) [
       | inl lt ↦
           let far : 2147483648 ≤ distance (sequence_number s) (sequence_number m.oldest) = distance-behind s m.oldest lt (omega (arith, window.oldest, below)) in
           let as_is : distance next (sequence_number k) ≡ distance (sequence_number s) (sequence_number m.oldest) =
           ap (λ n. distance n (sequence_number k)) is ∙ ap (λ n. distance (sequence_number s) (sequence_number n)) gone.1 in
-          absurd (omega (arith, far, as_is, gone.2))
+          absurd (omega (arith, far, as_is, gone.2, small))
       | inr ge ↦ (omega (arith, ge, gone.1), gone.2)
     ]
 
 by_number : (H : History) (m : Moment) (low s : ℕ) (w : WalkPlace) (first : Option ℕ) (count : ℕ) (es : List Entry) (p : Result Progress BadReply) (after : WalkPlace) →
-    IsInWindow low m → asks_oldest_now w ≡ false → w.next ≡ sequence_number s → low ≤ s → s < low + 2147483648 → count ≡ length es →
-    SaysAt m H (FromNumber w.next) first es → IsTaken w es (verdict w first count es) p after → MeansOf H m low s w p after
-by_number H m low s w first count [] p after window by next above below counted says taken =
+    IsCount w.count → IsInWindow low m → asks_oldest_now w ≡ false → w.next ≡ sequence_number s → low ≤ s → s < low + 2147483648 → count ≡ length es →
+    SaysAt m H (FromNumber w.next w.count) first es → IsTaken w es (verdict w first count es) p after → MeansOf H m low s w p after
+by_number H m low s w first count [] p after asks window by next above below counted says taken =
     let P : Bool → Type 0 = λ b. IsTaken w [] (if b then End else Ask) p after in
     ask H m low s w p after (subst P by taken) by says
-by_number H m low s w first count (e ∷ es) p after window by next above below counted (k, from, which) taken =
+by_number H m low s w first count (e ∷ es) p after asks window by next above below counted (k, from, which) taken =
     let f = max s m.oldest in
-    let place = first_place H m low s k w.next first (e ∷ es) window next above below (omega arith) from which in
-    let F : ℕ → Type 0 = λ n. AreFrom H m n first (e ∷ es) × (distance w.next (sequence_number n) + length (e ∷ es) ≤ 100) in
+    let place = first_place H m low s k w.count w.next first (e ∷ es) asks.most window next above below (omega arith) from which in
+    let F : ℕ → Type 0 = λ n. AreFrom H m n w.count first (e ∷ es) × (distance w.next (sequence_number n) + length (e ∷ es) ≤ w.count) in
     let at = subst F place.0 (from, place.1) in
     let past : is_past w (sequence_number f) ≡ false = rw by refl in
-    let hundred : nat_le (length (e ∷ es)) 100 ≡ true = le-leb _ _ at.0.1 in
-    let within : nat_le (distance w.next (sequence_number f) + length (e ∷ es)) 100 ≡ true = le-leb _ _ at.1 in
-    let fitting_in : fits w (sequence_number f) (length (e ∷ es)) ≡ true = rw (hundred, number-is f, by, within) refl in
+    let few_asked : nat_le (length (e ∷ es)) w.count ≡ true = le-leb _ _ at.0.1 in
+    let within : nat_le (distance w.next (sequence_number f) + length (e ∷ es)) w.count ≡ true = le-leb _ _ at.1 in
+    let fitting_in : fits w (sequence_number f) (length (e ∷ es)) ≡ true = rw (few_asked, number-is f, by, within) refl in
     let v : verdict w first count (e ∷ es) ≡ Bring (sequence_number f) =
     ap (λ o. verdict w o count (e ∷ es)) at.0.0 ∙ verdict-bring w (sequence_number f) count (e ∷ es) (omega arith) past counted fitting_in in
     let P : NextAct → Type 0 = λ u. IsTaken w (e ∷ es) u p after in
@@ -134,7 +134,7 @@ by_number H m low s w first count (e ∷ es) p after window by next above below 
 
 oldest_some : (H : History) (m : Moment) (low s : ℕ) (w : WalkPlace) (count : ℕ) (e : Entry) (es : List Entry) (p : Result Progress BadReply) (after : WalkPlace) →
     IsInWindow low m → w.next ≡ sequence_number s → asks_oldest_now w ≡ true → (past fresh : Bool) → is_past w (sequence_number m.oldest) ≡ past → w.fresh ≡ fresh →
-    (w.fresh ≡ false → (low ≤ s) × (s < low + 2147483648)) → length (e ∷ es) ≤ 100 → count ≡ length (e ∷ es) →
+    (w.fresh ≡ false → (low ≤ s) × (s < low + 2147483648)) → length (e ∷ es) ≤ w.count → count ≡ length (e ∷ es) →
     AreHeldFrom H m m.oldest (e ∷ es) →
     IsTaken w (e ∷ es) (verdict w (Some (sequence_number m.oldest)) count (e ∷ es)) p after → MeansOf H m low s w p after
 oldest_some H m low s w count e es p after window next by true fresh past is_fresh at few counted are taken =
@@ -147,8 +147,8 @@ oldest_some H m low s w count e es p after window next by true fresh past is_fre
     sym (ahead-number s m.oldest (omega (arith, here.1, window.oldest)) (omega (arith, here.0, window.newest, in_log.1))) ∙ ap (λ n. is_ahead n (sequence_number m.oldest)) (sym next) ∙ not-true _ both.1 in
     end H m low s w (e ∷ es) p after (subst P v taken) by (inr (not-true w.fresh both.0, leb-false s m.oldest behind))
 oldest_some H m low s w count e es p after window next by false true past is_fresh at few counted are taken =
-    let hundred : nat_le (length (e ∷ es)) 100 ≡ true = le-leb _ _ few in
-    let fitting_in : fits w (sequence_number m.oldest) (length (e ∷ es)) ≡ true = rw (hundred, number-is m.oldest, by) refl in
+    let few_asked : nat_le (length (e ∷ es)) w.count ≡ true = le-leb _ _ few in
+    let fitting_in : fits w (sequence_number m.oldest) (length (e ∷ es)) ≡ true = rw (few_asked, number-is m.oldest, by) refl in
     let v : verdict w (Some (sequence_number m.oldest)) count (e ∷ es) ≡ Bring (sequence_number m.oldest) = verdict-bring w (sequence_number m.oldest) count (e ∷ es) (omega arith) past counted fitting_in in
     let top : m.oldest ≡ max m.oldest m.oldest = omega arith in
     let P : NextAct → Type 0 = λ u. IsTaken w (e ∷ es) u p after in
@@ -159,8 +159,8 @@ oldest_some H m low s w count e es p after window next by false true past is_fre
 oldest_some H m low s w count e es p after window next by false false past is_fresh at few counted are taken =
     let here = at is_fresh in
     let in_log = held_within H m m.oldest (e ∷ es) (omega arith) are in
-    let hundred : nat_le (length (e ∷ es)) 100 ≡ true = le-leb _ _ few in
-    let fitting_in : fits w (sequence_number m.oldest) (length (e ∷ es)) ≡ true = rw (hundred, number-is m.oldest, by) refl in
+    let few_asked : nat_le (length (e ∷ es)) w.count ≡ true = le-leb _ _ few in
+    let fitting_in : fits w (sequence_number m.oldest) (length (e ∷ es)) ≡ true = rw (few_asked, number-is m.oldest, by) refl in
     let v : verdict w (Some (sequence_number m.oldest)) count (e ∷ es) ≡ Bring (sequence_number m.oldest) = verdict-bring w (sequence_number m.oldest) count (e ∷ es) (omega arith) past counted fitting_in in
     let ahead : nat_le s m.oldest ≡ true =
     sym (ahead-number s m.oldest (omega (arith, here.1, window.oldest)) (omega (arith, here.0, window.newest, in_log.1))) ∙ ap (λ n. is_ahead n (sequence_number m.oldest)) (sym next)
@@ -175,7 +175,7 @@ oldest_some H m low s w count e es p after window next by false false past is_fr
 
 by_oldest : (H : History) (m : Moment) (low s : ℕ) (w : WalkPlace) (first : Option ℕ) (count : ℕ) (es : List Entry) (p : Result Progress BadReply) (after : WalkPlace) →
     IsInWindow low m → asks_oldest_now w ≡ true → w.next ≡ sequence_number s → (w.fresh ≡ false → (low ≤ s) × (s < low + 2147483648)) → count ≡ length es →
-    SaysAt m H FromOldest first es → IsTaken w es (verdict w first count es) p after → MeansOf H m low s w p after
+    SaysAt m H (FromOldest w.count) first es → IsTaken w es (verdict w first count es) p after → MeansOf H m low s w p after
 by_oldest H m low s w first count [] p after window by next at counted says taken =
     let P : Bool → Type 0 = λ b. IsTaken w [] (if b then End else Ask) p after in
     end H m low s w [] p after (subst P by taken) by (inl says)
@@ -184,21 +184,22 @@ by_oldest H m low s w first count (e ∷ es) p after window by next at counted s
     oldest_some H m low s w count e es p after window next by (is_past w (sequence_number m.oldest)) w.fresh refl refl at says.1 counted says.2 (subst P says.0 taken)
 
 by_asked : (H : History) (m : Moment) (low s : ℕ) (w : WalkPlace) (h : AckParameters) (p : Result Progress BadReply) (after : WalkPlace) →
-    (oldest : Bool) → asks_oldest_now w ≡ oldest → IsInWindow low m → w.next ≡ sequence_number s → (w.fresh ≡ false → (low ≤ s) × (s < low + 2147483648)) →
+    (oldest : Bool) → asks_oldest_now w ≡ oldest → IsCount (count_asked (asked_by w)) → IsInWindow low m → w.next ≡ sequence_number s → (w.fresh ≡ false → (low ≤ s) × (s < low + 2147483648)) →
     h.count ≡ length h.entries → SaysAt m H (asked_by w) h.first h.entries → IsTaken w h.entries (verdict w h.first h.count h.entries) p after → MeansOf H m low s w p after
-by_asked H m low s w h p after true by window next at counted says taken =
-    let q : asked_by w ≡ FromOldest = rw by refl in
+by_asked H m low s w h p after true by asks window next at counted says taken =
+    let q : asked_by w ≡ FromOldest w.count = rw by refl in
     let P : Asked → Type 0 = λ x. SaysAt m H x h.first h.entries in
     by_oldest H m low s w h.first h.count h.entries p after window by next at counted (subst P q says) taken
-by_asked H m low s w h p after false by window next at counted says taken =
-    let q : asked_by w ≡ FromNumber w.next = rw by refl in
+by_asked H m low s w h p after false by asks window next at counted says taken =
+    let q : asked_by w ≡ FromNumber w.next w.count = rw by refl in
     let P : Asked → Type 0 = λ x. SaysAt m H x h.first h.entries in
     let here = at (or_left w.fresh w.asks_oldest by) in
-    by_number H m low s w h.first h.count h.entries p after window by next here.0 here.1 counted (subst P q says) taken
+    let C : Asked → Type 0 = λ x. IsCount (count_asked x) in
+    by_number H m low s w h.first h.count h.entries p after (subst C q asks) window by next here.0 here.1 counted (subst P q says) taken
 
 pub said_means : (H : History) (m : Moment) (low s : ℕ) (w : WalkPlace) (heard : Option AckParameters) (h : AckParameters) (p : Result Progress BadReply) (after : WalkPlace) →
-    heard ≡ Some h → IsInWindow low m → w.next ≡ sequence_number s → (w.fresh ≡ false → (low ≤ s) × (s < low + 2147483648)) →
+    heard ≡ Some h → IsCount (count_asked (asked_by w)) → IsInWindow low m → w.next ≡ sequence_number s → (w.fresh ≡ false → (low ≤ s) × (s < low + 2147483648)) →
     h.count ≡ length h.entries → SaysAt m H (asked_by w) h.first h.entries → IsTakenFrom w heard p after → MeansOf H m low s w p after
-said_means H m low s w heard h p after is window next at counted says taken =
+said_means H m low s w heard h p after is asks window next at counted says taken =
     let P : Option AckParameters → Type 0 = λ o. IsTakenFrom w o p after in
-    by_asked H m low s w h p after (asks_oldest_now w) refl window next at counted says (subst P is taken)
+    by_asked H m low s w h p after (asks_oldest_now w) refl asks window next at counted says (subst P is taken)

@@ -17,7 +17,7 @@ use Rattle.bac_link.specs.Heard.{AckParameters}
 use Rattle.bac_walk.specs.Walks.{shown_from, gap_of, asks_oldest_now, wanted_at, is_past, fits, items_in, NextAct, Bring, End, Ask, verdict, IsTaken, IsTakenFrom, numbered}
 use Rattle.bac_walk.specs.Near.{IsNear}
 use Rattle.bac_walk.specs.Takes.{Says}
-use Rattle.bac_walk.specs.Turns.{NoneOfHundred, base, reply_count, whole_reply, IsTurn}
+use Rattle.bac_walk.specs.Turns.{NoneOfAsked, base, reply_count, whole_reply, IsTurn}
 use Rattle.bac_link.specs.Ordinals.{distance, number_after, is_ahead}
 use Rattle.bac_walk.proofs.Shown.{number-is, distance-number, after-number, ahead-number, shown_numbered, records, length-numbered}
 use Rattle.bac_walk.proofs.Held.{Sound, Sound-now, In-now}
@@ -69,7 +69,7 @@ bring : (r : ℕ) (H : History) (m : Moment) (s u : ℕ) (w : WalkPlace) (es : L
     base w s m ≡ u → IsTaken w es (Bring (sequence_number (max u m.oldest))) p after →
     0 < length es → AreHeld H m (max u m.oldest) (numbered (max u m.oldest) es) (max u m.oldest + length es) →
     gap_of w (sequence_number (max u m.oldest)) ≡ (if nat_lt u m.oldest then Gap (sequence_number u) (sequence_number m.oldest) ∷ [] else []) →
-    es ≡ entries_from H (max u m.oldest) (reply_count r H m w.asks_oldest u) → TurnOf r H m s w p after
+    es ≡ entries_from H (max u m.oldest) (reply_count r w.count H m w.asks_oldest u) → TurnOf r H m s w p after
 bring r H m s u w es (Err e) after from taken some are gap is = absurd taken
 bring r H m s u w es (Ok AskOldest) after from taken some are gap is = absurd taken
 bring r H m s u w es (Ok CaughtUp) after from taken some are gap is = absurd taken
@@ -82,18 +82,18 @@ bring r H m s u w es (Ok (BatchOf b)) after from taken some are gap is =
     let P : List Item → Type 0 = λ xs. Brings H m u xs (f + length es) × (0 < length xs) in
     let both = subst P (sym items) (gapped H m u (f + length es) es (nat_lt u m.oldest) refl some are, some_shown G f es some) in
     let C : ℕ → Type 0 = λ n. (t : ℕ) × Brings H m n (items_in b) t × (0 < length (items_in b))
-    × (after ≡ record { log = w.log; next = sequence_number t; fresh = false; asks_oldest = false })
-    × (items_in b ≡ whole_reply r H m w.asks_oldest n) in
+    × (after ≡ record w { next = sequence_number t; fresh = false; asks_oldest = false })
+    × (items_in b ≡ whole_reply r w.count H m w.asks_oldest n) in
     subst C (sym from) (
       f + length es,
       both.0,
       both.1,
-      taken.1 ∙ ap (λ (n : ℕ). record { log = w.log; next = n; fresh = false; asks_oldest = false }) next,
+      taken.1 ∙ ap (λ (n : ℕ). record w { next = n; fresh = false; asks_oldest = false }) next,
       items ∙ ap (λ x. G ++ numbered f x) is,
     )
 
 ask : (r : ℕ) (H : History) (m : Moment) (s : ℕ) (w : WalkPlace) (es : List Entry) (p : Result Progress BadReply) (after : WalkPlace) →
-    IsTaken w es Ask p after → asks_oldest_now w ≡ false → NoneOfHundred s m → TurnOf r H m s w p after
+    IsTaken w es Ask p after → asks_oldest_now w ≡ false → NoneOfAsked w.count s m → TurnOf r H m s w p after
 ask r H m s w es (Err e) after taken by none = absurd taken
 ask r H m s w es (Ok (BatchOf b)) after taken by none = absurd taken
 ask r H m s w es (Ok CaughtUp) after taken by none = absurd taken
@@ -133,10 +133,10 @@ last_false a b false h g k = refl
 count_at : (r : ℕ) (H : History) (f g c d : ℕ) → f ≡ g → c ≡ d → fitting r f (entries_from H f c) ≡ fitting r g (entries_from H g d)
 count_at r H f g c d p q = ap (λ n. fitting r n (entries_from H n c)) p ∙ ap (λ n. fitting r g (entries_from H g n)) q
 
-count_same : (r : ℕ) (H : History) (m : Moment) (b : Bool) (u : ℕ) → u ≤ m.oldest → (b ≡ false → u ≡ m.oldest) →
-    reply_count r H m b u ≡ how_many r H FromOldest m
-count_same r H m true u le same = count_at r H (max u m.oldest) m.oldest _ (asked_count FromOldest m) (omega arith) (omega arith)
-count_same r H m false u le same = let e : u ≡ m.oldest = same refl in count_at r H (max u m.oldest) m.oldest _ (asked_count FromOldest m) (omega arith) (omega (arith, e))
+count_same : (r count : ℕ) (H : History) (m : Moment) (b : Bool) (u : ℕ) → u ≤ m.oldest → (b ≡ false → u ≡ m.oldest) →
+    reply_count r count H m b u ≡ how_many r H (FromOldest count) m
+count_same r count H m true u le same = count_at r H (max u m.oldest) m.oldest _ (asked_count (FromOldest count) m) (omega arith) (omega arith)
+count_same r count H m false u le same = let e : u ≡ m.oldest = same refl in count_at r H (max u m.oldest) m.oldest _ (asked_count (FromOldest count) m) (omega arith) (omega (arith, e))
 
 pub or_second : (a b : Bool) → a ≡ false → (a || b) ≡ b
 or_second true b h = absurd (cc)
@@ -148,57 +148,57 @@ or_left false b h = refl
 
 -- the batch of an answer to a question by number
 by_number : (H : History) (m : Moment) (r s : ℕ) (w : WalkPlace) (first : Option ℕ) (count : ℕ) (es : List Entry) (p : Result Progress BadReply) (after : WalkPlace) →
-    Sound H m → m.newest ≤ H.logged + length H.entries → (0 < asked_count (FromOrdinal s) m → 0 < reply_count r H m false s) → reply_count r H m false s ≤ asked_count (FromOrdinal s) m → asks_oldest_now w ≡ false → w.next ≡ sequence_number s → IsNear s m → count ≡ length es →
-    es ≡ entries_from H (max s m.oldest) (reply_count r H m false s) →
-    (0 < reply_count r H m false s → first ≡ Some (sequence_number (max s m.oldest))) →
+    Sound H m → m.newest ≤ H.logged + length H.entries → (0 < asked_count (FromOrdinal s w.count) m → 0 < reply_count r w.count H m false s) → reply_count r w.count H m false s ≤ asked_count (FromOrdinal s w.count) m → asks_oldest_now w ≡ false → w.next ≡ sequence_number s → IsNear s m → count ≡ length es →
+    es ≡ entries_from H (max s m.oldest) (reply_count r w.count H m false s) →
+    (0 < reply_count r w.count H m false s → first ≡ Some (sequence_number (max s m.oldest))) →
     IsTaken w es (verdict w first count es) p after → TurnOf r H m s w p after
 by_number H m r s w first count [] p after sound within room few by next near counted is some taken =
-    let n : 0 ≡ reply_count r H m false s =
-    ap length is ∙ entries_count H m (max s m.oldest) (reply_count r H m false s) sound within (omega arith) (λ h. omega (arith, few)) in
-    let none : NoneOfHundred s m = λ k low high held. let asked : 0 < asked_count (FromOrdinal s) m = omega (arith, low, high, held.0, held.1) in omega (arith, n, room asked) in
+    let n : 0 ≡ reply_count r w.count H m false s =
+    ap length is ∙ entries_count H m (max s m.oldest) (reply_count r w.count H m false s) sound within (omega arith) (λ h. omega (arith, few)) in
+    let none : NoneOfAsked w.count s m = λ k low high held. let asked : 0 < asked_count (FromOrdinal s w.count) m = omega (arith, low, high, held.0, held.1) in omega (arith, n, room asked) in
     let P : Bool → Type 0 = λ b. IsTaken w [] (if b then End else Ask) p after in
     ask r H m s w [] p after (subst P by taken) by none
 by_number H m r s w first count (e ∷ es) p after sound within room few by next near counted is some taken =
     let f = max s m.oldest in
-    let same : length (entries_from H f (reply_count r H m false s)) ≡ reply_count r H m false s =
-    entries_count H m f (reply_count r H m false s) sound within (omega arith) (λ h. omega (arith, few)) in
-    let n : length (e ∷ es) ≡ reply_count r H m false s = ap length is ∙ same in
+    let same : length (entries_from H f (reply_count r w.count H m false s)) ≡ reply_count r w.count H m false s =
+    entries_count H m f (reply_count r w.count H m false s) sound within (omega arith) (λ h. omega (arith, few)) in
+    let n : length (e ∷ es) ≡ reply_count r w.count H m false s = ap length is ∙ same in
     let here : first ≡ Some (sequence_number f) = some (omega (arith, n)) in
     let past : is_past w (sequence_number f) ≡ false = rw by refl in
-    let high : nat_le (distance (sequence_number s) (sequence_number f) + length (e ∷ es)) 100 ≡ true =
+    let high : nat_le (distance (sequence_number s) (sequence_number f) + length (e ∷ es)) w.count ≡ true =
     le-leb _ _ (omega (arith, n, distance-number s f (omega arith) (omega (arith, near.above)), few)) in
-    let hundred : nat_le (length (e ∷ es)) 100 ≡ true = le-leb _ _ (omega (arith, n, few)) in
-    let fitting_in : fits w (sequence_number f) (length (e ∷ es)) ≡ true = rw (hundred, number-is f, by, next, high) refl in
+    let few_asked : nat_le (length (e ∷ es)) w.count ≡ true = le-leb _ _ (omega (arith, n, few)) in
+    let fitting_in : fits w (sequence_number f) (length (e ∷ es)) ≡ true = rw (few_asked, number-is f, by, next, high) refl in
     let v : verdict w first count (e ∷ es) ≡ Bring (sequence_number f) =
     ap (λ o. verdict w o count (e ∷ es)) here ∙ verdict-bring w (sequence_number f) count (e ∷ es) (omega arith) past counted fitting_in in
     let P : NextAct → Type 0 = λ u. IsTaken w (e ∷ es) u p after in
     let Q : List Entry → Type 0 = λ xs. AreHeld H m f (numbered f xs) (f + length xs) in
     let old : w.fresh ≡ false = or_left w.fresh w.asks_oldest by in
     let asks : w.asks_oldest ≡ false = (or_parts w.fresh w.asks_oldest by).1 in
-    let E : Bool → Type 0 = λ b. (e ∷ es) ≡ entries_from H f (reply_count r H m b s) in
+    let E : Bool → Type 0 = λ b. (e ∷ es) ≡ entries_from H f (reply_count r w.count H m b s) in
     bring r H m s s w (e ∷ es) p after (rw old refl) (subst P v taken) (omega arith)
-    (subst Q (sym is) (records H m f (reply_count r H m false s) (omega (arith, sound.above)) (omega arith) (omega (arith, n, same, few))))
+    (subst Q (sym is) (records H m f (reply_count r w.count H m false s) (omega (arith, sound.above)) (omega arith) (omega (arith, n, same, few))))
     (gap_same w s m (nat_lt s m.oldest) refl (omega (arith, near.above)) next old) (subst E (sym asks) is)
 
 -- entries from the oldest, which lie behind the walk or are its next batch
 oldest_batch : (r : ℕ) (H : History) (m : Moment) (s u : ℕ) (w : WalkPlace) (e : Entry) (es : List Entry) (p : Result Progress BadReply) (after : WalkPlace) →
     base w s m ≡ u → u ≤ m.oldest → (w.asks_oldest ≡ false → u ≡ m.oldest) →
     gap_of w (sequence_number (max u m.oldest)) ≡ (if nat_lt u m.oldest then Gap (sequence_number u) (sequence_number m.oldest) ∷ [] else []) →
-    AreHeld H m m.oldest (numbered m.oldest (e ∷ es)) (m.oldest + length (e ∷ es)) → (e ∷ es) ≡ entries_from H m.oldest (how_many r H FromOldest m) →
+    AreHeld H m m.oldest (numbered m.oldest (e ∷ es)) (m.oldest + length (e ∷ es)) → (e ∷ es) ≡ entries_from H m.oldest (how_many r H (FromOldest w.count) m) →
     IsTaken w (e ∷ es) (Bring (sequence_number m.oldest)) p after → TurnOf r H m s w p after
 oldest_batch r H m s u w e es p after from le asks gap are is taken =
     let top : m.oldest ≡ max u m.oldest = omega arith in
     let P : ℕ → Type 0 = λ f. IsTaken w (e ∷ es) (Bring (sequence_number f)) p after in
     let Q : ℕ → Type 0 = λ f. AreHeld H m f (numbered f (e ∷ es)) (f + length (e ∷ es)) in
-    let R : ℕ → Type 0 = λ f. (e ∷ es) ≡ entries_from H f (how_many r H FromOldest m) in
+    let R : ℕ → Type 0 = λ f. (e ∷ es) ≡ entries_from H f (how_many r H (FromOldest w.count) m) in
     let S : ℕ → Type 0 = λ c. (e ∷ es) ≡ entries_from H (max u m.oldest) c in
     bring r H m s u w (e ∷ es) p after from (subst P top taken) (omega arith) (subst Q top are) gap
-    (subst S (sym (count_same r H m w.asks_oldest u le asks)) (subst R top is))
+    (subst S (sym (count_same r w.count H m w.asks_oldest u le asks)) (subst R top is))
 
 oldest_some : (r : ℕ) (H : History) (m : Moment) (s : ℕ) (w : WalkPlace) (count : ℕ) (e : Entry) (es : List Entry) (p : Result Progress BadReply) (after : WalkPlace) →
     w.next ≡ sequence_number s → asks_oldest_now w ≡ true → (past fresh : Bool) → is_past w (sequence_number m.oldest) ≡ past → w.fresh ≡ fresh →
-    (w.fresh ≡ false → IsNear s m) → length (e ∷ es) ≤ 100 → count ≡ length (e ∷ es) →
-    AreHeld H m m.oldest (numbered m.oldest (e ∷ es)) (m.oldest + length (e ∷ es)) → (e ∷ es) ≡ entries_from H m.oldest (how_many r H FromOldest m) →
+    (w.fresh ≡ false → IsNear s m) → length (e ∷ es) ≤ w.count → count ≡ length (e ∷ es) →
+    AreHeld H m m.oldest (numbered m.oldest (e ∷ es)) (m.oldest + length (e ∷ es)) → (e ∷ es) ≡ entries_from H m.oldest (how_many r H (FromOldest w.count) m) →
     IsTaken w (e ∷ es) (verdict w (Some (sequence_number m.oldest)) count (e ∷ es)) p after → TurnOf r H m s w p after
 oldest_some r H m s w count e es p after next by true fresh past is_fresh near few counted are is taken =
     let v : verdict w (Some (sequence_number m.oldest)) count (e ∷ es) ≡ End = rw past refl in
@@ -209,16 +209,16 @@ oldest_some r H m s w count e es p after next by true fresh past is_fresh near f
     sym (ahead-number s m.oldest close.below close.above) ∙ ap (λ n. is_ahead n (sequence_number m.oldest)) (sym next) ∙ not-true _ both.1 in
     end r H m s w (e ∷ es) p after (subst P v taken) by (inr (not-true w.fresh both.0, leb-false s m.oldest behind))
 oldest_some r H m s w count e es p after next by false true past is_fresh near few counted are is taken =
-    let hundred : nat_le (length (e ∷ es)) 100 ≡ true = le-leb _ _ few in
-    let fitting_in : fits w (sequence_number m.oldest) (length (e ∷ es)) ≡ true = rw (hundred, number-is m.oldest, by) refl in
+    let few_asked : nat_le (length (e ∷ es)) w.count ≡ true = le-leb _ _ few in
+    let fitting_in : fits w (sequence_number m.oldest) (length (e ∷ es)) ≡ true = rw (few_asked, number-is m.oldest, by) refl in
     let v : verdict w (Some (sequence_number m.oldest)) count (e ∷ es) ≡ Bring (sequence_number m.oldest) = verdict-bring w (sequence_number m.oldest) count (e ∷ es) (omega arith) past counted fitting_in in
     let P : NextAct → Type 0 = λ u. IsTaken w (e ∷ es) u p after in
     let none : nat_lt m.oldest m.oldest ≡ false = le-ltb m.oldest m.oldest (omega arith) in
     oldest_batch r H m s m.oldest w e es p after (rw is_fresh refl) (omega arith) (λ h. refl) (rw (is_fresh, none) refl) are is (subst P v taken)
 oldest_some r H m s w count e es p after next by false false past is_fresh near few counted are is taken =
     let close = near is_fresh in
-    let hundred : nat_le (length (e ∷ es)) 100 ≡ true = le-leb _ _ few in
-    let fitting_in : fits w (sequence_number m.oldest) (length (e ∷ es)) ≡ true = rw (hundred, number-is m.oldest, by) refl in
+    let few_asked : nat_le (length (e ∷ es)) w.count ≡ true = le-leb _ _ few in
+    let fitting_in : fits w (sequence_number m.oldest) (length (e ∷ es)) ≡ true = rw (few_asked, number-is m.oldest, by) refl in
     let v : verdict w (Some (sequence_number m.oldest)) count (e ∷ es) ≡ Bring (sequence_number m.oldest) = verdict-bring w (sequence_number m.oldest) count (e ∷ es) (omega arith) past counted fitting_in in
     let P : NextAct → Type 0 = λ u. IsTaken w (e ∷ es) u p after in
     let ahead : nat_le s m.oldest ≡ true =
@@ -230,47 +230,47 @@ oldest_some r H m s w count e es p after next by false false past is_fresh near 
 
 -- the same for a question from the oldest
 by_oldest : (H : History) (m : Moment) (r s : ℕ) (w : WalkPlace) (first : Option ℕ) (count : ℕ) (es : List Entry) (p : Result Progress BadReply) (after : WalkPlace) →
-    Sound H m → m.newest ≤ H.logged + length H.entries → (0 < asked_count FromOldest m → 0 < how_many r H FromOldest m) → how_many r H FromOldest m ≤ asked_count FromOldest m → asks_oldest_now w ≡ true → w.next ≡ sequence_number s → (w.fresh ≡ false → IsNear s m) → count ≡ length es →
-    es ≡ entries_from H m.oldest (how_many r H FromOldest m) →
-    (0 < how_many r H FromOldest m → first ≡ Some (sequence_number m.oldest)) →
+    0 < w.count → Sound H m → m.newest ≤ H.logged + length H.entries → (0 < asked_count (FromOldest w.count) m → 0 < how_many r H (FromOldest w.count) m) → how_many r H (FromOldest w.count) m ≤ asked_count (FromOldest w.count) m → asks_oldest_now w ≡ true → w.next ≡ sequence_number s → (w.fresh ≡ false → IsNear s m) → count ≡ length es →
+    es ≡ entries_from H m.oldest (how_many r H (FromOldest w.count) m) →
+    (0 < how_many r H (FromOldest w.count) m → first ≡ Some (sequence_number m.oldest)) →
     IsTaken w es (verdict w first count es) p after → TurnOf r H m s w p after
-by_oldest H m r s w first count [] p after sound within room few by next near counted is some taken =
-    let n : 0 ≡ how_many r H FromOldest m =
-    ap length is ∙ entries_count H m m.oldest (how_many r H FromOldest m) sound within (omega arith) (λ h. omega (arith, few)) in
+by_oldest H m r s w first count [] p after asks sound within room few by next near counted is some taken =
+    let n : 0 ≡ how_many r H (FromOldest w.count) m =
+    ap length is ∙ entries_count H m m.oldest (how_many r H (FromOldest w.count) m) sound within (omega arith) (λ h. omega (arith, few)) in
     let P : Bool → Type 0 = λ b. IsTaken w [] (if b then End else Ask) p after in
     end r H m s w [] p after (subst P by taken) by (inl (none_held n (nat_lt m.newest m.oldest) refl))
   where
-    none_held : 0 ≡ how_many r H FromOldest m → (b : Bool) → nat_lt m.newest m.oldest ≡ b → m.newest < m.oldest
+    none_held : 0 ≡ how_many r H (FromOldest w.count) m → (b : Bool) → nat_lt m.newest m.oldest ≡ b → m.newest < m.oldest
     none_held n true e = ltb-true m.newest m.oldest e
-    none_held n false e = let ge : m.oldest ≤ m.newest = ltb-false m.newest m.oldest e in let asked : 0 < asked_count FromOldest m = omega (arith, ge) in absurd (omega (arith, n, room asked))
-by_oldest H m r s w first count (e ∷ es) p after sound within room few by next near counted is some taken =
-    let same : length (entries_from H m.oldest (how_many r H FromOldest m)) ≡ how_many r H FromOldest m =
-    entries_count H m m.oldest (how_many r H FromOldest m) sound within (omega arith) (λ h. omega (arith, few)) in
-    let n : length (e ∷ es) ≡ how_many r H FromOldest m = ap length is ∙ same in
+    none_held n false e = let ge : m.oldest ≤ m.newest = ltb-false m.newest m.oldest e in let asked : 0 < asked_count (FromOldest w.count) m = omega (arith, ge, asks) in absurd (omega (arith, n, room asked))
+by_oldest H m r s w first count (e ∷ es) p after asks sound within room few by next near counted is some taken =
+    let same : length (entries_from H m.oldest (how_many r H (FromOldest w.count) m)) ≡ how_many r H (FromOldest w.count) m =
+    entries_count H m m.oldest (how_many r H (FromOldest w.count) m) sound within (omega arith) (λ h. omega (arith, few)) in
+    let n : length (e ∷ es) ≡ how_many r H (FromOldest w.count) m = ap length is ∙ same in
     let here : first ≡ Some (sequence_number m.oldest) = some (omega (arith, n)) in
     let P : Option ℕ → Type 0 = λ o. IsTaken w (e ∷ es) (verdict w o count (e ∷ es)) p after in
     let Q : List Entry → Type 0 = λ xs. AreHeld H m m.oldest (numbered m.oldest xs) (m.oldest + length xs) in
     oldest_some r H m s w count e es p after next by (is_past w (sequence_number m.oldest)) w.fresh refl refl near (omega (arith, n, few)) counted
-    (subst Q (sym is) (records H m m.oldest (how_many r H FromOldest m) sound.above (omega arith) (omega (arith, n, same, few))))
+    (subst Q (sym is) (records H m m.oldest (how_many r H (FromOldest w.count) m) sound.above (omega arith) (omega (arith, n, same, few))))
     is (subst P here taken)
 
 turn_by : (H : History) (M : List Moment) (r s : ℕ) (w : WalkPlace) (h : AckParameters) (p : Result Progress BadReply) (after : WalkPlace) →
-    (oldest : Bool) → asks_oldest_now w ≡ oldest → w.next ≡ sequence_number s → (w.fresh ≡ false → IsNear s (now M)) →
+    (oldest : Bool) → 0 < w.count → asks_oldest_now w ≡ oldest → w.next ≡ sequence_number s → (w.fresh ≡ false → IsNear s (now M)) →
     AreServed r M H → IsAnswer r (now M) H (wanted_at w s) h.first h.entries → h.count ≡ length h.entries →
     IsTaken w h.entries (verdict w h.first h.count h.entries) p after → TurnOf r H (now M) s w p after
-turn_by H M r s w h p after true by next near served answer counted taken =
-    let q : wanted_at w s ≡ FromOldest = rw by refl in
+turn_by H M r s w h p after true asks by next near served answer counted taken =
+    let q : wanted_at w s ≡ FromOldest w.count = rw by refl in
     let P : Wanted → Type 0 = λ x. IsAnswer r (now M) H x h.first h.entries in
     let a = subst P q answer in
-    by_oldest H (now M) r s w h.first h.count h.entries p after (Sound-now r M H served) (In-now r M H served) a.some a.most by next near counted a.entries a.first_is taken
-turn_by H M r s w h p after false by next near served answer counted taken =
-    let q : wanted_at w s ≡ FromOrdinal s = rw by refl in
+    by_oldest H (now M) r s w h.first h.count h.entries p after asks (Sound-now r M H served) (In-now r M H served) a.some a.most by next near counted a.entries a.first_is taken
+turn_by H M r s w h p after false asks by next near served answer counted taken =
+    let q : wanted_at w s ≡ FromOrdinal s w.count = rw by refl in
     let P : Wanted → Type 0 = λ x. IsAnswer r (now M) H x h.first h.entries in
     let a = subst P q answer in
     by_number H (now M) r s w h.first h.count h.entries p after (Sound-now r M H served) (In-now r M H served) a.some a.most by next (near (or_left w.fresh w.asks_oldest by)) counted a.entries a.first_is taken
 
 -- what an answer of ours means
 pub turn_of : (H : History) (M : List Moment) (r s : ℕ) (w : WalkPlace) (heard : Option AckParameters) (p : Result Progress BadReply) (after : WalkPlace) →
-    w.next ≡ sequence_number s → (w.fresh ≡ false → IsNear s (now M)) → AreServed r M H → Says r (now M) H (wanted_at w s) heard → IsTakenFrom w heard p after → TurnOf r H (now M) s w p after
-turn_of H M r s w None p after next near served says taken = absurd says
-turn_of H M r s w (Some h) p after next near served says taken = turn_by H M r s w h p after (asks_oldest_now w) refl next near served says.0 says.1 taken
+    0 < w.count → w.next ≡ sequence_number s → (w.fresh ≡ false → IsNear s (now M)) → AreServed r M H → Says r (now M) H (wanted_at w s) heard → IsTakenFrom w heard p after → TurnOf r H (now M) s w p after
+turn_of H M r s w None p after asks next near served says taken = absurd says
+turn_of H M r s w (Some h) p after asks next near served says taken = turn_by H M r s w h p after (asks_oldest_now w) asks refl next near served says.0 says.1 taken

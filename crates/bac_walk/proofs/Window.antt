@@ -35,10 +35,10 @@ stays_in_window = λ H M low s t count items some are above below (answers, many
 
 pub said_means : SaidMeans
 said_means = λ m H low s w after datagram p says here window at taken.
-    standard.said_means H m low s w (heard_in w.log datagram) says.heard p after says.reads window here at says.counts says.says taken
+    standard.said_means H m low s w (heard_in w.log datagram) says.heard p after says.reads says.asks window here at says.counts says.says taken
 
 -- in a window a walk is near wherever it comes
 pub in_window_of : (was is : ℕ → List Moment → History → Type 0) (before after : WalkPlace) (steps : ℕ) (items : List Item) →
     ((r : ℕ) (M : List Moment) (H : History) → was r M H → AreServed r M H) → IsDeliveredNear was is before after steps items → IsDelivered was is before after items
 in_window_of was is before after steps items serves near = λ r M H s low ours next window at.
-    near r M H s ours next (windows_near r H M low s steps before.fresh (serves r M H ours) window at)
+    near r M H s ours next (windows_near r before.count H M low s steps before.fresh (serves r M H ours) window at)

@@ -16,7 +16,7 @@ use Rattle.bac_walk.specs.declared.outcome.Why.TheVariants.{CaughtUp as WasUp, S
 use Rattle.bac_walk.specs.declared.outcome.Why.TheVariants.{Memory}
 use Rattle.bac_link.specs.Delivery.{History, Moment, now, later, items_of, Brings}
 use Rattle.bac_link.specs.Laws.{moment_at, CoversEach}
-use Rattle.bac_walk.specs.Turns.{NoneOfHundred, whole_reply}
+use Rattle.bac_walk.specs.Turns.{NoneOfAsked, whole_reply}
 use Rattle.bac_walk.specs.Delivers.{NoneFrom}
 use Rattle.bac_link.specs.Links.{RisesBy}
 use Rattle.bac_link.specs.declared.item.Item.TheVariants.{Gap, Logged}
@@ -47,17 +47,17 @@ IsOfReply [] Stopped items reply = (dropped : List Item) × (items ++ dropped �
 IsOfReply [] (Fault e) items reply = items ≡ reply
 
 -- Step by step the answers of a run lead from ordinal s to t. A step asks by number. If that brings nothing, none is
--- held of the hundred numbers that were asked for, and the oldest are asked for; if these bring nothing either, the run
--- ends, caught up. A batch is the whole of a reply.
-abbrev pub LeadsInSteps : Ended → ℕ → History → List Moment → Bool → ℕ → List (List Item) → ℕ → Type 0
-LeadsInSteps ended r H M by_oldest s [] t = t ≡ s
-LeadsInSteps ended r H M false s ([] ∷ answers) t =
-    NoneOfHundred s (now M) × LeadsInSteps ended r H (later M) true s answers t
-LeadsInSteps ended r H M true s ([] ∷ answers) t = (answers ≡ []) × (ended ≡ CaughtUp) × (t ≡ s)
-LeadsInSteps ended r H M by_oldest s ((x ∷ xs) ∷ answers) t =
+-- held of the ordinals that were asked for, so many, and the oldest are asked for; if these bring nothing either, the
+-- run ends, caught up. A batch is the whole of a reply.
+abbrev pub LeadsInSteps : Ended → (r count : ℕ) → History → List Moment → Bool → ℕ → List (List Item) → ℕ → Type 0
+LeadsInSteps ended r count H M by_oldest s [] t = t ≡ s
+LeadsInSteps ended r count H M false s ([] ∷ answers) t =
+    NoneOfAsked count s (now M) × LeadsInSteps ended r count H (later M) true s answers t
+LeadsInSteps ended r count H M true s ([] ∷ answers) t = (answers ≡ []) × (ended ≡ CaughtUp) × (t ≡ s)
+LeadsInSteps ended r count H M by_oldest s ((x ∷ xs) ∷ answers) t =
     (u : ℕ) × Brings H (now M) s (x ∷ xs) u
-    × IsOfReply answers ended (x ∷ xs) (whole_reply r H (now M) by_oldest s)
-    × LeadsInSteps ended r H (later M) false u answers t
+    × IsOfReply answers ended (x ∷ xs) (whole_reply r count H (now M) by_oldest s)
+    × LeadsInSteps ended r count H (later M) false u answers t
 
 -- the ordinal where a run begins: that of the next number, or for a walk from the oldest entry at the oldest of its
 -- first batch's moment
@@ -84,12 +84,12 @@ IsEnded (Fault Lost) fresh t M answers steps retries old new = RisesBy (retries 
 IsEnded (Fault (Refused refusal)) fresh t M answers steps retries old new = ⊥
 IsEnded (Fault BadReply) fresh t M answers steps retries old new = ⊥
 
--- what the answers of a run of at most so many steps over a link of ours brought, and how it ended. The walk was at
--- ordinal next, and is at t
-pub record Collected (r : ℕ) (H : History) (M : List Moment) (fresh : Bool) (next : ℕ) (steps retries old new : ℕ)
+-- what the answers of a run of at most so many steps over a link of ours brought, each to a question for so many
+-- records, and how it ended. The walk was at ordinal next, and is at t
+pub record Collected (r count : ℕ) (H : History) (M : List Moment) (fresh : Bool) (next : ℕ) (steps retries old new : ℕ)
     (items : List Item) (t : ℕ) (ended : Ended) (answers : List (List Item)) : Type 0 where
   pub all : items_of answers ≡ items
-  pub leads : LeadsInSteps ended r H M false (start_of fresh next M answers) answers t
+  pub leads : LeadsInSteps ended r count H M false (start_of fresh next M answers) answers t
   pub twice_steps : length answers ≤ 2 * steps
   pub twice_batches : length answers ≤ 2 * batches answers + 2
   pub end : IsEnded ended fresh t M answers steps retries old new

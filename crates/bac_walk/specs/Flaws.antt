@@ -26,11 +26,11 @@ use Rattle.bac_walk.specs.Walks.{fits, is_past, question_of, IsTakenFrom}
 
 -- ---- the number of its first record, its count, its records
 
--- records from this number on that a walk can't take: as many as the count says, at most 100, and those asked for
+-- records from this number on that a walk can't take: as many as the count says, at most those asked for, and these
 abbrev pub span_flaw : WalkPlace → ℕ → ℕ → ℕ → ReplyFlaw
 span_flaw w first count records =
     if not (count == records) then flaw.Count count records else
-    if nat_lt 100 records then flaw.TooMany records else flaw.Unasked first records w.next
+    if nat_lt w.count records then flaw.TooMany records w.count else flaw.Unasked first records w.next w.count
 
 -- no records are never wrong, nor are those that the walk is past; others have a first number, and were asked for
 abbrev pub extent_flaw : WalkPlace → Option ℕ → ℕ → ℕ → Option ReplyFlaw

@@ -13,6 +13,7 @@ use Rattle.bac_link.specs.Growing.{GoesOn, Standing, IsStanding, StaysHonest, St
 use Rattle.bac_link.specs.Laws.{moment_at}
 use Rattle.bac_link.specs.Moments.{AreIn, AreInWindow, NeverGoesBack}
 use Rattle.bac_link.specs.Path.{Path, towards}
+use Rattle.bac_link.specs.Standard.{IsCount}
 use Rattle.bac_log.specs.TrendLog.{sequence_number}
 use Rattle.bac_walk.specs.declared.outcome.Ended.{Ended}
 use Rattle.bac_walk.specs.declared.outcome.Ended.TheVariants.{CaughtUp}
@@ -57,7 +58,7 @@ abbrev pub GrowingIsDelivered : {S : Type 0} → (S → List ℕ → Result (Lis
 GrowingIsDelivered {S = S} asks stands =
     (first last : Transactions) (old new : S) (w after : WalkPlace) (steps : ℕ) (came : List Came) (items : List Item)
     (ended : Ended) (at : Standing) (low s more : ℕ) →
-    StaysHonestWhere asks (towards first.route) w.log low stands →
+    StaysHonestWhere asks (towards first.route) w.log w.count low stands →
     stands (most_asks steps first.retries + more) old at → IsStanding low at →
     (run : BroughtBy asks first old w steps came items ended after last new) →
     w.next ≡ sequence_number s → (w.fresh ≡ false → (low ≤ s) × (s < low + 2147483648)) →
@@ -96,16 +97,16 @@ abbrev pub DeliversGrowing : {S : Type 0} → (S → List ℕ → Result (List �
     S → WalkPlace → ℕ → List Item → Ended → WalkPlace → S → Type 0
 DeliversGrowing {S = S} asks path retries old before steps items ended after new =
     (at : Standing) (s low more : ℕ) →
-    StaysHonest asks path before.log low (most_asks steps retries + more) old at → IsStanding low at →
+    StaysHonest asks path before.log before.count low (most_asks steps retries + more) old at → IsStanding low at →
     before.next ≡ sequence_number s → (before.fresh ≡ false → (low ≤ s) × (s < low + 2147483648)) →
     (d : HasDelivered asks path retries old low s at before items ended after)
-    × StaysHonest asks path before.log low more new (standing_at d.history d.moments (length d.came))
+    × StaysHonest asks path before.log before.count low more new (standing_at d.history d.moments (length d.came))
 
 -- a link of ours stays honest, for however many asks, for each log for which it is ours, by every way that a request
--- can go
+-- can go, for each count of records
 abbrev pub OursStayHonest : {S : Type 0} → (S → List ℕ → Result (List ℕ) Loss → S → Type 0) →
     (S → Id → ℕ → List Moment → History → Type 0) → Type 0
 OursStayHonest {S = S} asks ours =
-    (place : Option Place) (log : Id) (r : ℕ) (H : History) (M : List Moment) (low more : ℕ) (link : S) →
-    IsWay place → IsValid (Object log) → ours link log r M H → AreInWindow low M →
-    StaysHonest asks (towards place) log low more link (record { history = H; moment = now M })
+    (place : Option Place) (log : Id) (count r : ℕ) (H : History) (M : List Moment) (low more : ℕ) (link : S) →
+    IsWay place → IsValid (Object log) → IsCount count → ours link log r M H → AreInWindow low M →
+    StaysHonest asks (towards place) log count low more link (record { history = H; moment = now M })

@@ -14,7 +14,7 @@ use Rattle.bac_walk.specs.Sinks.{PutAll}
 -- where the walk is after a batch whose record of this number was refused, and how the step ended
 abbrev pub walk_after : WalkPlace → Option ℕ → WalkPlace
 walk_after w None = w
-walk_after w (Some n) = record { log = w.log; next = number_after n 1; fresh = false; asks_oldest = false }
+walk_after w (Some n) = record w { next = number_after n 1; fresh = false; asks_oldest = false }
 
 -- how that step ended: it was stopped, if a record was refused
 abbrev pub ended_after : Option ℕ → Ended

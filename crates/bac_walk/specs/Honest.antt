@@ -23,6 +23,7 @@ use Rattle.bac_link.specs.Moments.{AreInWindow}
 use Rattle.bac_walk.specs.Near.{IsNear}
 use Rattle.bac_walk.specs.Place.{WalkPlace}
 use Rattle.bac_link.specs.Honest.{IsHonest, IsHonestWhere}
+use Rattle.bac_link.specs.Standard.{IsCount}
 
 -- how a run over such a link ends: the device refuses nothing, and no reply is a bad one
 abbrev pub IsHonestEnd : Ended → Type 0
@@ -40,7 +41,7 @@ abbrev pub HonestIsDelivered : {S : Type 0} → (S → List ℕ → Result (List
 HonestIsDelivered {S = S} asks stands =
     (path : Path) (retries : ℕ) (old new : S) (w after : WalkPlace) (steps : ℕ) (came : List Came) (items : List Item)
     (ended : Ended) (H : History) (M : List Moment) (low s : ℕ) →
-    IsHonestWhere asks path w.log H low stands → stands old M →
+    IsHonestWhere asks path w.log w.count H low stands → stands old M →
     Brought asks path retries old w steps came items ended after new →
     w.next ≡ sequence_number s → 0 < length M → NeverGoesBack M → AreInWindow low M →
     (w.fresh ≡ false → (low ≤ s) × (s < low + 2147483648)) →
@@ -49,14 +50,14 @@ HonestIsDelivered {S = S} asks stands =
     × DeliversTo H b items t M (length came) × (ended ≡ CaughtUp → IsCaughtUp w.fresh t M (answers_of came)))
     × AreSaidAt H M came × stands new (after_answers (length came) M) × IsHonestEnd ended
 
--- The link is honest from the moments on that so many answers left. If a function tells where it stands, by which it
--- is honest, it stands at these.
+-- The link is honest from the moments on that so many answers left, asked for so many records at a time. If a function
+-- tells where it stands, by which it is honest, it stands at these.
 abbrev pub IsLeftAt : {S : Type 0} → (S → List ℕ → Result (List ℕ) Loss → S → Type 0) →
-    Path → Id → History → ℕ → S → S → List Moment → ℕ → Type 0
-IsLeftAt {S = S} asks path log H low old new M a =
-    IsHonest asks path log H low new (after_answers a M)
-    × ((moments : S → List Moment) → IsHonestWhere asks path log H low (λ link N. moments link ≡ N) → moments old ≡ M →
-    moments new ≡ after_answers a M)
+    Path → Id → (count : ℕ) → History → ℕ → S → S → List Moment → ℕ → Type 0
+IsLeftAt {S = S} asks path log count H low old new M a =
+    IsHonest asks path log count H low new (after_answers a M)
+    × ((moments : S → List Moment) → IsHonestWhere asks path log count H low (λ link N. moments link ≡ N) →
+    moments old ≡ M → moments new ≡ after_answers a M)
 
 -- What the replies to a run brought, one after the other: each what the log held at its moment, from the ordinal b on.
 -- That is the walk's, or of a walk from the oldest record the oldest that was held when the first batch was given, which
@@ -79,29 +80,30 @@ DeliversIn H b items t M answers =
     (cut : List (List Item)) × (length cut ≡ length answers) × (items_of cut ≡ items) × Leads H M b cut t
     × (batches cut ≡ batches answers)
 
--- What a run delivers over a link that is honest for its log from the moments M on: from the ordinal of the walk's
--- number on, or from the oldest, the records that the log holds when each is reached. So many answers use up as many
--- moments, and there are at most two for each that brings records, and so many more to spare; caught up, the log held
--- nothing more at an answer after the last batch; and the only fault is a loss.
+-- What a run delivers over a link that is honest for its log and its count from the moments M on: from the ordinal of
+-- the walk's number on, or from the oldest, the records that the log holds when each is reached. So many answers use up
+-- as many moments, and there are at most two for each that brings records, and so many more to spare; caught up, the log
+-- held nothing more at an answer after the last batch; and the only fault is a loss.
 abbrev pub DeliversSaid : {S : Type 0} → (S → List ℕ → Result (List ℕ) Loss → S → Type 0) → Path → ℕ →
     S → WalkPlace → List Item → Ended → WalkPlace → S → Type 0
 DeliversSaid {S = S} asks path spare old before items ended after new =
     (H : History) (M : List Moment) (s low : ℕ) →
-    IsHonest asks path before.log H low old M → before.next ≡ sequence_number s →
+    IsHonest asks path before.log before.count H low old M → before.next ≡ sequence_number s →
     0 < length M → NeverGoesBack M → AreInWindow low M →
     (before.fresh ≡ false → (low ≤ s) × (s < low + 2147483648)) →
     (b : ℕ) × (t : ℕ) × (answers : List (List Item)) × AreBroughtFrom H M before.fresh s b answers ended items
     × (after.next ≡ sequence_number t) × DeliversIn H b items t M answers
-    × IsLeftAt asks path before.log H low old new M (length answers)
+    × IsLeftAt asks path before.log before.count H low old new M (length answers)
     × (ended ≡ CaughtUp → IsCaughtUp before.fresh t M answers) × IsHonestEnd ended
     × (length answers ≤ 2 * batches answers + spare)
 
--- a link is honest for each log for which it is ours, by every way that a request can go
+-- a link is honest for each log for which it is ours, by every way that a request can go, for each count of records
 abbrev pub OursAreHonest : {S : Type 0} → (S → List ℕ → Result (List ℕ) Loss → S → Type 0) →
     (S → Id → ℕ → List Moment → History → Type 0) → Type 0
 OursAreHonest {S = S} asks ours =
-    (place : Option Place) (log : Id) (r : ℕ) (H : History) (low : ℕ) → IsWay place →
-    IsValid (Object log) → IsHonestWhere asks (towards place) log H low (λ link M. ours link log r M H)
+    (place : Option Place) (log : Id) (count r : ℕ) (H : History) (low : ℕ) → IsWay place →
+    IsValid (Object log) → IsCount count →
+    IsHonestWhere asks (towards place) log count H low (λ link M. ours link log r M H)
 
 -- Where a reply came to a walk over a link of ours, all that the log holds at the next moment is loggable: so whether
 -- it is needn't be asked of who begins the walk.
@@ -110,7 +112,7 @@ abbrev pub RepliesAreLoggable : {S : Type 0} → (S → List ℕ → Result (Lis
 RepliesAreLoggable {S = S} asks ours =
     (place : Option Place) (retries : ℕ) (old new : S) (w after : WalkPlace) (c : Came) (came : List Came)
     (r s : ℕ) (M : List Moment) (H : History) → ours old w.log r M H → IsWay place → IsValid (Object w.log) →
-    w.next ≡ sequence_number s → Comes asks (towards place) retries old w (c ∷ came) after new →
+    IsCount w.count → w.next ≡ sequence_number s → Comes asks (towards place) retries old w (c ∷ came) after new →
     All IsLoggable (log_at (now M) H).entries
 
 -- there is one moment at least of one log, and its moments never go back

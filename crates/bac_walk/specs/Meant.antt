@@ -18,7 +18,7 @@ use Rattle.bac_walk.specs.declared.outcome.Progress.TheVariants.{Batch as BatchO
 abbrev pub Means : History → Moment → ℕ → ℕ → WalkPlace → Progress → WalkPlace → Type 0
 Means H m low s w (BatchOf b) after =
     (u : ℕ) × Brings H m (base w s m) (items_in b) u
-    × (after ≡ record { log = w.log; next = sequence_number u; fresh = false; asks_oldest = false })
+    × (after ≡ record w { next = sequence_number u; fresh = false; asks_oldest = false })
     × (low ≤ u) × (u < low + 2147483648)
 Means H m low s w AskOldest after =
     (asks_oldest_now w ≡ false) × (HoldsNumber m w.next → ⊥) × (after ≡ record w { asks_oldest = true })

@@ -6,30 +6,31 @@ use Rattle.bac_link.specs.Laws.{after_answers}
 use Rattle.bac_link.specs.Moments.{AreServed, AreInWindow}
 use Rattle.bac_walk.specs.declared.outcome.Ended.TheVariants.{StepLimit}
 use Rattle.bac_walk.specs.Collects.{batches, Collected}
-use Rattle.bac_walk.specs.Turns.{NoneOfHundred}
+use Rattle.bac_walk.specs.Turns.{NoneOfAsked}
 
 -- an ordinal is less than half of the count away from the oldest entry held
 pub record IsNear (s : ℕ) (m : Moment) : Type 0 where
   pub above : m.oldest < s + 2147483648
   pub below : s < m.oldest + 2147483648
 
--- a walk at ordinal s is near at each answer of its next step: at the second if a second question is asked
-abbrev pub IsNearStep : ℕ → List Moment → Type 0
-IsNearStep s M = IsNear s (now M) × (NoneOfHundred s (now M) → IsNear s (now (later M)))
+-- a walk at ordinal s that asks for so many is near at each answer of its next step: at the second if a second question
+-- is asked
+abbrev pub IsNearStep : (count s : ℕ) → List Moment → Type 0
+IsNearStep count s M = IsNear s (now M) × (NoneOfAsked count s (now M) → IsNear s (now (later M)))
 
 -- Wherever fewer than so many steps may bring a walk that is at ordinal s, it is near at each answer of the next one. A
 -- walk from the oldest entry may be anywhere until its first batch.
-abbrev pub StaysNear : ℕ → History → List Moment → Bool → ℕ → ℕ → Type 0
-StaysNear r H M fresh s steps = (i retries old new t : ℕ) (items : List Item) (answers : List (List Item)) →
-    i < steps → Collected r H M fresh s i retries old new items t StepLimit answers →
+abbrev pub StaysNear : (r count : ℕ) → History → List Moment → Bool → ℕ → ℕ → Type 0
+StaysNear r count H M fresh s steps = (i retries old new t : ℕ) (items : List Item) (answers : List (List Item)) →
+    i < steps → Collected r count H M fresh s i retries old new items t StepLimit answers →
     (batches answers ≡ 0 → fresh ≡ false) →
-    IsNearStep t (after_answers (length answers) M)
+    IsNearStep count t (after_answers (length answers) M)
 
 -- and so does the ordinal where the walk begins, unless that is the oldest entry
 abbrev pub WindowsAreNear : Type 0
 WindowsAreNear =
-    (r : ℕ) (H : History) (M : List Moment) (low s steps : ℕ) (fresh : Bool) → AreServed r M H → AreInWindow low M →
-    (fresh ≡ false → (low ≤ s) × (s < low + 2147483648)) → StaysNear r H M fresh s steps
+    (r count : ℕ) (H : History) (M : List Moment) (low s steps : ℕ) (fresh : Bool) → AreServed r M H →
+    AreInWindow low M → (fresh ≡ false → (low ≤ s) × (s < low + 2147483648)) → StaysNear r count H M fresh s steps
 
 -- what is delivered at moments in a window, from an ordinal in it on, ends in it, and so do the moments that are left
 abbrev pub StaysInWindow : Type 0

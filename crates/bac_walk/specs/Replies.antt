@@ -10,34 +10,39 @@ use Rattle.bac_link.specs.Delivery.{History, Moment}
 use Rattle.bac_link.specs.Moments.{entries_from}
 use Rattle.bac_link.specs.Standard.{Asked, FromNumber, FromOldest as FromTheOldest, extent_asked}
 
--- what a walk asks for: the hundred ordinals from one on, which is asked for by its number, or a hundred entries from
--- the oldest held on
+-- what a walk asks for: so many ordinals from one on, which is asked for by its number, or so many entries from the
+-- oldest held on
 pub data Wanted : Type 0 where
-  FromOrdinal : ℕ → Wanted
-  FromOldest : Wanted
+  FromOrdinal : (s count : ℕ) → Wanted
+  FromOldest : (count : ℕ) → Wanted
+
+-- how many they are
+abbrev pub count_wanted : Wanted → ℕ
+count_wanted (FromOrdinal s count) = count
+count_wanted (FromOldest count) = count
 
 -- as a question: an ordinal is asked for by its number
 abbrev pub asked_at : Wanted → Asked
-asked_at (FromOrdinal s) = FromNumber (sequence_number s)
-asked_at FromOldest = FromTheOldest
+asked_at (FromOrdinal s count) = FromNumber (sequence_number s) count
+asked_at (FromOldest count) = FromTheOldest count
 
 -- the extent of that
 abbrev pub extent_of : Wanted → Extent
 extent_of wanted = extent_asked (asked_at wanted)
 
--- the first and the last ordinal that are held and asked for; if the first is above the last, there is none
+-- the first ordinal that is held and asked for, if one is
 abbrev pub first_asked : Wanted → Moment → ℕ
-first_asked (FromOrdinal s) m = max s m.oldest
-first_asked FromOldest m = m.oldest
+first_asked (FromOrdinal s count) m = max s m.oldest
+first_asked (FromOldest count) m = m.oldest
 
--- the last of them
-abbrev pub last_asked : Wanted → Moment → ℕ
-last_asked (FromOrdinal s) m = min (s + 99) m.newest
-last_asked FromOldest m = min (m.oldest + 99) m.newest
+-- the ordinal behind the last of them
+abbrev pub end_asked : Wanted → Moment → ℕ
+end_asked (FromOrdinal s count) m = min (s + count) (m.newest + 1)
+end_asked (FromOldest count) m = min (m.oldest + count) (m.newest + 1)
 
--- how many they are
+-- how many are held and asked for
 abbrev pub asked_count : Wanted → Moment → ℕ
-asked_count wanted m = (last_asked wanted m + 1) - first_asked wanted m
+asked_count wanted m = end_asked wanted m - first_asked wanted m
 
 -- how many of these entries, the first of which has this ordinal, are in the longest prefix whose ACK is within r
 -- octets

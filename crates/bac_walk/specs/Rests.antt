@@ -1,6 +1,6 @@
 -- A walk over a log that doesn't change.
-use Rattle.std.specs.Prelude.{◌≡◌, ℕ, Bool, zero, suc, ◌+◌, ◌-◌, ◌<◌, ◌≤◌, max, nat_lt, if◌then◌else◌, ◌⊎◌, List, []}
-use Rattle.std.specs.Prelude.{◌∷◌, ◌++◌, length, All}
+use Rattle.std.specs.Prelude.{◌≡◌, ℕ, Bool, zero, suc, ◌+◌, ◌-◌, ◌<◌, ◌≤◌, max, nat_lt, nat_le, if◌then◌else◌, ◌⊎◌}
+use Rattle.std.specs.Prelude.{List, [], ◌∷◌, ◌++◌, length, All}
 use Rattle.bac_log.specs.declared.entry.Entry.{Entry}
 use Rattle.bac_link.specs.declared.item.Item.{Item}
 use Rattle.bac_walk.specs.declared.outcome.Ended.{Ended}
@@ -24,28 +24,28 @@ pub record Rested : Type 0 where
   pub next : ℕ
   pub ended : Ended
 
--- from ordinal s on, with at most so many steps
-abbrev pub rest_from : ℕ → History → Moment → ℕ → ℕ → Rested
-rest_from r H m s zero = record { items = []; next = s; ended = StepLimit }
-rest_from r H m s (suc steps) =
+-- from ordinal s on, with at most so many steps, each of which asks for so many records
+abbrev pub rest_from : (r count : ℕ) → History → Moment → ℕ → ℕ → Rested
+rest_from r count H m s zero = record { items = []; next = s; ended = StepLimit }
+rest_from r count H m s (suc steps) =
     if nat_lt m.newest (max s m.oldest)
     then record { items = []; next = s; ended = CaughtUp }
     else
-    (let by_oldest = nat_lt (s + 99) (max s m.oldest) in
-    let more = rest_from r H m (max s m.oldest + reply_count r H m by_oldest s) steps in
-    record { items = whole_reply r H m by_oldest s ++ more.items; next = more.next; ended = more.ended })
+    (let by_oldest = nat_le (s + count) (max s m.oldest) in
+    let more = rest_from r count H m (max s m.oldest + reply_count r count H m by_oldest s) steps in
+    record { items = whole_reply r count H m by_oldest s ++ more.items; next = more.next; ended = more.ended })
 
 -- a walk from the oldest entry, at the ordinal s of its number
-abbrev pub rest_oldest : ℕ → History → Moment → ℕ → ℕ → Rested
-rest_oldest r H m s zero = record { items = []; next = s; ended = StepLimit }
-rest_oldest r H m s (suc steps) =
+abbrev pub rest_oldest : (r count : ℕ) → History → Moment → ℕ → ℕ → Rested
+rest_oldest r count H m s zero = record { items = []; next = s; ended = StepLimit }
+rest_oldest r count H m s (suc steps) =
     if nat_lt m.newest m.oldest
     then record { items = []; next = s; ended = CaughtUp }
-    else rest_from r H m m.oldest (suc steps)
+    else rest_from r count H m m.oldest (suc steps)
 
 -- a walk from the oldest entry, or one from ordinal s on
-abbrev pub rest : ℕ → History → Moment → Bool → ℕ → ℕ → Rested
-rest r H m fresh s steps = if fresh then rest_oldest r H m s steps else rest_from r H m s steps
+abbrev pub rest : (r count : ℕ) → History → Moment → Bool → ℕ → ℕ → Rested
+rest r count H m fresh s steps = if fresh then rest_oldest r count H m s steps else rest_from r count H m s steps
 
 -- a run that ended so
 abbrev pub IsRest : Rested → List Item → ℕ → Ended → Type 0
@@ -82,9 +82,9 @@ rest_all H m s =
 
 -- with more steps than entries held from there on, a walk of a log that doesn't change delivers all of them
 abbrev pub RestsAll : Type 0
-RestsAll = (r : ℕ) (H : History) (m : Moment) (s steps : ℕ) →
+RestsAll = (r count : ℕ) (H : History) (m : Moment) (s steps : ℕ) → 0 < count →
     AreServed r (m ∷ []) H → All IsLoggable (log_at m H).entries →
-    (m.newest + 1) - max s m.oldest < steps → rest_from r H m s steps ≡ rest_all H m s
+    (m.newest + 1) - max s m.oldest < steps → rest_from r count H m s steps ≡ rest_all H m s
 
 -- stopped after any entry and resumed at the next number, it delivers exactly what was left
 abbrev pub RestResumes : Type 0

@@ -1,5 +1,5 @@
 -- What a run of a walk delivers, and what two runs are together.
-use Rattle.std.specs.Prelude.{ℕ, Bool, ◌+◌, ◌≤◌, List, ◌++◌, length}
+use Rattle.std.specs.Prelude.{◌≡◌, ℕ, Bool, ◌+◌, ◌≤◌, List, ◌++◌, length}
 use Rattle.bac_wire.specs.Primitive.{Id}
 use Rattle.bac_link.specs.declared.item.Item.{Item}
 use Rattle.bac_link.specs.Delivery.{History, Moment, DeliversTo}
@@ -13,9 +13,9 @@ use Rattle.bac_walk.specs.Sinks.{IsDeliveredNear, IsRun}
 -- oldest of its first batch's moment
 abbrev pub CollectedIsDelivered : Type 0
 CollectedIsDelivered =
-    (r : ℕ) (H : History) (M : List Moment) (fresh : Bool) (s steps retries old new : ℕ) (items : List Item) (t : ℕ)
-    (ended : Ended) (answers : List (List Item)) →
-    Collected r H M fresh s steps retries old new items t ended answers →
+    (r count : ℕ) (H : History) (M : List Moment) (fresh : Bool) (s steps retries old new : ℕ) (items : List Item)
+    (t : ℕ) (ended : Ended) (answers : List (List Item)) →
+    Collected r count H M fresh s steps retries old new items t ended answers →
     DeliversTo H (start_of fresh s M answers) items t M (length answers)
 
 -- a run over links of ours so delivers its items
@@ -25,12 +25,12 @@ RunsDeliver {L = L} ours =
     (items : List Item) → IsRun (ours link log) (ours left log) retries old new before after steps ended items →
     IsDeliveredNear (ours link log) (ours left log) before after steps items
 
--- A run whose steps were all whole, and one from where it ended, are together one run of as many steps: what both
--- brought, ended as the second.
+-- A run whose steps were all whole, and one from where it ended that asks for as many records, are together one run of
+-- as many steps: what both brought, ended as the second.
 abbrev pub RunsJoin : {L : Type 0} → (L → Id → ℕ → List Moment → History → Type 0) → Type 0
 RunsJoin {L = L} ours =
     (link half left : L) (log : Id) (retries old mid new : ℕ) (before middle after : WalkPlace) (steps more : ℕ)
-    (ended : Ended) (first rest : List Item) → old ≤ mid →
+    (ended : Ended) (first rest : List Item) → old ≤ mid → middle.count ≡ before.count →
     IsRun (ours link log) (ours half log) retries old mid before middle steps StepLimit first →
     IsRun (ours half log) (ours left log) retries mid new middle after more ended rest →
     IsRun (ours link log) (ours left log) retries old new before after (steps + more) ended (first ++ rest)

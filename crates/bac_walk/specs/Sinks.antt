@@ -64,8 +64,9 @@ abbrev pub IsRun : (ℕ → List Moment → History → Type 0) →
 IsRun was is retries old new before after steps ended items =
     ((s : ℕ) → Goes before.fresh before.next s items after.fresh after.next)
     × ((r : ℕ) (M : List Moment) (H : History) (s : ℕ) → was r M H → before.next ≡ sequence_number s →
-    StaysNear r H M before.fresh s steps → (answers : List (List Item)) × (t : ℕ) × (after.next ≡ sequence_number t)
-    × Collected r H M before.fresh s steps retries old new items t ended answers
+    StaysNear r before.count H M before.fresh s steps →
+    (answers : List (List Item)) × (t : ℕ) × (after.next ≡ sequence_number t)
+    × Collected r before.count H M before.fresh s steps retries old new items t ended answers
     × is r (after_answers (length answers) M) H × IsFreshAfter before.fresh answers after.fresh)
 
 -- such a run into a sink: over any link each step puts at most 100 records and at most one gap; each brought a record
@@ -95,6 +96,6 @@ abbrev pub IsDeliveredNear : (ℕ → List Moment → History → Type 0) →
     (ℕ → List Moment → History → Type 0) → WalkPlace → WalkPlace → ℕ → List Item → Type 0
 IsDeliveredNear was is before after steps items =
     (r : ℕ) (M : List Moment) (H : History) (s : ℕ) →
-    was r M H → before.next ≡ sequence_number s → StaysNear r H M before.fresh s steps →
+    was r M H → before.next ≡ sequence_number s → StaysNear r before.count H M before.fresh s steps →
     (b : ℕ) × (a : ℕ) × (t : ℕ) × (before.fresh ≡ false → b ≡ s) × (after.next ≡ sequence_number t)
     × DeliversTo H b items t M a × is r (after_answers a M) H

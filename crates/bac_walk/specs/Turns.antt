@@ -12,23 +12,23 @@ use Rattle.bac_link.specs.Delivery.{History, Moment, Holds, Brings}
 use Rattle.bac_link.specs.Moments.{entries_from}
 use Rattle.bac_walk.specs.Walks.{items_in, asks_oldest_now, numbered}
 
--- no entry of these hundred numbers is held
-abbrev pub NoneOfHundred : ℕ → Moment → Type 0
-NoneOfHundred s m = (k : ℕ) → s ≤ k → k < s + 100 → Holds m k → ⊥
+-- no entry of so many ordinals from s on is held
+abbrev pub NoneOfAsked : (count s : ℕ) → Moment → Type 0
+NoneOfAsked count s m = (k : ℕ) → s ≤ k → k < s + count → Holds m k → ⊥
 
--- how many entries a whole reply has: those that fit it of the hundred ordinals from s on, or from the oldest held
-abbrev pub reply_count : ℕ → History → Moment → Bool → ℕ → ℕ
-reply_count r H m by_oldest s =
+-- how many entries a whole reply has: those that fit it of so many ordinals from s on, or from the oldest held
+abbrev pub reply_count : (r count : ℕ) → History → Moment → Bool → ℕ → ℕ
+reply_count r count H m by_oldest s =
     fitting r (max s m.oldest)
     (entries_from H
-    (max s m.oldest) ((min ((if by_oldest then max s m.oldest else s) + 99) m.newest + 1) - max s m.oldest))
+    (max s m.oldest) (min ((if by_oldest then max s m.oldest else s) + count) (m.newest + 1) - max s m.oldest))
 
 -- the items of one whole reply to a walk that is at ordinal s: all entries that fit it of those that are held and
 -- asked for, with the gap before them
-abbrev pub whole_reply : ℕ → History → Moment → Bool → ℕ → List Item
-whole_reply r H m by_oldest s =
+abbrev pub whole_reply : (r count : ℕ) → History → Moment → Bool → ℕ → List Item
+whole_reply r count H m by_oldest s =
     (if nat_lt s m.oldest then Gap (sequence_number s) (sequence_number m.oldest) ∷ [] else [])
-    ++ numbered (max s m.oldest) (entries_from H (max s m.oldest) (reply_count r H m by_oldest s))
+    ++ numbered (max s m.oldest) (entries_from H (max s m.oldest) (reply_count r count H m by_oldest s))
 
 -- the ordinal where the next batch begins, of a walk that is at ordinal s
 abbrev pub base : WalkPlace → ℕ → Moment → ℕ
@@ -38,9 +38,9 @@ base w s m = if w.fresh then m.oldest else s
 abbrev pub IsTurn : ℕ → History → Moment → ℕ → WalkPlace → Progress → WalkPlace → Type 0
 IsTurn r H m s w (BatchOf b) after =
     (t : ℕ) × Brings H m (base w s m) (items_in b) t × (0 < length (items_in b))
-    × (after ≡ record { log = w.log; next = sequence_number t; fresh = false; asks_oldest = false })
-    × (items_in b ≡ whole_reply r H m w.asks_oldest (base w s m))
+    × (after ≡ record w { next = sequence_number t; fresh = false; asks_oldest = false })
+    × (items_in b ≡ whole_reply r w.count H m w.asks_oldest (base w s m))
 IsTurn r H m s w AskOldest after =
-    (asks_oldest_now w ≡ false) × NoneOfHundred s m × (after ≡ record w { asks_oldest = true })
+    (asks_oldest_now w ≡ false) × NoneOfAsked w.count s m × (after ≡ record w { asks_oldest = true })
 IsTurn r H m s w IsUp after =
     (asks_oldest_now w ≡ true) × ((m.newest < m.oldest) ⊎ ((w.fresh ≡ false) × (m.oldest < s))) × (after ≡ w)

@@ -24,7 +24,7 @@ asks_oldest_now w = w.fresh || w.asks_oldest
 
 -- what a walk that is here asks for
 abbrev pub asked_by : WalkPlace → Asked
-asked_by w = if asks_oldest_now w then FromTheOldest else FromNumber w.next
+asked_by w = if asks_oldest_now w then FromTheOldest w.count else FromNumber w.next w.count
 
 -- the extent of that
 abbrev pub question_of : WalkPlace → Extent
@@ -32,7 +32,7 @@ question_of w = extent_asked (asked_by w)
 
 -- what is asked for when the walk is at ordinal s
 abbrev pub wanted_at : WalkPlace → ℕ → Wanted
-wanted_at w s = if asks_oldest_now w then FromOldest else FromOrdinal s
+wanted_at w s = if asks_oldest_now w then FromOldest w.count else FromOrdinal s w.count
 
 -- entries with their numbers, the first of which is this
 abbrev pub with_numbers : ℕ → List Entry → List Numbered
@@ -84,9 +84,9 @@ pub data NextAct : Type 0 where
 -- whether so many entries from number `first` on, which is one, were asked for
 abbrev pub fits : WalkPlace → ℕ → ℕ → Bool
 fits w first count =
-    nat_le count 100
+    nat_le count w.count
     && (is_number first
-    && (asks_oldest_now w || nat_le (distance w.next first + count) 100))
+    && (asks_oldest_now w || nat_le (distance w.next first + count) w.count))
 
 -- without records: no more, or ask for the oldest; with records and no first number: refused; if those are past: no
 -- more; else they are taken if the count is right and they were asked for
@@ -104,7 +104,7 @@ IsTaken old es Ask (Ok AskOldest) new = new ≡ record old { asks_oldest = true 
 IsTaken old es End (Ok CaughtUp) new = new ≡ old
 IsTaken old es (Bring first) (Ok (BatchOf b)) new =
     (items_in b ≡ brought old first es)
-    × (new ≡ record { log = old.log; next = number_after first (length es); fresh = false; asks_oldest = false })
+    × (new ≡ record old { next = number_after first (length es); fresh = false; asks_oldest = false })
 IsTaken old es _ _ new = ⊥
 
 -- the same of parameters that say nothing to the walk, which are refused, or what they say

@@ -38,13 +38,18 @@ pub enum ReplyFlaw {
         count: u64,
         records: usize,
     },
-    /// It has so many records, more than were asked for.
-    TooMany(usize),
-    /// It has so many records from this number on, and those from `next` on were asked for.
+    /// It has so many records, more than the `asked` ones.
+    TooMany {
+        records: usize,
+        asked: usize,
+    },
+    /// It has so many records from this number on, and the `asked` ones from `next` on were asked
+    /// for.
     Unasked {
         first: u32,
         records: usize,
         next: u32,
+        asked: usize,
     },
 }
 
@@ -141,13 +146,15 @@ impl Walk {
         if count != records as u64 {
             return ReplyFlaw::Count { count, records };
         }
-        if records > 100 {
-            return ReplyFlaw::TooMany(records);
+        let asked = self.asked_count();
+        if records > asked {
+            return ReplyFlaw::TooMany { records, asked };
         }
         ReplyFlaw::Unasked {
             first,
             records,
             next: self.next_number(),
+            asked,
         }
     }
 }

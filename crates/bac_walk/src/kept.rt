@@ -73,6 +73,7 @@ pub fn collect<L: LogLink>(
     ensures next { result.next ≡ walk.new.next }
     ensures oldest { walk.new.fresh ≡ true → result.next ≡ 1 }
     ensures log { walk.new.log ≡ walk.old.log }
+    ensures count { walk.new.count ≡ walk.old.count }
     ensures begun { transactions.new.begun ≤ transactions.old.begun + 2 * steps }
     ensures retries { transactions.new.retries ≡ transactions.old.retries }
     ensures route { transactions.new.route ≡ transactions.old.route }
@@ -113,7 +114,7 @@ pub fn collect<L: LogLink>(
     // count away from the oldest record held.
     ensures near { (r : ℕ) (M : List Moment) (H : History) (s : ℕ) →
         L.is_ours link.old walk.old.log r M H → walk.old.next ≡ sequence_number s →
-        StaysNear r H M walk.old.fresh s steps →
+        StaysNear r walk.old.count H M walk.old.fresh s steps →
         (b : ℕ) × (a : ℕ) × (t : ℕ) × (walk.old.fresh ≡ false → b ≡ s) × (walk.new.next ≡ sequence_number t)
         × DeliversTo H b result.items.items t M a × L.is_ours link.new walk.old.log r (after_answers a M) H }
     // It is a run of so many steps, or of fewer that had no memory for the next, of which nothing
@@ -127,7 +128,7 @@ pub fn collect<L: LogLink>(
     ensures resting { (r : ℕ) (m : Moment) (H : History) (s : ℕ) →
         L.is_sure link.old (towards transactions.old.route) → L.is_ours link.old walk.old.log r (m ∷ []) H → walk.old.next ≡ sequence_number s →
         (walk.old.fresh ≡ false → IsNear s m) →
-        Rests (rest r H m walk.old.fresh s steps) steps result.items.items result.next result.why }
+        Rests (rest r walk.old.count H m walk.old.fresh s steps) steps result.items.items result.next result.why }
     ensures missing { L.lacks link.old walk.old.log → L.is_sure link.old (towards transactions.old.route) →
         Misses steps walk.old.next result.items.items result.next result.why }
     // Whether it loses questions or not, nothing comes of a log that the link lacks.

@@ -138,7 +138,7 @@ pub fn nothing_came<L: LogLink>()
 pub fn honest_is_delivered<L: LogLink>()
     ensures told { (moments : L → List Moment) → HonestIsDelivered L.asks (λ link M. moments link ≡ M) }
     ensures ours { (log : Id) (r : ℕ) (H : History) → HonestIsDelivered L.asks (λ link M. L.is_ours link log r M H) }
-    ensures honest { (path : Path) (log : Id) (H : History) (low : ℕ) → HonestIsDelivered L.asks (λ link M. IsHonest L.asks path log H low link M) }
+    ensures honest { (path : Path) (log : Id) (count : ℕ) (H : History) (low : ℕ) → HonestIsDelivered L.asks (λ link M. IsHonest L.asks path log count H low link M) }
 {}
 
 /// The same where the log goes on and any ask may be lost: over a link that stays honest for as many
@@ -147,7 +147,7 @@ pub fn honest_is_delivered<L: LogLink>()
 /// given, and ends with no fault but a loss.
 pub fn growing_is_delivered<L: LogLink>()
     ensures told { (standing : L → Standing) (most : L → ℕ) → GrowingIsDelivered L.asks (λ more link at. (standing link ≡ at) × (more ≤ most link)) }
-    ensures honest { (path : Path) (log : Id) (low : ℕ) → GrowingIsDelivered L.asks (λ more link at. StaysHonest L.asks path log low more link at) }
+    ensures honest { (path : Path) (log : Id) (count low : ℕ) → GrowingIsDelivered L.asks (λ more link at. StaysHonest L.asks path log count low more link at) }
 {}
 
 /// A link is honest for each log for which it is ours.

@@ -9,6 +9,7 @@
 #![tactic(auto)]
 
 mod batch;
+mod count;
 mod flaw;
 mod kept;
 mod laws;
@@ -22,6 +23,7 @@ mod walk;
 
 pub use bac_link::links_are_honest;
 pub use batch::{Batch, Gap, Numbered};
+pub use count::Count;
 pub use flaw::ReplyFlaw;
 pub use kept::collect;
 pub use laws::{

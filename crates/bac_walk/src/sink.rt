@@ -54,6 +54,7 @@ pub fn deliver<L: LogLink, S: Sink>(
     ensures route { transactions.new.route ≡ transactions.old.route }
     ensures begun { transactions.new.begun ≤ transactions.old.begun + 2 * steps }
     ensures log { walk.new.log ≡ walk.old.log }
+    ensures count { walk.new.count ≡ walk.old.count }
     // Without steps nothing happens.
     ensures none { steps ≡ 0 → (result ≡ Ended.StepLimit) × (sink.new ≡ sink.old) × (walk.new ≡ walk.old)
         × (link.new ≡ link.old) × (transactions.new ≡ transactions.old) }
@@ -91,7 +92,7 @@ pub fn deliver<L: LogLink, S: Sink>(
     ensures kept { L.is_sure link.old (towards transactions.old.route) → L.keeps link.old link.new }
     ensures answered { (r : ℕ) (M : List Moment) (H : History) (s : ℕ) →
         L.is_sure link.old (towards transactions.old.route) → L.is_ours link.old walk.old.log r M H → walk.old.next ≡ sequence_number s →
-        StaysNear r H M walk.old.fresh s steps → FoundEnd result }
+        StaysNear r walk.old.count H M walk.old.fresh s steps → FoundEnd result }
     // A device without the log says so.
     ensures lacking { L.lacks link.old walk.old.log →
         MissingEnd steps result × (sink.new ≡ sink.old) × (walk.new.next ≡ walk.old.next) × L.lacks link.new walk.old.log }
@@ -118,6 +119,7 @@ fn deliver_step<L: LogLink, S: Sink>(
     ensures route { transactions.new.route ≡ transactions.old.route }
     ensures begun { transactions.new.begun ≤ transactions.old.begun + 2 }
     ensures log { walk.new.log ≡ walk.old.log }
+    ensures count { walk.new.count ≡ walk.old.count }
     ensures told { Told L.asks (towards transactions.old.route) transactions.old.retries result walk.new link.new }
     ensures brought { BroughtInto L.asks (towards transactions.old.route) transactions.old.retries S.puts link.old sink.old walk.old 1 result walk.new sink.new link.new }
     ensures transacted { BroughtIntoBy L.asks transactions.old S.puts link.old sink.old walk.old 1 result walk.new sink.new transactions.new link.new }
@@ -128,7 +130,7 @@ fn deliver_step<L: LogLink, S: Sink>(
     ensures kept { L.is_sure link.old (towards transactions.old.route) → L.keeps link.old link.new }
     ensures answered { (r : ℕ) (M : List Moment) (H : History) (s : ℕ) →
         L.is_sure link.old (towards transactions.old.route) → L.is_ours link.old walk.old.log r M H → walk.old.next ≡ sequence_number s →
-        StaysNear r H M walk.old.fresh s 1 → FoundEnd result }
+        StaysNear r walk.old.count H M walk.old.fresh s 1 → FoundEnd result }
     ensures lacking { L.lacks link.old walk.old.log →
         MissingEnd 1 result × (sink.new ≡ sink.old) × (walk.new.next ≡ walk.old.next) × L.lacks link.new walk.old.log }
     ensures refused { L.lacks link.old walk.old.log → L.is_sure link.old (towards transactions.old.route) → FoundEnd result }

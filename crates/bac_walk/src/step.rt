@@ -64,6 +64,7 @@ impl Walk {
         ensures fault { OnErr (progress_of result) (self.new ≡ self.old) }
         ensures asks { asks_next (progress_of result) ≡ true → self.new.next ≡ self.old.next }
         ensures log { self.new.log ≡ self.old.log }
+        ensures count { self.new.count ≡ self.old.count }
         ensures sure { L.is_sure link.old (towards transactions.old.route) → L.is_sure link.new (towards transactions.new.route) }
         ensures kept { L.is_sure link.old (towards transactions.old.route) → L.keeps link.old link.new }
         ensures answered { (r : ℕ) (M : List Moment) (H : History) →
@@ -105,17 +106,18 @@ impl Walk {
         ensures begun { transactions.new.begun ≤ transactions.old.begun + 2 }
         ensures fault { OnErr result (self.new.next ≡ self.old.next) }
         ensures log { self.new.log ≡ self.old.log }
+        ensures count { self.new.count ≡ self.old.count }
         // Over a link that loses nothing, nothing is lost, and asking changes nothing.
         ensures sure { L.is_sure link.old (towards transactions.old.route) → L.is_sure link.new (towards transactions.new.route) }
         ensures kept { L.is_sure link.old (towards transactions.old.route) → L.keeps link.old link.new }
         ensures answered { (r : ℕ) (M : List Moment) (H : History) (s : ℕ) →
             L.is_sure link.old (towards transactions.old.route) → L.is_ours link.old self.old.log r M H → self.old.next ≡ sequence_number s →
-            (self.old.fresh ≡ false → IsNearStep s M) → FoundStep result }
+            (self.old.fresh ≡ false → IsNearStep self.old.count s M) → FoundStep result }
         // Over a log that doesn't change it is one step of a walk of it.
         ensures resting { (r : ℕ) (m : Moment) (H : History) (s : ℕ) →
             L.is_sure link.old (towards transactions.old.route) → L.is_ours link.old self.old.log r (m ∷ []) H → self.old.next ≡ sequence_number s →
             (self.old.fresh ≡ false → IsNear s m) →
-            IsRest (rest r H m self.old.fresh s 1) (step_items result) self.new.next (step_ended result) }
+            IsRest (rest r self.old.count H m self.old.fresh s 1) (step_items result) self.new.next (step_ended result) }
         // A device without the log says so.
         ensures lacking { L.lacks link.old self.old.log → MissingStep result × L.lacks link.new self.old.log }
         ensures refused { L.lacks link.old self.old.log → L.is_sure link.old (towards transactions.old.route) → FoundStep result }
@@ -131,7 +133,7 @@ impl Walk {
         ensures goes { (s : ℕ) → Goes self.old.fresh self.old.next s (step_items result) self.new.fresh self.new.next }
         // So it does over a link of ours, if the walk is near at each answer.
         ensures near { (r : ℕ) (M : List Moment) (H : History) (s : ℕ) →
-            L.is_ours link.old self.old.log r M H → self.old.next ≡ sequence_number s → (self.old.fresh ≡ false → IsNearStep s M) →
+            L.is_ours link.old self.old.log r M H → self.old.next ≡ sequence_number s → (self.old.fresh ≡ false → IsNearStep self.old.count s M) →
             (b : ℕ) × (a : ℕ) × (t : ℕ) × (self.old.fresh ≡ false → b ≡ s) × (self.new.next ≡ sequence_number t)
             × DeliversTo H b (step_items result) t M a × L.is_ours link.new self.old.log r (after_answers a M) H }
         // Over a link that is honest for the log it delivers the next records that the log holds,
@@ -142,9 +144,9 @@ impl Walk {
             (step_items result) (step_ended result) self.new link.new }
         // The walk is at ordinal s before the step, near its log, and at t after it.
         ensures ours { (r : ℕ) (M : List Moment) (H : History) (s : ℕ) →
-            L.is_ours link.old self.old.log r M H → self.old.next ≡ sequence_number s → (self.old.fresh ≡ false → IsNearStep s M) →
+            L.is_ours link.old self.old.log r M H → self.old.next ≡ sequence_number s → (self.old.fresh ≡ false → IsNearStep self.old.count s M) →
             (answers : List (List Item)) × (t : ℕ) × (self.new.next ≡ sequence_number t)
-            × Collected r H M self.old.fresh s 1
+            × Collected r self.old.count H M self.old.fresh s 1
             transactions.old.retries (L.failures link.old) (L.failures link.new)
             (step_items result) t (step_ended result) answers
             × L.is_ours link.new self.old.log r (after_answers (length answers) M) H
@@ -165,11 +167,12 @@ impl Walk {
         ensures begun { transactions.new.begun ≤ transactions.old.begun + 2 }
         ensures fault { OnErr (step_of result) (self.new.next ≡ self.old.next) }
         ensures log { self.new.log ≡ self.old.log }
+        ensures count { self.new.count ≡ self.old.count }
         ensures sure { L.is_sure link.old (towards transactions.old.route) → L.is_sure link.new (towards transactions.new.route) }
         ensures kept { L.is_sure link.old (towards transactions.old.route) → L.keeps link.old link.new }
         ensures answered { (r : ℕ) (M : List Moment) (H : History) (s : ℕ) →
             L.is_sure link.old (towards transactions.old.route) → L.is_ours link.old self.old.log r M H → self.old.next ≡ sequence_number s →
-            (self.old.fresh ≡ false → IsNearStep s M) → FoundStep (step_of result) }
+            (self.old.fresh ≡ false → IsNearStep self.old.count s M) → FoundStep (step_of result) }
         ensures lacking { L.lacks link.old self.old.log → MissingStep (step_of result) × L.lacks link.new self.old.log }
         ensures refused { L.lacks link.old self.old.log → L.is_sure link.old (towards transactions.old.route) → FoundStep (step_of result) }
         ensures told { Told L.asks (towards transactions.old.route) transactions.old.retries (step_ended (step_of result)) self.new link.new }
@@ -179,14 +182,16 @@ impl Walk {
             (step_items (step_of result)) (step_ended (step_of result)) self.new transactions.new link.new }
         ensures goes { (s : ℕ) → Goes self.old.fresh self.old.next s (step_items (step_of result)) self.new.fresh self.new.next }
         ensures ours { (r : ℕ) (M : List Moment) (H : History) (s : ℕ) →
-            L.is_ours link.old self.old.log r M H → self.old.next ≡ sequence_number s → (self.old.fresh ≡ false → IsNearStep s M) →
+            L.is_ours link.old self.old.log r M H → self.old.next ≡ sequence_number s → (self.old.fresh ≡ false → IsNearStep self.old.count s M) →
             (answers : List (List Item)) × (t : ℕ) × (self.new.next ≡ sequence_number t)
-            × Collected r H M self.old.fresh s 1
+            × Collected r self.old.count H M self.old.fresh s 1
             transactions.old.retries (L.failures link.old) (L.failures link.new)
             (step_items (step_of result)) t (step_ended (step_of result)) answers
             × L.is_ours link.new self.old.log r (after_answers (length answers) M) H
             × (self.new.fresh ≡ is_fresh_after self.old.fresh (step_of result)) }
     {
+        // For the prover alone: one record is asked for at least.
+        let _count = self.count();
         self.restart();
         let first = self.turn(link, transactions);
         if !asks_next(&first) {

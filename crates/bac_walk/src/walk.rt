@@ -4,12 +4,14 @@ ghost use Rattle.bac_link.specs.Heard.{heard_at};
 ghost use Rattle.bac_link.specs.Links.{AsksFor};
 ghost use Rattle.bac_link.specs.Requests.{IsTooLong};
 ghost use Rattle.bac_link.specs.Ordinals.{distance, number_after, is_ahead};
-ghost use Rattle.bac_walk.specs.Place.{WalkPlace, IsWalk, walk_at, walk_from_oldest};
+ghost use Rattle.bac_link.specs.Standard.{IsCount};
+ghost use Rattle.bac_walk.specs.Place.{WalkPlace, IsWalk, asking, resumed, walk_at, walk_from_oldest};
 ghost use Rattle.bac_walk.specs.Walks.{asks_oldest_now, question_of, is_past, fits, gap_items, gap_of, IsTakenFrom};
 ghost use Rattle.bac_walk.specs.Replied.{IsJudged};
 ghost use Rattle.bac_walk.specs.Spelled.{IsWhole, records_from};
 
 use crate::batch::{Batch, Gap, Numbered};
+use crate::count::Count;
 use crate::outcome::{BadReply, Progress};
 use crate::read::{next_record, said_of};
 use crate::reply::Verdict;
@@ -21,8 +23,8 @@ use bac_link::Request;
 use bac_wire::{Date4, ObjectId, Time4};
 use std::marker::Model;
 
-/// A place in a trend log, from which its records are asked for: a hundred at a time, by their
-/// numbers, and if none of these is held, the oldest.
+/// A place in a trend log, from which its records are asked for: so many at a time, 100 if nothing
+/// else is said, by their numbers, and if none of these is held, the oldest.
 #[derive(Drop)]
 pub struct Walk {
     log: ObjectId,
@@ -31,14 +33,16 @@ pub struct Walk {
     fresh: bool,
     // The oldest records are asked for in place of the next.
     asks_oldest: bool,
+    // How many records a question asks for.
+    count: Count,
 }
 
 impl Model for Walk {
     ghost Value = { WalkPlace };
 
-    ghost view = { λ w. record { log = w.log; next = w.next; fresh = w.fresh; asks_oldest = w.asks_oldest } };
+    ghost view = { λ w. record { log = w.log; next = w.next; fresh = w.fresh; asks_oldest = w.asks_oldest; count = w.count } };
 
-    ghost invariant = { λ w. IsWalk w.log w.next w.fresh };
+    ghost invariant = { λ w. IsWalk w.log w.next w.fresh w.count };
 }
 
 impl Walk {
@@ -55,6 +59,7 @@ impl Walk {
             next: s,
             fresh: false,
             asks_oldest: false,
+            count: Count::most(),
         })
     }
 
@@ -71,7 +76,21 @@ impl Walk {
             next: 1,
             fresh: true,
             asks_oldest: false,
+            count: Count::most(),
         })
+    }
+
+    /// The same walk, whose questions ask for so many records.
+    pub fn asking_for(self, count: Count) -> Walk
+        ensures { result ≡ asking count self }
+    {
+        Walk {
+            log: self.log,
+            next: self.next,
+            fresh: self.fresh,
+            asks_oldest: self.asks_oldest,
+            count,
+        }
     }
 
     /// The same walk again.
@@ -83,6 +102,20 @@ impl Walk {
             next: self.next,
             fresh: self.fresh,
             asks_oldest: self.asks_oldest,
+            count: self.count,
+        }
+    }
+
+    /// A new walk from the next number on, which asks for as many records.
+    pub fn resumed(&self) -> Walk
+        ensures { result ≡ resumed self.now }
+    {
+        Walk {
+            log: self.log,
+            next: self.next,
+            fresh: false,
+            asks_oldest: false,
+            count: self.count,
         }
     }
 
@@ -96,17 +129,18 @@ impl Walk {
         self.next
     }
 
-    /// What to ask next: a hundred records from the next number on, or from the oldest. It always
+    /// What to ask next: so many records from the next number on, or from the oldest. It always
     /// fits a request.
     pub fn question(&self) -> Request
         ensures asks { AsksFor self.now.log (question_of self.now) result }
         ensures fits { IsTooLong result → ⊥ }
     {
         let object = self.log();
-        // For the prover alone, all three: their numbers are small enough for a request.
+        // For the prover alone, all four: their numbers are small enough for a request.
         let _kind = object.kind();
         let _instance = object.instance();
         let _next = self.next_number();
+        let _count = self.count();
         let extent = self.extent();
         Request::ReadRange(ReadRange {
             object,
@@ -116,11 +150,12 @@ impl Walk {
         })
     }
 
-    // The hundred records that are asked for: from the next number on, or from the oldest held on,
-    // as those newer than 1900-01-01T00:00:00.00.
+    // The records that are asked for: from the next number on, or from the oldest held on, as those
+    // newer than 1900-01-01T00:00:00.00.
     fn extent(&self) -> Extent
         ensures { result ≡ question_of self.now }
     {
+        let count = i32::from(self.count.number());
         if self.asks_oldest_now() {
             Extent::ByTime {
                 date: Date4 {
@@ -135,12 +170,12 @@ impl Walk {
                     second: 0,
                     hundredth: 0,
                 },
-                count: 100,
+                count,
             }
         } else {
             Extent::ByNumber {
                 reference: self.next,
-                count: 100,
+                count,
             }
         }
     }
@@ -199,6 +234,8 @@ impl Walk {
         if said.count != total as u64 || !self.fits(first, total) {
             return Err(BadReply);
         }
+        // For the prover alone: no more than 100 are asked for.
+        let _most = self.asked_count();
         let gap = self.gap_up_to(first);
         self.go_on_at(number_after(first, total as u32));
         let items = said.items;
@@ -216,7 +253,7 @@ impl Walk {
     // It goes on at this number.
     pub(crate) fn go_on_at(&mut self, next: u32)
         requires { 0 < next }
-        ensures { self.new ≡ record { log = self.old.log; next = next; fresh = false; asks_oldest = false } }
+        ensures { self.new ≡ record self.old { next = next; fresh = false; asks_oldest = false } }
     {
         self.next = next;
         self.fresh = false;
@@ -243,14 +280,31 @@ impl Walk {
         self.asks_oldest_now() && !self.fresh && !is_ahead(self.next, first)
     }
 
+    /// How many records a question asks for.
+    pub fn count(&self) -> Count
+        ensures count { result ≡ self.now.count }
+        ensures bounds { IsCount result }
+    {
+        self.count
+    }
+
+    // The same as a number of records.
+    pub(crate) fn asked_count(&self) -> usize
+        ensures count { result ≡ self.now.count }
+        ensures bounds { IsCount result }
+    {
+        usize::from(self.count.number())
+    }
+
     // Whether so many entries from this number on were asked for.
     pub(crate) fn fits(&self, first: u32, count: usize) -> bool
         ensures { result ≡ fits self.now first count }
     {
-        count <= 100
+        let most = self.asked_count();
+        count <= most
             && 0 < first
             && (self.asks_oldest_now()
-                || u64::from(distance(self.next, first)) + count as u64 <= 100)
+                || u64::from(distance(self.next, first)) + count as u64 <= most as u64)
     }
 
     // The gap before this number.

@@ -9,6 +9,7 @@ use Rattle.clap.specs.declared.builder.command.Command.TheViews.{out-Command}
 use Rattle.bac_words.specs.declared.word.Word.{Word}
 use Rattle.bac_words.specs.declared.word.Word.TheVariants.{Address, ObjectType, Instance, Property, Priority, Tag, From, File}
 use Rattle.bac_words.specs.declared.word.Word.TheVariants.{Index, Value, Min, Max, Steps, Count, Local, Timeout}
+use Rattle.bac_words.specs.declared.word.Word.TheVariants.{Records}
 use Rattle.bac_words.specs.declared.word.Word.TheVariants.{Retries, Dnet, Dadr, Csv, Stop, Numbers, Trace}
 use Rattle.bac_words.specs.Names.{name_of}
 
@@ -82,19 +83,20 @@ abbrev pub wp_app : App
 wp_app = with_rules (new_app (codes "wp"))
     (property_rules ++ needed Priority ∷ needed Tag ∷ option Index ∷ option Value ∷ asking_rules)
 
--- bac log ADDRESS INSTANCE FROM [--steps=N] [--csv]
+-- bac log ADDRESS INSTANCE FROM [--steps=N] [--count=N] [--csv]
 abbrev pub log_app : App
 log_app = with_rules (new_app (codes "log"))
-    (needed Address ∷ needed Instance ∷ needed From ∷ option_or Steps (codes "1000") ∷ flag Csv ∷ asking_rules)
+    (needed Address ∷ needed Instance ∷ needed From ∷ option_or Steps (codes "1000")
+    ∷ option_or Records (codes "100") ∷ flag Csv ∷ asking_rules)
 
 -- bac logs ADDRESS [INSTANCE..]
 abbrev pub logs_app : App
 logs_app = with_rules (new_app (codes "logs")) (needed Address ∷ maybe_list Instance ∷ asking_rules)
 
--- bac keep FILE [ADDRESS [INSTANCE..]] [--steps=N] [--stop]
+-- bac keep FILE [ADDRESS [INSTANCE..]] [--steps=N] [--count=N] [--stop]
 abbrev pub keep_app : App
 keep_app = with_rules (new_app (codes "keep"))
-    (needed File ∷ maybe Address ∷ maybe_list Instance ∷ option Steps ∷ flag Stop ∷ keeping_rules)
+    (needed File ∷ maybe Address ∷ maybe_list Instance ∷ option Steps ∷ option Records ∷ flag Stop ∷ keeping_rules)
 
 -- bac kept FILE [ADDRESS [INSTANCE]] [--csv]
 abbrev pub kept_app : App

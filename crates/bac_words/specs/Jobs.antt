@@ -5,8 +5,9 @@ use Rattle.std.specs.Str.{bytes_eq}
 use Rattle.clap.specs.Words.{Row, Text}
 use Rattle.bac_words.specs.declared.word.Word.{Word}
 use Rattle.bac_words.specs.declared.word.Word.TheVariants.{Tool, Address, ObjectType, Instance, Property, Priority, Tag}
-use Rattle.bac_words.specs.declared.word.Word.TheVariants.{From, File, Index, Value, Min, Max, Steps, Count, Local, Timeout}
-use Rattle.bac_words.specs.declared.word.Word.TheVariants.{Retries, Dnet, Dadr, Csv, Stop, Numbers, Trace}
+use Rattle.bac_words.specs.declared.word.Word.TheVariants.{From, File, Index, Value, Min, Max, Steps, Count, Local}
+use Rattle.bac_words.specs.declared.word.Word.TheVariants.{Records}
+use Rattle.bac_words.specs.declared.word.Word.TheVariants.{Timeout, Retries, Dnet, Dadr, Csv, Stop, Numbers, Trace}
 use Rattle.bac_words.specs.declared.job.Job.{Job}
 use Rattle.bac_words.specs.declared.job.Job.TheVariants.{Replay, Wi, Rp, Wp, Log, Logs, Serve}
 use Rattle.bac_words.specs.declared.job.Job.TheVariants as job
@@ -96,7 +97,8 @@ log_at rows = do
   instance ← number_at Instance 0 4194303 rows
   from ← from_at rows
   steps ← number_at Steps 0 4294967295 rows
-  Ok (Log asked instance from steps (is_said Csv rows) (is_said Trace rows))
+  count ← number_at Records 1 100 rows
+  Ok (Log asked instance from steps count (is_said Csv rows) (is_said Trace rows))
 
 -- bac logs
 unfoldable pub logs_at : List Row → Result Job Word
@@ -113,6 +115,7 @@ file_at rows = ok_or (text_at File rows) File
 abbrev pub keep_options_at : List Row → KeepOptions
 keep_options_at rows = record {
   steps = text_at Steps rows;
+  count = text_at Records rows;
   timeout = text_at Timeout rows;
   local = text_at Local rows;
   retries = text_at Retries rows;
@@ -182,7 +185,7 @@ abbrev pub is_traced : Job → Bool
 is_traced (Wi stations min max dnet local timeout trace) = trace
 is_traced (Rp asked object_type instance property index numbers trace) = trace
 is_traced (Wp asked object_type instance property priority given index trace) = trace
-is_traced (Log asked instance from steps csv trace) = trace
+is_traced (Log asked instance from steps count csv trace) = trace
 is_traced (Logs asked instances trace) = trace
 is_traced (job.Keep asked) = asked.trace
 is_traced (job.Kept asked) = false

@@ -39,4 +39,5 @@ by_way net mac = record by_default { route = Some (record { net = net; address =
 
 -- no option of `keep`
 abbrev pub no_options : KeepOptions
-no_options = record { steps = None; timeout = None; local = None; retries = None; dnet = None; dadr = None }
+no_options =
+    record { steps = None; count = None; timeout = None; local = None; retries = None; dnet = None; dadr = None }

@@ -316,8 +316,10 @@ printed with its class and its code:"
     let command = with(command, needed(alloc, Word::Instance, help))?;
     let help = "The number of the first record to fetch, from 1, or oldest";
     let command = with(command, needed(alloc, Word::From, help))?;
-    let help = "Batches of up to 100 records to fetch";
+    let help = "Batches of records to fetch, at most";
     let command = with(command, option_or(alloc, Word::Steps, "N", "1000", help))?;
+    let help = "Records a question asks for: 1 to 100";
+    let command = with(command, option_or(alloc, Word::Records, "N", "100", help))?;
     let help = "As CSV, with a first row of names and no last line";
     let command = with(command, flag(alloc, Word::Csv, help))?;
     with_asking(alloc, command)
@@ -377,8 +379,10 @@ program has it open.";
     let command = with(command, maybe(alloc, Word::Address, help))?;
     let help = "The trend logs' instances: 0 to 4194303";
     let command = with(command, maybe_list(alloc, Word::Instance, help))?;
-    let help = "Batches of up to 100 records a log; all if left out";
+    let help = "Batches of records of a log; all if left out";
     let command = with(command, option(alloc, Word::Steps, "N", help))?;
+    let help = "Records a question asks for: 1 to 100; 100 if left out";
+    let command = with(command, option(alloc, Word::Records, "N", help))?;
     let help = "Ask these logs no more; adding them starts them again";
     let command = with(command, flag(alloc, Word::Stop, help))?;
     with_keeping(alloc, command)

@@ -54,6 +54,8 @@ pub enum Stations {
 pub struct KeepOptions {
     /// How many batches of a log.
     pub steps: Option<Name>,
+    /// How many records a question asks for.
+    pub count: Option<Name>,
     /// How long to wait for an answer.
     pub timeout: Option<Name>,
     /// Our own address.
@@ -141,6 +143,8 @@ pub enum Job {
         instance: u32,
         from: Option<u32>,
         steps: u32,
+        /// How many records a question asks for: 1 to 100.
+        count: u8,
         csv: bool,
         trace: bool,
     },

@@ -65,6 +65,7 @@ fn keep_options_at(alloc: Global, matches: &ArgMatches) -> Result<KeepOptions, A
 {
     Ok(KeepOptions {
         steps: name_at(alloc, matches, Word::Steps)?,
+        count: name_at(alloc, matches, Word::Records)?,
         timeout: name_at(alloc, matches, Word::Timeout)?,
         local: name_at(alloc, matches, Word::Local)?,
         retries: name_at(alloc, matches, Word::Retries)?,

@@ -3,7 +3,7 @@
 
 ghost use Rattle.std.specs.Prelude.{[], ◌∷◌, codes, None, Some, Ok, Err, negsuc, false, true};
 ghost use Rattle.clap.specs.declared.error.kind.ErrorKind.TheVariants.{MissingRequiredArgument, MissingSubcommand, UnknownArgument, ArgumentConflict, DisplayHelp};
-ghost use Rattle.bac_words.specs.declared.word.Word.TheVariants.{Address, From, Instance, Max, Retries, Dnet, Dadr, Stop};
+ghost use Rattle.bac_words.specs.declared.word.Word.TheVariants.{Address, From, Instance, Max, Records, Retries, Dnet, Dadr, Stop};
 ghost use Rattle.bac_words.specs.declared.job.Job.TheVariants.{Replay, Wi, Rp, Wp, Log, Logs, Keep, Kept, Serve};
 ghost use Rattle.bac_words.specs.declared.job.Given.TheVariants.{Null, Signed};
 ghost use Rattle.bac_words.specs.declared.job.Stations.TheVariants.{Input, Listed};
@@ -24,8 +24,9 @@ pub fn lines_say_jobs()
         (Ok (Wp by_default 45 1 85 16 (Signed (negsuc 4)) None false)) }
     ensures null { Says (codes "bac wp 10.0.0.1 5 1 87 0 0 --index=8")
         (Ok (Wp by_default 5 1 87 0 Null (Some 8) false)) }
-    ensures log { Says (codes "bac log 10.0.0.1 7 oldest") (Ok (Log by_default 7 None 1000 false false)) }
-    ensures number { Says (codes "bac log 10.0.0.1 7 43") (Ok (Log by_default 7 (Some 43) 1000 false false)) }
+    ensures log { Says (codes "bac log 10.0.0.1 7 oldest") (Ok (Log by_default 7 None 1000 100 false false)) }
+    ensures number { Says (codes "bac log 10.0.0.1 7 43") (Ok (Log by_default 7 (Some 43) 1000 100 false false)) }
+    ensures count { Says (codes "bac log 10.0.0.1 7 43 --count=20") (Ok (Log by_default 7 (Some 43) 1000 20 false false)) }
     ensures logs { Says (codes "bac logs 10.0.0.1 7 0") (Ok (Logs by_default (7 ∷ 0 ∷ []) false)) }
     ensures every { Says (codes "bac logs 10.0.0.1") (Ok (Logs by_default [] false)) }
     ensures keep { Says (codes "bac keep a.db")
@@ -46,7 +47,7 @@ pub fn lines_say_jobs()
     ensures csv { Says (codes "bac kept a.db --csv")
         (Ok (Kept (record { file = codes "a.db"; address = None; instance = None; csv = true }))) }
     ensures serve { Says (codes "bac serve 10.0.0.1") (Ok (Serve station 4294967295)) }
-    ensures rows { Says (codes "bac log 10.0.0.1 7 43 --csv") (Ok (Log by_default 7 (Some 43) 1000 true false)) }
+    ensures rows { Says (codes "bac log 10.0.0.1 7 43 --csv") (Ok (Log by_default 7 (Some 43) 1000 100 true false)) }
     ensures numbers { Says (codes "bac rp 10.0.0.1 8 123 77 --numbers") (Ok (Rp by_default 8 123 77 None true false)) }
     ensures traced { Says (codes "bac wi - --trace") (Ok (Wi Input None None None None 3000 true)) }
     ensures network { Says (codes "bac wi 10.0.0.1 --dnet=65535")
@@ -60,13 +61,15 @@ pub fn lines_say_bad_values()
     ensures input { Says (codes "bac wi - 10.0.0.1") (Err Address) }
     ensures host { Says (codes "bac rp 10.0.0.256 8 123 77") (Err Address) }
     ensures port { Says (codes "bac rp 10.0.0.1:0 8 123 77") (Err Address) }
-    ensures rows { Says (codes "bac log 10.0.0.1 7 43 --csv") (Ok (Log by_default 7 (Some 43) 1000 true false)) }
+    ensures rows { Says (codes "bac log 10.0.0.1 7 43 --csv") (Ok (Log by_default 7 (Some 43) 1000 100 true false)) }
     ensures numbers { Says (codes "bac rp 10.0.0.1 8 123 77 --numbers") (Ok (Rp by_default 8 123 77 None true false)) }
     ensures traced { Says (codes "bac wi - --trace") (Ok (Wi Input None None None None 3000 true)) }
     ensures network { Says (codes "bac wi 10.0.0.0/19") (Err Address) }
     ensures one { Says (codes "bac rp 10.0.0.1/32 8 123 77") (Err Address) }
     ensures retries { Says (codes "bac rp 10.0.0.1 8 123 77 --retries=11") (Err Retries) }
     ensures from { Says (codes "bac log 10.0.0.1 7 0") (Err From) }
+    ensures none { Says (codes "bac log 10.0.0.1 7 43 --count=0") (Err Records) }
+    ensures many { Says (codes "bac log 10.0.0.1 7 43 --count=101") (Err Records) }
     ensures instance { Says (codes "bac logs 10.0.0.1 7 4194304") (Err Instance) }
     ensures stop { Says (codes "bac keep a.db --stop") (Err Stop) }
     ensures max { Says (codes "bac wi 10.0.0.1 --max=5") (Err Max) }

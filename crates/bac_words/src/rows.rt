@@ -60,11 +60,11 @@ pub(crate) fn short_at(matches: &ArgMatches, word: Word, high: u16) -> Result<u1
     }
 }
 
-pub(crate) fn octet_at(matches: &ArgMatches, word: Word, high: u8) -> Result<u8, Word>
-    ensures { result ≡ number_at word 0 high (rows_of (found_of matches.now)) }
+pub(crate) fn octet_at(matches: &ArgMatches, word: Word, low: u8, high: u8) -> Result<u8, Word>
+    ensures { result ≡ number_at word low high (rows_of (found_of matches.now)) }
 {
     match text(matches, word) {
-        Some(text) => octet(text.as_bytes(), 0, high).ok_or(word),
+        Some(text) => octet(text.as_bytes(), low, high).ok_or(word),
         None => Err(word),
     }
 }

@@ -31,7 +31,7 @@ fn asked_at(matches: &ArgMatches) -> Result<Asked, Word>
     let address = address_at(matches)?;
     let local = local_at(matches)?;
     let timeout = number_at(matches, Word::Timeout, 1, 60000)?;
-    let retries = octet_at(matches, Word::Retries, 10)?;
+    let retries = octet_at(matches, Word::Retries, 0, 10)?;
     let route = route_at(matches)?;
     Ok(Asked {
         address,
@@ -100,7 +100,7 @@ pub(crate) fn rp(matches: &ArgMatches) -> Result<Job, Word>
 fn tag_at(matches: &ArgMatches) -> Result<u8, Word>
     ensures { result ≡ tag_at (rows_of (found_of matches.now)) }
 {
-    let tag = octet_at(matches, Word::Tag, 9)?;
+    let tag = octet_at(matches, Word::Tag, 0, 9)?;
     if is_tag(tag) { Ok(tag) } else { Err(Word::Tag) }
 }
 
@@ -123,7 +123,7 @@ pub(crate) fn wp(alloc: Global, matches: &ArgMatches) -> Result<Job, WordsFault>
     let object_type = short_at(matches, Word::ObjectType, MAX_TYPE)?;
     let instance = number_at(matches, Word::Instance, 0, MAX_INSTANCE)?;
     let property = number_at(matches, Word::Property, 0, u32::MAX)?;
-    let priority = octet_at(matches, Word::Priority, 16)?;
+    let priority = octet_at(matches, Word::Priority, 0, 16)?;
     let given = given_at(alloc, matches)?;
     let index = maybe_number_at(matches, Word::Index, u32::MAX)?;
     let trace = is_said(matches, Word::Trace);
@@ -168,6 +168,7 @@ pub(crate) fn log(matches: &ArgMatches) -> Result<Job, Word>
     let instance = number_at(matches, Word::Instance, 0, MAX_INSTANCE)?;
     let from = from_at(matches)?;
     let steps = number_at(matches, Word::Steps, 0, u32::MAX)?;
+    let count = octet_at(matches, Word::Records, 1, 100)?;
     let csv = is_said(matches, Word::Csv);
     let trace = is_said(matches, Word::Trace);
     Ok(Job::Log {
@@ -175,6 +176,7 @@ pub(crate) fn log(matches: &ArgMatches) -> Result<Job, Word>
         instance,
         from,
         steps,
+        count,
         csv,
         trace,
     })

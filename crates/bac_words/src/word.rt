@@ -36,6 +36,8 @@ pub enum Word {
     Max,
     /// How many batches to fetch at most.
     Steps,
+    /// How many records a question asks for.
+    Records,
     /// How many datagrams to serve.
     Count,
     /// Lines of CSV.
@@ -78,6 +80,7 @@ impl Word {
             Word::Min => "min",
             Word::Max => "max",
             Word::Steps => "steps",
+            Word::Records => "count",
             Word::Count => "count",
             Word::Csv => "csv",
             Word::Stop => "stop",
@@ -102,6 +105,7 @@ impl Word {
                 | Word::Min
                 | Word::Max
                 | Word::Steps
+                | Word::Records
                 | Word::Count
                 | Word::Csv
                 | Word::Stop

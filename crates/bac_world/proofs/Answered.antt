@@ -1,5 +1,5 @@
 -- What a device answers to a walk's question, and what the walk hears in it.
-use Rattle.std.proofs.Common.{◌≡◌, ℕ, true, false, ◌&&◌, ◌==◌, ◌-◌, List, [], ◌∷◌, Option, Some, None, refl, sym, ap, subst, ◌∙◌, arith}
+use Rattle.std.proofs.Common.{◌≡◌, ◌<◌, ℕ, true, false, ◌&&◌, ◌==◌, ◌-◌, List, [], ◌∷◌, Option, Some, None, refl, sym, ap, subst, ◌∙◌, arith}
 use Rattle.std.specs.Prelude.{All}
 use Rattle.std.proofs.lemmas.Bool.{and_parts, eqb-true}
 use Rattle.bac_wire.specs.Canon.{IsValid}
@@ -23,7 +23,7 @@ use Rattle.bac_link.specs.Requests.{request_octets}
 use Rattle.bac_link.proofs.Datagrams.{request_again}
 use Rattle.bac_link.proofs.Verdicts.{question_short}
 use Rattle.bac_link.specs.Heard.{AckParameters}
-use Rattle.bac_walk.specs.Replies.{Wanted, extent_of}
+use Rattle.bac_walk.specs.Replies.{Wanted, count_wanted, extent_of}
 use Rattle.bac_walk.specs.Takes.{Says}
 use Rattle.bac_link.specs.Heard as heard
 use Rattle.bac_walk.proofs.Bridge.{IsNearTo}
@@ -107,15 +107,15 @@ heard_same : (id : Id) (octets : List ℕ) (o : Option Apdu) (j : ℕ) (paramete
     heard.heard_in id octets ≡ heard_in id (answer_in (apdu_in octets))
 heard_same id octets o j parameters said = rw said refl
 
-pub says_now : (rounds : ℕ) (H : History) (d : State) (id : Id) (wanted : Wanted) (invoke : ℕ) → id.kind ≡ 20 → IsValid (Object id) → InHistory rounds H id.instance d → IsNearTo wanted (placed rounds (moment_of (log_with d id.instance))) →
+pub says_now : (rounds : ℕ) (H : History) (d : State) (id : Id) (wanted : Wanted) (invoke : ℕ) → id.kind ≡ 20 → IsValid (Object id) → InHistory rounds H id.instance d → count_wanted wanted < 2147483648 → IsNearTo wanted (placed rounds (moment_of (log_with d id.instance))) →
     AreServed d.reply_size (placed rounds (moment_of (log_with d id.instance)) ∷ []) H
     × Says d.reply_size (placed rounds (moment_of (log_with d id.instance))) H wanted (heard_in id (answer_in (apdu_in (reply_text d id (extent_of wanted) invoke))))
-says_now rounds H d id wanted invoke kind valid here near =
+says_now rounds H d id wanted invoke kind valid here small near =
     let m : Moment = placed rounds (moment_of (log_with d id.instance)) in
     let octets : List ℕ = reply_text d id (extent_of wanted) invoke in
     let ack = is_ack rounds H d id (extent_of wanted) invoke kind here in
     let served = served_at rounds H id.instance d here in (
       served,
       subst (λ (o : Option AckParameters). Says d.reply_size m H wanted o) (heard_same id octets (apdu_in octets) invoke ack.0 ack.1)
-          (says_in octets d.reply_size (m ∷ []) H id wanted (towards None) invoke served near valid (replied_at rounds H d id (extent_of wanted) invoke kind here)),
+          (says_in octets d.reply_size (m ∷ []) H id wanted (towards None) invoke served small near valid (replied_at rounds H d id (extent_of wanted) invoke kind here)),
     )

@@ -10,7 +10,7 @@ use Rattle.bac_walk.specs.Collects.{batches, start_of}
 use Rattle.bac_walk.specs.Delivers.{NoneFrom}
 use Rattle.bac_walk.specs.Near.{IsNear}
 use Rattle.bac_walk.specs.Place.{WalkPlace}
-use Rattle.bac_walk.specs.Turns.{NoneOfHundred}
+use Rattle.bac_walk.specs.Turns.{NoneOfAsked}
 use Rattle.bac_walk.specs.Walks.{asks_oldest_now}
 use Rattle.bac_walk.proofs.Came.{or_true}
 use Rattle.std.proofs.Common.{append-nil}
@@ -34,8 +34,8 @@ pub record DonePart (H : History) (M : List Moment) (fresh : Bool) (s began : �
   pub next : walk.next ≡ sequence_number t
   pub early : walk.fresh ≡ true → (fresh ≡ true) × (done ≡ [])
   pub late : walk.fresh ≡ false → fresh ≡ true → 0 < batches done
-  pub hundred : walk.fresh ≡ false → walk.asks_oldest ≡ true →
-      (q : ℕ) × (q < length M) × (waits ≡ true → q < began) × (length done ≤ q) × NoneOfHundred t (moment_at M q)
+  pub asked : walk.fresh ≡ false → walk.asks_oldest ≡ true →
+      (q : ℕ) × (q < length M) × (waits ≡ true → q < began) × (length done ≤ q) × NoneOfAsked walk.count t (moment_at M q)
   pub near : waits ≡ true → walk.fresh ≡ false → (q : ℕ) → began ≤ q → q < length M → IsNear t (moment_at M q)
   pub up : CaughtPart H M fresh s began waits done caught
 
@@ -57,7 +57,7 @@ done_asked H M fresh s began waits walk items caught done t d = record {
   next = d.next;
   early = d.early;
   late = d.late;
-  hundred = λ f a. let q = d.hundred f a in (q.0, q.1, λ w. q.1, q.3, q.4);
+  asked = λ f a. let q = d.asked f a in (q.0, q.1, λ w. q.1, q.3, q.4);
   near = λ w f q from below. absurd (omega (arith, from, below));
   up = caught_asked H M fresh s began waits done caught d.up;
 }
@@ -103,7 +103,7 @@ pub done_grown : (H : History) (M : List Moment) (m : Moment) (fresh : Bool) (s 
     DonePart H (M ++ m ∷ []) fresh s began waits walk items caught done t
 done_grown H M m fresh s began waits walk items caught done t near d =
     let N : List Moment = m ∷ [] in
-    let R : Moment → Type 0 = λ k. NoneOfHundred t k in
+    let R : Moment → Type 0 = λ k. NoneOfAsked walk.count t k in
     record {
       short = omega (arith, d.short, length-append M N);
       behind = d.behind;
@@ -112,7 +112,7 @@ done_grown H M m fresh s began waits walk items caught done t near d =
       next = d.next;
       early = d.early;
       late = d.late;
-      hundred = λ f a. let q = d.hundred f a in
+      asked = λ f a. let q = d.asked f a in
           (q.0, omega (arith, q.1, length-append M N), q.2, q.3, subst R (sym (moment_at-grow M N q.0 q.1)) q.4);
       near = λ w f. near_grown M m began t (d.near w f) (near f);
       up = caught_grown H M N fresh s began waits done caught d.short d.up;
@@ -136,15 +136,15 @@ done_closed H M fresh s began waits walk items caught done t d = record {
   next = d.next;
   early = d.early;
   late = d.late;
-  hundred = λ f a. absurd (cc);
+  asked = λ f a. absurd (cc);
   near = λ w f q from below. absurd (cc);
   up = caught_closed H M fresh s began waits done caught d.up;
 }
 
--- no entry of the hundred from the next number on is held: the oldest are asked for next
+-- no entry of those asked for from the next number on is held: the oldest are asked for next
 pub done_idle : (H : History) (M : List Moment) (fresh : Bool) (s began : ℕ) (waits : Bool) (walk : WalkPlace) (items : List Item) (caught : Option ℕ)
     (done : List (List Item)) (t p : ℕ) → DonePart H M fresh s began waits walk items caught done t →
-    waits ≡ true → began ≤ p → p < length M → NoneOfHundred t (moment_at M p) →
+    waits ≡ true → began ≤ p → p < length M → NoneOfAsked walk.count t (moment_at M p) →
     DonePart H M fresh s began false (record walk { asks_oldest = true }) items caught done t
 done_idle H M fresh s began waits walk items caught done t p d w from below none = record {
   short = d.short;
@@ -154,7 +154,7 @@ done_idle H M fresh s began waits walk items caught done t p d w from below none
   next = d.next;
   early = d.early;
   late = d.late;
-  hundred = λ f a. (p, below, λ w. absurd (cc), omega (arith, d.behind w), none);
+  asked = λ f a. (p, below, λ w. absurd (cc), omega (arith, d.behind w), none);
   near = λ w f q from below. absurd (cc);
   up = caught_closed H M fresh s began waits done caught d.up;
 }
@@ -168,10 +168,10 @@ led_whole H M fresh s t done i le led =
 
 caught_now : (H : History) (M : List Moment) (fresh : Bool) (s began : ℕ) (waits : Bool) (walk : WalkPlace) (items : List Item) (caught : Option ℕ)
     (done : List (List Item)) (t p : ℕ) → DonePart H M fresh s began waits walk items caught done t →
-    waits ≡ true → began ≤ p → p < length M → ((i : ℕ) → i < p → (moment_at M i).oldest ≤ (moment_at M p).oldest) → asks_oldest_now walk ≡ true →
+    0 < walk.count → waits ≡ true → began ≤ p → p < length M → ((i : ℕ) → i < p → (moment_at M i).oldest ≤ (moment_at M p).oldest) → asks_oldest_now walk ≡ true →
     (((moment_at M p).newest < (moment_at M p).oldest) ⊎ ((walk.fresh ≡ false) × ((moment_at M p).oldest < t))) →
     CaughtPart H M fresh s began false done (Some walk.next)
-caught_now H M fresh s began waits walk items caught done t p d w from below before oldest (inl empty) = (
+caught_now H M fresh s began waits walk items caught done t p d some w from below before oldest (inl empty) = (
   p,
   t,
   below,
@@ -180,8 +180,8 @@ caught_now H M fresh s began waits walk items caught done t p d w from below bef
   led_whole H M fresh s t done p (omega (arith, d.behind w)) d.led,
   λ k low held. omega (arith, held.0, held.1, empty),
 )
-caught_now H M fresh s began waits walk items caught done t p d w from below before oldest (inr past) =
-    let q = d.hundred past.0 (or_true walk.fresh walk.asks_oldest oldest past.0) in
+caught_now H M fresh s began waits walk items caught done t p d some w from below before oldest (inr past) =
+    let q = d.asked past.0 (or_true walk.fresh walk.asks_oldest oldest past.0) in
     let lt : q.0 < began = q.2 w in
     let low : (moment_at M q.0).oldest ≤ (moment_at M p).oldest = before q.0 (omega arith) in
     let less : (moment_at M p).oldest < t = past.1 in (
@@ -191,15 +191,15 @@ caught_now H M fresh s began waits walk items caught done t p d w from below bef
       λ w. absurd (cc),
       d.next,
       led_whole H M fresh s t done q.0 q.3 d.led,
-      λ k above held. q.4 t (omega arith) (omega arith) (omega arith, omega (arith, held.0, held.1, above)),
+      λ k above held. q.4 t (omega arith) (omega (arith, some)) (omega arith, omega (arith, held.0, held.1, above)),
     )
 
 pub done_up : (H : History) (M : List Moment) (fresh : Bool) (s began : ℕ) (waits : Bool) (walk : WalkPlace) (items : List Item) (caught : Option ℕ)
     (done : List (List Item)) (t p : ℕ) → DonePart H M fresh s began waits walk items caught done t →
-    waits ≡ true → began ≤ p → p < length M → ((i : ℕ) → i < p → (moment_at M i).oldest ≤ (moment_at M p).oldest) → asks_oldest_now walk ≡ true →
+    0 < walk.count → waits ≡ true → began ≤ p → p < length M → ((i : ℕ) → i < p → (moment_at M i).oldest ≤ (moment_at M p).oldest) → asks_oldest_now walk ≡ true →
     (((moment_at M p).newest < (moment_at M p).oldest) ⊎ ((walk.fresh ≡ false) × ((moment_at M p).oldest < t))) →
     DonePart H M fresh s began false (restarted walk) items (Some walk.next) done t
-done_up H M fresh s began waits walk items caught done t p d w from below before oldest none = record {
+done_up H M fresh s began waits walk items caught done t p d some w from below before oldest none = record {
   short = d.short;
   behind = λ w. absurd (cc);
   led = d.led;
@@ -207,9 +207,9 @@ done_up H M fresh s began waits walk items caught done t p d w from below before
   next = d.next;
   early = d.early;
   late = d.late;
-  hundred = λ f a. absurd (cc);
+  asked = λ f a. absurd (cc);
   near = λ w f q from below. absurd (cc);
-  up = caught_now H M fresh s began waits walk items caught done t p d w from below before oldest none;
+  up = caught_now H M fresh s began waits walk items caught done t p d some w from below before oldest none;
 }
 
 -- ---- a batch
@@ -248,7 +248,7 @@ done_more H M fresh s began waits walk after items caught done t u p (x ∷ b) d
       next = next;
       early = λ g. absurd (cc);
       late = λ g h. batches-after done k x b;
-      hundred = λ g h. absurd (cc);
+      asked = λ g h. absurd (cc);
       near = λ w f q from below. absurd (cc);
       up = caught_after H M fresh s began waits done caught k (x ∷ b) d.up w (omega arith);
     }
@@ -271,7 +271,7 @@ done_first H M s began waits walk after caught t u p (x ∷ b) d w from below f 
       next = next;
       early = λ g. absurd (cc);
       late = λ g h. batches-after [] p x b;
-      hundred = λ g h. absurd (cc);
+      asked = λ g h. absurd (cc);
       near = λ w f q from below. absurd (cc);
       up = caught_after H M true s began waits [] caught p (x ∷ b) d.up w (omega arith);
     }

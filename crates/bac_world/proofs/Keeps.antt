@@ -17,6 +17,7 @@ use Rattle.bac_link.specs.Laws.{moment_at}
 use Rattle.bac_link.specs.Moments.{AreServed}
 use Rattle.bac_link.specs.Transactions.{is_awaited}
 use Rattle.bac_link.specs.Heard.{AckParameters}
+use Rattle.bac_link.specs.Standard.{IsCount}
 use Rattle.bac_link.specs.Ordinals.{number_after}
 use Rattle.bac_walk.specs.Place.{WalkPlace}
 use Rattle.bac_walk.specs.Near.{IsNear}
@@ -25,7 +26,7 @@ use Rattle.bac_walk.specs.Takes.{Says}
 use Rattle.bac_walk.specs.Collects.{batches}
 use Rattle.bac_walk.specs.Walks.{NextAct, Bring, Refuse, Ask, End, brought, verdict, wanted_at}
 use Rattle.bac_walk.specs.Walks as walks
-use Rattle.bac_walk.proofs.Asking.{asks_at, near_to}
+use Rattle.bac_walk.proofs.Asking.{asks_at, near_to, small_of}
 use Rattle.bac_apdu.specs.declared.service.extent.Extent.{Extent}
 use Rattle.bac_direct.specs.Ahead.{log_with, moment_of, placed, turn}
 use Rattle.bac_direct.specs.Events.{datagram_in}
@@ -182,12 +183,12 @@ module _ (rounds : ℕ) (near : Type 0) (H : History) (fresh : Bool) (s : ℕ) (
       subst P (sym (moment_in rounds n devices i before.0 before.1))
       (subst Q (sym (moment_in rounds n devices p d at)) (omega (arith, a.rises i p before.0 d (omega arith) before.1 at)))
 
-  keep_taken : (run : Run) (asked : Pending) (v : NextAct) (es : List Entry) (p : ℕ) → run.network.transactions.pending ≡ Some asked → (i : Inv rounds near H fresh s log run) →
+  keep_taken : (run : Run) (asked : Pending) (v : NextAct) (es : List Entry) (p : ℕ) → IsCount run.network.walk.count → run.network.transactions.pending ≡ Some asked → (i : Inv rounds near H fresh s log run) →
       run.began ≤ p → p < length (moments_in rounds log.instance run.devices) →
       ((q : ℕ) → q < p → (moment_at (moments_in rounds log.instance run.devices) q).oldest ≤ (moment_at (moments_in rounds log.instance run.devices) p).oldest) →
       ((g : near) → VerdictOf H (moment_at (moments_in rounds log.instance run.devices) p) (i.delivers g).t run.network.walk v es) →
       Inv rounds near H fresh s log (record { network = takes (closes run.network) v es; devices = run.devices; began = run.began })
-  keep_taken run asked Refuse es p is i from below before said =
+  keep_taken run asked Refuse es p many is i from below before said =
       let w = run.network in
       record {
         same = i.same;
@@ -197,7 +198,7 @@ module _ (rounds : ℕ) (near : Type 0) (H : History) (fresh : Bool) (s : ℕ) (
         packets = packets_closed log run.devices run.began w.packets w.begun w.transactions w.walk (restarted w.walk) i.packets;
         delivers = λ c. absurd (said c);
       }
-  keep_taken run asked Ask es p is i from below before said =
+  keep_taken run asked Ask es p many is i from below before said =
       let w = run.network in
       let M = moments_in rounds log.instance run.devices in
       record {
@@ -214,7 +215,7 @@ module _ (rounds : ℕ) (near : Type 0) (H : History) (fresh : Bool) (s : ℕ) (
               part = done_idle H M fresh s run.began (is_some w.transactions.pending) w.walk w.items w.caught g.done g.t p g.part (ap is_some is) from below (said c).1;
             };
       }
-  keep_taken run asked End es p is i from below before said =
+  keep_taken run asked End es p many is i from below before said =
       let w = run.network in
       let M = moments_in rounds log.instance run.devices in
       record {
@@ -228,14 +229,14 @@ module _ (rounds : ℕ) (near : Type 0) (H : History) (fresh : Bool) (s : ℕ) (
             record {
               done = g.done;
               t = g.t;
-              part = done_up H M fresh s run.began (is_some w.transactions.pending) w.walk w.items w.caught g.done g.t p g.part (ap is_some is) from below before
+              part = done_up H M fresh s run.began (is_some w.transactions.pending) w.walk w.items w.caught g.done g.t p g.part many.some (ap is_some is) from below before
                   (said c).0 (said c).1;
             };
       }
-  keep_taken run asked (Bring f) es p is i from below before said =
+  keep_taken run asked (Bring f) es p many is i from below before said =
       let w = run.network in
       let M = moments_in rounds log.instance run.devices in
-      let after : WalkPlace = record { log = w.walk.log; next = number_after f (length es); fresh = false; asks_oldest = false } in
+      let after : WalkPlace = record w.walk { next = number_after f (length es); fresh = false; asks_oldest = false } in
       record {
         same = i.same;
         kind = i.kind;
@@ -251,36 +252,36 @@ module _ (rounds : ℕ) (near : Type 0) (H : History) (fresh : Bool) (s : ℕ) (
       }
 
   -- an answer of a moment after the request began
-  keep_heard : (run : Run) (asked : Pending) (o : Option AckParameters) (p : ℕ) (d : State) → run.network.transactions.pending ≡ Some asked → (i : Inv rounds near H fresh s log run) →
+  keep_heard : (run : Run) (asked : Pending) (o : Option AckParameters) (p : ℕ) (d : State) → IsCount run.network.walk.count → run.network.transactions.pending ≡ Some asked → (i : Inv rounds near H fresh s log run) →
       run.began ≤ p → slice_get run.devices p ≡ Some d →
       ((g : near) → run.network.walk.fresh ≡ false → IsNear (i.delivers g).t (placed rounds (moment_of (log_with d log.instance)))) →
       ((g : near) → AreServed d.reply_size (placed rounds (moment_of (log_with d log.instance)) ∷ []) H
       × Says d.reply_size (placed rounds (moment_of (log_with d log.instance))) H (wanted_at run.network.walk (i.delivers g).t) o) →
       Inv rounds near H fresh s log (record { network = hears (closes run.network) o; devices = run.devices; began = run.began })
-  keep_heard run asked None p d is i from at close said =
+  keep_heard run asked None p d many is i from at close said =
       let n = log.instance in
-      keep_taken run asked Refuse [] p is i from (omega (arith, slice_get_within run.devices p d at, length-moments rounds n run.devices)) (in_order run.devices d run.network.device p i.devices at)
+      keep_taken run asked Refuse [] p many is i from (omega (arith, slice_get_within run.devices p d at, length-moments rounds n run.devices)) (in_order run.devices d run.network.device p i.devices at)
       (λ g. absurd (said g).1)
-  keep_heard run asked (Some h) p d is i from at close said =
+  keep_heard run asked (Some h) p d many is i from at close said =
       let w = run.network in
       let n = log.instance in
       let M = moments_in rounds n run.devices in
       let m : Moment = placed rounds (moment_of (log_with d n)) in
       let v = verdict w.walk h.first h.count h.entries in
-      keep_taken run asked v h.entries p is i from (omega (arith, slice_get_within run.devices p d at, length-moments rounds n run.devices)) (in_order run.devices d w.device p i.devices at)
+      keep_taken run asked v h.entries p many is i from (omega (arith, slice_get_within run.devices p d at, length-moments rounds n run.devices)) (in_order run.devices d w.device p i.devices at)
       (λ g.
       let k = i.delivers g in
       let P : Moment → Type 0 = λ x. VerdictOf H x k.t w.walk v h.entries in
-      subst P (sym (moment_in rounds n run.devices p d at)) (verdict_of H (m ∷ []) d.reply_size k.t w.walk h v refl k.part.next (close g) (said g).0 (said g).1))
+      subst P (sym (moment_in rounds n run.devices p d at)) (verdict_of H (m ∷ []) d.reply_size k.t w.walk h v refl k.part.next many (close g) (said g).0 (said g).1))
 
   same_text : (a b : List ℕ) → (let some : Option (List ℕ) = Some a in some) ≡ Some b → a ≡ b
   same_text a b e = cc
 
-  keep_received : (run : Run) (asked : Pending) (k j : ℕ) (octets : List ℕ) → run.network.transactions.pending ≡ Some asked → (i : Inv rounds near H fresh s log run) →
+  keep_received : (run : Run) (asked : Pending) (k j : ℕ) (octets : List ℕ) → IsCount run.network.walk.count → run.network.transactions.pending ≡ Some asked → (i : Inv rounds near H fresh s log run) →
       slice_get run.network.packets k ≡ Some (record { transaction = j; to = Client; datagram = octets }) → nat_lt run.network.begun (j + 256) ≡ true →
       is_awaited (Some asked) octets ≡ true →
       Inv rounds near H fresh s log (record { network = hears (closes run.network) (heard_in run.network.walk.log (answer_in (apdu_in octets))); devices = run.devices; began = run.began })
-  keep_received run asked k j octets is i at young awaited =
+  keep_received run asked k j octets many is i at young awaited =
       let w = run.network in
       let found = is_right log run.devices run.began w.packets w.begun w.transactions w.walk asked k j octets i.packets is at young awaited in
       let p = found.1.0 in
@@ -297,37 +298,37 @@ module _ (rounds : ℕ) (near : Type 0) (H : History) (fresh : Bool) (s : ℕ) (
       let N : Moment → Type 0 = λ x. IsNear k.t x in
       subst N (moment_in rounds n run.devices p d found.1.3)
       (k.part.near (ap is_some is) f p found.1.2 (omega (arith, slice_get_within run.devices p d found.1.3, length-moments rounds n run.devices))) in
-      keep_heard run asked (heard_in w.walk.log (answer_in (apdu_in octets))) p d is i found.1.2 found.1.3 close (λ g.
+      keep_heard run asked (heard_in w.walk.log (answer_in (apdu_in octets))) p d many is i found.1.2 found.1.3 close (λ g.
       let k = i.delivers g in
       let wanted : Wanted = wanted_at w.walk k.t in
-      let says = says_now rounds H d log wanted (w.begun % 256) i.kind i.valid here (near_to w.walk k.t m (close g)) in
+      let says = says_now rounds H d log wanted (w.begun % 256) i.kind i.valid here (small_of w.walk k.t found.0.asks.1) (near_to w.walk k.t m (close g)) in
       let R : Extent → Type 0 = λ x. Says d.reply_size m H wanted (heard_in log (answer_in (apdu_in (reply_text d log x (w.begun % 256))))) in
       let P : List ℕ → Type 0 = λ o. Says d.reply_size m H wanted (heard_in log (answer_in (apdu_in o))) in
       let Q : Id → Type 0 = λ l. Says d.reply_size m H wanted (heard_in l (answer_in (apdu_in octets))) in
       (says.0, subst Q (sym i.same) (subst P same (subst R (sym (asks_at w.walk k.t k.part.next)) says.1))))
 
-  keep_awaited : (run : Run) (o : Option Pending) (k j : ℕ) (octets : List ℕ) (b : Bool) → run.network.transactions.pending ≡ o → is_awaited o octets ≡ b → Inv rounds near H fresh s log run →
+  keep_awaited : (run : Run) (o : Option Pending) (k j : ℕ) (octets : List ℕ) (b : Bool) → IsCount run.network.walk.count → run.network.transactions.pending ≡ o → is_awaited o octets ≡ b → Inv rounds near H fresh s log run →
       slice_get run.network.packets k ≡ Some (record { transaction = j; to = Client; datagram = octets }) → nat_lt run.network.begun (j + 256) ≡ true →
       Inv rounds near H fresh s log (record {
         network = if b then hears (closes run.network) (heard_in run.network.walk.log (answer_in (apdu_in octets))) else run.network;
         devices = run.devices;
         began = run.began;
       })
-  keep_awaited run o k j octets false is awaited i at young = i
-  keep_awaited run None k j octets true is awaited i at young = absurd (cc)
-  keep_awaited run (Some asked) k j octets true is awaited i at young = keep_received run asked k j octets is i at young awaited
+  keep_awaited run o k j octets false many is awaited i at young = i
+  keep_awaited run None k j octets true many is awaited i at young = absurd (cc)
+  keep_awaited run (Some asked) k j octets true many is awaited i at young = keep_received run asked k j octets many is i at young awaited
 
   -- ---- a packet comes
 
-  keep_arrives : (run : Run) (k j : ℕ) (to : Side) (octets : List ℕ) → InHistory rounds H log.instance run.network.device →
+  keep_arrives : (run : Run) (k j : ℕ) (to : Side) (octets : List ℕ) → IsCount run.network.walk.count → InHistory rounds H log.instance run.network.device →
       slice_get run.network.packets k ≡ Some (record { transaction = j; to = to; datagram = octets }) → nat_lt run.network.begun (j + 256) ≡ true →
       (near → IsNearWhere rounds log.instance H fresh s run (arriving run.devices run.network to octets)) → Inv rounds near H fresh s log run →
       Inv rounds near H fresh s log (record { network = arrives run.network j to octets; devices = arriving run.devices run.network to octets; began = run.began })
-  keep_arrives run k j Device octets here at young close i = keep_replied run k j octets here at close i
-  keep_arrives run k j Client octets here at young close i =
-      keep_awaited run run.network.transactions.pending k j octets (is_awaited run.network.transactions.pending octets) refl refl i at young
+  keep_arrives run k j Device octets many here at young close i = keep_replied run k j octets here at close i
+  keep_arrives run k j Client octets many here at young close i =
+      keep_awaited run run.network.transactions.pending k j octets (is_awaited run.network.transactions.pending octets) many refl refl i at young
 
-  keep_young : (run : Run) (k : ℕ) (p : Packet) (b : Bool) → InHistory rounds H log.instance run.network.device → slice_get run.network.packets k ≡ Some p →
+  keep_young : (run : Run) (k : ℕ) (p : Packet) (b : Bool) → IsCount run.network.walk.count → InHistory rounds H log.instance run.network.device → slice_get run.network.packets k ≡ Some p →
       is_young run.network p.transaction ≡ b →
       (near → IsNearWhere rounds log.instance H fresh s run (if b then arriving run.devices run.network p.to p.datagram else run.devices)) → Inv rounds near H fresh s log run →
       Inv rounds near H fresh s log (record {
@@ -335,14 +336,14 @@ module _ (rounds : ℕ) (near : Type 0) (H : History) (fresh : Bool) (s : ℕ) (
         devices = if b then arriving run.devices run.network p.to p.datagram else run.devices;
         began = run.began;
       })
-  keep_young run k p false here at young close i = i
-  keep_young run k p true here at young close i = keep_arrives run k p.transaction p.to p.datagram here at young close i
+  keep_young run k p false many here at young close i = i
+  keep_young run k p true many here at young close i = keep_arrives run k p.transaction p.to p.datagram many here at young close i
 
-  keep_deliver : (run : Run) (k : ℕ) (p : Option Packet) → InHistory rounds H log.instance run.network.device → slice_get run.network.packets k ≡ p →
+  keep_deliver : (run : Run) (k : ℕ) (p : Option Packet) → IsCount run.network.walk.count → InHistory rounds H log.instance run.network.device → slice_get run.network.packets k ≡ p →
       (near → IsNearWhere rounds log.instance H fresh s run (delivering run.devices run.network p)) → Inv rounds near H fresh s log run →
       Inv rounds near H fresh s log (record { network = delivers run.network p; devices = delivering run.devices run.network p; began = run.began })
-  keep_deliver run k None here at close i = i
-  keep_deliver run k (Some p) here at close i = keep_young run k p (is_young run.network p.transaction) here at refl close i
+  keep_deliver run k None many here at close i = i
+  keep_deliver run k (Some p) many here at close i = keep_young run k p (is_young run.network p.transaction) many here at refl close i
 
   -- ---- the device goes on
 
@@ -364,7 +365,7 @@ module _ (rounds : ℕ) (near : Type 0) (H : History) (fresh : Bool) (s : ℕ) (
       Inv rounds near H fresh s log (follow run e)
   keep run event.Ask rest sane l close i = keep_ask run run.network.transactions.pending refl sane i
   keep run (event.Deliver k) rest sane l close i =
-      keep_deliver run k (slice_get run.network.packets k) (in_history rounds H log.instance run.network.device rest sane.device l) refl close i
+      keep_deliver run k (slice_get run.network.packets k) sane.count (in_history rounds H log.instance run.network.device rest sane.device l) refl close i
   keep run event.Timeout rest sane l close i = keep_timed run run.network.transactions.pending refl i
   keep run (event.Sample m) rest sane l close i =
       keep_device run _ (log_rises log.instance run.network.device _ sane.device l.there (keeps run.network (event.Sample m))) i

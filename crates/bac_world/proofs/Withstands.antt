@@ -62,7 +62,7 @@ inv_start rounds near H d walk retries s sane new next = record {
       next = next;
       early = λ f. (f, refl);
       late = λ f g. absurd (cc);
-      hundred = λ f a. absurd (cc);
+      asked = λ f a. absurd (cc);
       near = λ w f q from below. absurd (cc);
       up = tt;
     };

@@ -131,7 +131,7 @@ takes w Refuse es = record w { walk = restarted w.walk }
 takes w walks.Ask es = record w { walk = record w.walk { asks_oldest = true } }
 takes w walks.End es = record w { walk = restarted w.walk; caught = Some w.walk.next }
 takes w (Bring first) es = record w {
-  walk = record { log = w.walk.log; next = number_after first (length es); fresh = false; asks_oldest = false };
+  walk = record w.walk { next = number_after first (length es); fresh = false; asks_oldest = false };
   items = w.items ++ brought w.walk first es;
 }
 

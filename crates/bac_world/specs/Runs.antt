@@ -2,6 +2,7 @@
 use Rattle.std.specs.Prelude.{◌≡◌, ℕ, Bool, false, ◌+◌, ◌<◌, ◌≤◌, if◌then◌else◌, Option, Some, None, List, [], ◌∷◌}
 use Rattle.std.specs.Prelude.{◌++◌, length, map, take, slice_get, true}
 use Rattle.bac_apdu.specs.Service.Extent.{IsExtent}
+use Rattle.bac_link.specs.Standard.{IsCount}
 use Rattle.bac_link.specs.declared.item.Item.{Item}
 use Rattle.bac_link.specs.declared.transactions.Pending.{Pending}
 use Rattle.bac_link.specs.Delivery.{History, Moment, DeliversTo, Leads, items_of}
@@ -195,12 +196,13 @@ DeliversFrom old es new =
 
 -- ---- what is true of every world
 
--- the device is sound, and the walk is one of a trend log whose question is in range
+-- the device is sound, and the walk is one of a trend log whose question is in range, and asks for 1 to 100 records
 pub record IsSane (w : Network) : Type 0 where
   pub device : IsSound w.device
   pub kind : w.walk.log.kind ≡ 20
   pub log : IsValid (Object w.walk.log)
   pub asks : IsExtent (walks.question_of w.walk)
+  pub count : IsCount w.walk.count
 
 -- before, between and after events
 abbrev pub AreSane : Network → List WorldEvent → Type 0

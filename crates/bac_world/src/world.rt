@@ -138,6 +138,7 @@ impl World {
         let _clock = self.device.clock();
         let _log = self.walk.log();
         let _question = self.walk.question();
+        let _count = self.walk.count();
     }
 
     // Begins the walk's question, if none is open.

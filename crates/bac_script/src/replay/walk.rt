@@ -65,7 +65,7 @@ fn walk_over<L: LogLink>(
     ensures rests { (r : ℕ) (m : Moment) (H : History) (s : ℕ) →
         L.is_sure link.old (towards transactions.old.route) → L.is_ours link.old walk.old.log r (m ∷ []) H → walk.old.next ≡ sequence_number s →
         (walk.old.fresh ≡ false → IsNear s m) →
-        IfOk result (λ text. text.items ≡ rested_text (rest r H m walk.old.fresh s steps)) }
+        IfOk result (λ text. text.items ≡ rested_text (rest r walk.old.count H m walk.old.fresh s steps)) }
     ensures missing { L.lacks link.old walk.old.log → L.is_sure link.old (towards transactions.old.route) →
         IfOk result (λ text. text.items ≡ missed_text walk.old.next steps) }
     ensures kept { L.is_sure link.old (towards transactions.old.route) → L.keeps link.old link.new }

@@ -1,4 +1,4 @@
-use Rattle.std.proofs.Common.{◌≡◌, ℕ, ◌+◌, ◌-◌, ◌<◌, max, arith, Bool, List, [], ◌∷◌, ◌++◌, Option, inl, inr, refl, sym, ap, subst, ◌∙◌}
+use Rattle.std.proofs.Common.{◌≡◌, ℕ, ◌+◌, ◌-◌, ◌<◌, max, arith, List, [], ◌∷◌, ◌++◌, Option, inl, inr, refl, sym, ap, subst, ◌∙◌}
 use Rattle.std.specs.Prelude.{All}
 use Rattle.std.specs.Option.{unwrap_or}
 use Rattle.bac_wire.specs.Primitive.{Id}
@@ -34,14 +34,14 @@ returns-clause-records c = λ k there here near more.
     let id : c.args.log ≡ log_id n = ap (λ k. let i : Id = record { kind = k; instance = n } in i) kind in
     let ahead = c.new-link.ensures.ours n 0 there in
     let K : Id → Type 0 = λ i. IsAhead c.new-link.result.device.now c.new-link.result.events.now i r (m ∷ []) H in
-    let R : Bool → Type 0 = λ f. Rests (rest r H m f k c.args.steps) c.args.steps c.collect.result.items.items c.collect.result.next c.collect.result.why in
+    let R : WalkPlace → Type 0 = λ w. Rests (rest r w.count H m w.fresh k c.args.steps) c.args.steps c.collect.result.items.items c.collect.result.next c.collect.result.why in
     let sound : IsSound d = subst IsSound c.new-link.ensures.device ahead.sound in
     let is_log : IsLog log = subst IsLog (sym (ap (λ (o : Option Log). unwrap_or o (empty_log 1 0)) there.1)) (sound.logs n there.0 there.1) in
     let loggable : All IsLoggable (log_at m H).entries = subst (λ (es : List Entry). All IsLoggable es) (sym (held_now log) ∙ ap (λ (x : Moment). (log_at x (history_of log)).entries) zero ∙ ap (λ (h : History). (log_at m h).entries) same) is_log.loggable in
     let close : IsNear k m = subst (λ (x : Moment). IsNear k x) zero near in
-    let whole = c.rests_all.ensures r H m k c.args.steps ahead.served loggable (subst (λ (x : Moment). (x.newest + 1) - max k x.oldest < c.args.steps) zero (enough log k c.args.steps more)) in
+    let whole = c.rests_all.ensures r 100 H m k c.args.steps (omega arith) ahead.served loggable (subst (λ (x : Moment). (x.newest + 1) - max k x.oldest < c.args.steps) zero (enough log k c.args.steps more)) in
     let all : held_from log k ≡ (rest_all H m k).items = sym (held_all log k) ∙ ap (λ (x : Moment). (rest_all (history_of log) x k).items) zero ∙ ap (λ (h : History). (rest_all h m k).items) same in
-    elim (subst R (ap (λ (w : WalkPlace). w.fresh) is) (c.collect.ensures.resting r m H k (c.new-link.ensures.events, ap (λ (t : Transactions). t.route) c.new-transactions.ensures) (subst K (sym (ap (λ (w : WalkPlace). w.log) is ∙ id)) (0, ahead)) (ap (λ (w : WalkPlace). w.next) is ∙ here) (λ old. close))) [
+    elim (subst R is (c.collect.ensures.resting r m H k (c.new-link.ensures.events, ap (λ (t : Transactions). t.route) c.new-transactions.ensures) (subst K (sym (ap (λ (w : WalkPlace). w.log) is ∙ id)) (0, ahead)) (ap (λ (w : WalkPlace). w.next) is ∙ here) (λ old. close))) [
       | inl memory ↦ inl memory
       | inr rests ↦ inr (rests.0 ∙ ap (λ (x : Rested). x.items) whole ∙ sym all)
     ]

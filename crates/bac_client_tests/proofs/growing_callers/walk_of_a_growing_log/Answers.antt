@@ -13,7 +13,7 @@ use Rattle.bac_client_tests.proofs.growing_callers.walk_of_a_growing_log.Goals a
 pub returns : goal.returns
 returns c = λ s near log_is next room at.
     let asks : ℕ = most_asks c.args.steps c.args.transactions.now.retries + 0 in
-    let A : Option Place → Id → Type 0 = λ y i. StaysHonest {S = GrowingLink} (λ old octets answer new. MayGrow old.logged octets answer new.logged) (towards y) i 1 asks c.args.link.now (logged_so_far c.args.link.now.logged) in
-    let honest : A None log = stays (λ (l : GrowingLink). l.logged) asks c.args.link.now (omega (arith, room)) in
+    let A : Option Place → Id → Type 0 = λ y i. StaysHonest {S = GrowingLink} (λ old octets answer new. MayGrow old.logged octets answer new.logged) (towards y) i c.args.walk.now.count 1 asks c.args.link.now (logged_so_far c.args.link.now.logged) in
+    let honest : A None log = stays (λ (l : GrowingLink). l.logged) c.args.walk.now.count asks c.args.link.now c.count-count.ensures.bounds (omega (arith, room)) in
     let here = subst (λ y. A y c.args.walk.now.log) (sym near) (subst (A None) (sym log_is) honest) in
     (c.collect.ensures.growing (logged_so_far c.args.link.now.logged) s 1 0 here (begins c.args.link.now.logged (omega (arith, room))) next at).0

@@ -1,10 +1,10 @@
-use Rattle.std.proofs.Common.{◌≡◌, ℕ, Result, Ok, Err, refl, rules, sym, ap, subst}
+use Rattle.std.proofs.Common.{◌≡◌, ℕ, Result, Ok, Err, refl, rules, sym, ap, subst, ◌∙◌}
 use Rattle.std.proofs.lemmas.Result.{IfOk-weaker}
 use Rattle.bac_link.specs.Path.{Path, towards}
 use Rattle.bac_walk.specs.declared.outcome.Step.{Step}
 use Rattle.bac_walk.specs.declared.outcome.Step.TheVariants.{CaughtUp}
 use Rattle.bac_walk.specs.declared.outcome.WalkFault.{WalkFault}
-use Rattle.bac_walk.specs.Place.{WalkPlace, walk_from_oldest}
+use Rattle.bac_walk.specs.Place.{WalkPlace, asking, walk_from_oldest}
 use Rattle.bac_keep.specs.Resumption.{AsksOldest, CameTo}
 use Rattle.bac_keep.specs.Looks.{IsSeen}
 use Rattle.bac_keep.proofs.look.look_for.Goals as goal
@@ -12,14 +12,14 @@ use Rattle.bac_keep.proofs.look.look_for.Goals as goal
 pub returns-in-Ok-CaughtUp-clause-seen : goal.returns-in-Ok-CaughtUp-clause-seen
 returns-in-Ok-CaughtUp-clause-seen g c some =
     let is : c.step.result ≡ Ok CaughtUp = search rules in
-    let at = (c.in-Some.ensures {u = tt}).some in
+    let at = c.asking_for-walk.ensures ∙ ap (asking c.args.count) (c.in-Some.ensures {u = tt}).some in
     let W : WalkPlace → Type 0 = λ w. CameTo g.L.LogLink.asks (towards c.args.transactions.now.route) c.args.transactions.now.retries c.args.link.now w c.step.result c.step.new.link in
     let first = subst W at (c.step.ensures.brought.0, c.step.new.self, c.step.ensures.brought.1) in
     IfOk-weaker c.look_at_oldest.result _ _
     (λ told it.
     let T : Result Step WalkFault → Type 0 = λ a. IsSeen (record { number = c.args.last.number; stamp = c.args.last.stamp.now; datum = c.args.last.datum.now; flags = c.args.last.flags.now }) a it.0 told in
-    let R : Path → Type 0 = λ path. CameTo g.L.LogLink.asks path c.step.new.transactions.retries c.step.new.link (walk_from_oldest c.args.log) it.0 c.look_at_oldest.new.link in
-    let S : ℕ → Type 0 = λ n. CameTo g.L.LogLink.asks (towards c.args.transactions.now.route) n c.step.new.link (walk_from_oldest c.args.log) it.0 c.look_at_oldest.new.link in (
+    let R : Path → Type 0 = λ path. CameTo g.L.LogLink.asks path c.step.new.transactions.retries c.step.new.link (asking c.args.count (walk_from_oldest c.args.log)) it.0 c.look_at_oldest.new.link in
+    let S : ℕ → Type 0 = λ n. CameTo g.L.LogLink.asks (towards c.args.transactions.now.route) n c.step.new.link (asking c.args.count (walk_from_oldest c.args.log)) it.0 c.look_at_oldest.new.link in (
       c.step.result,
       it.0,
       c.step.new.link,
@@ -32,7 +32,7 @@ returns-in-Ok-CaughtUp-clause-seen g c some =
 
 pub returns-in-Err-clause-seen : goal.returns-in-Err-clause-seen
 returns-in-Err-clause-seen g c some =
-    let at = (c.in-Some.ensures {u = tt}).some in
+    let at = c.asking_for-walk.ensures ∙ ap (asking c.args.count) (c.in-Some.ensures {u = tt}).some in
     let W : WalkPlace → Type 0 = λ w. CameTo g.L.LogLink.asks (towards c.args.transactions.now.route) c.args.transactions.now.retries c.args.link.now w c.step.result c.step.new.link in
     let T : Result Step WalkFault → Type 0 = λ a. IsSeen (record { number = c.args.last.number; stamp = c.args.last.stamp.now; datum = c.args.last.datum.now; flags = c.args.last.flags.now }) a c.step.result (Err c.in-Err.fault) in
     (c.step.result, c.step.result, c.step.new.link, subst T (sym c.in-Err.is) refl, subst W at (c.step.ensures.brought.0, c.step.new.self, c.step.ensures.brought.1), λ asks. absurd (subst AsksOldest c.in-Err.is asks), λ none. refl)

@@ -25,6 +25,7 @@ use Rattle.bac_keep.proofs.run.keep_log.Goals as goal
 pub loop-done-init : goal.loop-done-init
 loop-done-init g c = record {
   log = refl;
+  count = refl;
   same_log = refl;
   retries = refl;
   route = refl;
@@ -111,6 +112,7 @@ returns-in-Some-clause-crash g c = survives_then (state g.S.Store c.args.conn.no
 pub loop-done-preserved : goal.loop-done-preserved
 loop-done-preserved g c = record {
   log = c.keep_next.ensures.log ∙ c.loop-done.invariant.log;
+  count = c.keep_next.ensures.count ∙ c.loop-done.invariant.count;
   same_log = c.keep_next.ensures.same_log ∙ c.loop-done.invariant.same_log;
   retries = c.keep_next.ensures.retries ∙ c.loop-done.invariant.retries;
   route = c.keep_next.ensures.route ∙ c.loop-done.invariant.route;

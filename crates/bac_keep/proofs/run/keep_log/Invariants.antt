@@ -16,6 +16,7 @@ use Rattle.bac_keep.proofs.run.keep_log.Given as goal
 abbrev pub invariant-loop-done : goal.invariant-loop-done
 invariant-loop-done g l = record {
   log : l.walk.log ≡ l.fn.walk.log;
+  count : l.walk.count ≡ l.fn.walk.count;
   same_log : l.place.log ≡ l.fn.place.log;
   retries : l.transactions.retries ≡ l.fn.transactions.retries;
   route : l.transactions.route ≡ l.fn.transactions.route;

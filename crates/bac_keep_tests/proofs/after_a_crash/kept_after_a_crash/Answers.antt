@@ -55,7 +55,7 @@ returns g c clean was_open committed has none later may has_then was_open_then c
     ] in
     cut_early g.K.LogLink.asks (towards route_then) c.new-others.result.retries c.in_ok-from.from mid c.args.later.now c.in_ok-rest.rest c.args.steps trees archive_still cut in
     λ H M k low honest here some back window above below.
-    let I : Path → Type 0 = λ p. IsHonest g.L.LogLink.asks p c.args.log H low c.args.link.now M in
+    let I : Path → Type 0 = λ p. IsHonest g.L.LogLink.asks p c.args.log 100 H low c.args.link.now M in
     let both = behind_crash g.L.LogLink.asks g.K.LogLink.asks c.honest_is_kept.ensures c.honest_is_kept-2.ensures c.begins_empty.ensures c.all_runs_are_kept.ensures
     c.kept_is_covered.ensures c.newest_ends_what_is_kept.ensures c.none_later_stays.ensures c.delivers_each_once.ensures
     (towards route) (towards route_then) c.new-transactions.result.retries c.new-others.result.retries c.args.place c.in_ok-from.from old opened c.args.link.now c.args.later.now
@@ -63,7 +63,7 @@ returns g c clean was_open committed has none later may has_then was_open_then c
     (c.in-Ok.ensures.told before has_then) c.in_ok-from.ensures.0 c.in_ok-from.ensures.1 c.in_ok-from.ensures.2 H M k low (subst I (ap towards (sym straight)) honest) here some back window above below in (
       both.0,
       λ wait honest_then.
-          let J : Path → Type 0 = λ p. IsHonest g.K.LogLink.asks p c.args.log H low c.args.later.now (after_answers (both.0 + wait) M) in
+          let J : Path → Type 0 = λ p. IsHonest g.K.LogLink.asks p c.args.log 100 H low c.args.later.now (after_answers (both.0 + wait) M) in
           let goes = both.1 wait (subst J (ap towards (sym straight_then)) honest_then) in (
             λ shut.
                 let E : Database → Type 0 = λ d. Ends second.place d new second.next in

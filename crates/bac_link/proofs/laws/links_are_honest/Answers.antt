@@ -9,4 +9,4 @@ pub returns-clause-ours : goal.returns-clause-ours
 returns-clause-ours g c = λ log r H. stands_honest g.L.LogLink.asks (λ link M. g.L.LogLink.is_ours link log r M H)
 
 pub returns-clause-goes_on : goal.returns-clause-goes_on
-returns-clause-goes_on g c = λ path log H low. goes_on g.L.LogLink.asks path log H low
+returns-clause-goes_on g c = λ path log count H low. goes_on g.L.LogLink.asks path log count H low

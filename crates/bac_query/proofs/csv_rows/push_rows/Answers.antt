@@ -1,4 +1,4 @@
-use Rattle.std.proofs.Common.{◌≡◌, ◌<◌, ◌≤◌, ◌++◌, ◌∙◌, ℕ, List, [], length, drop, get_or, refl, sym, ap, subst, append_assoc, append-nil, rules, arith}
+use Rattle.std.proofs.Common.{◌<◌, ◌≤◌, ◌++◌, ◌∙◌, List, [], length, refl, sym, ap, subst, append_assoc, append-nil, arith}
 use Rattle.std.proofs.Math.ListN.{drop_of_length-le}
 use Rattle.bac_link.specs.declared.item.Item.{Item}
 use Rattle.bac_query.specs.Rows.{AreRows}

@@ -25,7 +25,7 @@ pub loop-done-init : goal.loop-done-init
 loop-done-init g c =
     let was : ℕ → List Moment → History → Type 0 = λ r M H. g.L.LogLink.is_ours c.args.link.now c.args.walk.log r M H in
     record {
-      printed = ([], refl, refl, omega arith, Appends-nil _, no_run was c.args.transactions.now.retries (g.L.LogLink.failures c.args.link.now) c.args.walk, refl, omega arith, omega arith);
+      printed = ([], refl, refl, omega arith, Appends-nil _, no_run was c.args.transactions.now.retries (g.L.LogLink.failures c.args.link.now) c.args.walk, refl, omega arith, omega arith, refl);
       came = ([], Appends-nil _, no_brought g.L.LogLink.asks c.args.transactions.now c.args.link.now c.args.walk);
     }
 
@@ -60,7 +60,7 @@ returns-in_err-print-clause-printed g c =
     let same = c.deref.ensures.value ∙ step.1 c.in_default.not-Stopped in
     let run = run_on was mid is c.args.walk.log c.loop-done.walk.log c.args.transactions.now.retries c.loop-done.transactions.retries
     (g.L.LogLink.failures c.args.link.now) (g.L.LogLink.failures c.loop-done.link) (g.L.LogLink.failures c.deliver_lines.new.link)
-    c.args.walk c.loop-done.walk c.deliver_lines.new.walk c.loop-done.done c.deliver_lines.result v.0 step.0 v.1 v.2 v.3 v.5 step.2 in
+    c.args.walk c.loop-done.walk c.deliver_lines.new.walk c.loop-done.done c.deliver_lines.result v.0 step.0 v.1 v.2 v.3 v.9 v.5 step.2 in
     let e : c.from_residual.result ≡ Err c.in_err-print.field-0.0 = search rules in
     let P : Fetching → Type 0 = λ r. PrintsItems Lines (v.0 ++ step.0) r (g.W.Write.contents c.args.out.now) (g.W.Write.contents c.print.new.out) in
     let Q : Fetching → Type 0 = λ r. (t : ℕ) → c.deliver_lines.new.walk.next ≡ sequence_number t → NextIs r t in
@@ -94,7 +94,7 @@ returns-in-Some-clause-printed g c =
     let same = c.deref.ensures.value ∙ step.1 c.in_default.not-Stopped in
     let run = run_on was mid is c.args.walk.log c.loop-done.walk.log c.args.transactions.now.retries c.loop-done.transactions.retries
     (g.L.LogLink.failures c.args.link.now) (g.L.LogLink.failures c.loop-done.link) (g.L.LogLink.failures c.deliver_lines.new.link)
-    c.args.walk c.loop-done.walk c.deliver_lines.new.walk c.loop-done.done c.deliver_lines.result v.0 step.0 v.1 v.2 v.3 v.5 step.2 in
+    c.args.walk c.loop-done.walk c.deliver_lines.new.walk c.loop-done.done c.deliver_lines.result v.0 step.0 v.1 v.2 v.3 v.9 v.5 step.2 in
     let written = more_lines v.0 step.0 c.deref.result.now _ _ _ same v.4 c.in_ok-print.ensures in
     let some : why_of c.deliver_lines.result ≡ Some c.in-Some.why = sym c.why.ensures ∙ c.in-Some.is in
     let whole = run_whole (was c.args.walk.log) (is c.args.walk.log) c.args.transactions.now.retries (g.L.LogLink.failures c.args.link.now) (g.L.LogLink.failures c.deliver_lines.new.link)
@@ -127,7 +127,7 @@ loop-done-preserved g c =
     let same = c.deref.ensures.value ∙ step.1 c.in_default.not-Stopped in
     let run = run_on was mid is c.args.walk.log c.loop-done.walk.log c.args.transactions.now.retries c.loop-done.transactions.retries
     (g.L.LogLink.failures c.args.link.now) (g.L.LogLink.failures c.loop-done.link) (g.L.LogLink.failures c.deliver_lines.new.link)
-    c.args.walk c.loop-done.walk c.deliver_lines.new.walk c.loop-done.done c.deliver_lines.result v.0 step.0 v.1 v.2 v.3 v.5 step.2 in
+    c.args.walk c.loop-done.walk c.deliver_lines.new.walk c.loop-done.done c.deliver_lines.result v.0 step.0 v.1 v.2 v.3 v.9 v.5 step.2 in
     let limit = goes_on c.deliver_lines.result (sym c.why.ensures ∙ c.in_default-why.is) in
     let P : Ended → Type 0 = λ e. IsRun (was c.args.walk.log) (is c.args.walk.log) c.args.transactions.now.retries
     (g.L.LogLink.failures c.args.link.now) (g.L.LogLink.failures c.deliver_lines.new.link) c.args.walk c.deliver_lines.new.walk (c.loop-done.done + 1) e (v.0 ++ step.0) in
@@ -150,6 +150,7 @@ loop-done-preserved g c =
         c.deliver_lines.ensures.route ∙ v.6,
         omega (arith, length-append v.0 step.0, v.7, step.3),
         omega (arith, length-append v.0 step.0, v.8, step.4 limit),
+        c.deliver_lines.ensures.count ∙ v.9,
       );
       came = (
         w.0 ++ bring.0,

@@ -16,7 +16,8 @@ invariant-loop-done g l = record {
       × Appends (g.W.Write.contents l.fn.out) (g.W.Write.contents l.out) (items_text items)
       × IsRun (λ r M H. g.L.LogLink.is_ours l.fn.link l.fn.walk.log r M H) (λ r M H. g.L.LogLink.is_ours l.link l.fn.walk.log r M H)
       l.fn.transactions.retries (g.L.LogLink.failures l.fn.link) (g.L.LogLink.failures l.link) l.fn.walk l.walk l.done StepLimit items
-      × (l.transactions.route ≡ l.fn.transactions.route) × (length items ≤ 101 * l.done) × (l.done ≤ length items);
+      × (l.transactions.route ≡ l.fn.transactions.route) × (length items ≤ 101 * l.done) × (l.done ≤ length items)
+      × (l.walk.count ≡ l.fn.walk.count);
   came : (items : List Item) × Appends (g.W.Write.contents l.fn.out) (g.W.Write.contents l.out) (items_text items)
       × ((came : List Came) × BroughtBy g.L.LogLink.asks l.fn.transactions l.fn.link l.fn.walk l.done came items StepLimit l.walk l.transactions l.link);
 }

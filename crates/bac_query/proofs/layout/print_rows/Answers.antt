@@ -1,4 +1,4 @@
-use Rattle.std.proofs.Common.{◌≡◌, List, ℕ, ◌++◌, ◌∙◌, ap}
+use Rattle.std.proofs.Common.{◌++◌, ◌∙◌, ap}
 use Rattle.bac_query.proofs.Rows.{rows_printed}
 use Rattle.bac_query.proofs.layout.print_rows.Goals as goal
 

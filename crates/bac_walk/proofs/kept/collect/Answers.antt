@@ -23,6 +23,7 @@ use Rattle.bac_walk.specs.Came.{Came}
 use Rattle.bac_walk.specs.Transacted.{BroughtBy, BroughtIntoBy}
 use Rattle.bac_walk.specs.Kept.{IsKept}
 use Rattle.bac_walk.specs.Place.{WalkPlace}
+use Rattle.bac_walk.specs.Near.{StaysNear}
 use Rattle.bac_walk.proofs.Told.{Asking}
 use Rattle.bac_link.specs.Path.{towards}
 use Rattle.bac_link.specs.declared.transactions.Transactions.{Transactions}
@@ -56,6 +57,7 @@ loop-done-init g c =
     c.args.walk.now c.args.walk.now 0 StepLimit l in
     record {
       log = refl;
+      count = refl;
       retries = refl;
       route = refl;
       begun = omega arith;
@@ -104,7 +106,7 @@ returns-in-Some-clause-delivers g c =
     let step = subst Q c.loop-done.invariant.retries (subst P c.loop-done.invariant.log put.4) in
     let joined = join_run was mid is c.args.transactions.now.retries (g.L.LogLink.failures c.args.link.now) (g.L.LogLink.failures c.loop-done.link)
     (g.L.LogLink.failures c.deliver-ended.new.link) c.args.walk.now c.loop-done.walk c.deliver-ended.new.walk c.loop-done.done c.deliver-ended.result
-    c.loop-done.kept.items.items (put_items put.0) c.loop-done.invariant.run step c.loop-done.invariant.never_falls in
+    c.loop-done.kept.items.items (put_items put.0) c.loop-done.invariant.run step c.loop-done.invariant.never_falls c.loop-done.invariant.count in
     let same : c.loop-done.kept.items.items ++ put_items put.0 ≡ c.deliver-ended.new.sink.items.items =
     ap (λ l. l ++ put_items put.0) (sym c.make_room.ensures.items) ∙ sym all.1 in
     let R : List Item → Type 0 = λ l. IsRun was is c.args.transactions.now.retries (g.L.LogLink.failures c.args.link.now) (g.L.LogLink.failures c.deliver-ended.new.link)
@@ -137,7 +139,7 @@ returns-in-Some-clause-resting g c r m H s sure ours next near =
     let step = subst Q c.loop-done.invariant.retries (subst P c.loop-done.invariant.log put.4) in
     let joined = join_run was mid is c.args.transactions.now.retries (g.L.LogLink.failures c.args.link.now) (g.L.LogLink.failures c.loop-done.link)
     (g.L.LogLink.failures c.deliver-ended.new.link) c.args.walk.now c.loop-done.walk c.deliver-ended.new.walk c.loop-done.done c.deliver-ended.result
-    c.loop-done.kept.items.items (put_items put.0) c.loop-done.invariant.run step c.loop-done.invariant.never_falls in
+    c.loop-done.kept.items.items (put_items put.0) c.loop-done.invariant.run step c.loop-done.invariant.never_falls c.loop-done.invariant.count in
     let same : c.loop-done.kept.items.items ++ put_items put.0 ≡ c.deliver-ended.new.sink.items.items =
     ap (λ l. l ++ put_items put.0) (sym c.make_room.ensures.items) ∙ sym all.1 in
     let R : List Item → Type 0 = λ l. IsRun was is c.args.transactions.now.retries (g.L.LogLink.failures c.args.link.now) (g.L.LogLink.failures c.deliver-ended.new.link)
@@ -147,16 +149,17 @@ returns-in-Some-clause-resting g c r m H s sure ours next near =
     let early = run_early was is c.args.transactions.now.retries (g.L.LogLink.failures c.args.link.now) (g.L.LogLink.failures c.deliver-ended.new.link)
     c.args.walk.now c.deliver-ended.new.walk (c.loop-done.done + 1) c.args.steps c.deliver-ended.result c.deliver-ended.new.sink.items.items
     (not_limit c.deliver-ended.result c.in-Some.why some) (omega arith) run in
-    let stays = rest_near r H m c.args.walk.now.fresh s c.args.steps (g.met.L.LogLink.serves c.args.link.now c.args.walk.now.log r (m ∷ []) H ours) near in
-    let half = c.loop-done.invariant.run.1 r (m ∷ []) H s ours next (fewer_steps r H (m ∷ []) c.args.walk.now.fresh s c.loop-done.done c.args.steps (omega arith) stays) in
+    let stays = rest_near r c.args.walk.now.count H m c.args.walk.now.fresh s c.args.steps (g.met.L.LogLink.serves c.args.link.now c.args.walk.now.log r (m ∷ []) H ours) near in
+    let half = c.loop-done.invariant.run.1 r (m ∷ []) H s ours next (fewer_steps r c.args.walk.now.count H (m ∷ []) c.args.walk.now.fresh s c.loop-done.done c.args.steps (omega arith) stays) in
     let N : Id → Type 0 = λ n. g.L.LogLink.is_ours c.loop-done.link n r (after_answers (length half.0) (m ∷ [])) H in
+    let F : ℕ → Type 0 = λ n. StaysNear r n H (after_answers (length half.0) (m ∷ [])) c.loop-done.walk.fresh half.1 1 in
     let found = c.deliver-ended.ensures.answered r (after_answers (length half.0) (m ∷ [])) H half.1 (c.loop-done.invariant.sure sure)
     (subst N (sym c.loop-done.invariant.log) half.4) half.2
-    (next_step r H (m ∷ []) c.args.walk.now.fresh c.loop-done.walk.fresh s c.loop-done.done c.args.transactions.now.retries
+    (subst F (sym c.loop-done.invariant.count) (next_step r c.args.walk.now.count H (m ∷ []) c.args.walk.now.fresh c.loop-done.walk.fresh s c.loop-done.done c.args.transactions.now.retries
     (g.L.LogLink.failures c.args.link.now) (g.L.LogLink.failures c.loop-done.link) half.1 c.loop-done.kept.items.items half.0
-    (fewer_steps r H (m ∷ []) c.args.walk.now.fresh s (c.loop-done.done + 1) c.args.steps (omega arith) stays) half.3 half.5) in
+    (fewer_steps r c.args.walk.now.count H (m ∷ []) c.args.walk.now.fresh s (c.loop-done.done + 1) c.args.steps (omega arith) stays) half.3 half.5)) in
     let whole = early.1 r (m ∷ []) H s ours next stays in
-    let rests = rested r H m c.args.walk.now.fresh s c.args.steps c.args.transactions.now.retries (g.L.LogLink.failures c.args.link.now)
+    let rests = rested r c.args.walk.now.count H m c.args.walk.now.fresh s c.args.steps c.args.transactions.now.retries (g.L.LogLink.failures c.args.link.now)
     (g.L.LogLink.failures c.deliver-ended.new.link) c.deliver-ended.new.sink.items.items whole.1 c.deliver-ended.new.walk.next c.deliver-ended.result whole.0
     found (not_stopped c.deliver-ended.result all.0) whole.3 whole.2 in
     let E : Ended → Type 0 = λ e. IsRunOf c.in-Some.why c.args.steps c.args.steps e in
@@ -180,7 +183,7 @@ loop-done-preserved g c =
     let step = subst Q c.loop-done.invariant.retries (subst P c.loop-done.invariant.log put.4) in
     let joined = join_run was mid is c.args.transactions.now.retries (g.L.LogLink.failures c.args.link.now) (g.L.LogLink.failures c.loop-done.link)
     (g.L.LogLink.failures c.deliver-ended.new.link) c.args.walk.now c.loop-done.walk c.deliver-ended.new.walk c.loop-done.done c.deliver-ended.result
-    c.loop-done.kept.items.items (put_items put.0) c.loop-done.invariant.run step c.loop-done.invariant.never_falls in
+    c.loop-done.kept.items.items (put_items put.0) c.loop-done.invariant.run step c.loop-done.invariant.never_falls c.loop-done.invariant.count in
     let same : c.loop-done.kept.items.items ++ put_items put.0 ≡ c.deliver-ended.new.sink.items.items =
     ap (λ l. l ++ put_items put.0) (sym c.make_room.ensures.items) ∙ sym all.1 in
     let R : List Item → Type 0 = λ l. IsRun was is c.args.transactions.now.retries (g.L.LogLink.failures c.args.link.now) (g.L.LogLink.failures c.deliver-ended.new.link)
@@ -193,6 +196,7 @@ loop-done-preserved g c =
     let E : Ended → Type 0 = λ e. MissingEnd 1 e in
     record {
       log = c.deliver-ended.ensures.log ∙ c.loop-done.invariant.log;
+      count = c.deliver-ended.ensures.count ∙ c.loop-done.invariant.count;
       retries = c.deliver-ended.ensures.retries ∙ c.loop-done.invariant.retries;
       route = c.deliver-ended.ensures.route ∙ c.loop-done.invariant.route;
       begun = omega (arith, c.loop-done.invariant.begun, c.deliver-ended.ensures.begun);
@@ -224,13 +228,13 @@ returns-clause-delivers g c =
 pub returns-clause-resting : goal.returns-clause-resting
 returns-clause-resting g c r m H s sure ours next near =
     let all : c.loop-done.done ≡ c.args.steps = omega arith in
-    let stays = rest_near r H m c.args.walk.now.fresh s c.loop-done.done (g.met.L.LogLink.serves c.args.link.now c.args.walk.now.log r (m ∷ []) H ours) near in
+    let stays = rest_near r c.args.walk.now.count H m c.args.walk.now.fresh s c.loop-done.done (g.met.L.LogLink.serves c.args.link.now c.args.walk.now.log r (m ∷ []) H ours) near in
     let whole = c.loop-done.invariant.run.1 r (m ∷ []) H s ours next stays in
-    let rests = rested r H m c.args.walk.now.fresh s c.loop-done.done c.args.transactions.now.retries (g.L.LogLink.failures c.args.link.now)
+    let rests = rested r c.args.walk.now.count H m c.args.walk.now.fresh s c.loop-done.done c.args.transactions.now.retries (g.L.LogLink.failures c.args.link.now)
     (g.L.LogLink.failures c.loop-done.link) c.loop-done.kept.items.items whole.1 c.loop-done.walk.next StepLimit whole.0
     tt (λ e. cc) whole.3 whole.2 in
     let E : Ended → Type 0 = λ e. IsRunOf WasLimit c.args.steps c.args.steps e in
-    let R : ℕ → Type 0 = λ n. Rests (rest r H m c.args.walk.now.fresh s n) c.args.steps c.loop-done.kept.items.items c.next_number-2.result WasLimit in
+    let R : ℕ → Type 0 = λ n. Rests (rest r c.args.walk.now.count H m c.args.walk.now.fresh s n) c.args.steps c.loop-done.kept.items.items c.next_number-2.result WasLimit in
     subst R all (inr (rests.0, c.next_number-2.ensures.next ∙ rests.1, subst E rests.2 (refl, refl)))
 
 pub returns-then-not-make_room-clause-near : goal.returns-then-not-make_room-clause-near
@@ -239,7 +243,7 @@ returns-then-not-make_room-clause-near g c r M H s ours next near =
     let d = returns-then-not-make_room-clause-delivers g c in
     headline_of (λ r M H. g.L.LogLink.is_ours c.args.link.now c.args.walk.now.log r M H) (λ r M H. g.L.LogLink.is_ours c.loop-done.link c.args.walk.now.log r M H)
     c.args.transactions.now.retries (g.L.LogLink.failures c.args.link.now) (g.L.LogLink.failures c.loop-done.link) c.args.walk.now c.loop-done.walk d.0 d.1 c.make_room.new.kept.items.items d.3 r M H s ours next
-    (fewer_steps r H M c.args.walk.now.fresh s c.loop-done.done c.args.steps (omega arith) near)
+    (fewer_steps r c.args.walk.now.count H M c.args.walk.now.fresh s c.loop-done.done c.args.steps (omega arith) near)
 
 pub returns-in-Some-clause-near : goal.returns-in-Some-clause-near
 unfolding returns-in-Some-clause-delivers
@@ -254,7 +258,7 @@ returns-clause-near g c r M H s ours next near =
     let d = returns-clause-delivers g c in
     headline_of (λ r M H. g.L.LogLink.is_ours c.args.link.now c.args.walk.now.log r M H) (λ r M H. g.L.LogLink.is_ours c.loop-done.link c.args.walk.now.log r M H)
     c.args.transactions.now.retries (g.L.LogLink.failures c.args.link.now) (g.L.LogLink.failures c.loop-done.link) c.args.walk.now c.loop-done.walk d.0 d.1 c.loop-done.kept.items.items d.3 r M H s ours next
-    (fewer_steps r H M c.args.walk.now.fresh s c.loop-done.done c.args.steps (omega arith) near)
+    (fewer_steps r c.args.walk.now.count H M c.args.walk.now.fresh s c.loop-done.done c.args.steps (omega arith) near)
 
 pub returns-in-Some-clause-told : goal.returns-in-Some-clause-told
 returns-in-Some-clause-told g c =
@@ -325,17 +329,17 @@ returns-clause-transacted g c =
 pub returns-then-not-make_room-clause-ours : goal.returns-then-not-make_room-clause-ours
 returns-then-not-make_room-clause-ours g c r M H s low ours next window at =
     returns-then-not-make_room-clause-near g c r M H s ours next
-    (windows_near r H M low s c.args.steps c.args.walk.now.fresh (g.met.L.LogLink.serves c.args.link.now c.args.walk.now.log r M H ours) window at)
+    (windows_near r c.args.walk.now.count H M low s c.args.steps c.args.walk.now.fresh (g.met.L.LogLink.serves c.args.link.now c.args.walk.now.log r M H ours) window at)
 
 pub returns-in-Some-clause-ours : goal.returns-in-Some-clause-ours
 returns-in-Some-clause-ours g c r M H s low ours next window at =
     returns-in-Some-clause-near g c r M H s ours next
-    (windows_near r H M low s c.args.steps c.args.walk.now.fresh (g.met.L.LogLink.serves c.args.link.now c.args.walk.now.log r M H ours) window at)
+    (windows_near r c.args.walk.now.count H M low s c.args.steps c.args.walk.now.fresh (g.met.L.LogLink.serves c.args.link.now c.args.walk.now.log r M H ours) window at)
 
 pub returns-clause-ours : goal.returns-clause-ours
 returns-clause-ours g c r M H s low ours next window at =
     returns-clause-near g c r M H s ours next
-    (windows_near r H M low s c.args.steps c.args.walk.now.fresh (g.met.L.LogLink.serves c.args.link.now c.args.walk.now.log r M H ours) window at)
+    (windows_near r c.args.walk.now.count H M low s c.args.steps c.args.walk.now.fresh (g.met.L.LogLink.serves c.args.link.now c.args.walk.now.log r M H ours) window at)
 
 missing_why : (steps : ℕ) (ended : Ended) (why : Why) → 0 < steps → why_of ended ≡ Some why → MissingEnd 1 ended → MissingWhy steps why
 missing_why steps CaughtUp why some is gone = absurd gone

@@ -11,6 +11,7 @@ use Rattle.bac_walk.proofs.kept.collect.Given as goal
 abbrev pub invariant-loop-done : goal.invariant-loop-done
 invariant-loop-done g l = record {
   log : l.walk.log ≡ l.fn.walk.log;
+  count : l.walk.count ≡ l.fn.walk.count;
   retries : l.transactions.retries ≡ l.fn.transactions.retries;
   route : l.transactions.route ≡ l.fn.transactions.route;
   begun : l.transactions.begun ≤ l.fn.transactions.begun + 2 * l.done;

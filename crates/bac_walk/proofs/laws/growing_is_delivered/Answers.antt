@@ -8,4 +8,4 @@ pub returns-clause-told : goal.returns-clause-told
 returns-clause-told g c = λ standing most. growing_delivers g.L.LogLink.asks (λ more link at. (standing link ≡ at) × (more ≤ most link)) (brought_delivers g.L.LogLink.asks)
 
 pub returns-clause-honest : goal.returns-clause-honest
-returns-clause-honest g c = λ path log low. growing_delivers g.L.LogLink.asks (λ more link at. StaysHonest g.L.LogLink.asks path log low more link at) (brought_delivers g.L.LogLink.asks)
+returns-clause-honest g c = λ path log count low. growing_delivers g.L.LogLink.asks (λ more link at. StaysHonest g.L.LogLink.asks path log count low more link at) (brought_delivers g.L.LogLink.asks)

@@ -1,6 +1,6 @@
 use Rattle.std.proofs.Common.{◌≡◌, ◌+◌, ℕ, sym, ap, ◌∙◌, subst}
 use Rattle.bac_wire.specs.Primitive.{Id}
-use Rattle.bac_walk.specs.Place.{WalkPlace, walk_at}
+use Rattle.bac_walk.specs.Place.{WalkPlace, resumed}
 use Rattle.bac_link.specs.Path.{Path, towards}
 use Rattle.bac_walk.specs.Honest.{DeliversSaid}
 use Rattle.bac_walk.proofs.Honest.{said_joins}
@@ -20,8 +20,7 @@ pub returns : goal.returns
 returns g c =
     let x = c.deliver-first.ensures.delivers in
     let y = c.deliver-second.ensures.delivers in
-    let to : c.in-Some.resumed ≡ walk_at c.deliver-first.new.walk.log c.deliver-first.new.walk.next =
-    (c.in-Some.ensures {u = tt}).some ∙ ap (λ (o : Id). walk_at o c.next_number.result) c.log.ensures.log ∙ ap (λ (n : ℕ). walk_at c.deliver-first.new.walk.log n) c.next_number.ensures.next in
+    let to : c.resumed.result ≡ resumed c.deliver-first.new.walk = c.resumed.ensures in
     let B : WalkPlace → Type 0 = λ w. BroughtInto g.L.LogLink.asks (towards c.args.transactions.now.route) c.args.transactions.now.retries g.R.Sink.puts
     c.deliver-first.new.link c.args.rest.now w c.args.more c.deliver-second.result c.deliver-second.new.walk c.deliver-second.new.sink c.deliver-second.new.link in
     let C : WalkPlace → Type 0 = λ w. BroughtIntoBy g.L.LogLink.asks c.deliver-first.new.transactions g.R.Sink.puts
@@ -31,7 +30,7 @@ returns g c =
         c.deliver-first.new.link,
         c.deliver-first.ensures.brought,
         subst B to (into_same g.L.LogLink.asks (towards c.args.transactions.now.route) (towards c.deliver-first.new.transactions.route) c.args.transactions.now.retries c.deliver-first.new.transactions.retries
-            g.R.Sink.puts c.deliver-first.new.link c.deliver-second.new.link c.args.rest.now c.deliver-second.new.sink c.in-Some.resumed c.deliver-second.new.walk c.args.more c.deliver-second.result
+            g.R.Sink.puts c.deliver-first.new.link c.deliver-second.new.link c.args.rest.now c.deliver-second.new.sink c.resumed.result c.deliver-second.new.walk c.args.more c.deliver-second.result
             (ap towards c.deliver-first.ensures.route) c.deliver-first.ensures.retries c.deliver-second.ensures.brought),
       );
       transacted = (
@@ -44,16 +43,15 @@ returns g c =
       headline = λ had_number.
           let one = c.deliver-first.ensures.headline in
           let two = c.deliver-second.ensures.headline in
-          let is = (c.in-Some.ensures {u = tt}).some in
-          let D : Path → Type 0 = λ q. DeliversSaid g.L.LogLink.asks q (spare c.deliver-second.result) c.deliver-first.new.link c.in-Some.resumed (put_items two.0) c.deliver-second.result c.deliver-second.new.walk c.deliver-second.new.link in (
+          let D : Path → Type 0 = λ q. DeliversSaid g.L.LogLink.asks q (spare c.deliver-second.result) c.deliver-first.new.link c.resumed.result (put_items two.0) c.deliver-second.result c.deliver-second.new.walk c.deliver-second.new.link in (
             one.0,
             two.0,
             one.1,
             two.1,
             said_joins g.L.LogLink.asks (towards c.args.transactions.now.route) (spare c.deliver-first.result) (spare c.deliver-second.result) c.args.link.now c.deliver-first.new.link c.deliver-second.new.link c.args.walk.now c.deliver-first.new.walk
-                c.in-Some.resumed c.deliver-second.new.walk (put_items one.0) (put_items two.0) c.deliver-first.result c.deliver-second.result one.2
-                (subst D (ap towards c.deliver-first.ensures.route) two.2) (ap (λ (v : WalkPlace). v.log) is ∙ c.log.ensures.log ∙ c.deliver-first.ensures.log)
-                (ap (λ (v : WalkPlace). v.next) is ∙ c.next_number.ensures.next) (ap (λ (v : WalkPlace). v.fresh) is) had_number,
+                c.resumed.result c.deliver-second.new.walk (put_items one.0) (put_items two.0) c.deliver-first.result c.deliver-second.result one.2
+                (subst D (ap towards c.deliver-first.ensures.route) two.2) (ap (λ (v : WalkPlace). v.log) to ∙ c.deliver-first.ensures.log) (ap (λ (v : WalkPlace). v.count) to ∙ c.deliver-first.ensures.count)
+                (ap (λ (v : WalkPlace). v.next) to) (ap (λ (v : WalkPlace). v.fresh) to) had_number,
           );
       resumed = (
         x.0,
@@ -64,15 +62,14 @@ returns g c =
         y.5,
         λ r M H s low old ours next window above below.
             let served = g.met.L.LogLink.serves c.args.link.now c.args.walk.now.log r M H ours in
-            let walk : WalkPlace = c.in-Some.resumed in
-            let is = (c.in-Some.ensures {u = tt}).some in
-            let log = ap (λ (w : WalkPlace). w.log) is ∙ c.log.ensures.log in
-            let here = ap (λ (w : WalkPlace). w.next) is ∙ c.next_number.ensures.next in
+            let walk : WalkPlace = c.resumed.result in
+            let log = ap (λ (w : WalkPlace). w.log) to in
+            let here = ap (λ (w : WalkPlace). w.next) to in
             let a = headline_of (λ r M H. g.L.LogLink.is_ours c.args.link.now c.args.walk.now.log r M H)
             (λ r M H. g.L.LogLink.is_ours c.deliver-first.new.link c.args.walk.now.log r M H) c.args.transactions.now.retries
             (g.L.LogLink.failures c.args.link.now) (g.L.LogLink.failures c.deliver-first.new.link) c.args.walk.now c.deliver-first.new.walk
             c.args.steps c.deliver-first.result (put_items x.0) x.4 r M H s ours next
-            (windows_near r H M low s c.args.steps c.args.walk.now.fresh served window (λ is. (above, below))) in
+            (windows_near r c.args.walk.now.count H M low s c.args.steps c.args.walk.now.fresh served window (λ is. (above, below))) in
             let K : Id → Type 0 = λ n. g.L.LogLink.is_ours c.deliver-first.new.link n r (after_answers a.1 M) H in
             let P : ℕ → Type 0 = λ n. DeliversTo H n (put_items x.0) a.2 M a.1 in
             let first = subst P (a.3 old) a.5 in
@@ -84,14 +81,14 @@ returns g c =
             (g.L.LogLink.failures c.deliver-first.new.link) (g.L.LogLink.failures c.deliver-second.new.link) walk c.deliver-second.new.walk
             c.args.more c.deliver-second.result (put_items y.0) y.4 r (after_answers a.1 M) H a.2
             (subst K (sym (log ∙ c.deliver-first.ensures.log)) a.6) (here ∙ a.4)
-            (windows_near r H (after_answers a.1 M) low a.2 c.args.more walk.fresh
+            (windows_near r walk.count H (after_answers a.1 M) low a.2 c.args.more walk.fresh
             (g.met.L.LogLink.serves c.deliver-first.new.link c.args.walk.now.log r (after_answers a.1 M) H a.6) left (λ is. (place.0, place.1))) in
             let Q : ℕ → Type 0 = λ n. DeliversTo H n (put_items y.0) b.2 (after_answers a.1 M) b.1 in (
               a.1 + b.1,
               b.2,
               b.4,
               joined H s a.2 b.2 a.1 b.1 M (put_items x.0) (put_items y.0) first
-                  (subst Q (b.3 (ap (λ (w : WalkPlace). w.fresh) is)) b.5),
+                  (subst Q (b.3 (ap (λ (w : WalkPlace). w.fresh) to)) b.5),
             ),
       );
     }

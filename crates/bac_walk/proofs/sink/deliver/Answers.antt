@@ -6,6 +6,7 @@ use Rattle.bac_link.specs.Delivery.{History, Moment}
 use Rattle.bac_link.specs.Laws.{after_answers}
 use Rattle.bac_walk.specs.Sinks.{Delivery, put_items}
 use Rattle.bac_walk.specs.Collects.{MissingEnd}
+use Rattle.bac_walk.specs.Near.{StaysNear}
 use Rattle.bac_walk.proofs.Near.{fewer_steps, next_step}
 use Rattle.bac_walk.proofs.Runs.{no_delivery, join_delivers, delivers_early, headline_of}
 use Rattle.bac_walk.proofs.Told.{told_same}
@@ -27,6 +28,7 @@ missing_more n (Fault e) not_limit some h = (some, h.1)
 pub loop-done-init : goal.loop-done-init
 loop-done-init g c = record {
   log = refl;
+  count = refl;
   retries = refl;
   route = refl;
   begun = omega arith;
@@ -62,7 +64,7 @@ returns-in_default g c =
     (join_delivers g.S.Sink.puts c.args.sink.now c.loop-done.sink c.deliver_step.new.sink was mid is c.args.transactions.now.retries
     (g.L.LogLink.failures c.args.link.now) (g.L.LogLink.failures c.loop-done.link) (g.L.LogLink.failures c.deliver_step.new.link)
     c.args.walk.now c.loop-done.walk c.deliver_step.new.walk c.loop-done.done c.deliver_step.result
-    c.loop-done.invariant.delivers step c.loop-done.invariant.never_falls) in
+    c.loop-done.invariant.delivers step c.loop-done.invariant.never_falls c.loop-done.invariant.count) in
     let transacted = into_early g.L.LogLink.asks c.args.transactions.now c.deliver_step.new.transactions g.S.Sink.puts c.args.link.now c.deliver_step.new.link
     c.args.sink.now c.deliver_step.new.sink c.args.walk.now c.deliver_step.new.walk (c.loop-done.done + 1) c.args.steps c.deliver_step.result not_limit (omega arith)
     (into_joins g.L.LogLink.asks c.args.transactions.now c.loop-done.transactions c.deliver_step.new.transactions g.S.Sink.puts c.args.link.now c.loop-done.link c.deliver_step.new.link
@@ -100,18 +102,20 @@ returns-in_default g c =
       route = c.deliver_step.ensures.route ∙ c.loop-done.invariant.route;
       begun = omega (arith, c.loop-done.invariant.begun, c.deliver_step.ensures.begun);
       log = c.deliver_step.ensures.log ∙ c.loop-done.invariant.log;
+      count = c.deliver_step.ensures.count ∙ c.loop-done.invariant.count;
       delivers = delivers;
       sure = λ h. c.deliver_step.ensures.sure (c.loop-done.invariant.sure h);
       kept = λ h. g.met.L.LogLink.keeps_on c.args.link.now c.loop-done.link c.deliver_step.new.link
           (c.loop-done.invariant.unchanged h) (c.deliver_step.ensures.kept (c.loop-done.invariant.sure h));
       answered = λ r M H s sure ours next near.
-          let run = c.loop-done.invariant.delivers.4.1 r M H s ours next (fewer_steps r H M c.args.walk.now.fresh s c.loop-done.done c.args.steps (omega arith) near) in
+          let run = c.loop-done.invariant.delivers.4.1 r M H s ours next (fewer_steps r c.args.walk.now.count H M c.args.walk.now.fresh s c.loop-done.done c.args.steps (omega arith) near) in
           let N : Id → Type 0 = λ n. g.L.LogLink.is_ours c.loop-done.link n r (after_answers (length run.0) M) H in
+          let S : ℕ → Type 0 = λ n. StaysNear r n H (after_answers (length run.0) M) c.loop-done.walk.fresh run.1 1 in
           c.deliver_step.ensures.answered r (after_answers (length run.0) M) H run.1 (c.loop-done.invariant.sure sure)
           (subst N (sym c.loop-done.invariant.log) run.4) run.2
-          (next_step r H M c.args.walk.now.fresh c.loop-done.walk.fresh s c.loop-done.done c.args.transactions.now.retries
+          (subst S (sym c.loop-done.invariant.count) (next_step r c.args.walk.now.count H M c.args.walk.now.fresh c.loop-done.walk.fresh s c.loop-done.done c.args.transactions.now.retries
           (g.L.LogLink.failures c.args.link.now) (g.L.LogLink.failures c.loop-done.link) run.1 (put_items c.loop-done.invariant.delivers.0) run.0
-          (fewer_steps r H M c.args.walk.now.fresh s (c.loop-done.done + 1) c.args.steps (omega arith) near) run.3 run.5);
+          (fewer_steps r c.args.walk.now.count H M c.args.walk.now.fresh s (c.loop-done.done + 1) c.args.steps (omega arith) near) run.3 run.5));
       lacking = λ lacks.
           let here = c.loop-done.invariant.missing lacks in
           let gone = c.deliver_step.ensures.lacking (subst K (sym c.loop-done.invariant.log) here.0) in
@@ -141,6 +145,7 @@ loop-done-preserved g c =
     let E : Ended → Type 0 = λ e. MissingEnd 1 e in
     record {
       log = c.deliver_step.ensures.log ∙ c.loop-done.invariant.log;
+      count = c.deliver_step.ensures.count ∙ c.loop-done.invariant.count;
       retries = c.deliver_step.ensures.retries ∙ c.loop-done.invariant.retries;
       route = c.deliver_step.ensures.route ∙ c.loop-done.invariant.route;
       begun = omega (arith, c.loop-done.invariant.begun, c.deliver_step.ensures.begun);
@@ -155,7 +160,7 @@ loop-done-preserved g c =
       delivers = join_delivers g.S.Sink.puts c.args.sink.now c.loop-done.sink c.deliver_step.new.sink was mid is c.args.transactions.now.retries
           (g.L.LogLink.failures c.args.link.now) (g.L.LogLink.failures c.loop-done.link) (g.L.LogLink.failures c.deliver_step.new.link)
           c.args.walk.now c.loop-done.walk c.deliver_step.new.walk c.loop-done.done StepLimit
-          c.loop-done.invariant.delivers step c.loop-done.invariant.never_falls;
+          c.loop-done.invariant.delivers step c.loop-done.invariant.never_falls c.loop-done.invariant.count;
       transacted =
           let B : Ended → Type 0 = λ e. BroughtIntoBy g.L.LogLink.asks c.loop-done.transactions g.S.Sink.puts c.loop-done.link c.loop-done.sink
           c.loop-done.walk 1 e c.deliver_step.new.walk c.deliver_step.new.sink c.deliver_step.new.transactions c.deliver_step.new.link in

@@ -22,7 +22,7 @@ returns-clause-delivers g c =
 pub returns-clause-answered : goal.returns-clause-answered
 returns-clause-answered g c r M H s sure ours next near =
     found_end g.S.Sink.puts c.args.sink.now c.reply-replied.new.self (step_of c.reply-replied.result) c.hand_on.result c.hand_on.new.walk c.hand_on.new.sink c.hand_on.ensures
-    (c.reply-replied.ensures.answered r M H s sure ours next (at_once r H M c.args.walk.now.fresh s 1 0 0 (omega arith) near))
+    (c.reply-replied.ensures.answered r M H s sure ours next (at_once r c.args.walk.now.count H M c.args.walk.now.fresh s 1 0 0 (omega arith) near))
 
 pub returns-clause-told : goal.returns-clause-told
 returns-clause-told g c =

@@ -2,6 +2,7 @@ use Rattle.std.proofs.Common.{ap, subst, arith}
 use Rattle.bac_wire.specs.Primitive.{Id}
 use Rattle.bac_link.specs.declared.request.Request.{Request}
 use Rattle.bac_link.specs.Requests.{IsTooLong}
+use Rattle.bac_link.specs.Standard.{IsCount}
 use Rattle.bac_link.proofs.Verdicts.{question_fits}
 use Rattle.bac_walk.specs.Walks.{question_of}
 use Rattle.bac_walk.proofs.Asking.{ranged_of, question_is}
@@ -13,7 +14,7 @@ returns-clause-asks c =
     let kind = ap (λ (i : Id). i.kind) c.log-object.ensures.log in
     let instance = ap (λ (i : Id). i.instance) c.log-object.ensures.log in (
       question_is w c.log-object.result c.extent-extent.result c.log-object.ensures.log c.extent-extent.ensures,
-      ranged_of w (omega (arith, c.next_number-next.ensures.next)),
+      ranged_of w (omega (arith, c.next_number-next.ensures.next)) (subst IsCount c.count-count.ensures.count c.count-count.ensures.bounds),
       (omega (arith, kind, c.kind-kind.ensures.value, c.kind-kind.ensures.bound), omega (arith, instance, c.instance-instance.ensures.value, c.instance-instance.ensures.bound)),
     )
 

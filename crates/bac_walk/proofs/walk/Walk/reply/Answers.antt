@@ -1,4 +1,4 @@
-use Rattle.std.proofs.Common.{true, false, ◌≡◌, ℕ, length, Result, Ok, Err, sym, ap, subst, ◌∙◌}
+use Rattle.std.proofs.Common.{true, false, ◌≡◌, ℕ, length, Result, Ok, Err, sym, ap, subst, ◌∙◌, arith}
 use Rattle.std.proofs.lemmas.Bool.{or_parts}
 use Rattle.bac_wire.specs.Primitive.{Id}
 use Rattle.bac_walk.specs.Place.{WalkPlace}
@@ -56,7 +56,7 @@ returns-then-not-asks_next-clause-ours g c r M H s ours next near =
     let done = first_at (λ N. g.L.LogLink.is_ours c.turn-first.new.link c.restart.new.self.log r N H) r H M s
     c.args.self.now c.restart.new.self c.args.transactions.now.retries (g.L.LogLink.failures c.args.link.now) (g.L.LogLink.failures c.turn-first.new.link) (progress_of c.turn-first.result) c.turn-first.new.self next c.restart.ensures
     (c.turn-first.ensures.ours r M H s (subst P (sym log) ours) shown (λ old. (near (sym fresh ∙ old)).0)) (cc) in
-    let Q : Result Step WalkFault → Type 0 = λ z. Collected r H M c.args.self.now.fresh s 1
+    let Q : Result Step WalkFault → Type 0 = λ z. Collected r c.args.self.now.count H M c.args.self.now.fresh s 1
     c.args.transactions.now.retries (g.L.LogLink.failures c.args.link.now) (g.L.LogLink.failures c.turn-first.new.link)
     (step_items z) done.1 (step_ended z) done.0 in
     let R : Id → Type 0 = λ n. g.L.LogLink.is_ours c.turn-first.new.link n r (after_answers (length done.0) M) H in
@@ -88,10 +88,10 @@ returns-clause-ours g c r M H s ours next near =
     c.args.self.now c.turn-first.new.self c.args.transactions.now.retries (g.L.LogLink.failures c.args.link.now)
     (g.L.LogLink.failures c.turn-first.new.link) (g.L.LogLink.failures c.turn.new.link) (progress_of c.turn.result) c.turn.new.self
     next (g.met.L.LogLink.serves c.args.link.now c.args.self.now.log r M H ours)
-    first.0 first.1 c.turn-first.ensures.never_falls first.2
+    first.0 (omega (arith, c.count-count.ensures.count, c.count-count.ensures.bounds.some)) first.1 c.turn-first.ensures.never_falls first.2
     (subst V c.turn-first.ensures.retries (c.turn.ensures.ours r (later M) H s (subst U (sym c.turn-first.ensures.log) first.3) shown_next
     (λ old. (near (or_parts c.args.self.now.fresh false first.0).0).1 first.1))) in
-    let Q : Result Step WalkFault → Type 0 = λ z. Collected r H M c.args.self.now.fresh s 1
+    let Q : Result Step WalkFault → Type 0 = λ z. Collected r c.args.self.now.count H M c.args.self.now.fresh s 1
     c.args.transactions.now.retries (g.L.LogLink.failures c.args.link.now) (g.L.LogLink.failures c.turn.new.link)
     (step_items z) done.1 (step_ended z) done.0 in
     let R : Id → Type 0 = λ n. g.L.LogLink.is_ours c.turn.new.link n r (after_answers (length done.0) M) H in

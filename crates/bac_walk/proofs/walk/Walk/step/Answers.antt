@@ -41,17 +41,17 @@ pub returns-clause-ours : goal.returns-clause-ours
 returns-clause-ours g c r M H s ours next near =
     let same = same_step (step_of c.reply.result) c.decoded.result c.decoded.ensures in
     let run = c.reply.ensures.ours r M H s ours next near in
-    let P : List Item → Type 0 = λ l. Collected r H M c.args.self.now.fresh s 1 c.args.transactions.now.retries
+    let P : List Item → Type 0 = λ l. Collected r c.args.self.now.count H M c.args.self.now.fresh s 1 c.args.transactions.now.retries
     (g.L.LogLink.failures c.args.link.now) (g.L.LogLink.failures c.reply.new.link) l run.1 (step_ended (step_of c.reply.result)) run.0 in
-    let Q : Ended → Type 0 = λ e. Collected r H M c.args.self.now.fresh s 1 c.args.transactions.now.retries
+    let Q : Ended → Type 0 = λ e. Collected r c.args.self.now.count H M c.args.self.now.fresh s 1 c.args.transactions.now.retries
     (g.L.LogLink.failures c.args.link.now) (g.L.LogLink.failures c.reply.new.link) (step_items c.decoded.result) run.1 e run.0 in
     (run.0, run.1, run.2, subst Q same.ended (subst P same.items run.3), run.4, run.5 ∙ same.fresh c.args.self.now.fresh)
 
 pub returns-clause-resting : goal.returns-clause-resting
 returns-clause-resting g c r m H s sure ours next near =
-    let close : c.args.self.now.fresh ≡ false → IsNearStep s (m ∷ []) = λ old. (near old, λ none. near old) in
+    let close : c.args.self.now.fresh ≡ false → IsNearStep c.args.self.now.count s (m ∷ []) = λ old. (near old, λ none. near old) in
     let run = returns-clause-ours g c r (m ∷ []) H s ours next close in
-    rested_step r H m c.args.self.now.fresh s c.args.transactions.now.retries (g.L.LogLink.failures c.args.link.now) (g.L.LogLink.failures c.reply.new.link)
+    rested_step r c.args.self.now.count H m c.args.self.now.fresh s c.args.transactions.now.retries (g.L.LogLink.failures c.args.link.now) (g.L.LogLink.failures c.reply.new.link)
     run.1 c.reply.new.self.next c.decoded.result run.0 (returns-clause-answered g c r (m ∷ []) H s sure ours next close) run.3 run.2
 
 pub returns-clause-told : goal.returns-clause-told
@@ -67,7 +67,7 @@ returns-clause-near g c r M H s ours next near =
       run.1,
       start_old c.args.self.now.fresh s M run.0,
       run.2,
-      collected_delivers r H M c.args.self.now.fresh s 1 c.args.transactions.now.retries (g.L.LogLink.failures c.args.link.now) (g.L.LogLink.failures c.reply.new.link)
+      collected_delivers r c.args.self.now.count H M c.args.self.now.fresh s 1 c.args.transactions.now.retries (g.L.LogLink.failures c.args.link.now) (g.L.LogLink.failures c.reply.new.link)
           (step_items c.decoded.result) run.1 (step_ended c.decoded.result) run.0 run.3,
       run.4,
     )

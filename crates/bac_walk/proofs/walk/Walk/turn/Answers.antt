@@ -8,7 +8,7 @@ use Rattle.bac_link.specs.declared.exchanges.ExchangeFault.{ExchangeFault}
 use Rattle.bac_link.specs.Heard.{heard_in}
 use Rattle.bac_walk.specs.Replied.{progress_of}
 use Rattle.bac_walk.specs.Walks.{question_of, wanted_at}
-use Rattle.bac_walk.proofs.Asking.{asks_at, near_to, lost_is, refused_is, bad_reply_is}
+use Rattle.bac_walk.proofs.Asking.{asks_at, near_to, small_of, some_of, lost_is, refused_is, bad_reply_is}
 use Rattle.bac_walk.proofs.Turns.{turn_of}
 use Rattle.bac_walk.proofs.OurReply.{says_in}
 use Rattle.bac_walk.proofs.Hearing.{turned_of, turned_goes}
@@ -22,10 +22,10 @@ returns-in-Ok-hear-clause-ours g c = λ r M H s ours next near.
     let served = g.met.L.LogLink.serves c.args.link.now w.log r M H ours in
     let a = (c.in-Ok.ensures.ours w.log r M H (question_of w) ours c.question-question.ensures.asks).0 in
     let P : Extent → Type 0 = λ x. IsReply r (now M) H w.log x (towards c.args.transactions.now.route) a.0.0 c.in-Ok.datagram in
-    let says = says_in c.in-Ok.datagram r M H w.log (wanted_at w s) (towards c.args.transactions.now.route) a.0.0 served (near_to w s (now M) near) c.question-question.ensures.asks.2 (subst P (asks_at w s next) a.0.1) in
+    let says = says_in c.in-Ok.datagram r M H w.log (wanted_at w s) (towards c.args.transactions.now.route) a.0.0 served (small_of w s c.question-question.ensures.asks.1) (near_to w s (now M) near) c.question-question.ensures.asks.2 (subst P (asks_at w s next) a.0.1) in
     turned_of (λ N. g.L.LogLink.is_ours c.exchange.new.link w.log r N H) r M H s w c.args.transactions.now.retries
     (g.L.LogLink.failures c.args.link.now) (g.L.LogLink.failures c.exchange.new.link) c.in-Ok-hear.turned c.hear.new.self
-    (turn_of H M r s w (heard_in w.log c.in-Ok.datagram) (progress_of (Ok c.in-Ok-hear.turned)) c.hear.new.self next near served says (c.in-Ok-hear.ensures {u = tt})) a.1
+    (turn_of H M r s w (heard_in w.log c.in-Ok.datagram) (progress_of (Ok c.in-Ok-hear.turned)) c.hear.new.self (some_of w c.question-question.ensures.asks.1) next near served says (c.in-Ok-hear.ensures {u = tt})) a.1
 
 pub returns-in-Err-clause-ours : goal.returns-in-Err-clause-ours
 returns-in-Err-clause-ours g c = λ r M H s ours next near.
@@ -33,8 +33,8 @@ returns-in-Err-clause-ours g c = λ r M H s ours next near.
     let served = g.met.L.LogLink.serves c.args.link.now w.log r M H ours in
     let a = (c.in-Ok.ensures.ours w.log r M H (question_of w) ours c.question-question.ensures.asks).0 in
     let P : Extent → Type 0 = λ x. IsReply r (now M) H w.log x (towards c.args.transactions.now.route) a.0.0 c.in-Ok.datagram in
-    let says = says_in c.in-Ok.datagram r M H w.log (wanted_at w s) (towards c.args.transactions.now.route) a.0.0 served (near_to w s (now M) near) c.question-question.ensures.asks.2 (subst P (asks_at w s next) a.0.1) in
-    turn_of H M r s w (heard_in w.log c.in-Ok.datagram) (Err c.in-Err.field-0) c.hear.new.self next near served says (c.in-Err.ensures {u = tt})
+    let says = says_in c.in-Ok.datagram r M H w.log (wanted_at w s) (towards c.args.transactions.now.route) a.0.0 served (small_of w s c.question-question.ensures.asks.1) (near_to w s (now M) near) c.question-question.ensures.asks.2 (subst P (asks_at w s next) a.0.1) in
+    turn_of H M r s w (heard_in w.log c.in-Ok.datagram) (Err c.in-Err.field-0) c.hear.new.self (some_of w c.question-question.ensures.asks.1) next near served says (c.in-Err.ensures {u = tt})
 
 pub returns-in-Ok-hear-clause-goes : goal.returns-in-Ok-hear-clause-goes
 returns-in-Ok-hear-clause-goes g c = λ s. turned_goes c.args.self.now s (heard_in c.args.self.now.log c.in-Ok.datagram) c.in-Ok-hear.turned c.hear.new.self (c.in-Ok-hear.ensures {u = tt})
