@@ -2,6 +2,7 @@
 //! clock. What it does with them is in the crate bac_run.
 #![tactic(auto)]
 
+use bac_heeding::Heeding;
 use bac_run::{DiskFiles, run};
 use bac_tools::{Fault, SystemClock, UdpSockets, UntilRefused, tell};
 use bac_trace::{Traced, Writers};
@@ -53,7 +54,11 @@ fn started(rt: &HostRuntime) -> Result<u8, Fault> {
     // A count is for somebody who looks at both.
     let counts = rt.stdout().is_terminal() && rt.stderr().is_terminal();
     Ok(run(
-        &mut Traced::new(rt.alloc(), UdpSockets::new(rt), StandardErrors { rt }),
+        &mut Traced::new(
+            rt.alloc(),
+            Heeding::new(UdpSockets::new(rt)),
+            StandardErrors { rt },
+        ),
         &mut DiskFiles::new(rt, Unknown),
         rt.alloc(),
         &words,

@@ -7,6 +7,8 @@ use Rattle.sqlite_wal.specs.Files.{image_at}
 use Rattle.bac_asked.specs.declared.fault.Fault.{Fault as KeepFault}
 use Rattle.bac_files.specs.Files.{IsNamed}
 use Rattle.bac_files.specs.declared.disk_files.DiskFiles.{DiskFiles}
+use Rattle.bac_heeding.specs.Notes.{nothing}
+use Rattle.bac_heeding.specs.declared.notes.Passed.{Passed}
 use Rattle.bac_keeper.specs.Done.{KeepsIn}
 use Rattle.bac_keeper.specs.Ends.{IsOfFile}
 use Rattle.bac_keeper.specs.Shown.{PrintsIn}
@@ -16,7 +18,7 @@ use Rattle.bac_print.specs.Output.{Held}
 use Rattle.bac_run.specs.Faults.{ending_of, fault_of}
 use Rattle.bac_run.specs.Run.{DoesAll, DoesTold, FileOf, HasFaultStatus, RunsAll, RunsKeepBy, RunsKept, TellsFault}
 use Rattle.std.specs.Io.KnownBytes.{Keeps}
-use Rattle.bac_tools.specs.Run.{AskFor, Ends, IsTold, RunsRead}
+use Rattle.bac_tools.specs.Run.{AskFor, Ends, IsToldAfter, RunsRead}
 use Rattle.bac_tools.specs.Streams.{Streams, streams}
 use Rattle.bac_wire.specs.Stamp.{CivilTime}
 use Rattle.bac_words.specs.Outcome.{IsRefused, job_in}
@@ -29,37 +31,37 @@ use Rattle.bac_words.specs.declared.job.Kept.{Kept as KeptWords}
 use Rattle.bac_words.specs.declared.word.Word.{Word}
 
 -- a fault that is told has its status
-status_told : (why : KeepFault) (said errors : Held) (status : ℕ) → IsTold (fault_of why) said errors status → HasFaultStatus status
-status_told why said errors status told = elim told [
+status_told : (passed : Passed) (why : KeepFault) (said errors : Held) (status : ℕ) → IsToldAfter passed (fault_of why) said errors status → HasFaultStatus status
+status_told passed why said errors status told = elim told [
   | inl its ↦ (why, inl its.0)
   | inr memory ↦ (why, inr memory.0)
 ]
 
 -- a tool of the archive, and its fault is told
-told_so : (Done : ℕ → Type 0) (named : Type 0) (said errors : Held) (done : Result ℕ KeepFault) (status : ℕ)
-    → IfOk done (λ n. Done n ⊎ IsOfFile named n) → Ends (ending_of done) said errors status
+told_so : (passed : Passed) (Done : ℕ → Type 0) (named : Type 0) (said errors : Held) (done : Result ℕ KeepFault) (status : ℕ)
+    → IfOk done (λ n. Done n ⊎ IsOfFile named n) → Ends passed (ending_of done) said errors status
     → Done status ⊎ (IsOfFile named status ⊎ HasFaultStatus status)
-told_so Done named said errors (Ok n) status ok ends =
+told_so passed Done named said errors (Ok n) status ok ends =
     subst (λ (m : ℕ). Done m ⊎ (IsOfFile named m ⊎ HasFaultStatus m)) (sym ends.0)
     (elim ok [
       | inl is ↦ inl is
       | inr useless ↦ inr (inl useless)
     ])
-told_so Done named said errors (Err why) status ok ends = inr (inr (status_told why said errors status ends))
+told_so passed Done named said errors (Err why) status ok ends = inr (inr (status_told passed why said errors status ends))
 
 -- the same of one that told nothing before, unless the file is at fault
-told_alone : (Done : ℕ → Type 0) (named : Type 0) (before said errors : Held) (done : Result ℕ KeepFault) (status : ℕ)
-    → IfOk done (λ n. (Done n × (said ≡ before)) ⊎ IsOfFile named n) → OnErr done (said ≡ before) → Ends (ending_of done) said errors status
-    → (Done status × Keeps before errors) ⊎ (IsOfFile named status ⊎ TellsFault before errors status)
-told_alone Done named before said errors (Ok n) status ok quiet ends = elim ok [
+told_alone : (passed : Passed) (Done : ℕ → Type 0) (named : Type 0) (before said errors : Held) (done : Result ℕ KeepFault) (status : ℕ)
+    → IfOk done (λ n. (Done n × (said ≡ before)) ⊎ IsOfFile named n) → OnErr done (said ≡ before) → Ends passed (ending_of done) said errors status
+    → (Done status × Keeps before errors) ⊎ (IsOfFile named status ⊎ TellsFault passed before errors status)
+told_alone passed Done named before said errors (Ok n) status ok quiet ends = elim ok [
   | inl is ↦ inl (subst Done (sym ends.0) is.0, subst (λ (h : Held). Keeps h errors) is.1 ends.1)
   | inr useless ↦ inr (inl (subst (IsOfFile named) (sym ends.0) useless))
 ]
-told_alone Done named before said errors (Err why) status ok quiet ends =
-    inr (inr (why, subst (λ (h : Held). IsTold (fault_of why) h errors status) quiet ends))
+told_alone passed Done named before said errors (Err why) status ok quiet ends =
+    inr (inr (why, subst (λ (h : Held). IsToldAfter passed (fault_of why) h errors status) quiet ends))
 
 -- `keep`, and its fault is told
-pub keep_ran : {S P F : Type 0} {s : start.Ghosts F} (g : disk.Ghosts (FileOf s)) (rules : SocketRules S P) (asked : KeepWords) (sockets sockets' : S)
+pub keep_ran : {S P F : Type 0} {s : start.Ghosts F} (g : disk.Ghosts (FileOf s)) (rules : SocketRules S P) (passes : S → Passed) (asked : KeepWords) (sockets sockets' : S)
     (out out' before said errors : Held) (left : DiskFiles F s) (done : Result ℕ KeepFault) (status : ℕ) (stops : Bool)
     → (stops ≡ false → IfOk done (λ n. (IsNamed asked.file (is_some asked.address) left × KeepsIn rules g (image_at s) asked sockets sockets' out out' left.closed n)
     ⊎ IsOfFile (IsNamed asked.file (is_some asked.address) left) n))
@@ -67,13 +69,13 @@ pub keep_ran : {S P F : Type 0} {s : start.Ghosts F} (g : disk.Ghosts (FileOf s)
     ⊎ IsOfFile (IsNamed asked.file false left) n))
     → (stops ≡ true → OnErr done (said ≡ before))
     → (stops ≡ true → sockets' ≡ sockets)
-    → Ends (ending_of done) said errors status
-    → RunsKeepBy g rules stops asked (streams None out before sockets (tt {0})) status (streams None out' errors sockets' (tt {0})) left
-keep_ran {s = s} g rules asked sockets sockets' out out' before said errors left done status false kept stopped untold silent ends =
-    told_so (λ n. IsNamed asked.file (is_some asked.address) left × KeepsIn rules g (image_at s) asked sockets sockets' out out' left.closed n)
+    → Ends (passes sockets') (ending_of done) said errors status
+    → RunsKeepBy g rules passes stops asked (streams None out before sockets (tt {0})) status (streams None out' errors sockets' (tt {0})) left
+keep_ran {s = s} g rules passes asked sockets sockets' out out' before said errors left done status false kept stopped untold silent ends =
+    told_so (passes sockets') (λ n. IsNamed asked.file (is_some asked.address) left × KeepsIn rules g (image_at s) asked sockets sockets' out out' left.closed n)
     (IsNamed asked.file (is_some asked.address) left) said errors done status (kept refl) ends
-keep_ran {s = s} g rules asked sockets sockets' out out' before said errors left done status true kept stopped untold silent ends = (
-  told_alone (λ n. IsNamed asked.file false left × StopsIn g (image_at s) asked out out' left.closed n)
+keep_ran {s = s} g rules passes asked sockets sockets' out out' before said errors left done status true kept stopped untold silent ends = (
+  told_alone (passes sockets') (λ n. IsNamed asked.file false left × StopsIn g (image_at s) asked out out' left.closed n)
       (IsNamed asked.file false left) before said errors done status (stopped refl) (untold refl) ends,
   silent refl,
 )
@@ -82,19 +84,19 @@ keep_ran {s = s} g rules asked sockets sockets' out out' before said errors left
 pub kept_ran : {F : Type 0} {s : start.Ghosts F} (g : disk.Ghosts (FileOf s)) (asked : KeptWords) (out out' before said errors : Held)
     (left : DiskFiles F s) (done : Result ℕ KeepFault) (status : ℕ)
     → IfOk done (λ n. ((IsNamed asked.file false left × PrintsIn g (image_at s) asked out out' left.closed n) × (said ≡ before)) ⊎ IsOfFile (IsNamed asked.file false left) n)
-    → OnErr done (said ≡ before) → Ends (ending_of done) said errors status
+    → OnErr done (said ≡ before) → Ends nothing (ending_of done) said errors status
     → RunsKept g asked (streams None out before (tt {0}) (tt {0})) status (streams None out' errors (tt {0}) (tt {0})) left
 kept_ran {s = s} g asked out out' before said errors left done status ok untold ends =
-    told_alone (λ n. IsNamed asked.file false left × PrintsIn g (image_at s) asked out out' left.closed n) (IsNamed asked.file false left)
+    told_alone nothing (λ n. IsNamed asked.file false left × PrintsIn g (image_at s) asked out out' left.closed n) (IsNamed asked.file false left)
     before said errors done status ok untold ends
 
 -- what was done of `keep` is the same beside an input and a clock
-pub keep_over : {S P C F : Type 0} {s : start.Ghosts F} (g : disk.Ghosts (FileOf s)) (rules : SocketRules S P) (asked : KeepWords) (stops : Bool) (old new : Streams S C)
+pub keep_over : {S P C F : Type 0} {s : start.Ghosts F} (g : disk.Ghosts (FileOf s)) (rules : SocketRules S P) (passes : S → Passed) (asked : KeepWords) (stops : Bool) (old new : Streams S C)
     (status : ℕ) (left : DiskFiles F s)
-    → RunsKeepBy g rules stops asked (streams None old.output old.errors old.sockets (tt {0})) status (streams None new.output new.errors new.sockets (tt {0})) left
-    → RunsKeepBy g rules stops asked old status new left
-keep_over g rules asked false old new status left it = it
-keep_over g rules asked true old new status left it = it
+    → RunsKeepBy g rules passes stops asked (streams None old.output old.errors old.sockets (tt {0})) status (streams None new.output new.errors new.sockets (tt {0})) left
+    → RunsKeepBy g rules passes stops asked old status new left
+keep_over g rules passes asked false old new status left it = it
+keep_over g rules passes asked true old new status left it = it
 
 -- words say one thing
 one_job : (said : Result Job Word) (a b : Job) → said ≡ Ok a → said ≡ Ok b → a ≡ b
@@ -103,31 +105,31 @@ one_job said a b p q = cc
 pub never_both : {A : Type 0} (said : Result Job Word) (a : Job) (w : Word) → said ≡ Ok a → said ≡ Err w → A
 never_both said a w p q = absurd (cc)
 
-module _ {S P C F : Type 0} {s : start.Ghosts F} (traces : S → Bool → S → Type 0) (rules : SocketRules S P) (tells : C → Option CivilTime → C → Type 0) (g : disk.Ghosts (FileOf s))
+module _ {S P C F : Type 0} {s : start.Ghosts F} (traces : S → Bool → S → Type 0) (rules : SocketRules S P) (passes : S → Passed) (tells : C → Option CivilTime → C → Type 0) (g : disk.Ghosts (FileOf s))
     (old new : Streams S C) (files left : DiskFiles F s) (status : ℕ) where
   -- what was done of the job of words
-  pub job_done : (words : List Text) (job asked : Job) → job_in words ≡ Ok job → AskFor words asked → DoesTold g traces rules tells job old files status new left
-      → RunsAll g traces rules tells asked old files status new left
-  job_done words job asked is ask does = inr (subst (λ (j : Job). DoesTold g traces rules tells j old files status new left) (one_job (job_in words) job asked is ask.1) does)
+  pub job_done : (words : List Text) (job asked : Job) → job_in words ≡ Ok job → AskFor words asked → DoesTold g traces rules passes tells job old files status new left
+      → RunsAll g traces rules passes tells asked old files status new left
+  job_done words job asked is ask does = inr (subst (λ (j : Job). DoesTold g traces rules passes tells j old files status new left) (one_job (job_in words) job asked is ask.1) does)
 
   -- words that ask for a job aren't read only without memory
-  pub unread : (words : List Text) (why : WordsFault) → IsRefused words why → RunsRead rules tells (Err why) old status new → left ≡ files
-      → (asked : Job) → AskFor words asked → RunsAll g traces rules tells asked old files status new left
+  pub unread : (words : List Text) (why : WordsFault) → IsRefused words why → RunsRead rules passes tells (Err why) old status new → left ≡ files
+      → (asked : Job) → AskFor words asked → RunsAll g traces rules passes tells asked old files status new left
   unread words (Usage e) refused ran same asked ask = absurd (subst (λ kinds. IsAmong (kind_of e) kinds) ask.0 refused)
   unread words (BadValue w) refused ran same asked ask = never_both (job_in words) asked w ask.1 refused.1
   unread words (LongNumber w) refused ran same asked ask = never_both (job_in words) asked w ask.1 refused.1
   unread words Memory refused ran same asked ask = inl (ran, same)
 
-module _ {S P C F : Type 0} {s : start.Ghosts F} (rules : SocketRules S P) (tells : C → Option CivilTime → C → Type 0) (g : disk.Ghosts (FileOf s))
+module _ {S P C F : Type 0} {s : start.Ghosts F} (rules : SocketRules S P) (passes : S → Passed) (tells : C → Option CivilTime → C → Type 0) (g : disk.Ghosts (FileOf s))
     (old new : Streams S C) (files left : DiskFiles F s) (status : ℕ) where
   -- a job of another tool than `keep` and `kept` was done beside the files
   pub other_done : (asked : Job) → ((words : KeepWords) → asked ≡ job.Keep words → ⊥) → ((words : KeptWords) → asked ≡ job.Kept words → ⊥)
-      → RunsRead rules tells (Ok asked) old status new → left ≡ files → DoesAll g rules tells asked old files status new left
+      → RunsRead rules passes tells (Ok asked) old status new → left ≡ files → DoesAll g rules passes tells asked old files status new left
   other_done job.Replay none never ran same = (ran, same)
   other_done (job.Wi stations min max dnet local timeout trace) none never ran same = (ran, same)
   other_done (job.Rp asked object_type instance property index numbers trace) none never ran same = (ran, same)
   other_done (job.Wp asked object_type instance property priority given index trace) none never ran same = (ran, same)
-  other_done (job.Log asked instance from steps csv trace) none never ran same = (ran, same)
+  other_done (job.Log asked instance from steps count csv trace) none never ran same = (ran, same)
   other_done (job.Logs asked instances trace) none never ran same = (ran, same)
   other_done (job.Serve address count) none never ran same = (ran, same)
   other_done (job.Keep words) none never ran same = absurd (none words refl)

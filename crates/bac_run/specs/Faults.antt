@@ -4,13 +4,13 @@ use Rattle.bac_asked.specs.declared.fault.Fault.{Fault as KeepFault}
 use Rattle.bac_asked.specs.declared.fault.Fault.TheVariants as keep
 use Rattle.bac_tools.specs.Ending.{Ending}
 use Rattle.bac_tools.specs.declared.fault.Fault.{Fault}
-use Rattle.bac_tools.specs.declared.fault.Fault.TheVariants.{BadValue, LongNumber, Socket, Exchange, Write, Memory}
+use Rattle.bac_tools.specs.declared.fault.Fault.TheVariants.{BadValue, LongNumber, Unopened, Exchange, Write, Memory}
 
 -- a fault of `keep` or `kept`
 abbrev pub fault_of : KeepFault → Fault
 fault_of (keep.BadValue word) = BadValue word
 fault_of (keep.LongNumber word) = LongNumber word
-fault_of keep.Socket = Socket
+fault_of (keep.Unopened why) = Unopened why
 fault_of (keep.Exchange address fault) = Exchange address fault
 fault_of keep.Write = Write
 fault_of keep.Memory = Memory

@@ -11,6 +11,8 @@ use Rattle.sqlite_wal.specs.Files.{image_at}
 use Rattle.bac_asked.specs.declared.fault.Fault.{Fault as KeepFault}
 use Rattle.bac_files.specs.Files.{IsNamed}
 use Rattle.bac_files.specs.declared.disk_files.DiskFiles.{DiskFiles}
+use Rattle.bac_heeding.specs.Notes.{nothing}
+use Rattle.bac_heeding.specs.declared.notes.Passed.{Passed}
 use Rattle.bac_keeper.specs.Done.{KeepsIn}
 use Rattle.bac_keeper.specs.Ends.{IsOfFile}
 use Rattle.bac_keeper.specs.Shown.{PrintsIn}
@@ -19,7 +21,7 @@ use Rattle.bac_ports.specs.Sockets.{SocketRules}
 use Rattle.std.specs.Io.KnownBytes.{Keeps}
 use Rattle.bac_print.specs.Output.{Held}
 use Rattle.bac_run.specs.Faults.{fault_of}
-use Rattle.bac_tools.specs.Run.{AskFor, IsTold, OnlyTells, Runs}
+use Rattle.bac_tools.specs.Run.{AskFor, IsToldAfter, OnlyTells, Runs}
 use Rattle.bac_tools.specs.Status.{exit_status}
 use Rattle.bac_tools.specs.Streams.{Streams, streams}
 use Rattle.bac_tools.specs.declared.fault.Fault.TheVariants.{Memory}
@@ -46,9 +48,9 @@ AskForKept words = (kept : Kept) × AskFor words (job.Kept kept)
 abbrev pub IsStill : {S C : Type 0} → Streams S C → Streams S C → Type 0
 IsStill old new = (new.input ≡ old.input) × (new.clock ≡ old.clock)
 
--- a fault of `keep` or `kept` is told with its status
-abbrev pub TellsFault : Held → Held → ℕ → Type 0
-TellsFault said errors status = (why : KeepFault) × IsTold (fault_of why) said errors status
+-- a fault of `keep` or `kept` is told with its status, after a last question since which this passed
+abbrev pub TellsFault : Passed → Held → Held → ℕ → Type 0
+TellsFault passed said errors status = (why : KeepFault) × IsToldAfter passed (fault_of why) said errors status
 
 -- The status is that of a fault of `keep`, or of no memory to tell it: what the runs over logs told on the errors before is
 -- nowhere said, so of what is told here nothing can be.
@@ -60,22 +62,22 @@ module _ {S C F : Type 0} {s : start.Ghosts F} (g : disk.Ghosts (FileOf s)) wher
   -- `keep`: the logs that the words choose were kept in the archive that the files held; or the file is no use; or the
   -- status is a fault's. With `--stop` those that the words mean were stopped, or the file is no use, or a fault is told; and
   -- no socket is opened.
-  abbrev pub RunsKeepBy : {P : Type 0} → SocketRules S P → Bool → Keep → Streams S C → ℕ → Streams S C → DiskFiles F s → Type 0
-  RunsKeepBy rules false asked old status new left =
+  abbrev pub RunsKeepBy : {P : Type 0} → SocketRules S P → (S → Passed) → Bool → Keep → Streams S C → ℕ → Streams S C → DiskFiles F s → Type 0
+  RunsKeepBy rules passes false asked old status new left =
       (IsNamed asked.file (is_some asked.address) left
       × KeepsIn rules g (image_at s) asked old.sockets new.sockets old.output new.output left.closed status)
       ⊎ (IsOfFile (IsNamed asked.file (is_some asked.address) left) status
       ⊎ HasFaultStatus status)
-  RunsKeepBy rules true asked old status new left =
+  RunsKeepBy rules passes true asked old status new left =
       (((IsNamed asked.file false left × StopsIn g (image_at s) asked old.output new.output left.closed status)
       × Keeps old.errors new.errors)
       ⊎ (IsOfFile (IsNamed asked.file false left) status
-      ⊎ TellsFault old.errors new.errors status))
+      ⊎ TellsFault (passes new.sockets) old.errors new.errors status))
       × (new.sockets ≡ old.sockets)
 
   -- the same by the words
-  abbrev pub RunsKeep : {P : Type 0} → SocketRules S P → Keep → Streams S C → ℕ → Streams S C → DiskFiles F s → Type 0
-  RunsKeep rules asked old status new left = RunsKeepBy rules asked.stop asked old status new left
+  abbrev pub RunsKeep : {P : Type 0} → SocketRules S P → (S → Passed) → Keep → Streams S C → ℕ → Streams S C → DiskFiles F s → Type 0
+  RunsKeep rules passes asked old status new left = RunsKeepBy rules passes asked.stop asked old status new left
 
   -- `kept`: what the archive keeps of the logs that the words choose was printed; or the file is no use; or a fault is told
   abbrev pub RunsKept : Kept → Streams S C → ℕ → Streams S C → DiskFiles F s → Type 0
@@ -83,26 +85,26 @@ module _ {S C F : Type 0} {s : start.Ghosts F} (g : disk.Ghosts (FileOf s)) wher
       ((IsNamed asked.file false left × PrintsIn g (image_at s) asked old.output new.output left.closed status)
       × Keeps old.errors new.errors)
       ⊎ (IsOfFile (IsNamed asked.file false left) status
-      ⊎ TellsFault old.errors new.errors status)
+      ⊎ TellsFault nothing old.errors new.errors status)
 
   -- The tool of a job. Each other one than `keep` and `kept` leaves the files alone; `kept` opens no socket.
-  abbrev pub DoesAll : {P : Type 0} → SocketRules S P → (C → Option CivilTime → C → Type 0) → Job →
+  abbrev pub DoesAll : {P : Type 0} → SocketRules S P → (S → Passed) → (C → Option CivilTime → C → Type 0) → Job →
       Streams S C → DiskFiles F s → ℕ → Streams S C → DiskFiles F s → Type 0
-  DoesAll rules tells (job.Keep asked) old files status new left =
-      RunsKeep rules asked old status new left × IsStill old new
-  DoesAll rules tells (job.Kept asked) old files status new left =
+  DoesAll rules passes tells (job.Keep asked) old files status new left =
+      RunsKeep rules passes asked old status new left × IsStill old new
+  DoesAll rules passes tells (job.Kept asked) old files status new left =
       RunsKept asked old status new left × IsStill old new × (new.sockets ≡ old.sockets)
-  DoesAll rules tells other old files status new left = Runs rules tells other old status new × (left ≡ files)
+  DoesAll rules passes tells other old files status new left = Runs rules passes tells other old status new × (left ≡ files)
 
   -- The sockets are switched on to tell each datagram, or off, as the words say; the tool does its work over these.
-  abbrev pub DoesTold : {P : Type 0} → (S → Bool → S → Type 0) → SocketRules S P → (C → Option CivilTime → C → Type 0) →
+  abbrev pub DoesTold : {P : Type 0} → (S → Bool → S → Type 0) → SocketRules S P → (S → Passed) → (C → Option CivilTime → C → Type 0) →
       Job → Streams S C → DiskFiles F s → ℕ → Streams S C → DiskFiles F s → Type 0
-  DoesTold traces rules tells asked old files status new left =
+  DoesTold traces rules passes tells asked old files status new left =
       (sockets : S) × traces old.sockets (is_traced asked) sockets
-      × DoesAll rules tells asked (streams old.input old.output old.errors sockets old.clock) files status new left
+      × DoesAll rules passes tells asked (streams old.input old.output old.errors sockets old.clock) files status new left
 
   -- What the words ask for is done; or nothing is, as there is no memory for the words.
-  abbrev pub RunsAll : {P : Type 0} → (S → Bool → S → Type 0) → SocketRules S P → (C → Option CivilTime → C → Type 0) →
+  abbrev pub RunsAll : {P : Type 0} → (S → Bool → S → Type 0) → SocketRules S P → (S → Passed) → (C → Option CivilTime → C → Type 0) →
       Job → Streams S C → DiskFiles F s → ℕ → Streams S C → DiskFiles F s → Type 0
-  RunsAll traces rules tells asked old files status new left =
-      (OnlyTells Memory old status new × (left ≡ files)) ⊎ DoesTold traces rules tells asked old files status new left
+  RunsAll traces rules passes tells asked old files status new left =
+      (OnlyTells Memory old status new × (left ≡ files)) ⊎ DoesTold traces rules passes tells asked old files status new left

@@ -14,9 +14,9 @@ ghost use Rattle.bac_words.specs.declared.word.Word.{Word as AnyWord};
 ghost use Rattle.bac_run.specs.Faults.{ending_of, fault_of};
 ghost use Rattle.bac_run.specs.Run.{AskForKept, DoesAll, DoesTold, IsOfKept, RunsAll, RunsKeep, RunsKept};
 
+use bac_heeding::{Heeds, Passed};
 use bac_keeper::{DiskFiles, Fault as KeepFault, run_keep, run_kept};
-use bac_ports::Sockets;
-use bac_tools::{Clock, Fault, run_read, tell};
+use bac_tools::{Clock, Fault, run_read, tell_after};
 use bac_trace::Tracing;
 use bac_words::{Job, Keep, Kept, read_words};
 use sqlite::{FileFrom, Start};
@@ -31,7 +31,7 @@ fn fault_of(fault: KeepFault) -> Fault
     match fault {
         KeepFault::BadValue(word) => Fault::BadValue(word),
         KeepFault::LongNumber(word) => Fault::LongNumber(word),
-        KeepFault::Socket => Fault::Socket,
+        KeepFault::Unopened(why) => Fault::Unopened(why),
         KeepFault::Exchange { address, fault } => Fault::Exchange { address, fault },
         KeepFault::Write => Fault::Write,
         KeepFault::Memory => Fault::Memory,
@@ -39,17 +39,17 @@ fn fault_of(fault: KeepFault) -> Fault
 }
 
 /// The status of `keep` or `kept`, whose fault is told.
-fn ended<E: Write>(alloc: Global, done: Result<u8, KeepFault>, errors: &mut E) -> u8
-    ensures { Ends (ending_of done) (E.contents errors.old) (E.contents errors.new) result }
+fn ended<E: Write>(alloc: Global, passed: Passed, done: Result<u8, KeepFault>, errors: &mut E) -> u8
+    ensures { Ends passed (ending_of done) (E.contents errors.old) (E.contents errors.new) result }
 {
     match done {
         Ok(status) => status,
-        Err(fault) => tell(alloc, fault_of(fault), errors),
+        Err(fault) => tell_after(alloc, passed, fault_of(fault), errors),
     }
 }
 
 /// `keep`, and its fault is told.
-fn keep_and_tell<S: Sockets, F: Start, O: Write, E: Write>(
+fn keep_and_tell<S: Heeds, F: Start, O: Write, E: Write>(
     sockets: &mut S,
     files: &mut DiskFiles<'_, F>,
     alloc: Global,
@@ -58,13 +58,13 @@ fn keep_and_tell<S: Sockets, F: Start, O: Write, E: Write>(
     output: &mut O,
     errors: &mut E,
 ) -> u8
-    ensures ran { RunsKeep ⟦<FileFrom<F> as Disk>⟧ (socket_rules S.opens S.closes S.Socket.sends S.Socket.receives S.Socket.receives_within) asked.now
+    ensures ran { RunsKeep ⟦<FileFrom<F> as Disk>⟧ (socket_rules S.opens S.closes S.Socket.sends S.Socket.receives S.Socket.receives_within) S.passes asked.now
         (streams None (O.contents output.old) (E.contents errors.old) sockets.old (tt {0})) result
         (streams None (O.contents output.new) (E.contents errors.new) sockets.new (tt {0})) files.new }
     ensures stays { IsUnused files.old → IfSome files.new.closed (IsDoneTo ⟦<FileFrom<F> as Disk>⟧ (image_at F.Start) LosesNothing) }
 {
     let done = run_keep(sockets, files, alloc, asked, counts, output, errors);
-    ended(alloc, done, errors)
+    ended(alloc, sockets.passed(), done, errors)
 }
 
 /// `kept`, and its fault is told.
@@ -80,11 +80,11 @@ fn print_and_tell<F: Start, O: Write, E: Write>(
         (streams None (O.contents output.new) (E.contents errors.new) (tt {0}) (tt {0})) files.new }
 {
     let done = run_kept(files, alloc, asked, output, errors);
-    ended(alloc, done, errors)
+    ended(alloc, Passed::nothing(), done, errors)
 }
 
 /// Does what a job asks for, and answers the exit status.
-fn run_job<S: Sockets, F: Start, I: Read, O: Write, E: Write, C: Clock>(
+fn run_job<S: Heeds, F: Start, I: Read, O: Write, E: Write, C: Clock>(
     sockets: &mut S,
     files: &mut DiskFiles<'_, F>,
     alloc: Global,
@@ -95,7 +95,7 @@ fn run_job<S: Sockets, F: Start, I: Read, O: Write, E: Write, C: Clock>(
     errors: &mut E,
     clock: &mut C,
 ) -> u8
-    ensures ran { DoesAll ⟦<FileFrom<F> as Disk>⟧ (socket_rules S.opens S.closes S.Socket.sends S.Socket.receives S.Socket.receives_within) C.tells job
+    ensures ran { DoesAll ⟦<FileFrom<F> as Disk>⟧ (socket_rules S.opens S.closes S.Socket.sends S.Socket.receives S.Socket.receives_within) S.passes C.tells job
         (streams (I.remaining input.old) (O.contents output.old) (E.contents errors.old) sockets.old clock.old) files.old result
         (streams (I.remaining input.new) (O.contents output.new) (E.contents errors.new) sockets.new clock.new) files.new }
     ensures stays { IsUnused files.old → (IsOfKept job → ⊥) → IfSome files.new.closed (IsDoneTo ⟦<FileFrom<F> as Disk>⟧ (image_at F.Start) LosesNothing) }
@@ -119,7 +119,7 @@ fn run_told<S: Tracing, F: Start, I: Read, O: Write, E: Write, C: Clock>(
     errors: &mut E,
     clock: &mut C,
 ) -> u8
-    ensures ran { DoesTold ⟦<FileFrom<F> as Disk>⟧ S.traces (socket_rules S.opens S.closes S.Socket.sends S.Socket.receives S.Socket.receives_within) C.tells job
+    ensures ran { DoesTold ⟦<FileFrom<F> as Disk>⟧ S.traces (socket_rules S.opens S.closes S.Socket.sends S.Socket.receives S.Socket.receives_within) S.passes C.tells job
         (streams (I.remaining input.old) (O.contents output.old) (E.contents errors.old) sockets.old clock.old) files.old result
         (streams (I.remaining input.new) (O.contents output.new) (E.contents errors.new) sockets.new clock.new) files.new }
     ensures stays { IsUnused files.old → (IsOfKept job → ⊥) → IfSome files.new.closed (IsDoneTo ⟦<FileFrom<F> as Disk>⟧ (image_at F.Start) LosesNothing) }
@@ -147,7 +147,7 @@ pub fn run<S: Tracing, F: Start, I: Read, O: Write, E: Write, C: Clock>(
 ) -> u8
     // The tool that the words name does what they say.
     ensures done { (job : AnyJob) → AskFor (map string_bytes words.now) job →
-        RunsAll ⟦<FileFrom<F> as Disk>⟧ S.traces (socket_rules S.opens S.closes S.Socket.sends S.Socket.receives S.Socket.receives_within) C.tells job
+        RunsAll ⟦<FileFrom<F> as Disk>⟧ S.traces (socket_rules S.opens S.closes S.Socket.sends S.Socket.receives S.Socket.receives_within) S.passes C.tells job
         (streams (I.remaining input.old) (O.contents output.old) (E.contents errors.old) sockets.old clock.old) files.old result
         (streams (I.remaining input.new) (O.contents output.new) (E.contents errors.new) sockets.new clock.new) files.new }
     // Whatever comes of it, of an archive that the files held no item and no log is lost.

@@ -29,7 +29,9 @@ reply_text (flaw.Property property) =
 reply_text (flaw.Item place) = around (codes "item ") place (codes " of the reply is no record")
 reply_text (flaw.NoNumber records) = in_all records (codes " in all, and no first sequence number")
 reply_text (flaw.Count count records) = in_all records (codes " in all, and item count ") ++ decimal count
-reply_text (flaw.TooMany records) = in_all records (codes " in all; 100 were asked for")
-reply_text (flaw.Unasked first records next) =
+reply_text (flaw.TooMany records asked) =
+    in_all records (codes " in all; ") ++ around (codes "") asked (codes " were asked for")
+reply_text (flaw.Unasked first records next asked) =
     in_all records (codes " in all, from number ")
-    ++ (decimal first ++ around (codes " on; asked for were 100 from number ") next (codes " on"))
+    ++ (decimal first ++ (around (codes " on; asked for were ") asked (codes " from number ")
+    ++ around (codes "") next (codes " on")))

@@ -9,6 +9,8 @@ use Rattle.clap.specs.declared.error.kind.ErrorKind.TheVariants.{DisplayHelp, Di
 use Rattle.bac_apdu.specs.Service.WriteProperty.{PropertyWrite, write_of_code}
 use Rattle.bac_apdu.specs.declared.service.read_property.ReadProperty.{ReadProperty}
 use Rattle.bac_apdu.specs.declared.service.write_property.WriteProperty.{WriteProperty}
+use Rattle.bac_heeding.specs.Notes.{nothing}
+use Rattle.bac_heeding.specs.declared.notes.Passed.{Passed}
 use Rattle.bac_link.specs.declared.request.Request.TheVariants as request
 use Rattle.bac_ports.specs.Sockets.{SocketRules}
 use Rattle.bac_print.specs.Output.{AppendsPart, Held}
@@ -25,10 +27,11 @@ use Rattle.bac_tools.specs.Serving.{Serves}
 use Rattle.bac_tools.specs.Sockets.{Outside}
 use Rattle.bac_tools.specs.Status.{exit_status}
 use Rattle.bac_tools.specs.Streams.{Streams, IsIdle, IsQuiet, IsUntouched, outside_of, with_errors}
-use Rattle.bac_tools.specs.Texts.{told_text}
+use Rattle.bac_tools.specs.Texts.{told_after, told_text}
 use Rattle.bac_tools.specs.declared.fault.Fault.{Fault}
 use Rattle.bac_tools.specs.declared.fault.Fault.TheVariants.{BadValue, LongNumber, OtherTool, Memory, Write}
-use Rattle.bac_walk.specs.Place.{WalkPlace, walk_at, walk_from_oldest}
+use Rattle.bac_link.specs.Standard.{IsCount}
+use Rattle.bac_walk.specs.Place.{WalkPlace, asking, walk_at, walk_from_oldest}
 use Rattle.bac_wire.specs.Primitive.{Id}
 use Rattle.bac_wire.specs.Stamp.{CivilTime}
 use Rattle.bac_words.specs.Outcome.{mistakes_of, is_long_in, job_in}
@@ -38,7 +41,7 @@ use Rattle.bac_words.specs.declared.job.Job.TheVariants as job
 use Rattle.bac_words.specs.declared.fault.WordsFault.{WordsFault}
 use Rattle.bac_words.specs.declared.fault.WordsFault.TheVariants as words
 use Rattle.bac_words.specs.declared.word.Word.{Word}
-use Rattle.bac_words.specs.declared.word.Word.TheVariants.{Instance, From}
+use Rattle.bac_words.specs.declared.word.Word.TheVariants.{Records, Instance, From}
 
 -- ---- what is asked for
 
@@ -52,9 +55,10 @@ IsUnasked word old result new =
     (result ≡ Err (BadValue word)) × Keeps old.output new.output × (new.sockets ≡ old.sockets)
 
 -- no trend log has this instance, or no record this number
-abbrev pub IsNoWalk : ℕ → Option ℕ → Fault → Type 0
-IsNoWalk instance from fault =
-    (IsOutside 20 instance × (fault ≡ BadValue Instance)) ⊎ ((from ≡ Some 0) × (fault ≡ BadValue From))
+abbrev pub IsNoWalk : ℕ → Option ℕ → (count : ℕ) → Fault → Type 0
+IsNoWalk instance from count fault =
+    (IsOutside 20 instance × (fault ≡ BadValue Instance)) ⊎ (((IsCount count → ⊥) × (fault ≡ BadValue Records))
+    ⊎ ((from ≡ Some 0) × (fault ≡ BadValue From)))
 
 -- the trend log with this instance
 abbrev pub trend_log : ℕ → Id
@@ -66,10 +70,10 @@ IsNoLogs instances fault =
     ((fault ≡ BadValue Instance) × ((instance : ℕ) × Contains instances instance × IsOutside 20 instance))
     ⊎ (fault ≡ Memory)
 
--- the walk from record FROM of a log on, or from its oldest record
-abbrev pub walk_from : ℕ → Option ℕ → WalkPlace
-walk_from instance None = walk_from_oldest (trend_log instance)
-walk_from instance (Some number) = walk_at (trend_log instance) number
+-- the walk from record FROM of a log on, or from its oldest record, that asks for so many records at a time
+abbrev pub walk_from : ℕ → Option ℕ → (count : ℕ) → WalkPlace
+walk_from instance None count = asking count (walk_from_oldest (trend_log instance))
+walk_from instance (Some number) count = asking count (walk_at (trend_log instance) number)
 
 -- as CSV, or in lines
 abbrev pub layout_of : Bool → Layout
@@ -128,10 +132,10 @@ Works rules tells (job.Wp asked object_type instance property priority given ind
     ⊎ ((w : WriteProperty) × (write_of_code w ≡ setting object_type instance property priority given index)
     × Writes rules asked (request.WriteProperty w) (outside_of old) result (outside_of new)))
     × IsQuiet old new
-Works rules tells (job.Log asked instance from steps csv trace) old result new =
-    (((fault : Fault) × (IsNoWalk instance from fault × (result ≡ Err fault))
+Works rules tells (job.Log asked instance from steps count csv trace) old result new =
+    (((fault : Fault) × (IsNoWalk instance from count fault × (result ≡ Err fault))
     × Keeps old.output new.output × (new.sockets ≡ old.sockets))
-    ⊎ Fetches rules (layout_of csv) asked (walk_from instance from) steps (outside_of old) result (outside_of new)
+    ⊎ Fetches rules (layout_of csv) asked (walk_from instance from count) steps (outside_of old) result (outside_of new)
     old.errors new.errors)
     × IsQuietAtFault result old new
 Works rules tells (job.Logs asked instances trace) old result new =
@@ -150,30 +154,35 @@ Works rules tells (job.Kept asked) old result new = IsElsewhere old result new
 
 -- ---- the status
 
--- the fault's text is written on the errors, or a front part of it; or, without memory for it, that of out of memory
-abbrev pub IsTold : Fault → Held → Held → ℕ → Type 0
-IsTold fault old new status =
-    ((status ≡ exit_status fault) × AppendsPart old new (told_text fault))
+-- The fault's text is written on the errors, or a front part of it; or, without memory for it, that of out of memory. The
+-- text tells what passed since the last question.
+abbrev pub IsToldAfter : Passed → Fault → Held → Held → ℕ → Type 0
+IsToldAfter passed fault old new status =
+    ((status ≡ exit_status fault) × AppendsPart old new (told_after passed fault))
     ⊎ ((status ≡ exit_status Memory) × AppendsPart old new (told_text Memory))
 
+-- the same where nothing was asked
+abbrev pub IsTold : Fault → Held → Held → ℕ → Type 0
+IsTold fault old new status = IsToldAfter nothing fault old new status
+
 -- a fault is told on the errors, and without one nothing more
-abbrev pub Ends : Ending → Held → Held → ℕ → Type 0
-Ends (Ok done) old new status = (status ≡ done) × Keeps old new
-Ends (Err fault) old new status = IsTold fault old new status
+abbrev pub Ends : Passed → Ending → Held → Held → ℕ → Type 0
+Ends passed (Ok done) old new status = (status ≡ done) × Keeps old new
+Ends passed (Err fault) old new status = IsToldAfter passed fault old new status
 
 -- a fault is told on the errors, and that is all
 abbrev pub OnlyTells : {S C : Type 0} → Fault → Streams S C → ℕ → Streams S C → Type 0
 OnlyTells fault old status new =
     IsTold fault old.errors new.errors status × Keeps old.output new.output × IsUntouched old new
 
--- What the words ask for is done, which leaves this on the errors, and then its fault is told; or nothing is done, as
--- there is no memory for the words.
-abbrev pub Runs : {S P C : Type 0} → SocketRules S P → (C → Option CivilTime → C → Type 0) →
+-- What the words ask for is done, which leaves this on the errors, and then its fault is told, with what the sockets know of
+-- the port that was closed last; or nothing is done, as there is no memory for the words.
+abbrev pub Runs : {S P C : Type 0} → SocketRules S P → (S → Passed) → (C → Option CivilTime → C → Type 0) →
     Job → Streams S C → ℕ → Streams S C → Type 0
-Runs rules tells asked old status new =
+Runs rules passes tells asked old status new =
     OnlyTells Memory old status new
     ⊎ ((result : Ending) × (said : Held) × Works rules tells asked old result (with_errors said new)
-    × Ends result said new.errors status)
+    × Ends (passes new.sockets) result said new.errors status)
 
 -- words that ask for a job
 abbrev pub AskFor : List Text → Job → Type 0
@@ -212,14 +221,14 @@ Explains kind old status new =
 
 -- What is done of words as they were read: their job; or a wrong value is told, or what clap says of them; or that there
 -- is no memory for them.
-abbrev pub RunsRead : {S P C : Type 0} → SocketRules S P → (C → Option CivilTime → C → Type 0) →
+abbrev pub RunsRead : {S P C : Type 0} → SocketRules S P → (S → Passed) → (C → Option CivilTime → C → Type 0) →
     Result Job WordsFault → Streams S C → ℕ → Streams S C → Type 0
-RunsRead rules tells (Ok asked) old status new = Runs rules tells asked old status new
-RunsRead rules tells (Err (words.BadValue word)) old status new = OnlyTells (BadValue word) old status new
-RunsRead rules tells (Err (words.LongNumber word)) old status new = OnlyTells (LongNumber word) old status new
-RunsRead rules tells (Err (words.Usage error)) old status new =
+RunsRead rules passes tells (Ok asked) old status new = Runs rules passes tells asked old status new
+RunsRead rules passes tells (Err (words.BadValue word)) old status new = OnlyTells (BadValue word) old status new
+RunsRead rules passes tells (Err (words.LongNumber word)) old status new = OnlyTells (LongNumber word) old status new
+RunsRead rules passes tells (Err (words.Usage error)) old status new =
     OnlyTells Memory old status new ⊎ (Explains (kind_of error) old status new × IsUntouched old new)
-RunsRead rules tells (Err words.Memory) old status new = OnlyTells Memory old status new
+RunsRead rules passes tells (Err words.Memory) old status new = OnlyTells Memory old status new
 
 -- Words that ask for no job: their help or their mistake is said, and nothing else is done; or there is no memory for
 -- them.

@@ -1,5 +1,8 @@
 -- What is told on standard error. Of a fault it is a line, and if there is more to say, a second one.
 use Rattle.std.specs.Prelude.{ℕ, List, [], ◌∷◌, ◌++◌, if◌then◌else◌, codes, decimal}
+use Rattle.bac_heeding.specs.Notes.{nothing}
+use Rattle.bac_heeding.specs.Silence.{silence_text}
+use Rattle.bac_heeding.specs.declared.notes.Passed.{Passed}
 use Rattle.bac_link.specs.declared.exchanges.ExchangeFault.{ExchangeFault}
 use Rattle.bac_link.specs.declared.exchanges.ExchangeFault.TheVariants as exchange
 use Rattle.bac_objects.specs.declared.build.BuildFault.{BuildFault}
@@ -50,6 +53,7 @@ range_text word.Property = codes "a number from 0 to 4294967295"
 range_text word.Index = codes "a number from 0 to 4294967295"
 range_text word.Steps = codes "a number from 0 to 4294967295"
 range_text word.Count = codes "a number from 0 to 4294967295"
+range_text word.Records = codes "a number from 1 to 100"
 range_text word.Priority = codes "a number from 0 to 16"
 range_text word.Tag = codes "0, 1, 2, 3, 4, 7 or 9"
 range_text word.From = codes "a number from 1 to 4294967295, or oldest"
@@ -99,21 +103,21 @@ bad_value = codes "bad value" ++ 10 ∷ []
 abbrev pub of_address : List ℕ → List ℕ → List ℕ → List ℕ
 of_address line said address = (line ++ 10 ∷ []) ++ (said ++ address_text address)
 
--- nobody answered
-abbrev pub silent : List ℕ
-silent = codes "no answer came from "
-
 -- the reply to one question doesn't serve
 abbrev pub bad_reply : List ℕ
 bad_reply =
     (codes "bad reply" ++ 10 ∷ []) ++ codes "the reply is no ACK of this request, is in segments, or can't be read"
 
+-- the answer to one question to an address didn't come, and what passed since the question was first sent
+abbrev pub lost_text : Passed → List ℕ → List ℕ
+lost_text passed address = (codes "lost" ++ 10 ∷ []) ++ silence_text address passed
+
 -- a fault of one question to an address
-unfoldable pub exchange_text : List ℕ → ExchangeFault → List ℕ
-exchange_text address exchange.Lost = of_address (codes "lost") silent address
-exchange_text address (exchange.Refused refusal) = refusal_text refusal ++ (10 ∷ cause_text refusal)
-exchange_text address exchange.BadReply = bad_reply
-exchange_text address exchange.TooLong = bad_value ++ codes "the request is too long"
+unfoldable pub exchange_text : Passed → List ℕ → ExchangeFault → List ℕ
+exchange_text passed address exchange.Lost = lost_text passed address
+exchange_text passed address (exchange.Refused refusal) = refusal_text refusal ++ (10 ∷ cause_text refusal)
+exchange_text passed address exchange.BadReply = bad_reply
+exchange_text passed address exchange.TooLong = bad_value ++ codes "the request is too long"
 
 -- nothing could be sent to an address
 abbrev pub refused_text : List ℕ → List ℕ
@@ -134,29 +138,33 @@ wrong_text w = bad_value ++ (word_text w ++ (codes ": " ++ range_text w))
 abbrev pub long_text : Word → List ℕ
 long_text w = wrong_text w ++ codes ", of at most 10 digits"
 
--- each fault of the program, without the last line's end
-unfoldable pub fault_text : Fault → List ℕ
-fault_text NotText = bad_value ++ codes "a word isn't UTF-8"
-fault_text (BadValue w) = wrong_text w
-fault_text (LongNumber w) = long_text w
-fault_text OtherTool = bad_value ++ codes "this program has no keep and no kept"
-fault_text NoDevice = bad_value ++ codes "no device line"
-fault_text (Script refused) = refusal_lines refused
-fault_text (Unopened why) = codes "socket fault" ++ open_text why
-fault_text Socket = codes "socket fault"
-fault_text (Refused address) = refused_text address
-fault_text (NoAnswer asked) = unanswered_text asked
-fault_text (ListOf fault) = list_text fault
-fault_text (Exchange address fault) = exchange_text address fault
-fault_text (Flawed flaw) = reply_text flaw
-fault_text (Silent address) = silent ++ address_text address
-fault_text (Declined refusal) = cause_text refusal
-fault_text Write = codes "write fault"
-fault_text Memory = codes "out of memory"
+-- each fault of the program after its last question, since which this passed; without the last line's end
+unfoldable pub fault_text : Passed → Fault → List ℕ
+fault_text passed NotText = bad_value ++ codes "a word isn't UTF-8"
+fault_text passed (BadValue w) = wrong_text w
+fault_text passed (LongNumber w) = long_text w
+fault_text passed OtherTool = bad_value ++ codes "this program has no keep and no kept"
+fault_text passed NoDevice = bad_value ++ codes "no device line"
+fault_text passed (Script refused) = refusal_lines refused
+fault_text passed (Unopened why) = codes "socket fault" ++ open_text why
+fault_text passed Socket = codes "socket fault"
+fault_text passed (Refused address) = refused_text address
+fault_text passed (NoAnswer asked) = unanswered_text asked
+fault_text passed (ListOf fault) = list_text fault
+fault_text passed (Exchange address fault) = exchange_text passed address fault
+fault_text passed (Flawed flaw) = reply_text flaw
+fault_text passed (Silent address) = silence_text address passed
+fault_text passed (Declined refusal) = cause_text refusal
+fault_text passed Write = codes "write fault"
+fault_text passed Memory = codes "out of memory"
 
 -- with the last line's end
+abbrev pub told_after : Passed → Fault → List ℕ
+told_after passed fault = fault_text passed fault ++ 10 ∷ []
+
+-- where nothing was asked
 abbrev pub told_text : Fault → List ℕ
-told_text fault = fault_text fault ++ 10 ∷ []
+told_text fault = told_after nothing fault
 
 -- ---- a walk that is caught up
 

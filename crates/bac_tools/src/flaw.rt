@@ -70,22 +70,20 @@ pub(crate) fn push_reply_flaw(text: &mut Vec<u8>, flaw: ReplyFlaw) -> Result<(),
             push_records(text, records, " in all, and item count ")?;
             push_number(text, count)
         }
-        ReplyFlaw::TooMany(records) => {
-            push_records(text, records, " in all; 100 were asked for")
+        ReplyFlaw::TooMany { records, asked } => {
+            push_records(text, records, " in all; ")?;
+            push_around(text, "", asked as u64, " were asked for")
         }
         ReplyFlaw::Unasked {
             first,
             records,
             next,
+            asked,
         } => {
             push_records(text, records, " in all, from number ")?;
             push_number(text, u64::from(first))?;
-            push_around(
-                text,
-                " on; asked for were 100 from number ",
-                u64::from(next),
-                " on",
-            )
+            push_around(text, " on; asked for were ", asked as u64, " from number ")?;
+            push_around(text, "", u64::from(next), " on")
         }
     }
 }

@@ -22,6 +22,7 @@ mod telling;
 mod tips;
 mod until_refused;
 
+pub use bac_heeding::{Heeding, Heeds, Passed};
 pub use bac_ports::{Heard, OpenFault, Port, SocketFault, Sockets, UdpPort, UdpSockets};
 pub use bac_script::{
     Configuration, ConfigurationText, Flaw, LIMIT, LineKind, Reason, Refused, ReplayFault,
@@ -36,5 +37,5 @@ pub use bac_words::{
 };
 pub use fault::Fault;
 pub use program::{run, run_read};
-pub use telling::tell;
+pub use telling::{tell, tell_after};
 pub use until_refused::UntilRefused;

@@ -17,16 +17,17 @@ use crate::fault::Fault;
 use crate::finding::{limits, wi};
 use crate::playing::replay;
 use crate::serving::serve;
-use crate::telling::{say, tell};
+use crate::telling::{say, tell, tell_after};
 use crate::tips::with_true_tips;
 use bac_apdu::object_type::TREND_LOG;
 use bac_apdu::{ReadProperty, WhoIs, WriteProperty};
+use bac_heeding::Heeds;
 use bac_link::Request;
 use bac_ports::Sockets;
 use bac_print::{WriteRefused, write_text};
 use bac_query::{Layout, Reals, Search};
 use bac_serve::Clock;
-use bac_walk::Walk;
+use bac_walk::{Count, Walk};
 use bac_wire::ObjectId;
 use bac_words::{Job, Word, WordsFault, read_words};
 use std::alloc::Global;
@@ -43,18 +44,22 @@ fn object(object_type: u16, instance: u32) -> Result<ObjectId, Fault>
     }
 }
 
-/// The walk of a log from a number, or from the oldest record.
-fn walk(instance: u32, from: Option<u32>) -> Result<Walk, Fault>
-    ensures ok { IfOk result (λ walk. walk ≡ walk_from instance from) }
-    ensures err { IfErr result (IsNoWalk instance from) }
+/// The walk of a log from a number, or from the oldest record, that asks for so many records at a
+/// time.
+fn walk(instance: u32, from: Option<u32>, count: u8) -> Result<Walk, Fault>
+    ensures ok { IfOk result (λ walk. walk ≡ walk_from instance from count) }
+    ensures err { IfErr result (IsNoWalk instance from count) }
 {
     let log = object(TREND_LOG, instance)?;
+    let Some(count) = Count::new(count) else {
+        return Err(Fault::BadValue(Word::Records));
+    };
     let walk = match from {
         Some(number) => Walk::from_number(log, number),
         None => Walk::oldest(log),
     };
     match walk {
-        Some(walk) => Ok(walk),
+        Some(walk) => Ok(walk.asking_for(count)),
         None => Err(Fault::BadValue(Word::From)),
     }
 }
@@ -178,11 +183,12 @@ fn work<S: Sockets, I: Read, O: Write, E: Write, C: Clock>(
             instance,
             from,
             steps,
+            count,
             csv,
             trace: _,
         } => {
             let asking = LogAsking {
-                walk: walk(instance, from)?,
+                walk: walk(instance, from, count)?,
                 steps,
                 layout: layout(csv),
             };
@@ -253,7 +259,7 @@ fn explain<O: Write, E: Write>(
 
 /// Does what words ask for as they were read, as [`run`] does: for a program that has other tools
 /// too.
-pub fn run_read<S: Sockets, I: Read, O: Write, E: Write, C: Clock>(
+pub fn run_read<S: Heeds, I: Read, O: Write, E: Write, C: Clock>(
     sockets: &mut S,
     alloc: Global,
     read: Result<Job, WordsFault>,
@@ -262,7 +268,7 @@ pub fn run_read<S: Sockets, I: Read, O: Write, E: Write, C: Clock>(
     errors: &mut E,
     clock: &mut C,
 ) -> u8
-    ensures { RunsRead (socket_rules S.opens S.closes S.Socket.sends S.Socket.receives S.Socket.receives_within) C.tells read
+    ensures { RunsRead (socket_rules S.opens S.closes S.Socket.sends S.Socket.receives S.Socket.receives_within) S.passes C.tells read
         (streams (I.remaining input.old) (O.contents output.old) (E.contents errors.old) sockets.old clock.old) result
         (streams (I.remaining input.new) (O.contents output.new) (E.contents errors.new) sockets.new clock.new) }
 {
@@ -275,7 +281,7 @@ pub fn run_read<S: Sockets, I: Read, O: Write, E: Write, C: Clock>(
     };
     match work(sockets, alloc, job, input, output, errors, clock) {
         Ok(status) => status,
-        Err(fault) => tell(alloc, fault, errors),
+        Err(fault) => tell_after(alloc, sockets.passed(), fault, errors),
     }
 }
 
@@ -283,7 +289,7 @@ pub fn run_read<S: Sockets, I: Read, O: Write, E: Write, C: Clock>(
 /// and answers the exit status; `keep` and `kept` are refused as tools of another crate. Results and
 /// help go to the output; faults, and the line of a server that is up, go to the errors. Each is one
 /// write.
-pub fn run<S: Sockets, I: Read, O: Write, E: Write, C: Clock>(
+pub fn run<S: Heeds, I: Read, O: Write, E: Write, C: Clock>(
     sockets: &mut S,
     alloc: Global,
     words: &[String],
@@ -294,7 +300,7 @@ pub fn run<S: Sockets, I: Read, O: Write, E: Write, C: Clock>(
 ) -> u8
     // The tool that the words name does what they say.
     ensures done { (job : AnyJob) → AskFor (map string_bytes words.now) job →
-        Runs (socket_rules S.opens S.closes S.Socket.sends S.Socket.receives S.Socket.receives_within) C.tells job
+        Runs (socket_rules S.opens S.closes S.Socket.sends S.Socket.receives S.Socket.receives_within) S.passes C.tells job
         (streams (I.remaining input.old) (O.contents output.old) (E.contents errors.old) sockets.old clock.old) result
         (streams (I.remaining input.new) (O.contents output.new) (E.contents errors.new) sockets.new clock.new) }
     // Of words with a wrong value this is told, and nothing else is done.

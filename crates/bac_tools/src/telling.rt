@@ -3,14 +3,15 @@
 ghost use Rattle.std.specs.Prelude.{◌≡◌, ◌++◌, ◌∷◌, codes, OnOk, IfOk};
 ghost use Rattle.bac_print.specs.Output.{AppendsPart};
 ghost use Rattle.bac_query.specs.Ends.{cause_text, refusal_text};
-ghost use Rattle.bac_tools.specs.Run.{IsTold};
-ghost use Rattle.bac_print.specs.Addresses.{address_text};
-ghost use Rattle.bac_tools.specs.Texts.{bad_reply, build_text, exchange_text, fault_text, long_text, of_address, open_text, range_text, refusal_lines, script_text, serving_line, told_text, unbuilt_text, word_text, wrong_text};
+ghost use Rattle.bac_heeding.specs.Silence.{silence_text};
+ghost use Rattle.bac_tools.specs.Run.{IsTold, IsToldAfter};
+ghost use Rattle.bac_tools.specs.Texts.{bad_reply, build_text, exchange_text, fault_text, long_text, lost_text, of_address, open_text, range_text, refusal_lines, script_text, serving_line, told_after, unbuilt_text, word_text, wrong_text};
 
 use crate::fault::Fault;
 use crate::flaw::push_reply_flaw;
 use crate::reason::{push_list, push_second_line, push_unanswered};
 use bac_device::BuildFault;
+use bac_heeding::{Passed, push_silence};
 use bac_link::{ExchangeFault, Refusal};
 use bac_ports::OpenFault;
 use bac_print::{push_address, push_number, write_text};
@@ -43,6 +44,7 @@ fn range_of<'a>(word: Word) -> &'a str
         Word::From => "a number from 1 to 4294967295, or oldest",
         Word::Value => "a value of the tag: none for 0, else one; bac wp --help has the tags",
         Word::Timeout => "a number from 1 to 60000",
+        Word::Records => "a number from 1 to 100",
         Word::Retries => "a number from 0 to 10",
         Word::Dnet => "a number from 1 to 65534, beside --dadr; for bac wi from 1 to 65535",
         Word::Dadr => "2 to 30 hexadecimal digits, an even number, beside --dnet",
@@ -165,25 +167,26 @@ fn push_bad_reply(text: &mut Vec<u8>) -> Result<(), AllocError>
     text.extend_from_slice(b"the reply is no ACK of this request, is in segments, or can't be read")
 }
 
-/// Appends what is said of an address.
-fn push_said(text: &mut Vec<u8>, said: &str, address: [u8; 6]) -> Result<(), AllocError>
-    ensures { OnOk result (text.new.items ≡ text.old.items ++ (said.now ++ address_text address)) }
+/// Appends that the answer of an address didn't come, and what passed in its place.
+fn push_lost(text: &mut Vec<u8>, passed: Passed, address: [u8; 6]) -> Result<(), AllocError>
+    ensures { OnOk result (text.new.items ≡ text.old.items ++ lost_text passed address) }
 {
-    text.extend_from_slice(said.as_bytes())?;
-    push_address(text, address)
+    text.extend_from_slice(b"lost\n")?;
+    push_silence(text, address, passed)
 }
 
 /// Appends why an exchange with an address brought no ACK.
 #[tactic(auto, unfolding(crate::specs::Texts::exchange_text))]
 fn push_exchange(
     text: &mut Vec<u8>,
+    passed: Passed,
     address: [u8; 6],
     fault: ExchangeFault,
 ) -> Result<(), AllocError>
-    ensures { OnOk result (text.new.items ≡ text.old.items ++ exchange_text address fault) }
+    ensures { OnOk result (text.new.items ≡ text.old.items ++ exchange_text passed address fault) }
 {
     match fault {
-        ExchangeFault::Lost => push_of_address(text, "lost", "no answer came from ", address),
+        ExchangeFault::Lost => push_lost(text, passed, address),
         ExchangeFault::Refused(refusal) => push_refused_by(text, refusal),
         ExchangeFault::BadReply => push_bad_reply(text),
         ExchangeFault::TooLong => text.extend_from_slice(b"bad value\nthe request is too long"),
@@ -211,10 +214,10 @@ fn push_unopened(text: &mut Vec<u8>, why: OpenFault) -> Result<(), AllocError>
     }
 }
 
-/// Appends what is told of a fault.
+/// Appends what is told of a fault after its last question.
 #[tactic(auto, unfolding(crate::specs::Texts::fault_text))]
-fn push_fault(text: &mut Vec<u8>, fault: Fault) -> Result<(), AllocError>
-    ensures { OnOk result (text.new.items ≡ text.old.items ++ fault_text fault) }
+fn push_fault(text: &mut Vec<u8>, passed: Passed, fault: Fault) -> Result<(), AllocError>
+    ensures { OnOk result (text.new.items ≡ text.old.items ++ fault_text passed fault) }
 {
     match fault {
         Fault::NotText => text.extend_from_slice(b"bad value\na word isn't UTF-8"),
@@ -235,9 +238,9 @@ fn push_fault(text: &mut Vec<u8>, fault: Fault) -> Result<(), AllocError>
         ),
         Fault::NoAnswer(asked) => push_unanswered(text, asked),
         Fault::List(fault) => push_list(text, fault),
-        Fault::Exchange { address, fault } => push_exchange(text, address, fault),
+        Fault::Exchange { address, fault } => push_exchange(text, passed, address, fault),
         Fault::Flawed(flaw) => push_reply_flaw(text, flaw),
-        Fault::Silent(address) => push_said(text, "no answer came from ", address),
+        Fault::Silent(address) => push_silence(text, address, passed),
         Fault::Declined(refusal) => push_cause(text, refusal),
         Fault::Write => text.extend_from_slice(b"write fault"),
         Fault::Memory => text.extend_from_slice(b"out of memory"),
@@ -245,11 +248,11 @@ fn push_fault(text: &mut Vec<u8>, fault: Fault) -> Result<(), AllocError>
 }
 
 /// The lines that tell a fault.
-fn text_of(alloc: Global, fault: Fault) -> Result<Vec<u8>, AllocError>
-    ensures { IfOk result (λ text. text.items ≡ told_text fault) }
+fn text_of(alloc: Global, passed: Passed, fault: Fault) -> Result<Vec<u8>, AllocError>
+    ensures { IfOk result (λ text. text.items ≡ told_after passed fault) }
 {
     let mut text = Vec::new(alloc);
-    push_fault(&mut text, fault)?;
+    push_fault(&mut text, passed, fault)?;
     text.extend_from_slice(b"\n")?;
     Ok(text)
 }
@@ -273,13 +276,14 @@ pub(crate) fn say<E: Write>(text: &[u8], errors: &mut E)
     let _ = write_text(errors, text);
 }
 
-/// Tells a fault with one write, and answers its exit status; a refused write changes nothing.
-/// Without memory for its text, it is out of memory in its place.
-pub fn tell<E: Write>(alloc: Global, fault: Fault, errors: &mut E) -> u8
-    ensures { IsTold fault (E.contents errors.old) (E.contents errors.new) result }
+/// Tells a fault with one write, and answers its exit status; a refused write changes nothing. What
+/// passed since the last question is told where its answer didn't come. Without memory for its text,
+/// it is out of memory in its place.
+pub fn tell_after<E: Write>(alloc: Global, passed: Passed, fault: Fault, errors: &mut E) -> u8
+    ensures { IsToldAfter passed fault (E.contents errors.old) (E.contents errors.new) result }
 {
     let status = fault.status();
-    match text_of(alloc, fault) {
+    match text_of(alloc, passed, fault) {
         Ok(text) => {
             say(&text, errors);
             status
@@ -289,4 +293,11 @@ pub fn tell<E: Write>(alloc: Global, fault: Fault, errors: &mut E) -> u8
             Fault::Memory.status()
         }
     }
+}
+
+/// The same where nothing was asked.
+pub fn tell<E: Write>(alloc: Global, fault: Fault, errors: &mut E) -> u8
+    ensures { IsTold fault (E.contents errors.old) (E.contents errors.new) result }
+{
+    tell_after(alloc, Passed::nothing(), fault, errors)
 }

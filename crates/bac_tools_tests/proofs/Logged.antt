@@ -2,6 +2,8 @@
 -- doesn't change, all of it; and whatever is refused, a front part of it.
 use Rattle.std.proofs.Common.{Bool, ◌≡◌, ◌⊎◌, ◌∙◌, inl, inr, ℕ, ◌+◌, ◌-◌, ◌<◌, ◌≤◌, max, List, [], ◌∷◌, ◌++◌, Option, Some, Result, Ok, Err, false, refl, sym, ap, subst, append-nil, Bool, length, arith}
 use Rattle.std.specs.Io.KnownBytes.{Appends, Keeps}
+use Rattle.bac_heeding.specs.Notes.{nothing as never_asked}
+use Rattle.bac_heeding.specs.declared.notes.Passed.{Passed}
 use Rattle.bac_walk.proofs.Transacted.{brought_plain}
 use Rattle.bac_tools.specs.Sockets.{transactions_with}
 use Rattle.bac_link.specs.declared.transactions.Transactions.{Transactions}
@@ -24,7 +26,7 @@ use Rattle.bac_query.specs.Items.{items_text}
 use Rattle.bac_script.specs.declared.replay.fault.ReplayFault.{ReplayFault}
 use Rattle.bac_script.specs.declared.replay.fault.ReplayFault.TheVariants as replay
 use Rattle.bac_tools.specs.Asking.{of_fetching}
-use Rattle.bac_tools.specs.Run.{IsTold, Runs, walk_from}
+use Rattle.bac_tools.specs.Run.{IsToldAfter, Runs, walk_from}
 use Rattle.bac_query.specs.declared.layout.Layout.TheVariants.{Lines}
 use Rattle.bac_tools_tests.proofs.Plain.{in_lines}
 use Rattle.bac_ports.specs.Sockets.{SocketRules, UsesSocket, link_over, own_address, socket_asks}
@@ -94,9 +96,9 @@ no_fault (Declined refusal) e = omega (arith, e)
 no_fault Write e = omega (arith, e)
 no_fault Memory e = omega (arith, e)
 
-pub not_told : (fault : Fault) (old new : Held) (status : ℕ) → IsTold fault old new status → status ≡ 0 → ⊥
-not_told fault old new status (inl (is, text)) zero = no_fault fault (sym is ∙ zero)
-not_told fault old new status (inr (is, text)) zero = no_fault Memory (sym is ∙ zero)
+pub not_told : (passed : Passed) (fault : Fault) (old new : Held) (status : ℕ) → IsToldAfter passed fault old new status → status ≡ 0 → ⊥
+not_told passed fault old new status (inl (is, text)) zero = no_fault fault (sym is ∙ zero)
+not_told passed fault old new status (inr (is, text)) zero = no_fault Memory (sym is ∙ zero)
 
 -- what is told of a walk over a link
 abbrev pub Over : {P : Type 0} → (UdpLink P → List ℕ → Result (List ℕ) Loss → UdpLink P → Type 0) → Asked → WalkPlace → ℕ →
@@ -227,64 +229,64 @@ cut_over asks left items steps n e after (Err (query.Exchange fault)) old new te
 
 -- ---- over a socket
 
-pub logged : {S P C : Type 0} (rules : SocketRules S P) (tells : C → Option CivilTime → C → Type 0) (asked : Asked)
-    (instance steps : ℕ) (from : Option ℕ) (trace : Bool) (old new : Streams S C) (status : ℕ) →
-    Runs rules tells (Log asked instance from steps false trace) old status new → status ≡ 0 →
+pub logged : {S P C : Type 0} (rules : SocketRules S P) (passes : S → Passed) (tells : C → Option CivilTime → C → Type 0) (asked : Asked)
+    (instance steps count : ℕ) (from : Option ℕ) (trace : Bool) (old new : Streams S C) (status : ℕ) →
+    Runs rules passes tells (Log asked instance from steps count false trace) old status new → status ≡ 0 →
     UsesSocket rules (own_address asked.local) asked.timeout old.sockets
-    (λ port last. IsLogged rules asked (walk_from instance from) port last old.output new.output) new.sockets
-logged rules tells asked instance steps from trace old new status (inl told) zero =
-    absurd (not_told Memory old.errors new.errors status told.0 zero)
-logged rules tells asked instance steps from trace old new status (inr (Err fault, said, works, ends)) zero =
-    absurd (not_told fault said new.errors status ends zero)
-logged rules tells asked instance steps from trace old new status (inr (Ok done, said, (inl unasked, quiet), ends)) zero =
+    (λ port last. IsLogged rules asked (walk_from instance from count) port last old.output new.output) new.sockets
+logged rules passes tells asked instance steps count from trace old new status (inl told) zero =
+    absurd (not_told never_asked Memory old.errors new.errors status told.0 zero)
+logged rules passes tells asked instance steps count from trace old new status (inr (Err fault, said, works, ends)) zero =
+    absurd (not_told (passes new.sockets) fault said new.errors status ends zero)
+logged rules passes tells asked instance steps count from trace old new status (inr (Ok done, said, (inl unasked, quiet), ends)) zero =
     absurd (let e = unasked.1.1 in cc)
-logged rules tells asked instance steps from trace old new status (inr (Ok done, said, (inr (inl (fault, opens, is_shut, closed)), quiet), ends)) zero =
+logged rules passes tells asked instance steps count from trace old new status (inr (Ok done, said, (inr (inl (fault, opens, is_shut, closed)), quiet), ends)) zero =
     absurd (let e = is_shut in cc)
-logged rules tells asked instance steps from trace old new status (inr (Ok done, said, (inr (inr (port, between, last, opens, (fetching, left, over, is_last, is), closes)), quiet), ends)) zero = (
+logged rules passes tells asked instance steps count from trace old new status (inr (Ok done, said, (inr (inr (port, between, last, opens, (fetching, left, over, is_last, is), closes)), quiet), ends)) zero = (
   port,
   between,
   last,
   opens,
-  fetched rules asked (walk_from instance from) steps port last old.output new.output done fetching (in_lines rules asked (walk_from instance from) steps (link_over asked.address port) fetching left old.output new.output over.0).0.0 left (sym ends.0 ∙ zero) is_last (in_lines rules asked (walk_from instance from) steps (link_over asked.address port) fetching left old.output new.output over.0).0.1 is,
+  fetched rules asked (walk_from instance from count) steps port last old.output new.output done fetching (in_lines rules asked (walk_from instance from count) steps (link_over asked.address port) fetching left old.output new.output over.0).0.0 left (sym ends.0 ∙ zero) is_last (in_lines rules asked (walk_from instance from count) steps (link_over asked.address port) fetching left old.output new.output over.0).0.1 is,
   closes,
 )
 
-pub logged_at_rest : {S P C : Type 0} (rules : SocketRules S P) (tells : C → Option CivilTime → C → Type 0) (asked : Asked)
-    (instance steps number : ℕ) (trace : Bool) (old new : Streams S C) (status : ℕ) →
-    Runs rules tells (Log asked instance (Some number) steps false trace) old status new → status ≡ 0 →
+pub logged_at_rest : {S P C : Type 0} (rules : SocketRules S P) (passes : S → Passed) (tells : C → Option CivilTime → C → Type 0) (asked : Asked)
+    (instance steps count number : ℕ) (trace : Bool) (old new : Streams S C) (status : ℕ) →
+    Runs rules passes tells (Log asked instance (Some number) steps count false trace) old status new → status ≡ 0 →
     UsesSocket rules (own_address asked.local) asked.timeout old.sockets
-    (λ port last. IsLoggedAtRest rules asked (walk_from instance (Some number)) steps port last old.output new.output)
+    (λ port last. IsLoggedAtRest rules asked (walk_from instance (Some number) count) steps port last old.output new.output)
     new.sockets
-logged_at_rest rules tells asked instance steps number trace old new status (inl told) zero =
-    absurd (not_told Memory old.errors new.errors status told.0 zero)
-logged_at_rest rules tells asked instance steps number trace old new status (inr (Err fault, said, works, ends)) zero =
-    absurd (not_told fault said new.errors status ends zero)
-logged_at_rest rules tells asked instance steps number trace old new status (inr (Ok done, said, (inl unasked, quiet), ends)) zero =
+logged_at_rest rules passes tells asked instance steps count number trace old new status (inl told) zero =
+    absurd (not_told never_asked Memory old.errors new.errors status told.0 zero)
+logged_at_rest rules passes tells asked instance steps count number trace old new status (inr (Err fault, said, works, ends)) zero =
+    absurd (not_told (passes new.sockets) fault said new.errors status ends zero)
+logged_at_rest rules passes tells asked instance steps count number trace old new status (inr (Ok done, said, (inl unasked, quiet), ends)) zero =
     absurd (let e = unasked.1.1 in cc)
-logged_at_rest rules tells asked instance steps number trace old new status (inr (Ok done, said, (inr (inl (fault, opens, is_shut, closed)), quiet), ends)) zero =
+logged_at_rest rules passes tells asked instance steps count number trace old new status (inr (Ok done, said, (inr (inl (fault, opens, is_shut, closed)), quiet), ends)) zero =
     absurd (let e = is_shut in cc)
-logged_at_rest rules tells asked instance steps number trace old new status (inr (Ok done, said, (inr (inr (port, between, last, opens, (fetching, left, over, is_last, is), closes)), quiet), ends)) zero = (
+logged_at_rest rules passes tells asked instance steps count number trace old new status (inr (Ok done, said, (inr (inr (port, between, last, opens, (fetching, left, over, is_last, is), closes)), quiet), ends)) zero = (
   port,
   between,
   last,
   opens,
-  rested rules asked (walk_from instance (Some number)) steps port last old.output new.output done fetching (in_lines rules asked (walk_from instance (Some number)) steps (link_over asked.address port) fetching left old.output new.output over.0).0.0 left (sym ends.0 ∙ zero) is_last refl (in_lines rules asked (walk_from instance (Some number)) steps (link_over asked.address port) fetching left old.output new.output over.0).0.1 is,
+  rested rules asked (walk_from instance (Some number) count) steps port last old.output new.output done fetching (in_lines rules asked (walk_from instance (Some number) count) steps (link_over asked.address port) fetching left old.output new.output over.0).0.0 left (sym ends.0 ∙ zero) is_last refl (in_lines rules asked (walk_from instance (Some number) count) steps (link_over asked.address port) fetching left old.output new.output over.0).0.1 is,
   closes,
 )
 
-pub printed_in_order : {S P C : Type 0} (rules : SocketRules S P) (tells : C → Option CivilTime → C → Type 0) (asked : Asked)
-    (instance steps : ℕ) (from : Option ℕ) (trace : Bool) (old new : Streams S C) (status : ℕ) →
-    Runs rules tells (Log asked instance from steps false trace) old status new →
+pub printed_in_order : {S P C : Type 0} (rules : SocketRules S P) (passes : S → Passed) (tells : C → Option CivilTime → C → Type 0) (asked : Asked)
+    (instance steps count : ℕ) (from : Option ℕ) (trace : Bool) (old new : Streams S C) (status : ℕ) →
+    Runs rules passes tells (Log asked instance from steps count false trace) old status new →
     Keeps old.output new.output
     ⊎ UsesSocket rules (own_address asked.local) asked.timeout old.sockets
-    (λ port last. IsCut rules asked (walk_from instance from) port old.output new.output) new.sockets
-printed_in_order rules tells asked instance steps from trace old new status (inl told) = inl told.1
-printed_in_order rules tells asked instance steps from trace old new status (inr (result, said, (inl unasked, quiet), ends)) = inl unasked.2
-printed_in_order rules tells asked instance steps from trace old new status (inr (result, said, (inr (inl (fault, opens, is_shut, closed)), quiet), ends)) =
+    (λ port last. IsCut rules asked (walk_from instance from count) port old.output new.output) new.sockets
+printed_in_order rules passes tells asked instance steps count from trace old new status (inl told) = inl told.1
+printed_in_order rules passes tells asked instance steps count from trace old new status (inr (result, said, (inl unasked, quiet), ends)) = inl unasked.2
+printed_in_order rules passes tells asked instance steps count from trace old new status (inr (result, said, (inr (inl (fault, opens, is_shut, closed)), quiet), ends)) =
     inl closed
-printed_in_order rules tells asked instance steps from trace old new status (inr (result, said, (inr (inr (port, between, last, opens, (fetching, left, over, is_last, is), closes)), quiet), ends)) =
-    let (came, items, n, ended, after, half, mid, begun, printed, headline, contradicts) = (in_lines rules asked (walk_from instance from) steps (link_over asked.address port) fetching left old.output new.output over.0).0.1 in
-    let brought = brought_plain (socket_asks rules) (transactions_with asked) half (link_over asked.address port) mid (walk_from instance from) after n came items ended begun in
+printed_in_order rules passes tells asked instance steps count from trace old new status (inr (result, said, (inr (inr (port, between, last, opens, (fetching, left, over, is_last, is), closes)), quiet), ends)) =
+    let (came, items, n, ended, after, half, mid, begun, printed, headline, contradicts) = (in_lines rules asked (walk_from instance from count) steps (link_over asked.address port) fetching left old.output new.output over.0).0.1 in
+    let brought = brought_plain (socket_asks rules) (transactions_with asked) half (link_over asked.address port) mid (walk_from instance from count) after n came items ended begun in
     inr (
       port,
       between,

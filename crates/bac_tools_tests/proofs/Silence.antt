@@ -2,6 +2,8 @@
 -- fault only if a socket failed.
 use Rattle.std.proofs.Common.{Bool, false, ◌≡◌, ◌∙◌, inl, inr, lit<, ℕ, zero, suc, ◌+◌, ◌<◌, List, [], ◌∷◌, ◌++◌, Option, Some, None, Ok, Err, refl, sym, ap, subst, append-nil, arith}
 use Rattle.std.specs.Io.KnownBytes.{Keeps}
+use Rattle.bac_heeding.specs.Notes.{nothing as never_asked}
+use Rattle.bac_heeding.specs.declared.notes.Passed.{Passed}
 use Rattle.bac_walk.proofs.Transacted.{brought_plain}
 use Rattle.bac_tools.specs.Sockets.{transactions_with}
 use Rattle.bac_link.specs.declared.transactions.Transactions.{Transactions}
@@ -107,34 +109,34 @@ not_written rules silent asked question old result new (inr (port, between, last
 not_written rules silent asked question old result new (inr (port, between, last, opens, (answer, left, (Err why, exchanged, (told, keeps)), is_last, is), closes)) =
     (λ done good. query_end asked.address answer (query.Exchange why) result done told is good, keeps)
 
-pub no_rp : {S P C : Type 0} (rules : SocketRules S P) (tells : C → Option CivilTime → C → Type 0) (asked : Asked)
+pub no_rp : {S P C : Type 0} (rules : SocketRules S P) (passes : S → Passed) (tells : C → Option CivilTime → C → Type 0) (asked : Asked)
     (object_type instance property : ℕ) (index : Option ℕ) (numbers trace : Bool) (old new : Streams S C) (status : ℕ) →
-    Runs rules tells (Rp asked object_type instance property index numbers trace) old status new → IsSilent rules.receives →
+    Runs rules passes tells (Rp asked object_type instance property index numbers trace) old status new → IsSilent rules.receives →
     (status ≡ 0 → ⊥) × Keeps old.output new.output
-no_rp rules tells asked object_type instance property index numbers trace old new status (inl told) silent =
-    (λ none. not_told fault.Memory old.errors new.errors status told.0 none, told.1)
-no_rp rules tells asked object_type instance property index numbers trace old new status (inr (Err why, said, (inl unasked, quiet), ends)) silent =
-    (λ none. not_told why said new.errors status ends none, unasked.1.1)
-no_rp rules tells asked object_type instance property index numbers trace old new status (inr (Err why, said, (inr reads, quiet), ends)) silent =
-    (λ none. not_told why said new.errors status ends none, (no_values rules silent asked _ _ _ _ _ reads).1)
-no_rp rules tells asked object_type instance property index numbers trace old new status (inr (Ok done, said, (inl unasked, quiet), ends)) silent =
+no_rp rules passes tells asked object_type instance property index numbers trace old new status (inl told) silent =
+    (λ none. not_told never_asked fault.Memory old.errors new.errors status told.0 none, told.1)
+no_rp rules passes tells asked object_type instance property index numbers trace old new status (inr (Err why, said, (inl unasked, quiet), ends)) silent =
+    (λ none. not_told (passes new.sockets) why said new.errors status ends none, unasked.1.1)
+no_rp rules passes tells asked object_type instance property index numbers trace old new status (inr (Err why, said, (inr reads, quiet), ends)) silent =
+    (λ none. not_told (passes new.sockets) why said new.errors status ends none, (no_values rules silent asked _ _ _ _ _ reads).1)
+no_rp rules passes tells asked object_type instance property index numbers trace old new status (inr (Ok done, said, (inl unasked, quiet), ends)) silent =
     absurd (let e = unasked.1.0 in cc)
-no_rp rules tells asked object_type instance property index numbers trace old new status (inr (Ok done, said, (inr reads, quiet), ends)) silent =
+no_rp rules passes tells asked object_type instance property index numbers trace old new status (inr (Ok done, said, (inr reads, quiet), ends)) silent =
     absurd ((no_values rules silent asked _ _ _ _ _ reads).0 done refl)
 
-pub no_wp : {S P C : Type 0} (rules : SocketRules S P) (tells : C → Option CivilTime → C → Type 0) (asked : Asked)
+pub no_wp : {S P C : Type 0} (rules : SocketRules S P) (passes : S → Passed) (tells : C → Option CivilTime → C → Type 0) (asked : Asked)
     (object_type instance property priority : ℕ) (given : Given) (index : Option ℕ) (trace : Bool) (old new : Streams S C) (status : ℕ) →
-    Runs rules tells (Wp asked object_type instance property priority given index trace) old status new → IsSilent rules.receives →
+    Runs rules passes tells (Wp asked object_type instance property priority given index trace) old status new → IsSilent rules.receives →
     (status ≡ 0 → ⊥) × Keeps old.output new.output
-no_wp rules tells asked object_type instance property priority given index trace old new status (inl told) silent =
-    (λ none. not_told fault.Memory old.errors new.errors status told.0 none, told.1)
-no_wp rules tells asked object_type instance property priority given index trace old new status (inr (Err why, said, (inl unasked, quiet), ends)) silent =
-    (λ none. not_told why said new.errors status ends none, unasked.1.1)
-no_wp rules tells asked object_type instance property priority given index trace old new status (inr (Err why, said, (inr (w, is, writes), quiet), ends)) silent =
-    (λ none. not_told why said new.errors status ends none, (not_written rules silent asked _ _ _ _ writes).1)
-no_wp rules tells asked object_type instance property priority given index trace old new status (inr (Ok done, said, (inl unasked, quiet), ends)) silent =
+no_wp rules passes tells asked object_type instance property priority given index trace old new status (inl told) silent =
+    (λ none. not_told never_asked fault.Memory old.errors new.errors status told.0 none, told.1)
+no_wp rules passes tells asked object_type instance property priority given index trace old new status (inr (Err why, said, (inl unasked, quiet), ends)) silent =
+    (λ none. not_told (passes new.sockets) why said new.errors status ends none, unasked.1.1)
+no_wp rules passes tells asked object_type instance property priority given index trace old new status (inr (Err why, said, (inr (w, is, writes), quiet), ends)) silent =
+    (λ none. not_told (passes new.sockets) why said new.errors status ends none, (not_written rules silent asked _ _ _ _ writes).1)
+no_wp rules passes tells asked object_type instance property priority given index trace old new status (inr (Ok done, said, (inl unasked, quiet), ends)) silent =
     absurd (let e = unasked.1.0 in cc)
-no_wp rules tells asked object_type instance property priority given index trace old new status (inr (Ok done, said, (inr (w, is, writes), quiet), ends)) silent =
+no_wp rules passes tells asked object_type instance property priority given index trace old new status (inr (Ok done, said, (inr (w, is, writes), quiet), ends)) silent =
     absurd ((not_written rules silent asked _ _ _ _ writes).0 done refl)
 
 -- ---- log
@@ -212,34 +214,34 @@ no_status rules silent asked w steps link (Ok fetched) end left old new done ove
     let e = end_of asked.address done fetched.why fetched.flaw is in
     no_end rules silent (towards asked.route) asked.retries n steps link w came items ended after mid fetched.why fetched.next brought tells.0 some (sym e ∙ none)
 
-pub no_log : {S P C : Type 0} (rules : SocketRules S P) (tells : C → Option CivilTime → C → Type 0) (asked : Asked)
-    (instance steps : ℕ) (from : Option ℕ) (trace : Bool) (old new : Streams S C) (status : ℕ) →
-    Runs rules tells (Log asked instance from steps false trace) old status new → IsSilent rules.receives →
+pub no_log : {S P C : Type 0} (rules : SocketRules S P) (passes : S → Passed) (tells : C → Option CivilTime → C → Type 0) (asked : Asked)
+    (instance steps count : ℕ) (from : Option ℕ) (trace : Bool) (old new : Streams S C) (status : ℕ) →
+    Runs rules passes tells (Log asked instance from steps count false trace) old status new → IsSilent rules.receives →
     (0 < steps → status ≡ 0 → ⊥) × ((w : Why) × (next : ℕ) × AppendsPart old.output new.output (end_line w next))
-no_log rules tells asked instance steps from trace old new status (inl told) silent =
-    (λ some none. not_told fault.Memory old.errors new.errors status told.0 none, nothing old.output new.output told.1)
-no_log rules tells asked instance steps from trace old new status (inr (result, said, (inl unasked, quiet), ends)) silent =
+no_log rules passes tells asked instance steps count from trace old new status (inl told) silent =
+    (λ some none. not_told never_asked fault.Memory old.errors new.errors status told.0 none, nothing old.output new.output told.1)
+no_log rules passes tells asked instance steps count from trace old new status (inr (result, said, (inl unasked, quiet), ends)) silent =
     (λ some none. bad result unasked.1.1 ends none, nothing old.output new.output unasked.2)
   where
-    bad : (r : Ending) → r ≡ Err unasked.0 → Ends r said new.errors status → status ≡ 0 → ⊥
+    bad : (r : Ending) → r ≡ Err unasked.0 → Ends (passes new.sockets) r said new.errors status → status ≡ 0 → ⊥
     bad (Ok done) is ends none = absurd (cc)
-    bad (Err why) is ends none = not_told why said new.errors status ends none
-no_log rules tells asked instance steps from trace old new status (inr (Err why, said, (inr (inl (shut, opens, is_shut, closed)), quiet), ends)) silent =
-    (λ some none. not_told why said new.errors status ends none, nothing old.output new.output closed)
-no_log rules tells asked instance steps from trace old new status (inr (Ok done, said, (inr (inl (shut, opens, is_shut, closed)), quiet), ends)) silent =
+    bad (Err why) is ends none = not_told (passes new.sockets) why said new.errors status ends none
+no_log rules passes tells asked instance steps count from trace old new status (inr (Err why, said, (inr (inl (shut, opens, is_shut, closed)), quiet), ends)) silent =
+    (λ some none. not_told (passes new.sockets) why said new.errors status ends none, nothing old.output new.output closed)
+no_log rules passes tells asked instance steps count from trace old new status (inr (Ok done, said, (inr (inl (shut, opens, is_shut, closed)), quiet), ends)) silent =
     absurd (let e = is_shut in cc)
-no_log rules tells asked instance steps from trace old new status (inr (Err why, said, (inr (inr (port, between, last, opens, (fetching, left, over, is_last, is), closes)), quiet), ends)) silent =
-    let (came, items, n, ended, after, half, mid, begun, printed, headline, contradicts) = (in_lines rules asked (walk_from instance from) steps (link_over asked.address port) fetching left old.output new.output over.0).0.1 in
-    let brought = brought_plain (socket_asks rules) (transactions_with asked) half (link_over asked.address port) mid (walk_from instance from) after n came items ended begun in
-    let none = no_reply rules silent (towards asked.route) asked.retries n (link_over asked.address port) (walk_from instance from) came items ended after mid brought in (
-      λ some zero. not_told why said new.errors status ends zero,
+no_log rules passes tells asked instance steps count from trace old new status (inr (Err why, said, (inr (inr (port, between, last, opens, (fetching, left, over, is_last, is), closes)), quiet), ends)) silent =
+    let (came, items, n, ended, after, half, mid, begun, printed, headline, contradicts) = (in_lines rules asked (walk_from instance from count) steps (link_over asked.address port) fetching left old.output new.output over.0).0.1 in
+    let brought = brought_plain (socket_asks rules) (transactions_with asked) half (link_over asked.address port) mid (walk_from instance from count) after n came items ended begun in
+    let none = no_reply rules silent (towards asked.route) asked.retries n (link_over asked.address port) (walk_from instance from count) came items ended after mid brought in (
+      λ some zero. not_told (passes new.sockets) why said new.errors status ends zero,
       end_alone items old.output new.output none.1 (cut_over (socket_asks rules) _ items steps n ended after fetching old.output new.output printed),
     )
-no_log rules tells asked instance steps from trace old new status (inr (Ok done, said, (inr (inr (port, between, last, opens, (fetching, left, over, is_last, is), closes)), quiet), ends)) silent =
-    let (came, items, n, ended, after, half, mid, begun, printed, headline, contradicts) = (in_lines rules asked (walk_from instance from) steps (link_over asked.address port) fetching left old.output new.output over.0).0.1 in
-    let brought = brought_plain (socket_asks rules) (transactions_with asked) half (link_over asked.address port) mid (walk_from instance from) after n came items ended begun in
-    let none = no_reply rules silent (towards asked.route) asked.retries n (link_over asked.address port) (walk_from instance from) came items ended after mid brought in (
-      λ some zero. no_status rules silent asked (walk_from instance from) steps (link_over asked.address port) fetching (in_lines rules asked (walk_from instance from) steps (link_over asked.address port) fetching left old.output new.output over.0).0.0 left old.output new.output done (in_lines rules asked (walk_from instance from) steps (link_over asked.address port) fetching left old.output new.output over.0).0.1 is some (sym ends.0 ∙ zero),
+no_log rules passes tells asked instance steps count from trace old new status (inr (Ok done, said, (inr (inr (port, between, last, opens, (fetching, left, over, is_last, is), closes)), quiet), ends)) silent =
+    let (came, items, n, ended, after, half, mid, begun, printed, headline, contradicts) = (in_lines rules asked (walk_from instance from count) steps (link_over asked.address port) fetching left old.output new.output over.0).0.1 in
+    let brought = brought_plain (socket_asks rules) (transactions_with asked) half (link_over asked.address port) mid (walk_from instance from count) after n came items ended begun in
+    let none = no_reply rules silent (towards asked.route) asked.retries n (link_over asked.address port) (walk_from instance from count) came items ended after mid brought in (
+      λ some zero. no_status rules silent asked (walk_from instance from count) steps (link_over asked.address port) fetching (in_lines rules asked (walk_from instance from count) steps (link_over asked.address port) fetching left old.output new.output over.0).0.0 left old.output new.output done (in_lines rules asked (walk_from instance from count) steps (link_over asked.address port) fetching left old.output new.output over.0).0.1 is some (sym ends.0 ∙ zero),
       end_alone items old.output new.output none.1 (cut_over (socket_asks rules) _ items steps n ended after fetching old.output new.output printed),
     )
 

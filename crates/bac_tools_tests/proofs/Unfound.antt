@@ -1,6 +1,8 @@
 -- Where no datagram comes no device is found.
 use Rattle.std.proofs.Common.{◌≡◌, ◌∙◌, ℕ, Bool, true, false, List, [], ◌∷◌, Option, Some, None, Ok, Err, inl, inr, refl, sym, subst, append-nil, length}
 use Rattle.std.specs.Io.KnownBytes.{Appends, Keeps}
+use Rattle.bac_heeding.specs.Notes.{nothing as never_asked}
+use Rattle.bac_heeding.specs.declared.notes.Passed.{Passed}
 use Rattle.bac_query.specs.Announcements.{Announcement}
 use Rattle.bac_query.specs.Finding.{Console, Finds, told_of}
 use Rattle.bac_query.specs.Hearing.{Found, Held}
@@ -82,19 +84,19 @@ found_end : (asked : ℕ) (found : Found) (done : ℕ) → Ok done ≡ of_found 
 found_end asked (Ok tt) done is never = never refl
 found_end asked (Err why) done is never = cc
 
-pub no_wi : {S P C : Type 0} (rules : SocketRules S P) (tells : C → Option CivilTime → C → Type 0)
+pub no_wi : {S P C : Type 0} (rules : SocketRules S P) (passes : S → Passed) (tells : C → Option CivilTime → C → Type 0)
     (addresses : List (List ℕ)) (min max dnet : Option ℕ) (local : Option (List ℕ)) (timeout : ℕ) (trace : Bool) (old new : Streams S C)
-    (status : ℕ) → Runs rules tells (Wi (Listed addresses) min max dnet local timeout trace) old status new → IsSilent rules.receives →
+    (status : ℕ) → Runs rules passes tells (Wi (Listed addresses) min max dnet local timeout trace) old status new → IsSilent rules.receives →
     IsSilentWithin rules.receives_within → (status ≡ 0 → ⊥) × Keeps old.output new.output
-no_wi rules tells addresses min max dnet local timeout trace old new status (inl told) silent still =
-    (λ none. not_told fault.Memory old.errors new.errors status told.0 none, told.1)
-no_wi rules tells addresses min max dnet local timeout trace old new status (inr (Err why, said, ((kept, (inl (shut, opens, is_shut, closed))), quiet), ends)) silent still =
-    (λ none. not_told why said new.errors status ends none, closed)
-no_wi rules tells addresses min max dnet local timeout trace old new status (inr (Ok done, said, ((kept, (inl (shut, opens, is_shut, closed))), quiet), ends)) silent still =
+no_wi rules passes tells addresses min max dnet local timeout trace old new status (inl told) silent still =
+    (λ none. not_told never_asked fault.Memory old.errors new.errors status told.0 none, told.1)
+no_wi rules passes tells addresses min max dnet local timeout trace old new status (inr (Err why, said, ((kept, (inl (shut, opens, is_shut, closed))), quiet), ends)) silent still =
+    (λ none. not_told (passes new.sockets) why said new.errors status ends none, closed)
+no_wi rules passes tells addresses min max dnet local timeout trace old new status (inr (Ok done, said, ((kept, (inl (shut, opens, is_shut, closed))), quiet), ends)) silent still =
     absurd (let e = is_shut in cc)
-no_wi rules tells addresses min max dnet local timeout trace old new status (inr (Err why, said, ((kept, (inr (port, between, last, opens, (found, finds, is), closes))), quiet), ends)) silent still =
+no_wi rules passes tells addresses min max dnet local timeout trace old new status (inr (Err why, said, ((kept, (inr (port, between, last, opens, (found, finds, is), closes))), quiet), ends)) silent still =
     let both = unfound rules.sends rules.receives rules.receives_within silent still 4096 _ addresses _ found _ finds in
-    (λ none. not_told why said new.errors status ends none, both.1)
-no_wi rules tells addresses min max dnet local timeout trace old new status (inr (Ok done, said, ((kept, (inr (port, between, last, opens, (found, finds, is), closes))), quiet), ends)) silent still =
+    (λ none. not_told (passes new.sockets) why said new.errors status ends none, both.1)
+no_wi rules passes tells addresses min max dnet local timeout trace old new status (inr (Ok done, said, ((kept, (inr (port, between, last, opens, (found, finds, is), closes))), quiet), ends)) silent still =
     let both = unfound rules.sends rules.receives rules.receives_within silent still 4096 _ addresses _ found _ finds in
     absurd (found_end (length addresses) found done is both.0)

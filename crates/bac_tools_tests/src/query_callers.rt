@@ -82,7 +82,7 @@ pub fn printed_by_the_standard<L: LogLink, W: Write>(
     out: &mut W,
 ) -> Option<Result<Fetched, QueryFault>>
     ensures { IfSome result (λ fetched. IfOk fetched (λ done. (M : List Moment) (H : History) (k low : ℕ) →
-        IsHonest L.asks (towards None) log H low link.old M → s ≡ sequence_number k →
+        IsHonest L.asks (towards None) log 100 H low link.old M → s ≡ sequence_number k →
         0 < length M → NeverGoesBack M → AreInWindow low M → low ≤ k → k < low + 2147483648 →
         (items : List Item) × (a : ℕ) × (t : ℕ) × (done.next ≡ sequence_number t)
         × DeliversTo H k items t M a

@@ -27,7 +27,7 @@ fn a_device_behind_a_router_is_named(rt: HostRuntime) -> Result<(), Fail> {
                 "Log { asked: Asked { address: [10, 0, 0, 1, 186, 192], local: None, \
                  timeout: 3000, retries: 3, route: Some(Route { net: 7, address: \
                  [1, 2, 3, 4, 5, 6, 7, 8, 9, 10, 11, 12, 13, 14, 15] }) }, instance: 1, \
-                 from: None, steps: 1000, csv: false, trace: false }",
+                 from: None, steps: 1000, count: 100, csv: false, trace: false }",
             ),
         ],
     )

@@ -10,14 +10,14 @@ ghost use Rattle.bac_words.specs.declared.job.Asked.{Asked as AskedOf};
 ghost use Rattle.bac_words.specs.declared.job.Job.TheVariants.{Log};
 
 use crate::streams::Short;
-use bac_tools::{Clock, Sockets, run};
+use bac_tools::{Clock, Heeds, run};
 use std::alloc::Global;
 use std::io::{Read, Write};
 
 /// If the words ask for a log and the status is 0, one socket was opened, what is printed came over
 /// it, and nothing more was done with it until it was closed: it is what a log held, if the replies
 /// say what one log holds.
-pub fn logged<S: Sockets, I: Read, O: Write, E: Write, C: Clock>(
+pub fn logged<S: Heeds, I: Read, O: Write, E: Write, C: Clock>(
     sockets: &mut S,
     alloc: Global,
     words: &[String],
@@ -26,18 +26,18 @@ pub fn logged<S: Sockets, I: Read, O: Write, E: Write, C: Clock>(
     errors: &mut E,
     clock: &mut C,
 ) -> u8
-    ensures { (asked : AskedOf) (instance steps : ℕ) (from : Option ℕ) (trace : Bool) →
-        AskFor (map string_bytes words.now) (Log asked instance from steps false trace) → result ≡ 0 →
+    ensures { (asked : AskedOf) (instance steps count : ℕ) (from : Option ℕ) (trace : Bool) →
+        AskFor (map string_bytes words.now) (Log asked instance from steps count false trace) → result ≡ 0 →
         UsesSocket (socket_rules S.opens S.closes S.Socket.sends S.Socket.receives S.Socket.receives_within) (own_address asked.local) asked.timeout
         sockets.old (λ port last. IsLogged (socket_rules S.opens S.closes S.Socket.sends S.Socket.receives S.Socket.receives_within) asked
-        (walk_from instance from) port last (O.contents output.old) (O.contents output.new)) sockets.new }
+        (walk_from instance from count) port last (O.contents output.old) (O.contents output.new)) sockets.new }
 {
     run(sockets, alloc, words, input, output, errors, clock)
 }
 
 /// Over a log that doesn't change, with status 0 and steps enough, what is printed are exactly the
 /// records from a number on that the log holds, and that there are no more.
-pub fn logged_at_rest<S: Sockets, I: Read, O: Write, E: Write, C: Clock>(
+pub fn logged_at_rest<S: Heeds, I: Read, O: Write, E: Write, C: Clock>(
     sockets: &mut S,
     alloc: Global,
     words: &[String],
@@ -46,18 +46,18 @@ pub fn logged_at_rest<S: Sockets, I: Read, O: Write, E: Write, C: Clock>(
     errors: &mut E,
     clock: &mut C,
 ) -> u8
-    ensures { (asked : AskedOf) (instance steps number : ℕ) (trace : Bool) →
-        AskFor (map string_bytes words.now) (Log asked instance (Some number) steps false trace) → result ≡ 0 →
+    ensures { (asked : AskedOf) (instance steps count number : ℕ) (trace : Bool) →
+        AskFor (map string_bytes words.now) (Log asked instance (Some number) steps count false trace) → result ≡ 0 →
         UsesSocket (socket_rules S.opens S.closes S.Socket.sends S.Socket.receives S.Socket.receives_within) (own_address asked.local) asked.timeout
         sockets.old (λ port last. IsLoggedAtRest (socket_rules S.opens S.closes S.Socket.sends S.Socket.receives S.Socket.receives_within) asked
-        (walk_from instance (Some number)) steps port last (O.contents output.old) (O.contents output.new)) sockets.new }
+        (walk_from instance (Some number) count) steps port last (O.contents output.old) (O.contents output.new)) sockets.new }
 {
     run(sockets, alloc, words, input, output, errors, clock)
 }
 
 /// If the words ask for a log and the status is 4, one socket was opened, a reply to the walk's last
 /// question came over it, and what is told is wrong with that reply.
-pub fn bad_reply_explained<S: Sockets, I: Read, O: Write, E: Write, C: Clock>(
+pub fn bad_reply_explained<S: Heeds, I: Read, O: Write, E: Write, C: Clock>(
     sockets: &mut S,
     alloc: Global,
     words: &[String],
@@ -66,18 +66,18 @@ pub fn bad_reply_explained<S: Sockets, I: Read, O: Write, E: Write, C: Clock>(
     errors: &mut E,
     clock: &mut C,
 ) -> u8
-    ensures { (asked : AskedOf) (instance steps : ℕ) (from : Option ℕ) (trace : Bool) →
-        AskFor (map string_bytes words.now) (Log asked instance from steps false trace) → result ≡ 4 →
+    ensures { (asked : AskedOf) (instance steps count : ℕ) (from : Option ℕ) (trace : Bool) →
+        AskFor (map string_bytes words.now) (Log asked instance from steps count false trace) → result ≡ 4 →
         UsesSocket (socket_rules S.opens S.closes S.Socket.sends S.Socket.receives S.Socket.receives_within) (own_address asked.local) asked.timeout
         sockets.old (λ port last. IsExplained (socket_rules S.opens S.closes S.Socket.sends S.Socket.receives S.Socket.receives_within) asked
-        (walk_from instance from) last (E.contents errors.old) (E.contents errors.new)) sockets.new }
+        (walk_from instance from count) last (E.contents errors.old) (E.contents errors.new)) sockets.new }
 {
     run(sockets, alloc, words, input, output, errors, clock)
 }
 
 /// Whatever the output refuses, and however the walk ends: what is printed is a front part of what
 /// came, in its order. Nothing is written behind what was refused.
-pub fn printed_in_order<S: Sockets, I: Read, O: Write, E: Write, C: Clock>(
+pub fn printed_in_order<S: Heeds, I: Read, O: Write, E: Write, C: Clock>(
     sockets: &mut S,
     alloc: Global,
     words: &[String],
@@ -86,19 +86,19 @@ pub fn printed_in_order<S: Sockets, I: Read, O: Write, E: Write, C: Clock>(
     errors: &mut E,
     clock: &mut C,
 ) -> u8
-    ensures { (asked : AskedOf) (instance steps : ℕ) (from : Option ℕ) (trace : Bool) →
-        AskFor (map string_bytes words.now) (Log asked instance from steps false trace) →
+    ensures { (asked : AskedOf) (instance steps count : ℕ) (from : Option ℕ) (trace : Bool) →
+        AskFor (map string_bytes words.now) (Log asked instance from steps count false trace) →
         Keeps (O.contents output.old) (O.contents output.new)
         ⊎ UsesSocket (socket_rules S.opens S.closes S.Socket.sends S.Socket.receives S.Socket.receives_within) (own_address asked.local) asked.timeout
         sockets.old (λ port last. IsCut (socket_rules S.opens S.closes S.Socket.sends S.Socket.receives S.Socket.receives_within) asked
-        (walk_from instance from) port (O.contents output.old) (O.contents output.new)) sockets.new }
+        (walk_from instance from count) port (O.contents output.old) (O.contents output.new)) sockets.new }
 {
     run(sockets, alloc, words, input, output, errors, clock)
 }
 
 /// The same of a writer that refuses at a given octet: what it was given up to there is a front
 /// part of what came, and it is given nothing else.
-pub fn printed_until_refused<S: Sockets, I: Read, E: Write, C: Clock>(
+pub fn printed_until_refused<S: Heeds, I: Read, E: Write, C: Clock>(
     sockets: &mut S,
     alloc: Global,
     words: &[String],
@@ -107,12 +107,12 @@ pub fn printed_until_refused<S: Sockets, I: Read, E: Write, C: Clock>(
     errors: &mut E,
     clock: &mut C,
 ) -> u8
-    ensures { (asked : AskedOf) (instance steps : ℕ) (from : Option ℕ) (trace : Bool) →
-        AskFor (map string_bytes words.now) (Log asked instance from steps false trace) →
+    ensures { (asked : AskedOf) (instance steps count : ℕ) (from : Option ℕ) (trace : Bool) →
+        AskFor (map string_bytes words.now) (Log asked instance from steps count false trace) →
         (output.new.text.items ≡ output.old.text.items)
         ⊎ UsesSocket (socket_rules S.opens S.closes S.Socket.sends S.Socket.receives S.Socket.receives_within) (own_address asked.local) asked.timeout
         sockets.old (λ port last. IsCut (socket_rules S.opens S.closes S.Socket.sends S.Socket.receives S.Socket.receives_within) asked
-        (walk_from instance from) port (Some output.old.text.items) (Some output.new.text.items)) sockets.new }
+        (walk_from instance from count) port (Some output.old.text.items) (Some output.new.text.items)) sockets.new }
 {
     printed_in_order(sockets, alloc, words, input, output, errors, clock)
 }

@@ -15,14 +15,14 @@ ghost use Rattle.bac_words.specs.declared.job.Given.{Given as AnyGiven};
 ghost use Rattle.bac_words.specs.declared.job.Job.TheVariants.{Log, Rp, Wi, Wp};
 ghost use Rattle.bac_words.specs.declared.job.Stations.TheVariants.{Listed};
 
-use bac_tools::{Clock, Sockets, run};
+use bac_tools::{Clock, Heeds, Sockets, run};
 use std::alloc::Global;
 use std::io::{Read, Write};
 
 /// Over sockets where no datagram ever comes no tool that asks a device makes up an answer: `rp` and
 /// `wp` print nothing and don't end with status 0, and `log` prints at most the line of its end,
 /// with status 0 only if it is to take no step.
-pub fn nothing_made_up<S: Sockets, I: Read, O: Write, E: Write, C: Clock>(
+pub fn nothing_made_up<S: Heeds, I: Read, O: Write, E: Write, C: Clock>(
     sockets: &mut S,
     alloc: Global,
     words: &[String],
@@ -37,8 +37,8 @@ pub fn nothing_made_up<S: Sockets, I: Read, O: Write, E: Write, C: Clock>(
     ensures wp { (asked : AskedOf) (object_type instance property priority : ℕ) (given : AnyGiven) (index : Option ℕ) (trace : Bool) →
         AskFor (map string_bytes words.now) (Wp asked object_type instance property priority given index trace) → IsSilent S.Socket.receives →
         (result ≡ 0 → ⊥) × Keeps (O.contents output.old) (O.contents output.new) }
-    ensures log { (asked : AskedOf) (instance steps : ℕ) (from : Option ℕ) (trace : Bool) →
-        AskFor (map string_bytes words.now) (Log asked instance from steps false trace) → IsSilent S.Socket.receives →
+    ensures log { (asked : AskedOf) (instance steps count : ℕ) (from : Option ℕ) (trace : Bool) →
+        AskFor (map string_bytes words.now) (Log asked instance from steps count false trace) → IsSilent S.Socket.receives →
         (0 < steps → result ≡ 0 → ⊥)
         × ((why : AnyWhy) × (next : ℕ) × AppendsPart (O.contents output.old) (O.contents output.new) (end_line why next)) }
 {
@@ -47,7 +47,7 @@ pub fn nothing_made_up<S: Sockets, I: Read, O: Write, E: Write, C: Clock>(
 
 /// Over sockets where no datagram ever comes, however long a receive waits, `wi` prints nothing and
 /// doesn't end with status 0.
-pub fn no_device_made_up<S: Sockets, I: Read, O: Write, E: Write, C: Clock>(
+pub fn no_device_made_up<S: Heeds, I: Read, O: Write, E: Write, C: Clock>(
     sockets: &mut S,
     alloc: Global,
     words: &[String],

@@ -197,15 +197,27 @@ fn a_bad_reply_is_told_with_what_is_wrong(rt: HostRuntime) -> Result<(), Fail> {
                 "the reply has records, 2 in all, and item count 9\n",
             ),
             (
-                Fault::Flawed(ReplyFlaw::TooMany(101)),
+                Fault::Flawed(ReplyFlaw::TooMany {
+                    records: 101,
+                    asked: 100,
+                }),
                 4,
                 "the reply has records, 101 in all; 100 were asked for\n",
+            ),
+            (
+                Fault::Flawed(ReplyFlaw::TooMany {
+                    records: 21,
+                    asked: 20,
+                }),
+                4,
+                "the reply has records, 21 in all; 20 were asked for\n",
             ),
             (
                 Fault::Flawed(ReplyFlaw::Unasked {
                     first: 500,
                     records: 3,
                     next: 7,
+                    asked: 100,
                 }),
                 4,
                 "the reply has records, 3 in all, from number 500 on; asked for were 100 from number \

@@ -60,13 +60,13 @@ fn each_tool_with_its_defaults(rt: HostRuntime) -> Result<(), Fail> {
             (
                 "log 10.0.0.1 1 oldest",
                 "Log { asked: Asked { address: [10, 0, 0, 1, 186, 192], local: None, \
-                 timeout: 3000, retries: 3, route: None }, instance: 1, from: None, steps: 1000, \
+                 timeout: 3000, retries: 3, route: None }, instance: 1, from: None, steps: 1000, count: 100, \
                  csv: false, trace: false }",
             ),
             (
                 "keep a.db",
                 "Keep(Keep { file: Name { text: \"a.db\" }, address: None, instances: Names { list: [] }, \
-                 stop: false, trace: false, options: KeepOptions { steps: None, timeout: None, local: None, \
+                 stop: false, trace: false, options: KeepOptions { steps: None, count: None, timeout: None, local: None, \
                  retries: None, dnet: None, dadr: None } })",
             ),
             (
@@ -105,10 +105,10 @@ fn each_tool_with_the_least_values(rt: HostRuntime) -> Result<(), Fail> {
                  instance: 0, property: 0, priority: 0, given: Boolean(false), index: Some(0), trace: false }",
             ),
             (
-                "log 0.0.0.0:1 0 1 --steps=0 --local=0.0.0.0:1 --timeout=1 --retries=0",
+                "log 0.0.0.0:1 0 1 --steps=0 --count=1 --local=0.0.0.0:1 --timeout=1 --retries=0",
                 "Log { asked: Asked { address: [0, 0, 0, 0, 0, 1], \
                  local: Some([0, 0, 0, 0, 0, 1]), timeout: 1, retries: 0, route: None }, instance: 0, \
-                 from: Some(1), steps: 0, csv: false, trace: false }",
+                 from: Some(1), steps: 0, count: 1, csv: false, trace: false }",
             ),
             (
                 "serve 0.0.0.0:1 --count=0",
@@ -147,11 +147,11 @@ fn each_tool_with_the_greatest_values(rt: HostRuntime) -> Result<(), Fail> {
                  given: Enumerated(4294967295), index: Some(4294967295), trace: true }",
             ),
             (
-                "log 255.255.255.255:65535 4194303 4294967295 --steps=4294967295 --csv \
-                 --trace --local=255.255.255.255:65535 --timeout=60000 --retries=10",
+                "log 255.255.255.255:65535 4194303 4294967295 --steps=4294967295 --count=100 \
+                 --csv --trace --local=255.255.255.255:65535 --timeout=60000 --retries=10",
                 "Log { asked: Asked { address: [255, 255, 255, 255, 255, 255], \
                  local: Some([255, 255, 255, 255, 255, 255]), timeout: 60000, retries: 10, route: None }, \
-                 instance: 4194303, from: Some(4294967295), steps: 4294967295, csv: true, trace: true }",
+                 instance: 4194303, from: Some(4294967295), steps: 4294967295, count: 100, csv: true, trace: true }",
             ),
             (
                 "serve 255.255.255.255:65535 --count=4294967295",
@@ -167,11 +167,11 @@ fn keep_and_kept_have_their_texts(rt: HostRuntime) -> Result<(), Fail> {
         &rt,
         &[
             (
-                "keep a.db --stop --trace 10.0.0.1 1 x --steps=5 --timeout=0 --local=b --retries=c --dnet=d --dadr=e",
+                "keep a.db --stop --trace 10.0.0.1 1 x --steps=5 --count=20 --timeout=0 --local=b --retries=c --dnet=d --dadr=e",
                 "Keep(Keep { file: Name { text: \"a.db\" }, address: Some(Name { text: \"10.0.0.1\" }), \
                  instances: Names { list: [Name { text: \"1\" }, Name { text: \"x\" }] }, \
                  stop: true, trace: true, options: KeepOptions { steps: Some(Name { text: \"5\" }), \
-                 timeout: Some(Name { text: \"0\" }), local: Some(Name { text: \"b\" }), \
+                 count: Some(Name { text: \"20\" }), timeout: Some(Name { text: \"0\" }), local: Some(Name { text: \"b\" }), \
                  retries: Some(Name { text: \"c\" }), dnet: Some(Name { text: \"d\" }), \
                  dadr: Some(Name { text: \"e\" }) } })",
             ),

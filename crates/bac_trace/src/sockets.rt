@@ -5,11 +5,12 @@ ghost use Rattle.bac_wire.specs.Chain.{result_map};
 
 use crate::ports::{Trace, TracedPort};
 use crate::writers::Writers;
+use bac_heeding::{Heeds, Passed};
 use bac_ports::{OpenFault, Sockets};
 use std::alloc::Global;
 
 /// Sockets that can be switched on to tell each datagram of the ports that they open.
-pub trait Tracing: Sockets {
+pub trait Tracing: Heeds {
     /// What a switch is: the sockets before it, whether it is on, the sockets after it.
     ghost traces: { Self → Bool → Self → Type 0 };
 
@@ -73,7 +74,16 @@ impl<S: Sockets, W: Writers> Sockets for Traced<S, W> {
     }
 }
 
-impl<S: Sockets, W: Writers> Tracing for Traced<S, W> {
+impl<S: Heeds, W: Writers> Heeds for Traced<S, W> {
+    // What passed over the port below.
+    ghost passes = { λ traced. S.passes traced.sockets };
+
+    fn passed(&self) -> Passed {
+        self.sockets.passed()
+    }
+}
+
+impl<S: Heeds, W: Writers> Tracing for Traced<S, W> {
     ghost traces = { λ old on new. (new.sockets ≡ old.sockets) × (new.is_on ≡ on) };
 
     fn trace(&mut self, on: bool) {

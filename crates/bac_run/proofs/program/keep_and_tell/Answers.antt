@@ -10,6 +10,6 @@ returns-clause-ran g c =
     let disk = modelled.ghosts the_row g.row.F host.ghosts host.dict g.F.Start g.F.Start-dict g.F.Destruct-dict in
     let rules = socket_rules g.S.Sockets.opens g.S.Sockets.closes g.S.Socket.Port.sends g.S.Socket.Port.receives g.S.Socket.Port.receives_within in
     let done = c.run_keep-done in
-    keep_ran disk rules c.args.asked.now c.args.sockets.now done.new.sockets (g.O.Write.contents c.args.output.now) (g.O.Write.contents done.new.output)
+    keep_ran disk rules g.S.Heeds.passes c.args.asked.now c.args.sockets.now done.new.sockets (g.O.Write.contents c.args.output.now) (g.O.Write.contents done.new.output)
     (g.E.Write.contents c.args.errors.now) (g.E.Write.contents done.new.errors) (g.E.Write.contents c.ended.new.errors) done.new.files
-    done.result c.ended.result c.args.asked.now.stop done.ensures.kept done.ensures.stopped done.ensures.untold done.ensures.silent c.ended.ensures
+    done.result c.ended.result c.args.asked.now.stop done.ensures.kept done.ensures.stopped done.ensures.untold done.ensures.silent (rw c.passed.ensures at c.ended.ensures)

@@ -15,7 +15,7 @@ returns-in-Keep-clause-ran g c =
     let done = c.keep_and_tell in
     let old = streams (g.I.Read.remaining c.args.input.now) (g.O.Write.contents c.args.output.now) (g.E.Write.contents c.args.errors.now) c.args.sockets.now c.args.clock.now in
     let new = streams (g.I.Read.remaining c.args.input.now) (g.O.Write.contents done.new.output) (g.E.Write.contents done.new.errors) done.new.sockets c.args.clock.now in
-    rw c.in-Keep.is (keep_over disk rules c.in-Keep.asked c.in-Keep.asked.stop old new done.result done.new.files done.ensures.ran, (refl, refl))
+    rw c.in-Keep.is (keep_over disk rules g.S.Heeds.passes c.in-Keep.asked c.in-Keep.asked.stop old new done.result done.new.files done.ensures.ran, (refl, refl))
 
 pub returns-in_default-clause-ran : goal.returns-in_default-clause-ran
 returns-in_default-clause-ran g c =
@@ -24,7 +24,7 @@ returns-in_default-clause-ran g c =
     let done = c.run_read in
     let old = streams (g.I.Read.remaining c.args.input.now) (g.O.Write.contents c.args.output.now) (g.E.Write.contents c.args.errors.now) c.args.sockets.now c.args.clock.now in
     let new = streams (g.I.Read.remaining done.new.input) (g.O.Write.contents done.new.output) (g.E.Write.contents done.new.errors) done.new.sockets done.new.clock in
-    other_done rules g.C.Clock.tells disk old new c.args.files.now c.args.files.now done.result c.args.job c.in_default.not-Keep c.in_default.not-Kept done.ensures refl
+    other_done rules g.S.Heeds.passes g.C.Clock.tells disk old new c.args.files.now c.args.files.now done.result c.args.job c.in_default.not-Keep c.in_default.not-Kept done.ensures refl
 
 pub returns-in_default-clause-stays : goal.returns-in_default-clause-stays
 returns-in_default-clause-stays g c unused not = none_closed c.args.files.now.closed _ unused

@@ -1,4 +1,4 @@
-use Rattle.std.proofs.Common.{◌≡◌, Err, ap, arith, inl, inr, refl}
+use Rattle.std.proofs.Common.{Err, ap, arith, inl, inr, refl}
 use Rattle.bac_ports.specs.Sockets.{socket_asks, socket_rules}
 use Rattle.bac_tools.proofs.Fetched.{begun_with, quiet_as, quiet_end, run_of}
 use Rattle.bac_tools.proofs.asking.log.Goals as goal

@@ -1,4 +1,4 @@
-use Rattle.std.proofs.Common.{codes, decimal, sym, refl}
+use Rattle.std.proofs.Common.{codes, decimal, sym, refl, ◌++◌}
 use Rattle.bac_tools.specs.Flaws.{around, in_all, reply_text}
 use Rattle.bac_query.proofs.Pieces.{three}
 use Rattle.bac_tools.proofs.Parts.{grown, two}
@@ -30,9 +30,12 @@ pub returns-in-NoNumber : goal.returns-in-NoNumber
 unfolding reply_text
 returns-in-NoNumber c = rw c.in-NoNumber.is c.push_records.ensures
 
-pub returns-in-TooMany : goal.returns-in-TooMany
+pub returns-in_ok-push_records-in-TooMany : goal.returns-in_ok-push_records-in-TooMany
 unfolding reply_text
-returns-in-TooMany c = rw c.in-TooMany.is c.push_records-in-TooMany.ensures
+returns-in_ok-push_records-in-TooMany c =
+    let after = around (codes "") c.in-TooMany.asked (codes " were asked for") in
+    rw c.in-TooMany.is (two c.push_around-in-TooMany.result c.args.text.now.items (in_all c.in-TooMany.records (codes " in all; ")) after after
+    c.push_records-in-TooMany.new.text.items c.push_around-in-TooMany.new.text.items c.in_ok-push_records-in-TooMany.ensures refl c.push_around-in-TooMany.ensures)
 
 pub returns-in_ok-push_records-in-Count : goal.returns-in_ok-push_records-in-Count
 unfolding reply_text
@@ -48,11 +51,14 @@ returns-in_ok-push_around-in-Object c =
     (around (codes "") c.from-in-Object-2.result (codes ", not of the trend log")) (around (codes "") c.from-in-Object-2.result (codes ", not of the trend log"))
     c.push_around-in-Object.new.text.items c.push_around-in-Object-2.new.text.items c.in_ok-push_around-in-Object.ensures refl c.push_around-in-Object-2.ensures)
 
-pub returns-in_ok-push_number-in-Unasked : goal.returns-in_ok-push_number-in-Unasked
+pub returns-in_ok-push_around-in-Unasked : goal.returns-in_ok-push_around-in-Unasked
 unfolding reply_text
-returns-in_ok-push_number-in-Unasked c =
+returns-in_ok-push_around-in-Unasked c =
+    let count = around (codes " on; asked for were ") c.in-Unasked.asked (codes " from number ") in
+    let on = around (codes "") c.from-in-Unasked-2.result (codes " on") in
     rw (c.in-Unasked.is, sym c.from-in-Unasked.ensures, sym c.from-in-Unasked-2.ensures)
-    (three c.push_around-in-Unasked.result c.args.text.now.items (in_all c.in-Unasked.records (codes " in all, from number ")) (decimal c.from-in-Unasked.result)
-    (around (codes " on; asked for were 100 from number ") c.from-in-Unasked-2.result (codes " on"))
-    c.push_records-in-Unasked.new.text.items c.push_number-in-Unasked.new.text.items c.push_around-in-Unasked.new.text.items
-    c.in_ok-push_records-in-Unasked.ensures c.in_ok-push_number-in-Unasked.ensures c.push_around-in-Unasked.ensures)
+    (three c.push_around-in-Unasked-2.result c.args.text.now.items (in_all c.in-Unasked.records (codes " in all, from number ")) (decimal c.from-in-Unasked.result) (count ++ on)
+    c.push_records-in-Unasked.new.text.items c.push_number-in-Unasked.new.text.items c.push_around-in-Unasked-2.new.text.items
+    c.in_ok-push_records-in-Unasked.ensures c.in_ok-push_number-in-Unasked.ensures
+    (two c.push_around-in-Unasked-2.result c.push_number-in-Unasked.new.text.items count on on
+    c.push_around-in-Unasked.new.text.items c.push_around-in-Unasked-2.new.text.items c.in_ok-push_around-in-Unasked.ensures refl c.push_around-in-Unasked-2.ensures))

@@ -10,7 +10,7 @@ returns-clause-done g c =
     let rules = socket_rules g.S.Sockets.opens g.S.Sockets.closes g.S.Socket.Port.sends g.S.Socket.Port.receives g.S.Socket.Port.receives_within in
     let old = streams (g.I.Read.remaining c.args.input.now) (g.O.Write.contents c.args.output.now) (g.E.Write.contents c.args.errors.now) c.args.sockets.now c.args.clock.now in
     let new = streams (g.I.Read.remaining c.run_read.new.input) (g.O.Write.contents c.run_read.new.output) (g.E.Write.contents c.run_read.new.errors) c.run_read.new.sockets c.run_read.new.clock in
-    done_of rules g.C.Clock.tells (map string_bytes c.args.words.now) c.read_words-read.result old c.run_read.result new
+    done_of rules g.S.Heeds.passes g.C.Clock.tells (map string_bytes c.args.words.now) c.read_words-read.result old c.run_read.result new
     c.read_words-read.ensures.ok c.read_words-read.ensures.err c.run_read.ensures
 
 pub returns-clause-bad_value : goal.returns-clause-bad_value
@@ -18,7 +18,7 @@ returns-clause-bad_value g c =
     let rules = socket_rules g.S.Sockets.opens g.S.Sockets.closes g.S.Socket.Port.sends g.S.Socket.Port.receives g.S.Socket.Port.receives_within in
     let old = streams (g.I.Read.remaining c.args.input.now) (g.O.Write.contents c.args.output.now) (g.E.Write.contents c.args.errors.now) c.args.sockets.now c.args.clock.now in
     let new = streams (g.I.Read.remaining c.run_read.new.input) (g.O.Write.contents c.run_read.new.output) (g.E.Write.contents c.run_read.new.errors) c.run_read.new.sockets c.run_read.new.clock in
-    wrong_of rules g.C.Clock.tells (map string_bytes c.args.words.now) c.read_words-read.result old c.run_read.result new
+    wrong_of rules g.S.Heeds.passes g.C.Clock.tells (map string_bytes c.args.words.now) c.read_words-read.result old c.run_read.result new
     c.read_words-read.ensures.ok c.read_words-read.ensures.err c.run_read.ensures
 
 pub returns-clause-explained : goal.returns-clause-explained
@@ -26,5 +26,5 @@ returns-clause-explained g c =
     let rules = socket_rules g.S.Sockets.opens g.S.Sockets.closes g.S.Socket.Port.sends g.S.Socket.Port.receives g.S.Socket.Port.receives_within in
     let old = streams (g.I.Read.remaining c.args.input.now) (g.O.Write.contents c.args.output.now) (g.E.Write.contents c.args.errors.now) c.args.sockets.now c.args.clock.now in
     let new = streams (g.I.Read.remaining c.run_read.new.input) (g.O.Write.contents c.run_read.new.output) (g.E.Write.contents c.run_read.new.errors) c.run_read.new.sockets c.run_read.new.clock in
-    explained_of rules g.C.Clock.tells (map string_bytes c.args.words.now) c.read_words-read.result old c.run_read.result new
+    explained_of rules g.S.Heeds.passes g.C.Clock.tells (map string_bytes c.args.words.now) c.read_words-read.result old c.run_read.result new
     c.read_words-read.ensures.ok c.read_words-read.ensures.err c.run_read.ensures

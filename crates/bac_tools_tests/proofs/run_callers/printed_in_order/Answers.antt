@@ -4,9 +4,9 @@ use Rattle.bac_tools_tests.proofs.Logged.{printed_in_order}
 use Rattle.bac_tools_tests.proofs.run_callers.printed_in_order.Goals as goal
 
 pub returns : goal.returns
-returns g c = λ asked instance steps from trace asks.
-    printed_in_order (socket_rules g.S.Sockets.opens g.S.Sockets.closes g.S.Socket.Port.sends g.S.Socket.Port.receives g.S.Socket.Port.receives_within) g.C.Clock.tells asked instance
-    steps from trace
+returns g c = λ asked instance steps count from trace asks.
+    printed_in_order (socket_rules g.S.Sockets.opens g.S.Sockets.closes g.S.Socket.Port.sends g.S.Socket.Port.receives g.S.Socket.Port.receives_within) g.S.Heeds.passes g.C.Clock.tells asked instance
+    steps count from trace
     (streams (g.I.Read.remaining c.args.input.now) (g.O.Write.contents c.args.output.now)
     (g.E.Write.contents c.args.errors.now) c.args.sockets.now c.args.clock.now)
     (streams (g.I.Read.remaining c.run.new.input) (g.O.Write.contents c.run.new.output)

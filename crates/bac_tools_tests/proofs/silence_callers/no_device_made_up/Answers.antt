@@ -5,7 +5,7 @@ use Rattle.bac_tools_tests.proofs.silence_callers.no_device_made_up.Goals as goa
 
 pub returns : goal.returns
 returns g c = λ addresses min max dnet local timeout trace asks silent still.
-    no_wi (socket_rules g.S.Sockets.opens g.S.Sockets.closes g.S.Socket.Port.sends g.S.Socket.Port.receives g.S.Socket.Port.receives_within) g.C.Clock.tells
+    no_wi (socket_rules g.S.Sockets.opens g.S.Sockets.closes g.S.Socket.Port.sends g.S.Socket.Port.receives g.S.Socket.Port.receives_within) g.S.Heeds.passes g.C.Clock.tells
     addresses min max dnet local timeout trace
     (streams (g.I.Read.remaining c.args.input.now) (g.O.Write.contents c.args.output.now)
     (g.E.Write.contents c.args.errors.now) c.args.sockets.now c.args.clock.now)

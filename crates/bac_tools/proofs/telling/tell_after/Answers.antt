@@ -1,6 +1,6 @@
 use Rattle.std.proofs.Common.{inr}
 use Rattle.bac_tools.specs.Texts.{fault_text}
-use Rattle.bac_tools.proofs.telling.tell.Goals as goal
+use Rattle.bac_tools.proofs.telling.tell_after.Goals as goal
 
 pub returns-in-Err : goal.returns-in-Err
 unfolding fault_text

@@ -3,7 +3,7 @@ use Rattle.std.proofs.Common.{ℕ, zero, suc, List, Option, None, Some, Result, 
 use Rattle.bac_link.specs.declared.link.Lost.{Lost}
 use Rattle.bac_ports.specs.Asking.{Awaits, IsHeard, IsSent, IsTaken, fitting}
 use Rattle.bac_ports.specs.Port.{Receiving, Sending}
-use Rattle.bac_trace.specs.Laws.{AsksAreBelow}
+use Rattle.bac_heeding.specs.Laws.{AsksAreBelow}
 
 taken_below : {T P : Type 0} (below : T → P) (datagram : Option (List ℕ)) (port new : T) (result : Result (List ℕ) Lost) (more less : Type 0) → (more → less) →
     IsTaken datagram port result new more → IsTaken datagram (below port) result (below new) less
