@@ -1,6 +1,7 @@
 -- A log is asked for by the rules of `bac log`.
 use Rattle.std.specs.Prelude.{◌≡◌, ◌⊎◌, ℕ, Bool, List, [], ◌∷◌, ◌++◌, codes, Option, None, Some, option_map, unwrap_or, Ok}
 use Rattle.clap.specs.Words.{Text}
+use Rattle.bac_link.specs.Standard.{IsCount}
 use Rattle.bac_words.specs.Names.{name_of}
 use Rattle.bac_words.specs.Outcome.{IsRefused, job_in, mistakes_of}
 use Rattle.bac_words.specs.declared.fault.WordsFault.{WordsFault}
@@ -8,13 +9,15 @@ use Rattle.bac_words.specs.declared.fault.WordsFault.TheVariants.{BadValue, Long
 use Rattle.bac_words.specs.declared.job.Job.{Job}
 use Rattle.bac_words.specs.declared.job.Job.TheVariants.{Log}
 use Rattle.bac_words.specs.declared.word.Word.{Word}
-use Rattle.bac_words.specs.declared.word.Word.TheVariants.{Tool, Address, Steps, Timeout, Local, Retries, Dnet, Dadr}
+use Rattle.bac_words.specs.declared.word.Word.TheVariants.{Tool, Address, Steps, Records, Timeout, Local, Retries, Dnet}
+use Rattle.bac_words.specs.declared.word.Word.TheVariants.{Dadr}
 use Rattle.bac_asked.specs.declared.log_words.Asking.{Asking}
 use Rattle.bac_asked.specs.declared.options.Options.{Options}
 
 -- the texts of the options of `keep`, where they were given
 pub record Given : Type 0 where
   pub steps : Option Text
+  pub count : Option Text
   pub timeout : Option Text
   pub local : Option Text
   pub retries : Option Text
@@ -25,6 +28,7 @@ pub record Given : Type 0 where
 abbrev pub given_in : Options → Given
 given_in options = record {
   steps = option_map (λ s. s.now) options.steps;
+  count = option_map (λ s. s.now) options.count;
   timeout = option_map (λ s. s.now) options.timeout;
   local = option_map (λ s. s.now) options.local;
   retries = option_map (λ s. s.now) options.retries;
@@ -41,15 +45,15 @@ option_words word (Some value) = (codes "--" ++ (name_of word ++ (61 ∷ value))
 unfoldable pub log_words : Text → Text → Given → List Text
 log_words address instance given = codes "bac" ∷ codes "log"
     ∷ (option_words Steps (Some (unwrap_or given.steps (codes "4294967295")))
-    ++ (option_words Timeout given.timeout ++ (option_words Local given.local ++ (option_words Retries given.retries
-    ++ (option_words Dnet given.dnet ++ (option_words Dadr given.dadr
-    ++ codes "--" ∷ address ∷ instance ∷ codes "oldest" ∷ []))))))
+    ++ (option_words Records given.count ++ (option_words Timeout given.timeout ++ (option_words Local given.local
+    ++ (option_words Retries given.retries ++ (option_words Dnet given.dnet ++ (option_words Dadr given.dadr
+    ++ codes "--" ∷ address ∷ instance ∷ codes "oldest" ∷ [])))))))
 
 -- a log is asked for as a job of `bac log` asks
 abbrev pub IsAskingOf : Job → Asking → Type 0
 IsAskingOf job asking =
-    (from : Option ℕ) × (csv : Bool) × (trace : Bool)
-    × (job ≡ Log asking.asked asking.instance from asking.steps csv trace)
+    (from : Option ℕ) × (csv : Bool) × (trace : Bool) × IsCount asking.count
+    × (job ≡ Log asking.asked asking.instance from asking.steps asking.count csv trace)
 
 -- a log is asked for as `bac log` with these words asks
 abbrev pub IsAskedBy : List Text → Asking → Type 0

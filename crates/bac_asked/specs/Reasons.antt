@@ -2,9 +2,19 @@
 use Rattle.std.specs.Prelude.{◌≡◌, ◌++◌, ◌∷◌, [], ℕ, List, codes}
 use Rattle.bac_asked.specs.declared.fault.FileFault.{FileFault}
 use Rattle.bac_asked.specs.declared.fault.FileFault.TheVariants as file
+use Rattle.bac_files.specs.declared.not_opened.Obstacle.{Obstacle}
+use Rattle.bac_files.specs.declared.not_opened.Obstacle.TheVariants as barred
+
+-- why the machine doesn't open a file
+abbrev pub obstacle_text : Obstacle → List ℕ
+obstacle_text barred.Folder = codes "it is a folder"
+obstacle_text barred.NoFolder = codes "there is no such folder"
+obstacle_text barred.NotPermitted = codes "reading and writing it isn't permitted"
+obstacle_text barred.TooManyOpen = codes "too many files are open"
 
 -- the reason, in the words that tell it
 abbrev pub file_reason : FileFault → List ℕ
+file_reason (file.Barred obstacle) = obstacle_text obstacle
 file_reason file.Foreign = codes "it is a database with other tables, and no archive of trend logs"
 file_reason file.First = codes "it is an archive of version 1, and version 2 is read"
 file_reason file.Version = codes "it is an archive of another version"
@@ -18,12 +28,16 @@ file_reason file.Full = codes "it has 65535 trend logs"
 file_reason file.Address = codes "a trend log in it has an address that is none"
 file_reason other = codes "the database failed"
 
--- a line that says so, and one with the reason
-abbrev pub file_lines : List ℕ → List ℕ
-file_lines reason = codes "file fault\n" ++ (reason ++ 10 ∷ [])
+-- a first line, and one with the file's name and the reason
+abbrev pub file_lines : List ℕ → List ℕ → List ℕ → List ℕ
+file_lines first path reason = first ++ (path ++ (codes ": " ++ (reason ++ 10 ∷ [])))
 
--- The lines of a fault. Of a database's error they have what its library says of it.
-abbrev pub AreLinesOf : FileFault → List ℕ → Type 0
-AreLinesOf file.InUse text = text ≡ codes "file in use\n"
-AreLinesOf (file.Database error) text = (reason : List ℕ) × (text ≡ file_lines reason)
-AreLinesOf fault text = text ≡ file_lines (file_reason fault)
+-- the lines of a file with this name that is no use, for this reason
+abbrev pub fault_lines : List ℕ → List ℕ → List ℕ
+fault_lines path reason = file_lines (codes "file fault\n") path reason
+
+-- The lines of a fault of the file with this name. Of a database's error they have what its library says of it.
+abbrev pub AreLinesOf : FileFault → List ℕ → List ℕ → Type 0
+AreLinesOf file.InUse path text = text ≡ file_lines (codes "file in use\n") path (codes "another program has it open")
+AreLinesOf (file.Database error) path text = (reason : List ℕ) × (text ≡ fault_lines path reason)
+AreLinesOf fault path text = text ≡ fault_lines path (file_reason fault)

@@ -34,9 +34,10 @@ pub record IsSourceOf (asked : Asked) (instance : ℕ) (source : Source) : Type 
 abbrev pub AsksItsSource : Wanted → Type 0
 AsksItsSource wanted = IsSourceOf wanted.asking.asked wanted.asking.instance wanted.source
 
--- a log is asked for as another is: the same device, from the same address, and as long, as often and in as many steps
+-- a log is asked for as another is: the same device, from the same address, and as long, as often, in as many steps and
+-- for as many records at a time
 abbrev pub IsAskedAs : Asking → Asking → Type 0
-IsAskedAs like asking = (asking.asked ≡ like.asked) × (asking.steps ≡ like.steps)
+IsAskedAs like asking = (asking.asked ≡ like.asked) × (asking.steps ≡ like.steps) × (asking.count ≡ like.count)
 
 -- one of several logs has this instance
 abbrev pub has_instance : ℕ → List Wanted → Bool
@@ -76,6 +77,7 @@ AreNoOptions given fault =
 abbrev pub without_way : Given → Given
 without_way given = record {
   steps = given.steps;
+  count = given.count;
   timeout = given.timeout;
   local = given.local;
   retries = given.retries;
@@ -87,6 +89,7 @@ without_way given = record {
 abbrev pub by_router : Given → Source → Given
 by_router given source = record {
   steps = given.steps;
+  count = given.count;
   timeout = given.timeout;
   local = given.local;
   retries = given.retries;

@@ -3,11 +3,13 @@
 ghost use Rattle.std.specs.Prelude.{◌≡◌, IfOk};
 ghost use Rattle.std.specs.String.{string_bytes};
 ghost use Rattle.bac_asked.specs.Faults.{of_error, of_not_added, of_refusal};
-ghost use Rattle.bac_asked.specs.Reasons.{AreLinesOf, file_lines, file_reason};
+ghost use Rattle.bac_asked.specs.Reasons.{AreLinesOf, file_lines, file_reason, obstacle_text};
 ghost use Rattle.bac_asked.specs.Status.{file_status};
 
 use bac_archive::{NotAdded, Refused};
+use bac_files::Obstacle;
 use bac_link::ExchangeFault;
+use bac_ports::OpenFault;
 use bac_words::Word;
 use sqlite::{Error, ErrorCode};
 use std::alloc::{AllocError, Global};
@@ -21,7 +23,7 @@ pub enum Fault {
     /// The same of a number that has over ten digits.
     LongNumber(Word),
     /// A socket couldn't be opened.
-    Socket,
+    Unopened(OpenFault),
     /// The answer from this address didn't come, or isn't the ACK that belongs to the request.
     Exchange {
         address: [u8; 6],
@@ -38,6 +40,8 @@ pub enum Fault {
 pub enum FileFault {
     /// Another program has it open.
     InUse,
+    /// The machine doesn't open it.
+    Barred(Obstacle),
     /// It is a database, and no archive.
     Foreign,
     /// It is an archive of version 1.
@@ -109,14 +113,16 @@ impl FileFault {
         }
     }
 
-    /// The lines that tell it.
-    pub fn lines(self, alloc: Global) -> Result<String, AllocError>
-        ensures { IfOk result (λ text. AreLinesOf self (string_bytes text)) }
+    /// The lines that tell it of the file with this name.
+    pub fn lines(self, alloc: Global, path: &str) -> Result<String, AllocError>
+        ensures { IfOk result (λ text. AreLinesOf self path.now (string_bytes text)) }
     {
         match self {
-            FileFault::InUse => String::from_str(alloc, "file in use\n"),
-            FileFault::Database(error) => told(alloc, &told_by(alloc, error)?),
-            fault => told(alloc, fault.why()),
+            FileFault::InUse => told(alloc, "file in use\n", path, "another program has it open"),
+            FileFault::Database(error) => {
+                told(alloc, "file fault\n", path, &told_by(alloc, error)?)
+            }
+            fault => told(alloc, "file fault\n", path, fault.why()),
         }
     }
 
@@ -124,6 +130,7 @@ impl FileFault {
         ensures { result.now ≡ file_reason self }
     {
         match self {
+            FileFault::Barred(obstacle) => obstacle_text(obstacle),
             FileFault::Foreign =>
                 "it is a database with other tables, and no archive of trend logs",
             FileFault::First => "it is an archive of version 1, and version 2 is read",
@@ -141,6 +148,18 @@ impl FileFault {
     }
 }
 
+/// Why the machine doesn't open a file.
+fn obstacle_text<'a>(obstacle: Obstacle) -> &'a str
+    ensures { result.now ≡ obstacle_text obstacle }
+{
+    match obstacle {
+        Obstacle::Folder => "it is a folder",
+        Obstacle::NoFolder => "there is no such folder",
+        Obstacle::NotPermitted => "reading and writing it isn't permitted",
+        Obstacle::TooManyOpen => "too many files are open",
+    }
+}
+
 /// What a database's error says of itself.
 fn told_by(alloc: Global, error: Error) -> Result<String, AllocError> {
     let mut text = String::new(alloc);
@@ -150,12 +169,14 @@ fn told_by(alloc: Global, error: Error) -> Result<String, AllocError> {
     Ok(text)
 }
 
-/// The lines of a file that is no use, for this reason.
-fn told(alloc: Global, reason: &str) -> Result<String, AllocError>
-    ensures { IfOk result (λ text. string_bytes text ≡ file_lines reason.now) }
+/// A first line, and one with the file's name and the reason.
+fn told(alloc: Global, first: &str, path: &str, reason: &str) -> Result<String, AllocError>
+    ensures { IfOk result (λ text. string_bytes text ≡ file_lines first.now path.now reason.now) }
 {
     let mut text = String::new(alloc);
-    text.push_str("file fault\n")?;
+    text.push_str(first)?;
+    text.push_str(path)?;
+    text.push_str(": ")?;
     text.push_str(reason)?;
     text.push_str("\n")?;
     Ok(text)

@@ -8,6 +8,7 @@ ghost use Rattle.bac_asked.specs.AsLog.{IsAskedBy, IsAskingOf, IsUnasked, given_
 ghost use Rattle.bac_asked.specs.declared.log_words.Asking.{Asking as AnyAsking};
 
 use crate::options::Options;
+use bac_walk::Count;
 use bac_words::{Asked, Job, Word, WordsFault, read_words};
 use std::alloc::{AllocError, Global};
 
@@ -20,6 +21,8 @@ pub struct Asking {
     pub instance: u32,
     /// In how many batches.
     pub steps: u32,
+    /// How many records a question asks for.
+    pub count: Count,
 }
 
 fn push_word(alloc: Global, words: &mut Vec<String>, word: &str) -> Result<(), AllocError>
@@ -72,6 +75,7 @@ fn log_words(
     push_word(alloc, &mut words, "bac")?;
     push_word(alloc, &mut words, "log")?;
     push_option(alloc, &mut words, Word::Steps, Some(steps_of(options)))?;
+    push_option(alloc, &mut words, Word::Records, options.count)?;
     push_option(alloc, &mut words, Word::Timeout, options.timeout)?;
     push_option(alloc, &mut words, Word::Local, options.local)?;
     push_option(alloc, &mut words, Word::Retries, options.retries)?;
@@ -109,13 +113,18 @@ fn asking_of(job: Job) -> Result<Asking, WordsFault>
             instance,
             from: _from,
             steps,
+            count,
             csv: _csv,
             trace: _trace,
-        } => Ok(Asking {
-            asked,
-            instance,
-            steps,
-        }),
+        } => match Count::new(count) {
+            Some(count) => Ok(Asking {
+                asked,
+                instance,
+                steps,
+                count,
+            }),
+            None => Err(WordsFault::BadValue(Word::Tool)),
+        },
         _other => Err(WordsFault::BadValue(Word::Tool)),
     }
 }

@@ -5,6 +5,8 @@
 pub struct Options<'a> {
     /// How many batches.
     pub steps: Option<&'a str>,
+    /// How many records a question asks for.
+    pub count: Option<&'a str>,
     /// How long an answer is waited for.
     pub timeout: Option<&'a str>,
     /// Our own address.

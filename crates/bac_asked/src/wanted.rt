@@ -163,6 +163,7 @@ fn asking_at(alloc: Global, source: &Source, options: &Options<'_>) -> Result<As
     if source.dnet == 0 {
         let direct = Options {
             steps: options.steps,
+            count: options.count,
             timeout: options.timeout,
             local: options.local,
             retries: options.retries,
@@ -174,6 +175,7 @@ fn asking_at(alloc: Global, source: &Source, options: &Options<'_>) -> Result<As
     let dnet = digits(alloc, u32::from(source.dnet))?;
     let by_router = Options {
         steps: options.steps,
+        count: options.count,
         timeout: options.timeout,
         local: options.local,
         retries: options.retries,

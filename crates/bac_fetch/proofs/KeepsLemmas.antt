@@ -1,5 +1,5 @@
 -- What is kept of logs, one after the other.
-use Rattle.std.proofs.Common.{◌≡◌, ◌-◌, inl, inr, ℕ, max, Bool, true, false, List, [], ◌∷◌, ◌++◌, length, Option, None, Some, Result, Ok, Err, IfOk, refl, sym, ap, subst, ◌∙◌, append_assoc, append-nil, length-append, arith}
+use Rattle.std.proofs.Common.{◌≡◌, ◌-◌, ℕ, max, Bool, true, false, List, [], ◌∷◌, ◌++◌, length, Option, None, Some, Result, Ok, Err, IfOk, refl, sym, ap, subst, ◌∙◌, append_assoc, append-nil, length-append, arith}
 use Rattle.sqlite.specs.Effect.{Database}
 use Rattle.bac_wire.specs.Primitive.{Id}
 use Rattle.bac_archive.specs.Schema.{archive_schema}
@@ -44,11 +44,11 @@ over P route way retries tries r n it = subst (λ m. P (towards way) m) n (subst
 
 -- what is kept of a log whose beginning changed nothing, over a link
 pub keeps_begun : {L : Type 0} (asks : L → List ℕ → Result (List ℕ) Loss → L → Type 0) (way route : Option Place) (tries retries : ℕ) (link mid left : L)
-    (steps : ℕ) (entry : Entry) (object : Id) (old between new : Database) (start : Start) (end : End)
-    → IsBegun asks (towards way) tries link mid entry.row.id object entry.word steps old.trees (Ok start) → route ≡ way → retries ≡ tries → between ≡ old
+    (steps : ℕ) (entry : Entry) (object : Id) (many : ℕ) (old between new : Database) (start : Start) (end : End)
+    → IsBegun asks (towards way) tries link mid entry.row.id object many entry.word steps old.trees (Ok start) → route ≡ way → retries ≡ tries → between ≡ old
     → KeepsEntered asks (towards route) retries mid left (Ok start) steps entry between new end
-    → KeepsOverLink asks (towards way) tries link left steps entry object old new end
-keeps_begun asks way route tries retries link mid left steps entry object old between new start end begun r n same keeps = (
+    → KeepsOverLink asks (towards way) tries link left steps entry object many old new end
+keeps_begun asks way route tries retries link mid left steps entry object many old between new start end begun r n same keeps = (
   Ok start,
   mid,
   begun,
@@ -62,16 +62,16 @@ pub keeps_log : {S P : Type 0} (rules : SocketRules S P) (asking : Asking) (befo
     → rules.opens before (own_address asking.asked.local) asking.asked.timeout (Ok port) middle → link ≡ heeding (link_over asking.asked.address port)
     → route ≡ asking.asked.route → retries ≡ asking.asked.retries → steps ≡ asking.steps → given ≡ object → last ≡ left.link.port → rules.closes middle last after
     → end ≡ end_told left.more kept
-    → KeepsOverLink (heeds (socket_asks rules)) (towards route) retries link left steps entry given old new kept → KeepsLog rules asking before after entry object old new end
+    → KeepsOverLink (heeds (socket_asks rules)) (towards route) retries link left steps entry given asking.count old new kept → KeepsLog rules asking before after entry object old new end
 keeps_log rules asking before middle after entry object given old new kept end port last link left route retries steps opens is_link way tries many is is_last closes told it =
     let asks = heeds (socket_asks rules) in
     let path = towards asking.asked.route in
     let over = heeding (link_over asking.asked.address port) in
-    let it₁ = subst (λ (q : Option Place). KeepsOverLink asks (towards q) retries link left steps entry given old new kept) way it in
-    let it₂ = subst (λ m. KeepsOverLink asks path m link left steps entry given old new kept) tries it₁ in
-    let it₃ = subst (λ l. KeepsOverLink asks path asking.asked.retries l left steps entry given old new kept) is_link it₂ in
-    let it₄ = subst (λ m. KeepsOverLink asks path asking.asked.retries over left m entry given old new kept) many it₃ in
-    let it₅ = subst (λ (o : Id). KeepsOverLink asks path asking.asked.retries over left asking.steps entry o old new kept) is it₄ in
+    let it₁ = subst (λ (q : Option Place). KeepsOverLink asks (towards q) retries link left steps entry given asking.count old new kept) way it in
+    let it₂ = subst (λ m. KeepsOverLink asks path m link left steps entry given asking.count old new kept) tries it₁ in
+    let it₃ = subst (λ l. KeepsOverLink asks path asking.asked.retries l left steps entry given asking.count old new kept) is_link it₂ in
+    let it₄ = subst (λ m. KeepsOverLink asks path asking.asked.retries over left m entry given asking.count old new kept) many it₃ in
+    let it₅ = subst (λ (o : Id). KeepsOverLink asks path asking.asked.retries over left asking.steps entry o asking.count old new kept) is it₄ in
     (port, middle, last, opens, (left, kept, it₅, told, is_last), closes)
 
 on_schema : {L : Type 0} (asks : L → List ℕ → Result (List ℕ) Loss → L → Type 0) (path : Path) (retries : ℕ) (link left : L) (start : Start) (why : Option Why) (steps : ℕ)

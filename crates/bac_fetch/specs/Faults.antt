@@ -9,7 +9,7 @@ use Rattle.bac_asked.specs.Faults.{IsOfDatabase, RefusesLine, WantsMemory}
 use Rattle.bac_asked.specs.Wanted.{HasNoAddress}
 use Rattle.bac_asked.specs.declared.end.NotDone.{NotDone}
 use Rattle.bac_asked.specs.declared.end.NotDone.TheVariants.{Asking, File}
-use Rattle.bac_asked.specs.declared.fault.Fault.TheVariants.{BadValue, Exchange, Socket}
+use Rattle.bac_asked.specs.declared.fault.Fault.TheVariants.{BadValue, Exchange, Unopened}
 use Rattle.bac_asked.specs.declared.fault.FileFault.TheVariants.{Address, Foreign, Full, NoLogs}
 use Rattle.bac_asked.specs.declared.log_words.Asking.{Asking as AskedFor}
 use Rattle.bac_asked.specs.declared.wanted.Wanted.{Wanted}
@@ -31,8 +31,8 @@ EndsLog fault = WantsMemory fault ⊎ (RefusesLine fault ⊎ ((fault ≡ File Fo
 
 -- a socket was asked for as a device is asked, and none was opened
 abbrev pub IsUnopened : {S P : Type 0} → SocketRules S P → Asked → S → S → NotDone → Type 0
-IsUnopened rules asked before after fault = (fault ≡ Asking Socket)
-    × (why : OpenFault) × rules.opens before (own_address asked.local) asked.timeout (Err why) after
+IsUnopened rules asked before after fault = (why : OpenFault) × (fault ≡ Asking (Unopened why))
+    × rules.opens before (own_address asked.local) asked.timeout (Err why) after
 
 -- a device isn't asked who it is: memory is wanting, or no socket was opened for it
 abbrev pub EndsAsking : {S P : Type 0} → SocketRules S P → Asked → S → S → NotDone → Type 0

@@ -7,7 +7,7 @@ use Rattle.bac_link.specs.declared.link.Lost.{Lost as Loss}
 use Rattle.bac_link.specs.Path.{Path}
 use Rattle.bac_walk.specs.Came.{Brought, Came}
 use Rattle.bac_walk.specs.Collects.{Goes}
-use Rattle.bac_walk.specs.Place.{WalkPlace, walk_at}
+use Rattle.bac_walk.specs.Place.{WalkPlace, asking, walk_at}
 use Rattle.bac_walk.specs.declared.outcome.Ended.{Ended}
 use Rattle.bac_walk.specs.declared.outcome.Ended.TheVariants.{CaughtUp, StepLimit, Stopped, Fault}
 use Rattle.bac_walk.specs.declared.outcome.WalkFault.TheVariants as walk
@@ -78,11 +78,11 @@ Steps asks path retries place free link before (Err ending) left =
     StopsBy asks path retries place free link before ending left
 
 -- the same of a walk from a number on, into an epoch that has no row; 0 is no number, and nothing is asked
-abbrev pub StepsAt : {S : Type 0} → (S → List ℕ → Result (List ℕ) Loss → S → Type 0) → Path → ℕ → Place → S → Id → ℕ →
-    Result Hand Ending → S → Type 0
-StepsAt asks path retries place link object number hand left =
+abbrev pub StepsAt : {S : Type 0} → (S → List ℕ → Result (List ℕ) Loss → S → Type 0) → Path → ℕ → Place → S → Id →
+    (many : ℕ) → ℕ → Result Hand Ending → S → Type 0
+StepsAt asks path retries place link object many number hand left =
     MatchBool (number == 0) ((hand ≡ Err (Walk (why.Fault walk.BadReply))) × (left ≡ link))
-    (Steps asks path retries place 0 link (walk_at object number) hand left)
+    (Steps asks path retries place 0 link (asking many (walk_at object number)) hand left)
 
 -- ---- one question, and then another
 

@@ -119,10 +119,10 @@ LeavesWord old keeps left = HasRows old left ⊎ ((db : Database) × keeps db ×
 -- begins, by the archive's rows, by what the device tells over the link and by its own word, and what it keeps from there,
 -- which came over the link as that was left then.
 abbrev pub KeepsOverLink : {S : Type 0} → (S → List ℕ → Result (List ℕ) Loss → S → Type 0) → Path → ℕ → S → S → ℕ →
-    Entry → Id → Database → Database → End → Type 0
-KeepsOverLink {S = S} asks path retries link left steps entry object old new end =
+    Entry → Id → (many : ℕ) → Database → Database → End → Type 0
+KeepsOverLink {S = S} asks path retries link left steps entry object many old new end =
     (begun : Result Start End) × (mid : S)
-    × IsBegun asks path retries link mid entry.row.id object entry.word steps old.trees begun
+    × IsBegun asks path retries link mid entry.row.id object many entry.word steps old.trees begun
     × KeepsEntered asks path retries mid left begun steps entry old new end
 
 -- The same over a socket: it was opened as the log is asked for, every datagram was asked of the device that is asked,
@@ -132,7 +132,7 @@ KeepsLog {P = P} rules asking before after entry object old new end =
     UsesSocket rules (own_address asking.asked.local) asking.asked.timeout before
     (λ port last. (left : Heeding (UdpLink P)) × (before_told : End)
     × KeepsOverLink (heeds (socket_asks rules)) (towards asking.asked.route) asking.asked.retries
-    (heeding (link_over asking.asked.address port)) left asking.steps entry object old new before_told
+    (heeding (link_over asking.asked.address port)) left asking.steps entry object asking.count old new before_told
     × (end ≡ end_told left.more before_told) × (last ≡ left.link.port))
     after
 

@@ -11,7 +11,7 @@ use Rattle.bac_link.specs.declared.exchanges.ExchangeFault.TheVariants as fault
 use Rattle.bac_link.specs.declared.item.Item.{Item}
 use Rattle.bac_link.specs.declared.item.Item.TheVariants.{Gap}
 use Rattle.bac_link.specs.declared.link.Lost.{Lost as Loss}
-use Rattle.bac_walk.specs.Place.{walk_at, walk_from_oldest}
+use Rattle.bac_walk.specs.Place.{asking, walk_at, walk_from_oldest}
 use Rattle.bac_walk.specs.declared.batch.Numbered.{Numbered}
 use Rattle.bac_walk.specs.declared.outcome.Ended.{Ended}
 use Rattle.bac_walk.specs.declared.outcome.Ended.TheVariants as ended
@@ -99,27 +99,28 @@ OpensWith (Err ending) next how begins_at begun = Ends ending next begun
 -- ---- a log of which nothing is on record
 
 -- a log's first epoch begins at the oldest record, or if it turns out to hold none at this number
-abbrev pub OpensFirst : {S : Type 0} → (S → List ℕ → Result (List ℕ) Loss → S → Type 0) → Path → ℕ → S → S → ℕ → Id → ℕ →
-    Result Start End → Type 0
-OpensFirst asks path retries link left log object number begun =
+abbrev pub OpensFirst : {S : Type 0} → (S → List ℕ → Result (List ℕ) Loss → S → Type 0) → Path → ℕ → S → S → ℕ → Id →
+    (many : ℕ) → ℕ → Result Start End → Type 0
+OpensFirst asks path retries link left log object many number begun =
     (place : Place) × (hand : Result Hand Ending) × (place.log ≡ log) × (place.epoch ≡ 0)
-    × Steps asks path retries place 0 link (walk_from_oldest object) hand left
+    × Steps asks path retries place 0 link (asking many (walk_from_oldest object)) hand left
     × OpensWith hand 1 began.GoesOn (Some (record { log = log; epoch = 0; number = number })) begun
 
 -- A log of which nothing is on record begins at the oldest record, in epoch 0; if it turns out to hold none, behind its
 -- count. If no answer comes to the question for that, nothing more is asked, and nothing is kept.
-abbrev pub IsFirst : {S : Type 0} → (S → List ℕ → Result (List ℕ) Loss → S → Type 0) → Path → ℕ → S → ℕ → Id → Count →
-    Result Start End → S → Type 0
-IsFirst asks path retries link log object Lost begun left = Ends (Walk (why.Fault walk.Lost)) 1 begun × (left ≡ link)
-IsFirst asks path retries link log object count begun left =
-    OpensFirst asks path retries link left log object (begins_behind count) begun
+abbrev pub IsFirst : {S : Type 0} → (S → List ℕ → Result (List ℕ) Loss → S → Type 0) → Path → ℕ → S → ℕ → Id →
+    (many : ℕ) → Count → Result Start End → S → Type 0
+IsFirst asks path retries link log object many Lost begun left =
+    Ends (Walk (why.Fault walk.Lost)) 1 begun × (left ≡ link)
+IsFirst asks path retries link log object many count begun left =
+    OpensFirst asks path retries link left log object many (begins_behind count) begun
 
 -- the same, with the question for its count before
 abbrev pub StartsNew : {S : Type 0} → (S → List ℕ → Result (List ℕ) Loss → S → Type 0) → Path → ℕ → S → ℕ → Id →
-    Result Start End → S → Type 0
-StartsNew {S = S} asks path retries link log object begun left =
+    (many : ℕ) → Result Start End → S → Type 0
+StartsNew {S = S} asks path retries link log object many begun left =
     (count : Count) × (mid : S) × Counts asks path retries link object count mid
-    × IsFirst asks path retries mid log object count begun left
+    × IsFirst asks path retries mid log object many count begun left
 
 -- ---- a log that began anew
 
@@ -136,32 +137,32 @@ IsBeginning (Ok (BatchOf batch)) found = BeginsBy batch.entries.items found
 
 -- the oldest records are asked for, and tell where a log begins that began anew
 abbrev pub AsksBeginning : {S : Type 0} → (S → List ℕ → Result (List ℕ) Loss → S → Type 0) → Path → ℕ → S → Id →
-    Result ℕ WalkFault → S → Type 0
-AsksBeginning asks path retries link object found left =
+    (many : ℕ) → Result ℕ WalkFault → S → Type 0
+AsksBeginning asks path retries link object many found left =
     (answer : Result Step WalkFault) × IsBeginning answer found
-    × CameTo asks path retries link (walk_from_oldest object) answer left
+    × CameTo asks path retries link (asking many (walk_from_oldest object)) answer left
 
 -- Where a log begins that began anew: by its count, if it holds nothing; else by its oldest record, which is asked for.
-abbrev pub FindsBeginning : {S : Type 0} → (S → List ℕ → Result (List ℕ) Loss → S → Type 0) → Path → ℕ → S → Id → Seen → Count →
-    Result ℕ WalkFault → S → Type 0
-FindsBeginning asks path retries link object seen.Nothing (Told count) found left =
+abbrev pub FindsBeginning : {S : Type 0} → (S → List ℕ → Result (List ℕ) Loss → S → Type 0) → Path → ℕ → S → Id →
+    (many : ℕ) → Seen → Count → Result ℕ WalkFault → S → Type 0
+FindsBeginning asks path retries link object many seen.Nothing (Told count) found left =
     (found ≡ Ok (beginning_of (number_after count 1))) × (left ≡ link)
-FindsBeginning asks path retries link object other count found left =
-    AsksBeginning asks path retries link object found left
+FindsBeginning asks path retries link object many other count found left =
+    AsksBeginning asks path retries link object many found left
 
 -- the number behind the one that a log stands behind
 abbrev pub next_from : Stand → ℕ
 next_from stand = number_after (kept_last stand).number 1
 
 -- A new epoch of a log begins at a number, if there is a next one.
-abbrev pub IsAnew : {S : Type 0} → (S → List ℕ → Result (List ℕ) Loss → S → Type 0) → Path → ℕ → S → ℕ → Id → Stand →
-    Result ℕ WalkFault → Result Start End → S → Type 0
-IsAnew asks path retries link log object stand (Err lost) begun left =
+abbrev pub IsAnew : {S : Type 0} → (S → List ℕ → Result (List ℕ) Loss → S → Type 0) → Path → ℕ → S → ℕ → Id →
+    (many : ℕ) → Stand → Result ℕ WalkFault → Result Start End → S → Type 0
+IsAnew asks path retries link log object many stand (Err lost) begun left =
     Ends (Walk (why.Fault lost)) (next_from stand) begun × (left ≡ link)
-IsAnew asks path retries link log object stand (Ok number) begun left =
+IsAnew asks path retries link log object many stand (Ok number) begun left =
     ((32767 ≤ epoch_of stand) × Ends Epochs (next_from stand) begun × (left ≡ link))
     ⊎ ((place : Place) × (hand : Result Hand Ending) × (place.log ≡ log) × (place.epoch ≡ epoch_of stand + 1)
-    × StepsAt asks path retries place link object number hand left
+    × StepsAt asks path retries place link object many number hand left
     × OpensWith hand (next_from stand) began.Anew
     (Some (record { log = place.log; epoch = place.epoch; number = number })) begun)
 
@@ -190,14 +191,14 @@ OpensBehind from gap (Err ending) next begun = Ends ending next begun
 
 -- Both are kept: a gap in the epoch in which the log would go on, up to the oldest record, and behind it a new epoch from
 -- where the log begins if it began anew.
-abbrev pub IsEither : {S : Type 0} → (S → List ℕ → Result (List ℕ) Loss → S → Type 0) → Path → ℕ → S → Id → Stand → Place → ℕ →
-    Result Start End → S → Type 0
-IsEither asks path retries link object stand from oldest begun left =
+abbrev pub IsEither : {S : Type 0} → (S → List ℕ → Result (List ℕ) Loss → S → Type 0) → Path → ℕ → S → Id → (many : ℕ) →
+    Stand → Place → ℕ → Result Start End → S → Type 0
+IsEither asks path retries link object many stand from oldest begun left =
     ((from.log * 32768 + 32767 ≤ era_after (era from) (gap_up_to (next_from stand) oldest))
     × Ends Epochs (next_from stand) begun × (left ≡ link))
     ⊎ ((place : Place) × (hand : Result Hand Ending) × (place.log ≡ from.log)
     × (era place ≡ era_after (era from) (gap_up_to (next_from stand) oldest) + 1)
-    × StepsAt asks path retries place link object (beginning_of oldest) hand left
+    × StepsAt asks path retries place link object many (beginning_of oldest) hand left
     × OpensBehind from (gap_up_to (next_from stand) oldest) hand (next_from stand) begun)
 
 -- ---- the one rule
@@ -219,15 +220,15 @@ GoesOn asks path retries link hand found begun left =
     (BeginsWith hand began.GoesOn None begun × (left ≡ link))
 
 -- A log goes on with what is in hand, begins anew, or both are kept.
-abbrev pub ByCourse : {S : Type 0} → (S → List ℕ → Result (List ℕ) Loss → S → Type 0) → Path → ℕ → S → ℕ → Id → Stand → Place →
-    Hand → Seen → Count → Course → Result Start End → S → Type 0
-ByCourse asks path retries link log object stand from hand found count GoOn begun left =
+abbrev pub ByCourse : {S : Type 0} → (S → List ℕ → Result (List ℕ) Loss → S → Type 0) → Path → ℕ → S → ℕ → Id →
+    (many : ℕ) → Stand → Place → Hand → Seen → Count → Course → Result Start End → S → Type 0
+ByCourse asks path retries link log object many stand from hand found count GoOn begun left =
     GoesOn asks path retries link hand found begun left
-ByCourse {S = S} asks path retries link log object stand from hand found count Anew begun left =
-    (number : Result ℕ WalkFault) × (mid : S) × FindsBeginning asks path retries link object found count number mid
-    × IsAnew asks path retries mid log object stand number begun left
-ByCourse asks path retries link log object stand from hand found count (Both oldest) begun left =
-    IsEither asks path retries link object stand from oldest begun left
+ByCourse {S = S} asks path retries link log object many stand from hand found count Anew begun left =
+    (number : Result ℕ WalkFault) × (mid : S) × FindsBeginning asks path retries link object many found count number mid
+    × IsAnew asks path retries mid log object many stand number begun left
+ByCourse asks path retries link log object many stand from hand found count (Both oldest) begun left =
+    IsEither asks path retries link object many stand from oldest begun left
 
 -- a count that is told
 abbrev pub counted : Count → Option ℕ
@@ -236,12 +237,12 @@ counted Untold = None
 counted Lost = None
 
 -- by what the device holds of the record that was kept last, by its own word, and by its count
-abbrev pub ByCount : {S : Type 0} → (S → List ℕ → Result (List ℕ) Loss → S → Type 0) → Path → ℕ → S → ℕ → Id → Word → Stand →
-    Place → Hand → Seen → Count → Result Start End → S → Type 0
-ByCount asks path retries link log object word stand from hand found Lost begun left =
+abbrev pub ByCount : {S : Type 0} → (S → List ℕ → Result (List ℕ) Loss → S → Type 0) → Path → ℕ → S → ℕ → Id →
+    (many : ℕ) → Word → Stand → Place → Hand → Seen → Count → Result Start End → S → Type 0
+ByCount asks path retries link log object many word stand from hand found Lost begun left =
     Ends (Walk (why.Fault walk.Lost)) (next_from stand) begun × (left ≡ link)
-ByCount asks path retries link log object word stand from hand found count begun left =
-    ByCourse asks path retries link log object stand from hand found count
+ByCount asks path retries link log object many word stand from hand found count begun left =
+    ByCourse asks path retries link log object many stand from hand found count
     (course_of found word (counted count) (kept_last stand).number) begun left
 
 -- the count decides where nothing is held; before the number 1 it says nothing
@@ -255,38 +256,39 @@ CountsWhere asks path retries link object true count left = Counts asks path ret
 CountsWhere asks path retries link object false count left = (count ≡ Untold) × (left ≡ link)
 
 -- what the device holds of the record that was kept last tells how a run goes on, unless no answer came
-abbrev pub BySeen : {S : Type 0} → (S → List ℕ → Result (List ℕ) Loss → S → Type 0) → Path → ℕ → S → ℕ → Id → Word → Stand →
-    Place → Hand → Result Seen WalkFault → Result Start End → S → Type 0
-BySeen asks path retries link log object word stand from hand (Err lost) begun left =
+abbrev pub BySeen : {S : Type 0} → (S → List ℕ → Result (List ℕ) Loss → S → Type 0) → Path → ℕ → S → ℕ → Id →
+    (many : ℕ) → Word → Stand → Place → Hand → Result Seen WalkFault → Result Start End → S → Type 0
+BySeen asks path retries link log object many word stand from hand (Err lost) begun left =
     Ends (Walk (why.Fault lost)) (next_from stand) begun × (left ≡ link)
-BySeen {S = S} asks path retries link log object word stand from hand (Ok found) begun left =
+BySeen {S = S} asks path retries link log object many word stand from hand (Ok found) begun left =
     (count : Count) × (mid : S) × CountsWhere asks path retries link object (asks_count stand found) count mid
-    × ByCount asks path retries mid log object word stand from hand found count begun left
+    × ByCount asks path retries mid log object many word stand from hand found count begun left
 
 -- behind what came from there that record is asked for; if that came to no end, nothing more is
-abbrev pub ByHand : {S : Type 0} → (S → List ℕ → Result (List ℕ) Loss → S → Type 0) → Path → ℕ → S → ℕ → Id → Word → Stand →
-    Place → Result Hand Ending → Result Start End → S → Type 0
-ByHand asks path retries link log object word stand from (Err ending) begun left =
+abbrev pub ByHand : {S : Type 0} → (S → List ℕ → Result (List ℕ) Loss → S → Type 0) → Path → ℕ → S → ℕ → Id →
+    (many : ℕ) → Word → Stand → Place → Result Hand Ending → Result Start End → S → Type 0
+ByHand asks path retries link log object many word stand from (Err ending) begun left =
     Ends ending (next_from stand) begun × (left ≡ link)
-ByHand {S = S} asks path retries link log object word stand from (Ok hand) begun left =
-    (found : Result Seen WalkFault) × (mid : S) × Looks asks path retries link object (kept_last stand) found mid
-    × BySeen asks path retries mid log object word stand from hand found begun left
+ByHand {S = S} asks path retries link log object many word stand from (Ok hand) begun left =
+    (found : Result Seen WalkFault) × (mid : S) × Looks asks path retries link object many (kept_last stand) found mid
+    × BySeen asks path retries mid log object many word stand from hand found begun left
 
 -- Over a log that stands somewhere a run of so many steps asks first for what lies behind, and then for the record that
 -- was kept last. In an archive with no place for the next number it asks nothing.
-abbrev pub GoesFrom : {S : Type 0} → (S → List ℕ → Result (List ℕ) Loss → S → Type 0) → Path → ℕ → S → ℕ → Id → Word → Stand →
-    ℕ → Result Start End → S → Type 0
-GoesFrom {S = S} asks path retries link log object word stand steps begun left =
+abbrev pub GoesFrom : {S : Type 0} → (S → List ℕ → Result (List ℕ) Loss → S → Type 0) → Path → ℕ → S → ℕ → Id →
+    (many : ℕ) → Word → Stand → ℕ → Result Start End → S → Type 0
+GoesFrom {S = S} asks path retries link log object many word stand steps begun left =
     ((32767 < epoch_from stand) × Ends Epochs (next_from stand) begun × (left ≡ link))
     ⊎ ((from : Place) × (hand : Result Hand Ending) × (mid : S) × (from.log ≡ log) × (from.epoch ≡ epoch_from stand)
-    × LooksAhead asks path retries from (free_from stand) link (walk_at object (next_from stand)) steps hand mid
-    × ByHand asks path retries mid log object word stand from hand begun left)
+    × LooksAhead asks path retries from (free_from stand) link (asking many (walk_at object (next_from stand))) steps
+    hand mid
+    × ByHand asks path retries mid log object many word stand from hand begun left)
 
 -- A run of so many steps over a log begins at its oldest record if nothing of it is on record in an archive, once its
 -- count was asked for; and else where what came over the link says, which is left so behind these questions.
-abbrev pub IsBegun : {S : Type 0} → (S → List ℕ → Result (List ℕ) Loss → S → Type 0) → Path → ℕ → S → S → ℕ → Id → Word →
-    ℕ → Trees → Result Start End → Type 0
-IsBegun asks path retries link left log object word steps trees begun =
-    (IsStand log trees None × StartsNew asks path retries link log object begun left)
+abbrev pub IsBegun : {S : Type 0} → (S → List ℕ → Result (List ℕ) Loss → S → Type 0) → Path → ℕ → S → S → ℕ → Id →
+    (many : ℕ) → Word → ℕ → Trees → Result Start End → Type 0
+IsBegun asks path retries link left log object many word steps trees begun =
+    (IsStand log trees None × StartsNew asks path retries link log object many begun left)
     ⊎ ((stand : Stand) × IsStand log trees (Some stand)
-    × GoesFrom asks path retries link log object (word_at stand word) stand steps begun left)
+    × GoesFrom asks path retries link log object many (word_at stand word) stand steps begun left)

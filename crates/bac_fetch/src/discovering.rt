@@ -161,6 +161,7 @@ pub(crate) fn asked_like(like: &Asking, instance: u32) -> Result<Asking, NotDone
         },
         instance,
         steps: like.steps,
+        count: like.count,
     })
 }
 

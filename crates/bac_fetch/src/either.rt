@@ -19,7 +19,7 @@ use bac_archive::Row;
 use bac_asked::{Began, End, Ending, Fault, NotDone};
 use bac_keep::{Gathered, KeptStep, Place, beginning_of};
 use bac_link::{LogLink, Transactions};
-use bac_walk::Why;
+use bac_walk::{Count as Many, Why};
 use bac_wire::ObjectId;
 use std::alloc::Global;
 
@@ -182,6 +182,7 @@ pub(crate) fn begin_either<L: LogLink>(
     link: &mut L,
     transactions: &mut Transactions,
     log: ObjectId,
+    many: Many,
     stand: &Stand,
     from: Place,
     oldest: u32,
@@ -189,7 +190,7 @@ pub(crate) fn begin_either<L: LogLink>(
     requires { log.kind ≡ 20 }
     ensures retries { transactions.new.retries ≡ transactions.old.retries }
     ensures route { transactions.new.route ≡ transactions.old.route }
-    ensures either { IfOk result (λ begun. IsEither L.asks (towards transactions.old.route) transactions.old.retries link.old log stand.now from oldest begun link.new) }
+    ensures either { IfOk result (λ begun. IsEither L.asks (towards transactions.old.route) transactions.old.retries link.old log many stand.now from oldest begun link.new) }
     ensures fault { IfErr result WantsMemory }
 {
     let next = number_behind(last_kept(stand).number);
@@ -197,6 +198,6 @@ pub(crate) fn begin_either<L: LogLink>(
         return Ok(Err(none_behind(stand, Ending::Epochs)));
     };
     let number = beginning_of(oldest);
-    let hand = take_step_at(alloc, link, transactions, log, number, missing.place)?;
+    let hand = take_step_at(alloc, link, transactions, log, many, number, missing.place)?;
     open_behind(missing, hand, next)
 }

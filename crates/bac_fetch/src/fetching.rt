@@ -31,7 +31,7 @@ use bac_keep::{
 };
 use bac_link::{LogLink, Transactions};
 use bac_ports::{Sockets, UdpLink};
-use bac_walk::{Walk, Why};
+use bac_walk::{Count as Many, Walk, Why};
 use bac_wire::ObjectId;
 use bac_words::{Asked, Word};
 use sqlite::{Alter, Connection};
@@ -71,7 +71,7 @@ pub(crate) fn connect<S: Sockets>(
     } = asked;
     match sockets.open(local.unwrap_or(ANY), timeout) {
         Ok(port) => Ok((UdpLink::new(port, address), transactions_by(retries, route))),
-        Err(_) => Err(NotDone::Asking(Fault::Socket)),
+        Err(why) => Err(NotDone::Asking(Fault::Unopened(why))),
     }
 }
 
@@ -84,6 +84,7 @@ fn where_to_start<L: LogLink, A: Alter>(
     conn: &mut Connection<A>,
     id: u16,
     log: ObjectId,
+    many: Many,
     word: DeviceWord,
     steps: u32,
 ) -> Result<Result<Start, End>, NotDone>
@@ -92,7 +93,7 @@ fn where_to_start<L: LogLink, A: Alter>(
     ensures route { transactions.new.route ≡ transactions.old.route }
     // By the rows of the archive, and by what the device tells over the link, which is left so.
     ensures begun { HasCleanDisk (state A.Store conn.new) → (state A.Store conn.old).now.schema ≡ archive_schema
-        → IfOk result (IsBegun L.asks (towards transactions.old.route) transactions.old.retries link.old link.new id log word steps (state A.Store conn.old).now.trees) }
+        → IfOk result (IsBegun L.asks (towards transactions.old.route) transactions.old.retries link.old link.new id log many word steps (state A.Store conn.old).now.trees) }
     ensures same { HasCleanDisk (state A.Store conn.new) → (state A.Store conn.old).now.schema ≡ archive_schema
         → OnOk result ((state A.Store conn.new).now ≡ (state A.Store conn.old).now) }
     // Whatever comes of it, nothing is committed.
@@ -101,8 +102,18 @@ fn where_to_start<L: LogLink, A: Alter>(
     ensures fault { IfErr result EndsLog }
 {
     match stand_of(alloc, conn, id)? {
-        Some(stand) => start_at(alloc, link, transactions, id, log, word, &stand, steps),
-        None => start_new(alloc, link, transactions, id, log),
+        Some(stand) => start_at(
+            alloc,
+            link,
+            transactions,
+            id,
+            log,
+            many,
+            word,
+            &stand,
+            steps,
+        ),
+        None => start_new(alloc, link, transactions, id, log, many),
     }
 }
 
@@ -389,12 +400,13 @@ fn fetch_over<L: LogLink, A: Alter, P: Progress>(
     conn: &mut Connection<A>,
     entry: &Entry,
     log: ObjectId,
+    many: Many,
     steps: u32,
     progress: &mut P,
 ) -> Result<End, NotDone>
     requires { log.kind ≡ 20 }
     ensures kept { HasCleanDisk (state A.Store conn.new) → (state A.Store conn.old).now.schema ≡ archive_schema
-        → IfOk result (KeepsOverLink L.asks (towards transactions.old.route) transactions.old.retries link.old link.new steps entry.now log
+        → IfOk result (KeepsOverLink L.asks (towards transactions.old.route) transactions.old.retries link.old link.new steps entry.now log many
         (state A.Store conn.old).now (state A.Store conn.new).now) }
     // Whatever comes of it, what a crash leaves then, or at any moment before, has all that was there.
     ensures stays { HasCleanDisk (state A.Store conn.new) → (state A.Store conn.old).now.schema ≡ archive_schema
@@ -402,7 +414,7 @@ fn fetch_over<L: LogLink, A: Alter, P: Progress>(
     // What a crash leaves has the device's word from before, or all that the run kept.
     ensures word { HasCleanDisk (state A.Store conn.new) → (state A.Store conn.old).now.schema ≡ archive_schema
         → Survives (state A.Store conn.old) (state A.Store conn.new) (LeavesWord (state A.Store conn.old).now.trees
-        (λ db. (left : L) × (end : EndOf) × KeepsOverLink L.asks (towards transactions.old.route) transactions.old.retries link.old left steps entry.now log
+        (λ db. (left : L) × (end : EndOf) × KeepsOverLink L.asks (towards transactions.old.route) transactions.old.retries link.old left steps entry.now log many
         (state A.Store conn.old).now db end)) }
     ensures clean { HasCleanDisk (state A.Store conn.new) → HasCleanDisk (state A.Store conn.old) }
     ensures fault { IfErr result EndsLog }
@@ -414,6 +426,7 @@ fn fetch_over<L: LogLink, A: Alter, P: Progress>(
         conn,
         entry.row.id,
         log,
+        many,
         entry.word,
         steps,
     )? {
@@ -455,6 +468,7 @@ pub(crate) fn fetch<S: Sockets, A: Alter, P: Progress>(
         asked,
         instance: _instance,
         steps,
+        count: many,
     } = asking;
     let Some(log) = ObjectId::new(TREND_LOG, entry.row.source.instance) else {
         return Err(NotDone::Asking(Fault::BadValue(Word::Instance)));
@@ -468,6 +482,7 @@ pub(crate) fn fetch<S: Sockets, A: Alter, P: Progress>(
         conn,
         entry,
         log,
+        many,
         steps,
         progress,
     );

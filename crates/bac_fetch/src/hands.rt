@@ -8,7 +8,7 @@ ghost use Rattle.bac_fetch.specs.Hands.{Steps, StepsAt};
 use bac_asked::{Ending, Fault, NotDone};
 use bac_keep::{Gathered, Place, Refusal, gather};
 use bac_link::{LogLink, Transactions};
-use bac_walk::{Ended, Walk, WalkFault, Why};
+use bac_walk::{Count as Many, Ended, Walk, WalkFault, Why};
 use bac_wire::ObjectId;
 use std::alloc::Global;
 
@@ -59,17 +59,21 @@ pub(crate) fn take_step_at<L: LogLink>(
     link: &mut L,
     transactions: &mut Transactions,
     log: ObjectId,
+    many: Many,
     number: u32,
     place: Place,
 ) -> Result<Result<Hand, Ending>, NotDone>
     requires { log.kind ≡ 20 }
     ensures retries { transactions.new.retries ≡ transactions.old.retries }
     ensures route { transactions.new.route ≡ transactions.old.route }
-    ensures steps { IfOk result (λ hand. StepsAt L.asks (towards transactions.old.route) transactions.old.retries place link.old log number hand link.new) }
+    ensures steps { IfOk result (λ hand. StepsAt L.asks (towards transactions.old.route) transactions.old.retries place link.old log many number hand link.new) }
     ensures fault { IfErr result WantsMemory }
 {
     match Walk::from_number(log, number) {
-        Some(walk) => take_step(alloc, link, transactions, walk, place, 0),
+        Some(walk) => {
+            let walk = walk.asking_for(many);
+            take_step(alloc, link, transactions, walk, place, 0)
+        }
         None => Ok(Err(Ending::Walk(Why::Fault(WalkFault::BadReply)))),
     }
 }

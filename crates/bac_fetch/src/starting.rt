@@ -3,7 +3,7 @@
 ghost use Rattle.std.specs.Prelude.{◌≡◌, None, Ok, IfOk, IfErr};
 ghost use Rattle.bac_link.specs.Ordinals.{number_after};
 ghost use Rattle.bac_link.specs.Path.{towards};
-ghost use Rattle.bac_walk.specs.Place.{walk_at};
+ghost use Rattle.bac_walk.specs.Place.{asking, walk_at};
 ghost use Rattle.bac_keep.specs.Looks.{Looks};
 ghost use Rattle.bac_asked.specs.Faults.{WantsMemory};
 ghost use Rattle.bac_fetch.specs.Stands.{kept_last, word_at};
@@ -20,7 +20,7 @@ use bac_archive::Beginning;
 use bac_asked::{Began, End, Ending, Fault, NotDone};
 use bac_keep::{Course, Place, Seen, Word, beginning_of, course_of, look_for};
 use bac_link::{LogLink, Transactions};
-use bac_walk::{Batch, Step, Walk, WalkFault, Why};
+use bac_walk::{Batch, Count as Many, Step, Walk, WalkFault, Why};
 use bac_wire::ObjectId;
 use std::alloc::Global;
 
@@ -81,17 +81,19 @@ fn begin_first<L: LogLink>(
     transactions: &mut Transactions,
     id: u16,
     log: ObjectId,
+    many: Many,
     number: u32,
 ) -> Result<Result<Start, End>, NotDone>
     requires { log.kind ≡ 20 }
     ensures retries { transactions.new.retries ≡ transactions.old.retries }
     ensures route { transactions.new.route ≡ transactions.old.route }
-    ensures opens { IfOk result (OpensFirst L.asks (towards transactions.old.route) transactions.old.retries link.old link.new id log number) }
+    ensures opens { IfOk result (OpensFirst L.asks (towards transactions.old.route) transactions.old.retries link.old link.new id log many number) }
     ensures fault { IfErr result WantsMemory }
 {
     let (Some(place), Some(walk)) = (Place::new(id, 0), Walk::oldest(log)) else {
         unreachable!()
     };
+    let walk = walk.asking_for(many);
     let hand = take_step(alloc, link, transactions, walk, place, 0)?;
     let beginning = Beginning {
         log: id,
@@ -108,19 +110,28 @@ fn start_first<L: LogLink>(
     transactions: &mut Transactions,
     id: u16,
     log: ObjectId,
+    many: Many,
     count: Count,
 ) -> Result<Result<Start, End>, NotDone>
     requires { log.kind ≡ 20 }
     ensures retries { transactions.new.retries ≡ transactions.old.retries }
     ensures route { transactions.new.route ≡ transactions.old.route }
-    ensures first { IfOk result (λ begun. IsFirst L.asks (towards transactions.old.route) transactions.old.retries link.old id log count begun link.new) }
+    ensures first { IfOk result (λ begun. IsFirst L.asks (towards transactions.old.route) transactions.old.retries link.old id log many count begun link.new) }
     ensures fault { IfErr result WantsMemory }
 {
     match count {
         Count::Told(count) => {
-            begin_first(alloc, link, transactions, id, log, number_behind(count))
+            begin_first(
+                alloc,
+                link,
+                transactions,
+                id,
+                log,
+                many,
+                number_behind(count),
+            )
         }
-        Count::Untold => begin_first(alloc, link, transactions, id, log, 1),
+        Count::Untold => begin_first(alloc, link, transactions, id, log, many, 1),
         Count::Lost => Ok(Err(none_kept(Ending::Walk(Why::Fault(WalkFault::Lost)), 1))),
     }
 }
@@ -140,15 +151,17 @@ fn ask_beginning<L: LogLink>(
     link: &mut L,
     transactions: &mut Transactions,
     log: ObjectId,
+    many: Many,
 ) -> Result<u32, WalkFault>
     requires { log.kind ≡ 20 }
     ensures retries { transactions.new.retries ≡ transactions.old.retries }
     ensures route { transactions.new.route ≡ transactions.old.route }
-    ensures asks { AsksBeginning L.asks (towards transactions.old.route) transactions.old.retries link.old log result link.new }
+    ensures asks { AsksBeginning L.asks (towards transactions.old.route) transactions.old.retries link.old log many result link.new }
 {
-    let Some(mut walk) = Walk::oldest(log) else {
+    let Some(walk) = Walk::oldest(log) else {
         unreachable!()
     };
+    let mut walk = walk.asking_for(many);
     match walk.step(link, transactions) {
         Ok(Step::Batch(batch)) => Ok(beginning_by(&batch)),
         Ok(Step::CaughtUp) => Ok(1),
@@ -161,17 +174,18 @@ fn find_beginning<L: LogLink>(
     link: &mut L,
     transactions: &mut Transactions,
     log: ObjectId,
+    many: Many,
     seen: Seen,
     count: Count,
 ) -> Result<u32, WalkFault>
     requires { log.kind ≡ 20 }
     ensures retries { transactions.new.retries ≡ transactions.old.retries }
     ensures route { transactions.new.route ≡ transactions.old.route }
-    ensures finds { FindsBeginning L.asks (towards transactions.old.route) transactions.old.retries link.old log seen count result link.new }
+    ensures finds { FindsBeginning L.asks (towards transactions.old.route) transactions.old.retries link.old log many seen count result link.new }
 {
     match (seen, count) {
         (Seen::Nothing, Count::Told(count)) => Ok(beginning_of(number_behind(count))),
-        _ => ask_beginning(link, transactions, log),
+        _ => ask_beginning(link, transactions, log, many),
     }
 }
 
@@ -182,19 +196,20 @@ fn begin_anew<L: LogLink>(
     transactions: &mut Transactions,
     id: u16,
     log: ObjectId,
+    many: Many,
     stand: &Stand,
     number: u32,
 ) -> Result<Result<Start, End>, NotDone>
     requires { log.kind ≡ 20 }
     ensures retries { transactions.new.retries ≡ transactions.old.retries }
     ensures route { transactions.new.route ≡ transactions.old.route }
-    ensures anew { IfOk result (λ begun. IsAnew L.asks (towards transactions.old.route) transactions.old.retries link.old id log stand.now (Ok number) begun link.new) }
+    ensures anew { IfOk result (λ begun. IsAnew L.asks (towards transactions.old.route) transactions.old.retries link.old id log many stand.now (Ok number) begun link.new) }
     ensures fault { IfErr result WantsMemory }
 {
     let Some(place) = Place::new(id, epoch_of(stand).saturating_add(1)) else {
         return Ok(Err(none_behind(stand, Ending::Epochs)));
     };
-    let hand = take_step_at(alloc, link, transactions, log, number, place)?;
+    let hand = take_step_at(alloc, link, transactions, log, many, number, place)?;
     let beginning = Beginning {
         log: place.log,
         epoch: place.epoch,
@@ -211,17 +226,18 @@ fn start_anew<L: LogLink>(
     transactions: &mut Transactions,
     id: u16,
     log: ObjectId,
+    many: Many,
     stand: &Stand,
     found: Result<u32, WalkFault>,
 ) -> Result<Result<Start, End>, NotDone>
     requires { log.kind ≡ 20 }
     ensures retries { transactions.new.retries ≡ transactions.old.retries }
     ensures route { transactions.new.route ≡ transactions.old.route }
-    ensures anew { IfOk result (λ begun. IsAnew L.asks (towards transactions.old.route) transactions.old.retries link.old id log stand.now found begun link.new) }
+    ensures anew { IfOk result (λ begun. IsAnew L.asks (towards transactions.old.route) transactions.old.retries link.old id log many stand.now found begun link.new) }
     ensures fault { IfErr result WantsMemory }
 {
     match found {
-        Ok(number) => begin_anew(alloc, link, transactions, id, log, stand, number),
+        Ok(number) => begin_anew(alloc, link, transactions, id, log, many, stand, number),
         Err(fault) => Ok(Err(none_behind(stand, Ending::Walk(Why::Fault(fault))))),
     }
 }
@@ -233,6 +249,7 @@ fn start_by<L: LogLink>(
     transactions: &mut Transactions,
     id: u16,
     log: ObjectId,
+    many: Many,
     stand: &Stand,
     from: Place,
     hand: Hand,
@@ -243,17 +260,17 @@ fn start_by<L: LogLink>(
     requires { log.kind ≡ 20 }
     ensures retries { transactions.new.retries ≡ transactions.old.retries }
     ensures route { transactions.new.route ≡ transactions.old.route }
-    ensures starts { IfOk result (λ begun. ByCourse L.asks (towards transactions.old.route) transactions.old.retries link.old id log stand.now from hand seen count course begun link.new) }
+    ensures starts { IfOk result (λ begun. ByCourse L.asks (towards transactions.old.route) transactions.old.retries link.old id log many stand.now from hand seen count course begun link.new) }
     ensures fault { IfErr result WantsMemory }
 {
     match course {
         Course::GoOn => go_on(alloc, link, transactions, hand, seen),
         Course::Anew => {
-            let found = find_beginning(link, transactions, log, seen, count);
-            start_anew(alloc, link, transactions, id, log, stand, found)
+            let found = find_beginning(link, transactions, log, many, seen, count);
+            start_anew(alloc, link, transactions, id, log, many, stand, found)
         }
         Course::Both { oldest } => {
-            begin_either(alloc, link, transactions, log, stand, from, oldest)
+            begin_either(alloc, link, transactions, log, many, stand, from, oldest)
         }
     }
 }
@@ -276,6 +293,7 @@ fn start_counted<L: LogLink>(
     transactions: &mut Transactions,
     id: u16,
     log: ObjectId,
+    many: Many,
     word: Word,
     stand: &Stand,
     from: Place,
@@ -286,7 +304,7 @@ fn start_counted<L: LogLink>(
     requires { log.kind ≡ 20 }
     ensures retries { transactions.new.retries ≡ transactions.old.retries }
     ensures route { transactions.new.route ≡ transactions.old.route }
-    ensures starts { IfOk result (λ begun. ByCount L.asks (towards transactions.old.route) transactions.old.retries link.old id log word stand.now from hand seen count begun link.new) }
+    ensures starts { IfOk result (λ begun. ByCount L.asks (towards transactions.old.route) transactions.old.retries link.old id log many word stand.now from hand seen count begun link.new) }
     ensures fault { IfErr result WantsMemory }
 {
     if count == Count::Lost {
@@ -299,6 +317,7 @@ fn start_counted<L: LogLink>(
         transactions,
         id,
         log,
+        many,
         stand,
         from,
         hand,
@@ -343,6 +362,7 @@ fn start_seen<L: LogLink>(
     transactions: &mut Transactions,
     id: u16,
     log: ObjectId,
+    many: Many,
     word: Word,
     stand: &Stand,
     from: Place,
@@ -352,7 +372,7 @@ fn start_seen<L: LogLink>(
     requires { log.kind ≡ 20 }
     ensures retries { transactions.new.retries ≡ transactions.old.retries }
     ensures route { transactions.new.route ≡ transactions.old.route }
-    ensures starts { IfOk result (λ begun. BySeen L.asks (towards transactions.old.route) transactions.old.retries link.old id log word stand.now from hand found begun link.new) }
+    ensures starts { IfOk result (λ begun. BySeen L.asks (towards transactions.old.route) transactions.old.retries link.old id log many word stand.now from hand found begun link.new) }
     ensures fault { IfErr result WantsMemory }
 {
     let seen = match found {
@@ -366,6 +386,7 @@ fn start_seen<L: LogLink>(
         transactions,
         id,
         log,
+        many,
         word,
         stand,
         from,
@@ -381,15 +402,16 @@ fn look_behind<L: LogLink>(
     link: &mut L,
     transactions: &mut Transactions,
     log: ObjectId,
+    many: Many,
     stand: &Stand,
 ) -> Result<Result<Seen, WalkFault>, NotDone>
     requires { log.kind ≡ 20 }
     ensures retries { transactions.new.retries ≡ transactions.old.retries }
     ensures route { transactions.new.route ≡ transactions.old.route }
-    ensures looks { IfOk result (λ found. Looks L.asks (towards transactions.old.route) transactions.old.retries link.old log (kept_last stand.now) found link.new) }
+    ensures looks { IfOk result (λ found. Looks L.asks (towards transactions.old.route) transactions.old.retries link.old log many (kept_last stand.now) found link.new) }
     ensures fault { IfErr result WantsMemory }
 {
-    match look_for(alloc, link, transactions, log, last_kept(stand)) {
+    match look_for(alloc, link, transactions, log, many, last_kept(stand)) {
         Ok(found) => Ok(found),
         Err(_) => Err(NotDone::Asking(Fault::Memory)),
     }
@@ -402,6 +424,7 @@ fn start_behind<L: LogLink>(
     transactions: &mut Transactions,
     id: u16,
     log: ObjectId,
+    many: Many,
     word: Word,
     stand: &Stand,
     from: Place,
@@ -410,20 +433,21 @@ fn start_behind<L: LogLink>(
     requires { log.kind ≡ 20 }
     ensures retries { transactions.new.retries ≡ transactions.old.retries }
     ensures route { transactions.new.route ≡ transactions.old.route }
-    ensures starts { IfOk result (λ begun. ByHand L.asks (towards transactions.old.route) transactions.old.retries link.old id log word stand.now from hand begun link.new) }
+    ensures starts { IfOk result (λ begun. ByHand L.asks (towards transactions.old.route) transactions.old.retries link.old id log many word stand.now from hand begun link.new) }
     ensures fault { IfErr result WantsMemory }
 {
     let hand = match hand {
         Ok(hand) => hand,
         Err(ending) => return Ok(Err(none_behind(stand, ending))),
     };
-    let found = look_behind(alloc, link, transactions, log, stand)?;
+    let found = look_behind(alloc, link, transactions, log, many, stand)?;
     start_seen(
         alloc,
         link,
         transactions,
         id,
         log,
+        many,
         word,
         stand,
         from,
@@ -433,14 +457,14 @@ fn start_behind<L: LogLink>(
 }
 
 /// A walk from the number on that comes behind a log.
-fn walk_behind(log: ObjectId, stand: &Stand) -> Walk
+fn walk_behind(log: ObjectId, many: Many, stand: &Stand) -> Walk
     requires { log.kind ≡ 20 }
-    ensures { result ≡ walk_at log (next_from stand.now) }
+    ensures { result ≡ asking many (walk_at log (next_from stand.now)) }
 {
     let Some(walk) = Walk::from_number(log, number_behind(last_kept(stand).number)) else {
         unreachable!()
     };
-    walk
+    walk.asking_for(many)
 }
 
 /// Where a run begins over a log that stands there: asks for what lies behind, and then for the
@@ -451,6 +475,7 @@ fn start_from<L: LogLink>(
     transactions: &mut Transactions,
     id: u16,
     log: ObjectId,
+    many: Many,
     word: Word,
     stand: &Stand,
     steps: u32,
@@ -458,15 +483,26 @@ fn start_from<L: LogLink>(
     requires { log.kind ≡ 20 }
     ensures retries { transactions.new.retries ≡ transactions.old.retries }
     ensures route { transactions.new.route ≡ transactions.old.route }
-    ensures starts { IfOk result (λ begun. GoesFrom L.asks (towards transactions.old.route) transactions.old.retries link.old id log word stand.now steps begun link.new) }
+    ensures starts { IfOk result (λ begun. GoesFrom L.asks (towards transactions.old.route) transactions.old.retries link.old id log many word stand.now steps begun link.new) }
     ensures fault { IfErr result WantsMemory }
 {
     let Some((from, free)) = from_there(id, stand) else {
         return Ok(Err(none_behind(stand, Ending::Epochs)));
     };
-    let walk = walk_behind(log, stand);
+    let walk = walk_behind(log, many, stand);
     let hand = look_ahead(alloc, link, transactions, walk, from, free, steps)?;
-    start_behind(alloc, link, transactions, id, log, word, stand, from, hand)
+    start_behind(
+        alloc,
+        link,
+        transactions,
+        id,
+        log,
+        many,
+        word,
+        stand,
+        from,
+        hand,
+    )
 }
 
 /// The same by what the device's word says of a log that stands there.
@@ -476,6 +512,7 @@ pub(crate) fn start_at<L: LogLink>(
     transactions: &mut Transactions,
     id: u16,
     log: ObjectId,
+    many: Many,
     word: Word,
     stand: &Stand,
     steps: u32,
@@ -483,11 +520,11 @@ pub(crate) fn start_at<L: LogLink>(
     requires { log.kind ≡ 20 }
     ensures retries { transactions.new.retries ≡ transactions.old.retries }
     ensures route { transactions.new.route ≡ transactions.old.route }
-    ensures starts { IfOk result (λ begun. GoesFrom L.asks (towards transactions.old.route) transactions.old.retries link.old id log (word_at stand.now word) stand.now steps begun link.new) }
+    ensures starts { IfOk result (λ begun. GoesFrom L.asks (towards transactions.old.route) transactions.old.retries link.old id log many (word_at stand.now word) stand.now steps begun link.new) }
     ensures fault { IfErr result WantsMemory }
 {
     let told = word_at(stand, word);
-    start_from(alloc, link, transactions, id, log, told, stand, steps)
+    start_from(alloc, link, transactions, id, log, many, told, stand, steps)
 }
 
 /// Where a run begins over a log of which nothing is on record: asks how many records it has logged,
@@ -498,13 +535,14 @@ pub(crate) fn start_new<L: LogLink>(
     transactions: &mut Transactions,
     id: u16,
     log: ObjectId,
+    many: Many,
 ) -> Result<Result<Start, End>, NotDone>
     requires { log.kind ≡ 20 }
     ensures retries { transactions.new.retries ≡ transactions.old.retries }
     ensures route { transactions.new.route ≡ transactions.old.route }
-    ensures starts { IfOk result (λ begun. StartsNew L.asks (towards transactions.old.route) transactions.old.retries link.old id log begun link.new) }
+    ensures starts { IfOk result (λ begun. StartsNew L.asks (towards transactions.old.route) transactions.old.retries link.old id log many begun link.new) }
     ensures fault { IfErr result WantsMemory }
 {
     let count = read_count(link, transactions, log);
-    start_first(alloc, link, transactions, id, log, count)
+    start_first(alloc, link, transactions, id, log, many, count)
 }

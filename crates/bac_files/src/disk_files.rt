@@ -1,10 +1,12 @@
 //! The files of the machine.
 
-ghost use Rattle.std.specs.Prelude.{◌≡◌, ◌≢◌, IfErr, IfOk, None, OnErr, OnOk};
+ghost use Rattle.std.specs.Prelude.{◌≡◌, ◌≢◌, IfErr, IfOk, IsTrue, None, OnErr, OnOk};
+ghost use Rattle.sqlite.specs.Opening.{is_open_error};
 ghost use Rattle.sqlite_wal.specs.Files.{image_at};
-ghost use Rattle.bac_files.specs.Files.{IsClosedBy, IsNamed, IsOpenedBy, IsUnused};
+ghost use Rattle.bac_files.specs.Files.{IsClosedBy, IsNamed, IsOpenedBy, IsReason, IsReasonFor, IsUnasked, IsUnclosed, IsUnopened, IsUnused};
 
 use crate::not_opened::NotOpened;
+use crate::obstacles::obstacle_of;
 use sqlite::{Connection, Error, ErrorCode, FileFrom, FileStore, Files, Start};
 use std::alloc::AllocError;
 use std::fs::{Files as _, exists, metadata};
@@ -18,14 +20,18 @@ pub struct DiskFiles<'a, F: Start> {
     /// Which database was asked for, and whether it might be made.
     name: Option<String>,
     may_make: bool,
+    /// Why the last one that was asked for wasn't opened.
+    refused: Option<NotOpened>,
+    /// Why it couldn't be closed.
+    unclosed: Option<Error>,
     closed: Option<Files<FileFrom<F>>>,
 }
 
-/// How many octets a file has, if it is there.
+/// How many octets a file has, if it is there and no folder.
 fn len_of(rt: &HostRuntime, path: &str) -> Option<u64> {
     match metadata(rt, path) {
-        Ok(found) => Some(found.len()),
-        Err(_) => None,
+        Ok(found) if !found.is_dir() => Some(found.len()),
+        _ => None,
     }
 }
 
@@ -50,12 +56,18 @@ fn remove_empty(rt: &HostRuntime, log: &str) {
     }
 }
 
-/// Why a database isn't opened.
-fn why(error: Error) -> NotOpened
-    ensures { result ≢ NotOpened.Memory }
+/// Why a database isn't opened; of one that can't be, what the machine says of it and its log.
+fn why(rt: &HostRuntime, path: &str, log: &str, error: Error) -> NotOpened
+    ensures { IsReasonFor error result }
 {
     match error {
         Error::SqliteFailure(ErrorCode::DatabaseBusy) => NotOpened::InUse,
+        Error::SqliteFailure(ErrorCode::CannotOpen) => {
+            match obstacle_of(rt, path, log) {
+                Some(obstacle) => NotOpened::Barred(obstacle),
+                None => NotOpened::Database(error),
+            }
+        }
         error => NotOpened::Database(error),
     }
 }
@@ -68,7 +80,7 @@ fn open_from<F: Start>(
     start: F,
 ) -> Result<Connection<FileStore<FileFrom<F>>>, NotOpened>
     ensures opened { IfOk result (IsOpenedBy (image_at F.Start)) }
-    ensures refused { IfErr result (λ why. why ≢ NotOpened.Memory) }
+    ensures refused { IfErr result (λ why. (error : Error) × IsTrue (is_open_error error) × IsReasonFor error why) }
 {
     let had_log = !matches!(exists(rt, log), Ok(false));
     match Connection::open_from(rt, path, false, start) {
@@ -79,7 +91,7 @@ fn open_from<F: Start>(
             if !had_log {
                 remove_empty(rt, log);
             }
-            Err(why(error))
+            Err(why(rt, path, log, error))
         }
     }
 }
@@ -87,27 +99,30 @@ fn open_from<F: Start>(
 impl<'a, F: Start> DiskFiles<'a, F> {
     /// The files of the machine.
     pub fn new(rt: &'a HostRuntime, start: F) -> DiskFiles<'a, F>
-        ensures { IsUnused result }
+        ensures unused { IsUnused result }
+        ensures unasked { IsUnasked result }
     {
         DiskFiles {
             rt,
             start: Some(start),
             name: None,
             may_make: false,
+            refused: None,
+            unclosed: None,
             closed: None,
         }
     }
 
-    /// Opens the database of this name. Where there is no file, or one that has nothing in it, it makes
-    /// one if it may. A second one isn't opened.
-    pub fn open(
+    /// Opens the database of this name, unless it may not be made and isn't there.
+    fn try_open(
         &mut self,
         path: &str,
         may_make: bool,
     ) -> Result<Connection<FileStore<FileFrom<F>>>, NotOpened>
         ensures opened { IfOk result (IsOpenedBy (image_at F.Start)) }
+        ensures refused { IfErr result (IsReason may_make) }
         ensures named { result ≢ Err NotOpened.Memory → IsNamed path.now may_make self.new }
-        ensures unclosed { IsUnused self.old → IsUnused self.new }
+        ensures kept { (self.new.closed ≡ self.old.closed) × (self.new.unclosed ≡ self.old.unclosed) }
     {
         let Ok(name) = String::from_str(self.rt.alloc(), path) else {
             return Err(NotOpened::Memory);
@@ -129,10 +144,38 @@ impl<'a, F: Start> DiskFiles<'a, F> {
         }
     }
 
+    /// Opens the database of this name. Where there is no file, or one that has nothing in it, it makes
+    /// one if it may. A second one isn't opened.
+    pub fn open(
+        &mut self,
+        path: &str,
+        may_make: bool,
+    ) -> Result<Connection<FileStore<FileFrom<F>>>, NotOpened>
+        ensures opened { IfOk result (IsOpenedBy (image_at F.Start)) }
+        ensures named { result ≢ Err NotOpened.Memory → IsNamed path.now may_make self.new }
+        ensures refused { IfErr result (λ why. IsUnopened why self.new × IsReason may_make why) }
+        ensures unrefused { OnOk result (self.new.refused ≡ None) }
+        ensures kept { (self.new.closed ≡ self.old.closed) × (self.new.unclosed ≡ self.old.unclosed) }
+    {
+        match self.try_open(path, may_make) {
+            Ok(conn) => {
+                self.refused = None;
+                Ok(conn)
+            }
+            Err(why) => {
+                self.refused = Some(why);
+                Err(why)
+            }
+        }
+    }
+
     /// Closes the database.
     pub fn close(&mut self, conn: Connection<FileStore<FileFrom<F>>>) -> Result<(), Error>
         ensures closed { OnOk result (IsClosedBy conn self.new.closed) }
-        ensures unclosed { OnErr result (IsUnused self.old → IsUnused self.new) }
+        ensures unclosed { OnErr result (self.new.closed ≡ self.old.closed) }
+        ensures failed { IfErr result (λ error. IsUnclosed error self.new) }
+        ensures unfailed { OnOk result (self.new.unclosed ≡ self.old.unclosed) }
+        ensures refused { self.new.refused ≡ self.old.refused }
         ensures named { (path : _) (may : _) → IsNamed path may self.old → IsNamed path may self.new }
     {
         match conn.close_files() {
@@ -142,6 +185,7 @@ impl<'a, F: Start> DiskFiles<'a, F> {
             }
             Err((error, store)) => {
                 drop(store.close());
+                self.unclosed = Some(error);
                 Err(error)
             }
         }

@@ -6,6 +6,7 @@
 
 mod disk_files;
 mod not_opened;
+mod obstacles;
 
 pub use disk_files::DiskFiles;
-pub use not_opened::NotOpened;
+pub use not_opened::{NotOpened, Obstacle};

@@ -24,6 +24,7 @@ use Rattle.bac_words.specs.declared.job.KeepOptions.{KeepOptions}
 abbrev pub given_of : KeepOptions → Given
 given_of options = record {
   steps = options.steps;
+  count = options.count;
   timeout = options.timeout;
   local = options.local;
   retries = options.retries;

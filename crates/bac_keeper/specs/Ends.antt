@@ -14,6 +14,7 @@ abbrev pub fault_of : NotOpened → FileFault
 fault_of why.InUse = fault.InUse
 fault_of why.Absent = fault.Absent
 fault_of why.Empty = fault.NoLogs
+fault_of (why.Barred obstacle) = fault.Barred obstacle
 fault_of why.Memory = fault.Memory
 fault_of (why.Database error) = fault.Database error
 

@@ -26,7 +26,8 @@ use Rattle.bac_words.specs.declared.job.Kept.{Kept}
 
 -- no option
 abbrev pub none_given : Given
-none_given = record { steps = None; timeout = None; local = None; retries = None; dnet = None; dadr = None }
+none_given =
+    record { steps = None; count = None; timeout = None; local = None; retries = None; dnet = None; dadr = None }
 
 -- where the log is that these words name, by the rules of `bac log`
 abbrev pub IsNamedBy : Text → Text → Source → Type 0

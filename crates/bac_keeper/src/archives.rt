@@ -21,6 +21,7 @@ fn fault_of(why: NotOpened) -> FileFault
         NotOpened::InUse => FileFault::InUse,
         NotOpened::Absent => FileFault::Absent,
         NotOpened::Empty => FileFault::NoLogs,
+        NotOpened::Barred(obstacle) => FileFault::Barred(obstacle),
         NotOpened::Memory => FileFault::Memory,
         NotOpened::Database(error) => FileFault::Database(error),
     }

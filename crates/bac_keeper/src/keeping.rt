@@ -40,6 +40,7 @@ pub(crate) fn options_of(options: &KeepOptions) -> Options<'_>
 {
     Options {
         steps: text_of(&options.steps),
+        count: text_of(&options.count),
         timeout: text_of(&options.timeout),
         local: text_of(&options.local),
         retries: text_of(&options.retries),

@@ -28,6 +28,7 @@ fn choose(alloc: Global, asked: &Kept) -> Result<Shown, NotDone>
     };
     let none = Options {
         steps: None,
+        count: None,
         timeout: None,
         local: None,
         retries: None,

@@ -24,12 +24,17 @@ use sqlite_disk::Disk;
 use std::alloc::Global;
 use std::io::Write;
 
-/// Tells why a file is no use, and answers the exit status.
-fn tell_file<E: Write>(alloc: Global, fault: FileFault, errors: &mut E) -> Result<u8, Fault>
+/// Tells why the file with this name is no use, and answers the exit status.
+fn tell_file<E: Write>(
+    alloc: Global,
+    path: &str,
+    fault: FileFault,
+    errors: &mut E,
+) -> Result<u8, Fault>
     ensures status { IfOk result (λ status. status ≡ file_status fault) }
     ensures untold { OnErr result (E.contents errors.new ≡ E.contents errors.old) }
 {
-    match fault.lines(alloc) {
+    match fault.lines(alloc, path) {
         Ok(text) => {
             let _ = write_text(errors, text.as_bytes());
             Ok(fault.status())
@@ -38,9 +43,10 @@ fn tell_file<E: Write>(alloc: Global, fault: FileFault, errors: &mut E) -> Resul
     }
 }
 
-/// The exit status of what was done; a file that is no use is told on the errors.
+/// The exit status of what was done; a file with this name that is no use is told on the errors.
 fn tell_done<E: Write>(
     alloc: Global,
+    path: &str,
     done: Result<u8, NotDone>,
     errors: &mut E,
 ) -> Result<u8, Fault>
@@ -51,7 +57,7 @@ fn tell_done<E: Write>(
     match done {
         Ok(status) => Ok(status),
         Err(NotDone::Asking(fault)) => Err(fault),
-        Err(NotDone::File(fault)) => tell_file(alloc, fault, errors),
+        Err(NotDone::File(fault)) => tell_file(alloc, path, fault, errors),
     }
 }
 
@@ -89,10 +95,10 @@ pub fn run_keep<S: Sockets, F: Start, O: Write, E: Write>(
 {
     if asked.stop {
         let done = stop(files, alloc, asked, output);
-        return tell_done(alloc, done, errors);
+        return tell_done(alloc, asked.file.as_str(), done, errors);
     }
     let done = keep(sockets, files, alloc, asked, counts, output, errors);
-    tell_done(alloc, done, errors)
+    tell_done(alloc, asked.file.as_str(), done, errors)
 }
 
 /// Does what the words of `bac kept` ask for, and answers the exit status. What the file keeps goes
@@ -113,5 +119,5 @@ pub fn run_kept<F: Start, O: Write, E: Write>(
     ensures untold { OnErr result (E.contents errors.new ≡ E.contents errors.old) }
 {
     let done = kept(files, alloc, asked, output);
-    tell_done(alloc, done, errors)
+    tell_done(alloc, asked.file.as_str(), done, errors)
 }

@@ -22,7 +22,7 @@ returns-clause-either g c =
       hand,
       c.in-Some.ensures.log,
       subst (λ (n : ℕ). era place ≡ era_after (era from) (gap_up_to n oldest) + 1) is c.in-Some.ensures.behind,
-      subst (λ (n : ℕ). StepsAt g.L.LogLink.asks (towards t.route) t.retries place c.args.link.now c.args.log n hand c.take_step_at.new.link) c.beginning_of-number.ensures.number c.in_ok-hand.ensures.steps,
+      subst (λ (n : ℕ). StepsAt g.L.LogLink.asks (towards t.route) t.retries place c.args.link.now c.args.log c.args.many n hand c.take_step_at.new.link) c.beginning_of-number.ensures.number c.in_ok-hand.ensures.steps,
       subst (λ (n : ℕ). OpensBehind from (gap_up_to n oldest) hand n begun) is it,
     ))
     (c.open_behind.ensures.opened from (gap_up_to next oldest) c.in-Some.ensures.rows c.in-Some.ensures.gaps)

@@ -19,11 +19,11 @@ returns-in-Ok-clause-kept g c clean has =
     let early : HasCleanDisk mid = c.keep_entered.ensures.clean clean in
     let same = c.in_ok-start.ensures.same early has in
     let schema : mid.now.schema ≡ archive_schema = ap (λ (d : Database). d.schema) same ∙ has in
-    let begun : IsBegun g.L.LogLink.asks (towards c.args.transactions.now.route) c.args.transactions.now.retries c.args.link.now c.where_to_start.new.link entry.row.id c.args.log entry.word c.args.steps old.now.trees (Ok c.in-Ok.start) = rw c.in-Ok.is at c.in_ok-start.ensures.begun early has in
+    let begun : IsBegun g.L.LogLink.asks (towards c.args.transactions.now.route) c.args.transactions.now.retries c.args.link.now c.where_to_start.new.link entry.row.id c.args.log c.args.many entry.word c.args.steps old.now.trees (Ok c.in-Ok.start) = rw c.in-Ok.is at c.in_ok-start.ensures.begun early has in
     IfOk-weaker c.keep_entered.result _ _
     (λ end it. keeps_begun g.L.LogLink.asks c.args.transactions.now.route c.where_to_start.new.transactions.route
     c.args.transactions.now.retries c.where_to_start.new.transactions.retries c.args.link.now c.where_to_start.new.link c.keep_entered.new.link
-    c.args.steps entry c.args.log old.now mid.now new.now c.in-Ok.start end
+    c.args.steps entry c.args.log c.args.many old.now mid.now new.now c.in-Ok.start end
     begun c.in_ok-start.ensures.route c.in_ok-start.ensures.retries same it)
     (c.keep_entered.ensures.kept clean schema)
 
@@ -32,7 +32,7 @@ returns-in-Err-clause-kept g c clean has =
     let entry = c.args.entry.now in
     let old = state g.A.Store c.args.conn.now in
     let same = c.in_ok-start.ensures.same clean has in
-    let begun : IsBegun g.L.LogLink.asks (towards c.args.transactions.now.route) c.args.transactions.now.retries c.args.link.now c.where_to_start.new.link entry.row.id c.args.log entry.word c.args.steps old.now.trees (Err c.in-Err.end) = rw c.in-Err.is at c.in_ok-start.ensures.begun clean has in
+    let begun : IsBegun g.L.LogLink.asks (towards c.args.transactions.now.route) c.args.transactions.now.retries c.args.link.now c.where_to_start.new.link entry.row.id c.args.log c.args.many entry.word c.args.steps old.now.trees (Err c.in-Err.end) = rw c.in-Err.is at c.in_ok-start.ensures.begun clean has in
     (Err c.in-Err.end, c.where_to_start.new.link, begun, (same, refl, refl))
 
 pub returns-in-Ok-clause-word : goal.returns-in-Ok-clause-word
@@ -44,14 +44,14 @@ returns-in-Ok-clause-word g c clean has =
     let early : HasCleanDisk mid = c.keep_entered.ensures.clean clean in
     let same = c.in_ok-start.ensures.same early has in
     let schema : mid.now.schema ≡ archive_schema = ap (λ (d : Database). d.schema) same ∙ has in
-    let begun : IsBegun g.L.LogLink.asks (towards c.args.transactions.now.route) c.args.transactions.now.retries c.args.link.now c.where_to_start.new.link entry.row.id c.args.log entry.word c.args.steps old.now.trees (Ok c.in-Ok.start) = rw c.in-Ok.is at c.in_ok-start.ensures.begun early has in
+    let begun : IsBegun g.L.LogLink.asks (towards c.args.transactions.now.route) c.args.transactions.now.retries c.args.link.now c.where_to_start.new.link entry.row.id c.args.log c.args.many entry.word c.args.steps old.now.trees (Ok c.in-Ok.start) = rw c.in-Ok.is at c.in_ok-start.ensures.begun early has in
     quiet_word old mid new _ _ same (c.where_to_start.ensures.crash has)
     (λ db it. (
       it.0,
       it.1,
       keeps_begun g.L.LogLink.asks c.args.transactions.now.route c.where_to_start.new.transactions.route
           c.args.transactions.now.retries c.where_to_start.new.transactions.retries c.args.link.now c.where_to_start.new.link it.0
-          c.args.steps entry c.args.log old.now mid.now db c.in-Ok.start it.1
+          c.args.steps entry c.args.log c.args.many old.now mid.now db c.in-Ok.start it.1
           begun c.in_ok-start.ensures.route c.in_ok-start.ensures.retries same it.2,
     ))
     (c.keep_entered.ensures.word clean schema)

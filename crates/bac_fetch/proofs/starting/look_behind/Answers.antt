@@ -16,4 +16,4 @@ returns-in-Ok-clause-looks g c =
     let F : List ℕ → KeptAs = λ f. record { number = it.number; stamp = it.stamp; datum = it.datum; flags = f } in
     let same : N given.number ≡ it = ap N c.last_kept.ensures.number ∙ (ap S c.last_kept.ensures.stamp ∙ (ap D c.last_kept.ensures.datum ∙ ap F c.last_kept.ensures.flags)) in
     let none : given.number ≡ 0 → (c.in-Ok.found ≡ Ok Another) × (c.look_for.new.link ≡ c.args.link.now) = λ zero. let is = c.in-Ok.ensures.none zero in ((let e = is.0 in cc), is.1) in
-    subst (λ (k : KeptAs). Looks g.L.LogLink.asks (towards t.route) t.retries c.args.link.now c.args.log k c.in-Ok.found c.look_for.new.link) same (none, c.in-Ok.ensures.seen)
+    subst (λ (k : KeptAs). Looks g.L.LogLink.asks (towards t.route) t.retries c.args.link.now c.args.log c.args.many k c.in-Ok.found c.look_for.new.link) same (none, c.in-Ok.ensures.seen)

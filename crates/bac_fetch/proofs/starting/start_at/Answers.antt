@@ -7,4 +7,4 @@ use Rattle.bac_fetch.proofs.starting.start_at.Goals as goal
 pub returns-clause-starts : goal.returns-clause-starts
 returns-clause-starts g c =
     subst (λ (w : Word). IfOk c.start_from.result (λ begun. GoesFrom g.L.LogLink.asks (towards c.args.transactions.now.route) c.args.transactions.now.retries c.args.link.now
-    c.args.id c.args.log w c.args.stand.now c.args.steps begun c.start_from.new.link)) c.word_at-told.ensures c.start_from.ensures.starts
+    c.args.id c.args.log c.args.many w c.args.stand.now c.args.steps begun c.start_from.new.link)) c.word_at-told.ensures c.start_from.ensures.starts

@@ -1,0 +1,132 @@
+-- What the status 0 of `keep` tells, and what `kept` does to the sockets.
+use Rattle.std.proofs.Common.{◌≡◌, ◌⊎◌, ℕ, Bool, false, List, [], ◌∷◌, inl, inr, max, refl, subst, sym, ◌∙◌, Option, arith}
+use Rattle.std.proofs.Math.Nat.{le-max_left, le-max_right}
+use Rattle.sqlite_disk.specs.declared.Disk as disk
+use Rattle.sqlite_disk.specs.declared.start.Start as start
+use Rattle.sqlite_wal.specs.Files.{image_at}
+use Rattle.bac_asked.specs.Status.{end_status, file_status}
+use Rattle.bac_asked.specs.declared.end.End.{End}
+use Rattle.bac_asked.specs.declared.end.Ending.{Ending}
+use Rattle.bac_asked.specs.declared.end.Ending.TheVariants.{Walk, SaidMore, Back, Epochs, NotAsked, Other, Twice}
+use Rattle.bac_asked.specs.declared.fault.Fault.{Fault as KeepFault}
+use Rattle.bac_asked.specs.declared.fault.Fault.TheVariants as keep
+use Rattle.bac_asked.specs.declared.fault.FileFault.{FileFault}
+use Rattle.bac_asked.specs.declared.fault.FileFault.TheVariants as fault
+use Rattle.bac_fetch.specs.Keeps.{greatest_status}
+use Rattle.bac_files.specs.Files.{FileOf}
+use Rattle.bac_files.specs.declared.disk_files.DiskFiles.{DiskFiles}
+use Rattle.bac_heeding.specs.declared.notes.Passed.{Passed}
+use Rattle.bac_link.specs.declared.exchanges.ExchangeFault.TheVariants as exchange
+use Rattle.bac_ports.specs.Sockets.{SocketRules}
+use Rattle.bac_run.specs.Faults.{fault_of}
+use Rattle.bac_run.specs.Run.{RunsAll, RunsKeepBy}
+use Rattle.bac_run_tests.specs.Done.{AreCaughtUp, IsAllKept}
+use Rattle.bac_tools.specs.Status.{exit_status}
+use Rattle.bac_tools.specs.Streams.{Streams, streams}
+use Rattle.bac_walk.specs.declared.outcome.WalkFault.TheVariants as walk
+use Rattle.bac_walk.specs.declared.outcome.Why.TheVariants.{CaughtUp, StepLimit, Fault as Faulted, Memory}
+use Rattle.bac_wire.specs.Stamp.{CivilTime}
+use Rattle.bac_words.specs.declared.job.Job.TheVariants as job
+use Rattle.bac_words.specs.declared.job.Keep.{Keep as KeepWords}
+use Rattle.bac_words.specs.declared.job.Kept.{Kept as KeptWords}
+
+-- no fault of `keep` has the status 0
+fault_is_told : (why : KeepFault) → exit_status (fault_of why) ≡ 0 → ⊥
+fault_is_told (keep.BadValue word) none = absurd (cc)
+fault_is_told (keep.LongNumber word) none = absurd (cc)
+fault_is_told (keep.Unopened why) none = absurd (cc)
+fault_is_told (keep.Exchange address exchange.TooLong) none = absurd (cc)
+fault_is_told (keep.Exchange address exchange.Lost) none = absurd (cc)
+fault_is_told (keep.Exchange address (exchange.Refused refusal)) none = absurd (cc)
+fault_is_told (keep.Exchange address exchange.BadReply) none = absurd (cc)
+fault_is_told keep.Write none = absurd (cc)
+fault_is_told keep.Memory none = absurd (cc)
+
+-- no file that is no use
+file_is_told : (why : FileFault) → file_status why ≡ 0 → ⊥
+file_is_told fault.InUse none = absurd (cc)
+file_is_told (fault.Barred obstacle) none = absurd (cc)
+file_is_told fault.Foreign none = absurd (cc)
+file_is_told fault.First none = absurd (cc)
+file_is_told fault.Version none = absurd (cc)
+file_is_told fault.Absent none = absurd (cc)
+file_is_told fault.NoLog none = absurd (cc)
+file_is_told fault.NoLogs none = absurd (cc)
+file_is_told fault.Overlap none = absurd (cc)
+file_is_told fault.Orphan none = absurd (cc)
+file_is_told fault.Full none = absurd (cc)
+file_is_told fault.Address none = absurd (cc)
+file_is_told fault.Memory none = absurd (cc)
+file_is_told (fault.Database error) none = absurd (cc)
+
+-- a run over a log with the status 0 came to its end
+ends_caught_up : (why : Ending) → end_status why ≡ 0 → why ≡ Walk CaughtUp
+ends_caught_up (Walk CaughtUp) none = refl
+ends_caught_up (Walk StepLimit) none = absurd (cc)
+ends_caught_up (Walk (Faulted walk.Lost)) none = absurd (cc)
+ends_caught_up (Walk (Faulted (walk.Refused refusal))) none = absurd (cc)
+ends_caught_up (Walk (Faulted walk.BadReply)) none = absurd (cc)
+ends_caught_up (Walk Memory) none = absurd (cc)
+ends_caught_up SaidMore none = absurd (cc)
+ends_caught_up Back none = absurd (cc)
+ends_caught_up Epochs none = absurd (cc)
+ends_caught_up NotAsked none = absurd (cc)
+ends_caught_up (Other told kept) none = absurd (cc)
+ends_caught_up (Twice told) none = absurd (cc)
+
+-- both are 0 whose greater one is
+both_none : (a b : ℕ) → max a b ≡ 0 → (a ≡ 0) × (b ≡ 0)
+both_none a b none = (omega (arith, none, le-max_left a b), omega (arith, none, le-max_right a b))
+
+-- where the greatest status is 0 each run came to its end
+all_caught_up : (ends : List End) → greatest_status ends ≡ 0 → AreCaughtUp ends
+all_caught_up [] none = tt
+all_caught_up (end ∷ ends) none =
+    let both = both_none (end_status end.why) (greatest_status ends) none in
+    (ends_caught_up end.why both.0, all_caught_up ends both.1)
+
+module _ {S P C F : Type 0} {s : start.Ghosts F} (traces : S → Bool → S → Type 0) (rules : SocketRules S P)
+    (passes : S → Passed) (tells : C → Option CivilTime → C → Type 0) (g : disk.Ghosts (FileOf s)) (old new : Streams S C)
+    (files left : DiskFiles F s) (status : ℕ) where
+  -- `keep` over these sockets
+  kept_at : (asked : KeepWords) (told : S) → RunsKeepBy g rules passes false asked
+      (streams old.input old.output old.errors told old.clock) status new left → status ≡ 0
+      → IsAllKept rules g (image_at s) asked told new.sockets old.output new.output left.closed
+  kept_at asked told (inl (named, (is, chosen, words, (all, between, these, ask, found, (ends, many, its, lines, kept))))) none = record {
+    chosen = chosen;
+    by_words = words;
+    all = all;
+    are_these = these;
+    ask_their_source = ask;
+    between = between;
+    found = found;
+    ends = ends;
+    caught_up = all_caught_up ends (sym its ∙ none);
+    lines = lines;
+    is_closed = is;
+    kept = kept;
+  }
+  kept_at asked told (inr (inl (why, is, named))) none = absurd (file_is_told why (sym is ∙ none))
+  kept_at asked told (inr (inr (why, inl is))) none = absurd (fault_is_told why (sym is ∙ none))
+  kept_at asked told (inr (inr (why, inr is))) none = absurd (cc)
+
+  -- `keep` that ended with 0
+  pub all_kept : (asked : KeepWords) → RunsAll g traces rules passes tells (job.Keep asked) old files status new left
+      → asked.stop ≡ false → status ≡ 0
+      → (told : S) × traces old.sockets asked.trace told
+      × IsAllKept rules g (image_at s) asked told new.sockets old.output new.output left.closed
+  all_kept asked (inl ((inl its, keeps, untouched), same)) still none = absurd (let e = its.0 in cc)
+  all_kept asked (inl ((inr its, keeps, untouched), same)) still none = absurd (let e = its.0 in cc)
+  all_kept asked (inr (told, on, (ran, quiet))) still none = (
+    told,
+    on,
+    kept_at asked told
+        (subst (λ stops. RunsKeepBy g rules passes stops asked (streams old.input old.output old.errors told old.clock) status new left)
+        still ran) none,
+  )
+
+  -- `kept` opens no socket
+  pub none_asked : (asked : KeptWords) → RunsAll g traces rules passes tells (job.Kept asked) old files status new left
+      → (new.sockets ≡ old.sockets) ⊎ traces old.sockets false new.sockets
+  none_asked asked (inl ((told, keeps, (input, sockets, clock)), same)) = inl sockets
+  none_asked asked (inr (told, off, (ran, still, same))) = inr (subst (λ t. traces old.sockets false t) (sym same) off)
