@@ -1,5 +1,5 @@
 -- A question that is asked, or may not be, as a run of events.
-use Rattle.std.proofs.Common.{◌≡◌, ℕ, Bool, true, false, List, [], ◌∷◌}
+use Rattle.std.proofs.Common.{◌≡◌, ℕ, Bool, true, false, List, []}
 use Rattle.bac_ports.specs.Port.{Receiving, Sending}
 use Rattle.bac_desks.specs.Event.{Asked}
 use Rattle.bac_desks.specs.Served.{Asks, Runs}

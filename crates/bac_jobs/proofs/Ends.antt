@@ -1,5 +1,5 @@
 -- The ends of jobs, one after the other.
-use Rattle.std.proofs.Common.{◌≡◌, ◌⊎◌, inl, inr, ℕ, zero, suc, ◌+◌, List, [], ◌∷◌, ◌++◌, Option, Some, None, IfSome, slice_get, length, length-append, refl, ap, sym, subst, ◌∙◌, arith}
+use Rattle.std.proofs.Common.{◌≡◌, ◌⊎◌, inl, inr, ℕ, zero, suc, List, [], ◌∷◌, ◌++◌, Option, Some, None, IfSome, slice_get, length, refl, ap, sym, subst, ◌∙◌}
 use Rattle.bac_desks.specs.declared.seat.Seat.{Seat}
 use Rattle.bac_jobs.specs.Jobs.{HasEnded}
 use Rattle.bac_jobs.specs.declared.job.Turn.{Turn}

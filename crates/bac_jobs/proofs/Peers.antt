@@ -1,5 +1,5 @@
 -- A desk stays that of its device.
-use Rattle.std.proofs.Common.{◌≡◌, ℕ, zero, suc, List, [], ◌∷◌, ◌++◌, Option, Some, None, map, refl, ap, sym, subst, ◌∙◌}
+use Rattle.std.proofs.Common.{◌≡◌, ℕ, zero, suc, List, [], ◌∷◌, Option, Some, None, map, refl, ap, ◌∙◌}
 use Rattle.bac_ports.specs.Asking.{fitting}
 use Rattle.bac_ports.specs.declared.port.Heard.{Heard}
 use Rattle.bac_site.specs.Desk.{Ask, DeskEvent, DeskState, GiveUp, Hear, after, after_all, answered, asked, given_up, heard_by}

@@ -1,8 +1,8 @@
 //! Jobs are brought to their ends.
 
-ghost use Rattle.std.specs.Prelude.{◌<◌, IfOk, IfSome, length};
+ghost use Rattle.std.specs.Prelude.{◌<◌, IfNone, IfOk, IfSome, length};
 ghost use Rattle.bac_desks.specs.Served.{Runs, Serves};
-ghost use Rattle.bac_jobs.specs.Jobs.{AreEnded, HasEnded, IsIdle};
+ghost use Rattle.bac_jobs.specs.Jobs.{AreEnded, HasEnded, IsIdle, MakesRounds};
 
 use crate::job::{Job, Turn};
 use bac_desks::{Clock, Desks};
@@ -91,10 +91,12 @@ pub fn finish<P: Port, C: Clock, J: Job>(
 ) -> Result<Option<Vec<J::End>>, AllocError>
     // Each job ended by all that came to the questions of its desk, and none is open.
     ensures ended { IfOk result (λ ends. IfSome ends (λ all. AreEnded J.plays jobs.now desks.new.table.seats all.items × IsIdle desks.new.table)) }
+    // Nothing only if as many turns were made, each behind what was asked then.
+    ensures unfinished { IfOk result (λ ends. IfNone ends (MakesRounds P.sends P.receives_within C.reads turns desks.old.port desks.old.clock desks.old.table desks.new.port desks.new.clock desks.new.table)) }
     // Whatever comes of it: what was done at the port and by the clock, and what that makes of the desks.
     ensures serves { Serves P.sends P.receives_within C.reads desks.old.port desks.old.clock desks.old.table desks.new.port desks.new.clock desks.new.table }
 {
-    for _ in 0..turns {
+    for round in 0..turns {
         if desks.is_idle() {
             if let Some(ends) = ends_of(alloc, desks, jobs)? {
                 return Ok(Some(ends));

@@ -1,4 +1,4 @@
-use Rattle.std.proofs.Common.{◌≡◌, ℕ, ◌+◌, List, [], ◌∷◌, ◌++◌, Some, length, length-append, slice_get, refl, ap, sym, subst, ◌∙◌, arith}
+use Rattle.std.proofs.Common.{◌≡◌, List, [], ◌∷◌, length, length-append, slice_get, ap, sym, ◌∙◌, arith}
 use Rattle.bac_jobs.specs.Jobs.{HasEnded}
 use Rattle.bac_jobs.proofs.Ends.{got, none_there, pushed}
 use Rattle.bac_jobs.proofs.finishing.ends_of.Goals as goal

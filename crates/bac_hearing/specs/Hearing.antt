@@ -1,0 +1,107 @@
+-- Jobs of many devices beside one another, over one socket. Read `HearsAll`, and the laws.
+use Rattle.std.specs.Prelude.{◌≡◌, ℕ, ◌≤◌, List, [], ◌∷◌, ◌++◌, Option, Some, Err, All, map, slice_get}
+use Rattle.bac_ports.specs.Port.{Receiving, Sending}
+use Rattle.bac_ports.specs.Sockets.{SocketRules, UsesSocket, own_address}
+use Rattle.bac_ports.specs.declared.port.OpenFault.{OpenFault}
+use Rattle.bac_play.specs.declared.play.Outcome.{Outcome}
+use Rattle.bac_desks.specs.Chain.{Chain}
+use Rattle.bac_desks.specs.Event.{Event, Sent}
+use Rattle.bac_desks.specs.Seat.{IsDue, fresh_seat}
+use Rattle.bac_desks.specs.Served.{Does}
+use Rattle.bac_desks.specs.Table.{IsWithin, Step, TableState}
+use Rattle.bac_desks.specs.Told.{Course, IsAsked}
+use Rattle.bac_desks.specs.Words.{WasServed}
+use Rattle.bac_desks.specs.declared.rules.Rules.{Rules}
+use Rattle.bac_desks.specs.declared.seat.Seat.{Seat}
+use Rattle.bac_jobs.specs.Jobs.{AreEnded, IsIdle, MakesRounds}
+use Rattle.bac_jobs.specs.declared.job.Turn.{Turn}
+use Rattle.bac_hearing.specs.declared.hearing.NotHeard.{NotHeard}
+use Rattle.bac_hearing.specs.declared.hearing.NotHeard.TheVariants.{Socket, Memory, Unfinished}
+
+-- a question waits so long and is sent so often again; at most 64 are open, one at each address
+abbrev pub limits : ℕ → ℕ → Rules
+limits timeout retries = record { retries = retries; wait_ms = timeout; window = 64; at_station = 1 }
+
+-- no desks yet
+abbrev pub no_desks : Rules → TableState
+no_desks rules = record { rules = rules; time = 0; seats = [] }
+
+-- desks of the devices at these addresses come behind those from before, of which nothing was asked yet
+abbrev pub with_peers : TableState → List (List ℕ) → TableState
+with_peers t peers = record { rules = t.rules; time = t.time; seats = t.seats ++ map fresh_seat peers }
+
+-- What happened at the port and by the clock leads from these desks to those where each job has ended, by all that came to
+-- the questions at the desk at its place, and none is open.
+abbrev pub Ends : {P C J E : Type 0} → (P → List ℕ → List ℕ → Sending → P → Type 0) → (P → ℕ → Receiving → P → Type 0) →
+    (C → ℕ → C → Type 0) → (J → List Outcome → Turn E → Type 0) → List J → P → C → TableState → List E → P → Type 0
+Ends {C = C} sends receives reads plays jobs port start fresh ends last =
+    (events : List Event) × (stop : C) × (left : TableState) × Does sends receives reads port start fresh events last stop left
+    × AreEnded plays jobs left.seats ends × IsIdle left
+
+-- a clock as it was handed in, and what a reading of it is
+pub record StartedClock (C : Type 0) : Type 1 where
+  pub reads : C → ℕ → C → Type 0
+  pub start : C
+
+-- the one that is this
+abbrev pub started : {C : Type 0} → (C → ℕ → C → Type 0) → C → StartedClock C
+started reads start = record { reads = reads; start = start }
+
+-- One socket was opened as asked. Over it the devices at these addresses were asked at once, from nothing on, each what the
+-- job at its place asks, up to where it ended so; and it was closed as the last of that left it.
+abbrev pub HearsAll : {S P C J E : Type 0} → SocketRules S P → StartedClock C → (J → List Outcome → Turn E → Type 0) →
+    List (List ℕ) → List J → Option (List ℕ) → ℕ → ℕ → S → List E → S → Type 0
+HearsAll rules clock plays peers jobs local timeout retries before ends after =
+    UsesSocket rules (own_address local) timeout before
+    (λ port last. Ends rules.sends rules.receives_within clock.reads plays jobs port clock.start
+    (with_peers (no_desks (limits timeout retries)) peers) ends last)
+    after
+
+-- So many rounds were made from these desks on, each of which asks what the jobs want next and waits for what comes.
+abbrev pub Waits : {P C : Type 0} → (P → List ℕ → List ℕ → Sending → P → Type 0) → (P → ℕ → Receiving → P → Type 0) →
+    (C → ℕ → C → Type 0) → ℕ → P → C → TableState → P → Type 0
+Waits {C = C} sends receives reads rounds port start fresh last =
+    (stop : C) × (left : TableState) × MakesRounds sends receives reads rounds port start fresh last stop left
+
+-- Devices aren't heard: no socket was opened as asked; memory is wanting, of which std doesn't tell why; or as many rounds
+-- as fit a number of 64 bits were made over the one that was, which was closed then.
+abbrev pub FailsToHear : {S P C : Type 0} → SocketRules S P → StartedClock C → List (List ℕ) → Option (List ℕ) → ℕ → ℕ → S → S →
+    NotHeard → Type 0
+FailsToHear rules clock peers local timeout retries before after Socket =
+    (why : OpenFault) × rules.opens before (own_address local) timeout (Err why) after
+FailsToHear rules clock peers local timeout retries before after Memory = Unit {0}
+FailsToHear rules clock peers local timeout retries before after Unfinished =
+    UsesSocket rules (own_address local) timeout before
+    (λ port last. Waits rules.sends rules.receives_within clock.reads 18446744073709551615 port clock.start
+    (with_peers (no_desks (limits timeout retries)) peers) last)
+    after
+
+-- ---- laws
+
+-- What came of a device's questions, whatever happened: its desk is that of its address, and each outcome there was served.
+-- So a datagram was received from that address after the question was sent there, while it was open, and answers it; and a
+-- question that is lost was sent there once and so often again, and nothing that answers it was received meanwhile.
+abbrev pub AnswersWereHeard : Type 0
+AnswersWereHeard =
+    (rules : Rules) (peers : List (List ℕ)) (events : List Event) (left : TableState) (place : ℕ) (seat : Seat) →
+    Chain Step (with_peers (no_desks rules) peers) events left → slice_get left.seats place ≡ Some seat →
+    (slice_get peers place ≡ Some seat.desk.peer)
+    × All (λ outcome. WasServed rules events place seat.desk.peer outcome) seat.desk.outcomes
+
+-- What was sent, at whatever moment, was a question to one of these devices, that was open then, to its address; it was
+-- not sent too often, and was due: at first, or since the send before was waited for.
+abbrev pub NothingElseIsSent : Type 0
+NothingElseIsSent =
+    (rules : Rules) (peers : List (List ℕ)) (events front behind : List Event) (left : TableState) (place : ℕ)
+    (octets to : List ℕ) (answer : Sending) →
+    Chain Step (with_peers (no_desks rules) peers) events left → events ≡ front ++ Sent place octets to answer ∷ behind →
+    (slice_get peers place ≡ Some to)
+    × ((course : Course) × IsAsked rules front place to octets course × (course.sends ≤ rules.retries)
+    × IsDue rules course.time course.sends course.since)
+
+-- at whatever moment, no more questions were open than the limits say, in all and at one address
+abbrev pub LimitsAreKept : Type 0
+LimitsAreKept =
+    (rules : Rules) (peers : List (List ℕ)) (front behind : List Event) (left : TableState) →
+    Chain Step (with_peers (no_desks rules) peers) (front ++ behind) left →
+    (mid : TableState) × Chain Step (with_peers (no_desks rules) peers) front mid × Chain Step mid behind left × IsWithin mid

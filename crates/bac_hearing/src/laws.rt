@@ -1,0 +1,20 @@
+//! Laws of what many devices are asked at once. Each function does nothing: what it ensures is the law.
+
+ghost use Rattle.bac_hearing.specs.Hearing.{AnswersWereHeard, LimitsAreKept, NothingElseIsSent};
+
+/// What came of each device's questions: a datagram that answers one was received from its address
+/// after the question was sent to it; one that is lost was sent as often as the limits say, each time
+/// waited for, and nothing that answers it was received.
+pub fn answers_were_heard()
+    ensures { AnswersWereHeard }
+{}
+
+/// Nothing was sent but open questions of these devices, to their addresses, when they were due.
+pub fn nothing_else_is_sent()
+    ensures { NothingElseIsSent }
+{}
+
+/// No more questions are open than the limits say, at no moment.
+pub fn limits_are_kept()
+    ensures { LimitsAreKept }
+{}
