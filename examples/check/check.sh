@@ -149,6 +149,10 @@ bac rp 127.0.0.1 8 123 77 --timeout=0
 wrong 'no time to wait' '--timeout: a number from 1 to 60000'
 bac log 127.0.0.1 1 0
 wrong 'record 0' 'FROM: a number from 1 to 4294967295, or oldest'
+bac log 127.0.0.1 1 1 --count=0
+wrong 'no record a question' '--count: a number from 1 to 100'
+bac log 127.0.0.1 1 1 --count=101
+wrong '101 records a question' '--count: a number from 1 to 100'
 bac log 127.0.0.1 1 1 --retries=11
 wrong 'eleven retries' '--retries: a number from 0 to 10'
 bac wp 127.0.0.1 5 1 85 17 9 --value=1
@@ -242,6 +246,8 @@ bac log 127.0.0.1 1 1 --local=192.0.2.1
 ended 'an address of another machine for log' 2 "$elsewhere"
 bac logs 127.0.0.1 1 --local=192.0.2.1
 ended 'an address of another machine for logs' 2 "$elsewhere"
+bac keep "$room/elsewhere.db" 127.0.0.1 1 --local=192.0.2.1
+ended 'an address of another machine for keep' 2 "$elsewhere"
 bac serve 192.0.2.1 < ../use/plant.conf
 ended 'a server at an address of another machine' 2 "$elsewhere"
 at=127.77.77.77:$((20000 + RANDOM))

@@ -398,6 +398,10 @@ def lost_at(at):
     return f"lost\nno answer came from {at}\n".encode()
 
 
+def unsent_to(at):
+    return f"lost\nnothing could be sent to {at}\n".encode()
+
+
 FORBIDDEN = b"socket fault\nthe system doesn't permit it\n"
 
 
@@ -409,11 +413,10 @@ def sockets_refused(program, at):
     """A socket that can't be had, bound or set; sends and receives that fail once, or each time."""
     asked = (program, ["rp", at, "8", "123", "77", "--timeout=200"])
     whole = b'"plant"\n'
-    lost = lost_at(at)
     for call in ("socket", "bind", "setsockopt"):
         for many in (1, EVERY):
             each(no_socket, *asked, CALL=call, MANY=many, ERROR=errno.EPERM)
-    for call in ("sendto", "recvfrom"):
+    for call, lost in (("sendto", unsent_to(at)), ("recvfrom", lost_at(at))):
         # Asked again after a failure; after as many as there are asks, lost.
         for many in (1, 2, 3):
             Ended(*asked, CALL=call, AT=1, MANY=many, ERROR=errno.ENETDOWN).must(0, whole, b"")
@@ -423,7 +426,7 @@ def sockets_refused(program, at):
             if ended.refused != 4:
                 raise Wrong(f"{ended.refused} {call} refused, and 4 are wanted")
     # A send that took fewer octets than it was given has failed, whatever is answered to it.
-    Ended(*asked, CALL="sendto", AT=1, MANY=EVERY, ERROR=0).must(2, b"", lost)
+    Ended(*asked, CALL="sendto", AT=1, MANY=EVERY, ERROR=0).must(2, b"", unsent_to(at))
     # A receive that a signal interrupts is made again, however many do: nothing is asked anew.
     once = (program, [*asked[1], "--retries=0"])
     for many in (1, 2, 3, 4, 5, 6, 300):

@@ -17,7 +17,8 @@ from kept_apart import dead_devices, last_epoch
 from kept_clocks import clocks, either_line, questions
 from kept_devices import Device, Log, chance, lock, serve, wait_until_asked
 from kept_doubts import emptied, never_begun, told_at_once
-from kept_judge import wrongs
+from kept_files import barred
+from kept_judge import in_use, no_use, wrongs
 from kept_more import said_more
 from kept_moved import moved, moved_at_each_call, moved_at_random, moved_ways, told_later, two_of_one
 from kept_names import names
@@ -157,8 +158,8 @@ def losses(judge, _runs):
     device.answers, before = 0, device.asked
     process = judge.started(["keep", file, "--timeout=60000"])
     wait_until_asked(device, before)
-    judge.same("a second run", judge.ran(["keep", file, *QUICK]), (7, "", "file in use\n"))
-    judge.same("kept beside a run", judge.ran(["kept", file]), (7, "", "file in use\n"))
+    judge.same("a second run", judge.ran(["keep", file, *QUICK]), in_use(file))
+    judge.same("kept beside a run", judge.ran(["kept", file]), in_use(file))
     process.kill()
     process.communicate()
     device.answers = None
@@ -170,7 +171,7 @@ def losses(judge, _runs):
     before = device.asked
     process = judge.started(["keep", file, "--timeout=60000"])
     wait_until_asked(device, before)
-    judge.same("a second run again", judge.ran(["keep", file, *QUICK]), (7, "", "file in use\n"))
+    judge.same("a second run again", judge.ran(["keep", file, *QUICK]), in_use(file))
     device.open.set()
     out = process.communicate(timeout=60)[0].decode()
     judge.same("the first run", (process.returncode, out), (0, said(device, 5, 0, "caught up, next 156")))
@@ -251,12 +252,12 @@ def no_archive(judge, _runs):
     """Without a device only an archive with logs is taken, and none is made."""
     device, _log = one(count=5)
     file = f"{judge.room}/none.db"
-    judge.same("keep without a file", judge.ran(["keep", file]), (6, "", "file fault\nthere is no such file\n"))
+    judge.same("keep without a file", judge.ran(["keep", file]), no_use(file, "there is no such file"))
     judge.is_right("none is made", not os.path.exists(file) and not os.path.exists(f"{file}-wal"), "there is one")
     with open(file, "w"):
         pass
     for tool in ("keep", "kept"):
-        judge.same(f"{tool} of an empty file", judge.ran([tool, file]), (6, "", "file fault\nthere is no trend log in it\n"))
+        judge.same(f"{tool} of an empty file", judge.ran([tool, file]), no_use(file, "there is no trend log in it"))
     judge.is_right("it stays empty", os.path.getsize(file) == 0 and not os.path.exists(f"{file}-wal"), "it isn't")
     judge.same("a device's log", judge.ran(["keep", file, device.address, "1"])[0], 0)
     base = sqlite3.connect(file)
@@ -264,7 +265,7 @@ def no_archive(judge, _runs):
     base.execute("DELETE FROM logs")
     base.commit()
     base.close()
-    judge.same("an archive without logs", judge.ran(["keep", file]), (6, "", "file fault\nthere is no trend log in it\n"))
+    judge.same("an archive without logs", judge.ran(["keep", file]), no_use(file, "there is no trend log in it"))
 
 
 def far_away(judge, _runs):
@@ -347,7 +348,7 @@ def cut_files(judge, _runs):
         with open(cut, "wb") as it:
             it.write(octets[: chance.randrange(1, len(octets))])
         status, out, errors = judge.ran(["kept", cut])
-        judge.is_right("a cut file", status == 6 and errors.startswith("file fault\n"), f"status {status}: {errors}")
+        judge.is_right("a cut file", status == 6 and errors.startswith(f"file fault\n{cut}: "), f"status {status}: {errors}")
 
 
 def foreign_files(judge, _runs):
@@ -382,7 +383,7 @@ def foreign_files(judge, _runs):
             before = it.read()
         for words in (["keep", name, device.address, "1"], ["keep", name], ["kept", name]):
             status, out, errors = judge.ran(words)
-            right = status == 6 and out == "" and errors.startswith("file fault\n")
+            right = status == 6 and out == "" and errors.startswith(f"file fault\n{name}: ")
             judge.is_right(f"{os.path.basename(name)}", right, f"status {status}: {out} {errors}")
         with open(name, "rb") as it:
             judge.is_right(f"{os.path.basename(name)} is left as it is", it.read() == before, "it has changed")
@@ -440,7 +441,7 @@ def printed(judge, _runs):
     out = judge.ran(["kept", file, devices[0].address, "2"])[1].splitlines()
     judge.same("the lines of one log", out, lines[lines.index(f"{devices[0].address} 2") + 1 :])
     judge.same("of a log that isn't kept", judge.ran(["kept", file, devices[0].address, "3"]),
-               (6, "", "file fault\nit keeps no such trend log\n"))
+               no_use(file, "it keeps no such trend log"))
     table = list(csv.reader(io.StringIO(judge.ran(["kept", file, "--csv"])[1], newline="")))
     judge.same("the names of columns", table[0], "address,device,trend_log,name,epoch,number,stamp,value,datum,flags".split(","))
     wanted = [(address, str(devices[0].number), str(instance), name, str(epoch), str(number), stamp, value, f"gap {number} {last}" if last else text, flags)
@@ -529,7 +530,7 @@ def taken_over(judge, _runs):
         base.execute(f"UPDATE logs SET {column} = ? WHERE id = 2", (other,))
         base.commit()
         base.close()
-        wrong = (6, "", "file fault\na trend log in it has an address that is none\n")
+        wrong = no_use(broken, "a trend log in it has an address that is none")
         judge.same(f"an address with {name} is refused", judge.ran(["keep", broken]), wrong)
 
 
@@ -663,6 +664,6 @@ def judgements(judge, _runs):
     judge.is_right("a broken page is seen", wrongs(broken, [device], True))
 
 
-CASES = [judgements, run_after_run, beginnings, options, losses, line_by_line, step_limits, last_epoch, dead_devices, other_devices, words_and_names, no_archive, far_away, rounds, restarts, clocks, questions, cut_files, foreign_files, a_large_file, printed, taken_over, served,
+CASES = [judgements, run_after_run, beginnings, options, losses, line_by_line, step_limits, last_epoch, dead_devices, other_devices, words_and_names, no_archive, barred, far_away, rounds, restarts, clocks, questions, cut_files, foreign_files, a_large_file, printed, taken_over, served,
          stopped, terminals, warehouses, names, own_words, own_rule, own_lives, first_answers, renewed, moved, moved_ways, two_of_one, told_later,
          moved_at_each_call, moved_at_random, emptied, never_begun, told_at_once, said_more]

@@ -8,6 +8,10 @@ import subprocess
 from kept_devices import LAST
 
 
+def started_by(program, words, **more):
+    return subprocess.Popen([program, *words], stdin=subprocess.DEVNULL, stdout=subprocess.PIPE, stderr=subprocess.PIPE, **more)
+
+
 class Judge:
     """Runs PROGRAM, and counts what is right. Its files lie in `room`; KILLS is the library of kills.c."""
 
@@ -27,12 +31,15 @@ class Judge:
         self.is_right(name, got == wanted, f"{wanted!r} is wanted, and it is {got!r}")
 
     def started(self, words, **more):
-        return subprocess.Popen([self.program, *words], stdin=subprocess.DEVNULL, stdout=subprocess.PIPE,
-                                stderr=subprocess.PIPE, **more)
+        return started_by(self.program, words, **more)
 
     def ran(self, words, **more):
         """The status of a run, and what it printed and told."""
-        process = self.started(words, **more)
+        return self.ran_by(self.program, words, **more)
+
+    def ran_by(self, program, words, **more):
+        """The same of a copy of the program."""
+        process = started_by(program, words, **more)
         out, errors = process.communicate(timeout=120)
         return process.returncode, out.decode(), errors.decode()
 
@@ -47,6 +54,16 @@ class Judge:
     def judge(self, name, file, devices, all_of_it=False):
         found = wrongs(file, devices, all_of_it)
         self.is_right(name, not found, "; ".join(found[:3]))
+
+
+def no_use(file, why):
+    """How a run ends whose file is no use, and what it tells."""
+    return 6, "", f"file fault\n{file}: {why}\n"
+
+
+def in_use(file):
+    """The same where another program has it open."""
+    return 7, "", f"file in use\n{file}: another program has it open\n"
 
 
 def rows_of(file):

@@ -2,6 +2,7 @@
 import os
 import sqlite3
 
+from kept_judge import no_use
 from kept_rounds import one, said
 
 
@@ -16,7 +17,7 @@ def stopped(judge, _runs):
     asked = first.asked + second.asked + far.asked
     judge.same("stopped", judge.ran(["keep", file, "--stop", first.address]), (0, f"{first.address} 1 stopped\n", ""))
     judge.same("stopped again", judge.ran(["keep", file, first.address, "1", "--stop"]), (0, f"{first.address} 1 stopped\n", ""))
-    missing = (6, "", "file fault\nit keeps no such trend log\n")
+    missing = no_use(file, "it keeps no such trend log")
     judge.same("the router has no log", judge.ran(["keep", file, "--stop", far.address]), missing)
     judge.same("behind the router", judge.ran(["keep", file, "--stop", far.address, "--dnet=5", "--dadr=07"]),
                (0, f"{far.address}/5/07 1 stopped\n", ""))
@@ -30,13 +31,13 @@ def stopped(judge, _runs):
                [f"{first.address} 1 stopped", f"{second.address} 1", f"{far.address}/5/07 1 stopped"])
     judge.same("what was kept stays", len(lines), 10)
     judge.same("by its instance", judge.ran(["keep", file, "--stop", second.address, "1"]), (0, f"{second.address} 1 stopped\n", ""))
-    judge.same("none is left", judge.ran(["keep", file]), (6, "", "file fault\nthere is no trend log in it\n"))
+    judge.same("none is left", judge.ran(["keep", file]), no_use(file, "there is no trend log in it"))
     base = sqlite3.connect(f"file:{file}?mode=ro", uri=True)
     judge.same("their rows", base.execute("SELECT id, address, instance, stopped FROM logs ORDER BY id").fetchall(),
                [(1, first.address, 1, 1), (2, second.address, 1, 1), (3, far.address, 1, 1)])
     base.close()
-    judge.same("no file", judge.ran(["keep", f"{judge.room}/none.db", "--stop", first.address]),
-               (6, "", "file fault\nthere is no such file\n"))
-    judge.is_right("none is made", not os.path.exists(f"{judge.room}/none.db"))
+    absent = f"{judge.room}/none.db"
+    judge.same("no file", judge.ran(["keep", absent, "--stop", first.address]), no_use(absent, "there is no such file"))
+    judge.is_right("none is made", not os.path.exists(absent))
     judge.same("--stop alone", judge.ran(["keep", file, "--stop"]),
                (1, "", "bad value\n--stop: an option without a value, beside ADDRESS\n"))

@@ -34,6 +34,12 @@ is 'nobody of two answers' "$said" '|no answer
 addresses asked: 2; devices that answer by broadcast are heard with --local=0.0.0.0:47808|2'
 bac log "$at" 1 oldest --timeout=100 --retries=0
 is 'nobody is there to walk' "$said" "lost, next 1|no answer came from $at|2"
+# The system sends no broadcast for a program that didn't ask for it.
+bac rp 255.255.255.255 8 123 77 --timeout=100 --retries=1
+is 'nothing can be sent' "$said" '|lost
+nothing could be sent to 255.255.255.255:47808|2'
+bac log 255.255.255.255 1 oldest --timeout=100 --retries=0
+is 'nothing can be sent to walk' "$said" 'lost, next 1|nothing could be sent to 255.255.255.255:47808|2'
 
 # ---- a server
 
@@ -129,6 +135,10 @@ done
 bac log "$at" 2 oldest
 is 'the whole log' "$(grep -c '^[0-9]* [^ ]* status' "$room/out") $(tail -n 1 "$room/out") $status" '20 caught up, next 21 0'
 sed '$d' "$room/out" > "$room/whole"
+for count in 1 7 100; do
+    bac log "$at" 2 oldest --count=$count
+    is "the whole log, $count records a question" "$(sed '$d' "$room/out" | cmp - "$room/whole" && tail -n 1 "$room/out") $status" 'caught up, next 21 0'
+done
 bac log "$at" 2 21
 is 'nothing more' "$said" 'caught up, next 21||0'
 bac log "$at" 2 1 --steps=0

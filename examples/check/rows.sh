@@ -86,9 +86,15 @@ done < lines.rows
 declare -A places=([wi]=ADDRESS [serve]=ADDRESS [log]='ADDRESS INSTANCE FROM' [logs]='ADDRESS INSTANCE' [rp]='ADDRESS TYPE INSTANCE PROPERTY'
     [wp]='ADDRESS TYPE INSTANCE PROPERTY PRIORITY TAG')
 
+# range_of WORD TOOL: what is told of a word; a tool may have a text of its own.
+range_of() {
+    echo "${ranges["$2 $1"]:-${ranges[$1]}}"
+}
+
 # ends_of WORD TOOL: the least and the greatest value that the text of a word tells.
 ends_of() {
-    local range=${ranges[$1]} end
+    local range end
+    range=$(range_of "$1" "$2")
     case $range in
         A.B.C.D*) echo 0.0.0.0:1 255.255.255.255:65535 ;;
         *hexadecimal*)
@@ -177,10 +183,10 @@ while IFS= read -r row; do
         'usage '*) told_usage "${word#usage }" "${words[@]}" ;;
         'long '*)
             word=${word#long }
-            told $'bad value\n'"$word: ${ranges[$word]}, of at most 10 digits" "${words[@]}"
+            told $'bad value\n'"$word: $(range_of "$word" "${words[0]}"), of at most 10 digits" "${words[@]}"
             mended_word "$word" "${words[@]}" ;;
         *)
-            told $'bad value\n'"$word: ${ranges[$word]}" "${words[@]}" "${value[@]}"
+            told $'bad value\n'"$word: $(range_of "$word" "${words[0]}")" "${words[@]}" "${value[@]}"
             mended_word "$word" "${words[@]}" "${value[@]}" ;;
     esac
 done < words.rows
