@@ -35,7 +35,8 @@ impl Route {
     /// The place with this address on this network. `None` unless the network is 1 to 65534 and the
     /// address has 1 to 15 octets.
     pub fn new(net: u16, address: &[u8]) -> Option<Route>
-        ensures some { IfSome result (λ r. (r ≡ record { net = net; address = address.now }) × IsRoute r) }
+        ensures some { IfSome result
+            (λ r. (r ≡ record { net = net; address = address.now }) × IsRoute r) }
         ensures none { IfNone result (IsRoute (record { net = net; address = address.now }) → ⊥) }
     {
         if net == 0 || net == ALL_NETWORKS || address.is_empty() {

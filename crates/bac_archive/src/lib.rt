@@ -1,8 +1,9 @@
 //! Records of trend logs, kept once in a database file.
 //!
 //! An archive is a database of SQLite with four tables (specs/Schema): `archive` has the version
-//! of the format, `logs` a row for each trend log with what its device told, `items` one for each record or gap, whose key
-//! tells the log, the epoch and the number, and `beginnings` one for each epoch of a log.
+//! of the format, `logs` a row for each trend log with what its device told, `items` one for each
+//! record or gap, whose key tells the log, the epoch and the number, and `beginnings` one for each
+//! epoch of a log.
 #![tactic(auto)]
 
 mod changes;
@@ -10,6 +11,7 @@ mod creation;
 mod epochs;
 mod items;
 mod latest;
+mod log_values;
 mod opening;
 mod parts;
 mod row;

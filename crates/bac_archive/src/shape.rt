@@ -1,8 +1,13 @@
 //! Whether a schema is an archive's.
 
-ghost use Rattle.std.specs.Prelude.{◌≡◌, ◌↔◌, List, [], ◌∷◌, IsTrue, IsNone, IfSome, None, codes, false, true};
+ghost use Rattle.std.specs.Prelude.{◌≡◌, ◌↔◌, List, [], ◌∷◌, IsTrue, IsNone, IfSome, None, codes};
+ghost use Rattle.std.specs.Prelude.{false, true};
 ghost use Rattle.sqlite_schema.specs.declared.schema.Column.{Column as ColumnOf};
-ghost use Rattle.bac_archive.specs.Schema.{archive_schema, no_schema, archive, logs, items, beginnings, column as column_of, plain_table, plain_view, log_index, archive_tables, archive_views, first_logs, first_tables, records_text, gaps_text, epochs_text};
+ghost use Rattle.bac_archive.specs.Schema.{archive_schema, no_schema, archive, logs, items};
+ghost use Rattle.bac_archive.specs.Schema.{beginnings, column as column_of, plain_table};
+ghost use Rattle.bac_archive.specs.Schema.{plain_view, log_index, archive_tables, archive_views};
+ghost use Rattle.bac_archive.specs.Schema.{first_logs, first_tables, records_text, gaps_text};
+ghost use Rattle.bac_archive.specs.Schema.{epochs_text};
 ghost use Rattle.sqlite_value.specs.Keys.{plain};
 
 use crate::creation::{EPOCHS, GAPS, RECORDS};
@@ -50,7 +55,8 @@ fn is_first_place(places: &[usize]) -> bool
 // A table of this name and tree with a key in its first column, and no more rules than columns and
 // UNIQUE keys.
 fn is_plain(table: &Table, name: &[u8], tree: u32) -> bool
-    ensures { IsTrue result ↔ (table.now ≡ plain_table name.now tree table.now.columns table.now.uniques table.now.orders) }
+    ensures { IsTrue result ↔ (table.now
+        ≡ plain_table name.now tree table.now.columns table.now.uniques table.now.orders) }
 {
     table.name.as_slice() == name
         && table.tree == tree
@@ -93,8 +99,10 @@ fn behind<'a>(
     kind: Kind,
     not_null: bool,
 ) -> Option<&'a [Column]>
-    ensures found { IfSome result (λ rest. columns.now ≡ column_of name.now kind not_null ∷ rest.now) }
-    ensures none { IsNone result → (rest : List ColumnOf) → columns.now ≡ column_of name.now kind not_null ∷ rest → ⊥ }
+    ensures found { IfSome result
+        (λ rest. columns.now ≡ column_of name.now kind not_null ∷ rest.now) }
+    ensures none { IsNone result → (rest : List ColumnOf)
+        → columns.now ≡ column_of name.now kind not_null ∷ rest → ⊥ }
 {
     let [first, rest @ ..] = columns else {
         return None;
@@ -107,8 +115,10 @@ fn behind<'a>(
 }
 
 fn are_told_columns(columns: &[Column]) -> bool
-    ensures { IsTrue result ↔ (columns.now ≡ column_of (codes "device") Kind.Integer false ∷ column_of (codes "restart") Kind.Text false
-        ∷ column_of (codes "revision") Kind.Integer false ∷ column_of (codes "stopped") Kind.Integer true ∷ []) }
+    ensures { IsTrue result ↔ (columns.now ≡ column_of (codes "device") Kind.Integer false
+        ∷ column_of (codes "restart") Kind.Text false
+        ∷ column_of (codes "revision") Kind.Integer false
+        ∷ column_of (codes "stopped") Kind.Integer true ∷ []) }
 {
     let Some(rest) = behind(columns, b"device", Kind::Integer, false) else {
         return false;
@@ -126,9 +136,13 @@ fn are_told_columns(columns: &[Column]) -> bool
 }
 
 fn are_last_columns(columns: &[Column]) -> bool
-    ensures { IsTrue result ↔ (columns.now ≡ column_of (codes "dadr") Kind.Text true ∷ column_of (codes "instance") Kind.Integer true
-        ∷ column_of (codes "name") Kind.Text false ∷ column_of (codes "device") Kind.Integer false ∷ column_of (codes "restart") Kind.Text false
-        ∷ column_of (codes "revision") Kind.Integer false ∷ column_of (codes "stopped") Kind.Integer true ∷ []) }
+    ensures { IsTrue result ↔ (columns.now ≡ column_of (codes "dadr") Kind.Text true
+        ∷ column_of (codes "instance") Kind.Integer true
+        ∷ column_of (codes "name") Kind.Text false
+        ∷ column_of (codes "device") Kind.Integer false
+        ∷ column_of (codes "restart") Kind.Text false
+        ∷ column_of (codes "revision") Kind.Integer false
+        ∷ column_of (codes "stopped") Kind.Integer true ∷ []) }
 {
     let Some(rest) = behind(columns, b"dadr", Kind::Text, true) else {
         return false;
@@ -158,7 +172,8 @@ fn are_log_columns(columns: &[Column]) -> bool
 }
 
 fn are_texts(stamp: &Column, datum: &Column, flags: &Column) -> bool
-    ensures { IsTrue result ↔ ((stamp.now ≡ column_of (codes "stamp") Kind.Text false) × (datum.now ≡ column_of (codes "datum") Kind.Text false)
+    ensures { IsTrue result ↔ ((stamp.now ≡ column_of (codes "stamp") Kind.Text false)
+        × (datum.now ≡ column_of (codes "datum") Kind.Text false)
         × (flags.now ≡ column_of (codes "flags") Kind.Text false)) }
 {
     is_column(stamp, b"stamp", Kind::Text, false)

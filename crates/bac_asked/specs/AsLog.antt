@@ -1,5 +1,6 @@
 -- A log is asked for by the rules of `bac log`.
-use Rattle.std.specs.Prelude.{◌≡◌, ◌⊎◌, ℕ, Bool, List, [], ◌∷◌, ◌++◌, codes, Option, None, Some, option_map, unwrap_or, Ok}
+use Rattle.std.specs.Prelude.{◌≡◌, ◌⊎◌, ℕ, Bool, List, [], ◌∷◌, ◌++◌, codes, Option, None, Some, option_map, unwrap_or}
+use Rattle.std.specs.Prelude.{Ok}
 use Rattle.clap.specs.Words.{Text}
 use Rattle.bac_link.specs.Standard.{IsCount}
 use Rattle.bac_words.specs.Names.{name_of}
@@ -59,8 +60,8 @@ IsAskingOf job asking =
 abbrev pub IsAskedBy : List Text → Asking → Type 0
 IsAskedBy words asking = (job : Job) × (job_in words ≡ Ok job) × IsAskingOf job asking
 
--- Why `bac log` with these words asks for no log: a value of theirs is wrong, by its rules; or they are a mistake, which
--- is told of ADDRESS; or they ask for something else, which is told of the tool; or memory was wanting.
+-- Why `bac log` with these words asks for no log: a value of theirs is wrong, by its rules; or they are a mistake,
+-- which is told of ADDRESS; or they ask for something else, which is told of the tool; or memory was wanting.
 abbrev pub IsUnasked : List Text → WordsFault → Type 0
 IsUnasked words (BadValue word) = IsRefused words (BadValue word)
     ⊎ (((word ≡ Address) × (mistakes_of words ≡ [] → ⊥))

@@ -12,7 +12,8 @@ use Rattle.bac_asked.specs.declared.end.NotDone.TheVariants.{Asking, File}
 use Rattle.bac_asked.specs.declared.fault.Fault.{Fault}
 use Rattle.bac_asked.specs.declared.fault.Fault.TheVariants as asking
 use Rattle.bac_asked.specs.declared.fault.FileFault.{FileFault}
-use Rattle.bac_asked.specs.declared.fault.FileFault.TheVariants.{Database, First, Foreign, Full, InUse, Orphan, Overlap, Version}
+use Rattle.bac_asked.specs.declared.fault.FileFault.TheVariants.{Database, First, Foreign, Full, InUse, Orphan, Overlap}
+use Rattle.bac_asked.specs.declared.fault.FileFault.TheVariants.{Version}
 use Rattle.bac_words.specs.declared.fault.WordsFault.{WordsFault}
 use Rattle.bac_words.specs.declared.fault.WordsFault.TheVariants as words
 use Rattle.bac_words.specs.declared.word.Word.TheVariants.{Tool}

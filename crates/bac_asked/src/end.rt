@@ -24,7 +24,8 @@ pub enum Ending {
     NotAsked,
     /// It wasn't asked, since its device told another instance, or none, than the one on record.
     Other(Option<u32>, u32),
-    /// It wasn't asked, since its device told an instance that is on record at another address, too.
+    /// It wasn't asked, since its device told an instance that is on record at another address,
+    /// too.
     Twice(u32),
 }
 

@@ -1,8 +1,8 @@
 //! What `bac keep` is asked for: which logs of which devices, by which options, and how it is told
 //! what became of them.
 //!
-//! Words are read here, and lines, faults and exit statuses are made; nothing is sent and no file is
-//! opened. What comes from a file may have been written by anyone.
+//! Words are read here, and lines, faults and exit statuses are made; nothing is sent and no file
+//! is opened. What comes from a file may have been written by anyone.
 #![tactic(auto)]
 
 mod began;

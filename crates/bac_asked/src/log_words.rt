@@ -1,10 +1,12 @@
 //! The words of `bac log` that ask for a log of `keep`: a device, a log and options are read by the
 //! same rules.
 
-ghost use Rattle.std.specs.Prelude.{◌≡◌, ◌∷◌, ◌++◌, [], map, option_map, codes, unwrap_or, IfErr, IfOk, OnOk, Ok};
+ghost use Rattle.std.specs.Prelude.{◌≡◌, ◌∷◌, ◌++◌, [], map, option_map, codes, unwrap_or, IfErr};
+ghost use Rattle.std.specs.Prelude.{IfOk, OnOk, Ok};
 ghost use Rattle.std.specs.String.{string_bytes};
 ghost use Rattle.bac_words.specs.Outcome.{IsRefused, job_in};
-ghost use Rattle.bac_asked.specs.AsLog.{IsAskedBy, IsAskingOf, IsUnasked, given_in, log_words, option_words};
+ghost use Rattle.bac_asked.specs.AsLog.{IsAskedBy, IsAskingOf, IsUnasked, given_in, log_words};
+ghost use Rattle.bac_asked.specs.AsLog.{option_words};
 ghost use Rattle.bac_asked.specs.declared.log_words.Asking.{Asking as AnyAsking};
 
 use crate::options::Options;
@@ -26,7 +28,8 @@ pub struct Asking {
 }
 
 fn push_word(alloc: Global, words: &mut Vec<String>, word: &str) -> Result<(), AllocError>
-    ensures { OnOk result (map string_bytes words.new.items ≡ map string_bytes words.old.items ++ word.now ∷ []) }
+    ensures { OnOk result
+        (map string_bytes words.new.items ≡ map string_bytes words.old.items ++ word.now ∷ []) }
 {
     words.push(String::from_str(alloc, word)?)?;
     Ok(())
@@ -38,7 +41,9 @@ fn push_option(
     word: Word,
     value: Option<&str>,
 ) -> Result<(), AllocError>
-    ensures { OnOk result (map string_bytes words.new.items ≡ map string_bytes words.old.items ++ option_words word (option_map (λ s. s.now) value.entry)) }
+    ensures { OnOk result (map string_bytes words.new.items
+        ≡ map string_bytes words.old.items
+        ++ option_words word (option_map (λ s. s.now) value.entry)) }
 {
     let Some(value) = value else {
         return Ok(());
@@ -69,7 +74,8 @@ fn log_words(
     instance: &str,
     options: &Options<'_>,
 ) -> Result<Vec<String>, AllocError>
-    ensures { IfOk result (λ words. map string_bytes words.items ≡ log_words address.now instance.now (given_in options.now)) }
+    ensures { IfOk result (λ words. map string_bytes words.items
+        ≡ log_words address.now instance.now (given_in options.now)) }
 {
     let mut words = Vec::new(alloc);
     push_word(alloc, &mut words, "bac")?;
@@ -95,8 +101,10 @@ fn log_job(
     instance: &str,
     options: &Options<'_>,
 ) -> Result<Job, WordsFault>
-    ensures ok { IfOk result (λ job. job_in (log_words address.now instance.now (given_in options.now)) ≡ Ok job) }
-    ensures err { IfErr result (IsRefused (log_words address.now instance.now (given_in options.now))) }
+    ensures ok { IfOk result
+        (λ job. job_in (log_words address.now instance.now (given_in options.now)) ≡ Ok job) }
+    ensures err { IfErr result
+        (IsRefused (log_words address.now instance.now (given_in options.now))) }
 {
     let words = log_words(alloc, address, instance, options)?;
     read_words(alloc, words.as_slice())
@@ -105,7 +113,8 @@ fn log_job(
 /// How the log of a job is asked for.
 fn asking_of(job: Job) -> Result<Asking, WordsFault>
     ensures ok { IfOk result (IsAskingOf job) }
-    ensures err { IfErr result (λ fault. (fault ≡ WordsFault.BadValue Word.Tool) × ((asking : AnyAsking) → IsAskingOf job asking → ⊥)) }
+    ensures err { IfErr result (λ fault. (fault ≡ WordsFault.BadValue Word.Tool)
+        × ((asking : AnyAsking) → IsAskingOf job asking → ⊥)) }
 {
     match job {
         Job::Log {
@@ -136,8 +145,10 @@ pub(crate) fn ask_as_log(
     instance: &str,
     options: &Options<'_>,
 ) -> Result<Asking, WordsFault>
-    ensures ok { IfOk result (IsAskedBy (log_words address.now instance.now (given_in options.now))) }
-    ensures err { IfErr result (IsUnasked (log_words address.now instance.now (given_in options.now))) }
+    ensures ok { IfOk result
+        (IsAskedBy (log_words address.now instance.now (given_in options.now))) }
+    ensures err { IfErr result
+        (IsUnasked (log_words address.now instance.now (given_in options.now))) }
 {
     match log_job(alloc, address, instance, options) {
         Ok(job) => asking_of(job),

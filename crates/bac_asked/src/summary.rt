@@ -3,7 +3,10 @@
 ghost use Rattle.std.specs.Prelude.{◌≡◌, ◌==◌, ◌++◌, if◌then◌else◌, decimal, OnOk, List, Some};
 ghost use Rattle.std.specs.Float.Ieee.{binary64};
 ghost use Rattle.ryu.specs.Parse.{parse_float};
-ghost use Rattle.bac_asked.specs.Lines.{anew_line, both_line, counted, ending_line, moved_line, other_line, place_text, places_text, reason_line, said_more_lines, source_text, stopped_line, summary_line, twice_line, twice_text, who_text};
+ghost use Rattle.bac_asked.specs.Lines.{anew_line, both_line, counted, ending_line, moved_line};
+ghost use Rattle.bac_asked.specs.Lines.{other_line, place_text, places_text, reason_line};
+ghost use Rattle.bac_asked.specs.Lines.{said_more_lines, source_text, stopped_line, summary_line};
+ghost use Rattle.bac_asked.specs.Lines.{twice_line, twice_text, who_text};
 
 use crate::end::{End, Ending};
 use bac_archive::Source;
@@ -40,7 +43,8 @@ pub fn push_source(text: &mut Vec<u8>, source: &Source) -> Result<(), AllocError
 
 /// Appends the shortest text that reads back as a number.
 pub fn push_short(text: &mut Vec<u8>, value: f64) -> Result<(), AllocError>
-    ensures { OnOk result ((short : List _) × (parse_float binary64 short ≡ Some value) × (text.new.items ≡ text.old.items ++ short)) }
+    ensures { OnOk result ((short : List _) × (parse_float binary64 short ≡ Some value)
+        × (text.new.items ≡ text.old.items ++ short)) }
 {
     text.extend_from_slice(Buffer::new().format(value).as_bytes())
 }
@@ -72,7 +76,8 @@ fn push_between(
     number: u32,
     behind: &[u8],
 ) -> Result<(), AllocError>
-    ensures { OnOk result (text.new.items ≡ text.old.items ++ (before.now ++ (decimal number ++ behind.now))) }
+    ensures { OnOk result
+        (text.new.items ≡ text.old.items ++ (before.now ++ (decimal number ++ behind.now))) }
 {
     text.extend_from_slice(before)?;
     push_number(text, u64::from(number))?;
@@ -186,7 +191,8 @@ fn push_places(
     between: &[u8],
     other: &Source,
 ) -> Result<(), AllocError>
-    ensures { OnOk result (text.new.items ≡ text.old.items ++ places_text one.now between.now other.now) }
+    ensures { OnOk result
+        (text.new.items ≡ text.old.items ++ places_text one.now between.now other.now) }
 {
     push_address(text, one)?;
     text.extend_from_slice(between)?;

@@ -5,7 +5,9 @@ ghost use Rattle.std.specs.List.{All};
 ghost use Rattle.std.specs.String.{string_bytes};
 ghost use Rattle.bac_asked.specs.AsLog.{IsAskedBy, IsUnasked, given_in, log_words};
 ghost use Rattle.bac_asked.specs.Faults.{WantsMemory, of_words};
-ghost use Rattle.bac_asked.specs.Wanted.{AddNamed, AddsOnce, AreNoOptions, AreUnnamed, AsksItsSource, HasNoAddress, IsSourceOf, IsUnnamed, has_instance, words_at};
+ghost use Rattle.bac_asked.specs.Wanted.{AddNamed, AddsOnce, AreNoOptions, AreUnnamed};
+ghost use Rattle.bac_asked.specs.Wanted.{AsksItsSource, HasNoAddress, IsSourceOf, IsUnnamed};
+ghost use Rattle.bac_asked.specs.Wanted.{has_instance, words_at};
 
 use crate::end::NotDone;
 use crate::fault::{Fault, FileFault};
@@ -77,8 +79,10 @@ pub fn named(
     options: &Options<'_>,
 ) -> Result<Wanted, NotDone>
     ensures source { IfOk result AsksItsSource }
-    ensures asked { IfOk result (λ wanted. IsAskedBy (log_words address.now instance.now (given_in options.now)) wanted.asking) }
-    ensures unnamed { IfErr result (IsUnnamed (log_words address.now instance.now (given_in options.now))) }
+    ensures asked { IfOk result (λ wanted. IsAskedBy
+        (log_words address.now instance.now (given_in options.now)) wanted.asking) }
+    ensures unnamed { IfErr result
+        (IsUnnamed (log_words address.now instance.now (given_in options.now))) }
 {
     let asking = match ask_as_log(alloc, address, instance, options) {
         Ok(asking) => asking,
@@ -134,7 +138,8 @@ pub fn named_all(
     options: &Options<'_>,
 ) -> Result<Vec<Wanted>, NotDone>
     ensures source { IfOk result (λ all. All AsksItsSource all.items) }
-    ensures named { IfOk result (λ all. AddNamed address.now (given_in options.now) instances.now [] all.items) }
+    ensures named { IfOk result
+        (λ all. AddNamed address.now (given_in options.now) instances.now [] all.items) }
     ensures unnamed { IfErr result (AreUnnamed address.now (given_in options.now) instances.now) }
 {
     let mut all = Vec::new(alloc);
@@ -189,17 +194,22 @@ fn asking_at(alloc: Global, source: &Source, options: &Options<'_>) -> Result<As
 pub fn kept_log(alloc: Global, log: Log, options: &Options<'_>) -> Result<Wanted, NotDone>
     ensures source { IfOk result (λ wanted. wanted.source ≡ log.source) }
     ensures asks { IfOk result AsksItsSource }
-    ensures refused { IfErr result (λ fault. WantsMemory fault ⊎ ((fault ≡ NotDone.File FileFault.Address) × HasNoAddress (given_in options.now) log.source)) }
+    ensures refused { IfErr result (λ fault. WantsMemory fault
+        ⊎ ((fault ≡ NotDone.File FileFault.Address)
+        × HasNoAddress (given_in options.now) log.source)) }
 {
     kept_at(alloc, log.source, options)
 }
 
-/// How a log is asked for that is there by an archive. Its address may be any text, but only the one that the
-/// program writes for a device names it: else its log would be kept under two addresses.
+/// How a log is asked for that is there by an archive. Its address may be any text, but only the
+/// one that the program writes for a device names it: else its log would be kept under two
+/// addresses.
 pub fn kept_at(alloc: Global, source: Source, options: &Options<'_>) -> Result<Wanted, NotDone>
     ensures source { IfOk result (λ wanted. wanted.source ≡ source) }
     ensures asks { IfOk result AsksItsSource }
-    ensures refused { IfErr result (λ fault. WantsMemory fault ⊎ ((fault ≡ NotDone.File FileFault.Address) × HasNoAddress (given_in options.now) source)) }
+    ensures refused { IfErr result (λ fault. WantsMemory fault
+        ⊎ ((fault ≡ NotDone.File FileFault.Address)
+        × HasNoAddress (given_in options.now) source)) }
 {
     let asking = match asking_at(alloc, &source, options) {
         Ok(asking) => asking,

@@ -1,6 +1,7 @@
 //! What a user of walks needs who walks again, proved from their public contracts alone.
 
-ghost use Rattle.std.specs.Prelude.{ℕ, ◌≡◌, ◌≢◌, ◌+◌, ◌-◌, ◌<◌, ◌≤◌, ◌⊎◌, max, [], ◌∷◌, None, IfSome, All};
+ghost use Rattle.std.specs.Prelude.{ℕ, ◌≡◌, ◌≢◌, ◌+◌, ◌-◌, ◌<◌, ◌≤◌, ◌⊎◌, max, [], ◌∷◌, None};
+ghost use Rattle.std.specs.Prelude.{IfSome, All};
 ghost use Rattle.bac_log.specs.Entry.{IsLoggable};
 ghost use Rattle.bac_log.specs.TrendLog.{sequence_number};
 ghost use Rattle.bac_link.specs.Delivery.{History, Moment};
@@ -24,10 +25,13 @@ pub fn nothing_more<L: LogLink>(
     s: u32,
     steps: u32,
 ) -> Option<(Outcome, Outcome)>
-    ensures { IfSome result (λ both. (r : ℕ) (m : Moment) (H : History) (k low : ℕ) →
-        L.is_sure link.old (towards None) → L.is_ours link.old log r (m ∷ []) H → s ≡ sequence_number k → IsNear k m → IsInWindow low m → low ≤ k → k < low + 2147483648 →
-        All IsLoggable (log_at m H).entries → (m.newest + 1) - max k m.oldest < steps → both.0.why ≢ why.Memory →
-        (both.1.why ≡ why.Memory) ⊎ ((both.1.items.items ≡ []) × (both.1.next ≡ both.0.next) × (both.1.why ≡ why.CaughtUp))) }
+    ensures { IfSome result (λ both. (r : ℕ) (m : Moment) (H : History) (k low : ℕ)
+        → L.is_sure link.old (towards None) → L.is_ours link.old log r (m ∷ []) H
+        → s ≡ sequence_number k → IsNear k m → IsInWindow low m → low ≤ k → k < low + 2147483648
+        → All IsLoggable (log_at m H).entries → (m.newest + 1) - max k m.oldest < steps
+        → both.0.why ≢ why.Memory → (both.1.why ≡ why.Memory)
+        ⊎ ((both.1.items.items ≡ []) × (both.1.next ≡ both.0.next)
+        × (both.1.why ≡ why.CaughtUp))) }
 {
     rests_all();
     let mut walk = Walk::from_number(log, s)?;

@@ -24,8 +24,10 @@ pub fn what_came_tells<L: LogLink>(
     steps: u32,
 ) -> Outcome
     ensures { (n : ℕ) × (ended : EndedOf) × IsRunOf result.why steps n ended
-        × ((here : WalkPlace) × (restarted here ≡ restarted walk.new) × Told L.asks (towards transactions.old.route) transactions.old.retries ended here link.new)
-        × ((s : ℕ) → Goes walk.old.fresh walk.old.next s result.items.items walk.new.fresh result.next) }
+        × ((here : WalkPlace) × (restarted here ≡ restarted walk.new)
+        × Told L.asks (towards transactions.old.route) transactions.old.retries ended here
+        link.new) × ((s : ℕ)
+        → Goes walk.old.fresh walk.old.next s result.items.items walk.new.fresh result.next) }
 {
     // For the prover alone, both: laws that the contract follows from.
     brought_tells_why::<L>();

@@ -1,6 +1,7 @@
 //! What a user of walks over a device in memory needs, proved from public contracts alone.
 
-ghost use Rattle.std.specs.Prelude.{ℕ, ◌≡◌, ◌+◌, ◌<◌, ◌≤◌, ◌↔◌, List, [], Option, Some, None, length, IfSome, IsSome, ◌⊎◌};
+ghost use Rattle.std.specs.Prelude.{ℕ, ◌≡◌, ◌+◌, ◌<◌, ◌≤◌, ◌↔◌, List, [], Option, Some, None};
+ghost use Rattle.std.specs.Prelude.{length, IfSome, IsSome, ◌⊎◌};
 ghost use Rattle.bac_apdu.specs.Service.Extent.{IsExtent};
 ghost use Rattle.bac_apdu.specs.declared.service.extent.Extent.{Extent as AnyExtent};
 ghost use Rattle.bac_log.specs.TrendLog.{Log, sequence_number};
@@ -19,7 +20,8 @@ ghost use Rattle.bac_link.specs.Moments.{AreInWindow};
 ghost use Rattle.bac_walk.specs.Near.{IsNear};
 ghost use Rattle.bac_walk.specs.Rests.{Misses, rest_all};
 ghost use Rattle.bac_walk.specs.declared.outcome.Why.TheVariants as why;
-ghost use Rattle.bac_direct.specs.Ahead.{history_ahead, IsThere, log_with, moment_of, moments_ahead, placed, placed_all};
+ghost use Rattle.bac_direct.specs.Ahead.{history_ahead, IsThere, log_with, moment_of};
+ghost use Rattle.bac_direct.specs.Ahead.{moments_ahead, placed, placed_all};
 ghost use Rattle.bac_client_tests.specs.Day.{day, day_moments, plant as plant_of};
 ghost use Rattle.bac_client_tests.specs.Held.{held_from};
 
@@ -36,9 +38,11 @@ use std::test::Fail;
 /// A link's question for the records of a log of a device brings the reply of that log, and
 /// changes nothing.
 pub fn questions_bring_replies()
-    ensures { (d : State) (source : Option Place) (n : ℕ) (log : Log) (invoke : ℕ) (extent : AnyExtent) →
-        IsSound d → IsWay source → log_of d n ≡ Some log → IsExtent extent →
-        (octets : List ℕ) × (answer d (request_octets (back (towards source)) invoke (question (log_id n) extent)) ≡ (Some (record { datagram = octets; to = Receiver.Sender }), d))
+    ensures { (d : State) (source : Option Place) (n : ℕ) (log : Log) (invoke : ℕ)
+        (extent : AnyExtent) → IsSound d → IsWay source → log_of d n ≡ Some log
+        → IsExtent extent → (octets : List ℕ)
+        × (answer d (request_octets (back (towards source)) invoke (question (log_id n) extent))
+        ≡ (Some (record { datagram = octets; to = Receiver.Sender }), d))
         × HasReply d.reply_size log (log_id n) extent (back (towards source)) invoke octets }
 {
     // For the prover alone: the laws that the contract follows from.
@@ -60,10 +64,13 @@ pub fn records_from(
     steps: u32,
 ) -> Option<Outcome>
     ensures is_some { IsSome result ↔ (0 < s) × (log.kind ≡ 20) }
-    ensures delivers { IfSome result (λ outcome. (rounds k low : ℕ) → IsThere device.old log.instance → s ≡ sequence_number k →
-        AreInWindow low (placed_all rounds (moments_ahead device.old log.instance events.now)) → low ≤ k → k < low + 2147483648 →
-        (count : ℕ) × (t : ℕ) × (outcome.next ≡ sequence_number t)
-        × DeliversTo (history_ahead rounds device.old log.instance events.now) k outcome.items.items t
+    ensures delivers { IfSome result (λ outcome. (rounds k low : ℕ)
+        → IsThere device.old log.instance → s ≡ sequence_number k
+        → AreInWindow low (placed_all rounds (moments_ahead device.old log.instance events.now))
+        → low ≤ k → k < low + 2147483648
+        → (count : ℕ) × (t : ℕ) × (outcome.next ≡ sequence_number t)
+        × DeliversTo (history_ahead rounds device.old log.instance events.now) k
+        outcome.items.items t
         (placed_all rounds (moments_ahead device.old log.instance events.now)) count) }
 {
     let Some(mut walk) = Walk::from_number(log, s) else {
@@ -85,9 +92,11 @@ pub fn all_records_from(
     steps: u32,
 ) -> Option<Outcome>
     ensures is_some { IsSome result ↔ (0 < s) × (log.kind ≡ 20) }
-    ensures records { IfSome result (λ outcome. (k : ℕ) → IsThere device.old log.instance → s ≡ sequence_number k →
-        IsNear k (moment_of (log_with device.old log.instance)) → length (log_with device.old log.instance).entries < steps →
-        (outcome.why ≡ why.Memory) ⊎ (outcome.items.items ≡ held_from (log_with device.old log.instance) k)) }
+    ensures records { IfSome result (λ outcome. (k : ℕ) → IsThere device.old log.instance
+        → s ≡ sequence_number k → IsNear k (moment_of (log_with device.old log.instance))
+        → length (log_with device.old log.instance).entries < steps
+        → (outcome.why ≡ why.Memory)
+        ⊎ (outcome.items.items ≡ held_from (log_with device.old log.instance) k)) }
     // Without the log, the device says so.
     ensures missing { IfSome result (λ outcome. log_of device.old log.instance ≡ None →
         Misses steps s outcome.items.items outcome.next outcome.why) }
@@ -113,11 +122,13 @@ pub fn all_records_from_any_number(
     s: u32,
     steps: u32,
 ) -> Option<Outcome>
-    ensures { IfSome result (λ outcome. 0 < s → log.kind ≡ 20 → IsThere device.old log.instance →
-        length (log_with device.old log.instance).entries < steps →
-        (k : ℕ) × (s ≡ sequence_number k) × IsNear k (placed 1 (moment_of (log_with device.old log.instance)))
+    ensures { IfSome result (λ outcome. 0 < s → log.kind ≡ 20 → IsThere device.old log.instance
+        → length (log_with device.old log.instance).entries < steps
+        → (k : ℕ) × (s ≡ sequence_number k)
+        × IsNear k (placed 1 (moment_of (log_with device.old log.instance)))
         × ((outcome.why ≡ why.Memory) ⊎ (outcome.items.items
-        ≡ (rest_all (history_ahead 1 device.old log.instance []) (placed 1 (moment_of (log_with device.old log.instance))) k).items))) }
+        ≡ (rest_all (history_ahead 1 device.old log.instance [])
+        (placed 1 (moment_of (log_with device.old log.instance))) k).items))) }
 {
     // For the prover alone: a law that the contract follows from.
     numbers_have_ordinals();
@@ -137,7 +148,8 @@ pub fn records_of_a_day(
     steps: u32,
 ) -> Option<Outcome>
     ensures { IfSome result (λ outcome. (count : ℕ) × (t : ℕ) × (outcome.next ≡ sequence_number t)
-        × DeliversTo (history_ahead 0 (plant_of device.now name source) 1 day) 1 outcome.items.items t day_moments count) }
+        × DeliversTo (history_ahead 0 (plant_of device.now name source) 1 day) 1
+        outcome.items.items t day_moments count) }
 {
     let log = ObjectId::new(20, 1)?;
     let purge = Datagram::of(&PURGE)?;

@@ -1,7 +1,8 @@
 //! A device that isn't ours, with REAL records in a longer encoding, two a reply: that the headline
 //! of what came holds over it is proved from public contracts alone.
 
-ghost use Rattle.std.specs.Prelude.{ℕ, ◌≡◌, ◌+◌, ◌<◌, ◌≤◌, ◌⊎◌, false, true, [], ◌∷◌, get_or, None, IfSome};
+ghost use Rattle.std.specs.Prelude.{ℕ, ◌≡◌, ◌+◌, ◌<◌, ◌≤◌, ◌⊎◌, false, true, [], ◌∷◌, get_or, None};
+ghost use Rattle.std.specs.Prelude.{IfSome};
 ghost use Rattle.bac_log.specs.TrendLog.{sequence_number};
 ghost use Rattle.bac_link.specs.Delivery.{DeliversTo};
 ghost use Rattle.bac_link.specs.Path.{towards};
@@ -11,7 +12,8 @@ ghost use Rattle.bac_walk.specs.declared.outcome.WalkFault.{WalkFault as WalkFau
 ghost use Rattle.bac_walk.specs.declared.outcome.WalkFault.TheVariants as fault;
 ghost use Rattle.bac_walk.specs.declared.outcome.Why.TheVariants as why;
 ghost use Rattle.bac_client_tests.specs.declared.foreign_callers.ForeignLink.{ForeignLink as ForeignLinkOf};
-ghost use Rattle.bac_client_tests.specs.Foreign.{all_held, held, history, log as log_one, said_to, IsSaid};
+ghost use Rattle.bac_client_tests.specs.Foreign.{all_held, held, history, log as log_one, said_to};
+ghost use Rattle.bac_client_tests.specs.Foreign.{IsSaid};
 
 use crate::direct_link::brought;
 use bac_link::{Item, LogLink, Lost, Transactions};
@@ -148,9 +150,9 @@ pub fn records_of_another_device(
 /// the oldest, the device answers by the standard, or the ask is lost: the link is honest for its
 /// log.
 pub fn another_device_is_honest()
-    ensures { (count low : ℕ) → IsCount count → 2 ≤ count →
-        IsHonestWhere {S = ForeignLinkOf} (λ old octets answer new. IsSaid octets answer) (towards None) log_one count history low
-        (λ link M. held ∷ [] ≡ M) }
+    ensures { (count low : ℕ) → IsCount count → 2 ≤ count
+        → IsHonestWhere {S = ForeignLinkOf} (λ old octets answer new. IsSaid octets answer)
+        (towards None) log_one count history low (λ link M. held ∷ [] ≡ M) }
 {}
 
 /// So a walk of its log that asks for two records or more, from any number, delivers what the log
@@ -163,10 +165,13 @@ pub fn walk_of_another_device(
     walk: &mut Walk,
     steps: u32,
 ) -> Outcome
-    ensures { (s low : ℕ) → transactions.old.route ≡ None → walk.old.log ≡ log_one → walk.old.next ≡ sequence_number s → 2 ≤ walk.old.count → low ≤ 7 →
-        (walk.old.fresh ≡ false → (low ≤ s) × (s < low + 2147483648)) →
-        ((b : ℕ) × (a : ℕ) × (t : ℕ) × (walk.old.fresh ≡ false → b ≡ s) × (walk.new.next ≡ sequence_number t)
-        × DeliversTo history b result.items.items t (held ∷ []) a × (result.why ≡ why.CaughtUp → 10 < t)
+    ensures { (s low : ℕ) → transactions.old.route ≡ None → walk.old.log ≡ log_one
+        → walk.old.next ≡ sequence_number s → 2 ≤ walk.old.count → low ≤ 7
+        → (walk.old.fresh ≡ false → (low ≤ s) × (s < low + 2147483648))
+        → ((b : ℕ) × (a : ℕ) × (t : ℕ) × (walk.old.fresh ≡ false → b ≡ s)
+        × (walk.new.next ≡ sequence_number t)
+        × DeliversTo history b result.items.items t (held ∷ []) a
+        × (result.why ≡ why.CaughtUp → 10 < t)
         × (walk.old.fresh ≡ true → (result.items.items ≡ []) ⊎ (b ≡ 7)))
         × ((e : WalkFaultOf) → result.why ≡ why.Fault e → e ≡ fault.Lost) }
 {

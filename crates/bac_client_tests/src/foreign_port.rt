@@ -32,7 +32,8 @@ pub struct ForeignPort {
 impl Port for ForeignPort {
     ghost sends = { λ old octets to answer new. IsPut octets answer new.question };
 
-    ghost receives = { λ old answer new. IsBrought old.question answer × (new.question ≡ old.question) };
+    ghost receives = { λ old answer new. IsBrought old.question answer
+        × (new.question ≡ old.question) };
 
     ghost receives_within = { λ old wait answer new. Unit {0} };
 

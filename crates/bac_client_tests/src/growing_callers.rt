@@ -111,14 +111,16 @@ impl LogLink for GrowingLink {
 /// are logged between any two, up to a hundred: the link stays honest for its log, for as many asks
 /// as keep it within half of the count.
 pub fn a_growing_log_stays_honest()
-    ensures { (count more : ℕ) (link : GrowingLinkOf) → IsCount count → link.logged + 100 * more < 2147483648 →
-        StaysHonest {S = GrowingLinkOf} (λ old octets answer new. MayGrow old.logged octets answer new.logged) (towards None) log_one count 1 more link
-        (logged_so_far link.logged) }
+    ensures { (count more : ℕ) (link : GrowingLinkOf) → IsCount count
+        → link.logged + 100 * more < 2147483648
+        → StaysHonest {S = GrowingLinkOf}
+        (λ old octets answer new. MayGrow old.logged octets answer new.logged) (towards None)
+        log_one count 1 more link (logged_so_far link.logged) }
 {}
 
-/// So a walk of its log, from any number or from the oldest record, and however many it asks for at a
-/// time, delivers what the log held when
-/// each reply came, each record once, and ends with no fault but a loss.
+/// So a walk of its log, from any number or from the oldest record, and however many it asks for at
+/// a time, delivers what the log held when each reply came, each record once, and ends with no
+/// fault but a loss.
 pub fn walk_of_a_growing_log(
     alloc: Global,
     link: &mut GrowingLink,
@@ -126,11 +128,15 @@ pub fn walk_of_a_growing_log(
     walk: &mut Walk,
     steps: u32,
 ) -> Outcome
-    ensures { (s : ℕ) → transactions.old.route ≡ None → walk.old.log ≡ log_one → walk.old.next ≡ sequence_number s →
-        link.old.logged + 100 * most_asks steps transactions.old.retries < 2147483648 →
-        (walk.old.fresh ≡ false → (1 ≤ s) × (s < 2147483649)) →
-        HasDelivered {S = GrowingLinkOf} (λ old octets answer new. MayGrow old.logged octets answer new.logged) (towards transactions.old.route)
-        transactions.old.retries link.old 1 s (logged_so_far link.old.logged) walk.old result.items.items (ended_of result.why) walk.new }
+    ensures { (s : ℕ) → transactions.old.route ≡ None → walk.old.log ≡ log_one
+        → walk.old.next ≡ sequence_number s
+        → link.old.logged + 100 * most_asks steps transactions.old.retries < 2147483648
+        → (walk.old.fresh ≡ false → (1 ≤ s) × (s < 2147483649))
+        → HasDelivered {S = GrowingLinkOf}
+        (λ old octets answer new. MayGrow old.logged octets answer new.logged)
+        (towards transactions.old.route) transactions.old.retries link.old 1 s
+        (logged_so_far link.old.logged) walk.old result.items.items (ended_of result.why)
+        walk.new }
 {
     // For the prover alone: how many records it may ask for.
     let _count = walk.count();

@@ -30,10 +30,10 @@ pub fn records_that_came<L: LogLink>(
     s: u32,
     steps: u32,
 ) -> Option<Outcome>
-    ensures { IfSome result (λ outcome. (r : ℕ) (M : List Moment) (H : History) (k low : ℕ) →
-        L.is_ours link.old log r M H → s ≡ sequence_number k →
-        AreInWindow low M → low ≤ k → k < low + 2147483648 →
-        ((count : ℕ) × (t : ℕ) × (outcome.next ≡ sequence_number t) × DeliversTo H k outcome.items.items t M count)
+    ensures { IfSome result (λ outcome. (r : ℕ) (M : List Moment) (H : History) (k low : ℕ)
+        → L.is_ours link.old log r M H → s ≡ sequence_number k → AreInWindow low M → low ≤ k
+        → k < low + 2147483648 → ((count : ℕ) × (t : ℕ) × (outcome.next ≡ sequence_number t)
+        × DeliversTo H k outcome.items.items t M count)
         × ((e : WalkFaultOf) → outcome.why ≡ why.Fault e → e ≡ fault.Lost)) }
 {
     // For the prover alone, all five: laws, and numbers small enough for a request.
@@ -56,12 +56,15 @@ pub fn records_of_a_device(
     s: u32,
     steps: u32,
 ) -> Option<Outcome>
-    ensures { IfSome result (λ outcome. (rounds k low : ℕ) → log.kind ≡ 20 → IsThere device.old log.instance → s ≡ sequence_number k →
-        AreInWindow low (placed_all rounds (moments_ahead device.old log.instance events.now)) → low ≤ k → k < low + 2147483648 →
-        ((count : ℕ) × (t : ℕ) × (outcome.next ≡ sequence_number t)
-        × DeliversTo (history_ahead rounds device.old log.instance events.now) k outcome.items.items t
-        (placed_all rounds (moments_ahead device.old log.instance events.now)) count)
-        × ((e : WalkFaultOf) → outcome.why ≡ why.Fault e → e ≡ fault.Lost)) }
+    ensures { IfSome result (λ outcome. (rounds k low : ℕ) → log.kind ≡ 20
+        → IsThere device.old log.instance → s ≡ sequence_number k
+        → AreInWindow low (placed_all rounds (moments_ahead device.old log.instance events.now))
+        → low ≤ k → k < low + 2147483648
+        → ((count : ℕ) × (t : ℕ) × (outcome.next ≡ sequence_number t)
+        × DeliversTo (history_ahead rounds device.old log.instance events.now) k
+        outcome.items.items t
+        (placed_all rounds (moments_ahead device.old log.instance events.now))
+        count) × ((e : WalkFaultOf) → outcome.why ≡ why.Fault e → e ≡ fault.Lost)) }
 {
     let mut link = DirectLink::new(device, events);
     let outcome = records_that_came(alloc, &mut link, log, s, steps)?;

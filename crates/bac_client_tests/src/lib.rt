@@ -1,6 +1,6 @@
 //! Tests of requests, links and walks by their public calls: over links that answer from a list and
-//! over a link straight to a device, and callers that see public contracts alone, of what is printed
-//! over a port too.
+//! over a link straight to a device, and callers that see public contracts alone, of what is
+//! printed over a port too.
 #![tactic(auto)]
 
 #[cfg(test)]

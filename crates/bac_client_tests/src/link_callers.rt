@@ -1,6 +1,7 @@
 //! What a user of transactions and links needs, proved from their public contracts alone.
 
-ghost use Rattle.std.specs.Prelude.{◌≡◌, ◌≢◌, ◌↔◌, ◌+◌, ℕ, pos, List, IfSome, IsNone, IsOkAnd, OnErr};
+ghost use Rattle.std.specs.Prelude.{◌≡◌, ◌≢◌, ◌↔◌, ◌+◌, ℕ, pos, List, IfSome, IsNone, IsOkAnd};
+ghost use Rattle.std.specs.Prelude.{OnErr};
 ghost use Rattle.bac_apdu.specs.declared.service.extent.Extent.TheVariants.{ByNumber as by_number};
 ghost use Rattle.bac_link.specs.Delivery.{History, Moment, now, later};
 ghost use Rattle.bac_link.specs.Links.{IsReply, RisesBy};
@@ -60,10 +61,14 @@ pub fn records_from<L: LogLink>(
     log: ObjectId,
     from: u32,
 ) -> Result<Datagram, ExchangeFault>
-    ensures replied { (r : ℕ) (M : List Moment) (H : History) → L.is_ours link.old log r M H → L.is_sure link.old (towards transactions.old.route) →
-        IsOkAnd result (λ d. ((invoke : ℕ) × IsReply r (now M) H log (by_number from (pos 100)) (towards transactions.old.route) invoke d) × L.is_ours link.new log r (later M) H) }
-    ensures lost { (r : ℕ) (M : List Moment) (H : History) → L.is_ours link.old log r M H →
-        OnErr result (RisesBy (transactions.old.retries + 1) (L.failures link.old) (L.failures link.new)) }
+    ensures replied { (r : ℕ) (M : List Moment) (H : History) → L.is_ours link.old log r M H
+        → L.is_sure link.old (towards transactions.old.route)
+        → IsOkAnd result (λ d. ((invoke : ℕ) × IsReply r (now M) H log (by_number from (pos 100))
+        (towards transactions.old.route) invoke d)
+        × L.is_ours link.new log r (later M) H) }
+    ensures lost { (r : ℕ) (M : List Moment) (H : History) → L.is_ours link.old log r M H
+        → OnErr result
+        (RisesBy (transactions.old.retries + 1) (L.failures link.old) (L.failures link.new)) }
 {
     // For the prover alone, both: their numbers are small enough for a request.
     let _kind = log.kind();

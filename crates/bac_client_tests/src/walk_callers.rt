@@ -1,6 +1,7 @@
 //! What a user of walks needs, proved from their public contracts alone.
 
-ghost use Rattle.std.specs.Prelude.{ℕ, ◌≡◌, ◌+◌, ◌-◌, ◌<◌, ◌≤◌, ◌⊎◌, max, List, [], ◌∷◌, None, IfSome};
+ghost use Rattle.std.specs.Prelude.{ℕ, ◌≡◌, ◌+◌, ◌-◌, ◌<◌, ◌≤◌, ◌⊎◌, max, List, [], ◌∷◌, None};
+ghost use Rattle.std.specs.Prelude.{IfSome};
 ghost use Rattle.bac_log.specs.TrendLog.{sequence_number};
 ghost use Rattle.bac_link.specs.Delivery.{History, Moment, DeliversTo};
 ghost use Rattle.bac_link.specs.Laws.{after_answers};
@@ -33,9 +34,10 @@ pub fn records_from<L: LogLink>(
     s: u32,
     steps: u32,
 ) -> Option<Outcome>
-    ensures { IfSome result (λ outcome. (r : ℕ) (M : List Moment) (H : History) (k low : ℕ) → L.is_ours link.old log r M H → s ≡ sequence_number k →
-        AreInWindow low M → low ≤ k → k < low + 2147483648 →
-        (count : ℕ) × (t : ℕ) × (outcome.next ≡ sequence_number t) × DeliversTo H k outcome.items.items t M count
+    ensures { IfSome result (λ outcome. (r : ℕ) (M : List Moment) (H : History) (k low : ℕ)
+        → L.is_ours link.old log r M H → s ≡ sequence_number k → AreInWindow low M → low ≤ k
+        → k < low + 2147483648 → (count : ℕ) × (t : ℕ) × (outcome.next ≡ sequence_number t)
+        × DeliversTo H k outcome.items.items t M count
         × L.is_ours link.new log r (after_answers count M) H) }
 {
     let Some(mut walk) = Walk::from_number(log, s) else {
@@ -54,10 +56,10 @@ pub fn all_records_from<L: LogLink>(
     s: u32,
     steps: u32,
 ) -> Option<Outcome>
-    ensures { IfSome result (λ outcome. (r : ℕ) (m : Moment) (H : History) (k : ℕ) →
-        L.is_sure link.old (towards None) → L.is_ours link.old log r (m ∷ []) H → s ≡ sequence_number k → IsNear k m →
-        (m.newest + 1) - max k m.oldest < steps →
-        (outcome.why ≡ why.Memory) ⊎ (outcome.items.items ≡ (rest_all H m k).items)) }
+    ensures { IfSome result (λ outcome. (r : ℕ) (m : Moment) (H : History) (k : ℕ)
+        → L.is_sure link.old (towards None) → L.is_ours link.old log r (m ∷ []) H
+        → s ≡ sequence_number k → IsNear k m → (m.newest + 1) - max k m.oldest < steps
+        → (outcome.why ≡ why.Memory) ⊎ (outcome.items.items ≡ (rest_all H m k).items)) }
 {
     // For the prover alone, all four: laws, and numbers small enough for a request.
     rests_all();
@@ -78,7 +80,8 @@ pub fn no_steps<L: LogLink>(
     transactions: &mut Transactions,
     walk: &mut Walk,
 ) -> Outcome
-    ensures { (result.why ≡ why.StepLimit) × (result.items.items ≡ []) × (link.new ≡ link.old) × (transactions.new ≡ transactions.old) }
+    ensures { (result.why ≡ why.StepLimit) × (result.items.items ≡ []) × (link.new ≡ link.old)
+        × (transactions.new ≡ transactions.old) }
 {
     collect(alloc, link, transactions, walk, 0)
 }
@@ -92,9 +95,11 @@ pub fn lost_after_all_tries<L: LogLink>(
     walk: &mut Walk,
     steps: u32,
 ) -> Outcome
-    ensures { result.why ≡ why.Fault fault.Lost → (before : L) × (invoke : ℕ)
-        × Unanswered L.asks (request_octets (towards transactions.old.route) invoke (question walk.new.log (question_of walk.new)))
-        (transactions.old.retries + 1) before link.new }
+    ensures { result.why ≡ why.Fault fault.Lost
+        → (before : L) × (invoke : ℕ) × Unanswered L.asks
+        (request_octets (towards transactions.old.route) invoke
+        (question walk.new.log (question_of walk.new))) (transactions.old.retries + 1)
+        before link.new }
 {
     collect(alloc, link, transactions, walk, steps)
 }
@@ -108,8 +113,9 @@ pub fn bad_replies_came<L: LogLink>(
     walk: &mut Walk,
     steps: u32,
 ) -> Outcome
-    ensures told { result.why ≡ why.Fault fault.BadReply →
-        ToldFault L.asks (towards transactions.old.route) transactions.old.retries fault.BadReply walk.new link.new }
+    ensures told { result.why ≡ why.Fault fault.BadReply
+        → ToldFault L.asks (towards transactions.old.route) transactions.old.retries fault.BadReply
+        walk.new link.new }
     ensures retries { transactions.new.retries ≡ transactions.old.retries }
 {
     collect(alloc, link, transactions, walk, steps)
@@ -123,8 +129,9 @@ pub fn missing_twice<L: LogLink>(
     s: u32,
     steps: u32,
 ) -> Option<(Outcome, Outcome)>
-    ensures { IfSome result (λ both. L.lacks link.old log → L.is_sure link.old (towards None) →
-        Misses steps s both.0.items.items both.0.next both.0.why × Misses steps s both.1.items.items both.1.next both.1.why) }
+    ensures { IfSome result (λ both. L.lacks link.old log → L.is_sure link.old (towards None)
+        → Misses steps s both.0.items.items both.0.next both.0.why
+        × Misses steps s both.1.items.items both.1.next both.1.why) }
 {
     let mut walk = Walk::from_number(log, s)?;
     let mut again = Walk::from_number(log, s)?;

@@ -1,6 +1,7 @@
 //! What a user of a walk over a network needs, proved from public contracts alone.
 
-ghost use Rattle.std.specs.Prelude.{ℕ, ◌≡◌, ◌+◌, ◌<◌, ◌≤◌, ◌↔◌, ◌∷◌, ◌++◌, List, length, IfOk, IfSome, IsSome};
+ghost use Rattle.std.specs.Prelude.{ℕ, ◌≡◌, ◌+◌, ◌<◌, ◌≤◌, ◌↔◌, ◌∷◌, ◌++◌, List, length, IfOk};
+ghost use Rattle.std.specs.Prelude.{IfSome, IsSome};
 ghost use Rattle.bac_log.specs.TrendLog.{sequence_number};
 ghost use Rattle.bac_link.specs.Delivery.{DeliversTo};
 ghost use Rattle.bac_link.specs.Moments.{AreInWindow};
@@ -31,12 +32,18 @@ pub fn records_over_a_network(
     events: &[WorldEvent],
 ) -> Option<Result<World, Memory>>
     ensures is_some { IsSome result ↔ (0 < s) × (log.kind ≡ 20) }
-    ensures delivers { IfSome result (λ played. IfOk played (λ world. (rounds k low : ℕ) → IsThere device log.instance → s ≡ sequence_number k →
-        AreInWindow low (moments_of rounds log.instance (started device (walk_at log s) retries) events.now) → low ≤ k → k < low + 2147483648 →
-        (t : ℕ) × ((network_of world).walk.next ≡ sequence_number t)
-        × DeliversTo (history_of rounds log.instance (started device (walk_at log s) retries) events.now) k (network_of world).items t
-        (moments_of rounds log.instance (started device (walk_at log s) retries) events.now)
-        (length (moments_of rounds log.instance (started device (walk_at log s) retries) events.now)))) }
+    ensures delivers { IfSome result (λ played. IfOk played
+        (λ world. (rounds k low : ℕ) → IsThere device log.instance → s ≡ sequence_number k
+        → AreInWindow low (moments_of rounds log.instance
+        (started device (walk_at log s) retries) events.now) → low ≤ k
+        → k < low + 2147483648 → (t : ℕ)
+        × ((network_of world).walk.next ≡ sequence_number t)
+        × DeliversTo (history_of rounds log.instance
+        (started device (walk_at log s) retries) events.now) k
+        (network_of world).items t (moments_of rounds log.instance
+        (started device (walk_at log s) retries) events.now)
+        (length (moments_of rounds log.instance
+        (started device (walk_at log s) retries) events.now)))) }
 {
     // For the prover alone: a law that the contract follows from.
     windows_stay_near();
@@ -61,8 +68,11 @@ pub fn replies_of_the_device(
     events: &[WorldEvent],
 ) -> Option<Result<World, Memory>>
     ensures is_some { IsSome result ↔ (0 < s) × (log.kind ≡ 20) }
-    ensures answered { IfSome result (λ played. IfOk played (λ world. IsThere device log.instance → (before : List WorldEvent) (k : ℕ) (after : List WorldEvent) →
-        events.now ≡ before ++ Delivers k ∷ after → WasAnswered (started device (walk_at log s) retries) before k)) }
+    ensures answered { IfSome result (λ played. IfOk played
+        (λ world. IsThere device log.instance
+        → (before : List WorldEvent) (k : ℕ) (after : List WorldEvent)
+        → events.now ≡ before ++ Delivers k ∷ after
+        → WasAnswered (started device (walk_at log s) retries) before k)) }
 {
     let Some(walk) = Walk::from_number(log, s) else {
         return None;

@@ -3,7 +3,8 @@
 ghost use Rattle.std.specs.Prelude.{◌≡◌, [], is_some};
 ghost use Rattle.bac_apdu.specs.Apdu.{apdu_of};
 ghost use Rattle.bac_objects.specs.Sound.{IsSound};
-ghost use Rattle.bac_device.specs.Answer.{answer, answer_apdu, answer_heard, answer_npdu, answer_request, nak};
+ghost use Rattle.bac_device.specs.Answer.{answer, answer_apdu, answer_heard, answer_npdu};
+ghost use Rattle.bac_device.specs.Answer.{answer_request, nak};
 ghost use Rattle.bac_device.specs.Receiving.{heard_at};
 ghost use Rattle.bac_device.specs.Reply.{datagram_octets, receiver_of, reply_octets, said_octets};
 
@@ -29,8 +30,10 @@ impl Device {
         service: u8,
         parameters: &[u8],
     )
-        ensures apdu { out.new ≡ datagram_octets (answer_request self.old segmented size invoke service parameters.now).0 }
-        ensures state { self.new ≡ (answer_request self.old segmented size invoke service parameters.now).1 }
+        ensures apdu { out.new ≡ datagram_octets
+            (answer_request self.old segmented size invoke service parameters.now).0 }
+        ensures state { self.new
+            ≡ (answer_request self.old segmented size invoke service parameters.now).1 }
     {
         if segmented {
             return abort(out, invoke);
@@ -94,8 +97,10 @@ impl Device {
         npdu: &[u8],
     ) -> Option<Receiver>
         requires { out.old ≡ [] }
-        ensures receiver { result ≡ receiver_of (answer_npdu self.old to (heard_at to_all npdu.now)).0 }
-        ensures octets { out.new ≡ reply_octets (answer_npdu self.old to (heard_at to_all npdu.now)).0 }
+        ensures receiver { result
+            ≡ receiver_of (answer_npdu self.old to (heard_at to_all npdu.now)).0 }
+        ensures octets { out.new
+            ≡ reply_octets (answer_npdu self.old to (heard_at to_all npdu.now)).0 }
         ensures state { self.new ≡ (answer_npdu self.old to (heard_at to_all npdu.now)).1 }
     {
         // For the prover alone: it tells that the reply size is one that a device can have.

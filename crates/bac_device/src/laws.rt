@@ -1,6 +1,7 @@
 //! Laws of what a device answers. Each function does nothing: what it ensures is the law.
 
-ghost use Rattle.bac_device.specs.Laws.{AcceptedWritesStand, AcksAreReadBack, BuiltObjectsAreCommanded};
+ghost use Rattle.bac_device.specs.Laws.{AcceptedWritesStand, AcksAreReadBack};
+ghost use Rattle.bac_device.specs.Laws.{BuiltObjectsAreCommanded};
 ghost use Rattle.bac_device.specs.Laws.{ObjectListKeepsTheOrderOfLines, OthersChangeNothing};
 ghost use Rattle.bac_device.specs.Laws.{ReadsAreAnswered, RefusalsChangeNothing, WritesAreAnswered};
 ghost use Rattle.bac_device.specs.Run.{RunsAreJoined, RunsOfDatagrams};

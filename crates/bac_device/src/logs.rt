@@ -25,7 +25,8 @@ ghost use Rattle.bac_device.specs.declared.reply.Receiver.TheVariants as Receive
 /// the device's identifier, its reply size and the identifiers of its objects.
 pub fn logs_move_by_steps()
     ensures answer { (d : State) (datagram : List ℕ) → Keeps d (answer d datagram).1 }
-    ensures sample { (d : State) (instance : ℕ) (said : ℕ × State) → sampled d instance ≡ Ok said → Keeps d said.1 }
+    ensures sample { (d : State) (instance : ℕ) (said : ℕ × State) → sampled d instance ≡ Ok said
+        → Keeps d said.1 }
     ensures advance { (d : State) (stamp : CivilTime) → Keeps d (ticked d stamp) }
 {}
 
@@ -54,19 +55,35 @@ pub fn built_devices_have_logs()
 /// A question for the records of a log of the device is answered by that log, within the reply size
 /// and 1476 octets, and changes nothing.
 pub fn questions_are_answered()
-    ensures { (d : State) (source : Option Place) (n : ℕ) (log : Log) (invoke : ℕ) (extent : AnyExtent) → IsWay source → log_of d n ≡ Some log → IsExtent extent → answer d (question_octets source invoke n extent) ≡ (Some (reply (record { to = Receiver.Sender; place = source }) (records_said (min 1476 d.reply_size) invoke (log_id n) extent log)), d) }
+    ensures { (d : State) (source : Option Place) (n : ℕ) (log : Log) (invoke : ℕ)
+        (extent : AnyExtent) → IsWay source → log_of d n ≡ Some log → IsExtent extent
+        → answer d (question_octets source invoke n extent)
+        ≡ (
+          Some (reply (record { to = Receiver.Sender; place = source })
+              (records_said (min 1476 d.reply_size) invoke (log_id n) extent log)),
+          d,
+        ) }
 {}
 
 /// A question for the records of a log that isn't there is answered by the Error object,
 /// unknown-object, and changes nothing.
 pub fn questions_for_no_log_are_refused()
-    ensures { (d : State) (source : Option Place) (n : ℕ) (invoke : ℕ) (extent : AnyExtent) → IsWay source → HasLogs d → log_of d n ≡ None → n < 4194304 → IsExtent extent → answer d (question_octets source invoke n extent) ≡ (Some (reply (record { to = Receiver.Sender; place = source }) (error invoke 26 Fault.UnknownObject)), d) }
+    ensures { (d : State) (source : Option Place) (n : ℕ) (invoke : ℕ) (extent : AnyExtent)
+        → IsWay source → HasLogs d → log_of d n ≡ None → n < 4194304 → IsExtent extent
+        → answer d (question_octets source invoke n extent)
+        ≡ (
+          Some (reply (record { to = Receiver.Sender; place = source })
+              (error invoke 26 Fault.UnknownObject)),
+          d,
+        ) }
 {}
 
 /// An answer of 44 octets holds a record of any log, so no question for records is answered by an
 /// Abort if the limit is that high, and a device's reply size is.
 pub fn records_fit()
-    ensures { (limit invoke : ℕ) (object : Id) (extent : AnyExtent) (log : Log) → IsLog log → 44 ≤ limit → records_said limit invoke object extent log ≡ records_ack limit invoke object extent log }
+    ensures { (limit invoke : ℕ) (object : Id) (extent : AnyExtent) (log : Log) → IsLog log
+        → 44 ≤ limit
+        → records_said limit invoke object extent log ≡ records_ack limit invoke object extent log }
 {}
 
 /// No unsegmented ReadRange is ever answered by an Abort, however small the answer that it takes:

@@ -1,11 +1,13 @@
 //! What a device sends, and to whom.
 
 ghost use Rattle.std.specs.Prelude.{◌≡◌, ◌≤◌, Some, [], length};
-ghost use Rattle.bac_apdu.specs.Apdu.{Apdu as ApduValue, IsApdu, Reject, Simple, apdu_octets, apdu_of};
+ghost use Rattle.bac_apdu.specs.Apdu.{Apdu as ApduValue, IsApdu, Reject, Simple, apdu_octets};
+ghost use Rattle.bac_apdu.specs.Apdu.{apdu_of};
 ghost use Rattle.bac_apdu.specs.Npdu.{maybe_place_of, place_of};
 ghost use Rattle.bac_apdu.specs.Route.{IsRoute, IsWay};
 ghost use Rattle.bac_device.specs.Receiving.{nak_octets};
-ghost use Rattle.bac_device.specs.Reply.{abort, begun, datagram_octets, datagram_to, error, limited};
+ghost use Rattle.bac_device.specs.Reply.{abort, begun, datagram_octets, datagram_to, error};
+ghost use Rattle.bac_device.specs.Reply.{limited};
 
 use bac_apdu::{
     Apdu, Far, Npdu, begin_datagram, end_datagram, write_apdu, write_datagram, write_result,
@@ -75,7 +77,8 @@ pub(crate) fn end(out: &mut Datagram)
 /// its place.
 pub(crate) fn end_within(out: &mut Datagram, limit: u16, invoke: u8)
     requires { 6 ≤ length out.old }
-    ensures { (m : ApduValue) → out.old ≡ begun (apdu_octets m) → out.new ≡ datagram_octets (limited limit invoke m) }
+    ensures { (m : ApduValue) → out.old ≡ begun (apdu_octets m)
+        → out.new ≡ datagram_octets (limited limit invoke m) }
 {
     if out.octets().len() - HEADS_SIZE > limit as usize {
         return abort(out, invoke);
@@ -101,7 +104,8 @@ const MOST_HOPS: u8 = 255;
 pub(crate) fn send_back(out: &mut Datagram, source: Option<Far>)
     requires heads { 6 ≤ length out.old }
     requires way { IsWay (maybe_place_of source) }
-    ensures { (m : ApduValue) → length (apdu_octets m) ≤ 1476 → out.old ≡ datagram_octets m → out.new ≡ datagram_to (maybe_place_of source.entry) m }
+    ensures { (m : ApduValue) → length (apdu_octets m) ≤ 1476 → out.old ≡ datagram_octets m
+        → out.new ≡ datagram_to (maybe_place_of source.entry) m }
 {
     match source {
         Some(place) => send_to(out, place),
@@ -113,7 +117,8 @@ pub(crate) fn send_back(out: &mut Datagram, source: Option<Far>)
 fn send_to(out: &mut Datagram, place: Far)
     requires heads { 6 ≤ length out.old }
     requires route { IsRoute (place_of place) }
-    ensures { (m : ApduValue) → length (apdu_octets m) ≤ 1476 → out.old ≡ datagram_octets m → out.new ≡ datagram_to (Some (place_of place.entry)) m }
+    ensures { (m : ApduValue) → length (apdu_octets m) ≤ 1476 → out.old ≡ datagram_octets m
+        → out.new ≡ datagram_to (Some (place_of place.entry)) m }
 {
     let header = Npdu {
         network: false,

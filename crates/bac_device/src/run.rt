@@ -48,7 +48,8 @@ impl Device {
     /// Events one after the other, and the outcome of each. Without memory for the outcomes it
     /// begins none of them.
     pub fn run(&mut self, alloc: Global, events: &[Event]) -> Result<Vec<Outcome>, AllocError>
-        ensures outcomes { IfOk result (λ outcomes. outcomes.items ≡ outcomes_of self.old (map event_of events.now)) }
+        ensures outcomes { IfOk result
+            (λ outcomes. outcomes.items ≡ outcomes_of self.old (map event_of events.now)) }
         ensures state { OnOk result (self.new ≡ left_by self.old (map event_of events.now)) }
         ensures err { OnErr result (self.new ≡ self.old) }
         ensures was_sound { IsSound self.old }

@@ -39,7 +39,11 @@ pub fn build_and_give(
     lines: &[ObjectLine],
     datagrams: &[&[u8]],
 ) -> Result<Device, BuildFault>
-    ensures { IfOk result (λ device. (i : ℕ) (object : Line) (default : Setting) → slice_get lines.now i ≡ Some object → default_of object ≡ Some default → IsCommanded device (id_of object) (writes (built line.now lines.now) (map (λ datagram. datagram.now) datagrams.now)) default) }
+    ensures { IfOk result (λ device. (i : ℕ) (object : Line) (default : Setting)
+        → slice_get lines.now i ≡ Some object → default_of object ≡ Some default
+        → IsCommanded device (id_of object)
+        (writes (built line.now lines.now) (map (λ datagram. datagram.now) datagrams.now))
+        default) }
 {
     // For the prover alone: a law that the contract follows from.
     built_objects_are_commanded();

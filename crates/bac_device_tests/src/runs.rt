@@ -46,8 +46,8 @@ const DISABLE: [u8; 20] = [
 
 const DISABLED: [u8; 9] = [0x81, 0x0a, 0, 9, 1, 0, 0x20, 1, 0x0f];
 
-/// A sample, a clock step at which one is due, a write, a sample of a disabled log, and a clock that
-/// goes back.
+/// A sample, a clock step at which one is due, a write, a sample of a disabled log, and a clock
+/// that goes back.
 fn are_told(outcomes: &[Outcome]) -> bool {
     match outcomes {
         [

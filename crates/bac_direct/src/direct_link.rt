@@ -8,8 +8,10 @@ ghost use Rattle.bac_objects.specs.Sampling.{log_id, log_of};
 ghost use Rattle.bac_link.specs.Delivery.{History, Moment};
 ghost use Rattle.bac_link.specs.Links.{IsAsked, IsAskedOfNone, IsQuestion, RisesBy};
 ghost use Rattle.bac_link.specs.Path.{Path};
-ghost use Rattle.bac_direct.specs.Ahead.{history_ahead, IsAhead, IsThere, Lacks, LiesAhead, moments_ahead, placed_all};
-ghost use Rattle.bac_direct.specs.Events.{datagram_in, failures_after, goes_on, happens, IsAnswered, meets, played, told};
+ghost use Rattle.bac_direct.specs.Ahead.{history_ahead, IsAhead, IsThere, Lacks, LiesAhead};
+ghost use Rattle.bac_direct.specs.Ahead.{moments_ahead, placed_all};
+ghost use Rattle.bac_direct.specs.Events.{datagram_in, failures_after, goes_on, happens};
+ghost use Rattle.bac_direct.specs.Events.{IsAnswered, meets, played, told};
 ghost use Rattle.bac_direct.specs.Telling.{IsOurAsk};
 ghost use Rattle.bac_objects.specs.Sound.{IsSound};
 
@@ -42,7 +44,8 @@ fn happen(device: &mut Device, event: &LinkEvent)
 /// Plays events up to and with the next answer or loss: how many, and whether it is a loss. After
 /// the last event comes an answer.
 fn play(device: &mut Device, events: &[LinkEvent]) -> (usize, bool)
-    ensures played { played device.old events.now ≡ record { device = device.new; rest = drop result.0 events.now; lost = result.1 } }
+    ensures played { played device.old events.now
+        ≡ record { device = device.new; rest = drop result.0 events.now; lost = result.1 } }
     ensures count { result.0 ≤ length events.now }
 {
     let mut count = 0;
@@ -95,9 +98,10 @@ impl<'a> DirectLink<'a> {
         ensures failures { result.failures ≡ 0 }
         // It is ours for each log of the device, at the moments that the events lead to, however
         // many whole rounds of numbers further on.
-        ensures ours { (n rounds : ℕ) → IsThere device.old n →
-            LiesAhead rounds result.device.now result.events.now (log_id n) device.old.reply_size
-            (placed_all rounds (moments_ahead device.old n events.now)) (history_ahead rounds device.old n events.now) }
+        ensures ours { (n rounds : ℕ) → IsThere device.old n
+            → LiesAhead rounds result.device.now result.events.now (log_id n) device.old.reply_size
+            (placed_all rounds (moments_ahead device.old n events.now))
+            (history_ahead rounds device.old n events.now) }
         // It lacks every other log.
         ensures lacks { (n : ℕ) → log_of device.old n ≡ None → Lacks result.device.now (log_id n) }
     {
@@ -113,9 +117,12 @@ impl<'a> DirectLink<'a> {
     /// Plays events up to the next answer, and gives it, unless it is lost or the device has none.
     /// A request to another network is lost, and nothing is played.
     fn tell(&mut self, request: &[u8]) -> Option<Datagram>
-        ensures reply { result ≡ datagram_in (told (meets self.old.device.now self.old.events.now request.now) request.now).0 }
-        ensures device { self.new.device.now ≡ (told (meets self.old.device.now self.old.events.now request.now) request.now).1 }
-        ensures events { self.new.events.now ≡ (meets self.old.device.now self.old.events.now request.now).rest }
+        ensures reply { result ≡ datagram_in
+            (told (meets self.old.device.now self.old.events.now request.now) request.now).0 }
+        ensures device { self.new.device.now
+            ≡ (told (meets self.old.device.now self.old.events.now request.now) request.now).1 }
+        ensures events { self.new.events.now
+            ≡ (meets self.old.device.now self.old.events.now request.now).rest }
         ensures failures { self.new.failures ≡ self.old.failures }
         ensures same_reference { self.new.device.ghost_name ≡ self.old.device.ghost_name }
         ensures sound { IsSound (meets self.old.device.now self.old.events.now request.now).device }
@@ -153,7 +160,8 @@ impl<'a> LogLink for DirectLink<'a> {
 
     ghost is_sure = { λ link path. (link.events.now ≡ []) × (path.dest ≡ None) };
 
-    ghost keeps = { λ a b. (a.device.now ≡ b.device.now) × (a.device.ghost_name ≡ b.device.ghost_name) };
+    ghost keeps = { λ a b. (a.device.now ≡ b.device.now)
+        × (a.device.ghost_name ≡ b.device.ghost_name) };
 
     // The device's answer after the next events; so it is ours.
     ghost asks = { λ old octets answer new.
@@ -167,26 +175,40 @@ impl<'a> LogLink for DirectLink<'a> {
     fn ask(&mut self, request: &[u8]) -> Result<Datagram, Lost>
         ensures never_falls { self.old.failures ≤ self.new.failures }
         ensures lost { OnErr result (RisesBy 1 self.old.failures self.new.failures) }
-        ensures ours { (id : Id) (r : ℕ) (M : List Moment) (H : History) (extent : AnyExtent) (path : Path) (invoke : ℕ) →
-            IsAhead self.old.device.now self.old.events.now id r M H → IsQuestion id extent path invoke request.now →
-            IsAsked (λ N. IsAhead self.new.device.now self.new.events.now id r N H) r M H id extent path invoke result }
+        ensures ours { (id : Id) (r : ℕ) (M : List Moment) (H : History) (extent : AnyExtent)
+            (path : Path) (invoke : ℕ)
+            → IsAhead self.old.device.now self.old.events.now id r M H
+            → IsQuestion id extent path invoke request.now
+            → IsAsked (λ N. IsAhead self.new.device.now self.new.events.now id r N H) r M H id
+            extent path invoke result }
         ensures lacking { (id : Id) (extent : AnyExtent) (path : Path) (invoke : ℕ) →
             Lacks self.old.device.now id → IsQuestion id extent path invoke request.now →
             IsAskedOfNone path invoke result × Lacks self.new.device.now id }
-        ensures stays_sure { (path : Path) → (self.old.events.now ≡ []) × (path.dest ≡ None) → (self.new.events.now ≡ []) × (path.dest ≡ None) }
-        ensures answered { (id : Id) (extent : AnyExtent) (path : Path) (invoke : ℕ) →
-            (self.old.events.now ≡ []) × (path.dest ≡ None) → IsQuestion id extent path invoke request.now → IsOk result }
-        ensures kept { (id : Id) (extent : AnyExtent) (path : Path) (invoke : ℕ) →
-            (self.old.events.now ≡ []) × (path.dest ≡ None) → IsQuestion id extent path invoke request.now →
-            (self.old.device.now ≡ self.new.device.now) × (self.old.device.ghost_name ≡ self.new.device.ghost_name) }
-        ensures asked { IsAnswered self.old.device.now self.old.events.now request.now result self.new.device.now self.new.events.now
+        ensures stays_sure { (path : Path) → (self.old.events.now ≡ []) × (path.dest ≡ None)
+            → (self.new.events.now ≡ []) × (path.dest ≡ None) }
+        ensures answered { (id : Id) (extent : AnyExtent) (path : Path) (invoke : ℕ)
+            → (self.old.events.now ≡ []) × (path.dest ≡ None)
+            → IsQuestion id extent path invoke request.now → IsOk result }
+        ensures kept { (id : Id) (extent : AnyExtent) (path : Path) (invoke : ℕ)
+            → (self.old.events.now ≡ []) × (path.dest ≡ None)
+            → IsQuestion id extent path invoke request.now
+            → (self.old.device.now ≡ self.new.device.now)
+            × (self.old.device.ghost_name ≡ self.new.device.ghost_name) }
+        ensures asked { IsAnswered self.old.device.now self.old.events.now request.now result
+            self.new.device.now self.new.events.now
             × IsOurAsk (λ id r M H. IsAhead self.old.device.now self.old.events.now id r M H)
-            (λ id r M H. IsAhead self.new.device.now self.new.events.now id r M H) request.now result }
+            (λ id r M H. IsAhead self.new.device.now self.new.events.now id r M H) request.now
+            result }
         // What it makes of the device, and the answer, exactly.
-        ensures reply { result_ok result ≡ datagram_in (told (meets self.old.device.now self.old.events.now request.now) request.now).0 }
-        ensures device { self.new.device.now ≡ (told (meets self.old.device.now self.old.events.now request.now) request.now).1 }
-        ensures events { self.new.events.now ≡ (meets self.old.device.now self.old.events.now request.now).rest }
-        ensures failures { self.new.failures ≡ failures_after self.old.failures (told (meets self.old.device.now self.old.events.now request.now) request.now).0 }
+        ensures reply { result_ok result ≡ datagram_in
+            (told (meets self.old.device.now self.old.events.now request.now) request.now).0 }
+        ensures device { self.new.device.now
+            ≡ (told (meets self.old.device.now self.old.events.now request.now) request.now).1 }
+        ensures events { self.new.events.now
+            ≡ (meets self.old.device.now self.old.events.now request.now).rest }
+        ensures failures { self.new.failures
+            ≡ failures_after self.old.failures
+            (told (meets self.old.device.now self.old.events.now request.now) request.now).0 }
         ensures same_reference { self.new.device.ghost_name ≡ self.old.device.ghost_name }
     {
         match self.tell(request) {

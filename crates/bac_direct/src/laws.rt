@@ -25,18 +25,21 @@ use bac_link::LogLink;
 
 /// A link's question for the records of a Trend Log is the one that a device answers by that log.
 pub fn questions_are_the_devices()
-    ensures { (source : Option Place) (invoke n : ℕ) (extent : AnyExtent) →
-        request_octets (back (towards source)) invoke (question (log_id n) extent) ≡ question_octets source invoke n extent }
+    ensures { (source : Option Place) (invoke n : ℕ) (extent : AnyExtent)
+        → request_octets (back (towards source)) invoke (question (log_id n) extent)
+        ≡ question_octets source invoke n extent }
 {}
 
 /// What a device answers by a log is the reply of that log: the same ACK, and as a datagram
 /// one that a client reads as it.
 pub fn replies_are_the_devices()
-    ensures ack { (limit invoke : ℕ) (id : Id) (extent : AnyExtent) (log : Log) →
-        records_ack limit invoke id extent log ≡ Complex false invoke read_range_service (reply_parameters id log extent limit) }
-    ensures datagram { (source : Option Place) (limit invoke : ℕ) (id : Id) (extent : AnyExtent) (log : Log) →
-        IsWay source → IsLog log → 44 ≤ limit → limit ≤ 1476 →
-        HasReply limit log id extent (back (towards source)) invoke (datagram_to source (records_said limit invoke id extent log)) }
+    ensures ack { (limit invoke : ℕ) (id : Id) (extent : AnyExtent) (log : Log)
+        → records_ack limit invoke id extent log
+        ≡ Complex false invoke read_range_service (reply_parameters id log extent limit) }
+    ensures datagram { (source : Option Place) (limit invoke : ℕ) (id : Id) (extent : AnyExtent)
+        (log : Log) → IsWay source → IsLog log → 44 ≤ limit → limit ≤ 1476
+        → HasReply limit log id extent (back (towards source)) invoke
+        (datagram_to source (records_said limit invoke id extent log)) }
 {}
 
 /// What a device answers over a link straight to it, after the events before, says already that the
@@ -51,14 +54,14 @@ pub fn device_answers_tell_ours()
 /// A router in front of a link doesn't hide that: what it passes on says that the link is ours, if
 /// the asks of the link behind it do.
 pub fn routed_asks_tell_ours<L: LogLink>()
-    ensures { (far near : Place) → IsRoute far → IsRoute near →
-        TellsOurs L.asks (λ link id r M H. L.is_ours link id r M H) →
-        TellsOurs (λ old octets answer new. PassesOn L.asks far near (handed_on far near octets) old answer new)
-        (λ link id r M H. L.is_ours link id r M H) }
+    ensures { (far near : Place) → IsRoute far → IsRoute near
+        → TellsOurs L.asks (λ link id r M H. L.is_ours link id r M H)
+        → TellsOurs (λ old octets answer new. PassesOn L.asks far near (handed_on far near octets)
+        old answer new) (λ link id r M H. L.is_ours link id r M H) }
 {}
 
-/// A question has a DNET or an SNET, and never both: what a router hands on was for the place behind
-/// it, from no other network, and goes on as a question for no other network.
+/// A question has a DNET or an SNET, and never both: what a router hands on was for the place
+/// behind it, from no other network, and goes on as a question for no other network.
 pub fn routers_hand_on_questions()
     ensures { RoutersHandOnQuestions }
 {}

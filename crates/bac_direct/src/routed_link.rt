@@ -48,11 +48,15 @@ impl<L: LogLink> RoutedLink<L> {
         ensures failures { self.new.failures ≡ self.old.failures }
         ensures far { self.new.far ≡ self.old.far }
         ensures near { self.new.near ≡ self.old.near }
-        ensures idle { handed_on self.old.far self.old.near request.now ≡ None → IsErr result × (self.new.inner ≡ self.old.inner) }
-        ensures passes { PassesOn L.asks self.old.far self.old.near (handed_on self.old.far self.old.near request.now) self.old.inner result self.new.inner }
-        ensures ours { (id : Id) (r : ℕ) (M : List Moment) (H : History) (extent : AnyExtent) (path : Path) (invoke : ℕ) →
-            L.is_ours self.old.inner id r M H → IsQuestion id extent path invoke request.now →
-            IsAsked (λ N. L.is_ours self.new.inner id r N H) r M H id extent path invoke result }
+        ensures idle { handed_on self.old.far self.old.near request.now ≡ None
+            → IsErr result × (self.new.inner ≡ self.old.inner) }
+        ensures passes { PassesOn L.asks self.old.far self.old.near
+            (handed_on self.old.far self.old.near request.now) self.old.inner result
+            self.new.inner }
+        ensures ours { (id : Id) (r : ℕ) (M : List Moment) (H : History) (extent : AnyExtent)
+            (path : Path) (invoke : ℕ) → L.is_ours self.old.inner id r M H
+            → IsQuestion id extent path invoke request.now
+            → IsAsked (λ N. L.is_ours self.new.inner id r N H) r M H id extent path invoke result }
         ensures lacking { (id : Id) (extent : AnyExtent) (path : Path) (invoke : ℕ) →
             L.lacks self.old.inner id → IsQuestion id extent path invoke request.now →
             IsAskedOfNone path invoke result × L.lacks self.new.inner id }
@@ -83,10 +87,10 @@ impl<L: LogLink> LogLink for RoutedLink<L> {
     ghost keeps = { λ a b. L.keeps a.inner b.inner };
 
     // What is passed on is asked behind it; so it is ours wherever that link is.
-    ghost asks = { λ old octets answer new.
-        PassesOn L.asks old.far old.near (handed_on old.far old.near octets) old.inner answer new.inner
-        × IsOurAsk (λ id r M H. L.is_ours old.inner id r M H) (λ id r M H. L.is_ours new.inner id r M H)
-        octets answer };
+    ghost asks = { λ old octets answer new. PassesOn L.asks old.far old.near
+        (handed_on old.far old.near octets) old.inner answer new.inner
+        × IsOurAsk (λ id r M H. L.is_ours old.inner id r M H)
+        (λ id r M H. L.is_ours new.inner id r M H) octets answer };
 
     /// Asks the inner link with `near` as SNET and SADR in place of `far`, and gives its reply with
     /// `far` as SNET and SADR in place of its DNET and DADR. `Lost` if the request isn't for `far`
@@ -95,26 +99,32 @@ impl<L: LogLink> LogLink for RoutedLink<L> {
     fn ask(&mut self, request: &[u8]) -> Result<Datagram, Lost>
         ensures never_falls { self.old.failures ≤ self.new.failures }
         ensures lost { OnErr result (RisesBy 1 self.old.failures self.new.failures) }
-        ensures ours { (id : Id) (r : ℕ) (M : List Moment) (H : History) (extent : AnyExtent) (path : Path) (invoke : ℕ) →
-            L.is_ours self.old.inner id r M H → IsQuestion id extent path invoke request.now →
-            IsAsked (λ N. L.is_ours self.new.inner id r N H) r M H id extent path invoke result }
+        ensures ours { (id : Id) (r : ℕ) (M : List Moment) (H : History) (extent : AnyExtent)
+            (path : Path) (invoke : ℕ) → L.is_ours self.old.inner id r M H
+            → IsQuestion id extent path invoke request.now
+            → IsAsked (λ N. L.is_ours self.new.inner id r N H) r M H id extent path invoke result }
         ensures lacking { (id : Id) (extent : AnyExtent) (path : Path) (invoke : ℕ) →
             L.lacks self.old.inner id → IsQuestion id extent path invoke request.now →
             IsAskedOfNone path invoke result × L.lacks self.new.inner id }
         ensures stays_sure { (path : Path) → ⊥ → ⊥ }
         ensures answered { (id : Id) (extent : AnyExtent) (path : Path) (invoke : ℕ) →
             ⊥ → IsQuestion id extent path invoke request.now → IsOk result }
-        ensures kept { (id : Id) (extent : AnyExtent) (path : Path) (invoke : ℕ) →
-            ⊥ → IsQuestion id extent path invoke request.now → L.keeps self.old.inner self.new.inner }
-        ensures passes { PassesOn L.asks self.old.far self.old.near (handed_on self.old.far self.old.near request.now) self.old.inner result self.new.inner }
-        ensures asked { PassesOn L.asks self.old.far self.old.near (handed_on self.old.far self.old.near request.now) self.old.inner result self.new.inner
-            × IsOurAsk (λ id r M H. L.is_ours self.old.inner id r M H) (λ id r M H. L.is_ours self.new.inner id r M H) request.now result }
+        ensures kept { (id : Id) (extent : AnyExtent) (path : Path) (invoke : ℕ) → ⊥
+            → IsQuestion id extent path invoke request.now → L.keeps self.old.inner self.new.inner }
+        ensures passes { PassesOn L.asks self.old.far self.old.near
+            (handed_on self.old.far self.old.near request.now) self.old.inner result
+            self.new.inner }
+        ensures asked { PassesOn L.asks self.old.far self.old.near
+            (handed_on self.old.far self.old.near request.now) self.old.inner result
+            self.new.inner × IsOurAsk (λ id r M H. L.is_ours self.old.inner id r M H)
+            (λ id r M H. L.is_ours self.new.inner id r M H) request.now result }
         // Its failures are its own, and its places stay.
         ensures failures { OnErr result (self.new.failures ≡ one_more self.old.failures) }
         ensures stays { OnOk result (self.new.failures ≡ self.old.failures) }
         ensures far { self.new.far ≡ self.old.far }
         ensures near { self.new.near ≡ self.old.near }
-        ensures idle { handed_on self.old.far self.old.near request.now ≡ None → IsErr result × (self.new.inner ≡ self.old.inner) }
+        ensures idle { handed_on self.old.far self.old.near request.now ≡ None
+            → IsErr result × (self.new.inner ≡ self.old.inner) }
     {
         match self.pass(request) {
             Ok(datagram) => Ok(datagram),

@@ -10,7 +10,8 @@ ghost use Rattle.bac_apdu.specs.Frame.{frame_of};
 ghost use Rattle.bac_apdu.specs.Service.Extent.{IsExtent};
 ghost use Rattle.bac_apdu.specs.Service.ReadProperty.{IsProperty};
 ghost use Rattle.bac_apdu.specs.declared.service.read_range.ReadRange.{ReadRange as Question};
-ghost use Rattle.bac_encoding_tests.specs.Passage.{datagram_with, npdu_in, apdu_in, question, question_of, question_in, answer, answer_in};
+ghost use Rattle.bac_encoding_tests.specs.Passage.{datagram_with, npdu_in, apdu_in, question};
+ghost use Rattle.bac_encoding_tests.specs.Passage.{question_of, question_in, answer, answer_in};
 
 use bac_apdu::{
     Apdu, Extent, Frame, Npdu, ReadPropertyAck, ReadRange, apdu_is_read, choice, frame_is_read,
@@ -22,7 +23,8 @@ use std::test::Fail;
 
 /// An APDU that a device sends and another reads is the same.
 fn apdus_come_back()
-    ensures { (reply : Bool) (apdu : ApduValue) → IsApdu apdu → length (apdu_octets apdu) ≤ 1495 → apdu_in (datagram_with reply apdu) ≡ Some apdu }
+    ensures { (reply : Bool) (apdu : ApduValue) → IsApdu apdu → length (apdu_octets apdu) ≤ 1495
+        → apdu_in (datagram_with reply apdu) ≡ Some apdu }
 {
     // For the prover alone: the laws that the contract follows from.
     frame_is_read();
@@ -33,7 +35,8 @@ fn apdus_come_back()
 
 /// A question for records comes back as that question.
 fn questions_come_back()
-    ensures { (r : Question) (invoke : ℕ) → IsProperty r.object r.property r.index → IsExtent r.extent → question_in (datagram_with true (question r invoke)) ≡ Some r }
+    ensures { (r : Question) (invoke : ℕ) → IsProperty r.object r.property r.index
+        → IsExtent r.extent → question_in (datagram_with true (question r invoke)) ≡ Some r }
 {
     apdus_come_back();
     ReadRange::canon_is_short();
@@ -42,7 +45,9 @@ fn questions_come_back()
 
 /// An answer with two values comes back as these values.
 fn answers_come_back()
-    ensures { (object : Id) (property invoke : ℕ) (v w : Primitive) → IsValid (Object object) → property < 2 ^ 32 → IsValid v → IsValid w → length (apdu_octets (answer object property v w invoke)) ≤ 1495
+    ensures { (object : Id) (property invoke : ℕ) (v w : Primitive) → IsValid (Object object)
+        → property < 2 ^ 32 → IsValid v → IsValid w
+        → length (apdu_octets (answer object property v w invoke)) ≤ 1495
         → answer_in (datagram_with false (answer object property v w invoke)) ≡ Some (v, w) }
 {
     apdus_come_back();

@@ -25,7 +25,8 @@ use Rattle.sqlite.specs.declared.error.ErrorCode.TheVariants.{CannotOpen, Databa
 use Rattle.bac_files.specs.declared.disk_files.DiskFiles.{DiskFiles}
 use Rattle.bac_files.specs.declared.not_opened.NotOpened.{NotOpened}
 use Rattle.bac_files.specs.declared.not_opened.Obstacle.{Obstacle}
-use Rattle.bac_files.specs.declared.not_opened.NotOpened.TheVariants.{InUse, Absent, Empty, Barred, Memory, Database as Failed}
+use Rattle.bac_files.specs.declared.not_opened.NotOpened.TheVariants.{InUse, Absent, Empty, Barred, Memory}
+use Rattle.bac_files.specs.declared.not_opened.NotOpened.TheVariants.{Database as Failed}
 
 -- a file of the machine that held what a `Start` says
 abbrev pub FileOf : {F : Type 0} → start.Ghosts F → Type 0
@@ -62,8 +63,8 @@ pub record IsLeftIn {D : Type 0} (g : disk.Ghosts D) (files : Files D) (db : Dat
   pub seen : HoldsAlone (image_of g files) db.trees
   pub left : (image : Image) → outcomes g files.log files.db image → HoldsAlone image db.trees
 
--- This was done to the database that two files held, which made it the one that they hold now, if nobody else wrote them
--- and the disk gave back what was written.
+-- This was done to the database that two files held, which made it the one that they hold now, if nobody else wrote
+-- them and the disk gave back what was written.
 abbrev pub IsDoneTo : {D : Type 0} → (g : disk.Ghosts D) → Image → (Database → Database → Type 0) → Files D → Type 0
 IsDoneTo g image does files = AreClean g files.log files.db →
     (found : Database) × (left : Database) × IsFoundIn image found × does found left × IsLeftIn g files left

@@ -3,7 +3,8 @@
 ghost use Rattle.std.specs.Prelude.{◌≡◌, ◌≢◌, IfErr, IfOk, IsTrue, None, OnErr, OnOk};
 ghost use Rattle.sqlite.specs.Opening.{is_open_error};
 ghost use Rattle.sqlite_wal.specs.Files.{image_at};
-ghost use Rattle.bac_files.specs.Files.{IsClosedBy, IsNamed, IsOpenedBy, IsReason, IsReasonFor, IsUnasked, IsUnclosed, IsUnopened, IsUnused};
+ghost use Rattle.bac_files.specs.Files.{IsClosedBy, IsNamed, IsOpenedBy, IsReason, IsReasonFor};
+ghost use Rattle.bac_files.specs.Files.{IsUnasked, IsUnclosed, IsUnopened, IsUnused};
 
 use crate::not_opened::NotOpened;
 use crate::obstacles::obstacle_of;
@@ -80,7 +81,8 @@ fn open_from<F: Start>(
     start: F,
 ) -> Result<Connection<FileStore<FileFrom<F>>>, NotOpened>
     ensures opened { IfOk result (IsOpenedBy (image_at F.Start)) }
-    ensures refused { IfErr result (λ why. (error : Error) × IsTrue (is_open_error error) × IsReasonFor error why) }
+    ensures refused { IfErr result
+        (λ why. (error : Error) × IsTrue (is_open_error error) × IsReasonFor error why) }
 {
     let had_log = !matches!(exists(rt, log), Ok(false));
     match Connection::open_from(rt, path, false, start) {
@@ -122,7 +124,8 @@ impl<'a, F: Start> DiskFiles<'a, F> {
         ensures opened { IfOk result (IsOpenedBy (image_at F.Start)) }
         ensures refused { IfErr result (IsReason may_make) }
         ensures named { result ≢ Err NotOpened.Memory → IsNamed path.now may_make self.new }
-        ensures kept { (self.new.closed ≡ self.old.closed) × (self.new.unclosed ≡ self.old.unclosed) }
+        ensures kept { (self.new.closed ≡ self.old.closed)
+            × (self.new.unclosed ≡ self.old.unclosed) }
     {
         let Ok(name) = String::from_str(self.rt.alloc(), path) else {
             return Err(NotOpened::Memory);
@@ -144,8 +147,8 @@ impl<'a, F: Start> DiskFiles<'a, F> {
         }
     }
 
-    /// Opens the database of this name. Where there is no file, or one that has nothing in it, it makes
-    /// one if it may. A second one isn't opened.
+    /// Opens the database of this name. Where there is no file, or one that has nothing in it, it
+    /// makes one if it may. A second one isn't opened.
     pub fn open(
         &mut self,
         path: &str,
@@ -155,7 +158,8 @@ impl<'a, F: Start> DiskFiles<'a, F> {
         ensures named { result ≢ Err NotOpened.Memory → IsNamed path.now may_make self.new }
         ensures refused { IfErr result (λ why. IsUnopened why self.new × IsReason may_make why) }
         ensures unrefused { OnOk result (self.new.refused ≡ None) }
-        ensures kept { (self.new.closed ≡ self.old.closed) × (self.new.unclosed ≡ self.old.unclosed) }
+        ensures kept { (self.new.closed ≡ self.old.closed)
+            × (self.new.unclosed ≡ self.old.unclosed) }
     {
         match self.try_open(path, may_make) {
             Ok(conn) => {
@@ -176,7 +180,8 @@ impl<'a, F: Start> DiskFiles<'a, F> {
         ensures failed { IfErr result (λ error. IsUnclosed error self.new) }
         ensures unfailed { OnOk result (self.new.unclosed ≡ self.old.unclosed) }
         ensures refused { self.new.refused ≡ self.old.refused }
-        ensures named { (path : _) (may : _) → IsNamed path may self.old → IsNamed path may self.new }
+        ensures named { (path : _) (may : _) → IsNamed path may self.old
+            → IsNamed path may self.new }
     {
         match conn.close_files() {
             Ok(files) => {

@@ -1,7 +1,7 @@
 //! Database files: opened by their names, and closed.
 //!
-//! [`DiskFiles`] are the files of the machine, of which a `Start` of the kit says what they hold. What
-//! is done to them is stated from that to what they hold once they are closed (specs/Files).
+//! [`DiskFiles`] are the files of the machine, of which a `Start` of the kit says what they hold.
+//! What is done to them is stated from that to what they hold once they are closed (specs/Files).
 #![tactic(auto)]
 
 mod disk_files;

@@ -25,7 +25,8 @@ fn folder_of<'a>(path: &'a str) -> &'a str {
 fn by_error(rt: &HostRuntime, path: &str, error: &Error) -> Option<Obstacle> {
     match error.kind() {
         ErrorKind::PermissionDenied | ErrorKind::ReadOnlyFilesystem => Some(Obstacle::NotPermitted),
-        // A file that isn't there is made, unless its folder isn't there or nothing may be made in it.
+        // A file that isn't there is made, unless its folder isn't there or nothing may be made in
+        // it.
         ErrorKind::NotFound if is_folder(rt, folder_of(path)) => Some(Obstacle::NotPermitted),
         ErrorKind::NotFound | ErrorKind::NotADirectory => Some(Obstacle::NoFolder),
         _ if error.raw_os_error() == Some(TOO_MANY) => Some(Obstacle::TooManyOpen),

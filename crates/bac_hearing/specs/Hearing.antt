@@ -30,12 +30,13 @@ no_desks rules = record { rules = rules; time = 0; seats = [] }
 abbrev pub with_peers : TableState → List (List ℕ) → TableState
 with_peers t peers = record { rules = t.rules; time = t.time; seats = t.seats ++ map fresh_seat peers }
 
--- What happened at the port and by the clock leads from these desks to those where each job has ended, by all that came to
--- the questions at the desk at its place, and none is open.
+-- What happened at the port and by the clock leads from these desks to those where each job has ended, by all that came
+-- to the questions at the desk at its place, and none is open.
 abbrev pub Ends : {P C J E : Type 0} → (P → List ℕ → List ℕ → Sending → P → Type 0) → (P → ℕ → Receiving → P → Type 0) →
     (C → ℕ → C → Type 0) → (J → List Outcome → Turn E → Type 0) → List J → P → C → TableState → List E → P → Type 0
 Ends {C = C} sends receives reads plays jobs port start fresh ends last =
-    (events : List Event) × (stop : C) × (left : TableState) × Does sends receives reads port start fresh events last stop left
+    (events : List Event) × (stop : C) × (left : TableState)
+    × Does sends receives reads port start fresh events last stop left
     × AreEnded plays jobs left.seats ends × IsIdle left
 
 -- a clock as it was handed in, and what a reading of it is
@@ -47,8 +48,8 @@ pub record StartedClock (C : Type 0) : Type 1 where
 abbrev pub started : {C : Type 0} → (C → ℕ → C → Type 0) → C → StartedClock C
 started reads start = record { reads = reads; start = start }
 
--- One socket was opened as asked. Over it the devices at these addresses were asked at once, from nothing on, each what the
--- job at its place asks, up to where it ended so; and it was closed as the last of that left it.
+-- One socket was opened as asked. Over it the devices at these addresses were asked at once, from nothing on, each what
+-- the job at its place asks, up to where it ended so; and it was closed as the last of that left it.
 abbrev pub HearsAll : {S P C J E : Type 0} → SocketRules S P → StartedClock C → (J → List Outcome → Turn E → Type 0) →
     List (List ℕ) → List J → Option (List ℕ) → ℕ → ℕ → S → List E → S → Type 0
 HearsAll rules clock plays peers jobs local timeout retries before ends after =
@@ -63,9 +64,10 @@ abbrev pub Waits : {P C : Type 0} → (P → List ℕ → List ℕ → Sending �
 Waits {C = C} sends receives reads rounds port start fresh last =
     (stop : C) × (left : TableState) × MakesRounds sends receives reads rounds port start fresh last stop left
 
--- Devices aren't heard: no socket was opened as asked; memory is wanting, of which std doesn't tell why; or as many rounds
--- as fit a number of 64 bits were made over the one that was, which was closed then.
-abbrev pub FailsToHear : {S P C : Type 0} → SocketRules S P → StartedClock C → List (List ℕ) → Option (List ℕ) → ℕ → ℕ → S → S →
+-- Devices aren't heard: no socket was opened as asked; memory is wanting, of which std doesn't tell why; or as many
+-- rounds as fit a number of 64 bits were made over the one that was, which was closed then.
+abbrev pub FailsToHear : {S P C : Type 0} → SocketRules S P → StartedClock C → List (List ℕ) → Option (List ℕ) → ℕ → ℕ
+    → S → S →
     NotHeard → Type 0
 FailsToHear rules clock peers local timeout retries before after Socket =
     (why : OpenFault) × rules.opens before (own_address local) timeout (Err why) after
@@ -78,9 +80,10 @@ FailsToHear rules clock peers local timeout retries before after Unfinished =
 
 -- ---- laws
 
--- What came of a device's questions, whatever happened: its desk is that of its address, and each outcome there was served.
--- So a datagram was received from that address after the question was sent there, while it was open, and answers it; and a
--- question that is lost was sent there once and so often again, and nothing that answers it was received meanwhile.
+-- What came of a device's questions, whatever happened: its desk is that of its address, and each outcome there was
+-- served. So a datagram was received from that address after the question was sent there, while it was open, and
+-- answers it; and a question that is lost was sent there once and so often again, and nothing that answers it was
+-- received meanwhile.
 abbrev pub AnswersWereHeard : Type 0
 AnswersWereHeard =
     (rules : Rules) (peers : List (List ℕ)) (events : List Event) (left : TableState) (place : ℕ) (seat : Seat) →
@@ -94,7 +97,8 @@ abbrev pub NothingElseIsSent : Type 0
 NothingElseIsSent =
     (rules : Rules) (peers : List (List ℕ)) (events front behind : List Event) (left : TableState) (place : ℕ)
     (octets to : List ℕ) (answer : Sending) →
-    Chain Step (with_peers (no_desks rules) peers) events left → events ≡ front ++ Sent place octets to answer ∷ behind →
+    Chain Step (with_peers (no_desks rules) peers) events left
+    → events ≡ front ++ Sent place octets to answer ∷ behind →
     (slice_get peers place ≡ Some to)
     × ((course : Course) × IsAsked rules front place to octets course × (course.sends ≤ rules.retries)
     × IsDue rules course.time course.sends course.since)
@@ -104,4 +108,5 @@ abbrev pub LimitsAreKept : Type 0
 LimitsAreKept =
     (rules : Rules) (peers : List (List ℕ)) (front behind : List Event) (left : TableState) →
     Chain Step (with_peers (no_desks rules) peers) (front ++ behind) left →
-    (mid : TableState) × Chain Step (with_peers (no_desks rules) peers) front mid × Chain Step mid behind left × IsWithin mid
+    (mid : TableState) × Chain Step (with_peers (no_desks rules) peers) front mid × Chain Step mid behind left
+    × IsWithin mid

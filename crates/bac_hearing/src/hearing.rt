@@ -2,7 +2,8 @@
 
 ghost use Rattle.std.specs.Prelude.{◌≡◌, IfErr, IfNone, IfOk, IfSome, OnOk};
 ghost use Rattle.bac_ports.specs.Sockets.{socket_rules};
-ghost use Rattle.bac_hearing.specs.Hearing.{Ends, FailsToHear, HearsAll, Waits, limits, started, with_peers};
+ghost use Rattle.bac_hearing.specs.Hearing.{Ends, FailsToHear, HearsAll, Waits, limits, started};
+ghost use Rattle.bac_hearing.specs.Hearing.{with_peers};
 
 use bac_desks::{Clock, Desks, Rules};
 use bac_jobs::{Job, finish};
@@ -23,8 +24,8 @@ pub enum NotHeard {
     Unfinished,
 }
 
-/// How often, how long, and how many at once: 64 answers fit the buffer that a system gives a socket,
-/// and what stands behind one router shares its line.
+/// How often, how long, and how many at once: 64 answers fit the buffer that a system gives a
+/// socket, and what stands behind one router shares its line.
 fn limits(timeout: u32, retries: u8) -> Rules
     ensures { result ≡ limits timeout retries }
 {
@@ -59,19 +60,21 @@ fn hear<P: Port, C: Clock, J: Job>(
     peers: &[[u8; 6]],
     jobs: &[J],
 ) -> Result<Option<Vec<J::End>>, AllocError>
-    ensures heard { IfOk result (λ ended. IfSome ended (λ ends. Ends P.sends P.receives_within C.reads J.plays jobs.now desks.old.port desks.old.clock (with_peers desks.old.table peers.now)
-        ends.items desks.new.port)) }
-    ensures unfinished { IfOk result (λ ended. IfNone ended (Waits P.sends P.receives_within C.reads 18446744073709551615 desks.old.port desks.old.clock
-        (with_peers desks.old.table peers.now) desks.new.port)) }
+    ensures heard { IfOk result (λ ended. IfSome ended
+        (λ ends. Ends P.sends P.receives_within C.reads J.plays jobs.now desks.old.port
+        desks.old.clock (with_peers desks.old.table peers.now) ends.items desks.new.port)) }
+    ensures unfinished { IfOk result (λ ended. IfNone ended
+        (Waits P.sends P.receives_within C.reads 18446744073709551615 desks.old.port
+        desks.old.clock (with_peers desks.old.table peers.now) desks.new.port)) }
 {
     seat_all(alloc, desks, peers)?;
     finish(alloc, desks, jobs, u64::MAX)
 }
 
-/// Brings a job for each of these devices to its end, all beside one another, over one socket that is
-/// opened at an address, or at any, and closed behind them. At most 64 questions are open, one at each
-/// address; a question waits so many milliseconds for its answer, and is sent so often again. How the
-/// jobs ended, in their order.
+/// Brings a job for each of these devices to its end, all beside one another, over one socket that
+/// is opened at an address, or at any, and closed behind them. At most 64 questions are open, one
+/// at each address; a question waits so many milliseconds for its answer, and is sent so often
+/// again. How the jobs ended, in their order.
 pub fn hear_all<S: Sockets, C: Clock, J: Job>(
     sockets: &mut S,
     alloc: Global,
@@ -84,10 +87,14 @@ pub fn hear_all<S: Sockets, C: Clock, J: Job>(
 ) -> Result<Vec<J::End>, NotHeard>
 where
     C: Drop,
-    ensures heard { IfOk result (λ ends. HearsAll (socket_rules S.opens S.closes S.Socket.sends S.Socket.receives S.Socket.receives_within) (started C.reads clock) J.plays
-        peers.now jobs.now local timeout retries sockets.old ends.items sockets.new) }
-    ensures fault { IfErr result (FailsToHear (socket_rules S.opens S.closes S.Socket.sends S.Socket.receives S.Socket.receives_within) (started C.reads clock)
-        peers.now local timeout retries sockets.old sockets.new) }
+    ensures heard { IfOk result (λ ends. HearsAll
+        (socket_rules S.opens S.closes S.Socket.sends S.Socket.receives
+        S.Socket.receives_within) (started C.reads clock) J.plays peers.now jobs.now local
+        timeout retries sockets.old ends.items sockets.new) }
+    ensures fault { IfErr result (FailsToHear
+        (socket_rules S.opens S.closes S.Socket.sends S.Socket.receives
+        S.Socket.receives_within) (started C.reads clock) peers.now local timeout retries
+        sockets.old sockets.new) }
 {
     let Ok(port) = sockets.open(local.unwrap_or(ANY), timeout) else {
         return Err(NotHeard::Socket);

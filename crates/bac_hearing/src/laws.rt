@@ -1,10 +1,11 @@
-//! Laws of what many devices are asked at once. Each function does nothing: what it ensures is the law.
+//! Laws of what many devices are asked at once. Each function does nothing: what it ensures is the
+//! law.
 
 ghost use Rattle.bac_hearing.specs.Hearing.{AnswersWereHeard, LimitsAreKept, NothingElseIsSent};
 
 /// What came of each device's questions: a datagram that answers one was received from its address
-/// after the question was sent to it; one that is lost was sent as often as the limits say, each time
-/// waited for, and nothing that answers it was received.
+/// after the question was sent to it; one that is lost was sent as often as the limits say, each
+/// time waited for, and nothing that answers it was received.
 pub fn answers_were_heard()
     ensures { AnswersWereHeard }
 {}

@@ -10,7 +10,8 @@ use Rattle.bac_heeding.specs.declared.contents.Content.TheVariants.{Rejected, Me
 use Rattle.bac_heeding.specs.declared.contents.Content.TheVariants.{Answer, TooLong, Unread}
 use Rattle.bac_heeding.specs.declared.contents.Stray.{Stray}
 
--- a message of the network layer (6.4), by its type; a Reject-Message-To-Network, 03, has a reason and a network (6.4.4)
+-- a message of the network layer (6.4), by its type; a Reject-Message-To-Network, 03, has a reason and a network
+-- (6.4.4)
 abbrev pub message_content : List ℕ → Content
 message_content [] = Unread
 message_content (message ∷ reason ∷ high ∷ low ∷ []) =

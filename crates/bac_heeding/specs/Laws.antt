@@ -33,8 +33,8 @@ StraysCame =
     length octets ≤ 1501 → AreOf octets to es →
     IsTallyOf (Sent octets to sent ∷ es) (after_events (Sent octets to sent ∷ es) note).passed
 
--- Tries of a question over a link that brought no answer: all that was sent over its port is that question, to its peer, and
--- no datagram that came is from the peer and answers it.
+-- Tries of a question over a link that brought no answer: all that was sent over its port is that question, to its
+-- peer, and no datagram that came is from the peer and answers it.
 abbrev pub LostHasStrays : {T : Type 0} → (T → List ℕ → List ℕ → Sending → T → Type 0) → (T → Receiving → T → Type 0) →
     (T → ℕ → Receiving → T → Type 0) → Type 0
 LostHasStrays {T = T} sends receives within =

@@ -34,7 +34,8 @@ unconfirmed_text service =
 -- an answer that isn't the one, from the device that was asked or from another sender
 unfoldable pub answer_text : List ℕ → Bool → List ℕ
 answer_text address own =
-    if own then codes "an answer, but not to this question" else codes "an answer, but not from " ++ address_text address
+    if own then codes "an answer, but not to this question" else codes "an answer, but not from "
+    ++ address_text address
 
 -- what a datagram is, for one who waits for an answer from an address
 unfoldable pub content_text : List ℕ → Bool → Content → List ℕ

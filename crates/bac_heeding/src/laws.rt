@@ -15,7 +15,8 @@ pub fn asks_are_below<P: Port>()
 /// Whatever is done over such a port, its note is that of what was sent and what came, in order.
 pub fn notes_are_of_events<P: Port>()
     ensures { NotesAreOfEvents (λ (heeding : HeedingPort P). heeding.note)
-        ⟦<HeedingPort<P> as Port>⟧.sends ⟦<HeedingPort<P> as Port>⟧.receives ⟦<HeedingPort<P> as Port>⟧.receives_within }
+        ⟦<HeedingPort<P> as Port>⟧.sends ⟦<HeedingPort<P> as Port>⟧.receives
+        ⟦<HeedingPort<P> as Port>⟧.receives_within }
 {}
 
 /// What a note tells came since its question was first sent: how many datagrams, and the last of
@@ -24,8 +25,9 @@ pub fn strays_came()
     ensures { StraysCame }
 {}
 
-/// Where an answer is lost, what came over a port that notes it doesn't answer: no other question was
-/// sent since, and each datagram that came is another sender's, or isn't the answer.
+/// Where an answer is lost, what came over a port that notes it doesn't answer: no other question
+/// was sent since, and each datagram that came is another sender's, or isn't the answer.
 pub fn lost_has_strays<P: Port>()
-    ensures { LostHasStrays ⟦<HeedingPort<P> as Port>⟧.sends ⟦<HeedingPort<P> as Port>⟧.receives ⟦<HeedingPort<P> as Port>⟧.receives_within }
+    ensures { LostHasStrays ⟦<HeedingPort<P> as Port>⟧.sends ⟦<HeedingPort<P> as Port>⟧.receives
+        ⟦<HeedingPort<P> as Port>⟧.receives_within }
 {}

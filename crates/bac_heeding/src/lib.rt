@@ -2,9 +2,9 @@
 //!
 //! [`Heeding`] sockets do what the sockets below them do. Each port that they open notes its last
 //! question, how often it was sent, and what came since it was first sent: how many datagrams, and
-//! who sent the last one and what it is (specs/Notes, specs/Contents). The sockets have the note of the
-//! port that was closed last, so that who waited in vain can tell what came in place of an answer:
-//! [`push_silence`] (specs/Silence).
+//! who sent the last one and what it is (specs/Notes, specs/Contents). The sockets have the note of
+//! the port that was closed last, so that who waited in vain can tell what came in place of an
+//! answer: [`push_silence`] (specs/Silence).
 #![tactic(auto)]
 
 mod contents;

@@ -5,7 +5,9 @@ ghost use Rattle.std.specs.Int.{w16, to_be_bytes};
 ghost use Rattle.hex.specs.Hex.{encode_lower};
 ghost use Rattle.bac_print.specs.Addresses.{address_text};
 ghost use Rattle.std.specs.Str.{bytes_eq};
-ghost use Rattle.bac_heeding.specs.Silence.{answer_text, content_text, counted, counts_text, full_text, is_unsent, reason_text, silence_text, stray_text, strays_text, unconfirmed_text, waited_text};
+ghost use Rattle.bac_heeding.specs.Silence.{answer_text, content_text, counted, counts_text};
+ghost use Rattle.bac_heeding.specs.Silence.{full_text, is_unsent, reason_text, silence_text};
+ghost use Rattle.bac_heeding.specs.Silence.{stray_text, strays_text, unconfirmed_text, waited_text};
 
 use crate::contents::{Content, Stray};
 use crate::notes::Passed;
@@ -14,7 +16,8 @@ use std::alloc::AllocError;
 
 /// What helps where as many datagrams came to each try as it may take.
 const ADVICE: &str =
-    "; 16 datagrams end a try: --retries=10 takes more, and fewer come to a port of its own, as with --local=0.0.0.0:50000";
+    "; 16 datagrams end a try: --retries=10 takes more, and fewer come to a port of its own, as \
+     with --local=0.0.0.0:50000";
 
 /// Appends a number and what is counted.
 #[tactic(auto, unfolding(crate::specs::Silence::counted))]
@@ -63,7 +66,8 @@ fn push_said(text: &mut Vec<u8>, said: &str, address: [u8; 6]) -> Result<(), All
 
 /// Appends why a router rejected a message to a network.
 fn push_rejected(text: &mut Vec<u8>, why: u8, network: u16) -> Result<(), AllocError>
-    ensures { OnOk result (text.new.items ≡ text.old.items ++ (codes "router: " ++ (reason_text why ++ decimal network))) }
+    ensures { OnOk result (text.new.items
+        ≡ text.old.items ++ (codes "router: " ++ (reason_text why ++ decimal network))) }
 {
     text.extend_from_slice(b"router: ")?;
     push_numbered(text, reason(why), u64::from(network))
@@ -71,7 +75,8 @@ fn push_rejected(text: &mut Vec<u8>, why: u8, network: u16) -> Result<(), AllocE
 
 /// Appends the code of a BVLC-Result.
 fn push_result(text: &mut Vec<u8>, code: u16) -> Result<(), AllocError>
-    ensures { OnOk result (text.new.items ≡ text.old.items ++ (codes "BVLC-Result " ++ encode_lower (to_be_bytes w16 code))) }
+    ensures { OnOk result (text.new.items
+        ≡ text.old.items ++ (codes "BVLC-Result " ++ encode_lower (to_be_bytes w16 code))) }
 {
     text.extend_from_slice(b"BVLC-Result ")?;
     push_hex(text, &code.to_be_bytes())

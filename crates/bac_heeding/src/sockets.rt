@@ -43,11 +43,13 @@ impl<S: Sockets> Sockets for Heeding<S> {
     type Socket = HeedingPort<S::Socket>;
 
     // What the sockets below open; nothing was sent over it yet.
-    ghost opens = { λ old local wait answer new. S.opens old.sockets local wait (result_map (λ heeding. heeding.port) answer) new.sockets
-        × (new.passed ≡ old.passed) × IfOk answer (λ heeding. heeding.note ≡ no_note) };
+    ghost opens = { λ old local wait answer new. S.opens old.sockets local wait
+        (result_map (λ heeding. heeding.port) answer) new.sockets × (new.passed ≡ old.passed)
+        × IfOk answer (λ heeding. heeding.note ≡ no_note) };
 
     // What passed over the port is known of the sockets from now on.
-    ghost closes = { λ old heeding new. S.closes old.sockets heeding.port new.sockets × (new.passed ≡ heeding.note.passed) };
+    ghost closes = { λ old heeding new. S.closes old.sockets heeding.port new.sockets
+        × (new.passed ≡ heeding.note.passed) };
 
     fn open(&mut self, local: [u8; 6], wait_ms: u32) -> Result<HeedingPort<S::Socket>, OpenFault> {
         match self.sockets.open(local, wait_ms) {

@@ -29,14 +29,16 @@ AreEnded {E = E} plays jobs seats ends =
     × ((place : ℕ) (end : E) → slice_get ends place ≡ Some end → HasEnded plays jobs seats place end)
 
 -- questions are asked, and then a turn is made
-abbrev pub RoundStep : {P C : Type 0} → (P → List ℕ → List ℕ → Sending → P → Type 0) → (P → ℕ → Receiving → P → Type 0) →
+abbrev pub RoundStep : {P C : Type 0} → (P → List ℕ → List ℕ → Sending → P → Type 0)
+    → (P → ℕ → Receiving → P → Type 0) →
     (C → ℕ → C → Type 0) → Whole P C → List Event → Whole P C → Type 0
 RoundStep {P = P} {C = C} sends receives reads old es new =
     (asks : List Event) × (turn : List Event) × (mid : Whole P C) × (es ≡ asks ++ turn)
     × Does sends receives reads old.0 old.1 old.2 asks mid.0 mid.1 mid.2 × TurnStep sends receives reads mid turn new
 
 -- that is done so often, one after the other
-abbrev pub MakesRounds : {P C : Type 0} → (P → List ℕ → List ℕ → Sending → P → Type 0) → (P → ℕ → Receiving → P → Type 0) →
+abbrev pub MakesRounds : {P C : Type 0} → (P → List ℕ → List ℕ → Sending → P → Type 0)
+    → (P → ℕ → Receiving → P → Type 0) →
     (C → ℕ → C → Type 0) → ℕ → P → C → TableState → P → C → TableState → Type 0
 MakesRounds sends receives reads rounds port clock t port' clock' t' =
     (made : List (List Event)) × (length made ≡ rounds)

@@ -18,7 +18,8 @@ fn ask_at<P: Port, C: Clock, J: Job>(
     place: usize,
 ) -> Result<(), AllocError>
     requires { place < length jobs.now }
-    ensures { Runs P.sends P.receives_within C.reads desks.old.port desks.old.clock desks.old.table desks.new.port desks.new.clock desks.new.table }
+    ensures { Runs P.sends P.receives_within C.reads desks.old.port desks.old.clock desks.old.table
+        desks.new.port desks.new.clock desks.new.table }
 {
     let Some(outcomes) = desks.outcomes(place) else {
         return Ok(());
@@ -35,7 +36,8 @@ fn ask_all<P: Port, C: Clock, J: Job>(
     desks: &mut Desks<P, C>,
     jobs: &[J],
 ) -> Result<(), AllocError>
-    ensures { Runs P.sends P.receives_within C.reads desks.old.port desks.old.clock desks.old.table desks.new.port desks.new.clock desks.new.table }
+    ensures { Runs P.sends P.receives_within C.reads desks.old.port desks.old.clock desks.old.table
+        desks.new.port desks.new.clock desks.new.table }
 {
     for place in 0..jobs.len() {
         ask_at(alloc, desks, jobs, place)?;
@@ -51,7 +53,8 @@ fn end_at<P: Port, C: Clock, J: Job>(
     place: usize,
 ) -> Result<Option<J::End>, AllocError>
     requires { place < length jobs.now }
-    ensures { IfOk result (λ end. IfSome end (HasEnded J.plays jobs.now desks.now.table.seats place)) }
+    ensures { IfOk result
+        (λ end. IfSome end (HasEnded J.plays jobs.now desks.now.table.seats place)) }
 {
     let Some(outcomes) = desks.outcomes(place) else {
         return Ok(None);
@@ -68,7 +71,8 @@ fn ends_of<P: Port, C: Clock, J: Job>(
     desks: &Desks<P, C>,
     jobs: &[J],
 ) -> Result<Option<Vec<J::End>>, AllocError>
-    ensures { IfOk result (λ ends. IfSome ends (λ all. AreEnded J.plays jobs.now desks.now.table.seats all.items)) }
+    ensures { IfOk result
+        (λ ends. IfSome ends (λ all. AreEnded J.plays jobs.now desks.now.table.seats all.items)) }
 {
     let mut ends = Vec::new(alloc);
     for place in 0..jobs.len() {
@@ -81,8 +85,8 @@ fn ends_of<P: Port, C: Clock, J: Job>(
 }
 
 /// Brings jobs to their ends in so many turns at most, each over the questions of the desk at its
-/// place: how they ended, in their order; nothing if there are fewer desks than jobs, a record has an
-/// outcome of what its job doesn't ask, or more turns were needed.
+/// place: how they ended, in their order; nothing if there are fewer desks than jobs, a record has
+/// an outcome of what its job doesn't ask, or more turns were needed.
 pub fn finish<P: Port, C: Clock, J: Job>(
     alloc: Global,
     desks: &mut Desks<P, C>,
@@ -90,11 +94,17 @@ pub fn finish<P: Port, C: Clock, J: Job>(
     turns: u64,
 ) -> Result<Option<Vec<J::End>>, AllocError>
     // Each job ended by all that came to the questions of its desk, and none is open.
-    ensures ended { IfOk result (λ ends. IfSome ends (λ all. AreEnded J.plays jobs.now desks.new.table.seats all.items × IsIdle desks.new.table)) }
+    ensures ended { IfOk result (λ ends. IfSome ends
+        (λ all. AreEnded J.plays jobs.now desks.new.table.seats all.items
+        × IsIdle desks.new.table)) }
     // Nothing only if as many turns were made, each behind what was asked then.
-    ensures unfinished { IfOk result (λ ends. IfNone ends (MakesRounds P.sends P.receives_within C.reads turns desks.old.port desks.old.clock desks.old.table desks.new.port desks.new.clock desks.new.table)) }
-    // Whatever comes of it: what was done at the port and by the clock, and what that makes of the desks.
-    ensures serves { Serves P.sends P.receives_within C.reads desks.old.port desks.old.clock desks.old.table desks.new.port desks.new.clock desks.new.table }
+    ensures unfinished { IfOk result (λ ends. IfNone ends
+        (MakesRounds P.sends P.receives_within C.reads turns desks.old.port desks.old.clock
+        desks.old.table desks.new.port desks.new.clock desks.new.table)) }
+    // Whatever comes of it: what was done at the port and by the clock, and what that makes of the
+    // desks.
+    ensures serves { Serves P.sends P.receives_within C.reads desks.old.port desks.old.clock
+        desks.old.table desks.new.port desks.new.clock desks.new.table }
 {
     for round in 0..turns {
         if desks.is_idle() {

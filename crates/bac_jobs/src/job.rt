@@ -27,8 +27,8 @@ pub trait Job {
     /// What it comes to over a record: a relation that each job names itself.
     ghost plays: { Self → List Outcome → Turn Self.End → Type 0 };
 
-    /// What it comes to over the record of all its questions so far. It changes nothing, so it may be
-    /// asked anew once the record goes on.
+    /// What it comes to over the record of all its questions so far. It changes nothing, so it may
+    /// be asked anew once the record goes on.
     fn play(&self, alloc: Global, outcomes: &[Outcome]) -> Result<Turn<Self::End>, AllocError>
         ensures { IfOk result (plays self.now outcomes.now) };
 }

@@ -16,8 +16,8 @@ is_short_of number count = (count == 0) || not (is_ahead number count)
 -- Which way a run goes on, by what the device holds of the record that was kept last, by its own word, and by the count
 -- that it tells where it holds nothing.
 -- - It holds that record: the log goes on. Another one of its number, or earlier ones alone: it began anew.
--- - It holds later ones alone, and told that it was neither restarted nor changed: the log goes on, and what was dropped
---   is a gap. It told that it was: the log may have gone on or begun anew, so both are told.
+-- - It holds later ones alone, and told that it was neither restarted nor changed: the log goes on, and what was
+-- dropped is a gap. It told that it was: the log may have gone on or begun anew, so both are told.
 -- - It holds later ones alone, and doesn't tell: the log goes on, unless the oldest is dated before the kept one. Then
 --   its clock went back or its log began anew, so both are told.
 -- - It holds none: the log goes on, unless it counts fewer than were kept.
@@ -31,7 +31,7 @@ course_of (Later oldest is_before) Untold count number = if is_before then Both 
 course_of Nothing word None number = GoOn
 course_of Nothing word (Some count) number = if is_short_of number count then Anew else GoOn
 
--- The number from which the rows of an epoch cover each one whose log began anew, and of which this is the oldest record
--- that is held: 1, since a log that is cleared counts from 1; or the oldest, if it doesn't lie ahead of 1.
+-- The number from which the rows of an epoch cover each one whose log began anew, and of which this is the oldest
+-- record that is held: 1, since a log that is cleared counts from 1; or the oldest, if it doesn't lie ahead of 1.
 abbrev pub beginning_of : ℕ → ℕ
 beginning_of oldest = if is_ahead 1 oldest then 1 else oldest

@@ -46,20 +46,21 @@ answer_ended (Ok AskOldest) = CaughtUp
 answer_ended (Ok NoMore) = CaughtUp
 answer_ended (Err fault) = Fault fault
 
--- What is gathered of an answer, from a place on, where no number below this one may come: the rows of what it brought, so
--- many records and gaps, how it ended, and where the next row stands. None of its numbers goes back.
-pub record IsGatheredOf (place : Place) (free : ℕ) (answer : Result Progress WalkFault) (gathered : Gathered) : Type 0 where
-  pub rows : map stored gathered.rows.items ≡ kept_rows (era place) (turn_items answer)
-  pub records : gathered.step.records ≡ records_in (turn_items answer)
-  pub gaps : gathered.step.gaps ≡ gaps_among (turn_items answer)
-  pub ended : gathered.step.ended ≡ answer_ended answer
-  pub log : gathered.place.log ≡ place.log
-  pub era_is : era gathered.place ≡ era_after (era place) (turn_items answer)
-  pub rises : goes_back free (turn_items answer) ≡ false
-  pub free_is : gathered.free ≡ free_after free (turn_items answer)
+-- What is gathered of an answer, from a place on, where no number below this one may come: the rows of what it brought,
+-- so many records and gaps, how it ended, and where the next row stands. None of its numbers goes back.
+pub record IsGatheredOf (place : Place) (free : ℕ) (answer : Result Progress WalkFault) (gathered : Gathered) : Type 0
+  where
+    pub rows : map stored gathered.rows.items ≡ kept_rows (era place) (turn_items answer)
+    pub records : gathered.step.records ≡ records_in (turn_items answer)
+    pub gaps : gathered.step.gaps ≡ gaps_among (turn_items answer)
+    pub ended : gathered.step.ended ≡ answer_ended answer
+    pub log : gathered.place.log ≡ place.log
+    pub era_is : era gathered.place ≡ era_after (era place) (turn_items answer)
+    pub rises : goes_back free (turn_items answer) ≡ false
+    pub free_is : gathered.free ≡ free_after free (turn_items answer)
 
--- What came to one question of a walk over a link is gathered; it covers each number from that of the walk on up to that
--- where it goes on.
+-- What came to one question of a walk over a link is gathered; it covers each number from that of the walk on up to
+-- that where it goes on.
 abbrev pub GathersAnswer : {S : Type 0} → (S → List ℕ → Result (List ℕ) Loss → S → Type 0) → Path → ℕ → Place → ℕ →
     S → WalkPlace → Gathered → WalkPlace → S → Type 0
 GathersAnswer asks path retries place free link before gathered after left =
@@ -68,7 +69,8 @@ GathersAnswer asks path retries place free link before gathered after left =
     × ((s : ℕ) → Goes before.fresh before.next s (turn_items answer) after.fresh after.next)
 
 -- the same of the next of these transactions
-abbrev pub GathersAnswerBy : {S : Type 0} → (S → List ℕ → Result (List ℕ) Loss → S → Type 0) → Transactions → Place → ℕ →
+abbrev pub GathersAnswerBy : {S : Type 0} → (S → List ℕ → Result (List ℕ) Loss → S → Type 0) → Transactions → Place
+    → ℕ →
     S → WalkPlace → Gathered → WalkPlace → S → Type 0
 GathersAnswerBy asks first place free link before gathered after left =
     (answer : Result Progress WalkFault) × TurnBy asks first link before answer after left

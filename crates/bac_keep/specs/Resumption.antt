@@ -1,5 +1,6 @@
 -- Where a walk goes on that keeps a log: by what the device still holds of what is kept.
-use Rattle.std.specs.Prelude.{◌≡◌, ℕ, ◌==◌, ◌<◌, ◌&&◌, not, Bool, true, false, if◌then◌else◌, List, [], ◌∷◌, Result, Ok, Err}
+use Rattle.std.specs.Prelude.{◌≡◌, ℕ, ◌==◌, ◌<◌, ◌&&◌, not, Bool, true, false, if◌then◌else◌, List, [], ◌∷◌, Result, Ok}
+use Rattle.std.specs.Prelude.{Err}
 use Rattle.std.specs.List.{list_any}
 use Rattle.std.specs.Str.{bytes_eq}
 use Rattle.std.specs.Ordering.{is_lt, nat_cmp}
@@ -46,9 +47,9 @@ goes_on kept held =
     if held.number == kept.number then is_same kept held
     else is_ahead kept.number held.number && not (is_before (stamp_text held.entry) kept.stamp)
 
--- Where a walk begins over a log that its device began anew and that holds a record of this number: at 1, since a log that
--- is cleared counts from 1 (clause 12.25), so that what was dropped since is told; or at the oldest record, if this one
--- doesn't lie ahead of 1, which half of the numbers do.
+-- Where a walk begins over a log that its device began anew and that holds a record of this number: at 1, since a log
+-- that is cleared counts from 1 (clause 12.25), so that what was dropped since is told; or at the oldest record, if
+-- this one doesn't lie ahead of 1, which half of the numbers do.
 abbrev pub walk_anew : Id → (count held : ℕ) → WalkPlace
 walk_anew log count held = asking count (if is_ahead 1 held then walk_at log 1 else walk_from_oldest log)
 

@@ -16,8 +16,8 @@ use Rattle.bac_walk.specs.Walks.{asks_oldest_now}
 use Rattle.bac_keep.specs.declared.look.Seen.TheVariants.{Same}
 use Rattle.bac_keep.specs.Looks.{KeptAs, Looks}
 
--- Records are overwritten oldest first. So if the ordinal s wasn't held at one answer, after which no batch came, and one
--- before s at the same or a later answer, nothing from s on was held at the first: the log was caught up then.
+-- Records are overwritten oldest first. So if the ordinal s wasn't held at one answer, after which no batch came, and
+-- one before s at the same or a later answer, nothing from s on was held at the first: the log was caught up then.
 abbrev pub HeldTellsCaughtUp : Type 0
 HeldTellsCaughtUp = (M : List Moment) (answers : List (List Item)) (i j s k : ℕ) → NeverGoesBack M →
     i < length answers → batches (drop i answers) ≡ 0 → (Holds (moment_at M i) s → ⊥) →

@@ -50,10 +50,17 @@ pub fn look_ahead<L: LogLink>(
     ensures never_falls { L.failures link.old ≤ L.failures link.new }
     // The replies of the step came first, and then those to the look for the record.
     ensures came { IfOk result (λ ahead. (half : L)
-        × GathersOver L.asks (towards transactions.old.route) transactions.old.retries place ahead.gathered.place
-        (map stored ahead.gathered.rows.items) ahead.gathered.step.records ahead.gathered.step.gaps link.old half walk.old walk.new ahead.gathered.step.ended
-        × Looks L.asks (towards transactions.old.route) transactions.old.retries half walk.old.log walk.old.count
-        (record { number = last.entry.number; stamp = last.entry.stamp.now; datum = last.entry.datum.now; flags = last.entry.flags.now })
+        × GathersOver L.asks (towards transactions.old.route) transactions.old.retries place
+        ahead.gathered.place (map stored ahead.gathered.rows.items)
+        ahead.gathered.step.records ahead.gathered.step.gaps link.old half walk.old walk.new
+        ahead.gathered.step.ended × Looks L.asks (towards transactions.old.route)
+        transactions.old.retries half walk.old.log walk.old.count
+        (record {
+          number = last.entry.number;
+          stamp = last.entry.stamp.now;
+          datum = last.entry.datum.now;
+          flags = last.entry.flags.now;
+        })
         (Ok ahead.seen) link.new) }
 {
     let gathered = match gather(alloc, link, transactions, walk, place, free) {

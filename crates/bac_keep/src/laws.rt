@@ -1,12 +1,16 @@
 //! Laws of what is kept over any number of runs.
-ghost use Rattle.bac_keep.specs.Begun.{RoundsBeginAtOne, RunsBeginAtTheirBeginning, RunsGoOnFromTheBeginning};
+ghost use Rattle.bac_keep.specs.Begun.{RoundsBeginAtOne, RunsBeginAtTheirBeginning};
+ghost use Rattle.bac_keep.specs.Begun.{RunsGoOnFromTheBeginning};
 ghost use Rattle.bac_keep.specs.Covered.{RunsBeginCovered, RunsGoOnCovered};
 ghost use Rattle.bac_keep.specs.Honest.{HonestIsKept, HonestRunsAreKept, KeptOverJoin};
-ghost use Rattle.bac_keep.specs.Kept.{AllRunsAreKept, BeginsEmpty, KeptIsDelivered, KeptRunsJoin, OneRowEach, OthersStay, RowsJoin, RunsAreKept};
-ghost use Rattle.bac_keep.specs.Turns.{EachHasItsOwn, HonestTurnsAreKept, HonestTurnsBegin, NewestIsOwn, OwnAreOne, TurnsJoin};
+ghost use Rattle.bac_keep.specs.Kept.{AllRunsAreKept, BeginsEmpty, KeptIsDelivered, KeptRunsJoin};
+ghost use Rattle.bac_keep.specs.Kept.{OneRowEach, OthersStay, RowsJoin, RunsAreKept};
+ghost use Rattle.bac_keep.specs.Turns.{EachHasItsOwn, HonestTurnsAreKept, HonestTurnsBegin};
+ghost use Rattle.bac_keep.specs.Turns.{NewestIsOwn, OwnAreOne, TurnsJoin};
 ghost use Rattle.bac_keep.specs.Parts.{PartsAreKept, PartsEndWhereNewestTells, PartsGoOnCovered};
 ghost use Rattle.bac_keep.specs.UpToDate.{AskedTellsCaughtUp, HeldTellsCaughtUp};
-ghost use Rattle.bac_keep.specs.Newest.{KeptIsCovered, NewestEndsWhatIsKept, NewestIsLast, NoneLaterStays, RunsLeaveNoneLater};
+ghost use Rattle.bac_keep.specs.Newest.{KeptIsCovered, NewestEndsWhatIsKept, NewestIsLast};
+ghost use Rattle.bac_keep.specs.Newest.{NoneLaterStays, RunsLeaveNoneLater};
 
 use bac_link::LogLink;
 
@@ -34,8 +38,8 @@ pub fn all_runs_are_kept()
     ensures { AllRunsAreKept }
 {}
 
-/// Over every link: what a run keeps whose steps were all whole, and one that goes on from there, is
-/// what one run of as many steps keeps.
+/// Over every link: what a run keeps whose steps were all whole, and one that goes on from there,
+/// is what one run of as many steps keeps.
 pub fn kept_runs_join<L: LogLink>()
     ensures { KeptRunsJoin (λ link id r M H. L.is_ours link id r M H) (λ link. L.failures link) }
 {}
@@ -55,8 +59,8 @@ pub fn rows_join()
     ensures { RowsJoin }
 {}
 
-/// Over every link, whoever answers: what a run keeps of the replies that came, whose steps were all
-/// whole, and one that goes on from there, is what one run of as many steps keeps.
+/// Over every link, whoever answers: what a run keeps of the replies that came, whose steps were
+/// all whole, and one that goes on from there, is what one run of as many steps keeps.
 pub fn kept_over_join<L: LogLink>()
     ensures { KeptOverJoin L.asks }
 {}
@@ -74,10 +78,11 @@ pub fn honest_runs_are_kept<L: LogLink>()
     ensures { HonestRunsAreKept L.asks }
 {}
 
-/// Over every link, whoever answers: what a first run keeps covers each number from its first one up
-/// to the one that comes next, once.
+/// Over every link, whoever answers: what a first run keeps covers each number from its first one
+/// up to the one that comes next, once.
 pub fn runs_begin_covered<L: LogLink>()
-    ensures { RunsBeginCovered (λ link id r M H. L.is_ours link id r M H) (λ link. L.failures link) }
+    ensures { RunsBeginCovered (λ link id r M H. L.is_ours link id r M H)
+        (λ link. L.failures link) }
 {}
 
 /// Over every link, whoever answers: so does what is kept, with what a run adds that goes on where
@@ -89,13 +94,15 @@ pub fn runs_go_on_covered<L: LogLink>()
 /// Over every link, whoever answers: what a first run keeps of an epoch covers each number from the
 /// epoch's beginning up to the one that comes next, once.
 pub fn runs_begin_at_their_beginning<L: LogLink>()
-    ensures { RunsBeginAtTheirBeginning (λ link id r M H. L.is_ours link id r M H) (λ link. L.failures link) }
+    ensures { RunsBeginAtTheirBeginning (λ link id r M H. L.is_ours link id r M H)
+        (λ link. L.failures link) }
 {}
 
 /// Over every link, whoever answers: so does what is kept, with what a run adds that goes on where
 /// that ends.
 pub fn runs_go_on_from_the_beginning<L: LogLink>()
-    ensures { RunsGoOnFromTheBeginning (λ link id r M H. L.is_ours link id r M H) (λ link. L.failures link) }
+    ensures { RunsGoOnFromTheBeginning (λ link id r M H. L.is_ours link id r M H)
+        (λ link. L.failures link) }
 {}
 
 /// Where numbers come round, an epoch that had no beginning begins at 1.
@@ -129,7 +136,8 @@ pub fn none_later_stays()
 /// Over every link, whoever answers: after a run that began in the last epoch of a log, no row lies
 /// behind the epoch that it reached.
 pub fn runs_leave_none_later<L: LogLink>()
-    ensures { RunsLeaveNoneLater (λ link id r M H. L.is_ours link id r M H) (λ link. L.failures link) }
+    ensures { RunsLeaveNoneLater (λ link id r M H. L.is_ours link id r M H)
+        (λ link. L.failures link) }
 {}
 
 /// Over every link: turns that are taken one after the other are turns of all.
@@ -137,20 +145,20 @@ pub fn turns_join<L: LogLink>()
     ensures { TurnsJoin L.asks }
 {}
 
-/// Over every link, whoever answers: of runs over one database that take turns, each log has the rows
-/// of what its own brought, and those that it had before.
+/// Over every link, whoever answers: of runs over one database that take turns, each log has the
+/// rows of what its own brought, and those that it had before.
 pub fn each_has_its_own<L: LogLink>()
     ensures { EachHasItsOwn L.asks }
 {}
 
-/// Over every link, whoever answers: of runs over one database that take turns, those of one log, each
-/// from where the one before ended, are kept as one run is.
+/// Over every link, whoever answers: of runs over one database that take turns, those of one log,
+/// each from where the one before ended, are kept as one run is.
 pub fn own_are_one<L: LogLink>()
     ensures { OwnAreOne L.asks }
 {}
 
-/// Of runs over one database that take turns: of each log whose links are honest, what was kept before
-/// and what its own keep is one delivery, whatever the others keep in between.
+/// Of runs over one database that take turns: of each log whose links are honest, what was kept
+/// before and what its own keep is one delivery, whatever the others keep in between.
 pub fn honest_turns_are_kept<L: LogLink>()
     ensures { HonestTurnsAreKept L.asks }
 {}
@@ -170,10 +178,11 @@ pub fn parts_end_where_newest_tells()
     ensures { PartsEndWhereNewestTells }
 {}
 
-/// Over every link, whoever answers: the rows of all parts, and what a run adds to the newest one that
-/// goes on where they end, cover each number up to the one that comes next, once.
+/// Over every link, whoever answers: the rows of all parts, and what a run adds to the newest one
+/// that goes on where they end, cover each number up to the one that comes next, once.
 pub fn parts_go_on_covered<L: LogLink>()
-    ensures { PartsGoOnCovered (λ link id r M H. L.is_ours link id r M H) (λ link. L.failures link) }
+    ensures { PartsGoOnCovered (λ link id r M H. L.is_ours link id r M H)
+        (λ link. L.failures link) }
 {}
 
 /// The rows of all parts that are one delivery, and those of a run that goes on from there, are one
@@ -188,9 +197,9 @@ pub fn held_tells_caught_up()
     ensures { HeldTellsCaughtUp }
 {}
 
-/// Over every link that is honest for a log, whoever answers: what lies behind a record was asked for,
-/// until none came, and then that record, which is held as it is kept. Then the log was caught up when
-/// none came.
+/// Over every link that is honest for a log, whoever answers: what lies behind a record was asked
+/// for, until none came, and then that record, which is held as it is kept. Then the log was caught
+/// up when none came.
 pub fn asked_tells_caught_up<L: LogLink>()
     ensures { AskedTellsCaughtUp L.asks }
 {}

@@ -42,8 +42,8 @@ pub enum Seen {
 }
 
 /// What a device holds of the record that was kept last: asks for so many from its number on, and
-/// if no record is held from there on for the oldest. At most four exchanges; no row changes. A record
-/// of the number 0 is another one, and nothing is asked.
+/// if no record is held from there on for the oldest. At most four exchanges; no row changes. A
+/// record of the number 0 is another one, and nothing is asked.
 pub fn look_for<L: LogLink>(
     alloc: Global,
     link: &mut L,
@@ -58,11 +58,19 @@ pub fn look_for<L: LogLink>(
     ensures route { transactions.new.route ≡ transactions.old.route }
     ensures none { last.entry.number ≡ 0 → (result ≡ Ok (Ok Seen.Another)) × (link.new ≡ link.old) }
     // The answers came over the link, and they say it.
-    ensures seen { 0 < last.entry.number → IfOk result (λ seen. (answer : Result StepOf FaultOf) × (oldest : Result StepOf FaultOf) × (half : L)
-        × IsSeen (record { number = last.entry.number; stamp = last.entry.stamp.now; datum = last.entry.datum.now; flags = last.entry.flags.now }) answer oldest seen
-        × CameTo L.asks (towards transactions.old.route) transactions.old.retries link.old (asking count (walk_at log last.entry.number)) answer half
-        × (AsksOldest answer → CameTo L.asks (towards transactions.old.route) transactions.old.retries half (asking count (walk_from_oldest log)) oldest link.new)
-        × ((AsksOldest answer → ⊥) → link.new ≡ half)) }
+    ensures seen { 0 < last.entry.number
+        → IfOk result (λ seen. (answer : Result StepOf FaultOf) × (oldest : Result StepOf FaultOf)
+        × (half : L) × IsSeen (record {
+          number = last.entry.number;
+          stamp = last.entry.stamp.now;
+          datum = last.entry.datum.now;
+          flags = last.entry.flags.now;
+        }) answer oldest seen
+        × CameTo L.asks (towards transactions.old.route) transactions.old.retries link.old
+        (asking count (walk_at log last.entry.number)) answer half
+        × (AsksOldest answer → CameTo L.asks (towards transactions.old.route)
+        transactions.old.retries half (asking count (walk_from_oldest log)) oldest
+        link.new) × ((AsksOldest answer → ⊥) → link.new ≡ half)) }
 {
     let Some(walk) = Walk::from_number(log, last.number) else {
         return Ok(Ok(Seen::Another));
@@ -89,8 +97,14 @@ fn look_at_oldest<L: LogLink>(
     ensures retries { transactions.new.retries ≡ transactions.old.retries }
     ensures route { transactions.new.route ≡ transactions.old.route }
     ensures seen { IfOk result (λ seen. (oldest : Result StepOf FaultOf)
-        × IsSeenLast (record { number = last.entry.number; stamp = last.entry.stamp.now; datum = last.entry.datum.now; flags = last.entry.flags.now }) oldest seen
-        × CameTo L.asks (towards transactions.old.route) transactions.old.retries link.old (asking count (walk_from_oldest log)) oldest link.new) }
+        × IsSeenLast (record {
+          number = last.entry.number;
+          stamp = last.entry.stamp.now;
+          datum = last.entry.datum.now;
+          flags = last.entry.flags.now;
+        }) oldest seen
+        × CameTo L.asks (towards transactions.old.route) transactions.old.retries link.old
+        (asking count (walk_from_oldest log)) oldest link.new) }
 {
     let mut walk = oldest_of(log, count);
     match walk.step(link, transactions) {
@@ -102,7 +116,13 @@ fn look_at_oldest<L: LogLink>(
 
 // What the first record of a batch says.
 fn seen_first(alloc: Global, last: LastKept<'_>, batch: &Batch) -> Result<Seen, AllocError>
-    ensures { IfOk result (λ seen. IsSeenBy (record { number = last.entry.number; stamp = last.entry.stamp.now; datum = last.entry.datum.now; flags = last.entry.flags.now })
+    ensures { IfOk result (λ seen. IsSeenBy
+        (record {
+          number = last.entry.number;
+          stamp = last.entry.stamp.now;
+          datum = last.entry.datum.now;
+          flags = last.entry.flags.now;
+        })
         batch.now.entries.items (Ok seen)) }
 {
     let [held, ..] = batch.entries.as_slice() else {
@@ -113,7 +133,13 @@ fn seen_first(alloc: Global, last: LastKept<'_>, batch: &Batch) -> Result<Seen, 
 
 // What the first record that is held says.
 fn seen_by(alloc: Global, last: LastKept<'_>, held: &Numbered) -> Result<Seen, AllocError>
-    ensures { IfOk result (λ seen. seen ≡ seen_by (record { number = last.entry.number; stamp = last.entry.stamp.now; datum = last.entry.datum.now; flags = last.entry.flags.now }) held.now) }
+    ensures { IfOk result (λ seen. seen ≡ seen_by
+        (record {
+          number = last.entry.number;
+          stamp = last.entry.stamp.now;
+          datum = last.entry.datum.now;
+          flags = last.entry.flags.now;
+        }) held.now) }
 {
     if held.number == last.number {
         return if is_held_as(alloc, last, held)? {
@@ -134,7 +160,13 @@ fn seen_by(alloc: Global, last: LastKept<'_>, held: &Numbered) -> Result<Seen, A
 
 // Whether a record that is held is the kept one.
 fn is_held_as(alloc: Global, last: LastKept<'_>, held: &Numbered) -> Result<bool, AllocError>
-    ensures { IfOk result (λ is. is ≡ is_held_as (record { number = last.entry.number; stamp = last.entry.stamp.now; datum = last.entry.datum.now; flags = last.entry.flags.now }) held.now) }
+    ensures { IfOk result (λ is. is ≡ is_held_as
+        (record {
+          number = last.entry.number;
+          stamp = last.entry.stamp.now;
+          datum = last.entry.datum.now;
+          flags = last.entry.flags.now;
+        }) held.now) }
 {
     let stamp = stamp_of(alloc, &held.entry)?;
     let datum = datum_of(alloc, &held.entry.datum)?;

@@ -8,7 +8,8 @@ ghost use Rattle.bac_link.specs.Path.{towards};
 ghost use Rattle.bac_walk.specs.Collects.{turn_items};
 ghost use Rattle.bac_walk.specs.Transacted.{TurnBy, asked};
 ghost use Rattle.bac_walk.specs.Walks.{IsTakenFrom, items_in};
-ghost use Rattle.bac_keep.specs.Questions.{GathersAnswer, GathersAnswerBy, HasAll, RefusesAnswer, answer_ended};
+ghost use Rattle.bac_keep.specs.Questions.{GathersAnswer, GathersAnswerBy, HasAll, RefusesAnswer};
+ghost use Rattle.bac_keep.specs.Questions.{answer_ended};
 ghost use Rattle.bac_keep.specs.Rising.{IsCause};
 
 use crate::keep::{Gathered, KeptStep};
@@ -114,8 +115,10 @@ fn put_batch(pending: &mut Pending, batch: &Batch) -> Result<(), Refusal>
 
 // Puts what an answer brings, and says how its question ended.
 fn put_answer(pending: &mut Pending, answer: &Result<Progress, WalkFault>) -> Result<Ended, Refusal>
-    ensures put { IfOk result (λ ended. HasAll pending.old pending.new (turn_items answer.now) × (ended ≡ answer_ended answer.now)) }
-    ensures cause { IfErr result (IsCause pending.old.place pending.old.free (turn_items answer.now)) }
+    ensures put { IfOk result (λ ended. HasAll pending.old pending.new (turn_items answer.now)
+        × (ended ≡ answer_ended answer.now)) }
+    ensures cause { IfErr result
+        (IsCause pending.old.place pending.old.free (turn_items answer.now)) }
 {
     match answer {
         Ok(Progress::Batch(batch)) => {
@@ -145,10 +148,14 @@ pub fn gather_answer<L: LogLink>(
     ensures never_falls { L.failures link.old ≤ L.failures link.new }
     // One question is asked, as the next of the transactions, and none is open after it.
     ensures begun { transactions.new ≡ asked walk.old transactions.old }
-    ensures gathered { IfOk result (λ it. GathersAnswer L.asks (towards transactions.old.route) transactions.old.retries place free link.old walk.old it walk.new link.new) }
-    ensures transacted { IfOk result (λ it. GathersAnswerBy L.asks transactions.old place free link.old walk.old it walk.new link.new) }
-    // An error is that of what came: its numbers go back, or come round in the last epoch, or there is no memory.
-    ensures cause { IfErr result (λ refusal. RefusesAnswer L.asks (towards transactions.old.route) transactions.old.retries place free link.old walk.old refusal walk.new link.new) }
+    ensures gathered { IfOk result (λ it. GathersAnswer L.asks (towards transactions.old.route)
+        transactions.old.retries place free link.old walk.old it walk.new link.new) }
+    ensures transacted { IfOk result (λ it. GathersAnswerBy L.asks transactions.old place free
+        link.old walk.old it walk.new link.new) }
+    // An error is that of what came: its numbers go back, or come round in the last epoch, or there
+    // is no memory.
+    ensures cause { IfErr result (λ refusal. RefusesAnswer L.asks (towards transactions.old.route)
+        transactions.old.retries place free link.old walk.old refusal walk.new link.new) }
 {
     let answer = ask_next(link, transactions, walk);
     let mut pending = nothing_from(alloc, place, free);

@@ -6,7 +6,8 @@ ghost use Rattle.bac_link.specs.Ordinals.{number_after};
 ghost use Rattle.bac_walk.specs.Place.{asking, walk_at, walk_from_oldest};
 ghost use Rattle.bac_walk.specs.declared.outcome.Step.{Step as StepOf};
 ghost use Rattle.bac_walk.specs.declared.outcome.WalkFault.{WalkFault as FaultOf};
-ghost use Rattle.bac_keep.specs.Resumption.{AsksOldest, CameTo, IsTold, IsToldBy, IsToldLast, goes_on, is_before, is_dated, walk_anew};
+ghost use Rattle.bac_keep.specs.Resumption.{AsksOldest, CameTo, IsTold, IsToldBy, IsToldLast};
+ghost use Rattle.bac_keep.specs.Resumption.{goes_on, is_before, is_dated, walk_anew};
 ghost use Rattle.bac_keep.specs.declared.resumption.Resume.TheVariants.{BeganAnew};
 
 use crate::courses::is_ahead;
@@ -39,13 +40,13 @@ pub enum Resume {
 
 /// Where a walk goes on that keeps a log, and asks for so many records at a time: asks for the
 /// record that was kept last, by its number. If
-/// the device holds it as it is kept, the walk goes on behind it; if it holds another one under that
-/// number, it began its log anew. If the device holds later ones alone, the walk goes on too, and
-/// tells the gap; but if the oldest of them is dated before the one that was kept, or if all that is
-/// held lies before it in numbers, the device began its log anew. A log without records tells
-/// nothing: the walk goes on. A log that began anew counts from 1 (clause 12.25), so its walk begins
-/// there, and tells what was dropped since; or at the oldest record, if the one that is held lies
-/// 2147483648 numbers or more ahead of 1.
+/// the device holds it as it is kept, the walk goes on behind it; if it holds another one under
+/// that number, it began its log anew. If the device holds later ones alone, the walk goes on too,
+/// and tells the gap; but if the oldest of them is dated before the one that was kept, or if all
+/// that is held lies before it in numbers, the device began its log anew. A log without records
+/// tells nothing: the walk goes on. A log that began anew counts from 1 (clause 12.25), so its walk
+/// begins there, and tells what was dropped since; or at the oldest record, if the one that is held
+/// lies 2147483648 numbers or more ahead of 1.
 pub fn resume_from<L: LogLink>(
     alloc: Global,
     link: &mut L,
@@ -59,13 +60,22 @@ pub fn resume_from<L: LogLink>(
     ensures retries { transactions.new.retries ≡ transactions.old.retries }
     ensures route { transactions.new.route ≡ transactions.old.route }
     // No record has the number 0, and nothing is asked.
-    ensures none { last.entry.number ≡ 0 → IfOk result (λ told. (told ≡ BeganAnew (asking count (walk_from_oldest log))) × (link.new ≡ link.old)) }
+    ensures none { last.entry.number ≡ 0
+        → IfOk result (λ told. (told ≡ BeganAnew (asking count (walk_from_oldest log)))
+        × (link.new ≡ link.old)) }
     // The answers came over the link, and it is what they say.
-    ensures told { 0 < last.entry.number → IfOk result (λ told. (answer : Result StepOf FaultOf) × (oldest : Result StepOf FaultOf) × (half : L)
-        × IsTold log count (record { number = last.entry.number; stamp = last.entry.stamp.now; datum = last.entry.datum.now }) answer oldest told
-        × CameTo L.asks (towards transactions.old.route) transactions.old.retries link.old (asking count (walk_at log last.entry.number)) answer half
-        × (AsksOldest answer → CameTo L.asks (towards transactions.old.route) transactions.old.retries half (asking count (walk_from_oldest log)) oldest link.new)
-        × ((AsksOldest answer → ⊥) → link.new ≡ half)) }
+    ensures told { 0 < last.entry.number
+        → IfOk result (λ told. (answer : Result StepOf FaultOf) × (oldest : Result StepOf FaultOf)
+        × (half : L) × IsTold log count (record {
+          number = last.entry.number;
+          stamp = last.entry.stamp.now;
+          datum = last.entry.datum.now;
+        }) answer oldest told
+        × CameTo L.asks (towards transactions.old.route) transactions.old.retries link.old
+        (asking count (walk_at log last.entry.number)) answer half
+        × (AsksOldest answer → CameTo L.asks (towards transactions.old.route)
+        transactions.old.retries half (asking count (walk_from_oldest log)) oldest
+        link.new) × ((AsksOldest answer → ⊥) → link.new ≡ half)) }
 {
     let Some(walk) = Walk::from_number(log, last.number) else {
         return Ok(Resume::BeganAnew(oldest_of(log, count)));
@@ -92,8 +102,13 @@ fn told_last<L: LogLink>(
     ensures retries { transactions.new.retries ≡ transactions.old.retries }
     ensures route { transactions.new.route ≡ transactions.old.route }
     ensures told { IfOk result (λ told. (oldest : Result StepOf FaultOf)
-        × IsToldLast log count (record { number = last.entry.number; stamp = last.entry.stamp.now; datum = last.entry.datum.now }) oldest told
-        × CameTo L.asks (towards transactions.old.route) transactions.old.retries link.old (asking count (walk_from_oldest log)) oldest link.new) }
+        × IsToldLast log count (record {
+          number = last.entry.number;
+          stamp = last.entry.stamp.now;
+          datum = last.entry.datum.now;
+        }) oldest told
+        × CameTo L.asks (towards transactions.old.route) transactions.old.retries link.old
+        (asking count (walk_from_oldest log)) oldest link.new) }
 {
     let mut walk = oldest_of(log, count);
     match walk.step(link, transactions) {
@@ -112,7 +127,12 @@ fn told_by(
     batch: &Batch,
 ) -> Result<Resume, AllocError>
     requires { log.kind ≡ 20 }
-    ensures { IfOk result (λ told. IsToldBy log count (record { number = last.entry.number; stamp = last.entry.stamp.now; datum = last.entry.datum.now }) batch.now.entries.items told) }
+    ensures { IfOk result (λ told. IsToldBy log count
+        (record {
+          number = last.entry.number;
+          stamp = last.entry.stamp.now;
+          datum = last.entry.datum.now;
+        }) batch.now.entries.items told) }
 {
     let [held, ..] = batch.entries.as_slice() else {
         unreachable!()
@@ -163,7 +183,12 @@ fn walk_behind(log: ObjectId, count: Count, number: u32) -> Walk
 
 // Whether a log goes on of which a record was kept last, by one that the device holds.
 fn goes_on(alloc: Global, last: LastRecord<'_>, held: &Numbered) -> Result<bool, AllocError>
-    ensures { IfOk result (λ does. does ≡ goes_on (record { number = last.entry.number; stamp = last.entry.stamp.now; datum = last.entry.datum.now }) held.now) }
+    ensures { IfOk result (λ does. does ≡ goes_on
+        (record {
+          number = last.entry.number;
+          stamp = last.entry.stamp.now;
+          datum = last.entry.datum.now;
+        }) held.now) }
 {
     let stamp = stamp_of(alloc, &held.entry)?;
     if held.number != last.number {

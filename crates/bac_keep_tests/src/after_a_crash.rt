@@ -31,7 +31,8 @@ use std::alloc::Global;
 
 /// The place and the number behind an item: behind the number 4294967295, in the next epoch.
 fn behind(log: u16, item: &NewestItem) -> Option<(Place, u32)>
-    ensures { IfSome result (λ it. (it.0.log ≡ log) × (it.0.epoch ≡ epoch_behind item.now) × (it.1 ≡ number_after item.now.number 1)) }
+    ensures { IfSome result (λ it. (it.0.log ≡ log) × (it.0.epoch ≡ epoch_behind item.now)
+        × (it.1 ≡ number_after item.now.number 1)) }
 {
     if item.number == 4294967295 {
         Some((Place::new(log, item.epoch.checked_add(1)?)?, 1))
@@ -43,7 +44,9 @@ fn behind(log: u16, item: &NewestItem) -> Option<(Place, u32)>
 /// Where a log goes on whose rows begin with this number in this place: behind its newest item, if
 /// that isn't one of an older epoch.
 pub(crate) fn next_of(place: Place, s: u32, newest: &Option<NewestItem>) -> Option<(Place, u32)>
-    ensures { IfSome result (λ it. (it.0.log ≡ place.log) × (it.0.epoch ≡ next_epoch place.epoch newest.now) × (it.1 ≡ next_number place.epoch s newest.now)) }
+    ensures { IfSome result (λ it. (it.0.log ≡ place.log)
+        × (it.0.epoch ≡ next_epoch place.epoch newest.now)
+        × (it.1 ≡ next_number place.epoch s newest.now)) }
 {
     match newest {
         Some(item) => {
@@ -74,19 +77,29 @@ pub fn kept_after_a_crash<L: LogLink, K: LogLink, S: Alter, T: Alter>(
     place: Place,
     steps: u32,
 ) -> Option<KeptRun>
-    ensures { HasCleanDisk (state S.Store conn.new) → IsTrue (state S.Store conn.old).is_open →
-        (state S.Store conn.old).committed ≡ (state S.Store conn.old).now → (state S.Store conn.old).now.schema ≡ archive_schema →
-        rows_at place (kept (state S.Store conn.old).now.trees) ≡ [] → HasNoneLater place (kept (state S.Store conn.old).now.trees) →
-        (state S.Store conn.new).may_leave (state T.Store again.old).now.trees → (state T.Store again.old).now.schema ≡ archive_schema →
-        IsTrue (state T.Store again.old).is_open → (state T.Store again.old).committed ≡ (state T.Store again.old).now →
-        HasCleanDisk (state T.Store again.new) → IfSome result (λ run.
-        (H : History) (M : List Moment) (k low : ℕ) → IsHonest L.asks (towards None) log 100 H low link.old M → s ≡ sequence_number k →
-        0 < length M → NeverGoesBack M → AreInWindow low M → low ≤ k → k < low + 2147483648 →
-        (count : ℕ) × ((wait : ℕ) → IsHonest K.asks (towards None) log 100 H low later.old (after_answers (count + wait) M) →
-        (IsTrue (state T.Store again.new).is_open →
-        (u : ℕ) × (all : ℕ) × (run.next ≡ sequence_number u) × IsKept H (era place) (era run.place) (state T.Store again.new).committed.trees k u M all)
-        × ((left : Trees) → (state T.Store again.new).may_leave left →
-        (reached : PlaceOf) × (u : ℕ) × (all : ℕ) × IsKept H (era place) (era reached) left k u M all))) }
+    ensures { HasCleanDisk (state S.Store conn.new) → IsTrue (state S.Store conn.old).is_open
+        → (state S.Store conn.old).committed ≡ (state S.Store conn.old).now
+        → (state S.Store conn.old).now.schema ≡ archive_schema
+        → rows_at place (kept (state S.Store conn.old).now.trees) ≡ []
+        → HasNoneLater place (kept (state S.Store conn.old).now.trees)
+        → (state S.Store conn.new).may_leave (state T.Store again.old).now.trees
+        → (state T.Store again.old).now.schema ≡ archive_schema
+        → IsTrue (state T.Store again.old).is_open
+        → (state T.Store again.old).committed ≡ (state T.Store again.old).now
+        → HasCleanDisk (state T.Store again.new)
+        → IfSome result (λ run. (H : History) (M : List Moment) (k low : ℕ)
+        → IsHonest L.asks (towards None) log 100 H low link.old M → s ≡ sequence_number k
+        → 0 < length M → NeverGoesBack M → AreInWindow low M → low ≤ k
+        → k < low + 2147483648 → (count : ℕ)
+        × ((wait : ℕ) → IsHonest K.asks (towards None) log 100 H low later.old
+        (after_answers (count + wait) M)
+        → (IsTrue (state T.Store again.new).is_open
+        → (u : ℕ) × (all : ℕ) × (run.next ≡ sequence_number u)
+        × IsKept H (era place) (era run.place)
+        (state T.Store again.new).committed.trees k u M all)
+        × ((left : Trees) → (state T.Store again.new).may_leave left
+        → (reached : PlaceOf) × (u : ℕ) × (all : ℕ)
+        × IsKept H (era place) (era reached) left k u M all))) }
 {
     // For the prover alone: laws that the contract follows from, and what a crash leaves before.
     begins_empty();

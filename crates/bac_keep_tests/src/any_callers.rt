@@ -25,8 +25,8 @@ use std::alloc::Global;
 /// Two runs over one log, each over a link of its own, the second from where the first ended,
 /// whatever the end of that was, an error of the database too: over links that are honest for the
 /// log, whoever answers, the second from the moments on that the first left, or from later ones,
-/// what is kept on the disk is one delivery, from number s up to the number that comes next, in this
-/// epoch and those that begin where numbers come round.
+/// what is kept on the disk is one delivery, from number s up to the number that comes next, in
+/// this epoch and those that begin where numbers come round.
 pub fn kept_of_any_device<L: LogLink, K: LogLink, S: Alter>(
     alloc: Global,
     link: &mut L,
@@ -37,15 +37,20 @@ pub fn kept_of_any_device<L: LogLink, K: LogLink, S: Alter>(
     place: Place,
     steps: u32,
 ) -> Option<(KeptRun, KeptRun)>
-    ensures { HasCleanDisk (state S.Store conn.new) → IsTrue (state S.Store conn.new).is_open →
-        (state S.Store conn.old).now.schema ≡ archive_schema →
-        rows_at place (kept (state S.Store conn.old).now.trees) ≡ [] → IfSome result (λ runs.
-        HasNoneBehind (era place) (era runs.1.place) (kept (state S.Store conn.old).now.trees) →
-        (H : History) (M : List Moment) (k low : ℕ) → IsHonest L.asks (towards None) log 100 H low link.old M → s ≡ sequence_number k →
-        0 < length M → NeverGoesBack M → AreInWindow low M → low ≤ k → k < low + 2147483648 →
-        (t : ℕ) × (count : ℕ) × (runs.0.next ≡ sequence_number t)
-        × ((wait : ℕ) → IsHonest K.asks (towards None) log 100 H low later.old (after_answers (count + wait) M) →
-        (u : ℕ) × (all : ℕ) × (runs.1.next ≡ sequence_number u) × IsKept H (era place) (era runs.1.place) (state S.Store conn.new).now.trees k u M all)) }
+    ensures { HasCleanDisk (state S.Store conn.new) → IsTrue (state S.Store conn.new).is_open
+        → (state S.Store conn.old).now.schema ≡ archive_schema
+        → rows_at place (kept (state S.Store conn.old).now.trees) ≡ []
+        → IfSome result (λ runs. HasNoneBehind (era place) (era runs.1.place)
+        (kept (state S.Store conn.old).now.trees)
+        → (H : History) (M : List Moment) (k low : ℕ)
+        → IsHonest L.asks (towards None) log 100 H low link.old M → s ≡ sequence_number k
+        → 0 < length M → NeverGoesBack M → AreInWindow low M → low ≤ k
+        → k < low + 2147483648 → (t : ℕ) × (count : ℕ) × (runs.0.next ≡ sequence_number t)
+        × ((wait : ℕ) → IsHonest K.asks (towards None) log 100 H low later.old
+        (after_answers (count + wait) M)
+        → (u : ℕ) × (all : ℕ) × (runs.1.next ≡ sequence_number u)
+        × IsKept H (era place) (era runs.1.place)
+        (state S.Store conn.new).now.trees k u M all)) }
 {
     // For the prover alone: laws that the contract follows from.
     begins_empty();

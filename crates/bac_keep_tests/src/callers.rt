@@ -34,13 +34,18 @@ pub fn keep_two<L: LogLink, S: Alter>(
     conn: &mut Connection<S>,
     place: &mut Place,
 ) -> Option<Ended>
-    ensures { HasCleanDisk (state S.Store conn.new) → rows_at place.old (kept (state S.Store conn.old).now.trees) ≡ [] →
-        HasNoneBehind (era place.old) (era place.new) (kept (state S.Store conn.old).now.trees) → IfSome result (λ ended.
-        ((state S.Store conn.new).committed ≡ (state S.Store conn.new).now)
-        × ((r : ℕ) (M : List Moment) (H : History) (s : ℕ) → L.is_ours link.old walk.old.log r M H → walk.old.next ≡ sequence_number s →
-        StaysNear r walk.old.count H M walk.old.fresh s 2 →
-        (b : ℕ) × (t : ℕ) × (count : ℕ) × (walk.old.fresh ≡ false → b ≡ s) × (walk.new.next ≡ sequence_number t)
-        × IsKept H (era place.old) (era place.new) (state S.Store conn.new).now.trees b t M count)) }
+    ensures { HasCleanDisk (state S.Store conn.new)
+        → rows_at place.old (kept (state S.Store conn.old).now.trees) ≡ []
+        → HasNoneBehind (era place.old) (era place.new) (kept (state S.Store conn.old).now.trees)
+        → IfSome result (λ ended. ((state S.Store conn.new).committed
+        ≡ (state S.Store conn.new).now)
+        × ((r : ℕ) (M : List Moment) (H : History) (s : ℕ)
+        → L.is_ours link.old walk.old.log r M H → walk.old.next ≡ sequence_number s
+        → StaysNear r walk.old.count H M walk.old.fresh s 2
+        → (b : ℕ) × (t : ℕ) × (count : ℕ) × (walk.old.fresh ≡ false → b ≡ s)
+        × (walk.new.next ≡ sequence_number t)
+        × IsKept H (era place.old) (era place.new)
+        (state S.Store conn.new).now.trees b t M count)) }
 {
     // For the prover alone: laws that the contract follows from.
     begins_empty();
@@ -82,13 +87,20 @@ pub fn keep_again<L: LogLink, K: LogLink, S: Alter>(
     place: Place,
     steps: u32,
 ) -> Option<(KeptRun, KeptRun)>
-    ensures { HasCleanDisk (state S.Store conn.new) → (state S.Store conn.old).now.schema ≡ archive_schema →
-        rows_at place (kept (state S.Store conn.old).now.trees) ≡ [] → IfSome result (λ runs.
-        HasNoneBehind (era place) (era runs.1.place) (kept (state S.Store conn.old).now.trees) → IfOk runs.1.end (λ why.
-        (r : ℕ) (M : List Moment) (H : History) (k : ℕ) → L.is_ours link.old log r M H → s ≡ sequence_number k → StaysNear r 100 H M false k steps →
-        (t : ℕ) × (count : ℕ) × (runs.0.next ≡ sequence_number t)
-        × (K.is_ours later.old log r (after_answers count M) H → StaysNear r 100 H (after_answers count M) false t steps →
-        (u : ℕ) × (all : ℕ) × (runs.1.next ≡ sequence_number u) × IsKept H (era place) (era runs.1.place) (state S.Store conn.new).now.trees k u M all))) }
+    ensures { HasCleanDisk (state S.Store conn.new)
+        → (state S.Store conn.old).now.schema ≡ archive_schema
+        → rows_at place (kept (state S.Store conn.old).now.trees) ≡ []
+        → IfSome result (λ runs. HasNoneBehind (era place) (era runs.1.place)
+        (kept (state S.Store conn.old).now.trees)
+        → IfOk runs.1.end (λ why. (r : ℕ) (M : List Moment) (H : History) (k : ℕ)
+        → L.is_ours link.old log r M H → s ≡ sequence_number k
+        → StaysNear r 100 H M false k steps
+        → (t : ℕ) × (count : ℕ) × (runs.0.next ≡ sequence_number t)
+        × (K.is_ours later.old log r (after_answers count M) H
+        → StaysNear r 100 H (after_answers count M) false t steps
+        → (u : ℕ) × (all : ℕ) × (runs.1.next ≡ sequence_number u)
+        × IsKept H (era place) (era runs.1.place)
+        (state S.Store conn.new).now.trees k u M all))) }
 {
     // For the prover alone: laws that the contract follows from.
     begins_empty();

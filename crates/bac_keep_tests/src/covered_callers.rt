@@ -34,10 +34,12 @@ pub fn covered_whoever_answers<L: LogLink, K: LogLink, S: Alter>(
     place: Place,
     steps: u32,
 ) -> Option<KeptRun>
-    ensures { HasCleanDisk (state S.Store conn.new) → IsTrue (state S.Store conn.new).is_open →
-        (state S.Store conn.old).now.schema ≡ archive_schema → IfSome result (λ run.
-        (k : ℕ) → s ≡ sequence_number k →
-        (u : ℕ) × (run.next ≡ sequence_number u) × IsCovered (era place) (era run.place) (state S.Store conn.new).now.trees k u) }
+    ensures { HasCleanDisk (state S.Store conn.new) → IsTrue (state S.Store conn.new).is_open
+        → (state S.Store conn.old).now.schema ≡ archive_schema
+        → IfSome result (λ run. (k : ℕ) → s ≡ sequence_number k
+        → (u : ℕ) × (run.next ≡ sequence_number u)
+        × IsCovered (era place) (era run.place) (state S.Store conn.new).now.trees k
+        u) }
 {
     // For the prover alone: laws that the contract follows from.
     newest_is_last();

@@ -27,9 +27,12 @@ pub fn none_late_is_kept<L: LogLink, S: Alter>(
     place: Place,
     steps: u32,
 ) -> Option<KeptRun>
-    ensures kept { HasCleanDisk (state S.Store conn.new) → IsTrue (state S.Store conn.new).is_open → (state S.Store conn.old).now.schema ≡ archive_schema →
-        IfSome result (KeepsInTurn L.asks transactions.old place (state S.Store conn.old).now (state S.Store conn.new).now link.old (walk_at log s)) }
-    ensures taken { IfSome result (λ run. TakesInTurn L.asks transactions.old link.old (walk_at log s) steps transactions.new link.new) }
+    ensures kept { HasCleanDisk (state S.Store conn.new) → IsTrue (state S.Store conn.new).is_open
+        → (state S.Store conn.old).now.schema ≡ archive_schema
+        → IfSome result (KeepsInTurn L.asks transactions.old place (state S.Store conn.old).now
+        (state S.Store conn.new).now link.old (walk_at log s)) }
+    ensures taken { IfSome result (λ run. TakesInTurn L.asks transactions.old link.old
+        (walk_at log s) steps transactions.new link.new) }
 {
     // For the prover alone: laws that the contract follows from.
     replies_answer::<L>();

@@ -23,9 +23,9 @@ fn number_behind(number: u32) -> u32
     if number == 4294967295 { 1 } else { number + 1 }
 }
 
-/// Asks for so many of what lies behind the record that was kept last, and then for that record. True
-/// if nothing came and that is held as it is kept: then over a link that is honest for the log, whoever
-/// answers, it held nothing behind that record when the first of the two was answered.
+/// Asks for so many of what lies behind the record that was kept last, and then for that record.
+/// True if nothing came and that is held as it is kept: then over a link that is honest for the
+/// log, whoever answers, it held nothing behind that record when the first of the two was answered.
 pub fn has_nothing_new<L: LogLink>(
     alloc: Global,
     link: &mut L,
@@ -37,9 +37,11 @@ pub fn has_nothing_new<L: LogLink>(
     free: u64,
 ) -> Option<()>
     requires { log.kind ≡ 20 }
-    ensures { IfSome result (λ _. (H : History) (M : List Moment) (low k : ℕ) →
-        IsHonest L.asks (towards transactions.old.route) log count H low link.old M → 0 < length M → NeverGoesBack M → AreInWindow low M →
-        low ≤ k → k + 1 < low + 2147483648 → last.entry.number ≡ sequence_number k → IsCaughtUp false (k + 1) M ([] ∷ [])) }
+    ensures { IfSome result (λ _. (H : History) (M : List Moment) (low k : ℕ)
+        → IsHonest L.asks (towards transactions.old.route) log count H low link.old M
+        → 0 < length M → NeverGoesBack M → AreInWindow low M → low ≤ k
+        → k + 1 < low + 2147483648 → last.entry.number ≡ sequence_number k
+        → IsCaughtUp false (k + 1) M ([] ∷ [])) }
 {
     // For the prover alone: the law that the contract follows from.
     asked_tells_caught_up::<L>();

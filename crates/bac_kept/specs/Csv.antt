@@ -15,7 +15,8 @@ use Rattle.bac_kept.specs.declared.printing.Shown.{Shown}
 
 -- the first row
 abbrev pub names : List (List ℕ)
-names = codes "address" ∷ codes "device" ∷ codes "trend_log" ∷ codes "name" ∷ codes "epoch" ∷ codes "number" ∷ codes "stamp"
+names = codes "address" ∷ codes "device" ∷ codes "trend_log" ∷ codes "name" ∷ codes "epoch" ∷ codes "number"
+    ∷ codes "stamp"
     ∷ codes "value" ∷ codes "datum" ∷ codes "flags" ∷ []
 
 -- in place of the datum of a gap its first number and its last
@@ -40,7 +41,8 @@ device_text (Some device) = decimal device
 
 -- the fields of an item, behind those of its log, with the text of its value
 abbrev pub item_fields : List ℕ → List ℕ → List ℕ → List ℕ → Item → List ℕ → List (List ℕ)
-item_fields address device instance name item value = address ∷ device ∷ instance ∷ name ∷ decimal item.epoch ∷ decimal item.number
+item_fields address device instance name item value =
+    address ∷ device ∷ instance ∷ name ∷ decimal item.epoch ∷ decimal item.number
     ∷ item.stamp.now ∷ value ∷ datum_field item.number item.last item.datum.now ∷ item.flags.now ∷ []
 
 -- the name of a log, or nothing
@@ -58,7 +60,8 @@ AreFieldsOf log fields =
 abbrev pub IsRowText : Log → Values → List ℕ → Type 0
 IsRowText log row text = (item : Item) × IsItem row item × (value : List ℕ) × IsValueText item.value value
     × (text ≡ row_text default_writer
-    (item_fields (place_text log.source) (device_text log.told.device) (decimal log.source.instance) (name_text log.name)
+    (item_fields (place_text log.source) (device_text log.told.device) (decimal log.source.instance)
+    (name_text log.name)
     item value))
 
 -- the text of rows, one after the other

@@ -8,7 +8,8 @@ ghost use Rattle.sqlite.specs.Held.{state};
 ghost use Rattle.bac_archive.specs.Rows.{kept};
 ghost use Rattle.bac_archive.specs.Schema.{archive_schema};
 ghost use Rattle.bac_kept.specs.Faults.{EndsLines};
-ghost use Rattle.bac_kept.specs.Csv.{AreFieldsOf, IsRowText, IsValueText, WritesItems, device_text, gap_text, item_fields, name_text, names};
+ghost use Rattle.bac_kept.specs.Csv.{AreFieldsOf, IsRowText, IsValueText, WritesItems, device_text};
+ghost use Rattle.bac_kept.specs.Csv.{gap_text, item_fields, name_text, names};
 ghost use Rattle.bac_asked.specs.Lines.{place_text};
 
 use bac_archive::{Item, Log, items_of, read_item};
@@ -49,8 +50,10 @@ impl Fields {
     /// The fields of a log, without an item.
     pub(crate) fn of(alloc: Global, log: &Log) -> Result<Fields, AllocError>
         ensures address { IfOk result (λ fields. fields.address.items ≡ place_text log.now.source) }
-        ensures device { IfOk result (λ fields. fields.device.items ≡ device_text log.now.told.device) }
-        ensures instance { IfOk result (λ fields. fields.instance.items ≡ decimal log.now.source.instance) }
+        ensures device { IfOk result
+            (λ fields. fields.device.items ≡ device_text log.now.told.device) }
+        ensures instance { IfOk result
+            (λ fields. fields.instance.items ≡ decimal log.now.source.instance) }
     {
         let mut address = Vec::new(alloc);
         push_address(&mut address, &log.source)?;
@@ -71,7 +74,8 @@ impl Fields {
 
     /// Takes an item.
     fn take(&mut self, item: &Item<'_>) -> Result<(), AllocError>
-        ensures log { (self.new.address ≡ self.old.address) × (self.new.device ≡ self.old.device) × (self.new.instance ≡ self.old.instance) }
+        ensures log { (self.new.address ≡ self.old.address) × (self.new.device ≡ self.old.device)
+            × (self.new.instance ≡ self.old.instance) }
         ensures epoch { OnOk result (self.new.epoch.items ≡ decimal item.now.epoch) }
         ensures number { OnOk result (self.new.number.items ≡ decimal item.now.number) }
         ensures value { OnOk result (IsValueText item.now.value self.new.value.items) }
@@ -129,7 +133,8 @@ fn renew_gap(text: &mut Vec<u8>, first: u32, last: Option<u32>) -> Result<(), Al
 
 /// The text of a row of these fields, in the memory of another text.
 fn row_of(mut text: Vec<u8>, fields: &[&[u8]]) -> Result<Vec<u8>, NotDone>
-    ensures row { IfOk result (λ text. text.items ≡ row_text default_writer (map (λ f. f.now) fields.now)) }
+    ensures row { IfOk result
+        (λ text. text.items ≡ row_text default_writer (map (λ f. f.now) fields.now)) }
     ensures fault { IfErr result EndsLines }
 {
     text.clear();
@@ -145,7 +150,8 @@ fn row_of(mut text: Vec<u8>, fields: &[&[u8]]) -> Result<Vec<u8>, NotDone>
 
 /// Writes a text, and gives it back.
 fn write_out<O: Write>(text: Vec<u8>, output: &mut O) -> Result<Vec<u8>, NotDone>
-    ensures written { OnOk result (Appends (O.contents output.old) (O.contents output.new) text.items) }
+    ensures written { OnOk result
+        (Appends (O.contents output.old) (O.contents output.new) text.items) }
     ensures fault { IfErr result EndsLines }
 {
     match write_text(output, text.as_slice()) {
@@ -156,7 +162,8 @@ fn write_out<O: Write>(text: Vec<u8>, output: &mut O) -> Result<Vec<u8>, NotDone
 
 /// Writes the row of names.
 pub(crate) fn write_names<O: Write>(alloc: Global, output: &mut O) -> Result<(), NotDone>
-    ensures written { OnOk result (Appends (O.contents output.old) (O.contents output.new) (row_text default_writer names)) }
+    ensures written { OnOk result
+        (Appends (O.contents output.old) (O.contents output.new) (row_text default_writer names)) }
     ensures fault { IfErr result EndsLines }
 {
     let text = row_of(Vec::new(alloc), &NAMES)?;
@@ -171,9 +178,12 @@ fn item_row(
     name: &[u8],
     item: &Item<'_>,
 ) -> Result<Vec<u8>, NotDone>
-    ensures log { (fields.new.address ≡ fields.old.address) × (fields.new.device ≡ fields.old.device) × (fields.new.instance ≡ fields.old.instance) }
+    ensures log { (fields.new.address ≡ fields.old.address)
+        × (fields.new.device ≡ fields.old.device) × (fields.new.instance ≡ fields.old.instance) }
     ensures text { IfOk result (λ text. (value : List _) × IsValueText item.now.value value
-        × (text.items ≡ row_text default_writer (item_fields fields.old.address.items fields.old.device.items fields.old.instance.items name.now item.now value))) }
+        × (text.items ≡ row_text default_writer
+        (item_fields fields.old.address.items fields.old.device.items
+        fields.old.instance.items name.now item.now value))) }
     ensures fault { IfErr result EndsLines }
 {
     if fields.take(item).is_err() {
@@ -196,8 +206,11 @@ fn fields_row<'a>(
     datum: &'a [u8],
     flags: &'a [u8],
 ) -> Result<Vec<u8>, NotDone>
-    ensures row { IfOk result (λ text. text.items ≡ row_text default_writer (fields.now.address.items ∷ fields.now.device.items ∷ fields.now.instance.items ∷ name.now ∷ fields.now.epoch.items ∷ fields.now.number.items
-        ∷ stamp.now ∷ fields.now.value.items ∷ datum.now ∷ flags.now ∷ [])) }
+    ensures row { IfOk result (λ text. text.items
+        ≡ row_text default_writer (fields.now.address.items ∷ fields.now.device.items
+        ∷ fields.now.instance.items ∷ name.now ∷ fields.now.epoch.items
+        ∷ fields.now.number.items ∷ stamp.now ∷ fields.now.value.items ∷ datum.now
+        ∷ flags.now ∷ [])) }
     ensures fault { IfErr result EndsLines }
 {
     row_of(
@@ -237,7 +250,8 @@ fn write_row<O: Write>(
 ) -> Result<Vec<u8>, NotDone>
     ensures log { AreFieldsOf log.now fields.old → AreFieldsOf log.now fields.new }
     ensures text { AreFieldsOf log.now fields.old
-        → OnOk result ((text : List _) × IsRowText log.now row.now text × Appends (O.contents output.old) (O.contents output.new) text) }
+        → OnOk result ((text : List _) × IsRowText log.now row.now text
+        × Appends (O.contents output.old) (O.contents output.new) text) }
     ensures fault { IfErr result EndsLines }
 {
     let item = match read_item(row) {
@@ -256,11 +270,16 @@ pub(crate) fn write_items<A: Alter, O: Write>(
     output: &mut O,
 ) -> Result<(), NotDone>
     // The rows of its items, in the order of their ids.
-    ensures ok { HasCleanDisk (state A.Store conn.new) → (state A.Store conn.old).now.schema ≡ archive_schema
-        → OnOk result ((text : List _) × WritesItems log.now (kept (state A.Store conn.old).now.trees) text × Appends (O.contents output.old) (O.contents output.new) text) }
-    ensures same { HasCleanDisk (state A.Store conn.new) → (state A.Store conn.old).now.schema ≡ archive_schema
+    ensures ok { HasCleanDisk (state A.Store conn.new)
+        → (state A.Store conn.old).now.schema ≡ archive_schema
+        → OnOk result ((text : List _)
+        × WritesItems log.now (kept (state A.Store conn.old).now.trees) text
+        × Appends (O.contents output.old) (O.contents output.new) text) }
+    ensures same { HasCleanDisk (state A.Store conn.new)
+        → (state A.Store conn.old).now.schema ≡ archive_schema
         → OnOk result (IsUnchanged (state A.Store conn.old) (state A.Store conn.new)) }
-    ensures clean { OnOk result (HasCleanDisk (state A.Store conn.new) → HasCleanDisk (state A.Store conn.old)) }
+    ensures clean { OnOk result
+        (HasCleanDisk (state A.Store conn.new) → HasCleanDisk (state A.Store conn.old)) }
     ensures fault { IfErr result EndsLines }
 {
     let Ok(mut fields) = Fields::of(alloc, log) else {

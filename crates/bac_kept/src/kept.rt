@@ -9,7 +9,8 @@ ghost use Rattle.bac_archive.specs.Rows.{kept};
 ghost use Rattle.bac_archive.specs.Schema.{archive_schema};
 ghost use Rattle.bac_print.specs.Output.{AppendsPart};
 ghost use Rattle.bac_kept.specs.Faults.{EndsLines};
-ghost use Rattle.bac_kept.specs.Printed.{PrintsFront, PrintsItems, anew_if, item_line, log_line, row_lines};
+ghost use Rattle.bac_kept.specs.Printed.{PrintsFront, PrintsItems, anew_if, item_line, log_line};
+ghost use Rattle.bac_kept.specs.Printed.{row_lines};
 
 use bac_archive::{Item, Log, items_of, read_item};
 use bac_asked::{Fault, NotDone, of_error, push_source, push_stopped};
@@ -30,7 +31,9 @@ fn push_part(text: &mut Vec<u8>, part: &[u8]) -> Result<(), AllocError>
 /// that are missing.
 #[tactic(auto, unfolding(crate::specs::Printed::item_line))]
 fn push_item(text: &mut Vec<u8>, item: &Item<'_>) -> Result<(), AllocError>
-    ensures { OnOk result (text.new.items ≡ text.old.items ++ item_line item.now.number item.now.last item.now.stamp.now item.now.datum.now item.now.flags.now) }
+    ensures { OnOk result (text.new.items ≡ text.old.items
+        ++ item_line item.now.number item.now.last item.now.stamp.now item.now.datum.now
+        item.now.flags.now) }
 {
     if let Some(last) = item.last {
         return push_gap(text, item.number, last);
@@ -46,7 +49,9 @@ fn push_item(text: &mut Vec<u8>, item: &Item<'_>) -> Result<(), AllocError>
 /// The lines of an item; a line before it tells that the device began anew.
 #[tactic(auto, unfolding(crate::specs::Printed::anew_if))]
 fn lines_of(text: &mut Vec<u8>, item: &Item<'_>, epoch: Option<u16>) -> Result<(), AllocError>
-    ensures { OnOk result (text.new.items ≡ anew_if epoch item.now.epoch ++ item_line item.now.number item.now.last item.now.stamp.now item.now.datum.now item.now.flags.now) }
+    ensures { OnOk result (text.new.items ≡ anew_if epoch item.now.epoch
+        ++ item_line item.now.number item.now.last item.now.stamp.now item.now.datum.now
+        item.now.flags.now) }
 {
     text.clear();
     if let Some(epoch) = epoch {
@@ -72,8 +77,10 @@ fn push_log(text: &mut Vec<u8>, log: &Log) -> Result<(), AllocError>
 
 /// Prints a line that names a log.
 pub(crate) fn print_head<O: Write>(alloc: Global, log: &Log, output: &mut O) -> Result<(), NotDone>
-    ensures ok { OnOk result (Appends (O.contents output.old) (O.contents output.new) (log_line log.now)) }
-    ensures err { OnErr result (AppendsPart (O.contents output.old) (O.contents output.new) (log_line log.now)) }
+    ensures ok { OnOk result
+        (Appends (O.contents output.old) (O.contents output.new) (log_line log.now)) }
+    ensures err { OnErr result
+        (AppendsPart (O.contents output.old) (O.contents output.new) (log_line log.now)) }
     ensures fault { IfErr result EndsLines }
 {
     let mut text = Vec::new(alloc);
@@ -94,8 +101,10 @@ fn print_row<O: Write>(
     epoch: Option<u16>,
     output: &mut O,
 ) -> Result<u16, NotDone>
-    ensures ok { IfOk result (λ now. (now ≡ epoch_in row.now) × Appends (O.contents output.old) (O.contents output.new) (row_lines epoch row.now)) }
-    ensures err { OnErr result (AppendsPart (O.contents output.old) (O.contents output.new) (row_lines epoch row.now)) }
+    ensures ok { IfOk result (λ now. (now ≡ epoch_in row.now)
+        × Appends (O.contents output.old) (O.contents output.new) (row_lines epoch row.now)) }
+    ensures err { OnErr result
+        (AppendsPart (O.contents output.old) (O.contents output.new) (row_lines epoch row.now)) }
     ensures fault { IfErr result EndsLines }
 {
     let item = match read_item(row) {
@@ -119,14 +128,21 @@ pub(crate) fn print_items<A: Alter, O: Write>(
     output: &mut O,
 ) -> Result<(), NotDone>
     // The lines of its items, in the order of their ids.
-    ensures ok { HasCleanDisk (state A.Store conn.new) → (state A.Store conn.old).now.schema ≡ archive_schema
-        → OnOk result ((text : _) × PrintsItems log.now.id (kept (state A.Store conn.old).now.trees) text × Appends (O.contents output.old) (O.contents output.new) text) }
+    ensures ok { HasCleanDisk (state A.Store conn.new)
+        → (state A.Store conn.old).now.schema ≡ archive_schema
+        → OnOk result ((text : _)
+        × PrintsItems log.now.id (kept (state A.Store conn.old).now.trees) text
+        × Appends (O.contents output.old) (O.contents output.new) text) }
     // After a fault a front of them.
-    ensures err { HasCleanDisk (state A.Store conn.new) → (state A.Store conn.old).now.schema ≡ archive_schema
-        → OnErr result (PrintsFront (O.contents output.old) (O.contents output.new) log.now.id (kept (state A.Store conn.old).now.trees)) }
-    ensures same { HasCleanDisk (state A.Store conn.new) → (state A.Store conn.old).now.schema ≡ archive_schema
+    ensures err { HasCleanDisk (state A.Store conn.new)
+        → (state A.Store conn.old).now.schema ≡ archive_schema
+        → OnErr result (PrintsFront (O.contents output.old) (O.contents output.new) log.now.id
+        (kept (state A.Store conn.old).now.trees)) }
+    ensures same { HasCleanDisk (state A.Store conn.new)
+        → (state A.Store conn.old).now.schema ≡ archive_schema
         → OnOk result (IsUnchanged (state A.Store conn.old) (state A.Store conn.new)) }
-    ensures clean { OnOk result (HasCleanDisk (state A.Store conn.new) → HasCleanDisk (state A.Store conn.old)) }
+    ensures clean { OnOk result
+        (HasCleanDisk (state A.Store conn.new) → HasCleanDisk (state A.Store conn.old)) }
     ensures fault { IfErr result EndsLines }
 {
     let mut text = Vec::new(alloc);

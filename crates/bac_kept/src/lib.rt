@@ -1,5 +1,5 @@
-//! What `bac kept` prints of an archive: the records and gaps of logs, in the lines of `bac log` or as
-//! CSV. A file may have been written by anyone.
+//! What `bac kept` prints of an archive: the records and gaps of logs, in the lines of `bac log` or
+//! as CSV. A file may have been written by anyone.
 #![tactic(auto)]
 
 mod csv_lines;

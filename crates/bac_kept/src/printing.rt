@@ -49,7 +49,8 @@ impl Shown {
 
     /// Prints the line that names a log, unless it is the one that was chosen.
     fn print_head<O: Write>(&self, alloc: Global, log: &Log, output: &mut O) -> Result<(), NotDone>
-        ensures head { OnOk result (Appends (O.contents output.old) (O.contents output.new) (head_line self.now log.now)) }
+        ensures head { OnOk result
+            (Appends (O.contents output.old) (O.contents output.new) (head_line self.now log.now)) }
         ensures fault { IfErr result EndsLines }
     {
         match self {
@@ -67,11 +68,16 @@ fn print_log<A: Alter, O: Write>(
     shown: &Shown,
     output: &mut O,
 ) -> Result<bool, NotDone>
-    ensures printed { HasCleanDisk (state A.Store conn.new) → (state A.Store conn.old).now.schema ≡ archive_schema
-        → OnOk result ((text : List _) × PrintsLog shown.now (kept (state A.Store conn.old).now.trees) log.now text × Appends (O.contents output.old) (O.contents output.new) text) }
-    ensures same { HasCleanDisk (state A.Store conn.new) → (state A.Store conn.old).now.schema ≡ archive_schema
+    ensures printed { HasCleanDisk (state A.Store conn.new)
+        → (state A.Store conn.old).now.schema ≡ archive_schema
+        → OnOk result ((text : List _)
+        × PrintsLog shown.now (kept (state A.Store conn.old).now.trees) log.now text
+        × Appends (O.contents output.old) (O.contents output.new) text) }
+    ensures same { HasCleanDisk (state A.Store conn.new)
+        → (state A.Store conn.old).now.schema ≡ archive_schema
         → OnOk result ((state A.Store conn.new).now ≡ (state A.Store conn.old).now) }
-    ensures clean { OnOk result (HasCleanDisk (state A.Store conn.new) → HasCleanDisk (state A.Store conn.old)) }
+    ensures clean { OnOk result
+        (HasCleanDisk (state A.Store conn.new) → HasCleanDisk (state A.Store conn.old)) }
     ensures fault { IfErr result EndsLines }
     ensures chosen { IfOk result (λ was. was ≡ is_chosen shown.now log.now) }
 {
@@ -101,11 +107,16 @@ fn print_logs<A: Alter, O: Write>(
     shown: &Shown,
     output: &mut O,
 ) -> Result<usize, NotDone>
-    ensures printed { HasCleanDisk (state A.Store conn.new) → (state A.Store conn.old).now.schema ≡ archive_schema
-        → OnOk result ((text : List _) × PrintsLogs shown.now (kept (state A.Store conn.old).now.trees) all.now text × Appends (O.contents output.old) (O.contents output.new) text) }
-    ensures clean { OnOk result (HasCleanDisk (state A.Store conn.new) → HasCleanDisk (state A.Store conn.old)) }
+    ensures printed { HasCleanDisk (state A.Store conn.new)
+        → (state A.Store conn.old).now.schema ≡ archive_schema
+        → OnOk result ((text : List _)
+        × PrintsLogs shown.now (kept (state A.Store conn.old).now.trees) all.now text
+        × Appends (O.contents output.old) (O.contents output.new) text) }
+    ensures clean { OnOk result
+        (HasCleanDisk (state A.Store conn.new) → HasCleanDisk (state A.Store conn.old)) }
     ensures fault { IfErr result EndsLines }
-    ensures none { IfOk result (λ count. count ≡ 0 → All (λ log. is_chosen shown.now log ≡ false) all.now) }
+    ensures none { IfOk result
+        (λ count. count ≡ 0 → All (λ log. is_chosen shown.now log ≡ false) all.now) }
 {
     let mut count = 0usize;
     for log in all {
@@ -122,11 +133,16 @@ fn write_log<A: Alter, O: Write>(
     shown: &Shown,
     output: &mut O,
 ) -> Result<bool, NotDone>
-    ensures written { HasCleanDisk (state A.Store conn.new) → (state A.Store conn.old).now.schema ≡ archive_schema
-        → OnOk result ((text : List _) × WritesLog shown.now (kept (state A.Store conn.old).now.trees) log.now text × Appends (O.contents output.old) (O.contents output.new) text) }
-    ensures same { HasCleanDisk (state A.Store conn.new) → (state A.Store conn.old).now.schema ≡ archive_schema
+    ensures written { HasCleanDisk (state A.Store conn.new)
+        → (state A.Store conn.old).now.schema ≡ archive_schema
+        → OnOk result ((text : List _)
+        × WritesLog shown.now (kept (state A.Store conn.old).now.trees) log.now text
+        × Appends (O.contents output.old) (O.contents output.new) text) }
+    ensures same { HasCleanDisk (state A.Store conn.new)
+        → (state A.Store conn.old).now.schema ≡ archive_schema
         → OnOk result ((state A.Store conn.new).now ≡ (state A.Store conn.old).now) }
-    ensures clean { OnOk result (HasCleanDisk (state A.Store conn.new) → HasCleanDisk (state A.Store conn.old)) }
+    ensures clean { OnOk result
+        (HasCleanDisk (state A.Store conn.new) → HasCleanDisk (state A.Store conn.old)) }
     ensures fault { IfErr result EndsLines }
     ensures chosen { IfOk result (λ was. was ≡ is_chosen shown.now log.now) }
 {
@@ -145,12 +161,17 @@ fn write_logs<A: Alter, O: Write>(
     shown: &Shown,
     output: &mut O,
 ) -> Result<usize, NotDone>
-    ensures written { HasCleanDisk (state A.Store conn.new) → (state A.Store conn.old).now.schema ≡ archive_schema
-        → OnOk result ((text : List _) × WritesLogs shown.now (kept (state A.Store conn.old).now.trees) all.now text
-        × Appends (O.contents output.old) (O.contents output.new) (row_text default_writer names ++ text)) }
-    ensures clean { OnOk result (HasCleanDisk (state A.Store conn.new) → HasCleanDisk (state A.Store conn.old)) }
+    ensures written { HasCleanDisk (state A.Store conn.new)
+        → (state A.Store conn.old).now.schema ≡ archive_schema
+        → OnOk result ((text : List _)
+        × WritesLogs shown.now (kept (state A.Store conn.old).now.trees) all.now text
+        × Appends (O.contents output.old) (O.contents output.new)
+        (row_text default_writer names ++ text)) }
+    ensures clean { OnOk result
+        (HasCleanDisk (state A.Store conn.new) → HasCleanDisk (state A.Store conn.old)) }
     ensures fault { IfErr result EndsLines }
-    ensures none { IfOk result (λ count. count ≡ 0 → All (λ log. is_chosen shown.now log ≡ false) all.now) }
+    ensures none { IfOk result
+        (λ count. count ≡ 0 → All (λ log. is_chosen shown.now log ≡ false) all.now) }
 {
     write_names(alloc, output)?;
     let mut count = 0usize;
@@ -169,20 +190,31 @@ pub fn print_shown<A: Alter, O: Write>(
     output: &mut O,
 ) -> Result<u8, NotDone>
     ensures status { IfOk result (λ status. status ≡ 0) }
-    // The lines of the archive's logs, each of which is told once: of each that was chosen its head, and
-    // its items by their ids.
-    ensures printed { HasCleanDisk (state A.Store conn.new) → (state A.Store conn.old).now.schema ≡ archive_schema → csv ≡ false
+    // The lines of the archive's logs, each of which is told once: of each that was chosen its
+    // head, and its items by their ids.
+    ensures printed { HasCleanDisk (state A.Store conn.new)
+        → (state A.Store conn.old).now.schema ≡ archive_schema → csv ≡ false
         → OnOk result ((all : List LogOf) × AreLogs (state A.Store conn.old).now.trees all
-        × (text : List _) × PrintsLogs shown.now (kept (state A.Store conn.old).now.trees) all text × Appends (O.contents output.old) (O.contents output.new) text) }
-    // As CSV the row of names, and of each of those logs that was chosen a row for each of its items.
-    ensures written { HasCleanDisk (state A.Store conn.new) → (state A.Store conn.old).now.schema ≡ archive_schema → csv ≡ true
+        × (text : List _)
+        × PrintsLogs shown.now (kept (state A.Store conn.old).now.trees) all text
+        × Appends (O.contents output.old) (O.contents output.new) text) }
+    // As CSV the row of names, and of each of those logs that was chosen a row for each of its
+    // items.
+    ensures written { HasCleanDisk (state A.Store conn.new)
+        → (state A.Store conn.old).now.schema ≡ archive_schema → csv ≡ true
         → OnOk result ((all : List LogOf) × AreLogs (state A.Store conn.old).now.trees all
-        × (text : List _) × WritesLogs shown.now (kept (state A.Store conn.old).now.trees) all text
-        × Appends (O.contents output.old) (O.contents output.new) (row_text default_writer names ++ text)) }
-    ensures clean { OnOk result (HasCleanDisk (state A.Store conn.new) → HasCleanDisk (state A.Store conn.old)) }
+        × (text : List _)
+        × WritesLogs shown.now (kept (state A.Store conn.old).now.trees) all text
+        × Appends (O.contents output.old) (O.contents output.new)
+        (row_text default_writer names ++ text)) }
+    ensures clean { OnOk result
+        (HasCleanDisk (state A.Store conn.new) → HasCleanDisk (state A.Store conn.old)) }
     // Or it ends before that; that no log was chosen is told only of an archive that has none such.
-    ensures fault { IfErr result (EndsPrinting (HasCleanDisk (state A.Store conn.new) → HasCleanDisk (state A.Store conn.old)
-        × ((state A.Store conn.old).now.schema ≡ archive_schema → HasNoneOf shown.now (state A.Store conn.old).now.trees))) }
+    ensures fault { IfErr result (EndsPrinting
+        (HasCleanDisk (state A.Store conn.new)
+        → HasCleanDisk (state A.Store conn.old)
+        × ((state A.Store conn.old).now.schema ≡ archive_schema
+        → HasNoneOf shown.now (state A.Store conn.old).now.trees))) }
 {
     let all = match logs(alloc, conn) {
         Ok(all) => all,

@@ -1,5 +1,5 @@
--- Links that are honest for a log that goes on. Where the log stands is chosen by what comes: so any ask may be lost, and
--- the log may record between any two, for ever.
+-- Links that are honest for a log that goes on. Where the log stands is chosen by what comes: so any ask may be lost,
+-- and the log may record between any two, for ever.
 use Rattle.std.specs.Prelude.{◌≡◌, ℕ, zero, suc, ◌+◌, ◌<◌, ◌≤◌, true, Result, Ok, Err, List, ◌++◌, length}
 use Rattle.bac_wire.specs.Primitive.{Id}
 use Rattle.bac_log.specs.declared.entry.Entry.{Entry}

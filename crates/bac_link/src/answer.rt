@@ -4,7 +4,9 @@ ghost use Rattle.std.specs.Prelude.{◌≡◌};
 ghost use Rattle.bac_wire.specs.OptionChain.{GivesSome};
 ghost use Rattle.bac_apdu.specs.Apdu.{apdu_of};
 ghost use Rattle.bac_apdu.specs.Npdu.{header_of, maybe_place_of};
-ghost use Rattle.bac_link.specs.Datagrams.{apdu_in, carried_in, message_in, path_in, asked_id as asked_id_of, answer_in as answer_in_of, answers_to, same_id, same_path};
+ghost use Rattle.bac_link.specs.Datagrams.{apdu_in, carried_in, message_in, path_in};
+ghost use Rattle.bac_link.specs.Datagrams.{asked_id as asked_id_of, answer_in as answer_in_of};
+ghost use Rattle.bac_link.specs.Datagrams.{answers_to, same_id, same_path};
 ghost use Rattle.bac_link.specs.Path.{path_of, same_place};
 ghost use Rattle.bac_link.specs.Transactions.{maybe_answer_of};
 
@@ -46,7 +48,8 @@ fn carried(bytes: &[u8]) -> Option<(Npdu, &[u8])>
 /// The header and the APDU in a frame to one device.
 #[tactic(auto, unfolding(crate::specs::Datagrams::message_in))]
 fn message(bytes: &[u8]) -> Option<(Npdu, Apdu)>
-    ensures { GivesSome (λ x. (path_of (header_of x.0), apdu_of x.1)) result (message_in bytes.now) }
+    ensures { GivesSome (λ x. (path_of (header_of x.0), apdu_of x.1)) result
+        (message_in bytes.now) }
 {
     let (header, octets) = carried(bytes)?;
     let apdu = read_apdu(octets)?;
@@ -154,7 +157,8 @@ pub fn answers(request: &[u8], datagram: &[u8]) -> bool
 
 /// Whether a datagram answers with the invoke ID of a request.
 fn same_id(request: &[u8], datagram: &[u8]) -> bool
-    ensures { result ≡ same_id (asked_id_of (apdu_in request.now)) (answer_in_of (apdu_in datagram.now)) }
+    ensures { result
+        ≡ same_id (asked_id_of (apdu_in request.now)) (answer_in_of (apdu_in datagram.now)) }
 {
     match asked_id(request) {
         Some(invoke) => match answer_in(datagram) {

@@ -102,19 +102,28 @@ fn heard<L: LogLink>(link: &mut L, request: &[u8]) -> Option<Datagram>
     ensures never_falls { L.failures link.old ≤ L.failures link.new }
     ensures answers { IfSome result (λ d. answers_to request.now d ≡ true) }
     ensures tried { IsTried L.asks request.now link.old result link.new }
-    ensures ours { (id : Id) (r : ℕ) (M : List Moment) (H : History) (extent : AnyExtent) (place : Option Place) (invoke : ℕ) →
-        L.is_ours link.old id r M H → IsQuestion id extent (towards place) invoke request.now →
-        IsHeard (λ N. L.is_ours link.new id r N H)
-        (record { reply_size = r; moments = M; history = H; log = id; extent = extent; path = towards place }) invoke
+    ensures ours { (id : Id) (r : ℕ) (M : List Moment) (H : History) (extent : AnyExtent)
+        (place : Option Place) (invoke : ℕ) → L.is_ours link.old id r M H
+        → IsQuestion id extent (towards place) invoke request.now
+        → IsHeard (λ N. L.is_ours link.new id r N H)
+        (record {
+          reply_size = r;
+          moments = M;
+          history = H;
+          log = id;
+          extent = extent;
+          path = towards place;
+        }) invoke
         (record { before = L.failures link.old; after = L.failures link.new }) result
         × (L.is_sure link.old (towards place) → IsSome result) }
-    ensures lacking { (id : Id) (extent : AnyExtent) (place : Option Place) (invoke : ℕ) →
-        L.lacks link.old id → IsQuestion id extent (towards place) invoke request.now →
-        IsHeardOfNone (towards place) invoke (L.failures link.old) (L.failures link.new) result × L.lacks link.new id
-        × (L.is_sure link.old (towards place) → IsSome result) }
+    ensures lacking { (id : Id) (extent : AnyExtent) (place : Option Place) (invoke : ℕ)
+        → L.lacks link.old id → IsQuestion id extent (towards place) invoke request.now
+        → IsHeardOfNone (towards place) invoke (L.failures link.old) (L.failures link.new) result
+        × L.lacks link.new id × (L.is_sure link.old (towards place) → IsSome result) }
     ensures stays_sure { (path : Path) → L.is_sure link.old path → L.is_sure link.new path }
-    ensures kept { (id : Id) (extent : AnyExtent) (place : Option Place) (invoke : ℕ) →
-        L.is_sure link.old (towards place) → IsQuestion id extent (towards place) invoke request.now → L.keeps link.old link.new }
+    ensures kept { (id : Id) (extent : AnyExtent) (place : Option Place) (invoke : ℕ)
+        → L.is_sure link.old (towards place)
+        → IsQuestion id extent (towards place) invoke request.now → L.keeps link.old link.new }
 {
     match link.ask(request) {
         Ok(reply) => {
@@ -139,29 +148,40 @@ pub fn exchange<L: LogLink>(
     requires { IsSendable request.now }
     // Over any link, whatever the request: it is asked once, and then as often as the retries say,
     // until an answer comes over the link; what is returned is the verdict on that answer.
-    ensures exchanges { Exchanges L.asks (towards transactions.old.route) (next_invoke transactions.old.invoke)
-        request.now transactions.old.retries link.old result link.new }
+    ensures exchanges { Exchanges L.asks (towards transactions.old.route)
+        (next_invoke transactions.old.invoke) request.now transactions.old.retries link.old result
+        link.new }
     // So what is returned is the verdict on a datagram that answers the request.
-    ensures answers { Concludes (towards transactions.old.route) (next_invoke transactions.old.invoke) request.now result }
+    ensures answers { Concludes (towards transactions.old.route)
+        (next_invoke transactions.old.invoke) request.now result }
     ensures too_long { (result ≡ Err ExchangeFault.TooLong) ↔ IsTooLong request.now }
     ensures leaves { Leaves request.now transactions.old result transactions.new }
     ensures never_falls { L.failures link.old ≤ L.failures link.new }
     // Over a link of ours: the reply of the next moment, or Lost after more failures than retries.
-    ensures ours { (id : Id) (r : ℕ) (M : List Moment) (H : History) (extent : AnyExtent) →
-        L.is_ours link.old id r M H → AsksFor id extent request.now →
-        IsExchanged (λ N. L.is_ours link.new id r N H)
-        (record { reply_size = r; moments = M; history = H; log = id; extent = extent; path = towards transactions.old.route })
-        transactions.old.retries (record { before = L.failures link.old; after = L.failures link.new }) result
+    ensures ours { (id : Id) (r : ℕ) (M : List Moment) (H : History) (extent : AnyExtent)
+        → L.is_ours link.old id r M H → AsksFor id extent request.now
+        → IsExchanged (λ N. L.is_ours link.new id r N H)
+        (record {
+          reply_size = r;
+          moments = M;
+          history = H;
+          log = id;
+          extent = extent;
+          path = towards transactions.old.route;
+        }) transactions.old.retries
+        (record { before = L.failures link.old; after = L.failures link.new }) result
         × (L.is_sure link.old (towards transactions.old.route) → IsNotLost result) }
     // Over a link without the log: the Error that says so, or Lost likewise.
-    ensures lacking { (id : Id) (extent : AnyExtent) →
-        L.lacks link.old id → AsksFor id extent request.now →
-        IsExchangedOfNone transactions.old.retries (L.failures link.old) (L.failures link.new) result × L.lacks link.new id
+    ensures lacking { (id : Id) (extent : AnyExtent) → L.lacks link.old id
+        → AsksFor id extent request.now
+        → IsExchangedOfNone transactions.old.retries (L.failures link.old) (L.failures link.new)
+        result × L.lacks link.new id
         × (L.is_sure link.old (towards transactions.old.route) → IsNotLost result) }
     ensures stays_sure { (path : Path) → L.is_sure link.old path → L.is_sure link.new path }
     // A question changes nothing.
-    ensures kept { (id : Id) (extent : AnyExtent) →
-        L.is_sure link.old (towards transactions.old.route) → AsksFor id extent request.now → L.keeps link.old link.new }
+    ensures kept { (id : Id) (extent : AnyExtent)
+        → L.is_sure link.old (towards transactions.old.route) → AsksFor id extent request.now
+        → L.keeps link.old link.new }
 {
     let mut datagram = Datagram::new();
     let Ok(()) = transactions.pass(request, &mut datagram) else {

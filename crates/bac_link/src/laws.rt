@@ -5,7 +5,8 @@ ghost use Rattle.std.specs.Prelude.{◌≡◌, ℕ, ◌≤◌, List};
 ghost use Rattle.bac_wire.specs.Primitive.{Id};
 ghost use Rattle.bac_link.specs.Client.{AnswersTellApart, CallsAreEvents};
 ghost use Rattle.bac_link.specs.Delivery.{History, Moment};
-ghost use Rattle.bac_link.specs.Growing.{Standing, StaysHonest, StaysHonestWhere, HistoriesGoOn, HonestStaysHonest, StandingStaysHonest};
+ghost use Rattle.bac_link.specs.Growing.{Standing, StaysHonest, StaysHonestWhere, HistoriesGoOn};
+ghost use Rattle.bac_link.specs.Growing.{HonestStaysHonest, StandingStaysHonest};
 ghost use Rattle.bac_link.specs.Honest.{IsHonest, IsHonestWhere, HonestWhereItStands};
 ghost use Rattle.bac_link.specs.Laws.{CanBeJoined, CanBeResumed, DeliversEachOnce};
 ghost use Rattle.bac_link.specs.Links.{TellsOurs};
@@ -34,20 +35,27 @@ pub fn asks_tell_ours<L: LogLink>()
 {}
 
 /// Where each ask is answered by the standard a link is honest, as long as it is asked: from the
-/// moments on that any function tells of it, or at which it is ours. And where it is honest each ask
-/// is so answered.
+/// moments on that any function tells of it, or at which it is ours. And where it is honest each
+/// ask is so answered.
 pub fn links_are_honest<L: LogLink>()
-    ensures told { (moments : L → List Moment) → HonestWhereItStands L.asks (λ link M. moments link ≡ M) }
-    ensures ours { (log : Id) (r : ℕ) (H : History) → HonestWhereItStands L.asks (λ link M. L.is_ours link log r M H) }
-    ensures goes_on { (path : Path) (log : Id) (count : ℕ) (H : History) (low : ℕ) → IsHonestWhere L.asks path log count H low (λ link M. IsHonest L.asks path log count H low link M) }
+    ensures told { (moments : L → List Moment)
+        → HonestWhereItStands L.asks (λ link M. moments link ≡ M) }
+    ensures ours { (log : Id) (r : ℕ) (H : History)
+        → HonestWhereItStands L.asks (λ link M. L.is_ours link log r M H) }
+    ensures goes_on { (path : Path) (log : Id) (count : ℕ) (H : History) (low : ℕ)
+        → IsHonestWhere L.asks path log count H low
+        (λ link M. IsHonest L.asks path log count H low link M) }
 {}
 
-/// A link whose log goes on stays honest for so many asks more where each of them is answered by the
-/// standard: from where any function tells that it stands, for as many asks as another tells. One
-/// that is honest at moments known before stays honest, too.
+/// A link whose log goes on stays honest for so many asks more where each of them is answered by
+/// the standard: from where any function tells that it stands, for as many asks as another tells.
+/// One that is honest at moments known before stays honest, too.
 pub fn links_stay_honest<L: LogLink>()
-    ensures told { (standing : L → Standing) (most : L → ℕ) → StandingStaysHonest L.asks (λ more link at. (standing link ≡ at) × (more ≤ most link)) }
-    ensures goes_on { (path : Path) (log : Id) (count low : ℕ) → StaysHonestWhere L.asks path log count low (λ more link at. StaysHonest L.asks path log count low more link at) }
+    ensures told { (standing : L → Standing) (most : L → ℕ)
+        → StandingStaysHonest L.asks (λ more link at. (standing link ≡ at) × (more ≤ most link)) }
+    ensures goes_on { (path : Path) (log : Id) (count low : ℕ)
+        → StaysHonestWhere L.asks path log count low
+        (λ more link at. StaysHonest L.asks path log count low more link at) }
     ensures honest { HonestStaysHonest L.asks }
 {}
 

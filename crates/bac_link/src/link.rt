@@ -55,17 +55,19 @@ pub trait LogLink {
         ensures asked { asks self.old request.now result self.new }
         ensures never_falls { failures self.old ≤ failures self.new }
         ensures lost { OnErr result (RisesBy 1 (failures self.old) (failures self.new)) }
-        ensures ours { (id : Id) (r : ℕ) (M : List Moment) (H : History) (extent : AnyExtent) (path : Path) (invoke : ℕ) →
-            is_ours self.old id r M H → IsQuestion id extent path invoke request.now →
-            IsAsked (λ N. is_ours self.new id r N H) r M H id extent path invoke result }
+        ensures ours { (id : Id) (r : ℕ) (M : List Moment) (H : History) (extent : AnyExtent)
+            (path : Path) (invoke : ℕ) → is_ours self.old id r M H
+            → IsQuestion id extent path invoke request.now
+            → IsAsked (λ N. is_ours self.new id r N H) r M H id extent path invoke result }
         ensures lacking { (id : Id) (extent : AnyExtent) (path : Path) (invoke : ℕ) →
             lacks self.old id → IsQuestion id extent path invoke request.now →
             IsAskedOfNone path invoke result × lacks self.new id }
         ensures stays_sure { (path : Path) → is_sure self.old path → is_sure self.new path }
         ensures answered { (id : Id) (extent : AnyExtent) (path : Path) (invoke : ℕ) →
             is_sure self.old path → IsQuestion id extent path invoke request.now → IsOk result }
-        ensures kept { (id : Id) (extent : AnyExtent) (path : Path) (invoke : ℕ) →
-            is_sure self.old path → IsQuestion id extent path invoke request.now → keeps self.old self.new };
+        ensures kept { (id : Id) (extent : AnyExtent) (path : Path) (invoke : ℕ)
+            → is_sure self.old path → IsQuestion id extent path invoke request.now
+            → keeps self.old self.new };
 
     /// A reply has room for a record at least, and the moments are those of one log, whose history
     /// has their entries.

@@ -6,7 +6,9 @@ ghost use Rattle.bac_apdu.specs.Adding.{Adds};
 ghost use Rattle.bac_apdu.specs.Npdu.{maybe_place_of};
 ghost use Rattle.bac_apdu.specs.Route.{IsWay};
 ghost use Rattle.bac_link.specs.Path.{towards};
-ghost use Rattle.bac_link.specs.Requests.{service_of, parameters_of, has_result as has_result_of, hops_to, request_apdu, request_octets, IsSendable, IsTooLong};
+ghost use Rattle.bac_link.specs.Requests.{service_of, parameters_of, has_result as has_result_of};
+ghost use Rattle.bac_link.specs.Requests.{hops_to, request_apdu, request_octets, IsSendable};
+ghost use Rattle.bac_link.specs.Requests.{IsTooLong};
 
 use bac_apdu::choice::{READ_PROPERTY, READ_RANGE, WRITE_PROPERTY};
 use bac_apdu::{
@@ -93,8 +95,8 @@ fn hops_to(dest: Option<Far>) -> u8
     }
 }
 
-/// Writes the datagram that carries the request to one device, in place of what `out` holds: on this
-/// network, or at a place behind a router. Nothing else is cleared or moved for it.
+/// Writes the datagram that carries the request to one device, in place of what `out` holds: on
+/// this network, or at a place behind a router. Nothing else is cleared or moved for it.
 #[tactic(auto, unfolding(crate::specs::Requests::request_octets))]
 pub(crate) fn write_request(
     out: &mut Datagram,
@@ -104,7 +106,8 @@ pub(crate) fn write_request(
 ) -> Result<(), Full>
     requires sendable { IsSendable request.now }
     requires way { IsWay (maybe_place_of dest) }
-    ensures ok { OnOk result (out.new ≡ request_octets (towards (maybe_place_of dest.entry)) invoke request.now) }
+    ensures ok { OnOk result
+        (out.new ≡ request_octets (towards (maybe_place_of dest.entry)) invoke request.now) }
     ensures full { IsErr result ↔ IsTooLong request.now }
 {
     let npdu = Npdu {

@@ -5,7 +5,8 @@ ghost use Rattle.bac_apdu.specs.Npdu.{maybe_place_of};
 ghost use Rattle.bac_apdu.specs.Route.{IsWay};
 ghost use Rattle.bac_link.specs.Path.{towards};
 ghost use Rattle.bac_link.specs.Requests.{request_octets, next_invoke, IsSendable, IsTooLong};
-ghost use Rattle.bac_link.specs.Transactions.{begun_with, closed, is_awaited as is_awaited_by, Receives, TimesOut};
+ghost use Rattle.bac_link.specs.Transactions.{begun_with, closed, is_awaited as is_awaited_by};
+ghost use Rattle.bac_link.specs.Transactions.{Receives, TimesOut};
 
 use crate::answer::{Answer, answer_in, answers};
 use crate::request::{Request, write_request};
@@ -66,7 +67,8 @@ pub struct Transactions {
 impl Transactions {
     /// None begun, each to be repeated so many times.
     pub fn new(retries: u8) -> Transactions
-        ensures { result ≡ record { retries = retries; route = None; invoke = 0; begun = 0; pending = None } }
+        ensures { result
+            ≡ record { retries = retries; route = None; invoke = 0; begun = 0; pending = None } }
     {
         Transactions {
             retries,
@@ -79,7 +81,8 @@ impl Transactions {
 
     /// The same with a device behind a router: each request has its place as DNET and DADR.
     pub fn through(retries: u8, route: Route) -> Transactions
-        ensures { result ≡ record { retries = retries; route = Some route; invoke = 0; begun = 0; pending = None } }
+        ensures { result ≡ record
+            { retries = retries; route = Some route; invoke = 0; begun = 0; pending = None } }
     {
         let mut transactions = Transactions::new(retries);
         transactions.route = Some(route);
@@ -133,7 +136,8 @@ impl Transactions {
     /// then nothing changes.
     pub fn begin(&mut self, request: &Request) -> Result<Datagram, Full>
         requires { IsSendable request.now }
-        ensures datagram { IfOk result (λ d. d ≡ request_octets (towards self.old.route) (next_invoke self.old.invoke) request.now) }
+        ensures datagram { IfOk result (λ d. d ≡ request_octets (towards self.old.route)
+            (next_invoke self.old.invoke) request.now) }
         ensures way { IsWay self.old.route }
         ensures opened { IfOk result (λ d. self.new ≡ begun_with request.now self.old) }
         ensures full { IsErr result ↔ IsTooLong request.now }
@@ -148,12 +152,14 @@ impl Transactions {
         Ok(datagram)
     }
 
-    /// Counts a request as begun and nothing as open, and writes its datagram in place of what `out`
-    /// holds: what `begin` and `close` do, without a copy of the datagram. After `Full` it isn't said
-    /// what `out` holds.
+    /// Counts a request as begun and nothing as open, and writes its datagram in place of what
+    /// `out` holds: what `begin` and `close` do, without a copy of the datagram. After `Full` it
+    /// isn't said what `out` holds.
     pub(crate) fn pass(&mut self, request: &Request, out: &mut Datagram) -> Result<(), Full>
         requires { IsSendable request.now }
-        ensures datagram { OnOk result (out.new ≡ request_octets (towards self.old.route) (next_invoke self.old.invoke) request.now) }
+        ensures datagram { OnOk result (out.new
+            ≡ request_octets (towards self.old.route) (next_invoke self.old.invoke)
+            request.now) }
         ensures way { IsWay self.old.route }
         ensures passed { OnOk result (self.new ≡ closed (begun_with request.now self.old)) }
         ensures full { IsErr result ↔ IsTooLong request.now }

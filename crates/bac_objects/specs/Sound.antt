@@ -21,8 +21,8 @@ pub record IsClocked (origin clock : CivilTime) : Type 0 where
   pub shown : IsCivilTime clock
   pub since : ticks_of origin ≤ ticks_of clock
 
--- Its instance isn't the one that stands for all devices, its replies fit into a datagram, its clock goes on, each Trend
--- Log and no other object has records, and those of each are what a log can hold.
+-- Its instance isn't the one that stands for all devices, its replies fit into a datagram, its clock goes on, each
+-- Trend Log and no other object has records, and those of each are what a log can hold.
 pub record IsSound (d : State) : Type 0 where
   pub instance : d.instance ≤ 4194302
   pub least_reply : 50 ≤ d.reply_size

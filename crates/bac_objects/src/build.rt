@@ -1,11 +1,15 @@
 //! Building a device of lines.
 
-ghost use Rattle.std.specs.Prelude.{◌≡◌, ◌<◌, ◌++◌, ◌∷◌, [], map, None, OnOk, IfOk, IfErr, IfSome, IsTrue};
+ghost use Rattle.std.specs.Prelude.{◌≡◌, ◌<◌, ◌++◌, ◌∷◌, [], map, None, OnOk, IfOk, IfErr, IfSome};
+ghost use Rattle.std.specs.Prelude.{IsTrue};
 ghost use Rattle.std.specs.List.{list_any};
 ghost use Rattle.std.specs.Map.{lookup};
 ghost use Rattle.std.specs.Str.{bytes_eq};
 ghost use Rattle.indexmap.specs.IndexSet.{insert_key};
-ghost use Rattle.bac_objects.specs.Build.{Builds, Finds, body_of, build_fault, device_fault, entry_of, first_of, has_id, has_name, id_of, instance_of, is_control, is_name, line_tests, log_tests, objects_fault, own_tests};
+ghost use Rattle.bac_objects.specs.Build.{Builds, Finds, body_of, build_fault, device_fault};
+ghost use Rattle.bac_objects.specs.Build.{entry_of, first_of, has_id, has_name, id_of, instance_of};
+ghost use Rattle.bac_objects.specs.Build.{is_control, is_name, line_tests, log_tests};
+ghost use Rattle.bac_objects.specs.Build.{objects_fault, own_tests};
 ghost use Rattle.bac_objects.specs.Kept.{AreObjects, IsBody};
 ghost use Rattle.bac_objects.specs.Misfit.{IsFirstFaulty};
 ghost use Rattle.bac_objects.specs.Sound.{IsSound};
@@ -194,7 +198,8 @@ impl ObjectLine {
     /// What the object is. A log takes memory for all its records.
     fn body(&self, alloc: Global) -> Result<Body, BuildFault>
         ensures ok { IfOk result (λ body. body ≡ body_of self.now) }
-        ensures kept { IfOk result (λ body. instance_of self.now < 4194304 → IsBody (id_of self.now) body) }
+        ensures kept { IfOk result
+            (λ body. instance_of self.now < 4194304 → IsBody (id_of self.now) body) }
         ensures err { IfErr result (λ fault. fault ≡ BuildFault.Memory) }
     {
         match self {
@@ -268,7 +273,8 @@ fn note<'a>(
     name: &'a str,
 ) -> bool
     ensures ids { IsTrue result → ids.new.keys ≡ insert_key is_id ids.old.keys id }
-    ensures names { IsTrue result → names.new.keys ≡ insert_key (λ a b. bytes_eq a.now b.now) names.old.keys name.entry }
+    ensures names { IsTrue result
+        → names.new.keys ≡ insert_key (λ a b. bytes_eq a.now b.now) names.old.keys name.entry }
 {
     ids.insert(id).is_ok() && names.insert(name).is_ok()
 }

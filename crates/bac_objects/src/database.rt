@@ -47,9 +47,26 @@ impl Model for Database {
 
     ghost Value = { State };
 
-    ghost view = { λ d. record { instance = d.instance; name = d.name; vendor = d.vendor; reply_size = d.reply_size; origin = d.origin; clock = d.clock; objects = d.objects.entries } };
+    ghost view = { λ d. record {
+      instance = d.instance;
+      name = d.name;
+      vendor = d.vendor;
+      reply_size = d.reply_size;
+      origin = d.origin;
+      clock = d.clock;
+      objects = d.objects.entries;
+    } };
 
-    ghost invariant = { λ d. IsSound (record { instance = d.instance; name = d.name; vendor = d.vendor; reply_size = d.reply_size; origin = d.origin; clock = d.clock; objects = d.objects.entries }) × AreObjects d.objects.entries × AreQuiet (ticks_of d.origin) (ticks_of d.clock) d.due d.objects.entries };
+    ghost invariant = { λ d. IsSound (record {
+      instance = d.instance;
+      name = d.name;
+      vendor = d.vendor;
+      reply_size = d.reply_size;
+      origin = d.origin;
+      clock = d.clock;
+      objects = d.objects.entries;
+    }) × AreObjects d.objects.entries
+        × AreQuiet (ticks_of d.origin) (ticks_of d.clock) d.due d.objects.entries };
 }
 
 impl Database {
@@ -61,7 +78,8 @@ impl Database {
     ) -> Result<Database, AllocError>
         requires line { device_fault line.now ≡ None }
         requires objects { AreObjects objects.entries }
-        ensures ok { IfOk result (λ device. device ≡ record (built line.now []) { objects = objects.entries }) }
+        ensures ok { IfOk result
+            (λ device. device ≡ record (built line.now []) { objects = objects.entries }) }
         ensures sound { IfOk result IsSound }
     {
         Ok(Database {

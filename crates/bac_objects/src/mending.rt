@@ -5,7 +5,8 @@ ghost use Rattle.std.specs.List.{find};
 ghost use Rattle.std.specs.Option.{option_map};
 ghost use Rattle.std.specs.Str.{bytes_eq};
 ghost use Rattle.bac_objects.specs.Build.{build_fault, name_of};
-ghost use Rattle.bac_objects.specs.Misfit.{IsMisfit, device_line, earlier_named, namesake_of, object_line};
+ghost use Rattle.bac_objects.specs.Misfit.{IsMisfit, device_line, earlier_named, namesake_of};
+ghost use Rattle.bac_objects.specs.Misfit.{object_line};
 
 use crate::build::{BuildFault, Faulty, Misfit, first_faulty};
 use crate::database::DEVICE;
@@ -38,7 +39,8 @@ impl ObjectLine {
 
 /// The first of these lines with this name.
 fn first_named(lines: &[ObjectLine], name: &[u8]) -> Option<LineId>
-    ensures { result ≡ option_map object_line (find (λ line. bytes_eq name.now (name_of line)) lines.now) }
+    ensures { result
+        ≡ option_map object_line (find (λ line. bytes_eq name.now (name_of line)) lines.now) }
 {
     for line in lines {
         if name == line.name().octets() {
@@ -61,7 +63,8 @@ fn earlier_named(device: &DeviceLine, before: &[ObjectLine], name: &[u8]) -> Opt
 impl Faulty<'_> {
     /// The line that has the same name, if that is the fault.
     fn namesake(&self, device: &DeviceLine) -> Option<LineId>
-        ensures { result ≡ namesake_of self.now.fault device.now self.now.before.now self.now.line.now }
+        ensures { result
+            ≡ namesake_of self.now.fault device.now self.now.before.now self.now.line.now }
     {
         match self.fault {
             BuildFault::DuplicateName => {

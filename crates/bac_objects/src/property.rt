@@ -5,7 +5,8 @@ ghost use Rattle.std.specs.Option.{option_map};
 ghost use Rattle.bac_wire.specs.Primitive.{Bits, Chars};
 ghost use Rattle.bac_wire.specs.View.{IsWellFormed, view};
 ghost use Rattle.bac_objects.specs.Bits.{services_supported, types_supported};
-ghost use Rattle.bac_objects.specs.Properties.{body_rows, command_rows, device_table, further, log_rows, object_table, row};
+ghost use Rattle.bac_objects.specs.Properties.{body_rows, command_rows, device_table, further};
+ghost use Rattle.bac_objects.specs.Properties.{log_rows, object_table, row};
 ghost use Rattle.bac_objects.specs.Reading.{CanBeWritten, shown_of};
 
 use crate::command::{Command, Range, Setting};

@@ -5,7 +5,9 @@ ghost use Rattle.std.specs.Option.{option_map};
 ghost use Rattle.bac_wire.specs.Primitive.{Object};
 ghost use Rattle.bac_wire.specs.View.{IsWellFormed, view};
 ghost use Rattle.bac_objects.specs.Properties.{Array, object_list, slot_value};
-ghost use Rattle.bac_objects.specs.Reading.{Appends, CanBeWritten, elements, elements_of, fitted, read_of, reference_octets, shown_of, told, values_octets};
+ghost use Rattle.bac_objects.specs.Reading.{Appends, CanBeWritten, elements, elements_of, fitted};
+ghost use Rattle.bac_objects.specs.Reading.{read_of, reference_octets, shown_of, told};
+ghost use Rattle.bac_objects.specs.Reading.{values_octets};
 
 use crate::command::{Setting, slot_value};
 use crate::database::Database;

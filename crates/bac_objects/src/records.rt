@@ -48,7 +48,8 @@ impl Object {
 impl Database {
     /// Why the device itself has no records.
     fn device_refusal(&self, request: &ReadRange) -> Fault
-        ensures { result ≡ device_refusal (checked (row request.now.property (device_table self.now)) request.now.index) }
+        ensures { result ≡ device_refusal
+            (checked (row request.now.property (device_table self.now)) request.now.index) }
     {
         match checked(&self.property(request.property), request.index) {
             Ok(()) => Fault::NotList,

@@ -10,7 +10,9 @@ ghost use Rattle.bac_objects.specs.Kept.{KeepsBody};
 ghost use Rattle.bac_objects.specs.Sound.{IsSound};
 ghost use Rattle.bac_objects.specs.Properties.{device_table, row};
 ghost use Rattle.bac_objects.specs.Reading.{shown_of};
-ghost use Rattle.bac_objects.specs.Writing.{body_written, checked, command_written, enabled, is_array, log_written, object_written, priority_of, purged, records_written, refusal, setting_of, write_of};
+ghost use Rattle.bac_objects.specs.Writing.{body_written, checked, command_written, enabled};
+ghost use Rattle.bac_objects.specs.Writing.{is_array, log_written, object_written, priority_of};
+ghost use Rattle.bac_objects.specs.Writing.{purged, records_written, refusal, setting_of, write_of};
 
 use crate::command::{Command, Range, Setting};
 use crate::database::Database;
@@ -97,7 +99,8 @@ impl Command {
     /// Writes the present value at a priority.
     fn write(&mut self, write: &WriteProperty) -> Result<(), Fault>
         requires { IsPriority write.now.priority }
-        ensures { Leaves result self.old self.new (command_written (write_of_code write.now) self.old) }
+        ensures { Leaves result self.old self.new
+            (command_written (write_of_code write.now) self.old) }
     {
         let priority = priority_of(write);
         if write.property != PRESENT_VALUE || priority == MINIMUM_ON_OFF {
@@ -143,7 +146,8 @@ fn purge(log: &mut TrendLog, clock: Stamp, value: &Value) -> Result<(), Fault>
 impl Logger {
     /// Writes a property of a Trend Log.
     fn write(&mut self, clock: Stamp, write: &WriteProperty) -> Result<(), Fault>
-        ensures written { Leaves result self.old self.new (log_written clock (write_of_code write.now) self.old) }
+        ensures written { Leaves result self.old self.new
+            (log_written clock (write_of_code write.now) self.old) }
         ensures is_log { IsLog self.old.log → IsLog self.new.log }
         ensures interval { self.new.interval ≡ self.old.interval }
     {
@@ -159,7 +163,8 @@ impl Body {
     /// Writes a property that not every object has.
     fn write(&mut self, clock: Stamp, write: &WriteProperty) -> Result<(), Fault>
         requires { IsPriority write.now.priority }
-        ensures written { Leaves result self.old self.new (body_written clock (write_of_code write.now) self.old) }
+        ensures written { Leaves result self.old self.new
+            (body_written clock (write_of_code write.now) self.old) }
         ensures keeps { KeepsBody self.old self.new }
     {
         match self {
@@ -173,7 +178,8 @@ impl Object {
     /// Writes a property.
     fn write(&mut self, clock: Stamp, write: &WriteProperty) -> Result<(), Fault>
         requires { IsPriority write.now.priority }
-        ensures written { Leaves result self.old self.new (object_written clock (write_of_code write.now) self.old) }
+        ensures written { Leaves result self.old self.new
+            (object_written clock (write_of_code write.now) self.old) }
         ensures keeps { KeepsBody self.old.body self.new.body }
     {
         checked(&self.property(write.object, write.property), write.index)?;
@@ -184,7 +190,8 @@ impl Object {
 impl Database {
     /// Why the device itself refuses a write.
     fn refusal(&self, write: &WriteProperty) -> Fault
-        ensures { result ≡ refusal (checked (row write.now.property (device_table self.now)) write.now.index) }
+        ensures { result
+            ≡ refusal (checked (row write.now.property (device_table self.now)) write.now.index) }
     {
         match checked(&self.property(write.property), write.index) {
             Ok(()) => Fault::WriteDenied,
@@ -198,7 +205,8 @@ impl Database {
     /// sequence number for the record of the change (clause 15.9.2).
     pub fn write(&mut self, write: &WriteProperty) -> Result<(), Fault>
         requires { IsPriority write.now.priority }
-        ensures written { Leaves result self.old self.new (write_of self.old (write_of_code write.now)) }
+        ensures written { Leaves result self.old self.new
+            (write_of self.old (write_of_code write.now)) }
         ensures was_sound { IsSound self.old }
         ensures sound { IsSound self.new }
     {

@@ -1,5 +1,6 @@
 -- Links that answer from a record of what came to asks, one after the other. Read Takes and AreSaid, and then the laws.
-use Rattle.std.specs.Prelude.{◌≡◌, ℕ, ◌<◌, ◌≤◌, ◌⊎◌, true, false, Option, Some, None, Result, Err, List, [], ◌∷◌, length}
+use Rattle.std.specs.Prelude.{◌≡◌, ℕ, ◌<◌, ◌≤◌, ◌⊎◌, true, false, Option, Some, None, Result, Err, List, [], ◌∷◌}
+use Rattle.std.specs.Prelude.{length}
 use Rattle.bac_wire.specs.Primitive.{Id}
 use Rattle.bac_link.specs.declared.item.Item.{Item}
 use Rattle.bac_link.specs.declared.link.Lost.{Lost as Loss}

@@ -3,8 +3,8 @@
 
 ghost use Rattle.bac_play.specs.Play.{DryWantsMore, PlayedIsBrought, RecordsAreHonest};
 
-/// What a run over a link brought that isn't dry in the end is what the outcomes brought that it took
-/// from its record, whoever answered.
+/// What a run over a link brought that isn't dry in the end is what the outcomes brought that it
+/// took from its record, whoever answered.
 pub fn played_is_brought()
     ensures { PlayedIsBrought }
 {}
@@ -14,8 +14,8 @@ pub fn records_are_honest()
     ensures { RecordsAreHonest }
 {}
 
-/// What a run over a link wants that is dry in the end is the question of the place where the walk came
-/// by the outcomes that it took from its record.
+/// What a run over a link wants that is dry in the end is the question of the place where the walk
+/// came by the outcomes that it took from its record.
 pub fn dry_wants_more()
     ensures { DryWantsMore }
 {}

@@ -16,7 +16,8 @@ pub struct Outcome {
 impl Outcome {
     /// What came of it, if this was asked.
     fn answer_to(&self, request: &[u8]) -> Option<Result<Datagram, Lost>>
-        ensures { IfSome result (λ answer. self.now ≡ record { request = request.now; answer = answer }) }
+        ensures { IfSome result
+            (λ answer. self.now ≡ record { request = request.now; answer = answer }) }
     {
         if self.request.octets() == request {
             Some(self.answer())
@@ -35,9 +36,9 @@ impl Outcome {
     }
 }
 
-/// Answers each ask with the next outcome of a record, if that was asked. From the first ask on that
-/// isn't the next one of the record it is dry: it answers that no answer came, and keeps what was
-/// asked first then.
+/// Answers each ask with the next outcome of a record, if that was asked. From the first ask on
+/// that isn't the next one of the record it is dry: it answers that no answer came, and keeps what
+/// was asked first then.
 #[derive(Debug, Drop)]
 pub struct Play<'a> {
     outcomes: &'a [Outcome],

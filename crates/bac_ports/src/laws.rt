@@ -9,5 +9,6 @@ use crate::udp_link::UdpLink;
 /// datagram of the peer comes to it, and what it sends again after a time-out goes to the peer.
 /// What the exchange returns is the verdict on the answer that the client took.
 pub fn exchanges_are_runs<P: Port>()
-    ensures { ExchangesAreRuns P.sends P.receives (λ (link : UdpLink P). link.port) (λ (link : UdpLink P). link.peer) }
+    ensures { ExchangesAreRuns P.sends P.receives (λ (link : UdpLink P). link.port)
+        (λ (link : UdpLink P). link.peer) }
 {}

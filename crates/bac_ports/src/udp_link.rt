@@ -62,7 +62,8 @@ impl<P: Port> UdpLink<P> {
 
     /// The other half: waits for the answer to a request that was sent.
     pub fn hear(&mut self, request: &[u8]) -> Result<Datagram, Lost>
-        ensures awaits { Awaits P.receives self.old.peer request.now 16 self.old.port result self.new.port }
+        ensures awaits { Awaits P.receives self.old.peer request.now 16 self.old.port result
+            self.new.port }
         ensures peer { self.new.peer ≡ self.old.peer }
         ensures never_falls { self.old.failures ≤ self.new.failures }
         ensures fails { OnErr result (RisesBy 1 self.old.failures self.new.failures) }
@@ -89,14 +90,16 @@ impl<P: Port> LogLink for UdpLink<P> {
 
     // One send to the peer, and then at most 16 receives, up to the first datagram that is from the
     // peer and answers the request.
-    ghost asks = { λ old octets answer new. Asks P.sends P.receives old.peer octets 16 old.port answer new.port × (new.peer ≡ old.peer) };
+    ghost asks = { λ old octets answer new. Asks P.sends P.receives old.peer octets 16 old.port
+        answer new.port × (new.peer ≡ old.peer) };
 
     fn ask(&mut self, request: &[u8]) -> Result<Datagram, Lost>
         ensures never_falls { self.old.failures ≤ self.new.failures }
         ensures lost { OnErr result (RisesBy 1 self.old.failures self.new.failures) }
         ensures stays { OnOk result (self.new.failures ≡ self.old.failures) }
         ensures peer { self.new.peer ≡ self.old.peer }
-        ensures asks { Asks P.sends P.receives self.old.peer request.now 16 self.old.port result self.new.port }
+        ensures asks { Asks P.sends P.receives self.old.peer request.now 16 self.old.port result
+            self.new.port }
     {
         match self.send(request) {
             Ok(()) => self.hear(request),

@@ -1,5 +1,6 @@
 -- Texts of a device in Unicode (clause 20.2.9).
-use Rattle.std.specs.Prelude.{◌≡◌, ℕ, ◌*◌, ◌+◌, List, [], ◌∷◌, Option, None, Some, option_map, encode_utf8_all, IsUtf8, ◌≢◌}
+use Rattle.std.specs.Prelude.{◌≡◌, ℕ, ◌*◌, ◌+◌, List, [], ◌∷◌, Option, None, Some, option_map, encode_utf8_all, IsUtf8}
+use Rattle.std.specs.Prelude.{◌≢◌}
 use Rattle.std.specs.Char.{IsScalar}
 use Rattle.std.specs.List.{All}
 use Rattle.std.specs.String.{string_bytes}
@@ -27,8 +28,8 @@ abbrev pub IsOctetsText : {A : Type 0} → List ℕ → Option (String A) → Ty
 IsOctetsText octets (Some text) = string_bytes text ≡ encode_utf8_all octets
 IsOctetsText octets None = ⊥
 
--- Octets in a character set are this text: UTF-8 (0) as it is; UCS-2 (4) by pairs; and ISO 8859-1 (5) by octets, since its
--- characters are the first of Unicode. Of another set none is read.
+-- Octets in a character set are this text: UTF-8 (0) as it is; UCS-2 (4) by pairs; and ISO 8859-1 (5) by octets, since
+-- its characters are the first of Unicode. Of another set none is read.
 pub record IsTextOf {A : Type 0} (set : ℕ) (octets : List ℕ) (text : Option (String A)) : Type 0 where
   pub utf_8 : set ≡ 0 → IsUtf8Text octets text
   pub ucs_2 : set ≡ 4 → IsPairsText octets text

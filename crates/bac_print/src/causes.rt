@@ -1,7 +1,11 @@
 //! What the numbers of a refusal mean, by the standard's tables (clauses 18 and 21).
 
 ghost use Rattle.std.specs.Prelude.{◌≡◌, slice_index_or, []};
-ghost use Rattle.bac_print.specs.Causes.{abort_reasons, error_code_text, error_codes_0, error_codes_1, error_codes_2, error_codes_3, error_codes_4, error_codes_5, error_codes_6, error_codes_7, error_codes_8, error_codes_9, reject_reasons};
+ghost use Rattle.bac_print.specs.Causes.{abort_reasons, error_code_text, error_codes_0};
+ghost use Rattle.bac_print.specs.Causes.{error_codes_1, error_codes_2, error_codes_3};
+ghost use Rattle.bac_print.specs.Causes.{error_codes_4, error_codes_5, error_codes_6};
+ghost use Rattle.bac_print.specs.Causes.{error_codes_7, error_codes_8, error_codes_9};
+ghost use Rattle.bac_print.specs.Causes.{reject_reasons};
 
 /// The error codes from 0 to 13.
 const ERROR_CODES_0: [&str; 14] = [

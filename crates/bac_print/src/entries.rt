@@ -3,7 +3,8 @@
 ghost use Rattle.std.specs.Prelude.{◌≡◌, ◌∷◌, [], ◌++◌, OnOk, codes, decimal};
 ghost use Rattle.std.specs.Int.{w32, to_be_bytes};
 ghost use Rattle.bac_print.specs.Numbers.{called, called_hex};
-ghost use Rattle.bac_print.specs.Entries.{datum_text, first_bits, entry_text, flags_text, gap_line, record_line};
+ghost use Rattle.bac_print.specs.Entries.{datum_text, first_bits, entry_text, flags_text, gap_line};
+ghost use Rattle.bac_print.specs.Entries.{record_line};
 
 use crate::moments::{push_head, push_moment};
 use crate::numbers::{
@@ -16,7 +17,8 @@ use std::alloc::AllocError;
 
 /// Appends a bit string of at most 32 bits, the first of them the highest of `bits`.
 fn push_bit_string(text: &mut Vec<u8>, count: u8, bits: u32) -> Result<(), AllocError>
-    ensures { OnOk result (text.new.items ≡ text.old.items ++ called (codes "bits") (first_bits count (to_be_bytes w32 bits))) }
+    ensures { OnOk result (text.new.items
+        ≡ text.old.items ++ called (codes "bits") (first_bits count (to_be_bytes w32 bits))) }
 {
     let unused = 32usize.saturating_sub(usize::from(count));
     push_called_bits(text, "bits", &bits.to_be_bytes(), unused)
@@ -24,7 +26,8 @@ fn push_bit_string(text: &mut Vec<u8>, count: u8, bits: u32) -> Result<(), Alloc
 
 /// Appends a log-status.
 fn push_status(text: &mut Vec<u8>, bits: u8) -> Result<(), AllocError>
-    ensures { OnOk result (text.new.items ≡ text.old.items ++ called (codes "status") (first_bits 3 (bits ∷ []))) }
+    ensures { OnOk result
+        (text.new.items ≡ text.old.items ++ called (codes "status") (first_bits 3 (bits ∷ []))) }
 {
     text.extend_from_slice(&[
         b's',
@@ -118,7 +121,8 @@ pub fn push_entry(text: &mut Vec<u8>, entry: &Entry) -> Result<(), AllocError>
 /// Appends a blank, the status flags and a line feed.
 #[tactic(auto, unfolding(crate::specs::Entries::flags_text))]
 fn push_last_flags(text: &mut Vec<u8>, flags: Option<u8>) -> Result<(), AllocError>
-    ensures { OnOk result (text.new.items ≡ text.old.items ++ (32 ∷ (flags_text flags ++ 10 ∷ []))) }
+    ensures { OnOk result
+        (text.new.items ≡ text.old.items ++ (32 ∷ (flags_text flags ++ 10 ∷ []))) }
 {
     match flags {
         Some(flags) => text.extend_from_slice(&[
@@ -136,7 +140,8 @@ fn push_last_flags(text: &mut Vec<u8>, flags: Option<u8>) -> Result<(), AllocErr
 /// Appends a log-status without status flags, and a line feed.
 #[tactic(auto, unfolding(crate::specs::Entries::datum_text, crate::specs::Entries::flags_text))]
 fn push_lone_status(text: &mut Vec<u8>, bits: u8) -> Result<(), AllocError>
-    ensures { OnOk result (text.new.items ≡ text.old.items ++ (called (codes "status") (first_bits 3 (bits ∷ [])) ++ (32 ∷ (45 ∷ 10 ∷ [])))) }
+    ensures { OnOk result (text.new.items ≡ text.old.items
+        ++ (called (codes "status") (first_bits 3 (bits ∷ [])) ++ (32 ∷ (45 ∷ 10 ∷ [])))) }
 {
     text.extend_from_slice(&[
         b's',
@@ -159,7 +164,8 @@ fn push_lone_status(text: &mut Vec<u8>, bits: u8) -> Result<(), AllocError>
 /// Appends what was logged, the status flags and a line feed.
 #[tactic(auto, unfolding(crate::specs::Entries::datum_text, crate::specs::Entries::flags_text))]
 fn push_logged(text: &mut Vec<u8>, datum: &Datum, flags: Option<u8>) -> Result<(), AllocError>
-    ensures { OnOk result (text.new.items ≡ text.old.items ++ (datum_text datum.now ++ (32 ∷ (flags_text flags ++ 10 ∷ [])))) }
+    ensures { OnOk result (text.new.items
+        ≡ text.old.items ++ (datum_text datum.now ++ (32 ∷ (flags_text flags ++ 10 ∷ [])))) }
 {
     if let (Datum::LogStatus(bits), None) = (datum, flags) {
         return push_lone_status(text, *bits);

@@ -2,7 +2,8 @@
 
 ghost use Rattle.std.specs.Prelude.{◌≡◌, ◌<◌, ◌+◌, ◌/◌, ◌%◌, ◌∷◌, [], ◌++◌, OnOk, decimal};
 ghost use Rattle.bac_wire.specs.Stamp.{date_octets, time_octets};
-ghost use Rattle.bac_print.specs.Moments.{date_text, day_text, part_text, time_text, weekday_text, year_text};
+ghost use Rattle.bac_print.specs.Moments.{date_text, day_text, part_text, time_text, weekday_text};
+ghost use Rattle.bac_print.specs.Moments.{year_text};
 
 use crate::numbers::{push_number, push_two_digits};
 use bac_wire::{Date4, Time4};
@@ -79,7 +80,8 @@ pub(crate) fn push_time(text: &mut Vec<u8>, time: Time4) -> Result<(), AllocErro
 
 /// Appends `YYYY-MM-DDTHH:MM:SS.hh`.
 pub fn push_moment(text: &mut Vec<u8>, date: Date4, time: Time4) -> Result<(), AllocError>
-    ensures { OnOk result (text.new.items ≡ text.old.items ++ (day_text (date_octets date) ++ (84 ∷ time_text (time_octets time)))) }
+    ensures { OnOk result (text.new.items ≡ text.old.items
+        ++ (day_text (date_octets date) ++ (84 ∷ time_text (time_octets time)))) }
 {
     push_day(text, date)?;
     text.extend_from_slice(b"T")?;
@@ -121,7 +123,9 @@ fn push_plain_head(
     requires minute { time.minute < 100 }
     requires second { time.second < 100 }
     requires hundredth { time.hundredth < 100 }
-    ensures { OnOk result (text.new.items ≡ text.old.items ++ (decimal number ++ (32 ∷ (day_text (date_octets date) ++ (84 ∷ (time_text (time_octets time) ++ 32 ∷ [])))))) }
+    ensures { OnOk result (text.new.items ≡ text.old.items
+        ++ (decimal number ++ (32 ∷ (day_text (date_octets date)
+        ++ (84 ∷ (time_text (time_octets time) ++ 32 ∷ [])))))) }
 {
     let year = 1900 + date.year as u16;
     let century = pair((year / 100) as u8);
@@ -179,7 +183,9 @@ pub(crate) fn push_head(
     date: Date4,
     time: Time4,
 ) -> Result<(), AllocError>
-    ensures { OnOk result (text.new.items ≡ text.old.items ++ (decimal number ++ (32 ∷ (day_text (date_octets date) ++ (84 ∷ (time_text (time_octets time) ++ 32 ∷ [])))))) }
+    ensures { OnOk result (text.new.items ≡ text.old.items
+        ++ (decimal number ++ (32 ∷ (day_text (date_octets date)
+        ++ (84 ∷ (time_text (time_octets time) ++ 32 ∷ [])))))) }
 {
     if date.year < UNSPECIFIED && date.month < 100 && date.day < 100 {
         if time.hour < 100 && time.minute < 100 && time.second < 100 && time.hundredth < 100 {

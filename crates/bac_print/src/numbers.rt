@@ -4,7 +4,8 @@ ghost use Rattle.std.specs.Prelude.{◌≡◌, ◌++◌, ◌∷◌, [], ◌≤�
 ghost use Rattle.std.specs.Fmt.{signed_decimal};
 ghost use Rattle.hex.specs.Hex.{encode_lower};
 ghost use Rattle.bac_wire.specs.Number.{bit, octet_bits, bits_of};
-ghost use Rattle.bac_print.specs.Numbers.{bit_digit, bit_digits, called, called_hex, called_two, counted, two_digits};
+ghost use Rattle.bac_print.specs.Numbers.{bit_digit, bit_digits, called, called_hex, called_two};
+ghost use Rattle.bac_print.specs.Numbers.{counted, two_digits};
 
 use std::alloc::AllocError;
 
@@ -75,7 +76,8 @@ fn push_all_bits(text: &mut Vec<u8>, octets: &[u8]) -> Result<(), AllocError>
 /// Appends the bits of octets, but for so many at the end.
 pub(crate) fn push_bits(text: &mut Vec<u8>, octets: &[u8], unused: usize) -> Result<(), AllocError>
     requires { unused ≤ 8 * length octets.now }
-    ensures { OnOk result (text.new.items ≡ text.old.items ++ bit_digits (take (8 * length octets.now - unused) (bits_of octets.now))) }
+    ensures { OnOk result (text.new.items ≡ text.old.items
+        ++ bit_digits (take (8 * length octets.now - unused) (bits_of octets.now))) }
 {
     push_all_bits(text, octets)?;
     text.truncate(text.len() - unused);
@@ -130,7 +132,9 @@ pub(crate) fn push_called_bits(
     unused: usize,
 ) -> Result<(), AllocError>
     requires { unused ≤ 8 * length octets.now }
-    ensures { OnOk result (text.new.items ≡ text.old.items ++ called word.now (bit_digits (take (8 * length octets.now - unused) (bits_of octets.now)))) }
+    ensures { OnOk result (text.new.items ≡ text.old.items
+        ++ called word.now
+        (bit_digits (take (8 * length octets.now - unused) (bits_of octets.now)))) }
 {
     text.extend_from_slice(word.as_bytes())?;
     text.extend_from_slice(b"(")?;

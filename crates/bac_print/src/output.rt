@@ -32,7 +32,8 @@ fn write_again<W: Write>(writer: &mut W, text: &[u8]) -> Result<usize>
 /// Writes the text, or a front part of it.
 pub fn write_text<W: Write>(writer: &mut W, text: &[u8]) -> std::result::Result<(), WriteRefused>
     ensures ok { OnOk result (Appends (W.contents writer.old) (W.contents writer.new) text.now) }
-    ensures err { OnErr result (AppendsPart (W.contents writer.old) (W.contents writer.new) text.now) }
+    ensures err { OnErr result
+        (AppendsPart (W.contents writer.old) (W.contents writer.new) text.now) }
 {
     let mut rest = text;
     while !rest.is_empty() {

@@ -1,6 +1,7 @@
 //! Texts of a device, in Unicode.
 
-ghost use Rattle.std.specs.Prelude.{◌≡◌, ◌+◌, ◌*◌, ◌<◌, ◌∷◌, IfOk, IfSome, IfNone, length, encode_utf8_all};
+ghost use Rattle.std.specs.Prelude.{◌≡◌, ◌+◌, ◌*◌, ◌<◌, ◌∷◌, IfOk, IfSome, IfNone, length};
+ghost use Rattle.std.specs.Prelude.{encode_utf8_all};
 ghost use Rattle.std.specs.Char.{IsScalar};
 ghost use Rattle.std.specs.String.{string_bytes};
 ghost use Rattle.bac_print.specs.Texts.{IsPairsText, IsTextOf};

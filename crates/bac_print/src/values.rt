@@ -7,7 +7,8 @@ ghost use Rattle.bac_wire.specs.View.{view, IsWellFormed};
 ghost use Rattle.bac_wire.specs.Stamp.{date_octets, time_octets};
 ghost use Rattle.bac_print.specs.Numbers.{called};
 ghost use Rattle.bac_print.specs.Moments.{date_text, time_text};
-ghost use Rattle.bac_print.specs.Values.{boolean_text, chars_text, is_plain, is_special, value_text};
+ghost use Rattle.bac_print.specs.Values.{boolean_text, chars_text, is_plain, is_special};
+ghost use Rattle.bac_print.specs.Values.{value_text};
 
 use crate::moments::{push_date, push_time};
 use crate::numbers::{
@@ -77,7 +78,8 @@ pub(crate) fn push_boolean(text: &mut Vec<u8>, flag: bool) -> Result<(), AllocEr
 
 /// Appends a date.
 fn push_date_value(text: &mut Vec<u8>, date: Date4) -> Result<(), AllocError>
-    ensures { OnOk result (text.new.items ≡ text.old.items ++ called (codes "date") (date_text (date_octets date))) }
+    ensures { OnOk result
+        (text.new.items ≡ text.old.items ++ called (codes "date") (date_text (date_octets date))) }
 {
     text.extend_from_slice(b"date(")?;
     push_date(text, date)?;
@@ -86,7 +88,8 @@ fn push_date_value(text: &mut Vec<u8>, date: Date4) -> Result<(), AllocError>
 
 /// Appends a time.
 fn push_time_value(text: &mut Vec<u8>, time: Time4) -> Result<(), AllocError>
-    ensures { OnOk result (text.new.items ≡ text.old.items ++ called (codes "time") (time_text (time_octets time))) }
+    ensures { OnOk result
+        (text.new.items ≡ text.old.items ++ called (codes "time") (time_text (time_octets time))) }
 {
     text.extend_from_slice(b"time(")?;
     push_time(text, time)?;

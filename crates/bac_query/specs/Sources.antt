@@ -1,5 +1,6 @@
 -- What a trend log logs, its Log_DeviceObjectProperty: a BACnetDeviceObjectPropertyReference (clause 21), and its text.
-use Rattle.std.specs.Prelude.{ℕ, List, [], ◌∷◌, ◌++◌, codes, decimal, if◌then◌else◌, Option, Some, None, Result, Ok, Err}
+use Rattle.std.specs.Prelude.{ℕ, List, [], ◌∷◌, ◌++◌, codes, decimal, if◌then◌else◌, Option, Some, None, Result, Ok}
+use Rattle.std.specs.Prelude.{Err}
 use Rattle.bac_wire.specs.Chain.{◌>>=◌}
 use Rattle.bac_wire.specs.Next.{value_next}
 use Rattle.bac_wire.specs.Primitive.{Id, Primitive, Unsigned, Enumerated, Object}
@@ -39,7 +40,8 @@ abbrev pub ended_at : Reference → List ℕ → Result Reference WireFault
 ended_at reference [] = Ok reference
 ended_at reference (octet ∷ octets) = Err BadLength
 
--- the four, one after the other: types 12, 9, 2 and 12 are Object Identifier, Enumerated, Unsigned and Object Identifier
+-- the four, one after the other: types 12, 9, 2 and 12 are Object Identifier, Enumerated, Unsigned and Object
+-- Identifier
 unfoldable pub reference_at : List ℕ → Result Reference WireFault
 reference_at octets = do
   object ← tagged_at 0 12 octets
@@ -88,4 +90,5 @@ object_text id = codes "object(" ++ (decimal id.kind ++ (44 ∷ (decimal id.inst
 -- object(TYPE,INSTANCE).PROPERTY, and behind it the index and the device
 unfoldable pub source_text : Source → List ℕ
 source_text source =
-    object_text source.object ++ (46 ∷ (decimal source.property ++ (index_text source.index ++ device_text source.device)))
+    object_text source.object
+    ++ (46 ∷ (decimal source.property ++ (index_text source.index ++ device_text source.device)))

@@ -1,5 +1,6 @@
 -- What a device tells of its trend logs (clause 12.25), and the table that is printed of it. Read from the end.
-use Rattle.std.specs.Prelude.{◌≡◌, ◌≢◌, ◌⊎◌, ◌<◌, ◌+◌, ◌^◌, ◌==◌, ℕ, zero, suc, if◌then◌else◌, List, [], ◌∷◌, ◌++◌, codes}
+use Rattle.std.specs.Prelude.{◌≡◌, ◌≢◌, ◌⊎◌, ◌<◌, ◌+◌, ◌^◌, ◌==◌, ℕ, zero, suc, if◌then◌else◌, List, [], ◌∷◌, ◌++◌}
+use Rattle.std.specs.Prelude.{codes}
 use Rattle.std.specs.Prelude.{decimal, Option, Some, None, Result, Ok, Err}
 use Rattle.bac_apdu.specs.declared.service.read_property.ReadProperty.{ReadProperty}
 use Rattle.bac_wire.specs.Primitive.{Id, Primitive, Object, Unsigned}
@@ -37,7 +38,8 @@ abbrev pub client : {S : Type 0} → S → Transactions → Client S
 client link transactions = record { link = link; transactions = transactions }
 
 -- a property is asked for by the next transaction, and as often again as its retries say: an ACK came, or why none did
-abbrev pub Questions : {S : Type 0} → Ask S → ReadProperty → Client S → Result (List ℕ) ExchangeFault → Client S → Type 0
+abbrev pub Questions : {S : Type 0} → Ask S → ReadProperty → Client S → Result (List ℕ) ExchangeFault → Client S
+    → Type 0
 Questions asks question old answer new =
     Exchanges asks (towards old.transactions.route) (next_invoke old.transactions.invoke)
     (request.ReadProperty question) old.transactions.retries old.link answer new.link
@@ -45,8 +47,8 @@ Questions asks question old answer new =
 
 -- ---- a log, a line
 
--- the properties in the order of the columns: Object_Name, Log_DeviceObjectProperty, Enable, Logging_Type, Log_Interval,
--- Record_Count, Buffer_Size, Total_Record_Count, Stop_When_Full
+-- the properties in the order of the columns: Object_Name, Log_DeviceObjectProperty, Enable, Logging_Type,
+-- Log_Interval, Record_Count, Buffer_Size, Total_Record_Count, Stop_When_Full
 abbrev pub columns : List ℕ
 columns = 77 ∷ 132 ∷ 133 ∷ 197 ∷ 134 ∷ 141 ∷ 126 ∷ 145 ∷ 144 ∷ []
 
@@ -138,7 +140,8 @@ PrintsObject asks object old result new had has =
     ⊎ ((object.kind ≢ 20) × EndsSo (Ok tt) old result new had has)
 
 -- what came to the question for a place: an object
-abbrev pub PrintsTold : {S : Type 0} → Ask S → Result (List ℕ) ExchangeFault → Client S → Answer → Client S → Held → Held → Type 0
+abbrev pub PrintsTold : {S : Type 0} → Ask S → Result (List ℕ) ExchangeFault → Client S → Answer → Client S → Held
+    → Held → Type 0
 PrintsTold asks (Err fault) old result new had has = EndsSo (Err (Exchange fault)) old result new had has
 PrintsTold asks (Ok datagram) old result new had has =
     ((object : Id) × (told_object datagram ≡ Ok (Object object)) × PrintsObject asks object old result new had has)
@@ -166,7 +169,8 @@ TellsCount datagram count =
     × ((octets : List ℕ) × (values_in (apdu_in datagram) ≡ Some octets) × Spells octets (Unsigned count))
 
 -- what came to the question for how many places there are
-abbrev pub PrintsCounted : {S : Type 0} → Ask S → Result (List ℕ) ExchangeFault → Client S → Answer → Client S → Held → Held → Type 0
+abbrev pub PrintsCounted : {S : Type 0} → Ask S → Result (List ℕ) ExchangeFault → Client S → Answer → Client S → Held
+    → Held → Type 0
 PrintsCounted asks (Err fault) old result new had has = EndsSo (Err (Exchange fault)) old result new had has
 PrintsCounted asks (Ok datagram) old result new had has =
     ((count : ℕ) × TellsCount datagram count × PrintsPlaces asks 1 count old result new had has)

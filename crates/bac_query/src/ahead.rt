@@ -77,14 +77,19 @@ impl<'a, P: Port, W: Write> Ahead<'a, P, W> {
         }
     }
 
-    /// Prints the text of what is left, with one write. If there is no memory for it, it stays left.
+    /// Prints the text of what is left, with one write. If there is no memory for it, it stays
+    /// left.
     pub(crate) fn print_left(&mut self) -> Result<(), QueryFault>
-        ensures prints { self.old.is_refused ≡ false →
-            PrintsLeft self.old.layout self.old.left.now.items result (W.contents self.old.out.now) (W.contents self.new.out.now) }
-        ensures refused { self.old.is_refused ≡ true →
-            (result ≡ Err QueryFault.Write) × Keeps (W.contents self.old.out.now) (W.contents self.new.out.now) }
-        ensures on { PrintsOn (pending self.old.layout self.old.is_refused self.old.left.now.items (W.contents self.old.out.now))
-            (pending self.new.layout self.new.is_refused self.new.left.now.items (W.contents self.new.out.now)) }
+        ensures prints { self.old.is_refused ≡ false
+            → PrintsLeft self.old.layout self.old.left.now.items result
+            (W.contents self.old.out.now) (W.contents self.new.out.now) }
+        ensures refused { self.old.is_refused ≡ true
+            → (result ≡ Err QueryFault.Write)
+            × Keeps (W.contents self.old.out.now) (W.contents self.new.out.now) }
+        ensures on { PrintsOn (pending self.old.layout self.old.is_refused self.old.left.now.items
+            (W.contents self.old.out.now))
+            (pending self.new.layout self.new.is_refused self.new.left.now.items
+            (W.contents self.new.out.now)) }
         ensures none { OnOk result (self.new.left.now.items ≡ []) }
         ensures layout { self.new.layout ≡ self.old.layout }
         ensures well { OnOk result (self.new.is_refused ≡ false) }
@@ -121,7 +126,8 @@ impl<'a, P: Port, W: Write> Ahead<'a, P, W> {
 
     /// Prints the line of a walk's end; rows have none.
     pub(crate) fn end(&mut self, why: Why, next: u32) -> Result<Fetched, QueryFault>
-        ensures prints { PrintsEnd self.old.layout why next result (W.contents self.old.out.now) (W.contents self.new.out.now) }
+        ensures prints { PrintsEnd self.old.layout why next result (W.contents self.old.out.now)
+            (W.contents self.new.out.now) }
         ensures more { TellsMore self.old.said_more result }
         ensures link { self.new.link.now ≡ self.old.link.now }
         ensures flaw { self.new.flaw ≡ self.old.flaw }
@@ -144,7 +150,8 @@ impl<'a, P: Port, W: Write> Ahead<'a, P, W> {
     /// the end is that, and the next number the one that is told.
     pub(crate) fn finish(&mut self, why: Why, next: u32, told: u32) -> Result<Fetched, QueryFault>
         requires { self.old.is_refused ≡ false }
-        ensures prints { PrintsLast self.old.layout self.old.left.now.items why next told result (W.contents self.old.out.now) (W.contents self.new.out.now) }
+        ensures prints { PrintsLast self.old.layout self.old.left.now.items why next told result
+            (W.contents self.old.out.now) (W.contents self.new.out.now) }
         ensures more { TellsMore self.old.said_more result }
         ensures link { self.new.link.now ≡ self.old.link.now }
         ensures flaw { self.new.flaw ≡ self.old.flaw }
@@ -171,8 +178,10 @@ impl<'a, P: Port, W: Write> LogLink for Ahead<'a, P, W> {
     ghost keeps = { λ a b. a ≡ b };
 
     // An ask over its link; what was left is printed beside it, and the answer is kept.
-    ghost asks = { λ old octets answer new. port_asks P.sends P.receives old.link.now octets answer new.link.now
-        × PrintsOn (pending old.layout old.is_refused old.left.now.items (W.contents old.out.now)) (pending new.layout new.is_refused new.left.now.items (W.contents new.out.now))
+    ghost asks = { λ old octets answer new. port_asks P.sends P.receives old.link.now octets answer
+        new.link.now × PrintsOn
+        (pending old.layout old.is_refused old.left.now.items (W.contents old.out.now))
+        (pending new.layout new.is_refused new.left.now.items (W.contents new.out.now))
         × (new.link.ghost_name ≡ old.link.ghost_name) × (new.out.ghost_name ≡ old.out.ghost_name)
         × (new.last ≡ result_ok answer) };
 
@@ -224,7 +233,8 @@ impl Sink for Reply {
 
 /// Appends a gap, if there is one, and the record after it; false if memory runs out.
 fn push_put(items: &mut Vec<Item>, gap: Option<Gap>, item: Numbered) -> bool
-    ensures { result ≡ true → items.new.items ≡ items.old.items ++ (gap_items gap ++ item_of item ∷ []) }
+    ensures { result ≡ true
+        → items.new.items ≡ items.old.items ++ (gap_items gap ++ item_of item ∷ []) }
 {
     if let Some(gap) = gap {
         let gap = Item::Gap {

@@ -3,7 +3,8 @@
 ghost use Rattle.std.specs.Prelude.{◌≡◌};
 ghost use Rattle.bac_apdu.specs.Npdu.{header_of};
 ghost use Rattle.bac_wire.specs.OptionChain.{GivesSome};
-ghost use Rattle.bac_query.specs.Announcements.{announced as announced_by, announced_at, announced_in, announcement_of, is_heard};
+ghost use Rattle.bac_query.specs.Announcements.{announced as announced_by, announced_at};
+ghost use Rattle.bac_query.specs.Announcements.{announced_in, announcement_of, is_heard};
 
 use bac_apdu::choice::I_AM;
 use bac_apdu::{Apdu, Far, Frame, IAm, Npdu, read_apdu, read_frame, read_npdu};

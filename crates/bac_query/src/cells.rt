@@ -6,7 +6,9 @@ ghost use Rattle.bac_wire.specs.Primitive.{Primitive};
 ghost use Rattle.bac_wire.specs.Spelling.{Spells};
 ghost use Rattle.bac_wire.specs.View.{view, IsWellFormed};
 ghost use Rattle.bac_link.specs.Datagrams.{apdu_in};
-ghost use Rattle.bac_query.specs.Cells.{Answers, ShowsAck, ShowsOctets, ShowsOne, ShowsSource, cell_text, enumerated_text, seconds_text, type_text, unsigned_text};
+ghost use Rattle.bac_query.specs.Cells.{Answers, ShowsAck, ShowsOctets, ShowsOne, ShowsSource};
+ghost use Rattle.bac_query.specs.Cells.{cell_text, enumerated_text, seconds_text, type_text};
+ghost use Rattle.bac_query.specs.Cells.{unsigned_text};
 ghost use Rattle.bac_query.specs.Reading.{values_in};
 
 use crate::fault::QueryFault;
@@ -97,7 +99,8 @@ fn push_cell(text: &mut Vec<u8>, property: u32, value: &Value) -> Result<(), All
 /// The one value that octets are.
 pub(crate) fn only_value(octets: &[u8]) -> Option<Value<'_>>
     ensures found { IfSome result (λ value. Spells octets.now (view value)) }
-    ensures only { (value : Primitive) → Spells octets.now value → IsSomeAnd result (λ found. view found ≡ value) }
+    ensures only { (value : Primitive) → Spells octets.now value
+        → IsSomeAnd result (λ found. view found ≡ value) }
     ensures well_formed { IfSome result IsWellFormed }
 {
     let Ok((value, len)) = read_value(octets) else {
@@ -112,7 +115,8 @@ pub(crate) fn only_value(octets: &[u8]) -> Option<Value<'_>>
 
 /// Appends the one value that octets are.
 fn push_one(text: &mut Vec<u8>, property: u32, octets: &[u8]) -> Result<(), AllocError>
-    ensures { OnOk result ((cell : List ℕ) × ShowsOne property octets.now cell × (text.new.items ≡ text.old.items ++ cell)) }
+    ensures { OnOk result ((cell : List ℕ) × ShowsOne property octets.now cell
+        × (text.new.items ≡ text.old.items ++ cell)) }
 {
     match only_value(octets) {
         Some(value) => push_cell(text, property, &value),
@@ -122,7 +126,8 @@ fn push_one(text: &mut Vec<u8>, property: u32, octets: &[u8]) -> Result<(), Allo
 
 /// Appends the reference that octets are.
 fn push_reference(text: &mut Vec<u8>, octets: &[u8]) -> Result<(), AllocError>
-    ensures { OnOk result ((cell : List ℕ) × ShowsSource octets.now cell × (text.new.items ≡ text.old.items ++ cell)) }
+    ensures { OnOk result ((cell : List ℕ) × ShowsSource octets.now cell
+        × (text.new.items ≡ text.old.items ++ cell)) }
 {
     match source_in(octets) {
         Ok(source) => push_source(text, source),
@@ -132,7 +137,8 @@ fn push_reference(text: &mut Vec<u8>, octets: &[u8]) -> Result<(), AllocError>
 
 /// Appends what octets are.
 fn push_octets(text: &mut Vec<u8>, property: u32, octets: &[u8]) -> Result<(), AllocError>
-    ensures { OnOk result ((cell : List ℕ) × ShowsOctets property octets.now cell × (text.new.items ≡ text.old.items ++ cell)) }
+    ensures { OnOk result ((cell : List ℕ) × ShowsOctets property octets.now cell
+        × (text.new.items ≡ text.old.items ++ cell)) }
 {
     if property == SOURCE {
         return push_reference(text, octets);
@@ -142,7 +148,9 @@ fn push_octets(text: &mut Vec<u8>, property: u32, octets: &[u8]) -> Result<(), A
 
 /// Appends the values of an ACK to the question for a property.
 fn push_ack(text: &mut Vec<u8>, property: u32, datagram: &[u8]) -> Result<(), AllocError>
-    ensures { OnOk result ((cell : List ℕ) × ShowsAck property (values_in (apdu_in datagram.now)) cell × (text.new.items ≡ text.old.items ++ cell)) }
+    ensures { OnOk result ((cell : List ℕ)
+        × ShowsAck property (values_in (apdu_in datagram.now)) cell
+        × (text.new.items ≡ text.old.items ++ cell)) }
 {
     match values_in(datagram) {
         Some(octets) => push_octets(text, property, octets),

@@ -4,7 +4,8 @@ ghost use Rattle.std.specs.Prelude.{◌≡◌, ◌++◌, ◌∷◌, [], List, So
 ghost use Rattle.csv.specs.Writing.{default_writer, row_text};
 ghost use Rattle.bac_print.specs.Entries.{datum_text, flags_text};
 ghost use Rattle.bac_values.specs.Numbers.{value_of};
-ghost use Rattle.bac_query.specs.Rows.{AreFields, AreRows, IsRow, IsValueText, gap_text, names_row, stamp_text};
+ghost use Rattle.bac_query.specs.Rows.{AreFields, AreRows, IsRow, IsValueText, gap_text, names_row};
+ghost use Rattle.bac_query.specs.Rows.{stamp_text};
 
 use crate::items::number_before;
 use bac_link::Item;
@@ -87,7 +88,9 @@ impl Fields {
 
     /// Takes an item.
     fn take(&mut self, item: &Item) -> Result<(), AllocError>
-        ensures { OnOk result (AreFields item.now (self.new.number.items ∷ self.new.stamp.items ∷ self.new.value.items ∷ self.new.datum.items ∷ self.new.flags.items ∷ [])) }
+        ensures { OnOk result (AreFields item.now
+            (self.new.number.items ∷ self.new.stamp.items ∷ self.new.value.items
+            ∷ self.new.datum.items ∷ self.new.flags.items ∷ [])) }
     {
         match item {
             Item::Gap { first, before } => self.take_gap(*first, number_before(*before)),
@@ -120,7 +123,8 @@ fn push_value(text: &mut Vec<u8>, value: f64) -> Result<(), AllocError>
 
 /// The text of a row of these fields, in the memory of another text.
 fn row_of(mut text: Vec<u8>, fields: &[&[u8]]) -> Result<Vec<u8>, AllocError>
-    ensures { IfOk result (λ text. text.items ≡ row_text default_writer (map (λ f. f.now) fields.now)) }
+    ensures { IfOk result
+        (λ text. text.items ≡ row_text default_writer (map (λ f. f.now) fields.now)) }
 {
     text.clear();
     let mut writer = Writer::from_writer(text);
@@ -159,7 +163,8 @@ pub(crate) fn names_row(alloc: Global) -> Result<Vec<u8>, AllocError>
 
 /// Appends the rows of items, one after the other.
 pub(crate) fn push_rows(alloc: Global, text: &mut Vec<u8>, items: &[Item]) -> Result<(), AllocError>
-    ensures { OnOk result ((rows : List _) × AreRows items.now rows × (text.new.items ≡ text.old.items ++ rows)) }
+    ensures { OnOk result
+        ((rows : List _) × AreRows items.now rows × (text.new.items ≡ text.old.items ++ rows)) }
 {
     let mut fields = Fields::new(alloc);
     let mut row = Vec::new(alloc);

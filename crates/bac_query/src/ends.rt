@@ -1,7 +1,8 @@
 //! The line that says how a walk ended.
 
 ghost use Rattle.std.specs.Prelude.{◌≡◌, ◌++◌, OnOk};
-ghost use Rattle.bac_query.specs.Ends.{advice, cause_text, end_line, named, numbered_word, refusal_text, why_text};
+ghost use Rattle.bac_query.specs.Ends.{advice, cause_text, end_line, named, numbered_word};
+ghost use Rattle.bac_query.specs.Ends.{refusal_text, why_text};
 
 use bac_link::Refusal;
 use bac_print::{abort_reason_name, error_code_name, push_number, reject_reason_name};
@@ -10,7 +11,8 @@ use std::alloc::AllocError;
 
 /// What is told where the answer to a question for an array is too long.
 const TOO_LONG: &str =
-    ": the answer is too long for one datagram; an array can be read in parts, with --index=0 and on";
+    ": the answer is too long for one datagram; an array can be read in parts, with --index=0 \
+     and on";
 
 /// Appends a word and a number after a blank.
 fn push_numbered(text: &mut Vec<u8>, word: &[u8], n: u64) -> Result<(), AllocError>

@@ -12,7 +12,8 @@ ghost use Rattle.bac_walk.specs.Sinks.{IsRun};
 ghost use Rattle.bac_walk.specs.Told.{Told};
 ghost use Rattle.bac_walk.specs.Transacted.{BroughtBy};
 ghost use Rattle.bac_walk.specs.declared.outcome.Ended.{Ended as EndedOf};
-ghost use Rattle.bac_query.specs.Fetching.{Delivers, EndsAs, FetchesBy, FetchesOver, IsFetched, PrintsEnd, PrintsItems};
+ghost use Rattle.bac_query.specs.Fetching.{Delivers, EndsAs, FetchesBy, FetchesOver, IsFetched};
+ghost use Rattle.bac_query.specs.Fetching.{PrintsEnd, PrintsItems};
 ghost use Rattle.bac_query.specs.Reading.{Prints};
 ghost use Rattle.bac_query.specs.declared.layout.Layout.TheVariants.{Lines as InLines};
 
@@ -53,18 +54,22 @@ pub fn fetch_log<L: LogLink, W: Write>(
 ) -> Result<Fetched, QueryFault>
     // What is printed are the lines of items, and the line that says how their run ended: so many
     // steps, or what the last exchange told. Over a link of ours the items are what the log holds.
-    ensures printed { (items : List Item) × PrintsItems InLines items result (W.contents out.old) (W.contents out.new)
+    ensures printed { (items : List Item)
+        × PrintsItems InLines items result (W.contents out.old) (W.contents out.new)
         × Delivers (λ r M H. L.is_ours link.old walk.log r M H) walk steps items result
-        × ((n : ℕ) × (ended : EndedOf) × (after : WalkPlace) × EndsAs InLines items steps n ended after result (W.contents out.old) (W.contents out.new)
-        × IsFetched (λ r M H. L.is_ours link.old walk.log r M H) transactions.old.retries (L.failures link.old) (L.failures link.new) walk after n ended items
-        × Told L.asks (towards transactions.old.route) transactions.old.retries ended after link.new) }
+        × ((n : ℕ) × (ended : EndedOf) × (after : WalkPlace)
+        × EndsAs InLines items steps n ended after result (W.contents out.old)
+        (W.contents out.new) × IsFetched (λ r M H. L.is_ours link.old walk.log r M H)
+        transactions.old.retries (L.failures link.old) (L.failures link.new) walk after n
+        ended items × Told L.asks (towards transactions.old.route) transactions.old.retries
+        ended after link.new) }
     // Over any link, whoever answers, they are the lines of what the replies brought that came over
     // it from here on; and if these say what one log holds, of what it held.
     ensures came { FetchesOver L.asks (towards transactions.old.route) transactions.old.retries
         link.old walk steps result link.new (W.contents out.old) (W.contents out.new) }
     // Each of those replies came to the next transaction, and none is open after it.
-    ensures transacted { FetchesBy L.asks transactions.old link.old walk steps result transactions.new link.new
-        (W.contents out.old) (W.contents out.new) }
+    ensures transacted { FetchesBy L.asks transactions.old link.old walk steps result
+        transactions.new link.new (W.contents out.old) (W.contents out.new) }
     ensures flaw { IfOk result (λ fetched. fetched.flaw ≡ None) }
     ensures said_more { IfOk result (λ fetched. fetched.said_more ≡ false) }
 {
@@ -95,16 +100,20 @@ fn deliver_lines<L: LogLink>(
     ensures never_falls { L.failures link.old ≤ L.failures link.new }
     ensures retries { transactions.new.retries ≡ transactions.old.retries }
     ensures route { transactions.new.route ≡ transactions.old.route }
-    ensures told { Told L.asks (towards transactions.old.route) transactions.old.retries result walk.new link.new }
+    ensures told { Told L.asks (towards transactions.old.route) transactions.old.retries result
+        walk.new link.new }
     ensures log { walk.new.log ≡ walk.old.log }
     ensures count { walk.new.count ≡ walk.old.count }
-    ensures step { (items : List Item) × (result ≢ Ended.Stopped → lines.new.text.items ≡ items_text items)
-        × IsRun (λ r M H. L.is_ours link.old walk.old.log r M H) (λ r M H. L.is_ours link.new walk.old.log r M H)
-        transactions.old.retries (L.failures link.old) (L.failures link.new) walk.old walk.new 1 result items
+    ensures step { (items : List Item)
+        × (result ≢ Ended.Stopped → lines.new.text.items ≡ items_text items)
+        × IsRun (λ r M H. L.is_ours link.old walk.old.log r M H)
+        (λ r M H. L.is_ours link.new walk.old.log r M H) transactions.old.retries
+        (L.failures link.old) (L.failures link.new) walk.old walk.new 1 result items
         × (length items ≤ 101) × (result ≡ Ended.StepLimit → 1 ≤ length items) }
-    ensures came { (items : List Item) × (result ≢ Ended.Stopped → lines.new.text.items ≡ items_text items)
-        × ((came : List Came) × BroughtBy L.asks transactions.old link.old walk.old 1 came items result
-        walk.new transactions.new link.new) }
+    ensures came { (items : List Item)
+        × (result ≢ Ended.Stopped → lines.new.text.items ≡ items_text items)
+        × ((came : List Came) × BroughtBy L.asks transactions.old link.old walk.old 1 came items
+        result walk.new transactions.new link.new) }
 {
     lines.text.clear();
     deliver(link, transactions, walk, 1, lines)

@@ -1,12 +1,15 @@
-//! Fetching the records of a trend log, whose lines are printed while the next answer is waited for.
+//! Fetching the records of a trend log, whose lines are printed while the next answer is waited
+//! for.
 
-ghost use Rattle.std.specs.Prelude.{◌≡◌, ◌≢◌, ◌≤◌, ◌+◌, ◌*◌, [], false, List, Option, None, IfOk, OnOk};
+ghost use Rattle.std.specs.Prelude.{◌≡◌, ◌≢◌, ◌≤◌, ◌+◌, ◌*◌, [], false, List, Option, None, IfOk};
+ghost use Rattle.std.specs.Prelude.{OnOk};
 ghost use Rattle.bac_link.specs.Path.{towards};
 ghost use Rattle.bac_link.specs.declared.item.Item.{Item as ItemOf};
 ghost use Rattle.bac_walk.specs.declared.outcome.Ended.{Ended as EndedOf};
 ghost use Rattle.bac_walk.specs.declared.flaw.ReplyFlaw.{ReplyFlaw as FlawOf};
 ghost use Rattle.bac_walk.specs.declared.outcome.WalkFault.{WalkFault as FaultOf};
-ghost use Rattle.bac_query.specs.Ahead.{FetchesAhead, IsRunOver, PrintsLeft, PrintsOn, PrintsRun, pending, port_asks};
+ghost use Rattle.bac_query.specs.Ahead.{FetchesAhead, IsRunOver, PrintsLeft, PrintsOn, PrintsRun};
+ghost use Rattle.bac_query.specs.Ahead.{pending, port_asks};
 ghost use Rattle.bac_query.specs.Flaws.{IsBadlyFetched, IsFlawed, TellsFlaw, last_flaw, with_flaw};
 
 use crate::ahead::{Ahead, Reply};
@@ -26,8 +29,8 @@ use std::io::Write;
 /// written once the next question is sent, while its answer is on its way. If a write is refused,
 /// the records of the reply after it have come too; if there is no memory for the lines of a reply,
 /// the next number is the one before it. Of a bad reply it tells what is wrong, and of a walk that
-/// is caught up whether the last reply with records said that more is there. As CSV there are rows in
-/// place of lines, and no line at the end; the row of names is
+/// is caught up whether the last reply with records said that more is there. As CSV there are rows
+/// in place of lines, and no line at the end; the row of names is
 /// [`begin_layout`](crate::begin_layout)'s.
 pub fn fetch_log_ahead<P: Port, W: Write>(
     alloc: Global,
@@ -40,17 +43,19 @@ pub fn fetch_log_ahead<P: Port, W: Write>(
 ) -> Result<Fetched, QueryFault>
     // What is printed are the lines of items, and the line that says how their run ended: so many
     // steps, or what the last exchange told.
-    ensures printed { PrintsRun layout (port_asks P.sends P.receives) (towards transactions.old.route) transactions.old.retries
-        walk steps result link.old.failures link.new.failures link.new (W.contents out.old) (W.contents out.new) }
+    ensures printed { PrintsRun layout (port_asks P.sends P.receives)
+        (towards transactions.old.route) transactions.old.retries walk steps result
+        link.old.failures link.new.failures link.new (W.contents out.old) (W.contents out.new) }
     // Over any port, whoever answers, they are the lines of what the replies brought that came over
-    // it from here on, each to the next transaction; and if these say what one log holds, of what it
-    // held.
-    ensures came { FetchesAhead layout (port_asks P.sends P.receives) transactions.old
-        link.old walk steps result transactions.new link.new (W.contents out.old) (W.contents out.new) }
+    // it from here on, each to the next transaction; and if these say what one log holds, of what
+    // it held.
+    ensures came { FetchesAhead layout (port_asks P.sends P.receives) transactions.old link.old walk
+        steps result transactions.new link.new (W.contents out.old) (W.contents out.new) }
     // At most two transactions a step are begun.
     ensures begun { transactions.new.begun ≤ transactions.old.begun + 2 * steps }
     // If the walk ended with a bad reply, and only then, this is wrong with that reply.
-    ensures flaw { TellsFlaw (port_asks P.sends P.receives) (towards transactions.old.route) transactions.old.retries walk.log result link.new }
+    ensures flaw { TellsFlaw (port_asks P.sends P.receives) (towards transactions.old.route)
+        transactions.old.retries walk.log result link.new }
 {
     let mut left = Vec::new(alloc);
     let mut lines = Lines {
@@ -71,13 +76,16 @@ fn fetch_told<P: Port, W: Write>(
     requires well { ahead.old.is_refused ≡ false }
     requires none { ahead.old.left.now.items ≡ [] }
     requires unsaid { ahead.old.said_more ≡ false }
-    ensures printed { PrintsRun ahead.old.layout (port_asks P.sends P.receives) (towards transactions.old.route) transactions.old.retries
-        walk steps result ahead.old.link.now.failures ahead.new.link.now.failures ahead.new.link.now
+    ensures printed { PrintsRun ahead.old.layout (port_asks P.sends P.receives)
+        (towards transactions.old.route) transactions.old.retries walk steps result
+        ahead.old.link.now.failures ahead.new.link.now.failures ahead.new.link.now
         (W.contents ahead.old.out.now) (W.contents ahead.new.out.now) }
     ensures came { FetchesAhead ahead.old.layout (port_asks P.sends P.receives) transactions.old
-        ahead.old.link.now walk steps result transactions.new ahead.new.link.now (W.contents ahead.old.out.now) (W.contents ahead.new.out.now) }
+        ahead.old.link.now walk steps result transactions.new ahead.new.link.now
+        (W.contents ahead.old.out.now) (W.contents ahead.new.out.now) }
     ensures begun { transactions.new.begun ≤ transactions.old.begun + 2 * steps }
-    ensures flaw { TellsFlaw (port_asks P.sends P.receives) (towards transactions.old.route) transactions.old.retries walk.log result ahead.new.link.now }
+    ensures flaw { TellsFlaw (port_asks P.sends P.receives) (towards transactions.old.route)
+        transactions.old.retries walk.log result ahead.new.link.now }
     ensures same_link { ahead.new.link.ghost_name ≡ ahead.old.link.ghost_name }
     ensures same_out { ahead.new.out.ghost_name ≡ ahead.old.out.ghost_name }
 {
@@ -113,14 +121,17 @@ fn fetch<P: Port, W: Write>(
     requires well { ahead.old.is_refused ≡ false }
     requires none { ahead.old.left.now.items ≡ [] }
     requires unsaid { ahead.old.said_more ≡ false }
-    ensures printed { PrintsRun ahead.old.layout (port_asks P.sends P.receives) (towards transactions.old.route) transactions.old.retries
-        walk steps result ahead.old.link.now.failures ahead.new.link.now.failures ahead.new.link.now
+    ensures printed { PrintsRun ahead.old.layout (port_asks P.sends P.receives)
+        (towards transactions.old.route) transactions.old.retries walk steps result
+        ahead.old.link.now.failures ahead.new.link.now.failures ahead.new.link.now
         (W.contents ahead.old.out.now) (W.contents ahead.new.out.now) }
     ensures came { FetchesAhead ahead.old.layout (port_asks P.sends P.receives) transactions.old
-        ahead.old.link.now walk steps result transactions.new ahead.new.link.now (W.contents ahead.old.out.now) (W.contents ahead.new.out.now) }
+        ahead.old.link.now walk steps result transactions.new ahead.new.link.now
+        (W.contents ahead.old.out.now) (W.contents ahead.new.out.now) }
     ensures begun { transactions.new.begun ≤ transactions.old.begun + 2 * steps }
-    ensures flaw { IfOk result (λ fetched. fetched.why ≡ Why.Fault FaultOf.BadReply →
-        IsBadlyFetched (port_asks P.sends P.receives) (towards transactions.old.route) transactions.old.retries walk.log fetched.next ahead.new.flaw ahead.new.link.now) }
+    ensures flaw { IfOk result (λ fetched. fetched.why ≡ Why.Fault FaultOf.BadReply
+        → IsBadlyFetched (port_asks P.sends P.receives) (towards transactions.old.route)
+        transactions.old.retries walk.log fetched.next ahead.new.flaw ahead.new.link.now) }
     ensures same_link { ahead.new.link.ghost_name ≡ ahead.old.link.ghost_name }
     ensures same_out { ahead.new.out.ghost_name ≡ ahead.old.out.ghost_name }
 {
@@ -157,16 +168,20 @@ fn turn<P: Port, W: Write>(
     reply: &mut Reply,
 ) -> Result<Ended, QueryFault>
     requires { ahead.old.is_refused ≡ false }
-    ensures ran { (ended : EndedOf) × (items : List ItemOf) × IfOk result (λ is. (is ≡ ended) × (ended ≢ Ended.Stopped → ahead.new.left.now.items ≡ items))
-        × IsRunOver (port_asks P.sends P.receives) transactions.old
-        ahead.old.link.now walk.old 1 items ended walk.new transactions.new ahead.new.link.now
-        ahead.old.said_more ahead.new.said_more }
-    ensures prints { PrintsLeft ahead.old.layout ahead.old.left.now.items result (W.contents ahead.old.out.now) (W.contents ahead.new.out.now) }
+    ensures ran { (ended : EndedOf) × (items : List ItemOf)
+        × IfOk result
+        (λ is. (is ≡ ended) × (ended ≢ Ended.Stopped → ahead.new.left.now.items ≡ items))
+        × IsRunOver (port_asks P.sends P.receives) transactions.old ahead.old.link.now walk.old 1
+        items ended walk.new transactions.new ahead.new.link.now ahead.old.said_more
+        ahead.new.said_more }
+    ensures prints { PrintsLeft ahead.old.layout ahead.old.left.now.items result
+        (W.contents ahead.old.out.now) (W.contents ahead.new.out.now) }
     ensures well { OnOk result (ahead.new.is_refused ≡ false) }
     ensures layout { ahead.new.layout ≡ ahead.old.layout }
     ensures begun { transactions.new.begun ≤ transactions.old.begun + 2 }
-    ensures flaw { IfOk result (λ ended. ended ≡ Ended.Fault FaultOf.BadReply →
-        IsFlawed (port_asks P.sends P.receives) (towards transactions.old.route) transactions.old.retries walk.new ahead.new.flaw ahead.new.link.now) }
+    ensures flaw { IfOk result (λ ended. ended ≡ Ended.Fault FaultOf.BadReply
+        → IsFlawed (port_asks P.sends P.receives) (towards transactions.old.route)
+        transactions.old.retries walk.new ahead.new.flaw ahead.new.link.now) }
     ensures log { walk.new.log ≡ walk.old.log }
     ensures retries { transactions.new.retries ≡ transactions.old.retries }
     ensures route { transactions.new.route ≡ transactions.old.route }
@@ -194,12 +209,16 @@ fn step<P: Port, W: Write>(
         × IsRunOver (port_asks P.sends P.receives) transactions.old
         ahead.old.link.now walk.old 1 items result walk.new transactions.new ahead.new.link.now
         ahead.old.said_more ahead.new.said_more }
-    ensures beside { PrintsOn (pending ahead.old.layout ahead.old.is_refused ahead.old.left.now.items (W.contents ahead.old.out.now))
-        (pending ahead.new.layout ahead.new.is_refused ahead.new.left.now.items (W.contents ahead.new.out.now))
-        × (ahead.new.link.ghost_name ≡ ahead.old.link.ghost_name) × (ahead.new.out.ghost_name ≡ ahead.old.out.ghost_name) }
+    ensures beside { PrintsOn (pending ahead.old.layout ahead.old.is_refused
+        ahead.old.left.now.items (W.contents ahead.old.out.now))
+        (pending ahead.new.layout ahead.new.is_refused ahead.new.left.now.items
+        (W.contents ahead.new.out.now))
+        × (ahead.new.link.ghost_name ≡ ahead.old.link.ghost_name)
+        × (ahead.new.out.ghost_name ≡ ahead.old.out.ghost_name) }
     ensures begun { transactions.new.begun ≤ transactions.old.begun + 2 }
-    ensures flaw { result ≡ Ended.Fault FaultOf.BadReply →
-        IsFlawed (port_asks P.sends P.receives) (towards transactions.old.route) transactions.old.retries walk.new ahead.new.flaw ahead.new.link.now }
+    ensures flaw { result ≡ Ended.Fault FaultOf.BadReply
+        → IsFlawed (port_asks P.sends P.receives) (towards transactions.old.route)
+        transactions.old.retries walk.new ahead.new.flaw ahead.new.link.now }
     ensures log { walk.new.log ≡ walk.old.log }
     ensures retries { transactions.new.retries ≡ transactions.old.retries }
     ensures route { transactions.new.route ≡ transactions.old.route }

@@ -48,7 +48,8 @@ pub fn find_devices<P: Port, W: Write>(
     search: &Search,
     out: &mut W,
 ) -> Result<(), FindFault>
-    ensures { Finds P.sends P.receives P.receives_within 4096 search.now addresses.now (console port.old (W.contents out.old)) result (console port.new (W.contents out.new)) }
+    ensures { Finds P.sends P.receives P.receives_within 4096 search.now addresses.now
+        (console port.old (W.contents out.old)) result (console port.new (W.contents out.new)) }
 {
     let datagram = datagram_of(search);
     let mut line = Vec::new(alloc);
@@ -94,7 +95,9 @@ fn seek<P: Port, W: Write>(
     line: &mut Vec<u8>,
     out: &mut W,
 ) -> Result<u32, FindFault>
-    ensures { Seeks P.sends P.receives P.receives_within octets.now addresses.now 4096 port.old (standing (W.contents out.old) seeking.old) result port.new (standing (W.contents out.new) seeking.new) }
+    ensures { Seeks P.sends P.receives P.receives_within octets.now addresses.now 4096 port.old
+        (standing (W.contents out.old) seeking.old) result port.new
+        (standing (W.contents out.new) seeking.new) }
 {
     let left = ask_each(octets, addresses, port, seeking, line, out)?;
     hear(None, 0, left, port, seeking, line, out)
@@ -111,7 +114,9 @@ fn ask_each<P: Port, W: Write>(
     line: &mut Vec<u8>,
     out: &mut W,
 ) -> Result<u32, FindFault>
-    ensures { Turns P.sends P.receives P.receives_within octets.now addresses.now 4096 port.old (standing (W.contents out.old) seeking.old) result port.new (standing (W.contents out.new) seeking.new) }
+    ensures { Turns P.sends P.receives P.receives_within octets.now addresses.now 4096 port.old
+        (standing (W.contents out.old) seeking.old) result port.new
+        (standing (W.contents out.new) seeking.new) }
 {
     let mut left = RECEIVES;
     for address in addresses {
@@ -131,7 +136,9 @@ fn settle<P: Port, W: Write>(
     line: &mut Vec<u8>,
     out: &mut W,
 ) -> Result<u32, FindFault>
-    ensures { Settles P.receives P.receives_within limit port.old (standing (W.contents out.old) seeking.old) result port.new (standing (W.contents out.new) seeking.new) }
+    ensures { Settles P.receives P.receives_within limit port.old
+        (standing (W.contents out.old) seeking.old) result port.new
+        (standing (W.contents out.new) seeking.new) }
 {
     let left = hear(Some(0), 0, limit, port, seeking, line, out)?;
     let rest = hear(
@@ -160,7 +167,9 @@ fn hear<P: Port, W: Write>(
     line: &mut Vec<u8>,
     out: &mut W,
 ) -> Result<u32, FindFault>
-    ensures { Hears (ReceivesBy P.receives P.receives_within wait) least limit port.old (standing (W.contents out.old) seeking.old) result port.new (standing (W.contents out.new) seeking.new) }
+    ensures { Hears (ReceivesBy P.receives P.receives_within wait) least limit port.old
+        (standing (W.contents out.old) seeking.old) result port.new
+        (standing (W.contents out.new) seeking.new) }
 {
     for received in 0..limit {
         if seeking.pending.len() < least {
@@ -194,7 +203,8 @@ fn take<W: Write>(
     heard: Heard,
     out: &mut W,
 ) -> Result<bool, FindFault>
-    ensures { Takes heard result (standing (W.contents out.old) seeking.old) (standing (W.contents out.new) seeking.new) }
+    ensures { Takes heard result (standing (W.contents out.old) seeking.old)
+        (standing (W.contents out.new) seeking.new) }
 {
     seeking.hear_from(heard.from);
     let shown = show(line, heard, out)?;

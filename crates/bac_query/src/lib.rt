@@ -4,10 +4,10 @@
 //! printed is said of every link and every writer that tells what it holds: the whole text, or a
 //! front part of it if a write was refused, and nothing else.
 //!
-//! [`find_devices`] asks each address by Who-Is over any port and prints a line for each I-Am that comes
-//! (clause 16.10; specs/Finding, specs/Announcements). [`push_items`] and [`push_end`] make the texts of
-//! what a walk delivers: a line for each item, and why it ended. [`list_logs`] prints what a device's trend
-//! logs are (specs/Tables, specs/Cells).
+//! [`find_devices`] asks each address by Who-Is over any port and prints a line for each I-Am that
+//! comes (clause 16.10; specs/Finding, specs/Announcements). [`push_items`] and [`push_end`] make
+//! the texts of what a walk delivers: a line for each item, and why it ended. [`list_logs`] prints
+//! what a device's trend logs are (specs/Tables, specs/Cells).
 #![tactic(auto)]
 
 mod ahead;

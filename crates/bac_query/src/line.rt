@@ -22,7 +22,8 @@ fn push_named(text: &mut Vec<u8>, word: &[u8], n: u64) -> Result<(), AllocError>
 /// Appends the place of a device behind a router.
 #[tactic(auto, unfolding(crate::specs::Lines::place_text))]
 fn push_place(text: &mut Vec<u8>, place: Option<Far>) -> Result<(), AllocError>
-    ensures { OnOk result (text.new.items ≡ text.old.items ++ place_text (maybe_place_of place.entry)) }
+    ensures { OnOk result
+        (text.new.items ≡ text.old.items ++ place_text (maybe_place_of place.entry)) }
 {
     let Some(far) = place else {
         return Ok(());
@@ -46,7 +47,8 @@ fn push_facts(text: &mut Vec<u8>, i_am: &IAm) -> Result<(), AllocError>
 /// router, and what else it says of itself.
 #[tactic(auto, unfolding(crate::specs::Lines::device_line))]
 pub(crate) fn push_device(text: &mut Vec<u8>, said: &Announcement) -> Result<(), AllocError>
-    ensures { OnOk result (text.new.items ≡ text.old.items ++ device_line (announcement_of said.now)) }
+    ensures { OnOk result
+        (text.new.items ≡ text.old.items ++ device_line (announcement_of said.now)) }
 {
     push_named(text, b"I-Am ", u64::from(said.i_am.device.instance()))?;
     text.extend_from_slice(b" ")?;

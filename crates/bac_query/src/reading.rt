@@ -6,7 +6,8 @@ ghost use Rattle.bac_link.specs.Datagrams.{apdu_in};
 ghost use Rattle.bac_link.specs.Exchanges.{Leaves};
 ghost use Rattle.bac_link.specs.Path.{towards};
 ghost use Rattle.bac_link.specs.Requests.{next_invoke};
-ghost use Rattle.bac_query.specs.Reading.{ReadsOver, ReadsProperty, PrintsValues, Prints, next_way, values_in};
+ghost use Rattle.bac_query.specs.Reading.{ReadsOver, ReadsProperty, PrintsValues, Prints, next_way};
+ghost use Rattle.bac_query.specs.Reading.{values_in};
 ghost use Rattle.bac_query.specs.Values.{IsShown};
 
 use crate::fault::QueryFault;
@@ -19,9 +20,10 @@ use std::alloc::Global;
 use std::io::Write;
 
 /// Reads a property, and prints its values, a line each, with one write: REALs and Doubles as their
-/// octets, or the finite ones as numbers. If they aren't all values after application tags, the line is `raw(HEX)`; if there are none, nothing is
-/// printed. That the ACK has the object and the property that were asked for isn't looked at: a
-/// device answers for instance 4194303 with its own.
+/// octets, or the finite ones as numbers. If they aren't all values after application tags, the
+/// line is `raw(HEX)`; if there are none, nothing is printed. That the ACK has the object and the
+/// property that were asked for isn't looked at: a device answers for instance 4194303 with its
+/// own.
 pub fn read_property<L: LogLink, W: Write>(
     alloc: Global,
     link: &mut L,
@@ -30,7 +32,9 @@ pub fn read_property<L: LogLink, W: Write>(
     reals: Reals,
     out: &mut W,
 ) -> Result<(), QueryFault>
-    ensures printed { ReadsProperty (towards transactions.old.route) (next_invoke transactions.old.invoke) asked reals result (W.contents out.old) (W.contents out.new) }
+    ensures printed { ReadsProperty (towards transactions.old.route)
+        (next_invoke transactions.old.invoke) asked reals result (W.contents out.old)
+        (W.contents out.new) }
     // Over any link it is asked once, and as often again as the retries say; what is printed came
     // over the link.
     ensures asked { ReadsOver L.asks (next_way transactions.old) asked reals
@@ -63,7 +67,8 @@ fn print_values<W: Write>(
     reals: Reals,
     out: &mut W,
 ) -> Result<(), QueryFault>
-    ensures { PrintsValues reals (values_in (apdu_in datagram.now)) result (W.contents out.old) (W.contents out.new) }
+    ensures { PrintsValues reals (values_in (apdu_in datagram.now)) result (W.contents out.old)
+        (W.contents out.new) }
 {
     let Some(values) = values_in(datagram) else {
         return Err(QueryFault::Exchange(ExchangeFault::BadReply));

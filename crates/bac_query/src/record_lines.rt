@@ -17,8 +17,8 @@ pub(crate) struct Lines {
 }
 
 impl Sink for Lines {
-    ghost puts = { λ old gap item taken new.
-        taken ≡ true → new.text.items ≡ old.text.items ++ items_text (gap_items gap ++ item_of item ∷ []) };
+    ghost puts = { λ old gap item taken new. taken ≡ true
+        → new.text.items ≡ old.text.items ++ items_text (gap_items gap ++ item_of item ∷ []) };
 
     fn put(&mut self, gap: Option<Gap>, item: Numbered) -> bool {
         push_put(&mut self.text, gap, item).is_ok()
@@ -27,7 +27,8 @@ impl Sink for Lines {
 
 /// Appends the line of a gap, if there is one, and that of the record after it.
 fn push_put(text: &mut Vec<u8>, gap: Option<Gap>, item: Numbered) -> Result<(), AllocError>
-    ensures { OnOk result (text.new.items ≡ text.old.items ++ items_text (gap_items gap ++ item_of item ∷ [])) }
+    ensures { OnOk result
+        (text.new.items ≡ text.old.items ++ items_text (gap_items gap ++ item_of item ∷ [])) }
 {
     if let Some(gap) = gap {
         push_item(

@@ -3,7 +3,9 @@
 ghost use Rattle.std.specs.Prelude.{◌≡◌, ◌++◌, OnOk};
 ghost use Rattle.bac_wire.specs.Chain.{Gives};
 ghost use Rattle.bac_wire.specs.Primitive.{Enumerated, Object, Unsigned};
-ghost use Rattle.bac_query.specs.Sources.{device_text, index_text, maybe_at, maybe_number, maybe_object, object_text, reference_at, reference_of, source_text, tagged_at};
+ghost use Rattle.bac_query.specs.Sources.{device_text, index_text, maybe_at, maybe_number};
+ghost use Rattle.bac_query.specs.Sources.{maybe_object, object_text, reference_at, reference_of};
+ghost use Rattle.bac_query.specs.Sources.{source_text, tagged_at};
 
 use bac_print::push_number;
 use bac_wire::{ObjectId, Reader, WireFault, as_enumerated, as_object, as_unsigned};
@@ -30,7 +32,8 @@ fn object_at(left: &mut Reader<'_>, tag: u8) -> Result<ObjectId, WireFault>
 
 /// A property behind a context tag.
 fn property_at(left: &mut Reader<'_>, tag: u8) -> Result<u32, WireFault>
-    ensures { Gives (λ property. (Enumerated property, left.new)) result (tagged_at tag 9 left.old) }
+    ensures { Gives (λ property. (Enumerated property, left.new)) result
+        (tagged_at tag 9 left.old) }
 {
     let contents = left.contents(tag)?;
     as_enumerated(contents)

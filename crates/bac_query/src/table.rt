@@ -4,7 +4,10 @@ ghost use Rattle.std.specs.Prelude.{◌≡◌, ◌<◌, ◌^◌, ℕ, IfSome, Is
 ghost use Rattle.bac_wire.specs.Chain.{Gives};
 ghost use Rattle.bac_wire.specs.Primitive.{Object, Unsigned};
 ghost use Rattle.bac_wire.specs.Spelling.{Spells};
-ghost use Rattle.bac_query.specs.Tables.{AddsCell, AddsCells, AddsRow, ListsLogs, PrintsListed, PrintsLogs, PrintsObject, PrintsPlace, PrintsPlaces, PrintsRow, PrintsRows, Questions, TellsCount, client, list_at, object_in as object_of, property_of, told_object};
+ghost use Rattle.bac_query.specs.Tables.{AddsCell, AddsCells, AddsRow, ListsLogs, PrintsListed};
+ghost use Rattle.bac_query.specs.Tables.{PrintsLogs, PrintsObject, PrintsPlace, PrintsPlaces};
+ghost use Rattle.bac_query.specs.Tables.{PrintsRow, PrintsRows, Questions, TellsCount, client};
+ghost use Rattle.bac_query.specs.Tables.{list_at, object_in as object_of, property_of, told_object};
 
 use crate::cells::{only_value, push_answer};
 use crate::fault::QueryFault;
@@ -37,7 +40,8 @@ fn ask<L: LogLink>(
     transactions: &mut Transactions,
     question: ReadProperty,
 ) -> Result<Datagram, ExchangeFault>
-    ensures { Questions L.asks question (client link.old transactions.old) result (client link.new transactions.new) }
+    ensures { Questions L.asks question (client link.old transactions.old) result
+        (client link.new transactions.new) }
 {
     let request = Request::ReadProperty(question);
     exchange(link, transactions, &request)
@@ -77,7 +81,8 @@ fn add_cell<L: LogLink>(
     question: ReadProperty,
     text: &mut Vec<u8>,
 ) -> Result<(), QueryFault>
-    ensures { AddsCell L.asks question (client link.old transactions.old) text.old.items result text.new.items (client link.new transactions.new) }
+    ensures { AddsCell L.asks question (client link.old transactions.old) text.old.items result
+        text.new.items (client link.new transactions.new) }
 {
     let property = question.property;
     let answer = ask(link, transactions, question);
@@ -93,7 +98,8 @@ fn add_cells<L: LogLink>(
     properties: &[u32],
     text: &mut Vec<u8>,
 ) -> Result<(), QueryFault>
-    ensures { AddsCells L.asks log properties.now (client link.old transactions.old) text.old.items result text.new.items (client link.new transactions.new) }
+    ensures { AddsCells L.asks log properties.now (client link.old transactions.old) text.old.items
+        result text.new.items (client link.new transactions.new) }
 {
     for property in properties {
         add_cell(link, transactions, property_of(log, *property), text)?;
@@ -108,7 +114,8 @@ fn add_row<L: LogLink>(
     log: ObjectId,
     text: &mut Vec<u8>,
 ) -> Result<(), QueryFault>
-    ensures { AddsRow L.asks log (client link.old transactions.old) text.old.items result text.new.items (client link.new transactions.new) }
+    ensures { AddsRow L.asks log (client link.old transactions.old) text.old.items result
+        text.new.items (client link.new transactions.new) }
 {
     push_number(text, u64::from(log.instance()))?;
     add_cells(link, transactions, log, &COLUMNS, text)?;
@@ -124,7 +131,8 @@ fn print_row<L: LogLink, W: Write>(
     log: ObjectId,
     out: &mut W,
 ) -> Result<(), QueryFault>
-    ensures { PrintsRow L.asks log (client link.old transactions.old) result (client link.new transactions.new) (W.contents out.old) (W.contents out.new) }
+    ensures { PrintsRow L.asks log (client link.old transactions.old) result
+        (client link.new transactions.new) (W.contents out.old) (W.contents out.new) }
 {
     let mut line = Vec::new(alloc);
     match add_row(link, transactions, log, &mut line) {
@@ -141,7 +149,8 @@ fn print_rows<L: LogLink, W: Write>(
     logs: &[ObjectId],
     out: &mut W,
 ) -> Result<(), QueryFault>
-    ensures { PrintsRows L.asks logs.now (client link.old transactions.old) result (client link.new transactions.new) (W.contents out.old) (W.contents out.new) }
+    ensures { PrintsRows L.asks logs.now (client link.old transactions.old) result
+        (client link.new transactions.new) (W.contents out.old) (W.contents out.new) }
 {
     for log in logs {
         print_row(alloc, link, transactions, *log, out)?;
@@ -185,7 +194,8 @@ fn print_object<L: LogLink, W: Write>(
     object: ObjectId,
     out: &mut W,
 ) -> Result<(), QueryFault>
-    ensures { PrintsObject L.asks object (client link.old transactions.old) result (client link.new transactions.new) (W.contents out.old) (W.contents out.new) }
+    ensures { PrintsObject L.asks object (client link.old transactions.old) result
+        (client link.new transactions.new) (W.contents out.old) (W.contents out.new) }
 {
     if object.kind() != TREND_LOG {
         return Ok(());
@@ -201,7 +211,8 @@ fn print_place<L: LogLink, W: Write>(
     place: u32,
     out: &mut W,
 ) -> Result<(), QueryFault>
-    ensures { PrintsPlace L.asks place (client link.old transactions.old) result (client link.new transactions.new) (W.contents out.old) (W.contents out.new) }
+    ensures { PrintsPlace L.asks place (client link.old transactions.old) result
+        (client link.new transactions.new) (W.contents out.old) (W.contents out.new) }
 {
     let datagram = match ask(link, transactions, list_at(place)) {
         Ok(datagram) => datagram,
@@ -221,7 +232,8 @@ fn print_places<L: LogLink, W: Write>(
     count: u32,
     out: &mut W,
 ) -> Result<(), QueryFault>
-    ensures { PrintsPlaces L.asks 1 count (client link.old transactions.old) result (client link.new transactions.new) (W.contents out.old) (W.contents out.new) }
+    ensures { PrintsPlaces L.asks 1 count (client link.old transactions.old) result
+        (client link.new transactions.new) (W.contents out.old) (W.contents out.new) }
 {
     for place in 0..count {
         print_place(alloc, link, transactions, place + 1, out)?;
@@ -232,7 +244,8 @@ fn print_places<L: LogLink, W: Write>(
 /// The number of 32 bits that octets are.
 fn count_in(octets: &[u8]) -> Option<u32>
     ensures found { IfSome result (λ count. Spells octets.now (Unsigned count)) }
-    ensures none { IsNone result → (count : ℕ) → count < 2 ^ 32 → Spells octets.now (Unsigned count) → ⊥ }
+    ensures none { IsNone result → (count : ℕ) → count < 2 ^ 32 → Spells octets.now (Unsigned count)
+        → ⊥ }
 {
     let Some(value) = only_value(octets) else {
         return None;
@@ -261,7 +274,8 @@ fn print_listed<L: LogLink, W: Write>(
     transactions: &mut Transactions,
     out: &mut W,
 ) -> Result<(), QueryFault>
-    ensures { PrintsListed L.asks (client link.old transactions.old) result (client link.new transactions.new) (W.contents out.old) (W.contents out.new) }
+    ensures { PrintsListed L.asks (client link.old transactions.old) result
+        (client link.new transactions.new) (W.contents out.old) (W.contents out.new) }
 {
     let datagram = match ask(link, transactions, list_at(0)) {
         Ok(datagram) => datagram,
@@ -283,7 +297,8 @@ fn print_logs<L: LogLink, W: Write>(
     logs: &[ObjectId],
     out: &mut W,
 ) -> Result<(), QueryFault>
-    ensures { PrintsLogs L.asks logs.now (client link.old transactions.old) result (client link.new transactions.new) (W.contents out.old) (W.contents out.new) }
+    ensures { PrintsLogs L.asks logs.now (client link.old transactions.old) result
+        (client link.new transactions.new) (W.contents out.old) (W.contents out.new) }
 {
     if logs.is_empty() {
         return print_listed(alloc, link, transactions, out);
@@ -302,7 +317,8 @@ pub fn list_logs<L: LogLink, W: Write>(
     logs: &[ObjectId],
     out: &mut W,
 ) -> Result<(), QueryFault>
-    ensures { ListsLogs L.asks logs.now (client link.old transactions.old) result (client link.new transactions.new) (W.contents out.old) (W.contents out.new) }
+    ensures { ListsLogs L.asks logs.now (client link.old transactions.old) result
+        (client link.new transactions.new) (W.contents out.old) (W.contents out.new) }
 {
     print(
         b"instance\tname\tlogs\tenable\ttype\tinterval\trecords\tbuffer\ttotal\tstop\n",

@@ -4,7 +4,8 @@ ghost use Rattle.std.specs.Prelude.{◌≡◌, ◌++◌, List, ℕ, OnOk, Bool};
 ghost use Rattle.std.specs.Float.Ieee.{binary32, binary64};
 ghost use Rattle.bac_wire.specs.View.{view, IsWellFormed};
 ghost use Rattle.bac_print.specs.Values.{value_text};
-ghost use Rattle.bac_query.specs.Values.{IsNumberOr, IsNumberText, IsShown, IsText, ShowsLines, raw_line};
+ghost use Rattle.bac_query.specs.Values.{IsNumberOr, IsNumberText, IsShown, IsText, ShowsLines};
+ghost use Rattle.bac_query.specs.Values.{raw_line};
 ghost use Rattle.bac_values.specs.Numbers.{double_of, real_of};
 
 use crate::reals::Reals;
@@ -26,7 +27,9 @@ fn push_raw(alloc: Global, text: &mut Vec<u8>, octets: &[u8]) -> Result<(), Allo
 /// Appends a REAL as a number, or else the text of the value that it is.
 fn push_real_or(text: &mut Vec<u8>, octets: [u8; 4], value: &Value) -> Result<(), AllocError>
     requires { IsWellFormed value.now }
-    ensures { OnOk result ((one : List ℕ) × IsNumberOr binary32 (real_of octets) (value_text (view value.now)) one × (text.new.items ≡ text.old.items ++ one)) }
+    ensures { OnOk result ((one : List ℕ)
+        × IsNumberOr binary32 (real_of octets) (value_text (view value.now)) one
+        × (text.new.items ≡ text.old.items ++ one)) }
 {
     if push_real(text, octets)? {
         return Ok(());
@@ -37,7 +40,9 @@ fn push_real_or(text: &mut Vec<u8>, octets: [u8; 4], value: &Value) -> Result<()
 /// Appends a Double as a number, or else the text of the value that it is.
 fn push_double_or(text: &mut Vec<u8>, octets: [u8; 8], value: &Value) -> Result<(), AllocError>
     requires { IsWellFormed value.now }
-    ensures { OnOk result ((one : List ℕ) × IsNumberOr binary64 (double_of octets) (value_text (view value.now)) one × (text.new.items ≡ text.old.items ++ one)) }
+    ensures { OnOk result ((one : List ℕ)
+        × IsNumberOr binary64 (double_of octets) (value_text (view value.now)) one
+        × (text.new.items ≡ text.old.items ++ one)) }
 {
     if push_double(text, octets)? {
         return Ok(());
@@ -48,7 +53,8 @@ fn push_double_or(text: &mut Vec<u8>, octets: [u8; 8], value: &Value) -> Result<
 /// Appends a value, a REAL or a Double as a number.
 fn push_number_value(text: &mut Vec<u8>, value: &Value) -> Result<(), AllocError>
     requires { IsWellFormed value.now }
-    ensures { OnOk result ((one : List ℕ) × IsNumberText (view value.now) one × (text.new.items ≡ text.old.items ++ one)) }
+    ensures { OnOk result ((one : List ℕ) × IsNumberText (view value.now) one
+        × (text.new.items ≡ text.old.items ++ one)) }
 {
     match value {
         Value::Real4(octets) => push_real_or(text, *octets, value),
@@ -60,7 +66,8 @@ fn push_number_value(text: &mut Vec<u8>, value: &Value) -> Result<(), AllocError
 /// Appends a value.
 fn push_shown(text: &mut Vec<u8>, value: &Value, reals: Reals) -> Result<(), AllocError>
     requires { IsWellFormed value.now }
-    ensures { OnOk result ((one : List ℕ) × IsText reals (view value.now) one × (text.new.items ≡ text.old.items ++ one)) }
+    ensures { OnOk result ((one : List ℕ) × IsText reals (view value.now) one
+        × (text.new.items ≡ text.old.items ++ one)) }
 {
     match reals {
         Reals::Octets => push_value(text, value),
@@ -94,7 +101,8 @@ pub fn push_values(
     octets: &[u8],
     reals: Reals,
 ) -> Result<(), AllocError>
-    ensures { OnOk result ((shown : List ℕ) × IsShown reals octets.now shown × (text.new.items ≡ text.old.items ++ shown)) }
+    ensures { OnOk result ((shown : List ℕ) × IsShown reals octets.now shown
+        × (text.new.items ≡ text.old.items ++ shown)) }
 {
     let kept = text.len();
     if push_lines(text, octets, reals)? {

@@ -18,7 +18,9 @@ pub fn write_property<L: LogLink, W: Write>(
     out: &mut W,
 ) -> Result<(), QueryFault>
     requires { IsSendable asked.now }
-    ensures printed { WritesProperty (towards transactions.old.route) (next_invoke transactions.old.invoke) asked.now result (W.contents out.old) (W.contents out.new) }
+    ensures printed { WritesProperty (towards transactions.old.route)
+        (next_invoke transactions.old.invoke) asked.now result (W.contents out.old)
+        (W.contents out.new) }
     // Over any link it is asked once, and as often again as the retries say; what is printed came
     // over the link.
     ensures asked { WritesOver L.asks (next_way transactions.old) asked.now

@@ -78,7 +78,8 @@ IsUnfit (Some plan) fault m = IsMisfit plan.0 plan.1 m × (m.fault ≡ fault)
 abbrev pub AreNumbers : List (List ℕ) → UnfitLine → Type 0
 AreNumbers lines said =
     (said.number ≡ number_of said.misfit.line (others_of said.misfit.fault) 1 lines)
-    × (said.rival ≡ option_and_then (λ id. number_of id 0 1 lines) (rival_of said.misfit.fault said.misfit.line said.misfit.namesake))
+    × (said.rival ≡ option_and_then (λ id.
+    number_of id 0 1 lines) (rival_of said.misfit.fault said.misfit.line said.misfit.namesake))
 
 -- the same of a reason
 abbrev pub IsUnfitReason : List (List ℕ) → BuildFault → Reason → Type 0

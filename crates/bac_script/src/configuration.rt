@@ -1,9 +1,12 @@
 //! A configuration: the lines of a script that describe a device, without an event.
 
-ghost use Rattle.std.specs.Prelude.{◌≡◌, ◌+◌, ◌<◌, ◌≤◌, length, take, None, OnErr, OnOk, IfErr, IfOk, IfSome};
+ghost use Rattle.std.specs.Prelude.{◌≡◌, ◌+◌, ◌<◌, ◌≤◌, length, take, None, OnErr, OnOk, IfErr};
+ghost use Rattle.std.specs.Prelude.{IfOk, IfSome};
 ghost use Rattle.std.specs.Io.KnownBytes.{Consumes, IsAtEnd};
 ghost use Rattle.std.specs.Str.Lines.{lines};
-ghost use Rattle.bac_script.specs.Configuration.{AddsLine, Configures, Describes, IsAdded, kept_plan, plan_of, with_line, with_text, without_text};
+ghost use Rattle.bac_script.specs.Configuration.{AddsLine, Configures, Describes, IsAdded};
+ghost use Rattle.bac_script.specs.Configuration.{kept_plan, plan_of, with_line, with_text};
+ghost use Rattle.bac_script.specs.Configuration.{without_text};
 ghost use Rattle.bac_script.specs.Reason.{IsExplainedThere, described, without_reason};
 ghost use Rattle.bac_script.specs.Input.{ConsumesUpTo};
 ghost use Rattle.bac_script.specs.Script.Line.{Device, Object};
@@ -40,7 +43,8 @@ fn add_device(
     kept: &mut Option<Configuration>,
     device: DeviceLine,
 ) -> Result<(), LineFault>
-    ensures added { IsAdded (with_line (kept_plan kept.old) (Device device)) result (kept_plan kept.new) }
+    ensures added { IsAdded (with_line (kept_plan kept.old) (Device device)) result
+        (kept_plan kept.new) }
     ensures err { OnErr result (kept_plan kept.new ≡ kept_plan kept.old) }
 {
     match kept {
@@ -57,7 +61,8 @@ fn add_device(
 
 /// Adds an object of the device.
 fn add_object(kept: &mut Option<Configuration>, object: ObjectLine) -> Result<(), LineFault>
-    ensures added { IsAdded (with_line (kept_plan kept.old) (Object object)) result (kept_plan kept.new) }
+    ensures added { IsAdded (with_line (kept_plan kept.old) (Object object)) result
+        (kept_plan kept.new) }
     ensures err { OnErr result (kept_plan kept.new ≡ kept_plan kept.old) }
 {
     match kept {
@@ -95,7 +100,8 @@ fn add_line(
     number: usize,
     text: &[u8],
 ) -> Result<(), ReplayFault>
-    ensures { AddsLine (with_text (kept_plan kept.old) text.now) number result (kept_plan kept.new) }
+    ensures { AddsLine (with_text (kept_plan kept.old) text.now) number result
+        (kept_plan kept.new) }
 {
     match add_text(alloc, kept, text) {
         Ok(()) => Ok(()),
@@ -157,8 +163,10 @@ fn configuration_in<R: Read>(
     requires limit { limit ≤ LIMIT }
     requires room { length buffer.old ≡ limit + 1 }
     ensures within { result.0 ≤ length buffer.new }
-    ensures kept { Consumes (R.remaining reader.old) (R.remaining reader.new) (take result.0 buffer.new) }
-    ensures configures { Configures limit (R.remaining reader.old) (R.remaining reader.new) result.1 }
+    ensures kept { Consumes (R.remaining reader.old) (R.remaining reader.new)
+        (take result.0 buffer.new) }
+    ensures configures { Configures limit (R.remaining reader.old) (R.remaining reader.new)
+        result.1 }
     ensures read { ConsumesUpTo (limit + 1) (R.remaining reader.old) (R.remaining reader.new) }
     ensures whole { OnOk result.1 (IsAtEnd (R.remaining reader.new)) }
 {
@@ -197,9 +205,12 @@ fn explained_within<R: Read>(
     reader: &mut R,
 ) -> Result<ConfigurationText, Refused>
     requires { limit ≤ LIMIT }
-    ensures configures { Configures limit (R.remaining reader.old) (R.remaining reader.new) (without_text (without_reason result)) }
-    ensures text { IfOk result (λ read. IfSome (R.remaining reader.old) (λ script. read.text.items ≡ script)) }
-    ensures explained { IfErr result (IsExplainedThere (R.remaining reader.old) (R.remaining reader.new)) }
+    ensures configures { Configures limit (R.remaining reader.old) (R.remaining reader.new)
+        (without_text (without_reason result)) }
+    ensures text { IfOk result
+        (λ read. IfSome (R.remaining reader.old) (λ script. read.text.items ≡ script)) }
+    ensures explained { IfErr result
+        (IsExplainedThere (R.remaining reader.old) (R.remaining reader.new)) }
     ensures read { ConsumesUpTo (limit + 1) (R.remaining reader.old) (R.remaining reader.new) }
     ensures whole { OnOk result (IsAtEnd (R.remaining reader.new)) }
 {
@@ -228,9 +239,12 @@ pub fn read_configuration_explained<R: Read>(
     alloc: Global,
     reader: &mut R,
 ) -> Result<ConfigurationText, Refused>
-    ensures configures { Configures LIMIT (R.remaining reader.old) (R.remaining reader.new) (without_text (without_reason result)) }
-    ensures text { IfOk result (λ read. IfSome (R.remaining reader.old) (λ script. read.text.items ≡ script)) }
-    ensures explained { IfErr result (IsExplainedThere (R.remaining reader.old) (R.remaining reader.new)) }
+    ensures configures { Configures LIMIT (R.remaining reader.old) (R.remaining reader.new)
+        (without_text (without_reason result)) }
+    ensures text { IfOk result
+        (λ read. IfSome (R.remaining reader.old) (λ script. read.text.items ≡ script)) }
+    ensures explained { IfErr result
+        (IsExplainedThere (R.remaining reader.old) (R.remaining reader.new)) }
     ensures read { ConsumesUpTo (LIMIT + 1) (R.remaining reader.old) (R.remaining reader.new) }
     ensures whole { OnOk result (IsAtEnd (R.remaining reader.new)) }
 {
@@ -245,7 +259,8 @@ pub fn read_configuration<R: Read>(
     alloc: Global,
     reader: &mut R,
 ) -> Result<Option<Configuration>, ReplayFault>
-    ensures configures { Configures 1048576 (R.remaining reader.old) (R.remaining reader.new) result }
+    ensures configures { Configures 1048576 (R.remaining reader.old) (R.remaining reader.new)
+        result }
     ensures read { ConsumesUpTo 1048577 (R.remaining reader.old) (R.remaining reader.new) }
     ensures whole { OnOk result (IsAtEnd (R.remaining reader.new)) }
 {

@@ -1,12 +1,14 @@
 //! A script read from a reader, its text written to a writer.
-ghost use Rattle.std.specs.Prelude.{◌≡◌, ◌≢◌, ◌+◌, ◌<◌, ◌≤◌, ℕ, List, [], ◌∷◌, length, None, Some, Ok, Err, IfOk, IfErr, OnOk, Option, take};
+ghost use Rattle.std.specs.Prelude.{◌≡◌, ◌≢◌, ◌+◌, ◌<◌, ◌≤◌, ℕ, List, [], ◌∷◌, length, None, Some};
+ghost use Rattle.std.specs.Prelude.{Ok, Err, IfOk, IfErr, OnOk, Option, take};
 ghost use Rattle.std.specs.Io.KnownBytes.{Appends, Consumes, IsAtEnd};
 ghost use Rattle.bac_script.specs.Reason.{IsExplained, IsUnbuilt, described, without_reason};
 ghost use Rattle.bac_script.specs.Input.{ConsumesUpTo};
 ghost use Rattle.std.specs.Str.Lines.{lines};
 ghost use Rattle.bac_script.specs.Script.Lines.{ended_lines, open_line, last_if_any};
 ghost use Rattle.bac_objects.specs.declared.build.BuildFault.{BuildFault};
-ghost use Rattle.bac_script.specs.Outcomes.{IsCutShort, IsPlayed, IsTooLong, IsUnread, IsUnwritten, OfScript};
+ghost use Rattle.bac_script.specs.Outcomes.{IsCutShort, IsPlayed, IsTooLong, IsUnread, IsUnwritten};
+ghost use Rattle.bac_script.specs.Outcomes.{OfScript};
 ghost use Rattle.bac_script.specs.Replay.{PlaysAll, Replays};
 ghost use Rattle.bac_script.specs.Session.{SessionState, Empty, step, end_fault};
 ghost use Rattle.bac_script.specs.Views.{state_of};
@@ -38,9 +40,11 @@ fn play_line<W: Write>(
     line: &[u8],
     writer: &mut W,
 ) -> Result<(), ReplayFault>
-    ensures ok { OnOk result ((text : List ℕ) × (step (state_of session.old) line.now ≡ Ok (text, state_of session.new))
+    ensures ok { OnOk result ((text : List ℕ)
+        × (step (state_of session.old) line.now ≡ Ok (text, state_of session.new))
         × Appends (W.contents writer.old) (W.contents writer.new) text) }
-    ensures err { IfErr result (LineStops (W.contents writer.old) (W.contents writer.new) number (state_of session.old) line.now) }
+    ensures err { IfErr result (LineStops (W.contents writer.old) (W.contents writer.new) number
+        (state_of session.old) line.now) }
 {
     if let Err(fault) = session.play_text(alloc, line, scratch) {
         return Err(fault.at_line(number));
@@ -62,9 +66,11 @@ fn play_ended<'a, W: Write>(
 ) -> Result<(usize, &'a [u8]), ReplayFault>
     requires { length script.now ≤ LIMIT }
     ensures number { IfOk result (λ x. x.0 ≡ 1 + length (ended_lines script.now)) }
-    ensures all { IfOk result (λ x. PlaysAll (W.contents writer.old) (W.contents writer.new) (state_of session.old) (ended_lines script.now) (state_of session.new)) }
+    ensures all { IfOk result (λ x. PlaysAll (W.contents writer.old) (W.contents writer.new)
+        (state_of session.old) (ended_lines script.now) (state_of session.new)) }
     ensures rest { IfOk result (λ x. open_line script.now ≡ last_if_any (x.1.now ∷ [])) }
-    ensures err { IfErr result (Stops (W.contents writer.old) (W.contents writer.new) (state_of session.old) (ended_lines script.now)) }
+    ensures err { IfErr result (Stops (W.contents writer.old) (W.contents writer.new)
+        (state_of session.old) (ended_lines script.now)) }
 {
     let mut rest = script;
     let mut number = 1;
@@ -86,8 +92,11 @@ fn play_ended<'a, W: Write>(
 /// Plays the lines that a line feed ends, from the start.
 fn play_cut<W: Write>(alloc: Global, script: &[u8], writer: &mut W) -> Result<(), ReplayFault>
     requires { length script.now ≤ LIMIT }
-    ensures ok { OnOk result ((t : SessionState) × PlaysAll (W.contents writer.old) (W.contents writer.new) Empty (ended_lines script.now) t) }
-    ensures err { IfErr result (Stops (W.contents writer.old) (W.contents writer.new) Empty (ended_lines script.now)) }
+    ensures ok { OnOk result ((t : SessionState)
+        × PlaysAll (W.contents writer.old) (W.contents writer.new) Empty
+        (ended_lines script.now) t) }
+    ensures err { IfErr result
+        (Stops (W.contents writer.old) (W.contents writer.new) Empty (ended_lines script.now)) }
 {
     let mut session = Session::Empty;
     let mut scratch = Scratch::new(alloc);
@@ -104,8 +113,10 @@ fn play_all<W: Write>(
     writer: &mut W,
 ) -> Result<(), ReplayFault>
     requires { length script.now ≤ LIMIT }
-    ensures ok { OnOk result (PlaysAll (W.contents writer.old) (W.contents writer.new) (state_of session.old) (lines script.now) (state_of session.new)) }
-    ensures err { IfErr result (Stops (W.contents writer.old) (W.contents writer.new) (state_of session.old) (lines script.now)) }
+    ensures ok { OnOk result (PlaysAll (W.contents writer.old) (W.contents writer.new)
+        (state_of session.old) (lines script.now) (state_of session.new)) }
+    ensures err { IfErr result (Stops (W.contents writer.old) (W.contents writer.new)
+        (state_of session.old) (lines script.now)) }
 {
     let (number, rest) = play_ended(alloc, session, scratch, script, writer)?;
     if rest.is_empty() {
@@ -117,8 +128,11 @@ fn play_all<W: Write>(
 /// Plays all the lines, and builds the device at the end where no line did.
 fn play_whole<W: Write>(alloc: Global, script: &[u8], writer: &mut W) -> Result<(), ReplayFault>
     requires { length script.now ≤ LIMIT }
-    ensures ok { OnOk result ((t : SessionState) × PlaysAll (W.contents writer.old) (W.contents writer.new) Empty (lines script.now) t × (end_fault t ≡ None)) }
-    ensures err { IfErr result (ScriptStops (W.contents writer.old) (W.contents writer.new) script.now) }
+    ensures ok { OnOk result ((t : SessionState)
+        × PlaysAll (W.contents writer.old) (W.contents writer.new) Empty (lines script.now) t
+        × (end_fault t ≡ None)) }
+    ensures err { IfErr result
+        (ScriptStops (W.contents writer.old) (W.contents writer.new) script.now) }
 {
     let mut session = Session::Empty;
     let mut scratch = Scratch::new(alloc);
@@ -141,9 +155,11 @@ fn play_read<W: Write>(
     requires end { ending ≡ Ending.End → length text.now ≤ limit }
     requires full { ending ≡ Ending.Full → length text.now ≡ limit + 1 }
     requires refused { ending ≡ Ending.Refused → length text.now ≤ limit }
-    ensures ends { (have left : Option (List ℕ)) → Consumes have left text.now → (ending ≡ Ending.End → IsAtEnd left) →
-        Replays limit have left (W.contents writer.old) (W.contents writer.new) result }
-    ensures unbuilt { (f : BuildFault) → result ≡ Err (ReplayFault.Build f) → IsUnbuilt (described None (lines text.now)) f }
+    ensures ends { (have left : Option (List ℕ)) → Consumes have left text.now
+        → (ending ≡ Ending.End → IsAtEnd left)
+        → Replays limit have left (W.contents writer.old) (W.contents writer.new) result }
+    ensures unbuilt { (f : BuildFault) → result ≡ Err (ReplayFault.Build f)
+        → IsUnbuilt (described None (lines text.now)) f }
     ensures whole { OnOk result (ending ≡ Ending.End) }
     ensures build_memory { result ≢ Err (ReplayFault.Build BuildFault.Memory) }
 {
@@ -172,9 +188,12 @@ fn replay_in<R: Read, W: Write>(
     requires limit { limit ≤ LIMIT }
     requires room { length buffer.old ≡ limit + 1 }
     ensures within { result.0 ≤ length buffer.new }
-    ensures kept { Consumes (R.remaining reader.old) (R.remaining reader.new) (take result.0 buffer.new) }
-    ensures ends { Replays limit (R.remaining reader.old) (R.remaining reader.new) (W.contents writer.old) (W.contents writer.new) result.1 }
-    ensures unbuilt { (f : BuildFault) → result.1 ≡ Err (ReplayFault.Build f) → IsUnbuilt (described None (lines (take result.0 buffer.new))) f }
+    ensures kept { Consumes (R.remaining reader.old) (R.remaining reader.new)
+        (take result.0 buffer.new) }
+    ensures ends { Replays limit (R.remaining reader.old) (R.remaining reader.new)
+        (W.contents writer.old) (W.contents writer.new) result.1 }
+    ensures unbuilt { (f : BuildFault) → result.1 ≡ Err (ReplayFault.Build f)
+        → IsUnbuilt (described None (lines (take result.0 buffer.new))) f }
     ensures read { ConsumesUpTo (limit + 1) (R.remaining reader.old) (R.remaining reader.new) }
     ensures whole { OnOk result.1 (IsAtEnd (R.remaining reader.new)) }
     ensures build_memory { result.1 ≢ Err (ReplayFault.Build BuildFault.Memory) }
@@ -192,7 +211,8 @@ fn replay_within<R: Read, W: Write>(
     writer: &mut W,
 ) -> Result<(), ReplayFault>
     requires { limit ≤ LIMIT }
-    ensures ends { Replays limit (R.remaining reader.old) (R.remaining reader.new) (W.contents writer.old) (W.contents writer.new) result }
+    ensures ends { Replays limit (R.remaining reader.old) (R.remaining reader.new)
+        (W.contents writer.old) (W.contents writer.new) result }
     ensures read { ConsumesUpTo (limit + 1) (R.remaining reader.old) (R.remaining reader.new) }
     ensures whole { OnOk result (IsAtEnd (R.remaining reader.new)) }
     ensures build_memory { result ≢ Err (ReplayFault.Build BuildFault.Memory) }
@@ -214,8 +234,10 @@ fn explained_within<R: Read, W: Write>(
     writer: &mut W,
 ) -> Result<(), Refused>
     requires { limit ≤ LIMIT }
-    ensures ends { Replays limit (R.remaining reader.old) (R.remaining reader.new) (W.contents writer.old) (W.contents writer.new) (without_reason result) }
-    ensures explained { IfErr result (IsExplained (R.remaining reader.old) (R.remaining reader.new)) }
+    ensures ends { Replays limit (R.remaining reader.old) (R.remaining reader.new)
+        (W.contents writer.old) (W.contents writer.new) (without_reason result) }
+    ensures explained { IfErr result
+        (IsExplained (R.remaining reader.old) (R.remaining reader.new)) }
     ensures read { ConsumesUpTo (limit + 1) (R.remaining reader.old) (R.remaining reader.new) }
     ensures whole { OnOk result (IsAtEnd (R.remaining reader.new)) }
     ensures build_memory { without_reason result ≢ Err (ReplayFault.Build BuildFault.Memory) }
@@ -243,8 +265,10 @@ pub fn run_replay_explained<R: Read, W: Write>(
     reader: &mut R,
     writer: &mut W,
 ) -> Result<(), Refused>
-    ensures ends { Replays LIMIT (R.remaining reader.old) (R.remaining reader.new) (W.contents writer.old) (W.contents writer.new) (without_reason result) }
-    ensures explained { IfErr result (IsExplained (R.remaining reader.old) (R.remaining reader.new)) }
+    ensures ends { Replays LIMIT (R.remaining reader.old) (R.remaining reader.new)
+        (W.contents writer.old) (W.contents writer.new) (without_reason result) }
+    ensures explained { IfErr result
+        (IsExplained (R.remaining reader.old) (R.remaining reader.new)) }
     ensures read { ConsumesUpTo (LIMIT + 1) (R.remaining reader.old) (R.remaining reader.new) }
     ensures whole { OnOk result (IsAtEnd (R.remaining reader.new)) }
     ensures build_memory { without_reason result ≢ Err (ReplayFault.Build BuildFault.Memory) }
@@ -252,28 +276,39 @@ pub fn run_replay_explained<R: Read, W: Write>(
     explained_within(alloc, LIMIT, reader, writer)
 }
 
-/// Plays the script that the reader has, and writes its text. Each outcome has a clause of its name;
-/// `ends` has all of them in one.
+/// Plays the script that the reader has, and writes its text. Each outcome has a clause of its
+/// name; `ends` has all of them in one.
 pub fn run_replay<R: Read, W: Write>(
     alloc: Global,
     reader: &mut R,
     writer: &mut W,
 ) -> Result<(), ReplayFault>
     ensures limit { LIMIT ≡ 1048576 }
-    ensures done { OnOk result (OfScript (R.remaining reader.old) (IsPlayed LIMIT (W.contents writer.old) (W.contents writer.new) None)) }
-    ensures bad_line { (n : ℕ) → result ≡ Err (ReplayFault.BadLine n) →
-        OfScript (R.remaining reader.old) (IsPlayed LIMIT (W.contents writer.old) (W.contents writer.new) (Some (ReplayFault.BadLine n))) }
-    ensures build { (f : BuildFault) → result ≡ Err (ReplayFault.Build f) →
-        OfScript (R.remaining reader.old) (IsPlayed LIMIT (W.contents writer.old) (W.contents writer.new) (Some (ReplayFault.Build f))) }
-    ensures too_long { result ≡ Err ReplayFault.TooLong →
-        OfScript (R.remaining reader.old) (IsTooLong LIMIT (W.contents writer.old) (W.contents writer.new)) }
-    ensures read_fault { result ≡ Err ReplayFault.Read →
-        OfScript (R.remaining reader.old) (IsUnread LIMIT (R.remaining reader.new) (W.contents writer.old) (W.contents writer.new)) }
-    ensures write_fault { result ≡ Err ReplayFault.Write →
-        OfScript (R.remaining reader.old) (IsUnwritten LIMIT (W.contents writer.old) (W.contents writer.new)) }
-    ensures memory { result ≡ Err ReplayFault.Memory →
-        OfScript (R.remaining reader.old) (IsCutShort LIMIT (W.contents writer.old) (W.contents writer.new)) }
-    ensures ends { Replays LIMIT (R.remaining reader.old) (R.remaining reader.new) (W.contents writer.old) (W.contents writer.new) result }
+    ensures done { OnOk result (OfScript (R.remaining reader.old)
+        (IsPlayed LIMIT (W.contents writer.old) (W.contents writer.new) None)) }
+    ensures bad_line { (n : ℕ) → result ≡ Err (ReplayFault.BadLine n)
+        → OfScript (R.remaining reader.old)
+        (IsPlayed LIMIT (W.contents writer.old) (W.contents writer.new)
+        (Some (ReplayFault.BadLine n))) }
+    ensures build { (f : BuildFault) → result ≡ Err (ReplayFault.Build f)
+        → OfScript (R.remaining reader.old)
+        (IsPlayed LIMIT (W.contents writer.old) (W.contents writer.new)
+        (Some (ReplayFault.Build f))) }
+    ensures too_long { result ≡ Err ReplayFault.TooLong
+        → OfScript (R.remaining reader.old)
+        (IsTooLong LIMIT (W.contents writer.old) (W.contents writer.new)) }
+    ensures read_fault { result ≡ Err ReplayFault.Read
+        → OfScript (R.remaining reader.old)
+        (IsUnread LIMIT (R.remaining reader.new) (W.contents writer.old)
+        (W.contents writer.new)) }
+    ensures write_fault { result ≡ Err ReplayFault.Write
+        → OfScript (R.remaining reader.old)
+        (IsUnwritten LIMIT (W.contents writer.old) (W.contents writer.new)) }
+    ensures memory { result ≡ Err ReplayFault.Memory
+        → OfScript (R.remaining reader.old)
+        (IsCutShort LIMIT (W.contents writer.old) (W.contents writer.new)) }
+    ensures ends { Replays LIMIT (R.remaining reader.old) (R.remaining reader.new)
+        (W.contents writer.old) (W.contents writer.new) result }
     ensures read { ConsumesUpTo (LIMIT + 1) (R.remaining reader.old) (R.remaining reader.new) }
     ensures whole { OnOk result (IsAtEnd (R.remaining reader.new)) }
     ensures build_memory { result ≢ Err (ReplayFault.Build BuildFault.Memory) }

@@ -1,7 +1,8 @@
 //! Serving a device: what comes is handled, and what it answers is sent.
 
 ghost use Rattle.std.specs.Prelude.{◌≡◌};
-ghost use Rattle.bac_serve.specs.Serving.{Answers, Serves, ServesNext, ServesOne, Ticks, receiver_of, server};
+ghost use Rattle.bac_serve.specs.Serving.{Answers, Serves, ServesNext, ServesOne, Ticks};
+ghost use Rattle.bac_serve.specs.Serving.{receiver_of, server};
 
 use crate::clock::Clock;
 use bac_device::{Device, Receiver};
@@ -21,7 +22,8 @@ pub fn serve_one<P: Port, C: Clock>(
     device: &mut Device,
     clock: &mut C,
 ) -> Result<bool, SocketFault>
-    ensures { ServesOne P.sends P.receives C.tells (server port.old device.old clock.old) result (server port.new device.new clock.new) }
+    ensures { ServesOne P.sends P.receives C.tells (server port.old device.old clock.old) result
+        (server port.new device.new clock.new) }
 {
     let heard = port.receive()?;
     answer(port, device, clock, heard)
@@ -37,7 +39,8 @@ pub fn serve<P: Port, C: Clock>(
     clock: &mut C,
     count: u32,
 ) -> Result<(), SocketFault>
-    ensures { Serves P.sends P.receives C.tells count (server port.old device.old clock.old) result (server port.new device.new clock.new) }
+    ensures { Serves P.sends P.receives C.tells count (server port.old device.old clock.old) result
+        (server port.new device.new clock.new) }
 {
     for served in 0..count {
         serve_next(port, device, clock, WAITS)?;
@@ -53,7 +56,8 @@ fn serve_next<P: Port, C: Clock>(
     clock: &mut C,
     waits: u64,
 ) -> Result<(), SocketFault>
-    ensures { ServesNext P.sends P.receives C.tells waits (server port.old device.old clock.old) result (server port.new device.new clock.new) }
+    ensures { ServesNext P.sends P.receives C.tells waits (server port.old device.old clock.old)
+        result (server port.new device.new clock.new) }
 {
     for waited in 0..waits {
         match port.receive() {
@@ -75,7 +79,8 @@ fn answer<P: Port, C: Clock>(
     clock: &mut C,
     heard: Heard,
 ) -> Result<bool, SocketFault>
-    ensures { Answers P.sends C.tells heard (server port.old device.old clock.old) result (server port.new device.new clock.new) }
+    ensures { Answers P.sends C.tells heard (server port.old device.old clock.old) result
+        (server port.new device.new clock.new) }
 {
     let Heard { from, datagram } = heard;
     tick(device, clock);

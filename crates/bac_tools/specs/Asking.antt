@@ -38,8 +38,8 @@ use Rattle.bac_words.specs.declared.job.Asked.{Asked}
 abbrev pub OverLink : Type 0 → Type 0 → Type 1
 OverLink P A = UdpLink P → A → UdpLink P → Held → Held → Type 0
 
--- A socket is opened as the words say, this is done over a link to the device that they name, its answer is the end, and
--- the socket is closed as the link left it.
+-- A socket is opened as the words say, this is done over a link to the device that they name, its answer is the end,
+-- and the socket is closed as the link left it.
 abbrev pub AsksDevice : {S P A : Type 0} → SocketRules S P → Asked → OverLink P A → (A → Ending) →
     Outside S → Ending → Outside S → Type 0
 AsksDevice {P = P} {A = A} rules asked does ends old result new =
@@ -70,8 +70,8 @@ Writes rules asked question old result new =
 
 -- ---- bac logs
 
--- The table of these trend logs, or of each that the device lists: each cell is of what came to the question for it, which
--- the next transaction of a client asked that had begun none before.
+-- The table of these trend logs, or of each that the device lists: each cell is of what came to the question for it,
+-- which the next transaction of a client asked that had begun none before.
 abbrev pub Lists : {S P : Type 0} → SocketRules S P → Asked → List Id → Outside S → Ending → Outside S → Type 0
 Lists rules asked logs old result new =
     AsksDevice rules asked
@@ -109,8 +109,8 @@ FetchesRun rules layout asked walk steps fetching left old new =
 
 -- A log is fetched over a link: replies came, one after the other, each to the next transaction of the client, which
 -- has begun none before, and begins two a step at most; what is printed is the text of the items that they brought, and
--- the end of their run; and if they say what one log holds, those are what it held. Of a bad reply, and of nothing else,
--- it is told what is wrong with it.
+-- the end of their run; and if they say what one log holds, those are what it held. Of a bad reply, and of nothing
+-- else, it is told what is wrong with it.
 abbrev pub FetchesOn : {S P : Type 0} → SocketRules S P → Layout → Asked → WalkPlace → ℕ →
     UdpLink P → Fetching → UdpLink P → Held → Held → Type 0
 FetchesOn rules layout asked walk steps link fetching left had has =

@@ -154,8 +154,8 @@ Works rules tells (job.Kept asked) old result new = IsElsewhere old result new
 
 -- ---- the status
 
--- The fault's text is written on the errors, or a front part of it; or, without memory for it, that of out of memory. The
--- text tells what passed since the last question.
+-- The fault's text is written on the errors, or a front part of it; or, without memory for it, that of out of memory.
+-- The text tells what passed since the last question.
 abbrev pub IsToldAfter : Passed → Fault → Held → Held → ℕ → Type 0
 IsToldAfter passed fault old new status =
     ((status ≡ exit_status fault) × AppendsPart old new (told_after passed fault))
@@ -175,8 +175,8 @@ abbrev pub OnlyTells : {S C : Type 0} → Fault → Streams S C → ℕ → Stre
 OnlyTells fault old status new =
     IsTold fault old.errors new.errors status × Keeps old.output new.output × IsUntouched old new
 
--- What the words ask for is done, which leaves this on the errors, and then its fault is told, with what the sockets know of
--- the port that was closed last; or nothing is done, as there is no memory for the words.
+-- What the words ask for is done, which leaves this on the errors, and then its fault is told, with what the sockets
+-- know of the port that was closed last; or nothing is done, as there is no memory for the words.
 abbrev pub Runs : {S P C : Type 0} → SocketRules S P → (S → Passed) → (C → Option CivilTime → C → Type 0) →
     Job → Streams S C → ℕ → Streams S C → Type 0
 Runs rules passes tells asked old status new =
@@ -219,8 +219,8 @@ abbrev pub Explains : {S C : Type 0} → ErrorKind → Streams S C → ℕ → S
 Explains kind old status new =
     (IsWish kind × Shows old status new) ⊎ ((IsWish kind → ⊥) × Corrects old status new)
 
--- What is done of words as they were read: their job; or a wrong value is told, or what clap says of them; or that there
--- is no memory for them.
+-- What is done of words as they were read: their job; or a wrong value is told, or what clap says of them; or that
+-- there is no memory for them.
 abbrev pub RunsRead : {S P C : Type 0} → SocketRules S P → (S → Passed) → (C → Option CivilTime → C → Type 0) →
     Result Job WordsFault → Streams S C → ℕ → Streams S C → Type 0
 RunsRead rules passes tells (Ok asked) old status new = Runs rules passes tells asked old status new

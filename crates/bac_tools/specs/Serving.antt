@@ -65,8 +65,8 @@ IsServedOver rules tells address count device port last old result new =
     (server port device old.clock) served (server last after new.clock)
     × (result ≡ of_served served)
 
--- One socket is opened with this address and wait, and closed at the end. Without memory for the line that says so, none
--- is.
+-- One socket is opened with this address and wait, and closed at the end. Without memory for the line that says so,
+-- none is.
 abbrev pub IsServed : {S P C : Type 0} → SocketRules S P → (C → Option CivilTime → C → Type 0) →
     List ℕ → ℕ → ℕ → State → Streams S C → Ending → Streams S C → Type 0
 IsServed rules tells address wait count device old result new =

@@ -20,9 +20,10 @@ pub record Outside (S : Type 0) : Type 0 where
 abbrev pub outside : {S : Type 0} → S → Held → Outside S
 outside sockets output = record { sockets = sockets; output = output }
 
--- One socket is opened at this address, whose receives wait so many milliseconds, this is done over it, and it is closed.
--- Without one the fault is why it isn't opened, and all stays quiet.
-abbrev pub IsDoneOver : {S P : Type 0} → SocketRules S P → List ℕ → ℕ → S → S → Ending → Type 0 → (P → P → Type 0) → Type 0
+-- One socket is opened at this address, whose receives wait so many milliseconds, this is done over it, and it is
+-- closed. Without one the fault is why it isn't opened, and all stays quiet.
+abbrev pub IsDoneOver : {S P : Type 0} → SocketRules S P → List ℕ → ℕ → S → S → Ending → Type 0 → (P → P → Type 0)
+    → Type 0
 IsDoneOver rules address wait old new result quiet does =
     ((why : OpenFault) × rules.opens old address wait (Err why) new × (result ≡ Err (Unopened why)) × quiet)
     ⊎ UsesSocket rules address wait old does new

@@ -34,7 +34,8 @@ pub(crate) struct Asking<P> {
 
 /// Transactions by a route, or with a device of this network.
 fn transactions_by(retries: u8, route: Option<Route>) -> Transactions
-    ensures { result ≡ record { retries = retries; route = route; invoke = 0; begun = 0; pending = None } }
+    ensures { result
+        ≡ record { retries = retries; route = route; invoke = 0; begun = 0; pending = None } }
 {
     match route {
         Some(route) => Transactions::through(retries, route),
@@ -44,7 +45,8 @@ fn transactions_by(retries: u8, route: Option<Route>) -> Transactions
 
 /// Opens a socket to ask the device that the words name, as they say.
 fn connect<S: Sockets>(sockets: &mut S, asked: Asked) -> Result<Asking<S::Socket>, Fault>
-    ensures ok { IfOk result (λ asking. S.opens sockets.old (own_address asked.local) asked.timeout (Ok asking.link.port) sockets.new
+    ensures ok { IfOk result (λ asking. S.opens sockets.old (own_address asked.local) asked.timeout
+        (Ok asking.link.port) sockets.new
         × (asking.link ≡ link_over asked.address asking.link.port)
         × (asking.transactions ≡ transactions_with asked)) }
     ensures err { IfErr result (λ fault. ((why : OpenFault) × (fault ≡ Fault.Unopened why)
@@ -75,8 +77,10 @@ pub(crate) fn rp<S: Sockets, O: Write>(
     reals: Reals,
     output: &mut O,
 ) -> Result<u8, Fault>
-    ensures { Reads (socket_rules S.opens S.closes S.Socket.sends S.Socket.receives S.Socket.receives_within) asked question reals
-        (outside sockets.old (O.contents output.old)) result (outside sockets.new (O.contents output.new)) }
+    ensures { Reads
+        (socket_rules S.opens S.closes S.Socket.sends S.Socket.receives S.Socket.receives_within)
+        asked question reals (outside sockets.old (O.contents output.old)) result
+        (outside sockets.new (O.contents output.new)) }
 {
     let address = asked.address;
     let Asking {
@@ -99,8 +103,10 @@ pub(crate) fn wp<S: Sockets, O: Write>(
     output: &mut O,
 ) -> Result<u8, Fault>
     requires { IsSendable question.now }
-    ensures { Writes (socket_rules S.opens S.closes S.Socket.sends S.Socket.receives S.Socket.receives_within) asked question.now
-        (outside sockets.old (O.contents output.old)) result (outside sockets.new (O.contents output.new)) }
+    ensures { Writes
+        (socket_rules S.opens S.closes S.Socket.sends S.Socket.receives S.Socket.receives_within)
+        asked question.now (outside sockets.old (O.contents output.old)) result
+        (outside sockets.new (O.contents output.new)) }
 {
     let address = asked.address;
     let Asking {
@@ -133,9 +139,11 @@ pub(crate) fn log<S: Sockets, O: Write, E: Write>(
     output: &mut O,
     errors: &mut E,
 ) -> Result<u8, Fault>
-    ensures fetches { Fetches (socket_rules S.opens S.closes S.Socket.sends S.Socket.receives S.Socket.receives_within) asking.layout asked asking.walk asking.steps
-        (outside sockets.old (O.contents output.old)) result (outside sockets.new (O.contents output.new))
-        (E.contents errors.old) (E.contents errors.new) }
+    ensures fetches { Fetches
+        (socket_rules S.opens S.closes S.Socket.sends S.Socket.receives S.Socket.receives_within)
+        asking.layout asked asking.walk asking.steps (outside sockets.old (O.contents output.old))
+        result (outside sockets.new (O.contents output.new)) (E.contents errors.old)
+        (E.contents errors.new) }
     ensures quiet { IfErr result (λ fault. E.contents errors.new ≡ E.contents errors.old) }
 {
     let address = asked.address;
@@ -180,8 +188,10 @@ pub(crate) fn logs<S: Sockets, O: Write>(
     named: &[ObjectId],
     output: &mut O,
 ) -> Result<u8, Fault>
-    ensures { Lists (socket_rules S.opens S.closes S.Socket.sends S.Socket.receives S.Socket.receives_within) asked named.now
-        (outside sockets.old (O.contents output.old)) result (outside sockets.new (O.contents output.new)) }
+    ensures { Lists
+        (socket_rules S.opens S.closes S.Socket.sends S.Socket.receives S.Socket.receives_within)
+        asked named.now (outside sockets.old (O.contents output.old)) result
+        (outside sockets.new (O.contents output.new)) }
 {
     let address = asked.address;
     let Asking {

@@ -2,7 +2,8 @@
 
 ghost use Rattle.std.specs.Prelude.{◌≡◌};
 ghost use Rattle.bac_tools.specs.Faults.{of_query};
-ghost use Rattle.bac_tools.specs.Status.{exit_status, exchange_status, list_status, script_status, walk_status};
+ghost use Rattle.bac_tools.specs.Status.{exit_status, exchange_status, list_status, script_status};
+ghost use Rattle.bac_tools.specs.Status.{walk_status};
 
 use bac_link::{ExchangeFault, Refusal};
 use bac_ports::OpenFault;

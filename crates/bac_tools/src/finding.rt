@@ -46,8 +46,10 @@ fn search_for<S: Sockets, O: Write>(
     timeout: u32,
     output: &mut O,
 ) -> Result<u8, Fault>
-    ensures { Searches (socket_rules S.opens S.closes S.Socket.sends S.Socket.receives S.Socket.receives_within) search.now addresses.now local timeout
-        (outside sockets.old (O.contents output.old)) result (outside sockets.new (O.contents output.new)) }
+    ensures { Searches
+        (socket_rules S.opens S.closes S.Socket.sends S.Socket.receives S.Socket.receives_within)
+        search.now addresses.now local timeout (outside sockets.old (O.contents output.old)) result
+        (outside sockets.new (O.contents output.new)) }
 {
     let mut port = match sockets.open(local.unwrap_or(ANY), timeout) {
         Ok(port) => port,
@@ -115,9 +117,11 @@ pub(crate) fn wi<S: Sockets, I: Read, O: Write>(
     input: &mut I,
     output: &mut O,
 ) -> Result<u8, Fault>
-    ensures { Finds (socket_rules S.opens S.closes S.Socket.sends S.Socket.receives S.Socket.receives_within) search.now stations.now local timeout
-        (I.remaining input.old) (I.remaining input.new)
-        (outside sockets.old (O.contents output.old)) result (outside sockets.new (O.contents output.new)) }
+    ensures { Finds
+        (socket_rules S.opens S.closes S.Socket.sends S.Socket.receives S.Socket.receives_within)
+        search.now stations.now local timeout (I.remaining input.old) (I.remaining input.new)
+        (outside sockets.old (O.contents output.old)) result
+        (outside sockets.new (O.contents output.new)) }
 {
     match stations {
         Stations::Listed(addresses) => {

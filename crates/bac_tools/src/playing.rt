@@ -15,7 +15,8 @@ pub(crate) fn replay<I: Read, O: Write>(
     input: &mut I,
     output: &mut O,
 ) -> Result<u8, Fault>
-    ensures { Plays (I.remaining input.old) (I.remaining input.new) (O.contents output.old) (O.contents output.new) result }
+    ensures { Plays (I.remaining input.old) (I.remaining input.new) (O.contents output.old)
+        (O.contents output.new) result }
 {
     let played = run_replay_explained(alloc, input, output);
     if let Err(

@@ -5,7 +5,10 @@ ghost use Rattle.std.specs.Io.KnownBytes.{Appends};
 ghost use Rattle.std.specs.String.{string_bytes};
 ghost use Rattle.clap.specs.Values.{kind_of};
 ghost use Rattle.bac_print.specs.Output.{AppendsPart};
-ghost use Rattle.bac_tools.specs.Run.{AnswersWords, AreWrong, AskFor, Explains, IsNoLogs, IsNoWalk, IsOutside, IsTold, OnlyTells, Runs, RunsRead, Works, layout_of, priority_of, reals_of, trend_log, walk_from, wrong_fault};
+ghost use Rattle.bac_tools.specs.Run.{AnswersWords, AreWrong, AskFor, Explains, IsNoLogs, IsNoWalk};
+ghost use Rattle.bac_tools.specs.Run.{IsOutside, IsTold, OnlyTells, Runs, RunsRead, Works};
+ghost use Rattle.bac_tools.specs.Run.{layout_of, priority_of, reals_of, trend_log, walk_from};
+ghost use Rattle.bac_tools.specs.Run.{wrong_fault};
 ghost use Rattle.bac_ports.specs.Sockets.{socket_rules};
 ghost use Rattle.bac_tools.specs.Streams.{streams};
 ghost use Rattle.bac_words.specs.Outcome.{mistakes_of};
@@ -36,7 +39,8 @@ use std::io::{Read, Write};
 /// The object of a question.
 fn object(object_type: u16, instance: u32) -> Result<ObjectId, Fault>
     ensures ok { IfOk result (λ id. id ≡ record { kind = object_type; instance = instance }) }
-    ensures err { IfErr result (λ fault. (fault ≡ Fault.BadValue Word.Instance) × IsOutside object_type instance) }
+    ensures err { IfErr result
+        (λ fault. (fault ≡ Fault.BadValue Word.Instance) × IsOutside object_type instance) }
 {
     match ObjectId::new(object_type, instance) {
         Some(object) => Ok(object),
@@ -107,8 +111,8 @@ fn reals(numbers: bool) -> Reals
     }
 }
 
-/// Does what a job asks for; answers the exit status. On the errors a server tells that it is up, and
-/// `log` of a device that it contradicted itself.
+/// Does what a job asks for; answers the exit status. On the errors a server tells that it is up,
+/// and `log` of a device that it contradicted itself.
 fn work<S: Sockets, I: Read, O: Write, E: Write, C: Clock>(
     sockets: &mut S,
     alloc: Global,
@@ -118,9 +122,12 @@ fn work<S: Sockets, I: Read, O: Write, E: Write, C: Clock>(
     errors: &mut E,
     clock: &mut C,
 ) -> Result<u8, Fault>
-    ensures { Works (socket_rules S.opens S.closes S.Socket.sends S.Socket.receives S.Socket.receives_within) C.tells job
-        (streams (I.remaining input.old) (O.contents output.old) (E.contents errors.old) sockets.old clock.old) result
-        (streams (I.remaining input.new) (O.contents output.new) (E.contents errors.new) sockets.new clock.new) }
+    ensures { Works
+        (socket_rules S.opens S.closes S.Socket.sends S.Socket.receives S.Socket.receives_within)
+        C.tells job (streams (I.remaining input.old) (O.contents output.old) (E.contents errors.old)
+        sockets.old clock.old) result
+        (streams (I.remaining input.new) (O.contents output.new) (E.contents errors.new) sockets.new
+        clock.new) }
 {
     match job {
         Job::Replay => replay(alloc, input, output),
@@ -213,7 +220,8 @@ fn work<S: Sockets, I: Read, O: Write, E: Write, C: Clock>(
 /// Writes a text, and flushes the output.
 fn show<O: Write>(text: &[u8], output: &mut O) -> Result<(), WriteRefused>
     ensures ok { OnOk result (Appends (O.contents output.old) (O.contents output.new) text.now) }
-    ensures err { OnErr result (AppendsPart (O.contents output.old) (O.contents output.new) text.now) }
+    ensures err { OnErr result
+        (AppendsPart (O.contents output.old) (O.contents output.new) text.now) }
 {
     if write_text(output, text).is_err() || output.flush().is_err() {
         return Err(WriteRefused);
@@ -224,7 +232,8 @@ fn show<O: Write>(text: &[u8], output: &mut O) -> Result<(), WriteRefused>
 /// Says a mistake in the words, with the tips that help.
 fn correct<E: Write>(alloc: Global, text: &str, errors: &mut E) -> u8
     ensures { IsTold Fault.Memory (E.contents errors.old) (E.contents errors.new) result
-        ⊎ ((result ≡ 1) × ((told : List ℕ) × AppendsPart (E.contents errors.old) (E.contents errors.new) told)) }
+        ⊎ ((result ≡ 1) × ((told : List ℕ)
+        × AppendsPart (E.contents errors.old) (E.contents errors.new) told)) }
 {
     let Ok(told) = with_true_tips(alloc, text) else {
         return tell(alloc, Fault::Memory, errors);
@@ -240,9 +249,11 @@ fn explain<O: Write, E: Write>(
     output: &mut O,
     errors: &mut E,
 ) -> u8
-    ensures { OnlyTells Fault.Memory (streams None (O.contents output.old) (E.contents errors.old) (tt {0}) (tt {0})) result
+    ensures { OnlyTells Fault.Memory
+        (streams None (O.contents output.old) (E.contents errors.old) (tt {0}) (tt {0})) result
         (streams None (O.contents output.new) (E.contents errors.new) (tt {0}) (tt {0}))
-        ⊎ Explains (kind_of error.now) (streams None (O.contents output.old) (E.contents errors.old) (tt {0}) (tt {0})) result
+        ⊎ Explains (kind_of error.now)
+        (streams None (O.contents output.old) (E.contents errors.old) (tt {0}) (tt {0})) result
         (streams None (O.contents output.new) (E.contents errors.new) (tt {0}) (tt {0})) }
 {
     let Ok(text) = format!(in alloc; "{error}") else {
@@ -268,9 +279,12 @@ pub fn run_read<S: Heeds, I: Read, O: Write, E: Write, C: Clock>(
     errors: &mut E,
     clock: &mut C,
 ) -> u8
-    ensures { RunsRead (socket_rules S.opens S.closes S.Socket.sends S.Socket.receives S.Socket.receives_within) S.passes C.tells read
-        (streams (I.remaining input.old) (O.contents output.old) (E.contents errors.old) sockets.old clock.old) result
-        (streams (I.remaining input.new) (O.contents output.new) (E.contents errors.new) sockets.new clock.new) }
+    ensures { RunsRead
+        (socket_rules S.opens S.closes S.Socket.sends S.Socket.receives S.Socket.receives_within)
+        S.passes C.tells read (streams (I.remaining input.old) (O.contents output.old)
+        (E.contents errors.old) sockets.old clock.old) result
+        (streams (I.remaining input.new) (O.contents output.new) (E.contents errors.new) sockets.new
+        clock.new) }
 {
     let job = match read {
         Ok(job) => job,
@@ -285,10 +299,10 @@ pub fn run_read<S: Heeds, I: Read, O: Write, E: Write, C: Clock>(
     }
 }
 
-/// The program `bac` without its files: does what its words ask for, the first of which is its name,
-/// and answers the exit status; `keep` and `kept` are refused as tools of another crate. Results and
-/// help go to the output; faults, and the line of a server that is up, go to the errors. Each is one
-/// write.
+/// The program `bac` without its files: does what its words ask for, the first of which is its
+/// name, and answers the exit status; `keep` and `kept` are refused as tools of another crate.
+/// Results and help go to the output; faults, and the line of a server that is up, go to the
+/// errors. Each is one write.
 pub fn run<S: Heeds, I: Read, O: Write, E: Write, C: Clock>(
     sockets: &mut S,
     alloc: Global,
@@ -299,20 +313,28 @@ pub fn run<S: Heeds, I: Read, O: Write, E: Write, C: Clock>(
     clock: &mut C,
 ) -> u8
     // The tool that the words name does what they say.
-    ensures done { (job : AnyJob) → AskFor (map string_bytes words.now) job →
-        Runs (socket_rules S.opens S.closes S.Socket.sends S.Socket.receives S.Socket.receives_within) S.passes C.tells job
-        (streams (I.remaining input.old) (O.contents output.old) (E.contents errors.old) sockets.old clock.old) result
-        (streams (I.remaining input.new) (O.contents output.new) (E.contents errors.new) sockets.new clock.new) }
+    ensures done { (job : AnyJob) → AskFor (map string_bytes words.now) job
+        → Runs (socket_rules S.opens S.closes S.Socket.sends S.Socket.receives
+        S.Socket.receives_within) S.passes C.tells job
+        (streams (I.remaining input.old) (O.contents output.old) (E.contents errors.old)
+        sockets.old clock.old) result
+        (streams (I.remaining input.new) (O.contents output.new) (E.contents errors.new)
+        sockets.new clock.new) }
     // Of words with a wrong value this is told, and nothing else is done.
-    ensures bad_value { (word : AnyWord) → AreWrong (map string_bytes words.now) word →
-        OnlyTells (wrong_fault (map string_bytes words.now) word)
-        (streams (I.remaining input.old) (O.contents output.old) (E.contents errors.old) sockets.old clock.old) result
-        (streams (I.remaining input.new) (O.contents output.new) (E.contents errors.new) sockets.new clock.new) }
+    ensures bad_value { (word : AnyWord) → AreWrong (map string_bytes words.now) word
+        → OnlyTells (wrong_fault (map string_bytes words.now) word)
+        (streams (I.remaining input.old) (O.contents output.old) (E.contents errors.old)
+        sockets.old clock.old) result
+        (streams (I.remaining input.new) (O.contents output.new) (E.contents errors.new)
+        sockets.new clock.new) }
     // Words that ask for help or the version have it on the output, those with a mistake on the
     // errors, and nothing else is done.
-    ensures explained { (mistakes_of (map string_bytes words.now) ≡ [] → ⊥) → AnswersWords (map string_bytes words.now)
-        (streams (I.remaining input.old) (O.contents output.old) (E.contents errors.old) sockets.old clock.old) result
-        (streams (I.remaining input.new) (O.contents output.new) (E.contents errors.new) sockets.new clock.new) }
+    ensures explained { (mistakes_of (map string_bytes words.now) ≡ [] → ⊥)
+        → AnswersWords (map string_bytes words.now)
+        (streams (I.remaining input.old) (O.contents output.old) (E.contents errors.old)
+        sockets.old clock.old) result
+        (streams (I.remaining input.new) (O.contents output.new) (E.contents errors.new)
+        sockets.new clock.new) }
 {
     let read = read_words(alloc, words);
     run_read(sockets, alloc, read, input, output, errors, clock)

@@ -1,7 +1,11 @@
 //! What is told of a script or a configuration that isn't right: what to mend.
 
 ghost use Rattle.std.specs.Prelude.{◌≡◌, ◌++◌, codes, decimal, OnOk};
-ghost use Rattle.bac_tools.specs.Reasons.{blanks_text, default_text, first_word, fitting_text, flaw_text, form_text, in_line, line_text, list_text, listed_badly, misfit_text, namesake_text, number_text, place_text, reason_text, second_line, some_line, unanswered_text, unbuilt_line, wanted_text, word_flaw};
+ghost use Rattle.bac_tools.specs.Reasons.{blanks_text, default_text, first_word, fitting_text};
+ghost use Rattle.bac_tools.specs.Reasons.{flaw_text, form_text, in_line, line_text, list_text};
+ghost use Rattle.bac_tools.specs.Reasons.{listed_badly, misfit_text, namesake_text, number_text};
+ghost use Rattle.bac_tools.specs.Reasons.{place_text, reason_text, second_line, some_line};
+ghost use Rattle.bac_tools.specs.Reasons.{unanswered_text, unbuilt_line, wanted_text, word_flaw};
 
 use bac_device::{BuildFault, LineId, Misfit};
 use bac_print::push_number;
@@ -102,7 +106,8 @@ fn push_blanks(text: &mut Vec<u8>, number: usize) -> Result<(), AllocError>
 
 /// Appends which word is a number that is too long.
 fn push_long(text: &mut Vec<u8>, number: usize, wanted: Wanted) -> Result<(), AllocError>
-    ensures { OnOk result (text.new.items ≡ text.old.items ++ (word_flaw number wanted ++ codes ", of at most 10 digits")) }
+    ensures { OnOk result (text.new.items
+        ≡ text.old.items ++ (word_flaw number wanted ++ codes ", of at most 10 digits")) }
 {
     push_word(text, number, wanted)?;
     text.extend_from_slice(b", of at most 10 digits")
@@ -115,7 +120,8 @@ fn push_flaw(text: &mut Vec<u8>, flaw: Flaw) -> Result<(), AllocError>
 {
     match flaw {
         Flaw::Kind => text.extend_from_slice(
-            b"a line begins with device, binary, multistate, integer, log, rx, clock, sample or walk",
+            b"a line begins with device, binary, multistate, integer, log, rx, clock, sample or \
+              walk",
         ),
         Flaw::Described => text.extend_from_slice(
             b"a line begins with device, binary, multistate, integer or log",
@@ -212,7 +218,8 @@ fn push_fitting(
     namesake: Option<LineId>,
     rival: Option<usize>,
 ) -> Result<(), AllocError>
-    ensures { OnOk result (text.new.items ≡ text.old.items ++ fitting_text fault object_type namesake rival) }
+    ensures { OnOk result
+        (text.new.items ≡ text.old.items ++ fitting_text fault object_type namesake rival) }
 {
     match fault {
         BuildFault::DuplicateName => {

@@ -22,9 +22,10 @@ use std::io::{Read, Write};
 
 /// Reads the configuration to its end; beside it its text.
 fn configured<I: Read>(alloc: Global, input: &mut I) -> Result<(Configuration, Vec<u8>), Fault>
-    ensures ok { IfOk result (λ read. IsConfigured (I.remaining input.old) (I.remaining input.new) (Ok read.0)
-        × IfSome (I.remaining input.old) (λ script. read.1.items ≡ script)) }
-    ensures err { IfErr result (λ fault. IsConfigured (I.remaining input.old) (I.remaining input.new) (Err fault)) }
+    ensures ok { IfOk result (λ read. IsConfigured (I.remaining input.old) (I.remaining input.new)
+        (Ok read.0) × IfSome (I.remaining input.old) (λ script. read.1.items ≡ script)) }
+    ensures err { IfErr result
+        (λ fault. IsConfigured (I.remaining input.old) (I.remaining input.new) (Err fault)) }
 {
     match read_configuration_explained(alloc, input) {
         Ok(read) => {
@@ -44,7 +45,8 @@ fn configured<I: Read>(alloc: Global, input: &mut I) -> Result<(Configuration, V
 /// Why the lines of a text make no device: the first line that has a fault, or that memory ran out,
 /// if none has.
 fn unfit(alloc: Global, configuration: &Configuration, text: &[u8]) -> Fault
-    ensures { IsUnbuilt (Some text.now) configuration.now.device configuration.now.objects.items result }
+    ensures { IsUnbuilt (Some text.now) configuration.now.device configuration.now.objects.items
+        result }
 {
     match misfit(alloc, &configuration.device, &configuration.objects) {
         Some(misfit) => Fault::Script(Refused {
@@ -57,9 +59,11 @@ fn unfit(alloc: Global, configuration: &Configuration, text: &[u8]) -> Fault
 
 /// Builds the device that a text describes. The text is let go.
 fn built(alloc: Global, configuration: &Configuration, text: Vec<u8>) -> Result<Device, Fault>
-    ensures ok { IfOk result (λ device. (build_fault configuration.now.device configuration.now.objects.items ≡ None)
+    ensures ok { IfOk result (λ device. (build_fault configuration.now.device
+        configuration.now.objects.items ≡ None)
         × (device ≡ built_of configuration.now.device configuration.now.objects.items)) }
-    ensures err { IfErr result (IsUnbuilt (Some text.items) configuration.now.device configuration.now.objects.items) }
+    ensures err { IfErr result
+        (IsUnbuilt (Some text.items) configuration.now.device configuration.now.objects.items) }
 {
     match Device::build(alloc, &configuration.device, &configuration.objects) {
         Ok(device) => Ok(device),
@@ -79,7 +83,8 @@ fn open_socket<S: Sockets, E: Write>(
         × AppendsPart (E.contents errors.old) (E.contents errors.new) (serving_line address)) }
     ensures err { IfErr result (λ fault. (errors.new ≡ errors.old)
         × (((fault ≡ Fault.Memory) × (sockets.new ≡ sockets.old))
-        ⊎ ((why : OpenFault) × (fault ≡ Fault.Unopened why) × S.opens sockets.old address wait (Err why) sockets.new))) }
+        ⊎ ((why : OpenFault) × (fault ≡ Fault.Unopened why)
+        × S.opens sockets.old address wait (Err why) sockets.new))) }
 {
     // The memory for the line comes first: a socket that is open is told.
     let Ok(line) = announcement(alloc, address) else {
@@ -104,7 +109,9 @@ pub(crate) fn serve<S: Sockets, I: Read, E: Write, C: Clock>(
     errors: &mut E,
     clock: &mut C,
 ) -> Result<u8, Fault>
-    ensures { Serves (socket_rules S.opens S.closes S.Socket.sends S.Socket.receives S.Socket.receives_within) C.tells address count
+    ensures { Serves
+        (socket_rules S.opens S.closes S.Socket.sends S.Socket.receives S.Socket.receives_within)
+        C.tells address count
         (streams (I.remaining input.old) None (E.contents errors.old) sockets.old clock.old) result
         (streams (I.remaining input.new) None (E.contents errors.new) sockets.new clock.new) }
 {

@@ -5,7 +5,10 @@ ghost use Rattle.bac_print.specs.Output.{AppendsPart};
 ghost use Rattle.bac_query.specs.Ends.{cause_text, refusal_text};
 ghost use Rattle.bac_heeding.specs.Silence.{silence_text};
 ghost use Rattle.bac_tools.specs.Run.{IsTold, IsToldAfter};
-ghost use Rattle.bac_tools.specs.Texts.{bad_reply, build_text, exchange_text, fault_text, long_text, lost_text, of_address, open_text, range_text, refusal_lines, script_text, serving_line, told_after, unbuilt_text, word_text, wrong_text};
+ghost use Rattle.bac_tools.specs.Texts.{bad_reply, build_text, exchange_text, fault_text};
+ghost use Rattle.bac_tools.specs.Texts.{long_text, lost_text, of_address, open_text, range_text};
+ghost use Rattle.bac_tools.specs.Texts.{refusal_lines, script_text, serving_line, told_after};
+ghost use Rattle.bac_tools.specs.Texts.{unbuilt_text, word_text, wrong_text};
 
 use crate::fault::Fault;
 use crate::flaw::push_reply_flaw;
@@ -134,7 +137,8 @@ fn push_of_address(
     said: &str,
     address: [u8; 6],
 ) -> Result<(), AllocError>
-    ensures { OnOk result (text.new.items ≡ text.old.items ++ of_address line.now said.now address) }
+    ensures { OnOk result
+        (text.new.items ≡ text.old.items ++ of_address line.now said.now address) }
 {
     text.extend_from_slice(line.as_bytes())?;
     text.push(b'\n')?;
@@ -152,7 +156,8 @@ fn push_refused(text: &mut Vec<u8>, refused: Refused) -> Result<(), AllocError>
 
 /// Appends how a device refused, and on a second line what that means.
 fn push_refused_by(text: &mut Vec<u8>, refusal: Refusal) -> Result<(), AllocError>
-    ensures { OnOk result (text.new.items ≡ text.old.items ++ (refusal_text refusal ++ (10 ∷ cause_text refusal))) }
+    ensures { OnOk result
+        (text.new.items ≡ text.old.items ++ (refusal_text refusal ++ (10 ∷ cause_text refusal))) }
 {
     push_refusal(text, refusal)?;
     text.push(b'\n')?;
@@ -203,7 +208,8 @@ fn push_line(text: &mut Vec<u8>, said: &str) -> Result<(), AllocError>
 
 /// Appends that a socket couldn't be opened, and why if the system says it.
 fn push_unopened(text: &mut Vec<u8>, why: OpenFault) -> Result<(), AllocError>
-    ensures { OnOk result (text.new.items ≡ text.old.items ++ (codes "socket fault" ++ open_text why)) }
+    ensures { OnOk result
+        (text.new.items ≡ text.old.items ++ (codes "socket fault" ++ open_text why)) }
 {
     text.extend_from_slice(b"socket fault")?;
     match why {
@@ -277,8 +283,8 @@ pub(crate) fn say<E: Write>(text: &[u8], errors: &mut E)
 }
 
 /// Tells a fault with one write, and answers its exit status; a refused write changes nothing. What
-/// passed since the last question is told where its answer didn't come. Without memory for its text,
-/// it is out of memory in its place.
+/// passed since the last question is told where its answer didn't come. Without memory for its
+/// text, it is out of memory in its place.
 pub fn tell_after<E: Write>(alloc: Global, passed: Passed, fault: Fault, errors: &mut E) -> u8
     ensures { IsToldAfter passed fault (E.contents errors.old) (E.contents errors.new) result }
 {

@@ -40,7 +40,8 @@ impl<W: Write> Write for UntilRefused<W> {
 
     fn write(&mut self, octets: &[u8]) -> Result<usize>
         ensures bound { WritesAtMost result octets.now }
-        ensures bytes { WriteAppends (W.contents self.old.writer) (W.contents self.new.writer) result octets.now }
+        ensures bytes { WriteAppends (W.contents self.old.writer) (W.contents self.new.writer)
+            result octets.now }
         // After a refused write none reaches the writer.
         ensures over { self.old.refused ≡ true → IsErr result × (self.new ≡ self.old) }
     {

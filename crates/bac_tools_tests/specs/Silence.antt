@@ -37,7 +37,8 @@ NeverFails {S = S} {P = P} rules =
 -- as the retries say, with the same octets, no answer came, and nothing more was done before the socket was closed.
 abbrev pub LostWasAsked : {S P C : Type 0} → SocketRules S P → (C → Option CivilTime → C → Type 0) → Type 0
 LostWasAsked {S = S} {P = P} {C = C} rules tells =
-    (asked : Asked) (object_type instance property : ℕ) (index : Option ℕ) (numbers trace : Bool) (old new : Streams S C) →
+    (asked : Asked) (object_type instance property : ℕ) (index : Option ℕ) (numbers trace : Bool)
+    (old new : Streams S C) →
     Works rules tells (Rp asked object_type instance property index numbers trace) old
     (Err (Exchange asked.address exchange.Lost)) new →
     UsesSocket rules (own_address asked.local) asked.timeout old.sockets

@@ -1,6 +1,7 @@
 //! What a user of the queries needs, proved from their public contracts alone.
 
-ghost use Rattle.std.specs.Prelude.{◌≡◌, ◌+◌, ◌<◌, ◌≤◌, ◌++◌, ℕ, List, None, true, length, Err, IfOk, IfSome};
+ghost use Rattle.std.specs.Prelude.{◌≡◌, ◌+◌, ◌<◌, ◌≤◌, ◌++◌, ℕ, List, None, true, length, Err};
+ghost use Rattle.std.specs.Prelude.{IfOk, IfSome};
 ghost use Rattle.std.specs.Io.KnownBytes.{Appends};
 ghost use Rattle.bac_log.specs.TrendLog.{sequence_number};
 ghost use Rattle.bac_link.specs.Delivery.{History, Moment, DeliversTo};
@@ -62,17 +63,18 @@ pub fn written_until_lost<L: LogLink, W: Write>(
     out: &mut W,
 ) -> Result<(), QueryFault>
     requires { IsSendable asked.now }
-    ensures { result ≡ Err (QueryFault.Exchange ExchangeFault.Lost) →
-        Unanswered L.asks (request_octets (towards transactions.old.route) (next_invoke transactions.old.invoke) asked.now)
-        (transactions.old.retries + 1) link.old link.new }
+    ensures { result ≡ Err (QueryFault.Exchange ExchangeFault.Lost)
+        → Unanswered L.asks (request_octets (towards transactions.old.route)
+        (next_invoke transactions.old.invoke) asked.now) (transactions.old.retries + 1)
+        link.old link.new }
 {
     write_property(link, transactions, asked, out)
 }
 
 /// Over a link that is honest for a log, whatever records it holds: what is printed from
-/// number s on, if no write was refused, are the lines of the records that the log holds when each is
-/// reached, each once, in rising order, with the gaps before them, and the end line; and the only
-/// fault that it tells is a loss.
+/// number s on, if no write was refused, are the lines of the records that the log holds when each
+/// is reached, each once, in rising order, with the gaps before them, and the end line; and the
+/// only fault that it tells is a loss.
 pub fn printed_by_the_standard<L: LogLink, W: Write>(
     alloc: Global,
     link: &mut L,
@@ -81,12 +83,14 @@ pub fn printed_by_the_standard<L: LogLink, W: Write>(
     steps: u32,
     out: &mut W,
 ) -> Option<Result<Fetched, QueryFault>>
-    ensures { IfSome result (λ fetched. IfOk fetched (λ done. (M : List Moment) (H : History) (k low : ℕ) →
-        IsHonest L.asks (towards None) log 100 H low link.old M → s ≡ sequence_number k →
-        0 < length M → NeverGoesBack M → AreInWindow low M → low ≤ k → k < low + 2147483648 →
-        (items : List Item) × (a : ℕ) × (t : ℕ) × (done.next ≡ sequence_number t)
-        × DeliversTo H k items t M a
-        × Appends (W.contents out.old) (W.contents out.new) (items_text items ++ end_line done.why done.next)
+    ensures { IfSome result (λ fetched. IfOk fetched
+        (λ done. (M : List Moment) (H : History) (k low : ℕ)
+        → IsHonest L.asks (towards None) log 100 H low link.old M → s ≡ sequence_number k
+        → 0 < length M → NeverGoesBack M → AreInWindow low M → low ≤ k
+        → k < low + 2147483648 → (items : List Item) × (a : ℕ) × (t : ℕ)
+        × (done.next ≡ sequence_number t) × DeliversTo H k items t M a
+        × Appends (W.contents out.old) (W.contents out.new)
+        (items_text items ++ end_line done.why done.next)
         × ((e : WalkFaultOf) → done.why ≡ Why.Fault e → e ≡ Loss))) }
 {
     // For the prover alone, both: laws that the contract follows from.

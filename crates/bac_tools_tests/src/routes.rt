@@ -1,5 +1,5 @@
-//! The words that name a device behind a router. What no tool takes is in examples/check/words.rows,
-//! what is sent and printed in examples/check/finding.talk.
+//! The words that name a device behind a router. What no tool takes is in
+//! examples/check/words.rows, what is sent and printed in examples/check/finding.talk.
 
 use crate::words::compare;
 use std::test::Fail;

@@ -26,11 +26,13 @@ pub fn logged<S: Heeds, I: Read, O: Write, E: Write, C: Clock>(
     errors: &mut E,
     clock: &mut C,
 ) -> u8
-    ensures { (asked : AskedOf) (instance steps count : ℕ) (from : Option ℕ) (trace : Bool) →
-        AskFor (map string_bytes words.now) (Log asked instance from steps count false trace) → result ≡ 0 →
-        UsesSocket (socket_rules S.opens S.closes S.Socket.sends S.Socket.receives S.Socket.receives_within) (own_address asked.local) asked.timeout
-        sockets.old (λ port last. IsLogged (socket_rules S.opens S.closes S.Socket.sends S.Socket.receives S.Socket.receives_within) asked
-        (walk_from instance from count) port last (O.contents output.old) (O.contents output.new)) sockets.new }
+    ensures { (asked : AskedOf) (instance steps count : ℕ) (from : Option ℕ) (trace : Bool)
+        → AskFor (map string_bytes words.now) (Log asked instance from steps count false trace)
+        → result ≡ 0 → UsesSocket (socket_rules S.opens S.closes S.Socket.sends S.Socket.receives
+        S.Socket.receives_within) (own_address asked.local) asked.timeout sockets.old
+        (λ port last. IsLogged (socket_rules S.opens S.closes S.Socket.sends S.Socket.receives
+        S.Socket.receives_within) asked (walk_from instance from count) port last
+        (O.contents output.old) (O.contents output.new)) sockets.new }
 {
     run(sockets, alloc, words, input, output, errors, clock)
 }
@@ -46,17 +48,21 @@ pub fn logged_at_rest<S: Heeds, I: Read, O: Write, E: Write, C: Clock>(
     errors: &mut E,
     clock: &mut C,
 ) -> u8
-    ensures { (asked : AskedOf) (instance steps count number : ℕ) (trace : Bool) →
-        AskFor (map string_bytes words.now) (Log asked instance (Some number) steps count false trace) → result ≡ 0 →
-        UsesSocket (socket_rules S.opens S.closes S.Socket.sends S.Socket.receives S.Socket.receives_within) (own_address asked.local) asked.timeout
-        sockets.old (λ port last. IsLoggedAtRest (socket_rules S.opens S.closes S.Socket.sends S.Socket.receives S.Socket.receives_within) asked
-        (walk_from instance (Some number) count) steps port last (O.contents output.old) (O.contents output.new)) sockets.new }
+    ensures { (asked : AskedOf) (instance steps count number : ℕ) (trace : Bool)
+        → AskFor (map string_bytes words.now)
+        (Log asked instance (Some number) steps count false trace) → result ≡ 0
+        → UsesSocket (socket_rules S.opens S.closes S.Socket.sends S.Socket.receives
+        S.Socket.receives_within) (own_address asked.local) asked.timeout sockets.old
+        (λ port last. IsLoggedAtRest (socket_rules S.opens S.closes S.Socket.sends
+        S.Socket.receives S.Socket.receives_within) asked
+        (walk_from instance (Some number) count) steps port last (O.contents output.old)
+        (O.contents output.new)) sockets.new }
 {
     run(sockets, alloc, words, input, output, errors, clock)
 }
 
-/// If the words ask for a log and the status is 4, one socket was opened, a reply to the walk's last
-/// question came over it, and what is told is wrong with that reply.
+/// If the words ask for a log and the status is 4, one socket was opened, a reply to the walk's
+/// last question came over it, and what is told is wrong with that reply.
 pub fn bad_reply_explained<S: Heeds, I: Read, O: Write, E: Write, C: Clock>(
     sockets: &mut S,
     alloc: Global,
@@ -66,11 +72,14 @@ pub fn bad_reply_explained<S: Heeds, I: Read, O: Write, E: Write, C: Clock>(
     errors: &mut E,
     clock: &mut C,
 ) -> u8
-    ensures { (asked : AskedOf) (instance steps count : ℕ) (from : Option ℕ) (trace : Bool) →
-        AskFor (map string_bytes words.now) (Log asked instance from steps count false trace) → result ≡ 4 →
-        UsesSocket (socket_rules S.opens S.closes S.Socket.sends S.Socket.receives S.Socket.receives_within) (own_address asked.local) asked.timeout
-        sockets.old (λ port last. IsExplained (socket_rules S.opens S.closes S.Socket.sends S.Socket.receives S.Socket.receives_within) asked
-        (walk_from instance from count) last (E.contents errors.old) (E.contents errors.new)) sockets.new }
+    ensures { (asked : AskedOf) (instance steps count : ℕ) (from : Option ℕ) (trace : Bool)
+        → AskFor (map string_bytes words.now) (Log asked instance from steps count false trace)
+        → result ≡ 4 → UsesSocket (socket_rules S.opens S.closes S.Socket.sends S.Socket.receives
+        S.Socket.receives_within) (own_address asked.local) asked.timeout sockets.old
+        (λ port last. IsExplained (socket_rules S.opens S.closes S.Socket.sends
+        S.Socket.receives S.Socket.receives_within) asked
+        (walk_from instance from count) last (E.contents errors.old)
+        (E.contents errors.new)) sockets.new }
 {
     run(sockets, alloc, words, input, output, errors, clock)
 }
@@ -86,12 +95,14 @@ pub fn printed_in_order<S: Heeds, I: Read, O: Write, E: Write, C: Clock>(
     errors: &mut E,
     clock: &mut C,
 ) -> u8
-    ensures { (asked : AskedOf) (instance steps count : ℕ) (from : Option ℕ) (trace : Bool) →
-        AskFor (map string_bytes words.now) (Log asked instance from steps count false trace) →
-        Keeps (O.contents output.old) (O.contents output.new)
-        ⊎ UsesSocket (socket_rules S.opens S.closes S.Socket.sends S.Socket.receives S.Socket.receives_within) (own_address asked.local) asked.timeout
-        sockets.old (λ port last. IsCut (socket_rules S.opens S.closes S.Socket.sends S.Socket.receives S.Socket.receives_within) asked
-        (walk_from instance from count) port (O.contents output.old) (O.contents output.new)) sockets.new }
+    ensures { (asked : AskedOf) (instance steps count : ℕ) (from : Option ℕ) (trace : Bool)
+        → AskFor (map string_bytes words.now) (Log asked instance from steps count false trace)
+        → Keeps (O.contents output.old) (O.contents output.new)
+        ⊎ UsesSocket (socket_rules S.opens S.closes S.Socket.sends S.Socket.receives
+        S.Socket.receives_within) (own_address asked.local) asked.timeout sockets.old
+        (λ port last. IsCut (socket_rules S.opens S.closes S.Socket.sends S.Socket.receives
+        S.Socket.receives_within) asked (walk_from instance from count) port
+        (O.contents output.old) (O.contents output.new)) sockets.new }
 {
     run(sockets, alloc, words, input, output, errors, clock)
 }
@@ -107,12 +118,14 @@ pub fn printed_until_refused<S: Heeds, I: Read, E: Write, C: Clock>(
     errors: &mut E,
     clock: &mut C,
 ) -> u8
-    ensures { (asked : AskedOf) (instance steps count : ℕ) (from : Option ℕ) (trace : Bool) →
-        AskFor (map string_bytes words.now) (Log asked instance from steps count false trace) →
-        (output.new.text.items ≡ output.old.text.items)
-        ⊎ UsesSocket (socket_rules S.opens S.closes S.Socket.sends S.Socket.receives S.Socket.receives_within) (own_address asked.local) asked.timeout
-        sockets.old (λ port last. IsCut (socket_rules S.opens S.closes S.Socket.sends S.Socket.receives S.Socket.receives_within) asked
-        (walk_from instance from count) port (Some output.old.text.items) (Some output.new.text.items)) sockets.new }
+    ensures { (asked : AskedOf) (instance steps count : ℕ) (from : Option ℕ) (trace : Bool)
+        → AskFor (map string_bytes words.now) (Log asked instance from steps count false trace)
+        → (output.new.text.items ≡ output.old.text.items)
+        ⊎ UsesSocket (socket_rules S.opens S.closes S.Socket.sends S.Socket.receives
+        S.Socket.receives_within) (own_address asked.local) asked.timeout sockets.old
+        (λ port last. IsCut (socket_rules S.opens S.closes S.Socket.sends S.Socket.receives
+        S.Socket.receives_within) asked (walk_from instance from count) port
+        (Some output.old.text.items) (Some output.new.text.items)) sockets.new }
 {
     printed_in_order(sockets, alloc, words, input, output, errors, clock)
 }

@@ -8,7 +8,8 @@ ghost use Rattle.bac_print.specs.Output.{AppendsPart};
 ghost use Rattle.bac_query.specs.Ends.{end_line};
 ghost use Rattle.bac_tools.specs.Run.{AskFor};
 ghost use Rattle.bac_ports.specs.Sockets.{socket_rules};
-ghost use Rattle.bac_tools_tests.specs.Silence.{IsSilent, IsSilentWithin, LostWasAsked, ServersStay};
+ghost use Rattle.bac_tools_tests.specs.Silence.{IsSilent, IsSilentWithin, LostWasAsked};
+ghost use Rattle.bac_tools_tests.specs.Silence.{ServersStay};
 ghost use Rattle.bac_walk.specs.declared.outcome.Why.{Why as AnyWhy};
 ghost use Rattle.bac_words.specs.declared.job.Asked.{Asked as AskedOf};
 ghost use Rattle.bac_words.specs.declared.job.Given.{Given as AnyGiven};
@@ -19,9 +20,9 @@ use bac_tools::{Clock, Heeds, Sockets, run};
 use std::alloc::Global;
 use std::io::{Read, Write};
 
-/// Over sockets where no datagram ever comes no tool that asks a device makes up an answer: `rp` and
-/// `wp` print nothing and don't end with status 0, and `log` prints at most the line of its end,
-/// with status 0 only if it is to take no step.
+/// Over sockets where no datagram ever comes no tool that asks a device makes up an answer: `rp`
+/// and `wp` print nothing and don't end with status 0, and `log` prints at most the line of its
+/// end, with status 0 only if it is to take no step.
 pub fn nothing_made_up<S: Heeds, I: Read, O: Write, E: Write, C: Clock>(
     sockets: &mut S,
     alloc: Global,
@@ -31,16 +32,22 @@ pub fn nothing_made_up<S: Heeds, I: Read, O: Write, E: Write, C: Clock>(
     errors: &mut E,
     clock: &mut C,
 ) -> u8
-    ensures rp { (asked : AskedOf) (object_type instance property : ℕ) (index : Option ℕ) (numbers trace : Bool) →
-        AskFor (map string_bytes words.now) (Rp asked object_type instance property index numbers trace) → IsSilent S.Socket.receives →
-        (result ≡ 0 → ⊥) × Keeps (O.contents output.old) (O.contents output.new) }
-    ensures wp { (asked : AskedOf) (object_type instance property priority : ℕ) (given : AnyGiven) (index : Option ℕ) (trace : Bool) →
-        AskFor (map string_bytes words.now) (Wp asked object_type instance property priority given index trace) → IsSilent S.Socket.receives →
-        (result ≡ 0 → ⊥) × Keeps (O.contents output.old) (O.contents output.new) }
-    ensures log { (asked : AskedOf) (instance steps count : ℕ) (from : Option ℕ) (trace : Bool) →
-        AskFor (map string_bytes words.now) (Log asked instance from steps count false trace) → IsSilent S.Socket.receives →
-        (0 < steps → result ≡ 0 → ⊥)
-        × ((why : AnyWhy) × (next : ℕ) × AppendsPart (O.contents output.old) (O.contents output.new) (end_line why next)) }
+    ensures rp { (asked : AskedOf) (object_type instance property : ℕ) (index : Option ℕ)
+        (numbers trace : Bool) → AskFor (map string_bytes words.now)
+        (Rp asked object_type instance property index numbers trace)
+        → IsSilent S.Socket.receives
+        → (result ≡ 0 → ⊥) × Keeps (O.contents output.old) (O.contents output.new) }
+    ensures wp { (asked : AskedOf) (object_type instance property priority : ℕ) (given : AnyGiven)
+        (index : Option ℕ) (trace : Bool)
+        → AskFor (map string_bytes words.now)
+        (Wp asked object_type instance property priority given index trace)
+        → IsSilent S.Socket.receives
+        → (result ≡ 0 → ⊥) × Keeps (O.contents output.old) (O.contents output.new) }
+    ensures log { (asked : AskedOf) (instance steps count : ℕ) (from : Option ℕ) (trace : Bool)
+        → AskFor (map string_bytes words.now) (Log asked instance from steps count false trace)
+        → IsSilent S.Socket.receives → (0 < steps → result ≡ 0 → ⊥)
+        × ((why : AnyWhy) × (next : ℕ)
+        × AppendsPart (O.contents output.old) (O.contents output.new) (end_line why next)) }
 {
     run(sockets, alloc, words, input, output, errors, clock)
 }
@@ -56,20 +63,26 @@ pub fn no_device_made_up<S: Heeds, I: Read, O: Write, E: Write, C: Clock>(
     errors: &mut E,
     clock: &mut C,
 ) -> u8
-    ensures { (addresses : List (List ℕ)) (min max dnet : Option ℕ) (local : Option (List ℕ)) (timeout : ℕ) (trace : Bool) →
-        AskFor (map string_bytes words.now) (Wi (Listed addresses) min max dnet local timeout trace) →
-        IsSilent S.Socket.receives → IsSilentWithin S.Socket.receives_within →
-        (result ≡ 0 → ⊥) × Keeps (O.contents output.old) (O.contents output.new) }
+    ensures { (addresses : List (List ℕ)) (min max dnet : Option ℕ) (local : Option (List ℕ))
+        (timeout : ℕ) (trace : Bool)
+        → AskFor (map string_bytes words.now)
+        (Wi (Listed addresses) min max dnet local timeout trace) → IsSilent S.Socket.receives
+        → IsSilentWithin S.Socket.receives_within
+        → (result ≡ 0 → ⊥) × Keeps (O.contents output.old) (O.contents output.new) }
 {
     run(sockets, alloc, words, input, output, errors, clock)
 }
 
 /// `rp` tells that an answer is lost only if it asked for it as often as the words say.
 pub fn lost_was_asked<S: Sockets, C: Clock>()
-    ensures { LostWasAsked (socket_rules S.opens S.closes S.Socket.sends S.Socket.receives S.Socket.receives_within) C.tells }
+    ensures { LostWasAsked
+        (socket_rules S.opens S.closes S.Socket.sends S.Socket.receives S.Socket.receives_within)
+        C.tells }
 {}
 
 /// A server tells a socket fault only if a socket failed.
 pub fn servers_stay<S: Sockets, C: Clock>()
-    ensures { ServersStay (socket_rules S.opens S.closes S.Socket.sends S.Socket.receives S.Socket.receives_within) C.tells }
+    ensures { ServersStay
+        (socket_rules S.opens S.closes S.Socket.sends S.Socket.receives S.Socket.receives_within)
+        C.tells }
 {}

@@ -48,30 +48,32 @@ fn each_tool_with_its_defaults(rt: HostRuntime) -> Result<(), Fail> {
             (
                 "rp 10.0.0.1 8 123 77",
                 "Rp { asked: Asked { address: [10, 0, 0, 1, 186, 192], local: None, timeout: 3000, \
-                 retries: 3, route: None }, object_type: 8, instance: 123, property: 77, index: None, \
-                 numbers: false, trace: false }",
+                 retries: 3, route: None }, object_type: 8, instance: 123, property: 77, \
+                 index: None, numbers: false, trace: false }",
             ),
             (
                 "wp 10.0.0.1 5 1 85 8 0",
                 "Wp { asked: Asked { address: [10, 0, 0, 1, 186, 192], local: None, timeout: 3000, \
-                 retries: 3, route: None }, object_type: 5, instance: 1, property: 85, priority: 8, \
-                 given: Null, index: None, trace: false }",
+                 retries: 3, route: None }, object_type: 5, instance: 1, property: 85, \
+                 priority: 8, given: Null, index: None, trace: false }",
             ),
             (
                 "log 10.0.0.1 1 oldest",
                 "Log { asked: Asked { address: [10, 0, 0, 1, 186, 192], local: None, \
-                 timeout: 3000, retries: 3, route: None }, instance: 1, from: None, steps: 1000, count: 100, \
-                 csv: false, trace: false }",
+                 timeout: 3000, retries: 3, route: None }, instance: 1, from: None, steps: 1000, \
+                 count: 100, csv: false, trace: false }",
             ),
             (
                 "keep a.db",
-                "Keep(Keep { file: Name { text: \"a.db\" }, address: None, instances: Names { list: [] }, \
-                 stop: false, trace: false, options: KeepOptions { steps: None, count: None, timeout: None, local: None, \
+                "Keep(Keep { file: Name { text: \"a.db\" }, address: None, \
+                 instances: Names { list: [] }, stop: false, trace: false, \
+                 options: KeepOptions { steps: None, count: None, timeout: None, local: None, \
                  retries: None, dnet: None, dadr: None } })",
             ),
             (
                 "kept a.db",
-                "Kept(Kept { file: Name { text: \"a.db\" }, address: None, instance: None, csv: false })",
+                "Kept(Kept { file: Name { text: \"a.db\" }, address: None, instance: None, \
+                 csv: false })",
             ),
             (
                 "serve 10.0.0.1",
@@ -89,26 +91,27 @@ fn each_tool_with_the_least_values(rt: HostRuntime) -> Result<(), Fail> {
             (
                 "wi 0.0.0.0:1 --min=0 --max=0 --local=0.0.0.0:1 --timeout=1",
                 "Wi { stations: Listed(Addresses { list: [[0, 0, 0, 0, 0, 1]] }), min: Some(0), \
-                 max: Some(0), dnet: None, local: Some([0, 0, 0, 0, 0, 1]), timeout: 1, trace: false }",
+                 max: Some(0), dnet: None, local: Some([0, 0, 0, 0, 0, 1]), timeout: 1, \
+                 trace: false }",
             ),
             (
                 "rp 0.0.0.0:1 0 0 0 --index=0 --local=0.0.0.0:1 --timeout=1 --retries=0",
-                "Rp { asked: Asked { address: [0, 0, 0, 0, 0, 1], \
-                 local: Some([0, 0, 0, 0, 0, 1]), timeout: 1, retries: 0, route: None }, object_type: 0, \
-                 instance: 0, property: 0, index: Some(0), numbers: false, trace: false }",
+                "Rp { asked: Asked { address: [0, 0, 0, 0, 0, 1], local: Some([0, 0, 0, 0, 0, 1]), \
+                 timeout: 1, retries: 0, route: None }, object_type: 0, instance: 0, property: 0, \
+                 index: Some(0), numbers: false, trace: false }",
             ),
             (
                 "wp 0.0.0.0:1 0 0 0 0 1 --index=0 --value=0 --local=0.0.0.0:1 --timeout=1 \
                  --retries=0",
-                "Wp { asked: Asked { address: [0, 0, 0, 0, 0, 1], \
-                 local: Some([0, 0, 0, 0, 0, 1]), timeout: 1, retries: 0, route: None }, object_type: 0, \
-                 instance: 0, property: 0, priority: 0, given: Boolean(false), index: Some(0), trace: false }",
+                "Wp { asked: Asked { address: [0, 0, 0, 0, 0, 1], local: Some([0, 0, 0, 0, 0, 1]), \
+                 timeout: 1, retries: 0, route: None }, object_type: 0, instance: 0, property: 0, \
+                 priority: 0, given: Boolean(false), index: Some(0), trace: false }",
             ),
             (
                 "log 0.0.0.0:1 0 1 --steps=0 --count=1 --local=0.0.0.0:1 --timeout=1 --retries=0",
-                "Log { asked: Asked { address: [0, 0, 0, 0, 0, 1], \
-                 local: Some([0, 0, 0, 0, 0, 1]), timeout: 1, retries: 0, route: None }, instance: 0, \
-                 from: Some(1), steps: 0, count: 1, csv: false, trace: false }",
+                "Log { asked: Asked { address: [0, 0, 0, 0, 0, 1], local: Some([0, 0, 0, 0, 0, \
+                 1]), timeout: 1, retries: 0, route: None }, instance: 0, from: Some(1), steps: 0, \
+                 count: 1, csv: false, trace: false }",
             ),
             (
                 "serve 0.0.0.0:1 --count=0",
@@ -133,25 +136,27 @@ fn each_tool_with_the_greatest_values(rt: HostRuntime) -> Result<(), Fail> {
             (
                 "rp 255.255.255.255:65535 1023 4194303 4294967295 --index=4294967295 --numbers \
                  --trace --local=255.255.255.255:65535 --timeout=60000 --retries=10",
-                "Rp { asked: Asked { address: [255, 255, 255, 255, 255, 255], \
-                 local: Some([255, 255, 255, 255, 255, 255]), timeout: 60000, retries: 10, route: None }, \
+                "Rp { asked: Asked { address: [255, 255, 255, 255, 255, 255], local: Some([255, \
+                 255, 255, 255, 255, 255]), timeout: 60000, retries: 10, route: None }, \
                  object_type: 1023, instance: 4194303, property: 4294967295, \
                  index: Some(4294967295), numbers: true, trace: true }",
             ),
             (
                 "wp 255.255.255.255:65535 1023 4194303 4294967295 16 9 --index=4294967295 \
-                 --value=4294967295 --local=255.255.255.255:65535 --timeout=60000 --retries=10 --trace",
-                "Wp { asked: Asked { address: [255, 255, 255, 255, 255, 255], \
-                 local: Some([255, 255, 255, 255, 255, 255]), timeout: 60000, retries: 10, route: None }, \
+                 --value=4294967295 --local=255.255.255.255:65535 --timeout=60000 --retries=10 \
+                 --trace",
+                "Wp { asked: Asked { address: [255, 255, 255, 255, 255, 255], local: Some([255, \
+                 255, 255, 255, 255, 255]), timeout: 60000, retries: 10, route: None }, \
                  object_type: 1023, instance: 4194303, property: 4294967295, priority: 16, \
                  given: Enumerated(4294967295), index: Some(4294967295), trace: true }",
             ),
             (
                 "log 255.255.255.255:65535 4194303 4294967295 --steps=4294967295 --count=100 \
                  --csv --trace --local=255.255.255.255:65535 --timeout=60000 --retries=10",
-                "Log { asked: Asked { address: [255, 255, 255, 255, 255, 255], \
-                 local: Some([255, 255, 255, 255, 255, 255]), timeout: 60000, retries: 10, route: None }, \
-                 instance: 4194303, from: Some(4294967295), steps: 4294967295, count: 100, csv: true, trace: true }",
+                "Log { asked: Asked { address: [255, 255, 255, 255, 255, 255], local: Some([255, \
+                 255, 255, 255, 255, 255]), timeout: 60000, retries: 10, route: None }, \
+                 instance: 4194303, from: Some(4294967295), steps: 4294967295, count: 100, \
+                 csv: true, trace: true }",
             ),
             (
                 "serve 255.255.255.255:65535 --count=4294967295",
@@ -167,18 +172,22 @@ fn keep_and_kept_have_their_texts(rt: HostRuntime) -> Result<(), Fail> {
         &rt,
         &[
             (
-                "keep a.db --stop --trace 10.0.0.1 1 x --steps=5 --count=20 --timeout=0 --local=b --retries=c --dnet=d --dadr=e",
-                "Keep(Keep { file: Name { text: \"a.db\" }, address: Some(Name { text: \"10.0.0.1\" }), \
+                "keep a.db --stop --trace 10.0.0.1 1 x --steps=5 --count=20 --timeout=0 --local=b \
+                 --retries=c --dnet=d --dadr=e",
+                "Keep(Keep { file: Name { text: \"a.db\" }, \
+                 address: Some(Name { text: \"10.0.0.1\" }), \
                  instances: Names { list: [Name { text: \"1\" }, Name { text: \"x\" }] }, \
-                 stop: true, trace: true, options: KeepOptions { steps: Some(Name { text: \"5\" }), \
-                 count: Some(Name { text: \"20\" }), timeout: Some(Name { text: \"0\" }), local: Some(Name { text: \"b\" }), \
-                 retries: Some(Name { text: \"c\" }), dnet: Some(Name { text: \"d\" }), \
-                 dadr: Some(Name { text: \"e\" }) } })",
+                 stop: true, trace: true, \
+                 options: KeepOptions { steps: Some(Name { text: \"5\" }), \
+                 count: Some(Name { text: \"20\" }), timeout: Some(Name { text: \"0\" }), \
+                 local: Some(Name { text: \"b\" }), retries: Some(Name { text: \"c\" }), \
+                 dnet: Some(Name { text: \"d\" }), dadr: Some(Name { text: \"e\" }) } })",
             ),
             (
                 "kept a.db 10.0.0.1 1 --csv",
-                "Kept(Kept { file: Name { text: \"a.db\" }, address: Some(Name { text: \"10.0.0.1\" }), \
-                 instance: Some(Name { text: \"1\" }), csv: true })",
+                "Kept(Kept { file: Name { text: \"a.db\" }, \
+                 address: Some(Name { text: \"10.0.0.1\" }), instance: Some(Name { text: \"1\" }), \
+                 csv: true })",
             ),
         ],
     )

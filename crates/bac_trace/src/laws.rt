@@ -9,5 +9,6 @@ use std::io::Write;
 /// What is asked over a port that tells is asked over the port below, with the same answer.
 pub fn asks_are_below<P: Port, T: Write>()
     ensures { AsksAreBelow (λ (traced : TracedPort P T). traced.port)
-        ⟦<TracedPort<P, T> as Port>⟧.sends ⟦<TracedPort<P, T> as Port>⟧.receives P.sends P.receives }
+        ⟦<TracedPort<P, T> as Port>⟧.sends ⟦<TracedPort<P, T> as Port>⟧.receives P.sends
+        P.receives }
 {}

@@ -14,7 +14,8 @@ fn push_datagram(
     address: [u8; 6],
     octets: &[u8],
 ) -> Result<(), AllocError>
-    ensures { OnOk result (text.new.items ≡ text.old.items ++ datagram_line word.now address octets.now) }
+    ensures { OnOk result
+        (text.new.items ≡ text.old.items ++ datagram_line word.now address octets.now) }
 {
     text.extend_from_slice(word)?;
     push_address(text, address)?;

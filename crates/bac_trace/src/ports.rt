@@ -10,8 +10,8 @@ use bac_print::write_text;
 use std::alloc::{AllocError, Global};
 use std::io::Write;
 
-/// Where lines go, as long as it is on. It is off after a line that the writer refused, or that there
-/// was no memory for.
+/// Where lines go, as long as it is on. It is off after a line that the writer refused, or that
+/// there was no memory for.
 #[derive(Drop)]
 pub(crate) struct Trace<T> {
     alloc: Global,
@@ -41,8 +41,9 @@ impl<T: Write> Trace<T> {
     /// Tells a line, if there was memory for it.
     fn tell(&mut self, line: Result<Vec<u8>, AllocError>)
         requires { self.old.is_on ≡ true }
-        ensures { (text : List ℕ) → IfOk line (λ l. l.items ≡ text) →
-            Tells text (told self.old.is_on (T.contents self.old.writer)) (told self.new.is_on (T.contents self.new.writer)) }
+        ensures { (text : List ℕ) → IfOk line (λ l. l.items ≡ text)
+            → Tells text (told self.old.is_on (T.contents self.old.writer))
+            (told self.new.is_on (T.contents self.new.writer)) }
     {
         match line {
             Ok(line) => self.is_on = write_line(&mut self.writer, line.as_slice()),
@@ -53,7 +54,8 @@ impl<T: Write> Trace<T> {
     /// Tells a datagram that was sent to an address.
     fn tell_sent(&mut self, octets: &[u8], to: [u8; 6])
         ensures { Tells (sent_line octets.now to (Ok tt))
-            (told self.old.is_on (T.contents self.old.writer)) (told self.new.is_on (T.contents self.new.writer)) }
+            (told self.old.is_on (T.contents self.old.writer))
+            (told self.new.is_on (T.contents self.new.writer)) }
     {
         if self.is_on {
             let line = sent_line(self.alloc, octets, to);
@@ -64,7 +66,8 @@ impl<T: Write> Trace<T> {
     /// Tells a datagram that came.
     fn tell_came(&mut self, heard: &Heard)
         ensures { Tells (came_line heard.now.from heard.now.datagram)
-            (told self.old.is_on (T.contents self.old.writer)) (told self.new.is_on (T.contents self.new.writer)) }
+            (told self.old.is_on (T.contents self.old.writer))
+            (told self.new.is_on (T.contents self.new.writer)) }
     {
         if self.is_on {
             let line = came_line(self.alloc, heard);
@@ -75,7 +78,8 @@ impl<T: Write> Trace<T> {
     /// Tells what was received; where nothing came, nothing.
     fn tell_received(&mut self, received: &Result<Heard, SocketFault>)
         ensures { Tells (received_line received.now)
-            (told self.old.is_on (T.contents self.old.writer)) (told self.new.is_on (T.contents self.new.writer)) }
+            (told self.old.is_on (T.contents self.old.writer))
+            (told self.new.is_on (T.contents self.new.writer)) }
     {
         if let Ok(heard) = received {
             self.tell_came(heard);
@@ -93,14 +97,17 @@ pub struct TracedPort<P, T> {
 impl<P: Port, T: Write> Port for TracedPort<P, T> {
     // What the port below sends, and the line of it.
     ghost sends = { λ old octets to answer new. P.sends old.port octets to answer new.port
-        × Tells (sent_line octets to answer) (told old.trace.is_on (T.contents old.trace.writer)) (told new.trace.is_on (T.contents new.trace.writer)) };
+        × Tells (sent_line octets to answer) (told old.trace.is_on (T.contents old.trace.writer))
+        (told new.trace.is_on (T.contents new.trace.writer)) };
 
     // What the port below receives, and the line of it.
     ghost receives = { λ old answer new. P.receives old.port answer new.port
-        × Tells (received_line answer) (told old.trace.is_on (T.contents old.trace.writer)) (told new.trace.is_on (T.contents new.trace.writer)) };
+        × Tells (received_line answer) (told old.trace.is_on (T.contents old.trace.writer))
+        (told new.trace.is_on (T.contents new.trace.writer)) };
 
     ghost receives_within = { λ old wait answer new. P.receives_within old.port wait answer new.port
-        × Tells (received_line answer) (told old.trace.is_on (T.contents old.trace.writer)) (told new.trace.is_on (T.contents new.trace.writer)) };
+        × Tells (received_line answer) (told old.trace.is_on (T.contents old.trace.writer))
+        (told new.trace.is_on (T.contents new.trace.writer)) };
 
     fn send(&mut self, octets: &[u8], to: [u8; 6]) -> Result<(), SocketFault> {
         match self.port.send(octets, to) {

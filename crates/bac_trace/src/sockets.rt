@@ -47,10 +47,12 @@ impl<S: Sockets, W: Writers> Sockets for Traced<S, W> {
     type Socket = TracedPort<S::Socket, W::Writer>;
 
     // What the sockets below open; it tells if they are switched on.
-    ghost opens = { λ old local wait answer new. S.opens old.sockets local wait (result_map (λ traced. traced.port) answer) new.sockets
-        × (new.is_on ≡ old.is_on) × IfOk answer (λ traced. traced.trace.is_on ≡ old.is_on) };
+    ghost opens = { λ old local wait answer new. S.opens old.sockets local wait
+        (result_map (λ traced. traced.port) answer) new.sockets × (new.is_on ≡ old.is_on)
+        × IfOk answer (λ traced. traced.trace.is_on ≡ old.is_on) };
 
-    ghost closes = { λ old traced new. S.closes old.sockets traced.port new.sockets × (new.is_on ≡ old.is_on) };
+    ghost closes = { λ old traced new. S.closes old.sockets traced.port new.sockets
+        × (new.is_on ≡ old.is_on) };
 
     fn open(
         &mut self,

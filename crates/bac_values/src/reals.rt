@@ -11,13 +11,14 @@ use std::num::{f32_from_bits_with_nan, f64_from_bits_with_nan};
 
 /// Appends the shortest text that reads back as a number.
 pub fn push_short(text: &mut Vec<u8>, value: f64) -> Result<(), AllocError>
-    ensures { OnOk result ((short : List _) × (parse_float binary64 short ≡ Some value) × (text.new.items ≡ text.old.items ++ short)) }
+    ensures { OnOk result ((short : List _) × (parse_float binary64 short ≡ Some value)
+        × (text.new.items ≡ text.old.items ++ short)) }
 {
     text.extend_from_slice(Buffer::new().format(value).as_bytes())
 }
 
-/// Appends the shortest decimal number that reads back as a REAL, given by its octets; false if that
-/// is no finite number, and then nothing is appended.
+/// Appends the shortest decimal number that reads back as a REAL, given by its octets; false if
+/// that is no finite number, and then nothing is appended.
 pub fn push_real(text: &mut Vec<u8>, octets: [u8; 4]) -> Result<bool, AllocError>
     ensures { AppendsNumber binary32 (real_of octets) text.old.items result text.new.items }
 {

@@ -69,9 +69,9 @@ GrowingIsDelivered {S = S} asks stands =
     × ((u : ℕ) × Leads H M b (answers_of came) u)
     × DeliversTo H b items t M (length came) × (ended ≡ CaughtUp → IsCaughtUp w.fresh t M (answers_of came)))
 
--- What a run delivered of a log that went on: replies came over the link, each said what the log held at its moment, and
--- the items are theirs: from the ordinal of the walk's number on, or from the oldest, the records that the log held when
--- each was reached.
+-- What a run delivered of a log that went on: replies came over the link, each said what the log held at its moment,
+-- and the items are theirs: from the ordinal of the walk's number on, or from the oldest, the records that the log held
+-- when each was reached.
 pub record HasDelivered {S : Type 0} (asks : S → List ℕ → Result (List ℕ) Loss → S → Type 0) (path : Path)
     (retries : ℕ) (old : S) (low s : ℕ) (at : Standing) (before : WalkPlace) (items : List Item) (ended : Ended)
     (after : WalkPlace) : Type 0 where

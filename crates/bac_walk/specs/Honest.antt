@@ -60,9 +60,9 @@ IsLeftAt {S = S} asks path log count H low old new M a =
     moments old ≡ M → moments new ≡ after_answers a M)
 
 -- What the replies to a run brought, one after the other: each what the log held at its moment, from the ordinal b on.
--- That is the walk's, or of a walk from the oldest record the oldest that was held when the first batch was given, which
--- so has no gap before it. The items of the run are these, but where a record was refused those up to it, which lies in
--- the last reply: the rest of that is dropped.
+-- That is the walk's, or of a walk from the oldest record the oldest that was held when the first batch was given,
+-- which so has no gap before it. The items of the run are these, but where a record was refused those up to it, which
+-- lies in the last reply: the rest of that is dropped.
 pub record AreBroughtFrom (H : History) (M : List Moment) (fresh : Bool) (s b : ℕ) (answers : List (List Item))
     (ended : Ended) (items : List Item) : Type 0 where
   pub start : b ≡ start_of fresh s M answers
@@ -82,8 +82,8 @@ DeliversIn H b items t M answers =
 
 -- What a run delivers over a link that is honest for its log and its count from the moments M on: from the ordinal of
 -- the walk's number on, or from the oldest, the records that the log holds when each is reached. So many answers use up
--- as many moments, and there are at most two for each that brings records, and so many more to spare; caught up, the log
--- held nothing more at an answer after the last batch; and the only fault is a loss.
+-- as many moments, and there are at most two for each that brings records, and so many more to spare; caught up, the
+-- log held nothing more at an answer after the last batch; and the only fault is a loss.
 abbrev pub DeliversSaid : {S : Type 0} → (S → List ℕ → Result (List ℕ) Loss → S → Type 0) → Path → ℕ →
     S → WalkPlace → List Item → Ended → WalkPlace → S → Type 0
 DeliversSaid {S = S} asks path spare old before items ended after new =

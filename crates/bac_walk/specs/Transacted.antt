@@ -1,5 +1,5 @@
--- What came over a link by the transactions of a client, one after the other: the same as Came says, and of each exchange
--- that it is the next of them.
+-- What came over a link by the transactions of a client, one after the other: the same as Came says, and of each
+-- exchange that it is the next of them.
 use Rattle.std.specs.Prelude.{◌≡◌, ℕ, ◌+◌, ◌*◌, ◌%◌, ◌<◌, ◌≤◌, Bool, true, Option, Result, Ok, Err, List, [], ◌∷◌, ◌++◌}
 use Rattle.std.specs.Prelude.{length}
 use Rattle.bac_link.specs.declared.exchanges.ExchangeFault.{ExchangeFault}

@@ -2,7 +2,8 @@
 
 ghost use Rattle.std.specs.Prelude.{◌≡◌, ◌≤◌, length};
 ghost use Rattle.bac_apdu.specs.Service.ReadRangeAck.{range_ack_of, read_range_ack_at};
-ghost use Rattle.bac_walk.specs.Flaws.{ack_flaw, extent_flaw, flaw_in, head_flaw, records_before, span_flaw};
+ghost use Rattle.bac_walk.specs.Flaws.{ack_flaw, extent_flaw, flaw_in, head_flaw, records_before};
+ghost use Rattle.bac_walk.specs.Flaws.{span_flaw};
 
 use crate::read::{count_of, is_of, is_same};
 use crate::walk::Walk;

@@ -1,6 +1,7 @@
 //! Walks whose items are kept.
 
-ghost use Rattle.std.specs.Prelude.{true, false, [], ◌∷◌, ◌≡◌, ℕ, ◌+◌, ◌*◌, ◌<◌, ◌≤◌, List, length, vec_capacity};
+ghost use Rattle.std.specs.Prelude.{true, false, [], ◌∷◌, ◌≡◌, ℕ, ◌+◌, ◌*◌, ◌<◌, ◌≤◌, List, length};
+ghost use Rattle.std.specs.Prelude.{vec_capacity};
 ghost use Rattle.bac_log.specs.TrendLog.{sequence_number};
 ghost use Rattle.bac_link.specs.Delivery.{History, Moment, DeliversTo};
 ghost use Rattle.bac_link.specs.Path.{towards};
@@ -33,8 +34,8 @@ struct Kept {
 }
 
 impl Sink for Kept {
-    ghost puts = { λ old gap item taken new.
-        IsKept (vec_capacity old.items) old.items.items gap item taken (vec_capacity new.items) new.items.items };
+    ghost puts = { λ old gap item taken new. IsKept (vec_capacity old.items) old.items.items gap
+        item taken (vec_capacity new.items) new.items.items };
 
     fn put(&mut self, gap: Option<Gap>, item: Numbered) -> bool {
         let needed = match gap {
@@ -79,63 +80,78 @@ pub fn collect<L: LogLink>(
     ensures route { transactions.new.route ≡ transactions.old.route }
     ensures never_falls { L.failures link.old ≤ L.failures link.new }
     // Without steps nothing happens.
-    ensures none { steps ≡ 0 → (result.why ≡ Why.StepLimit) × (result.items.items ≡ []) × (walk.new ≡ walk.old)
-        × (link.new ≡ link.old) × (transactions.new ≡ transactions.old) }
+    ensures none { steps ≡ 0 → (result.why ≡ Why.StepLimit) × (result.items.items ≡ [])
+        × (walk.new ≡ walk.old) × (link.new ≡ link.old)
+        × (transactions.new ≡ transactions.old) }
     // Over any link, so many steps brought a record each at least, or the last exchange told the
     // fault, or that there is no more.
     ensures limit { result.why ≡ Why.StepLimit → steps ≤ length result.items.items }
-    ensures told { Told L.asks (towards transactions.old.route) transactions.old.retries (ended_of result.why) walk.new link.new }
+    ensures told { Told L.asks (towards transactions.old.route) transactions.old.retries
+        (ended_of result.why) walk.new link.new }
     // Over any link: what came, and that the items are those of these replies.
     ensures brought { (n : ℕ) × (ended : EndedOf) × IsRunOf result.why steps n ended
-        × ((came : List Came) × Brought L.asks (towards transactions.old.route) transactions.old.retries link.old walk.old n came
-        result.items.items ended walk.new link.new) }
-    // Each exchange is the next of the transactions, and none is open after it: two replies a batch at
-    // most, and two more.
+        × ((came : List Came) × Brought L.asks (towards transactions.old.route)
+        transactions.old.retries link.old walk.old n came result.items.items ended walk.new
+        link.new) }
+    // Each exchange is the next of the transactions, and none is open after it: two replies a batch
+    // at most, and two more.
     ensures transacted { (n : ℕ) × (ended : EndedOf) × IsRunOf result.why steps n ended
         × ((came : List Came) × BroughtBy L.asks transactions.old link.old walk.old n came
         result.items.items ended walk.new transactions.new link.new) }
-    // The headline: over a link that is honest for the log, whatever records it holds and however it
-    // encodes them, it delivers the records from its number on that the log holds when each is
+    // The headline: over a link that is honest for the log, whatever records it holds and however
+    // it encodes them, it delivers the records from its number on that the log holds when each is
     // reached, each once, in rising order, with one exact gap for what is gone; and the only fault
     // is a loss. The number is that of ordinal s; it and all moments lie within half of the count
     // from one ordinal on.
-    ensures headline { DeliversSaid L.asks (towards transactions.old.route) (spare (ended_of result.why)) link.old walk.old result.items.items (ended_of result.why) walk.new link.new }
-    // So it does over a link that stays honest while its log goes on, between any two asks, and that may
-    // lose any: for as many asks as these steps may make, and then for the asks that are left.
-    ensures growing { DeliversGrowing L.asks (towards transactions.old.route) transactions.old.retries link.old walk.old steps
-        result.items.items (ended_of result.why) walk.new link.new }
+    ensures headline { DeliversSaid L.asks (towards transactions.old.route)
+        (spare (ended_of result.why)) link.old walk.old result.items.items (ended_of result.why)
+        walk.new link.new }
+    // So it does over a link that stays honest while its log goes on, between any two asks, and
+    // that may lose any: for as many asks as these steps may make, and then for the asks that are
+    // left.
+    ensures growing { DeliversGrowing L.asks (towards transactions.old.route)
+        transactions.old.retries link.old walk.old steps result.items.items (ended_of result.why)
+        walk.new link.new }
     // Over a link of ours it does so too, and the link is ours still, at the moments that are left.
-    ensures ours { (r : ℕ) (M : List Moment) (H : History) (s low : ℕ) →
-        L.is_ours link.old walk.old.log r M H → walk.old.next ≡ sequence_number s →
-        AreInWindow low M → (walk.old.fresh ≡ false → (low ≤ s) × (s < low + 2147483648)) →
-        (b : ℕ) × (a : ℕ) × (t : ℕ) × (walk.old.fresh ≡ false → b ≡ s) × (walk.new.next ≡ sequence_number t)
-        × DeliversTo H b result.items.items t M a × L.is_ours link.new walk.old.log r (after_answers a M) H }
+    ensures ours { (r : ℕ) (M : List Moment) (H : History) (s low : ℕ)
+        → L.is_ours link.old walk.old.log r M H → walk.old.next ≡ sequence_number s
+        → AreInWindow low M → (walk.old.fresh ≡ false → (low ≤ s) × (s < low + 2147483648))
+        → (b : ℕ) × (a : ℕ) × (t : ℕ) × (walk.old.fresh ≡ false → b ≡ s)
+        × (walk.new.next ≡ sequence_number t) × DeliversTo H b result.items.items t M a
+        × L.is_ours link.new walk.old.log r (after_answers a M) H }
     // So it does if the walk is near its log wherever these steps bring it: less than half of the
     // count away from the oldest record held.
-    ensures near { (r : ℕ) (M : List Moment) (H : History) (s : ℕ) →
-        L.is_ours link.old walk.old.log r M H → walk.old.next ≡ sequence_number s →
-        StaysNear r walk.old.count H M walk.old.fresh s steps →
-        (b : ℕ) × (a : ℕ) × (t : ℕ) × (walk.old.fresh ≡ false → b ≡ s) × (walk.new.next ≡ sequence_number t)
-        × DeliversTo H b result.items.items t M a × L.is_ours link.new walk.old.log r (after_answers a M) H }
+    ensures near { (r : ℕ) (M : List Moment) (H : History) (s : ℕ)
+        → L.is_ours link.old walk.old.log r M H → walk.old.next ≡ sequence_number s
+        → StaysNear r walk.old.count H M walk.old.fresh s steps
+        → (b : ℕ) × (a : ℕ) × (t : ℕ) × (walk.old.fresh ≡ false → b ≡ s)
+        × (walk.new.next ≡ sequence_number t) × DeliversTo H b result.items.items t M a
+        × L.is_ours link.new walk.old.log r (after_answers a M) H }
     // It is a run of so many steps, or of fewer that had no memory for the next, of which nothing
     // was asked: over any link, and over one of ours with all that its answers brought and how it
     // ended.
     ensures delivers { (n : ℕ) × (ended : EndedOf) × IsRunOf result.why steps n ended
-        × IsRun (λ r M H. L.is_ours link.old walk.old.log r M H) (λ r M H. L.is_ours link.new walk.old.log r M H)
-        transactions.old.retries (L.failures link.old) (L.failures link.new) walk.old walk.new n ended result.items.items
-        × (length result.items.items ≤ 101 * n) × (transactions.new.begun ≤ transactions.old.begun + 2 * n) }
+        × IsRun (λ r M H. L.is_ours link.old walk.old.log r M H)
+        (λ r M H. L.is_ours link.new walk.old.log r M H) transactions.old.retries
+        (L.failures link.old) (L.failures link.new) walk.old walk.new n ended result.items.items
+        × (length result.items.items ≤ 101 * n)
+        × (transactions.new.begun ≤ transactions.old.begun + 2 * n) }
     // Over a link that loses nothing, of a log that doesn't change, or that the link lacks.
-    ensures resting { (r : ℕ) (m : Moment) (H : History) (s : ℕ) →
-        L.is_sure link.old (towards transactions.old.route) → L.is_ours link.old walk.old.log r (m ∷ []) H → walk.old.next ≡ sequence_number s →
-        (walk.old.fresh ≡ false → IsNear s m) →
-        Rests (rest r walk.old.count H m walk.old.fresh s steps) steps result.items.items result.next result.why }
-    ensures missing { L.lacks link.old walk.old.log → L.is_sure link.old (towards transactions.old.route) →
-        Misses steps walk.old.next result.items.items result.next result.why }
+    ensures resting { (r : ℕ) (m : Moment) (H : History) (s : ℕ)
+        → L.is_sure link.old (towards transactions.old.route)
+        → L.is_ours link.old walk.old.log r (m ∷ []) H → walk.old.next ≡ sequence_number s
+        → (walk.old.fresh ≡ false → IsNear s m)
+        → Rests (rest r walk.old.count H m walk.old.fresh s steps) steps result.items.items
+        result.next result.why }
+    ensures missing { L.lacks link.old walk.old.log
+        → L.is_sure link.old (towards transactions.old.route)
+        → Misses steps walk.old.next result.items.items result.next result.why }
     // Whether it loses questions or not, nothing comes of a log that the link lacks.
     ensures unknown { L.lacks link.old walk.old.log →
         (result.items.items ≡ []) × (result.next ≡ walk.old.next) × MissingWhy steps result.why }
     ensures lacking { L.lacks link.old walk.old.log → L.lacks link.new walk.old.log }
-    ensures sure { L.is_sure link.old (towards transactions.old.route) → L.is_sure link.new (towards transactions.new.route) }
+    ensures sure { L.is_sure link.old (towards transactions.old.route)
+        → L.is_sure link.new (towards transactions.new.route) }
     // Asking over such a link changes nothing.
     ensures kept { L.is_sure link.old (towards transactions.old.route) → L.keeps link.old link.new }
 {

@@ -5,16 +5,19 @@ ghost use Rattle.bac_link.specs.Delivery.{History, Moment};
 ghost use Rattle.bac_link.specs.Growing.{Standing, StaysHonest};
 ghost use Rattle.bac_link.specs.Honest.{IsHonest};
 ghost use Rattle.bac_link.specs.Path.{Path};
-ghost use Rattle.bac_walk.specs.Came.{BroughtIsDelivered, CameIsDelivered, LostIsAsked, NothingCame, OwnIsSaid, SaidIsTaken};
+ghost use Rattle.bac_walk.specs.Came.{BroughtIsDelivered, CameIsDelivered, LostIsAsked};
+ghost use Rattle.bac_walk.specs.Came.{NothingCame, OwnIsSaid, SaidIsTaken};
 ghost use Rattle.bac_walk.specs.Flaws.{BadRepliesHaveFlaws, FlawsAreRefused};
 ghost use Rattle.bac_walk.specs.Follows.{BroughtGoes, BroughtTells};
 ghost use Rattle.bac_walk.specs.Growing.{GrowingIsDelivered, OursStayHonest};
 ghost use Rattle.bac_walk.specs.Meant.{SaidMeans};
 ghost use Rattle.bac_walk.specs.Near.{StaysInWindow, WindowsAreNear};
 ghost use Rattle.bac_walk.specs.Rests.{RestsAll, RestResumes};
-ghost use Rattle.bac_walk.specs.Transacted.{LateRepliesAreLeft, RepliesAnswer, TransactedIsBounded, TransactedIsBrought};
+ghost use Rattle.bac_walk.specs.Transacted.{LateRepliesAreLeft, RepliesAnswer, TransactedIsBounded};
+ghost use Rattle.bac_walk.specs.Transacted.{TransactedIsBrought};
 ghost use Rattle.bac_walk.specs.Runs.{CollectedIsDelivered, RunsDeliver, RunsJoin};
-ghost use Rattle.bac_walk.specs.Honest.{OursAreHonest, MomentsNeverGoBack, NumbersHaveOrdinals, RepliesAreLoggable};
+ghost use Rattle.bac_walk.specs.Honest.{OursAreHonest, MomentsNeverGoBack, NumbersHaveOrdinals};
+ghost use Rattle.bac_walk.specs.Honest.{RepliesAreLoggable};
 ghost use Rattle.bac_walk.specs.Honest.{HonestIsDelivered};
 
 use bac_link::LogLink;
@@ -37,8 +40,8 @@ pub fn windows_are_near()
     ensures { WindowsAreNear }
 {}
 
-/// What is delivered at moments within half of the count from one ordinal on, from an ordinal there,
-/// ends there, as do the moments that are left: a run stays in its window.
+/// What is delivered at moments within half of the count from one ordinal on, from an ordinal
+/// there, ends there, as do the moments that are left: a run stays in its window.
 pub fn runs_stay_in_their_window()
     ensures { StaysInWindow }
 {}
@@ -87,8 +90,8 @@ pub fn brought_is_delivered<L: LogLink>()
     ensures { BroughtIsDelivered L.asks }
 {}
 
-/// What came by transactions, as `collect` and `deliver` tell it of those that they were given, came
-/// over the link.
+/// What came by transactions, as `collect` and `deliver` tell it of those that they were given,
+/// came over the link.
 pub fn transacted_is_brought<L: LogLink>()
     ensures { TransactedIsBrought L.asks }
 {}
@@ -104,8 +107,8 @@ pub fn replies_answer<L: LogLink>()
     ensures { RepliesAnswer L.asks }
 {}
 
-/// A reply that answers an earlier question of the run, as one that is late or was sent twice, isn't
-/// taken for a later one before 256 transactions were begun.
+/// A reply that answers an earlier question of the run, as one that is late or was sent twice,
+/// isn't taken for a later one before 256 transactions were begun.
 pub fn late_replies_are_left<L: LogLink>()
     ensures { LateRepliesAreLeft L.asks }
 {}
@@ -136,18 +139,24 @@ pub fn nothing_came<L: LogLink>()
 /// tells of it, or at those at which it is ours: a run delivers what the log holds when each reply
 /// is given, and ends with no fault but a loss.
 pub fn honest_is_delivered<L: LogLink>()
-    ensures told { (moments : L → List Moment) → HonestIsDelivered L.asks (λ link M. moments link ≡ M) }
-    ensures ours { (log : Id) (r : ℕ) (H : History) → HonestIsDelivered L.asks (λ link M. L.is_ours link log r M H) }
-    ensures honest { (path : Path) (log : Id) (count : ℕ) (H : History) (low : ℕ) → HonestIsDelivered L.asks (λ link M. IsHonest L.asks path log count H low link M) }
+    ensures told { (moments : L → List Moment)
+        → HonestIsDelivered L.asks (λ link M. moments link ≡ M) }
+    ensures ours { (log : Id) (r : ℕ) (H : History)
+        → HonestIsDelivered L.asks (λ link M. L.is_ours link log r M H) }
+    ensures honest { (path : Path) (log : Id) (count : ℕ) (H : History) (low : ℕ)
+        → HonestIsDelivered L.asks (λ link M. IsHonest L.asks path log count H low link M) }
 {}
 
-/// The same where the log goes on and any ask may be lost: over a link that stays honest for as many
-/// asks as a run may make, from where the log stands, or from where any function tells that it
+/// The same where the log goes on and any ask may be lost: over a link that stays honest for as
+/// many asks as a run may make, from where the log stands, or from where any function tells that it
 /// does, for as many asks as another tells, a run delivers what the log holds when each reply is
 /// given, and ends with no fault but a loss.
 pub fn growing_is_delivered<L: LogLink>()
-    ensures told { (standing : L → Standing) (most : L → ℕ) → GrowingIsDelivered L.asks (λ more link at. (standing link ≡ at) × (more ≤ most link)) }
-    ensures honest { (path : Path) (log : Id) (count low : ℕ) → GrowingIsDelivered L.asks (λ more link at. StaysHonest L.asks path log count low more link at) }
+    ensures told { (standing : L → Standing) (most : L → ℕ)
+        → GrowingIsDelivered L.asks (λ more link at. (standing link ≡ at) × (more ≤ most link)) }
+    ensures honest { (path : Path) (log : Id) (count low : ℕ)
+        → GrowingIsDelivered L.asks
+        (λ more link at. StaysHonest L.asks path log count low more link at) }
 {}
 
 /// A link is honest for each log for which it is ours.

@@ -17,8 +17,8 @@ use crate::sink::{Sink, deliver};
 use crate::walk::Walk;
 use bac_link::{LogLink, Transactions};
 
-/// A walk into one sink, and a new walk from the number where it ended into another. Over any link a
-/// walk that ends at its step limit put a record at least for each step; over one of ours, all of
+/// A walk into one sink, and a new walk from the number where it ended into another. Over any link
+/// a walk that ends at its step limit put a record at least for each step; over one of ours, all of
 /// whose moments lie within half of the count, the two together deliver as one.
 pub fn stop_and_resume<L: LogLink, S: Sink, R: Sink>(
     link: &mut L,
@@ -30,26 +30,35 @@ pub fn stop_and_resume<L: LogLink, S: Sink, R: Sink>(
     rest: &mut R,
 ) -> (Ended, Ended)
     ensures resumed { (first : List Call) × (second : List Call)
-        × Takes S.puts sink.old first (is_stopped result.0) sink.new × Takes R.puts rest.old second (is_stopped result.1) rest.new
-        × (result.0 ≡ Ended.StepLimit → steps ≤ length first) × (result.1 ≡ Ended.StepLimit → more ≤ length second)
-        × ((r : ℕ) (M : List Moment) (H : History) (s low : ℕ) →
-        walk.old.fresh ≡ false → L.is_ours link.old walk.old.log r M H → walk.old.next ≡ sequence_number s →
-        AreInWindow low M → low ≤ s → s < low + 2147483648 →
-        (a : ℕ) × (t : ℕ) × (walk.new.next ≡ sequence_number t) × DeliversTo H s (put_items first ++ put_items second) t M a) }
+        × Takes S.puts sink.old first (is_stopped result.0) sink.new
+        × Takes R.puts rest.old second (is_stopped result.1) rest.new
+        × (result.0 ≡ Ended.StepLimit → steps ≤ length first)
+        × (result.1 ≡ Ended.StepLimit → more ≤ length second)
+        × ((r : ℕ) (M : List Moment) (H : History) (s low : ℕ) → walk.old.fresh ≡ false
+        → L.is_ours link.old walk.old.log r M H → walk.old.next ≡ sequence_number s
+        → AreInWindow low M → low ≤ s → s < low + 2147483648
+        → (a : ℕ) × (t : ℕ) × (walk.new.next ≡ sequence_number t)
+        × DeliversTo H s (put_items first ++ put_items second) t M a) }
     // So do they over a link that is honest for the log, unless the first walk was one
     // from the oldest record.
-    ensures headline { walk.old.fresh ≡ false → (first : List Call) × (second : List Call)
-        × Takes S.puts sink.old first (is_stopped result.0) sink.new × Takes R.puts rest.old second (is_stopped result.1) rest.new
-        × DeliversSaid L.asks (towards transactions.old.route) (spare result.0 + spare result.1) link.old walk.old (put_items first ++ put_items second) result.1 walk.new link.new }
+    ensures headline { walk.old.fresh ≡ false
+        → (first : List Call) × (second : List Call)
+        × Takes S.puts sink.old first (is_stopped result.0) sink.new
+        × Takes R.puts rest.old second (is_stopped result.1) rest.new
+        × DeliversSaid L.asks (towards transactions.old.route) (spare result.0 + spare result.1)
+        link.old walk.old (put_items first ++ put_items second) result.1 walk.new link.new }
     // Over any link: what came to the first walk, and to the second, which began at the number, and
     // on the link, where the first ended, and asks for as many records.
     ensures brought { (here : WalkPlace) × (half : L)
-        × BroughtInto L.asks (towards transactions.old.route) transactions.old.retries S.puts link.old sink.old walk.old steps result.0 here sink.new half
-        × BroughtInto L.asks (towards transactions.old.route) transactions.old.retries R.puts half rest.old (resumed here) more result.1 walk.new rest.new link.new }
+        × BroughtInto L.asks (towards transactions.old.route) transactions.old.retries S.puts
+        link.old sink.old walk.old steps result.0 here sink.new half
+        × BroughtInto L.asks (towards transactions.old.route) transactions.old.retries R.puts half
+        rest.old (resumed here) more result.1 walk.new rest.new link.new }
     // The second went on with the transactions as the first left them.
     ensures transacted { (here : WalkPlace) × (half : L) × (between : TransactionsOf)
-        × BroughtIntoBy L.asks transactions.old S.puts link.old sink.old walk.old steps result.0 here sink.new between half
-        × BroughtIntoBy L.asks between R.puts half rest.old (resumed here) more result.1 walk.new rest.new transactions.new link.new }
+        × BroughtIntoBy L.asks transactions.old S.puts link.old sink.old walk.old steps result.0
+        here sink.new between half × BroughtIntoBy L.asks between R.puts half rest.old
+        (resumed here) more result.1 walk.new rest.new transactions.new link.new }
 {
     let first = deliver(link, transactions, walk, steps, sink);
     *walk = walk.resumed();

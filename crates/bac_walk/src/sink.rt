@@ -7,7 +7,8 @@ ghost use Rattle.bac_link.specs.Path.{towards};
 ghost use Rattle.bac_walk.specs.declared.batch.Gap.{Gap as GapOf};
 ghost use Rattle.bac_walk.specs.declared.batch.Numbered.{Numbered as NumberedOf};
 ghost use Rattle.bac_walk.specs.Near.{StaysNear};
-ghost use Rattle.bac_walk.specs.Sinks.{Call, PutAll, Delivery, IsDelivered, IsDeliveredNear, Takes, is_stopped, put_items};
+ghost use Rattle.bac_walk.specs.Sinks.{Call, PutAll, Delivery, IsDelivered, IsDeliveredNear, Takes};
+ghost use Rattle.bac_walk.specs.Sinks.{is_stopped, put_items};
 ghost use Rattle.bac_walk.specs.Handing.{HandedOn};
 ghost use Rattle.bac_walk.specs.Replied.{step_of};
 ghost use Rattle.bac_walk.specs.Spelled.{IsWhole, records_from};
@@ -56,47 +57,61 @@ pub fn deliver<L: LogLink, S: Sink>(
     ensures log { walk.new.log ≡ walk.old.log }
     ensures count { walk.new.count ≡ walk.old.count }
     // Without steps nothing happens.
-    ensures none { steps ≡ 0 → (result ≡ Ended.StepLimit) × (sink.new ≡ sink.old) × (walk.new ≡ walk.old)
-        × (link.new ≡ link.old) × (transactions.new ≡ transactions.old) }
+    ensures none { steps ≡ 0 → (result ≡ Ended.StepLimit) × (sink.new ≡ sink.old)
+        × (walk.new ≡ walk.old) × (link.new ≡ link.old)
+        × (transactions.new ≡ transactions.old) }
     // Over any link, the last exchange told the fault, or that there is no more.
-    ensures told { Told L.asks (towards transactions.old.route) transactions.old.retries result walk.new link.new }
+    ensures told { Told L.asks (towards transactions.old.route) transactions.old.retries result
+        walk.new link.new }
     // Over any link: what came, and that what is put is what these replies brought.
-    ensures brought { BroughtInto L.asks (towards transactions.old.route) transactions.old.retries S.puts link.old sink.old walk.old steps result walk.new sink.new link.new }
-    // Each exchange is the next of the transactions, and none is open after it: two replies a batch at
-    // most, and two more.
-    ensures transacted { BroughtIntoBy L.asks transactions.old S.puts link.old sink.old walk.old steps result walk.new sink.new transactions.new link.new }
-    // The headline: over a link that is honest for the log, whatever records it holds and however it
-    // encodes them, it delivers the records from its number on that the log holds when each is
+    ensures brought { BroughtInto L.asks (towards transactions.old.route) transactions.old.retries
+        S.puts link.old sink.old walk.old steps result walk.new sink.new link.new }
+    // Each exchange is the next of the transactions, and none is open after it: two replies a batch
+    // at most, and two more.
+    ensures transacted { BroughtIntoBy L.asks transactions.old S.puts link.old sink.old walk.old
+        steps result walk.new sink.new transactions.new link.new }
+    // The headline: over a link that is honest for the log, whatever records it holds and however
+    // it encodes them, it delivers the records from its number on that the log holds when each is
     // reached, each once, in rising order, with one exact gap for what is gone; and the only fault
     // is a loss.
-    ensures headline { (calls : List Call) × Takes S.puts sink.old calls (is_stopped result) sink.new
-        × DeliversSaid L.asks (towards transactions.old.route) (spare result) link.old walk.old (put_items calls) result walk.new link.new }
-    // So it does over a link that stays honest while its log goes on, between any two asks, and that may
-    // lose any: for as many asks as these steps may make, and then for the asks that are left.
+    ensures headline { (calls : List Call)
+        × Takes S.puts sink.old calls (is_stopped result) sink.new
+        × DeliversSaid L.asks (towards transactions.old.route) (spare result) link.old walk.old
+        (put_items calls) result walk.new link.new }
+    // So it does over a link that stays honest while its log goes on, between any two asks, and
+    // that may lose any: for as many asks as these steps may make, and then for the asks that are
+    // left.
     ensures growing { (calls : List Call) × Takes S.puts sink.old calls (is_stopped result) sink.new
-        × DeliversGrowing L.asks (towards transactions.old.route) transactions.old.retries link.old walk.old steps (put_items calls) result walk.new link.new }
+        × DeliversGrowing L.asks (towards transactions.old.route) transactions.old.retries link.old
+        walk.old steps (put_items calls) result walk.new link.new }
     // Over a link of ours it does so too, and the link is ours still, at the moments that are left.
     ensures ours { (calls : List Call) × Takes S.puts sink.old calls (is_stopped result) sink.new
-        × IsDelivered (λ r M H. L.is_ours link.old walk.old.log r M H) (λ r M H. L.is_ours link.new walk.old.log r M H)
-        walk.old walk.new (put_items calls) }
+        × IsDelivered (λ r M H. L.is_ours link.old walk.old.log r M H)
+        (λ r M H. L.is_ours link.new walk.old.log r M H) walk.old walk.new (put_items calls) }
     // So it does if the walk is near its log wherever these steps bring it.
     ensures near { (calls : List Call) × Takes S.puts sink.old calls (is_stopped result) sink.new
-        × IsDeliveredNear (λ r M H. L.is_ours link.old walk.old.log r M H) (λ r M H. L.is_ours link.new walk.old.log r M H)
-        walk.old walk.new steps (put_items calls) }
+        × IsDeliveredNear (λ r M H. L.is_ours link.old walk.old.log r M H)
+        (λ r M H. L.is_ours link.new walk.old.log r M H) walk.old walk.new steps
+        (put_items calls) }
     // It is a run of so many steps, with all that its answers brought and how it ended.
     ensures delivers { Delivery S.puts sink.old sink.new
-        (λ r M H. L.is_ours link.old walk.old.log r M H) (λ r M H. L.is_ours link.new walk.old.log r M H)
-        transactions.old.retries (L.failures link.old) (L.failures link.new) walk.old walk.new steps result }
+        (λ r M H. L.is_ours link.old walk.old.log r M H)
+        (λ r M H. L.is_ours link.new walk.old.log r M H) transactions.old.retries
+        (L.failures link.old) (L.failures link.new) walk.old walk.new steps result }
     // Over a link that loses nothing, nothing is lost, and asking changes nothing.
-    ensures sure { L.is_sure link.old (towards transactions.old.route) → L.is_sure link.new (towards transactions.new.route) }
+    ensures sure { L.is_sure link.old (towards transactions.old.route)
+        → L.is_sure link.new (towards transactions.new.route) }
     ensures kept { L.is_sure link.old (towards transactions.old.route) → L.keeps link.old link.new }
-    ensures answered { (r : ℕ) (M : List Moment) (H : History) (s : ℕ) →
-        L.is_sure link.old (towards transactions.old.route) → L.is_ours link.old walk.old.log r M H → walk.old.next ≡ sequence_number s →
-        StaysNear r walk.old.count H M walk.old.fresh s steps → FoundEnd result }
+    ensures answered { (r : ℕ) (M : List Moment) (H : History) (s : ℕ)
+        → L.is_sure link.old (towards transactions.old.route)
+        → L.is_ours link.old walk.old.log r M H → walk.old.next ≡ sequence_number s
+        → StaysNear r walk.old.count H M walk.old.fresh s steps → FoundEnd result }
     // A device without the log says so.
-    ensures lacking { L.lacks link.old walk.old.log →
-        MissingEnd steps result × (sink.new ≡ sink.old) × (walk.new.next ≡ walk.old.next) × L.lacks link.new walk.old.log }
-    ensures refused { L.lacks link.old walk.old.log → L.is_sure link.old (towards transactions.old.route) → FoundEnd result }
+    ensures lacking { L.lacks link.old walk.old.log
+        → MissingEnd steps result × (sink.new ≡ sink.old) × (walk.new.next ≡ walk.old.next)
+        × L.lacks link.new walk.old.log }
+    ensures refused { L.lacks link.old walk.old.log
+        → L.is_sure link.old (towards transactions.old.route) → FoundEnd result }
 {
     for done in 0..steps {
         match deliver_step(link, transactions, walk, sink) {
@@ -120,20 +135,28 @@ fn deliver_step<L: LogLink, S: Sink>(
     ensures begun { transactions.new.begun ≤ transactions.old.begun + 2 }
     ensures log { walk.new.log ≡ walk.old.log }
     ensures count { walk.new.count ≡ walk.old.count }
-    ensures told { Told L.asks (towards transactions.old.route) transactions.old.retries result walk.new link.new }
-    ensures brought { BroughtInto L.asks (towards transactions.old.route) transactions.old.retries S.puts link.old sink.old walk.old 1 result walk.new sink.new link.new }
-    ensures transacted { BroughtIntoBy L.asks transactions.old S.puts link.old sink.old walk.old 1 result walk.new sink.new transactions.new link.new }
+    ensures told { Told L.asks (towards transactions.old.route) transactions.old.retries result
+        walk.new link.new }
+    ensures brought { BroughtInto L.asks (towards transactions.old.route) transactions.old.retries
+        S.puts link.old sink.old walk.old 1 result walk.new sink.new link.new }
+    ensures transacted { BroughtIntoBy L.asks transactions.old S.puts link.old sink.old walk.old 1
+        result walk.new sink.new transactions.new link.new }
     ensures delivers { Delivery S.puts sink.old sink.new
-        (λ r M H. L.is_ours link.old walk.old.log r M H) (λ r M H. L.is_ours link.new walk.old.log r M H)
-        transactions.old.retries (L.failures link.old) (L.failures link.new) walk.old walk.new 1 result }
-    ensures sure { L.is_sure link.old (towards transactions.old.route) → L.is_sure link.new (towards transactions.new.route) }
+        (λ r M H. L.is_ours link.old walk.old.log r M H)
+        (λ r M H. L.is_ours link.new walk.old.log r M H) transactions.old.retries
+        (L.failures link.old) (L.failures link.new) walk.old walk.new 1 result }
+    ensures sure { L.is_sure link.old (towards transactions.old.route)
+        → L.is_sure link.new (towards transactions.new.route) }
     ensures kept { L.is_sure link.old (towards transactions.old.route) → L.keeps link.old link.new }
-    ensures answered { (r : ℕ) (M : List Moment) (H : History) (s : ℕ) →
-        L.is_sure link.old (towards transactions.old.route) → L.is_ours link.old walk.old.log r M H → walk.old.next ≡ sequence_number s →
-        StaysNear r walk.old.count H M walk.old.fresh s 1 → FoundEnd result }
-    ensures lacking { L.lacks link.old walk.old.log →
-        MissingEnd 1 result × (sink.new ≡ sink.old) × (walk.new.next ≡ walk.old.next) × L.lacks link.new walk.old.log }
-    ensures refused { L.lacks link.old walk.old.log → L.is_sure link.old (towards transactions.old.route) → FoundEnd result }
+    ensures answered { (r : ℕ) (M : List Moment) (H : History) (s : ℕ)
+        → L.is_sure link.old (towards transactions.old.route)
+        → L.is_ours link.old walk.old.log r M H → walk.old.next ≡ sequence_number s
+        → StaysNear r walk.old.count H M walk.old.fresh s 1 → FoundEnd result }
+    ensures lacking { L.lacks link.old walk.old.log
+        → MissingEnd 1 result × (sink.new ≡ sink.old) × (walk.new.next ≡ walk.old.next)
+        × L.lacks link.new walk.old.log }
+    ensures refused { L.lacks link.old walk.old.log
+        → L.is_sure link.old (towards transactions.old.route) → FoundEnd result }
 {
     let replied = walk.reply(link, transactions);
     // For the prover alone: the next number is a sequence number.

@@ -1,7 +1,9 @@
 //! Steps of a walk over a link.
 ghost use Rattle.std.specs.Prelude.{[], ◌∷◌, ℕ, ◌≡◌, ◌+◌, ◌≤◌, List, length, true, false, OnErr};
 ghost use Rattle.bac_link.specs.declared.item.Item.{Item};
-ghost use Rattle.bac_walk.specs.Collects.{FoundTurn, FoundStep, MissingTurn, MissingStep, Goes, turn_items, asks_next, finished, Collected, step_items, step_ended, is_fresh_after};
+ghost use Rattle.bac_walk.specs.Collects.{FoundTurn, FoundStep, MissingTurn, MissingStep, Goes};
+ghost use Rattle.bac_walk.specs.Collects.{turn_items, asks_next, finished, Collected, step_items};
+ghost use Rattle.bac_walk.specs.Collects.{step_ended, is_fresh_after};
 ghost use Rattle.bac_link.specs.Delivery.{History, Moment, DeliversTo, now};
 ghost use Rattle.bac_link.specs.Path.{towards};
 ghost use Rattle.bac_link.specs.Laws.{after_answers};
@@ -30,7 +32,8 @@ use bac_wire::Datagram;
 impl Walk {
     // What an answer means: a reply that brings records stays as it came.
     fn hear(&mut self, datagram: Datagram) -> Result<Turned, BadReply>
-        ensures { IsTakenFrom self.old (heard_in self.old.log datagram) (progress_of result) self.new }
+        ensures { IsTakenFrom self.old (heard_in self.old.log datagram) (progress_of result)
+            self.new }
     {
         let Some(parameters) = ack_parameters(datagram.octets()) else {
             return Err(BadReply);
@@ -65,20 +68,30 @@ impl Walk {
         ensures asks { asks_next (progress_of result) ≡ true → self.new.next ≡ self.old.next }
         ensures log { self.new.log ≡ self.old.log }
         ensures count { self.new.count ≡ self.old.count }
-        ensures sure { L.is_sure link.old (towards transactions.old.route) → L.is_sure link.new (towards transactions.new.route) }
-        ensures kept { L.is_sure link.old (towards transactions.old.route) → L.keeps link.old link.new }
-        ensures answered { (r : ℕ) (M : List Moment) (H : History) →
-            L.is_sure link.old (towards transactions.old.route) → L.is_ours link.old self.old.log r M H → FoundTurn (progress_of result) }
-        ensures lacking { L.lacks link.old self.old.log →
-            MissingTurn (progress_of result) × L.lacks link.new self.old.log × (L.is_sure link.old (towards transactions.old.route) → FoundTurn (progress_of result)) }
-        ensures told { ToldTurn L.asks (towards transactions.old.route) transactions.old.retries self.old (progress_of result) self.new link.new }
+        ensures sure { L.is_sure link.old (towards transactions.old.route)
+            → L.is_sure link.new (towards transactions.new.route) }
+        ensures kept { L.is_sure link.old (towards transactions.old.route)
+            → L.keeps link.old link.new }
+        ensures answered { (r : ℕ) (M : List Moment) (H : History)
+            → L.is_sure link.old (towards transactions.old.route)
+            → L.is_ours link.old self.old.log r M H → FoundTurn (progress_of result) }
+        ensures lacking { L.lacks link.old self.old.log
+            → MissingTurn (progress_of result) × L.lacks link.new self.old.log
+            × (L.is_sure link.old (towards transactions.old.route)
+            → FoundTurn (progress_of result)) }
+        ensures told { ToldTurn L.asks (towards transactions.old.route) transactions.old.retries
+            self.old (progress_of result) self.new link.new }
         ensures begins { transactions.new ≡ asked self.old transactions.old }
-        ensures came { TurnBy L.asks transactions.old link.old self.old (progress_of result) self.new link.new }
-        ensures goes { (s : ℕ) → Goes self.old.fresh self.old.next s (turn_items (progress_of result)) self.new.fresh self.new.next }
-        ensures ours { (r : ℕ) (M : List Moment) (H : History) (s : ℕ) →
-            L.is_ours link.old self.old.log r M H → self.old.next ≡ sequence_number s → (self.old.fresh ≡ false → IsNear s (now M)) →
-            IsTurned (λ N. L.is_ours link.new self.old.log r N H) r M H s self.old
-            transactions.old.retries (L.failures link.old) (L.failures link.new) (progress_of result) self.new }
+        ensures came { TurnBy L.asks transactions.old link.old self.old (progress_of result)
+            self.new link.new }
+        ensures goes { (s : ℕ) → Goes self.old.fresh self.old.next s
+            (turn_items (progress_of result)) self.new.fresh self.new.next }
+        ensures ours { (r : ℕ) (M : List Moment) (H : History) (s : ℕ)
+            → L.is_ours link.old self.old.log r M H → self.old.next ≡ sequence_number s
+            → (self.old.fresh ≡ false → IsNear s (now M))
+            → IsTurned (λ N. L.is_ours link.new self.old.log r N H) r M H s self.old
+            transactions.old.retries (L.failures link.old) (L.failures link.new)
+            (progress_of result) self.new }
     {
         let question = self.question();
         let datagram = match exchange(link, transactions, &question) {
@@ -108,47 +121,64 @@ impl Walk {
         ensures log { self.new.log ≡ self.old.log }
         ensures count { self.new.count ≡ self.old.count }
         // Over a link that loses nothing, nothing is lost, and asking changes nothing.
-        ensures sure { L.is_sure link.old (towards transactions.old.route) → L.is_sure link.new (towards transactions.new.route) }
-        ensures kept { L.is_sure link.old (towards transactions.old.route) → L.keeps link.old link.new }
-        ensures answered { (r : ℕ) (M : List Moment) (H : History) (s : ℕ) →
-            L.is_sure link.old (towards transactions.old.route) → L.is_ours link.old self.old.log r M H → self.old.next ≡ sequence_number s →
-            (self.old.fresh ≡ false → IsNearStep self.old.count s M) → FoundStep result }
+        ensures sure { L.is_sure link.old (towards transactions.old.route)
+            → L.is_sure link.new (towards transactions.new.route) }
+        ensures kept { L.is_sure link.old (towards transactions.old.route)
+            → L.keeps link.old link.new }
+        ensures answered { (r : ℕ) (M : List Moment) (H : History) (s : ℕ)
+            → L.is_sure link.old (towards transactions.old.route)
+            → L.is_ours link.old self.old.log r M H → self.old.next ≡ sequence_number s
+            → (self.old.fresh ≡ false → IsNearStep self.old.count s M) → FoundStep result }
         // Over a log that doesn't change it is one step of a walk of it.
-        ensures resting { (r : ℕ) (m : Moment) (H : History) (s : ℕ) →
-            L.is_sure link.old (towards transactions.old.route) → L.is_ours link.old self.old.log r (m ∷ []) H → self.old.next ≡ sequence_number s →
-            (self.old.fresh ≡ false → IsNear s m) →
-            IsRest (rest r self.old.count H m self.old.fresh s 1) (step_items result) self.new.next (step_ended result) }
+        ensures resting { (r : ℕ) (m : Moment) (H : History) (s : ℕ)
+            → L.is_sure link.old (towards transactions.old.route)
+            → L.is_ours link.old self.old.log r (m ∷ []) H → self.old.next ≡ sequence_number s
+            → (self.old.fresh ≡ false → IsNear s m)
+            → IsRest (rest r self.old.count H m self.old.fresh s 1) (step_items result)
+            self.new.next (step_ended result) }
         // A device without the log says so.
-        ensures lacking { L.lacks link.old self.old.log → MissingStep result × L.lacks link.new self.old.log }
-        ensures refused { L.lacks link.old self.old.log → L.is_sure link.old (towards transactions.old.route) → FoundStep result }
+        ensures lacking { L.lacks link.old self.old.log
+            → MissingStep result × L.lacks link.new self.old.log }
+        ensures refused { L.lacks link.old self.old.log
+            → L.is_sure link.old (towards transactions.old.route) → FoundStep result }
         // Over any link, the last exchange told why no batch came, and the items cover all from the
         // walk's number up to the new one.
-        ensures told { Told L.asks (towards transactions.old.route) transactions.old.retries (step_ended result) self.new link.new }
+        ensures told { Told L.asks (towards transactions.old.route) transactions.old.retries
+            (step_ended result) self.new link.new }
         // Over any link: what came, and that the step is what these replies make.
-        ensures brought { (came : List Came) × Brought L.asks (towards transactions.old.route) transactions.old.retries link.old self.old 1 came
-            (step_items result) (step_ended result) self.new link.new }
+        ensures brought { (came : List Came)
+            × Brought L.asks (towards transactions.old.route) transactions.old.retries link.old
+            self.old 1 came (step_items result) (step_ended result) self.new link.new }
         // Each exchange is the next of the transactions, and none is open after it.
-        ensures transacted { (came : List Came) × BroughtBy L.asks transactions.old link.old self.old 1 came
-            (step_items result) (step_ended result) self.new transactions.new link.new }
-        ensures goes { (s : ℕ) → Goes self.old.fresh self.old.next s (step_items result) self.new.fresh self.new.next }
+        ensures transacted { (came : List Came)
+            × BroughtBy L.asks transactions.old link.old self.old 1 came (step_items result)
+            (step_ended result) self.new transactions.new link.new }
+        ensures goes { (s : ℕ)
+            → Goes self.old.fresh self.old.next s (step_items result) self.new.fresh self.new.next }
         // So it does over a link of ours, if the walk is near at each answer.
-        ensures near { (r : ℕ) (M : List Moment) (H : History) (s : ℕ) →
-            L.is_ours link.old self.old.log r M H → self.old.next ≡ sequence_number s → (self.old.fresh ≡ false → IsNearStep self.old.count s M) →
-            (b : ℕ) × (a : ℕ) × (t : ℕ) × (self.old.fresh ≡ false → b ≡ s) × (self.new.next ≡ sequence_number t)
-            × DeliversTo H b (step_items result) t M a × L.is_ours link.new self.old.log r (after_answers a M) H }
+        ensures near { (r : ℕ) (M : List Moment) (H : History) (s : ℕ)
+            → L.is_ours link.old self.old.log r M H → self.old.next ≡ sequence_number s
+            → (self.old.fresh ≡ false → IsNearStep self.old.count s M)
+            → (b : ℕ) × (a : ℕ) × (t : ℕ) × (self.old.fresh ≡ false → b ≡ s)
+            × (self.new.next ≡ sequence_number t) × DeliversTo H b (step_items result) t M a
+            × L.is_ours link.new self.old.log r (after_answers a M) H }
         // Over a link that is honest for the log it delivers the next records that the log holds,
         // with the gap before them.
-        ensures headline { DeliversSaid L.asks (towards transactions.old.route) (spare (step_ended result)) link.old self.old (step_items result) (step_ended result) self.new link.new }
+        ensures headline { DeliversSaid L.asks (towards transactions.old.route)
+            (spare (step_ended result)) link.old self.old (step_items result) (step_ended result)
+            self.new link.new }
         // So it does over one that stays honest while its log goes on, and may lose any ask.
-        ensures growing { DeliversGrowing L.asks (towards transactions.old.route) transactions.old.retries link.old self.old 1
-            (step_items result) (step_ended result) self.new link.new }
+        ensures growing { DeliversGrowing L.asks (towards transactions.old.route)
+            transactions.old.retries link.old self.old 1 (step_items result) (step_ended result)
+            self.new link.new }
         // The walk is at ordinal s before the step, near its log, and at t after it.
-        ensures ours { (r : ℕ) (M : List Moment) (H : History) (s : ℕ) →
-            L.is_ours link.old self.old.log r M H → self.old.next ≡ sequence_number s → (self.old.fresh ≡ false → IsNearStep self.old.count s M) →
-            (answers : List (List Item)) × (t : ℕ) × (self.new.next ≡ sequence_number t)
-            × Collected r self.old.count H M self.old.fresh s 1
-            transactions.old.retries (L.failures link.old) (L.failures link.new)
-            (step_items result) t (step_ended result) answers
+        ensures ours { (r : ℕ) (M : List Moment) (H : History) (s : ℕ)
+            → L.is_ours link.old self.old.log r M H → self.old.next ≡ sequence_number s
+            → (self.old.fresh ≡ false → IsNearStep self.old.count s M)
+            → (answers : List (List Item)) × (t : ℕ) × (self.new.next ≡ sequence_number t)
+            × Collected r self.old.count H M self.old.fresh s 1 transactions.old.retries
+            (L.failures link.old) (L.failures link.new) (step_items result) t
+            (step_ended result) answers
             × L.is_ours link.new self.old.log r (after_answers (length answers) M) H
             × (self.new.fresh ≡ is_fresh_after self.old.fresh result) }
     {
@@ -168,25 +198,38 @@ impl Walk {
         ensures fault { OnErr (step_of result) (self.new.next ≡ self.old.next) }
         ensures log { self.new.log ≡ self.old.log }
         ensures count { self.new.count ≡ self.old.count }
-        ensures sure { L.is_sure link.old (towards transactions.old.route) → L.is_sure link.new (towards transactions.new.route) }
-        ensures kept { L.is_sure link.old (towards transactions.old.route) → L.keeps link.old link.new }
-        ensures answered { (r : ℕ) (M : List Moment) (H : History) (s : ℕ) →
-            L.is_sure link.old (towards transactions.old.route) → L.is_ours link.old self.old.log r M H → self.old.next ≡ sequence_number s →
-            (self.old.fresh ≡ false → IsNearStep self.old.count s M) → FoundStep (step_of result) }
-        ensures lacking { L.lacks link.old self.old.log → MissingStep (step_of result) × L.lacks link.new self.old.log }
-        ensures refused { L.lacks link.old self.old.log → L.is_sure link.old (towards transactions.old.route) → FoundStep (step_of result) }
-        ensures told { Told L.asks (towards transactions.old.route) transactions.old.retries (step_ended (step_of result)) self.new link.new }
-        ensures brought { (came : List Came) × Brought L.asks (towards transactions.old.route) transactions.old.retries link.old self.old 1 came
-            (step_items (step_of result)) (step_ended (step_of result)) self.new link.new }
-        ensures transacted { (came : List Came) × BroughtBy L.asks transactions.old link.old self.old 1 came
-            (step_items (step_of result)) (step_ended (step_of result)) self.new transactions.new link.new }
-        ensures goes { (s : ℕ) → Goes self.old.fresh self.old.next s (step_items (step_of result)) self.new.fresh self.new.next }
-        ensures ours { (r : ℕ) (M : List Moment) (H : History) (s : ℕ) →
-            L.is_ours link.old self.old.log r M H → self.old.next ≡ sequence_number s → (self.old.fresh ≡ false → IsNearStep self.old.count s M) →
-            (answers : List (List Item)) × (t : ℕ) × (self.new.next ≡ sequence_number t)
-            × Collected r self.old.count H M self.old.fresh s 1
-            transactions.old.retries (L.failures link.old) (L.failures link.new)
-            (step_items (step_of result)) t (step_ended (step_of result)) answers
+        ensures sure { L.is_sure link.old (towards transactions.old.route)
+            → L.is_sure link.new (towards transactions.new.route) }
+        ensures kept { L.is_sure link.old (towards transactions.old.route)
+            → L.keeps link.old link.new }
+        ensures answered { (r : ℕ) (M : List Moment) (H : History) (s : ℕ)
+            → L.is_sure link.old (towards transactions.old.route)
+            → L.is_ours link.old self.old.log r M H → self.old.next ≡ sequence_number s
+            → (self.old.fresh ≡ false → IsNearStep self.old.count s M)
+            → FoundStep (step_of result) }
+        ensures lacking { L.lacks link.old self.old.log
+            → MissingStep (step_of result) × L.lacks link.new self.old.log }
+        ensures refused { L.lacks link.old self.old.log
+            → L.is_sure link.old (towards transactions.old.route) → FoundStep (step_of result) }
+        ensures told { Told L.asks (towards transactions.old.route) transactions.old.retries
+            (step_ended (step_of result)) self.new link.new }
+        ensures brought { (came : List Came)
+            × Brought L.asks (towards transactions.old.route) transactions.old.retries link.old
+            self.old 1 came (step_items (step_of result)) (step_ended (step_of result)) self.new
+            link.new }
+        ensures transacted { (came : List Came)
+            × BroughtBy L.asks transactions.old link.old self.old 1 came
+            (step_items (step_of result)) (step_ended (step_of result)) self.new
+            transactions.new link.new }
+        ensures goes { (s : ℕ) → Goes self.old.fresh self.old.next s (step_items (step_of result))
+            self.new.fresh self.new.next }
+        ensures ours { (r : ℕ) (M : List Moment) (H : History) (s : ℕ)
+            → L.is_ours link.old self.old.log r M H → self.old.next ≡ sequence_number s
+            → (self.old.fresh ≡ false → IsNearStep self.old.count s M)
+            → (answers : List (List Item)) × (t : ℕ) × (self.new.next ≡ sequence_number t)
+            × Collected r self.old.count H M self.old.fresh s 1 transactions.old.retries
+            (L.failures link.old) (L.failures link.new) (step_items (step_of result)) t
+            (step_ended (step_of result)) answers
             × L.is_ours link.new self.old.log r (after_answers (length answers) M) H
             × (self.new.fresh ≡ is_fresh_after self.old.fresh (step_of result)) }
     {
@@ -234,7 +277,8 @@ fn decoded(replied: Result<Replied, WalkFault>) -> Result<Step, WalkFault>
 // The records of a reply.
 fn batch_of(reply: &Reply) -> Batch
     ensures gap { result.gap ≡ reply.now.gap }
-    ensures entries { result.entries.items ≡ records_from reply.now.first (data_held reply.now.datagram) }
+    ensures entries { result.entries.items
+        ≡ records_from reply.now.first (data_held reply.now.datagram) }
 {
     Batch {
         gap: reply.gap,

@@ -5,8 +5,10 @@ ghost use Rattle.bac_link.specs.Links.{AsksFor};
 ghost use Rattle.bac_link.specs.Requests.{IsTooLong};
 ghost use Rattle.bac_link.specs.Ordinals.{distance, number_after, is_ahead};
 ghost use Rattle.bac_link.specs.Standard.{IsCount};
-ghost use Rattle.bac_walk.specs.Place.{WalkPlace, IsWalk, asking, resumed, walk_at, walk_from_oldest};
-ghost use Rattle.bac_walk.specs.Walks.{asks_oldest_now, question_of, is_past, fits, gap_items, gap_of, IsTakenFrom};
+ghost use Rattle.bac_walk.specs.Place.{WalkPlace, IsWalk, asking, resumed, walk_at};
+ghost use Rattle.bac_walk.specs.Place.{walk_from_oldest};
+ghost use Rattle.bac_walk.specs.Walks.{asks_oldest_now, question_of, is_past, fits, gap_items};
+ghost use Rattle.bac_walk.specs.Walks.{gap_of, IsTakenFrom};
 ghost use Rattle.bac_walk.specs.Replied.{IsJudged};
 ghost use Rattle.bac_walk.specs.Spelled.{IsWhole, records_from};
 
@@ -40,7 +42,13 @@ pub struct Walk {
 impl Model for Walk {
     ghost Value = { WalkPlace };
 
-    ghost view = { λ w. record { log = w.log; next = w.next; fresh = w.fresh; asks_oldest = w.asks_oldest; count = w.count } };
+    ghost view = { λ w. record {
+      log = w.log;
+      next = w.next;
+      fresh = w.fresh;
+      asks_oldest = w.asks_oldest;
+      count = w.count;
+    } };
 
     ghost invariant = { λ w. IsWalk w.log w.next w.fresh w.count };
 }

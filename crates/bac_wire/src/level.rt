@@ -1,6 +1,7 @@
 //! Tags on one level: whole tags, and the tags that open and close a level (clause 20.2.1.3.2).
 
-ghost use Rattle.std.specs.Prelude.{◌≡◌, true, ◌+◌, ◌≤◌, ℕ, List, ◌++◌, length, drop, slice_index, IfOk, IfSome, IsOkAnd};
+ghost use Rattle.std.specs.Prelude.{◌≡◌, true, ◌+◌, ◌≤◌, ℕ, List, ◌++◌, length, drop, slice_index};
+ghost use Rattle.std.specs.Prelude.{IfOk, IfSome, IsOkAnd};
 ghost use Rattle.bac_wire.specs.Chain.{Gives};
 ghost use Rattle.bac_wire.specs.Spelling.{IsTag};
 ghost use Rattle.bac_wire.specs.Level.{token_at, close_at, IsLevel, IsPassed, EndsAt};
@@ -49,9 +50,11 @@ pub fn octets_to_close(bytes: &[u8], wanted: u8) -> Result<usize, WireFault>
     // Before it come whole tags, and each level that they open is closed.
     ensures found { IfOk result (EndsAt wanted bytes.now) }
     // If such tags come before it, it is found.
-    ensures only { (inside close after : List ℕ) → IsLevel inside → IsTag 8 wanted 7 close → bytes.now ≡ inside ++ (close ++ after) → IsOkAnd result (λ n. n ≡ length inside) }
+    ensures only { (inside close after : List ℕ) → IsLevel inside → IsTag 8 wanted 7 close
+        → bytes.now ≡ inside ++ (close ++ after) → IsOkAnd result (λ n. n ≡ length inside) }
     // Which fault it is.
-    ensures exact { Gives (λ n. drop n bytes.now) result (close_at (length bytes.now + 1) 0 wanted bytes.now) }
+    ensures exact { Gives (λ n. drop n bytes.now) result
+        (close_at (length bytes.now + 1) 0 wanted bytes.now) }
 {
     count_to_close(bytes, wanted)
 }
@@ -60,8 +63,9 @@ pub fn octets_to_close(bytes: &[u8], wanted: u8) -> Result<usize, WireFault>
 /// each record of a log: four tags in twelve octets.
 #[inline(always)]
 fn is_stamp_next(bytes: &[u8]) -> bool
-    ensures { result ≡ true → (12 ≤ length bytes.now) × (slice_index bytes.now 0 ≡ 14) × (slice_index bytes.now 1 ≡ 164)
-        × (slice_index bytes.now 6 ≡ 180) × (slice_index bytes.now 11 ≡ 15) }
+    ensures { result ≡ true → (12 ≤ length bytes.now) × (slice_index bytes.now 0 ≡ 14)
+        × (slice_index bytes.now 1 ≡ 164) × (slice_index bytes.now 6 ≡ 180)
+        × (slice_index bytes.now 11 ≡ 15) }
 {
     match bytes {
         [open, date, _, _, _, _, time, _, _, _, _, close, ..] => {
@@ -123,7 +127,8 @@ fn logged_len(bytes: &[u8]) -> Option<usize>
 /// over in one look, and so are those of most data, with their status flags.
 fn count_to_close(bytes: &[u8], wanted: u8) -> Result<usize, WireFault>
     ensures within { IfOk result (λ n. n ≤ length bytes.now) }
-    ensures exact { Gives (λ n. drop n bytes.now) result (close_at (length bytes.now + 1) 0 wanted bytes.now) }
+    ensures exact { Gives (λ n. drop n bytes.now) result
+        (close_at (length bytes.now + 1) 0 wanted bytes.now) }
 {
     let mut at: usize = 0;
     let mut depth: usize = 0;

@@ -1,10 +1,12 @@
 //! The contents of each primitive type (clauses 20.2.2 to 20.2.14).
 
-ghost use Rattle.std.specs.Prelude.{◌≡◌, ◌≢◌, ◌-◌, ◌*◌, ◌^◌, ◌<◌, ◌≤◌, length, map, take, IfOk, true};
+ghost use Rattle.std.specs.Prelude.{◌≡◌, ◌≢◌, ◌-◌, ◌*◌, ◌^◌, ◌<◌, ◌≤◌, length, map, take, IfOk};
+ghost use Rattle.std.specs.Prelude.{true};
 ghost use Rattle.bac_wire.specs.Number.{number, signed, bits_of};
 ghost use Rattle.bac_wire.specs.Chain.{Gives};
 ghost use Rattle.bac_wire.specs.PrimitiveType.{type_number};
-ghost use Rattle.bac_wire.specs.Reading.{has_length, chars_in, bits_in, enumerated_in, value_in, contents_as};
+ghost use Rattle.bac_wire.specs.Reading.{has_length, chars_in, bits_in, enumerated_in, value_in};
+ghost use Rattle.bac_wire.specs.Reading.{contents_as};
 ghost use Rattle.bac_wire.specs.View.{view, IsWellFormed};
 ghost use Rattle.bac_wire.specs.Stamp.{date_octets, time_octets};
 ghost use Rattle.bac_wire.specs.Primitive.{Boolean, Unsigned, Signed, Enumerated, Object, Bits};
@@ -249,7 +251,8 @@ pub fn as_enumerated(contents: &[u8]) -> Result<u32, WireFault>
 /// there are no contents, BadContents for more than 7 unused bits, or for any if no octet follows.
 #[tactic(auto, unfolding(crate::specs::Reading::contents_as, crate::specs::Reading::value_in))]
 pub fn as_bits(contents: &[u8]) -> Result<(u8, &[u8]), WireFault>
-    ensures exact { Gives (λ x. Bits (take (8 * length x.1.now - x.0) (bits_of x.1.now))) result (contents_as 8 contents.now) }
+    ensures exact { Gives (λ x. Bits (take (8 * length x.1.now - x.0) (bits_of x.1.now))) result
+        (contents_as 8 contents.now) }
     ensures unused { IfOk result (λ x. (x.0 ≤ 7) × (x.0 ≤ 8 * length x.1.now)) }
 {
     match contents {

@@ -91,8 +91,10 @@ impl<'a> Reader<'a> {
 
     /// What comes before the closing tag of this number, which is left.
     pub fn inside(&mut self, number: u8) -> Result<&'a [u8], WireFault>
-        ensures found { IfOk result (λ x. x.now ≡ take (length self.old - length self.new) self.old) }
-        ensures exact { Gives (λ _. self.new) result (close_at (length self.old + 1) 0 number self.old) }
+        ensures found { IfOk result
+            (λ x. x.now ≡ take (length self.old - length self.new) self.old) }
+        ensures exact { Gives (λ _. self.new) result
+            (close_at (length self.old + 1) 0 number self.old) }
     {
         let count = octets_to_close(self.rest, number)?;
         let inside = &self.rest[..count];

@@ -1,5 +1,6 @@
 -- The job that a tool's words and options say, or the first of them whose value isn't one that it can have.
-use Rattle.std.specs.Prelude.{ℕ, Bool, true, false, List, if◌then◌else◌, Option, None, Some, Result, Ok, Err, codes, option_and_then}
+use Rattle.std.specs.Prelude.{ℕ, Bool, true, false, List, if◌then◌else◌, Option, None, Some, Result, Ok, Err, codes}
+use Rattle.std.specs.Prelude.{option_and_then}
 use Rattle.std.specs.Option.{ok_or}
 use Rattle.std.specs.Str.{bytes_eq}
 use Rattle.clap.specs.Words.{Row, Text}
@@ -15,7 +16,8 @@ use Rattle.bac_words.specs.declared.job.Asked.{Asked}
 use Rattle.bac_words.specs.declared.job.Given.{Given}
 use Rattle.bac_words.specs.declared.job.KeepOptions.{KeepOptions}
 use Rattle.bac_words.specs.Numbers.{number_in}
-use Rattle.bac_words.specs.Rows.{text_at, texts_at, is_said, number_at, maybe_number_at, address_at, instances_at, local_at, stations_at, route_at}
+use Rattle.bac_words.specs.Rows.{text_at, texts_at, is_said, number_at, maybe_number_at, address_at, instances_at}
+use Rattle.bac_words.specs.Rows.{local_at, stations_at, route_at}
 use Rattle.bac_words.specs.Given.{is_tag, given_in}
 use Rattle.bac_words.specs.Steps.{◌>>=◌}
 

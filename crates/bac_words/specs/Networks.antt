@@ -11,7 +11,8 @@ use Rattle.bac_words.specs.declared.said.Said.TheVariants.{Nothing, Station, Net
 -- the host A.B.C.D of an address as one number
 abbrev pub host_of : List ℕ → ℕ
 host_of address =
-    slice_index address 0 * 16777216 + slice_index address 1 * 65536 + slice_index address 2 * 256 + slice_index address 3
+    slice_index address 0 * 16777216 + slice_index address 1 * 65536 + slice_index address 2 * 256
+    + slice_index address 3
 
 -- the address with this host in place of its own
 abbrev pub with_host : List ℕ → ℕ → List ℕ

@@ -3,7 +3,12 @@
 ghost use Rattle.std.specs.Prelude.{◌≡◌, ◌++◌, ◌∷◌, [], IfOk, false, codes};
 ghost use Rattle.clap.specs.declared.builder.command.Command.TheViews.{out-Command};
 ghost use Rattle.clap.specs.Words.{rule_of, new_app};
-ghost use Rattle.bac_words.specs.Commands.{needed, needed_list, maybe, maybe_list, option, option_or, flag, timeout_rules, route_rules, asking_rules, keeping_rules, property_rules, wi_app, rp_app, wp_app, log_app, logs_app, keep_app, kept_app, serve_app, bac_app, top_app, IsCommand, Extends, AddsTool};
+ghost use Rattle.bac_words.specs.Commands.{needed, needed_list, maybe, maybe_list, option};
+ghost use Rattle.bac_words.specs.Commands.{option_or, flag, timeout_rules, route_rules};
+ghost use Rattle.bac_words.specs.Commands.{asking_rules, keeping_rules, property_rules, wi_app};
+ghost use Rattle.bac_words.specs.Commands.{rp_app, wp_app, log_app, logs_app, keep_app, kept_app};
+ghost use Rattle.bac_words.specs.Commands.{serve_app, bac_app, top_app, IsCommand, Extends};
+ghost use Rattle.bac_words.specs.Commands.{AddsTool};
 
 use crate::word::Word;
 use clap::{Arg, ArgAction, Command};

@@ -2,9 +2,16 @@
 #![tactic(auto, unfolding(crate::proofs::OnLiterals::line_on_literals))]
 
 ghost use Rattle.std.specs.Prelude.{[], ◌∷◌, codes, None, Some, Ok, Err, negsuc, false, true};
-ghost use Rattle.clap.specs.declared.error.kind.ErrorKind.TheVariants.{MissingRequiredArgument, MissingSubcommand, UnknownArgument, ArgumentConflict, DisplayHelp};
-ghost use Rattle.bac_words.specs.declared.word.Word.TheVariants.{Address, From, Instance, Max, Records, Retries, Dnet, Dadr, Stop};
-ghost use Rattle.bac_words.specs.declared.job.Job.TheVariants.{Replay, Wi, Rp, Wp, Log, Logs, Keep, Kept, Serve};
+ghost use Rattle.clap.specs.declared.error.kind.ErrorKind.TheVariants.{MissingRequiredArgument};
+ghost use Rattle.clap.specs.declared.error.kind.ErrorKind.TheVariants.{MissingSubcommand};
+ghost use Rattle.clap.specs.declared.error.kind.ErrorKind.TheVariants.{UnknownArgument};
+ghost use Rattle.clap.specs.declared.error.kind.ErrorKind.TheVariants.{ArgumentConflict};
+ghost use Rattle.clap.specs.declared.error.kind.ErrorKind.TheVariants.{DisplayHelp};
+ghost use Rattle.bac_words.specs.declared.word.Word.TheVariants.{Address, From, Instance, Max};
+ghost use Rattle.bac_words.specs.declared.word.Word.TheVariants.{Records, Retries, Dnet, Dadr};
+ghost use Rattle.bac_words.specs.declared.word.Word.TheVariants.{Stop};
+ghost use Rattle.bac_words.specs.declared.job.Job.TheVariants.{Replay, Wi, Rp, Wp, Log, Logs, Keep};
+ghost use Rattle.bac_words.specs.declared.job.Job.TheVariants.{Kept, Serve};
 ghost use Rattle.bac_words.specs.declared.job.Given.TheVariants.{Null, Signed};
 ghost use Rattle.bac_words.specs.declared.job.Stations.TheVariants.{Input, Listed};
 ghost use Rattle.bac_words.specs.Lines.{Says, Mistakes, station, by_default, by_way, no_options};
@@ -13,24 +20,39 @@ ghost use Rattle.bac_words.specs.Lines.{Says, Mistakes, station, by_default, by_
 pub fn lines_say_jobs()
     ensures replay { Says (codes "bac replay") (Ok Replay) }
     ensures wi { Says (codes "bac wi 10.0.0.1 10.0.0.2:258 --min=5 --timeout=60000")
-        (Ok (Wi (Listed (station ∷ (10 ∷ 0 ∷ 0 ∷ 2 ∷ 1 ∷ 2 ∷ []) ∷ [])) (Some 5) None None None 60000 false)) }
+        (Ok (Wi (Listed (station ∷ (10 ∷ 0 ∷ 0 ∷ 2 ∷ 1 ∷ 2 ∷ []) ∷ [])) (Some 5) None None None
+        60000 false)) }
     ensures subnet { Says (codes "bac wi 10.0.0.1:258/30")
-        (Ok (Wi (Listed ((10 ∷ 0 ∷ 0 ∷ 1 ∷ 1 ∷ 2 ∷ []) ∷ (10 ∷ 0 ∷ 0 ∷ 2 ∷ 1 ∷ 2 ∷ []) ∷ [])) None None None None 3000 false)) }
+        (Ok (Wi (Listed ((10 ∷ 0 ∷ 0 ∷ 1 ∷ 1 ∷ 2 ∷ []) ∷ (10 ∷ 0 ∷ 0 ∷ 2 ∷ 1 ∷ 2 ∷ []) ∷ [])) None
+        None None None 3000 false)) }
     ensures pair { Says (codes "bac wi 10.0.0.1/31")
-        (Ok (Wi (Listed ((10 ∷ 0 ∷ 0 ∷ 0 ∷ 186 ∷ 192 ∷ []) ∷ station ∷ [])) None None None None 3000 false)) }
-    ensures input { Says (codes "bac wi - --timeout=500") (Ok (Wi Input None None None None 500 false)) }
-    ensures rp { Says (codes "bac rp 10.0.0.1 8 123 77") (Ok (Rp by_default 8 123 77 None false false)) }
+        (Ok (Wi (Listed ((10 ∷ 0 ∷ 0 ∷ 0 ∷ 186 ∷ 192 ∷ []) ∷ station ∷ [])) None None None None 3000
+        false)) }
+    ensures input { Says (codes "bac wi - --timeout=500")
+        (Ok (Wi Input None None None None 500 false)) }
+    ensures rp { Says (codes "bac rp 10.0.0.1 8 123 77")
+        (Ok (Rp by_default 8 123 77 None false false)) }
     ensures wp { Says (codes "bac wp 10.0.0.1 45 1 85 16 3 --value=-5")
         (Ok (Wp by_default 45 1 85 16 (Signed (negsuc 4)) None false)) }
     ensures null { Says (codes "bac wp 10.0.0.1 5 1 87 0 0 --index=8")
         (Ok (Wp by_default 5 1 87 0 Null (Some 8) false)) }
-    ensures log { Says (codes "bac log 10.0.0.1 7 oldest") (Ok (Log by_default 7 None 1000 100 false false)) }
-    ensures number { Says (codes "bac log 10.0.0.1 7 43") (Ok (Log by_default 7 (Some 43) 1000 100 false false)) }
-    ensures count { Says (codes "bac log 10.0.0.1 7 43 --count=20") (Ok (Log by_default 7 (Some 43) 1000 20 false false)) }
+    ensures log { Says (codes "bac log 10.0.0.1 7 oldest")
+        (Ok (Log by_default 7 None 1000 100 false false)) }
+    ensures number { Says (codes "bac log 10.0.0.1 7 43")
+        (Ok (Log by_default 7 (Some 43) 1000 100 false false)) }
+    ensures count { Says (codes "bac log 10.0.0.1 7 43 --count=20")
+        (Ok (Log by_default 7 (Some 43) 1000 20 false false)) }
     ensures logs { Says (codes "bac logs 10.0.0.1 7 0") (Ok (Logs by_default (7 ∷ 0 ∷ []) false)) }
     ensures every { Says (codes "bac logs 10.0.0.1") (Ok (Logs by_default [] false)) }
     ensures keep { Says (codes "bac keep a.db")
-        (Ok (Keep (record { file = codes "a.db"; address = None; instances = []; stop = false; trace = false; options = no_options }))) }
+        (Ok (Keep (record {
+          file = codes "a.db";
+          address = None;
+          instances = [];
+          stop = false;
+          trace = false;
+          options = no_options;
+        }))) }
     ensures named { Says (codes "bac keep a.db 10.0.0.1 1 2 --steps=5")
         (Ok (Keep (record {
           file = codes "a.db";
@@ -41,14 +63,28 @@ pub fn lines_say_jobs()
           options = record no_options { steps = Some (codes "5") };
         }))) }
     ensures stop { Says (codes "bac keep a.db --stop 10.0.0.1")
-        (Ok (Keep (record { file = codes "a.db"; address = Some (codes "10.0.0.1"); instances = []; stop = true; trace = false; options = no_options }))) }
+        (Ok (Keep (record {
+          file = codes "a.db";
+          address = Some (codes "10.0.0.1");
+          instances = [];
+          stop = true;
+          trace = false;
+          options = no_options;
+        }))) }
     ensures kept { Says (codes "bac kept a.db 10.0.0.1")
-        (Ok (Kept (record { file = codes "a.db"; address = Some (codes "10.0.0.1"); instance = None; csv = false }))) }
+        (Ok (Kept (record {
+          file = codes "a.db";
+          address = Some (codes "10.0.0.1");
+          instance = None;
+          csv = false;
+        }))) }
     ensures csv { Says (codes "bac kept a.db --csv")
         (Ok (Kept (record { file = codes "a.db"; address = None; instance = None; csv = true }))) }
     ensures serve { Says (codes "bac serve 10.0.0.1") (Ok (Serve station 4294967295)) }
-    ensures rows { Says (codes "bac log 10.0.0.1 7 43 --csv") (Ok (Log by_default 7 (Some 43) 1000 100 true false)) }
-    ensures numbers { Says (codes "bac rp 10.0.0.1 8 123 77 --numbers") (Ok (Rp by_default 8 123 77 None true false)) }
+    ensures rows { Says (codes "bac log 10.0.0.1 7 43 --csv")
+        (Ok (Log by_default 7 (Some 43) 1000 100 true false)) }
+    ensures numbers { Says (codes "bac rp 10.0.0.1 8 123 77 --numbers")
+        (Ok (Rp by_default 8 123 77 None true false)) }
     ensures traced { Says (codes "bac wi - --trace") (Ok (Wi Input None None None None 3000 true)) }
     ensures network { Says (codes "bac wi 10.0.0.1 --dnet=65535")
         (Ok (Wi (Listed (station ∷ [])) None None (Some 65535) None 3000 false)) }
@@ -61,8 +97,10 @@ pub fn lines_say_bad_values()
     ensures input { Says (codes "bac wi - 10.0.0.1") (Err Address) }
     ensures host { Says (codes "bac rp 10.0.0.256 8 123 77") (Err Address) }
     ensures port { Says (codes "bac rp 10.0.0.1:0 8 123 77") (Err Address) }
-    ensures rows { Says (codes "bac log 10.0.0.1 7 43 --csv") (Ok (Log by_default 7 (Some 43) 1000 100 true false)) }
-    ensures numbers { Says (codes "bac rp 10.0.0.1 8 123 77 --numbers") (Ok (Rp by_default 8 123 77 None true false)) }
+    ensures rows { Says (codes "bac log 10.0.0.1 7 43 --csv")
+        (Ok (Log by_default 7 (Some 43) 1000 100 true false)) }
+    ensures numbers { Says (codes "bac rp 10.0.0.1 8 123 77 --numbers")
+        (Ok (Rp by_default 8 123 77 None true false)) }
     ensures traced { Says (codes "bac wi - --trace") (Ok (Wi Input None None None None 3000 true)) }
     ensures network { Says (codes "bac wi 10.0.0.0/19") (Err Address) }
     ensures one { Says (codes "bac rp 10.0.0.1/32 8 123 77") (Err Address) }

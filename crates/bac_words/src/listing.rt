@@ -33,7 +33,8 @@ pub enum ListFault {
 
 /// The parts of a text between its line feeds.
 fn parts(alloc: Global, text: &[u8]) -> Result<Vec<&[u8]>, AllocError>
-    ensures { IfOk result (λ parts. map (λ part. part.now) parts.items ≡ slice_split (λ c. c == 10) text.now) }
+    ensures { IfOk result
+        (λ parts. map (λ part. part.now) parts.items ≡ slice_split (λ c. c == 10) text.now) }
 {
     text.split(|c| *c == b'\n').collect(alloc)
 }

@@ -1,7 +1,8 @@
 //! The stations of a word: an address, or those of the IP network that it lies in.
 
 ghost use Rattle.std.specs.Prelude.{◌≡◌, ◌+◌, ◌≤◌, ◌<◌, ◌^◌, ◌++◌, OnOk, option_map};
-ghost use Rattle.bac_words.specs.Networks.{base_of, host_of, hosts_from, hosts_in, said_stations, size_of, stations_of, with_host};
+ghost use Rattle.bac_words.specs.Networks.{base_of, host_of, hosts_from, hosts_in, said_stations};
+ghost use Rattle.bac_words.specs.Networks.{size_of, stations_of, with_host};
 
 use crate::address::{address, cut};
 use crate::numbers::octet;
@@ -52,7 +53,8 @@ fn base_of(host: u32, bits: u8, size: u32) -> u32
 fn hosts_in(address: [u8; 6], bits: u8) -> Hosts
     requires low { 20 ≤ bits }
     requires high { bits ≤ 32 }
-    ensures { hosts_from result.address result.first result.count ≡ hosts_in address (size_of bits) }
+    ensures { hosts_from result.address result.first result.count
+        ≡ hosts_in address (size_of bits) }
 {
     let size = size_of(bits);
     let base = base_of(host_of(address), bits, size);
@@ -75,7 +77,8 @@ fn hosts_in(address: [u8; 6], bits: u8) -> Hosts
 impl Hosts {
     /// Appends each of them.
     fn push_to(&self, list: &mut Vec<[u8; 6]>) -> Result<(), AllocError>
-        ensures { OnOk result (list.new.items ≡ list.old.items ++ hosts_from self.now.address self.now.first self.now.count) }
+        ensures { OnOk result (list.new.items
+            ≡ list.old.items ++ hosts_from self.now.address self.now.first self.now.count) }
     {
         for k in 0..self.count {
             list.push(with_host(self.address, self.first + k))?;

@@ -3,7 +3,8 @@
 ghost use Rattle.std.specs.Char.{is_ascii_digit};
 ghost use Rattle.std.specs.List.{list_all};
 ghost use Rattle.std.specs.Prelude.{◌≡◌, ◌≤◌, length, true, false};
-ghost use Rattle.bac_words.specs.Numbers.{value_of, digits_in, is_long, number_in, unsigned_in, signed_in, with_sign};
+ghost use Rattle.bac_words.specs.Numbers.{value_of, digits_in, is_long, number_in, unsigned_in};
+ghost use Rattle.bac_words.specs.Numbers.{signed_in, with_sign};
 
 /// What the digits of a word say, of which there are at most twenty.
 fn value(word: &[u8]) -> Option<u128>

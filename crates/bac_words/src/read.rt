@@ -47,8 +47,10 @@ fn answer(alloc: Global, matches: &ArgMatches) -> Result<Job, WordsFault>
 
 /// A word is wrong.
 fn wrong(matches: &ArgMatches, word: Word) -> WordsFault
-    ensures long { is_long_of word (subcommand_rows_of matches.now) ≡ true → result ≡ WordsFault.LongNumber word }
-    ensures other { is_long_of word (subcommand_rows_of matches.now) ≡ false → result ≡ WordsFault.BadValue word }
+    ensures long { is_long_of word (subcommand_rows_of matches.now) ≡ true
+        → result ≡ WordsFault.LongNumber word }
+    ensures other { is_long_of word (subcommand_rows_of matches.now) ≡ false
+        → result ≡ WordsFault.BadValue word }
 {
     match matches.subcommand() {
         Some((_, matches)) if is_long_at(matches, word) => WordsFault::LongNumber(word),

@@ -3,7 +3,9 @@
 ghost use Rattle.std.specs.Prelude.{◌≡◌, map, option_map};
 ghost use Rattle.clap.specs.Words.{rows_of, found_of};
 ghost use Rattle.bac_words.specs.Steps.{Makes};
-ghost use Rattle.bac_words.specs.Rows.{is_long_text, is_said, text_at, number_at, maybe_number_at, address_at, local_at, addresses_in, is_input, stations_in, stations_at};
+ghost use Rattle.bac_words.specs.Rows.{is_long_text, is_said, text_at, number_at, maybe_number_at};
+ghost use Rattle.bac_words.specs.Rows.{address_at, local_at, addresses_in, is_input, stations_in};
+ghost use Rattle.bac_words.specs.Rows.{stations_at};
 
 use crate::address::address;
 use crate::addresses::Addresses;

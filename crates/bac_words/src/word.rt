@@ -1,7 +1,8 @@
 //! The words and options of the tools, by their names.
 
 ghost use Rattle.std.specs.Prelude.{◌≡◌};
-ghost use Rattle.bac_words.specs.Names.{is_number as is_number_of, is_option as is_option_of, name_of};
+ghost use Rattle.bac_words.specs.Names.{is_number as is_number_of, is_option as is_option_of};
+ghost use Rattle.bac_words.specs.Names.{name_of};
 
 use std::fmt;
 

@@ -13,7 +13,8 @@ use bac_wire::Datagram;
 
 /// Opens the walk's question, and gives its datagram.
 pub(crate) fn begin(transactions: &mut Transactions, walk: &Walk) -> Datagram
-    ensures datagram { result ≡ request_octets (towards transactions.old.route) (next_invoke transactions.old.invoke) (question_of walk.now) }
+    ensures datagram { result ≡ request_octets (towards transactions.old.route)
+        (next_invoke transactions.old.invoke) (question_of walk.now) }
     ensures opened { transactions.new ≡ begun_with (question_of walk.now) transactions.old }
 {
     // In a list of one, since the prover doesn't take a request that is lent from a variable.

@@ -18,7 +18,8 @@ pub fn windows_stay_near()
 {}
 
 /// The client of a network runs the events that an exchange over a port runs, over the packets that
-/// come to it: where its transactions are, and what was sent to the device, is what these events say.
+/// come to it: where its transactions are, and what was sent to the device, is what these events
+/// say.
 pub fn worlds_run_the_client()
     ensures { RunsTheClient }
 {}

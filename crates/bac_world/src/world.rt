@@ -1,6 +1,7 @@
 //! A device, its client, and the network between them.
 
-ghost use Rattle.std.specs.Prelude.{◌≡◌, ℕ, ◌+◌, ◌<◌, ◌≤◌, is_some, length, take, vec_len, vec_capacity, OnOk, OnErr, IfOk};
+ghost use Rattle.std.specs.Prelude.{◌≡◌, ℕ, ◌+◌, ◌<◌, ◌≤◌, is_some, length, take, vec_len};
+ghost use Rattle.std.specs.Prelude.{vec_capacity, OnOk, OnErr, IfOk};
 
 use crate::client::{begin, is_young, keep};
 use crate::event::WorldEvent;
@@ -38,10 +39,13 @@ impl World {
     ghost use Rattle.bac_device.specs.Answer.{answer};
     ghost use Rattle.bac_link.specs.Answer.{answer_of};
     ghost use Rattle.bac_link.specs.Transactions.{is_awaited};
-    ghost use Rattle.bac_world.specs.Network.{happens, happens_all, heard_of, hears, is_answered, moves, moves_all, receives, replies, started};
+    ghost use Rattle.bac_world.specs.Network.{happens, happens_all, heard_of, hears, is_answered};
+    ghost use Rattle.bac_world.specs.Network.{moves, moves_all, receives, replies, started};
     ghost use Rattle.bac_world.specs.Views.{network_of};
     ghost use Rattle.bac_world.specs.Runs.{DeliversFrom, IsSane, WithstandsFrom};
-    ghost use Rattle.bac_world.specs.declared.event.WorldEvent.TheVariants.{Ask as Asks, Deliver as Delivers, Timeout as TimesOut};
+    ghost use Rattle.bac_world.specs.declared.event.WorldEvent.TheVariants.{Ask as Asks};
+    ghost use Rattle.bac_world.specs.declared.event.WorldEvent.TheVariants.{Deliver as Delivers};
+    ghost use Rattle.bac_world.specs.declared.event.WorldEvent.TheVariants.{Timeout as TimesOut};
     ghost use Rattle.bac_world.specs.declared.packet.Side.TheVariants.{Device as ToDevice};
 
     /// A world in which nothing was sent yet. A request is repeated so many times.
@@ -94,10 +98,13 @@ impl World {
     /// Of a world that was new, with a walk of a log of its device, all that the walk delivered is
     /// what that log held when it answered, each record once, in rising order.
     pub fn play_all(&mut self, events: &[WorldEvent]) -> Result<usize, Memory>
-        ensures played { OnOk result (network_of self.new ≡ happens_all (network_of self.old) events.now) }
+        ensures played { OnOk result
+            (network_of self.new ≡ happens_all (network_of self.old) events.now) }
         ensures counted { IfOk result (λ n. n ≡ moves_all (network_of self.old) events.now) }
-        ensures headline { OnOk result (DeliversFrom (network_of self.old) events.now (network_of self.new)) }
-        ensures withstands { OnOk result (WithstandsFrom (network_of self.old) events.now (network_of self.new)) }
+        ensures headline { OnOk result
+            (DeliversFrom (network_of self.old) events.now (network_of self.new)) }
+        ensures withstands { OnOk result
+            (WithstandsFrom (network_of self.old) events.now (network_of self.new)) }
         ensures refused { OnErr result ((n : ℕ) × (n < length events.now)
             × (network_of self.new ≡ happens_all (network_of self.old) (take n events.now))
             × WithstandsFrom (network_of self.old) (take n events.now) (network_of self.new)) }
@@ -211,7 +218,8 @@ impl World {
     // The device takes a datagram, and sends its reply.
     fn reply(&mut self, transaction: u64, octets: &[u8]) -> bool
         requires room { vec_len self.old.packets + 1 ≤ vec_capacity self.old.packets }
-        ensures step { network_of self.new ≡ replies (network_of self.old) transaction (answer self.old.device octets.now) }
+        ensures step { network_of self.new
+            ≡ replies (network_of self.old) transaction (answer self.old.device octets.now) }
         ensures moved { result ≡ is_answered (network_of self.old) ToDevice octets.now }
     {
         match self.device.handle(octets) {
@@ -247,7 +255,8 @@ impl World {
     // number again.
     fn take(&mut self, answer: Answer)
         requires items_room { vec_len self.old.items + 101 ≤ vec_capacity self.old.items }
-        ensures { network_of self.new ≡ hears (network_of self.old) (heard_of self.old.walk.log (answer_of answer.entry)) }
+        ensures { network_of self.new
+            ≡ hears (network_of self.old) (heard_of self.old.walk.log (answer_of answer.entry)) }
     {
         let Answer::Complex(parameters) = answer else {
             self.walk.restart();

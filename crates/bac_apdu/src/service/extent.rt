@@ -5,8 +5,10 @@ ghost use Rattle.bac_wire.specs.Primitive.{Unsigned, Signed, Date, Time};
 ghost use Rattle.bac_wire.specs.Chain.{Gives};
 ghost use Rattle.bac_wire.specs.Stamp.{date_octets, time_octets};
 ghost use Rattle.bac_apdu.specs.Adding.{Adds};
-ghost use Rattle.bac_apdu.specs.Service.Extent.{range, extent_parameters, by_reference, is_count, is_date, is_time, date_fits, time_fits};
-ghost use Rattle.bac_apdu.specs.Form.{Value as ParameterValue, Mark, application, unsigned, signed, date, time, is_u32};
+ghost use Rattle.bac_apdu.specs.Service.Extent.{range, extent_parameters, by_reference, is_count};
+ghost use Rattle.bac_apdu.specs.Service.Extent.{is_date, is_time, date_fits, time_fits};
+ghost use Rattle.bac_apdu.specs.Form.{Value as ParameterValue, Mark, application, unsigned, signed};
+ghost use Rattle.bac_apdu.specs.Form.{date, time, is_u32};
 ghost use Rattle.bac_apdu.specs.FormReading.{row_at, form_at};
 ghost use Rattle.bac_apdu.specs.FormCanon.{canon_form};
 
@@ -86,7 +88,9 @@ pub(crate) fn add_extent(out: &mut Datagram, extent: Extent) -> Result<(), Full>
 
 fn add_reference(out: &mut Datagram, tag: u8, reference: u32, count: i32) -> Result<(), Full>
     requires { tag ≤ 254 }
-    ensures { Adds out.old (canon_form (by_reference tag) (Mark tag ∷ ParameterValue (Unsigned reference) ∷ ParameterValue (Signed count) ∷ Mark tag ∷ [])) result out.new }
+    ensures { Adds out.old (canon_form (by_reference tag)
+        (Mark tag ∷ ParameterValue (Unsigned reference) ∷ ParameterValue (Signed count)
+        ∷ Mark tag ∷ [])) result out.new }
 {
     add_open(out, tag)?;
     add_value(out, &Value::Unsigned(reference as u64))?;
@@ -99,7 +103,8 @@ impl<'a> Parameters<'a> {
     /// An Unsigned of at most 4294967295.
     #[tactic(auto, unfolding(crate::specs::FormReading::row_at))]
     fn plain_number(&mut self) -> Result<u32, Reason>
-        ensures { Gives (λ x. (ParameterValue (Unsigned x), self.new)) result (row_at (application unsigned is_u32) self.old) }
+        ensures { Gives (λ x. (ParameterValue (Unsigned x), self.new)) result
+            (row_at (application unsigned is_u32) self.old) }
     {
         match self.typed(PrimitiveType::Unsigned) {
             Ok(Value::Unsigned(number)) => {
@@ -116,7 +121,8 @@ impl<'a> Parameters<'a> {
     /// A Signed of 32 bits that isn't 0.
     #[tactic(auto, unfolding(crate::specs::FormReading::row_at))]
     fn count(&mut self) -> Result<i32, Reason>
-        ensures { Gives (λ x. (ParameterValue (Signed x), self.new)) result (row_at (application signed is_count) self.old) }
+        ensures { Gives (λ x. (ParameterValue (Signed x), self.new)) result
+            (row_at (application signed is_count) self.old) }
     {
         match self.typed(PrimitiveType::Signed) {
             Ok(Value::Signed(number)) => {
@@ -133,7 +139,8 @@ impl<'a> Parameters<'a> {
     /// A Date whose year, month and day are specified.
     #[tactic(auto, unfolding(crate::specs::FormReading::row_at))]
     fn date(&mut self) -> Result<Date4, Reason>
-        ensures { Gives (λ x. (ParameterValue (Date (date_octets x)), self.new)) result (row_at (application date is_date) self.old) }
+        ensures { Gives (λ x. (ParameterValue (Date (date_octets x)), self.new)) result
+            (row_at (application date is_date) self.old) }
     {
         match self.typed(PrimitiveType::Date) {
             Ok(Value::Date(date)) => {
@@ -150,7 +157,8 @@ impl<'a> Parameters<'a> {
     /// A Time that is specified.
     #[tactic(auto, unfolding(crate::specs::FormReading::row_at))]
     fn time(&mut self) -> Result<Time4, Reason>
-        ensures { Gives (λ x. (ParameterValue (Time (time_octets x)), self.new)) result (row_at (application time is_time) self.old) }
+        ensures { Gives (λ x. (ParameterValue (Time (time_octets x)), self.new)) result
+            (row_at (application time is_time) self.old) }
     {
         match self.typed(PrimitiveType::Time) {
             Ok(Value::Time(time)) => {
@@ -167,7 +175,8 @@ impl<'a> Parameters<'a> {
     /// Reference and count between tags of this number, and then nothing.
     #[tactic(auto, unfolding(crate::specs::FormReading::form_at))]
     fn reference(&mut self, tag: u8) -> Result<(u32, i32), Reason>
-        ensures { Gives (λ x. Mark tag ∷ ParameterValue (Unsigned x.0) ∷ ParameterValue (Signed x.1) ∷ Mark tag ∷ []) result (form_at (by_reference tag) self.old) }
+        ensures { Gives (λ x. Mark tag ∷ ParameterValue (Unsigned x.0) ∷ ParameterValue (Signed x.1)
+            ∷ Mark tag ∷ []) result (form_at (by_reference tag) self.old) }
     {
         self.open(tag)?;
         let reference = self.plain_number()?;

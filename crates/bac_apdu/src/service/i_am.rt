@@ -35,7 +35,8 @@ impl IAm {
         // What is read is encoded so.
         ensures found { IfSome result (λ a. Reads i_am bytes.now (i_am_parameters a)) }
         // What is encoded so is read.
-        ensures only { (parameters : List Parameter) → Reads i_am bytes.now parameters → IsSomeAnd result (λ a. i_am_parameters a ≡ parameters) }
+        ensures only { (parameters : List Parameter) → Reads i_am bytes.now parameters
+            → IsSomeAnd result (λ a. i_am_parameters a ≡ parameters) }
         // The same as a function, on which callers build.
         ensures exact { GivesSome i_am_parameters result (result_ok (form_at i_am bytes.now)) }
         // The same with named fields.
@@ -66,7 +67,8 @@ impl IAm {
 
     /// Appends the parameters, or nothing if they don't fit.
     pub fn write(&self, out: &mut Datagram) -> Result<(), Full>
-        ensures written { Writes out.old (canon_form i_am (i_am_parameters self.now)) result out.new }
+        ensures written { Writes out.old (canon_form i_am (i_am_parameters self.now)) result
+            out.new }
         // What was written is read back.
         ensures in_range { OnOk result (IsAnnouncement self.now) }
     {
@@ -88,12 +90,14 @@ impl IAm {
 
     /// What is written is read back.
     pub fn canon_is_read()
-        ensures { (a : IAm) → IsAnnouncement a → Reads i_am (canon_form i_am (i_am_parameters a)) (i_am_parameters a) }
+        ensures { (a : IAm) → IsAnnouncement a
+            → Reads i_am (canon_form i_am (i_am_parameters a)) (i_am_parameters a) }
     {}
 
     /// What is written is read back, with named fields.
     pub fn fields_are_read_back()
-        ensures { (a : IAm) → IsAnnouncement a → i_am_at (canon_form i_am (i_am_parameters a)) ≡ Some a }
+        ensures { (a : IAm) → IsAnnouncement a
+            → i_am_at (canon_form i_am (i_am_parameters a)) ≡ Some a }
     {}
 
     /// An announcement has at most 35 octets of parameters.

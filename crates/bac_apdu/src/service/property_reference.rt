@@ -7,7 +7,8 @@ ghost use Rattle.bac_wire.specs.Chain.{result_map};
 ghost use Rattle.bac_apdu.specs.Adding.{Adds};
 ghost use Rattle.bac_apdu.specs.Form.{Form};
 ghost use Rattle.bac_apdu.specs.FormReading.{form_at};
-ghost use Rattle.bac_apdu.specs.Service.PropertyReference.{property_then, property_parameters_then, property_octets, IsProperty};
+ghost use Rattle.bac_apdu.specs.Service.PropertyReference.{property_then, property_parameters_then};
+ghost use Rattle.bac_apdu.specs.Service.PropertyReference.{property_octets, IsProperty};
 
 use crate::parameters::Parameters;
 use crate::parameters_out::add_context;
@@ -19,8 +20,9 @@ impl<'a> Parameters<'a> {
     #[tactic(auto, unfolding(crate::specs::FormReading::form_at))]
     pub(crate) fn property(&mut self) -> Result<(ObjectId, u32, Option<u32>), Reason>
         ghost form: { Form }
-        ensures { MatchResult result
-            (λ x. form_at (property_then form) self.old ≡ result_map (λ items. property_parameters_then x.0 x.1 x.2 items) (form_at form self.new))
+        ensures { MatchResult result (λ x. form_at (property_then form) self.old
+            ≡ result_map (λ items. property_parameters_then x.0 x.1 x.2 items)
+            (form_at form self.new))
             (λ reason. form_at (property_then form) self.old ≡ Err reason) }
     {
         let object = self.object(0)?;

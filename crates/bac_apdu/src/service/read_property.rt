@@ -7,7 +7,8 @@ ghost use Rattle.bac_apdu.specs.Adding.{Adds};
 ghost use Rattle.bac_apdu.specs.Form.{Parameter, Reads};
 ghost use Rattle.bac_apdu.specs.FormReading.{form_at, Stops};
 ghost use Rattle.bac_apdu.specs.FormCanon.{canon_form};
-ghost use Rattle.bac_apdu.specs.Service.ReadProperty.{read_property, property_parameters, read_property_at, IsProperty};
+ghost use Rattle.bac_apdu.specs.Service.ReadProperty.{read_property, property_parameters};
+ghost use Rattle.bac_apdu.specs.Service.ReadProperty.{read_property_at, IsProperty};
 
 use crate::parameters::Parameters;
 use crate::parameters_out::cut_back;
@@ -30,9 +31,11 @@ impl ReadProperty {
         // What is read is encoded so.
         ensures found { IfOk result (λ p. Reads read_property bytes.now (property_parameters p)) }
         // What is encoded so is read.
-        ensures only { (parameters : List Parameter) → Reads read_property bytes.now parameters → IsOkAnd result (λ p. property_parameters p ≡ parameters) }
+        ensures only { (parameters : List Parameter) → Reads read_property bytes.now parameters
+            → IsOkAnd result (λ p. property_parameters p ≡ parameters) }
         // The reason is that of the parameter after the longest run of those that are right.
-        ensures refused { IfErr result (λ reason. (count : ℕ) × Stops read_property bytes.now count reason) }
+        ensures refused { IfErr result
+            (λ reason. (count : ℕ) × Stops read_property bytes.now count reason) }
         // The same as a function, on which callers build.
         ensures exact { Gives property_parameters result (form_at read_property bytes.now) }
         // The same with named fields.
@@ -45,9 +48,11 @@ impl ReadProperty {
 
     /// Appends the parameters, or nothing if they don't fit.
     pub fn write(&self, out: &mut Datagram) -> Result<(), Full>
-        ensures written { Writes out.old (canon_form read_property (property_parameters self.now)) result out.new }
+        ensures written { Writes out.old (canon_form read_property (property_parameters self.now))
+            result out.new }
         // What was written is read back.
-        ensures in_range { OnOk result (IsProperty self.now.object self.now.property self.now.index) }
+        ensures in_range { OnOk result
+            (IsProperty self.now.object self.now.property self.now.index) }
     {
         let before = out.octets().len();
         let added = self.add(out);
@@ -56,8 +61,10 @@ impl ReadProperty {
 
     #[tactic(auto, unfolding(crate::specs::Service::PropertyReference::property_octets))]
     fn add(&self, out: &mut Datagram) -> Result<(), Full>
-        ensures written { Adds out.old (canon_form read_property (property_parameters self.now)) result out.new }
-        ensures in_range { OnOk result (IsProperty self.now.object self.now.property self.now.index) }
+        ensures written { Adds out.old (canon_form read_property (property_parameters self.now))
+            result out.new }
+        ensures in_range { OnOk result
+            (IsProperty self.now.object self.now.property self.now.index) }
     {
         add_property(out, self.object, self.property, self.index)
     }
@@ -78,17 +85,21 @@ impl ReadProperty {
 
     /// What is written is read back.
     pub fn canon_is_read()
-        ensures { (p : ReadProperty) → IsProperty p.object p.property p.index → Reads read_property (canon_form read_property (property_parameters p)) (property_parameters p) }
+        ensures { (p : ReadProperty) → IsProperty p.object p.property p.index
+            → Reads read_property (canon_form read_property (property_parameters p))
+            (property_parameters p) }
     {}
 
     /// What is written is read back, with named fields.
     pub fn fields_are_read_back()
-        ensures { (p : ReadProperty) → IsProperty p.object p.property p.index → read_property_at (canon_form read_property (property_parameters p)) ≡ Ok p }
+        ensures { (p : ReadProperty) → IsProperty p.object p.property p.index
+            → read_property_at (canon_form read_property (property_parameters p)) ≡ Ok p }
     {}
 
     /// A request has at most 25 octets of parameters.
     pub fn canon_is_short()
-        ensures { (p : ReadProperty) → length (canon_form read_property (property_parameters p)) ≤ 25 }
+        ensures { (p : ReadProperty)
+            → length (canon_form read_property (property_parameters p)) ≤ 25 }
     {}
 
     /// Requests that differ in any field have different parameters.

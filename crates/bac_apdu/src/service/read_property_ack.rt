@@ -11,7 +11,11 @@ ghost use Rattle.bac_apdu.specs.FormReading.{form_at};
 ghost use Rattle.bac_apdu.specs.FormCanon.{canon_form};
 ghost use Rattle.bac_wire.specs.OptionChain.{GivesSome};
 ghost use Rattle.bac_apdu.specs.Service.ReadProperty.{IsProperty};
-ghost use Rattle.bac_apdu.specs.Service.ReadPropertyAck.{read_property_ack, property_ack_parameters, PropertyAck, property_ack_of, property_ack_octets, IsPropertyAck, read_property_ack_at, values, value_parameters};
+ghost use Rattle.bac_apdu.specs.Service.ReadPropertyAck.{read_property_ack};
+ghost use Rattle.bac_apdu.specs.Service.ReadPropertyAck.{property_ack_parameters, PropertyAck};
+ghost use Rattle.bac_apdu.specs.Service.ReadPropertyAck.{property_ack_of, property_ack_octets};
+ghost use Rattle.bac_apdu.specs.Service.ReadPropertyAck.{IsPropertyAck, read_property_ack_at};
+ghost use Rattle.bac_apdu.specs.Service.ReadPropertyAck.{values, value_parameters};
 
 use crate::parameters::Parameters;
 use crate::parameters_out::{add_close, add_open, cut_back};
@@ -34,11 +38,14 @@ impl<'a> ReadPropertyAck<'a> {
     /// The answer that the parameters encode; `None` if they encode none.
     pub fn read(bytes: &'a [u8]) -> Option<ReadPropertyAck<'a>>
         // What is read is encoded so.
-        ensures found { IfSome result (λ a. Reads read_property_ack bytes.now (property_ack_parameters a)) }
+        ensures found { IfSome result
+            (λ a. Reads read_property_ack bytes.now (property_ack_parameters a)) }
         // What is encoded so is read.
-        ensures only { (parameters : List Parameter) → Reads read_property_ack bytes.now parameters → IsSomeAnd result (λ a. property_ack_parameters a ≡ parameters) }
+        ensures only { (parameters : List Parameter) → Reads read_property_ack bytes.now parameters
+            → IsSomeAnd result (λ a. property_ack_parameters a ≡ parameters) }
         // The same as a function, on which callers build.
-        ensures exact { GivesSome property_ack_parameters result (result_ok (form_at read_property_ack bytes.now)) }
+        ensures exact { GivesSome property_ack_parameters result
+            (result_ok (form_at read_property_ack bytes.now)) }
         // The same with named fields.
         ensures named { GivesSome property_ack_of result (read_property_ack_at bytes.now) }
         // It may be written.
@@ -69,9 +76,11 @@ impl<'a> ReadPropertyAck<'a> {
 
     /// Appends the parameters, or nothing if they don't fit.
     pub fn write(&self, out: &mut Datagram) -> Result<(), Full>
-        ensures written { Writes out.old (canon_form read_property_ack (property_ack_parameters self.now)) result out.new }
+        ensures written { Writes out.old
+            (canon_form read_property_ack (property_ack_parameters self.now)) result out.new }
         // What was written is read back if the values are whole tags.
-        ensures in_range { OnOk result (IsProperty self.now.object self.now.property self.now.index) }
+        ensures in_range { OnOk result
+            (IsProperty self.now.object self.now.property self.now.index) }
     {
         let before = out.octets().len();
         let added = self.add(out);
@@ -79,8 +88,10 @@ impl<'a> ReadPropertyAck<'a> {
     }
 
     fn add(&self, out: &mut Datagram) -> Result<(), Full>
-        ensures written { Adds out.old (canon_form read_property_ack (property_ack_parameters self.now)) result out.new }
-        ensures in_range { OnOk result (IsProperty self.now.object self.now.property self.now.index) }
+        ensures written { Adds out.old
+            (canon_form read_property_ack (property_ack_parameters self.now)) result out.new }
+        ensures in_range { OnOk result
+            (IsProperty self.now.object self.now.property self.now.index) }
     {
         add_property(out, self.object, self.property, self.index)?;
         self.add_values(out)
@@ -97,16 +108,22 @@ impl<'a> ReadPropertyAck<'a> {
 
     /// What is written is read back.
     pub fn canon_is_read()
-        ensures { (a : ReadPropertyAck) → IsProperty a.object a.property a.index → IsLevel a.values.now → Reads read_property_ack (canon_form read_property_ack (property_ack_parameters a)) (property_ack_parameters a) }
+        ensures { (a : ReadPropertyAck) → IsProperty a.object a.property a.index
+            → IsLevel a.values.now → Reads read_property_ack
+            (canon_form read_property_ack (property_ack_parameters a))
+            (property_ack_parameters a) }
     {}
 
     /// What is written is read back, with named fields.
     pub fn fields_are_read_back()
-        ensures { (a : PropertyAck) → IsProperty a.object a.property a.index → IsLevel a.values → read_property_ack_at (property_ack_octets a) ≡ Some a }
+        ensures { (a : PropertyAck) → IsProperty a.object a.property a.index → IsLevel a.values
+            → read_property_ack_at (property_ack_octets a) ≡ Some a }
     {}
 
     /// Answers that differ in any field have different parameters.
     pub fn parameters_tell_fields()
-        ensures { (a b : ReadPropertyAck) → property_ack_parameters a ≡ property_ack_parameters b → (a.object ≡ b.object) × (a.property ≡ b.property) × (a.index ≡ b.index) × (a.values.now ≡ b.values.now) }
+        ensures { (a b : ReadPropertyAck) → property_ack_parameters a ≡ property_ack_parameters b
+            → (a.object ≡ b.object) × (a.property ≡ b.property) × (a.index ≡ b.index)
+            × (a.values.now ≡ b.values.now) }
     {}
 }

@@ -9,7 +9,8 @@ ghost use Rattle.bac_apdu.specs.Adding.{Adds};
 ghost use Rattle.bac_apdu.specs.Form.{Parameter, Value as ParameterValue, context, unsigned, Reads};
 ghost use Rattle.bac_apdu.specs.FormReading.{row_at, form_at};
 ghost use Rattle.bac_apdu.specs.FormCanon.{canon_form};
-ghost use Rattle.bac_apdu.specs.Service.WhoIs.{is_instance, who_is, who_is_parameters, who_is_at, AreLimits};
+ghost use Rattle.bac_apdu.specs.Service.WhoIs.{is_instance, who_is, who_is_parameters, who_is_at};
+ghost use Rattle.bac_apdu.specs.Service.WhoIs.{AreLimits};
 ghost use Rattle.bac_wire.specs.OptionChain.{GivesSome};
 
 use crate::parameters::Parameters;
@@ -31,7 +32,8 @@ impl WhoIs {
         // What is read is encoded so.
         ensures found { IfSome result (λ w. Reads who_is bytes.now (who_is_parameters w)) }
         // What is encoded so is read.
-        ensures only { (parameters : List Parameter) → Reads who_is bytes.now parameters → IsSomeAnd result (λ w. who_is_parameters w ≡ parameters) }
+        ensures only { (parameters : List Parameter) → Reads who_is bytes.now parameters
+            → IsSomeAnd result (λ w. who_is_parameters w ≡ parameters) }
         // The same as a function, on which callers build.
         ensures exact { GivesSome who_is_parameters result (result_ok (form_at who_is bytes.now)) }
         // The same with named fields.
@@ -81,12 +83,14 @@ impl WhoIs {
 
     /// What is written is read back.
     pub fn canon_is_read()
-        ensures { (w : WhoIs) → AreLimits w.limits → Reads who_is (canon_form who_is (who_is_parameters w)) (who_is_parameters w) }
+        ensures { (w : WhoIs) → AreLimits w.limits
+            → Reads who_is (canon_form who_is (who_is_parameters w)) (who_is_parameters w) }
     {}
 
     /// What is written is read back, with named fields.
     pub fn fields_are_read_back()
-        ensures { (w : WhoIs) → AreLimits w.limits → who_is_at (canon_form who_is (who_is_parameters w)) ≡ Some w }
+        ensures { (w : WhoIs) → AreLimits w.limits
+            → who_is_at (canon_form who_is (who_is_parameters w)) ≡ Some w }
     {}
 
     /// Requests that differ in any field have different parameters.
@@ -99,7 +103,8 @@ impl<'a> Parameters<'a> {
     /// An Unsigned of at most 4194303.
     #[tactic(auto, unfolding(crate::specs::FormReading::row_at))]
     fn instance(&mut self, tag: u8) -> Result<u32, Reason>
-        ensures { Gives (λ x. (ParameterValue (Unsigned x), self.new)) result (row_at (context tag unsigned is_instance) self.old) }
+        ensures { Gives (λ x. (ParameterValue (Unsigned x), self.new)) result
+            (row_at (context tag unsigned is_instance) self.old) }
     {
         let contents = self.contents(tag)?;
         let number = as_unsigned(contents)?;

@@ -24,7 +24,9 @@ fn acknowledge(
     values: &[u8],
 )
     requires { limit ≤ 1476 }
-    ensures { out.new ≡ datagram_octets (limited limit invoke (Complex false invoke 12 (ack_octets object request.now.property request.now.index values.now))) }
+    ensures { out.new ≡ datagram_octets (limited limit invoke
+        (Complex false invoke 12
+        (ack_octets object request.now.property request.now.index values.now))) }
 {
     let head = Apdu::Complex {
         segmented: false,
@@ -60,7 +62,8 @@ impl Device {
     /// Reads the property, and writes its ACK, Error or Abort in place of what `out` holds.
     fn read_said(&self, out: &mut Datagram, limit: u16, invoke: u8, request: &ReadProperty)
         requires { limit ≤ 1476 }
-        ensures { out.new ≡ datagram_octets (read_said self.now limit invoke request.now (read_of self.now request.now)) }
+        ensures { out.new ≡ datagram_octets
+            (read_said self.now limit invoke request.now (read_of self.now request.now)) }
     {
         let mut values = Datagram::new();
         match self.database.read_into(request, &mut values) {
@@ -80,7 +83,8 @@ impl Device {
     /// The answer to a ReadProperty, in place of what `out` holds.
     pub(crate) fn answer_read(&self, out: &mut Datagram, limit: u16, invoke: u8, parameters: &[u8])
         requires { limit ≤ 1476 }
-        ensures { out.new ≡ datagram_octets (answer_read self.now limit invoke (read_property_at parameters.now)) }
+        ensures { out.new ≡ datagram_octets
+            (answer_read self.now limit invoke (read_property_at parameters.now)) }
     {
         match ReadProperty::read(parameters) {
             Ok(request) => self.read_said(out, limit, invoke, &request),

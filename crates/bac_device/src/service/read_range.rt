@@ -19,7 +19,8 @@ fn log_answer(out: &mut Datagram, log: &TrendLog, limit: u16, invoke: u8, reques
     requires limit { limit ≤ 1476 }
     requires buffer { request.now.property ≡ log_buffer }
     requires index { request.now.index ≡ None }
-    ensures { out.new ≡ datagram_octets (records_said limit invoke request.now.object request.now.extent log.now) }
+    ensures { out.new ≡ datagram_octets
+        (records_said limit invoke request.now.object request.now.extent log.now) }
 {
     begin(out);
     match log.answer_into(invoke, request, limit as usize, out) {
@@ -32,7 +33,8 @@ impl Device {
     /// Finds the log, and writes its ACK, Error or Abort in place of what `out` holds.
     fn range_said(&self, out: &mut Datagram, limit: u16, invoke: u8, request: &ReadRange)
         requires { limit ≤ 1476 }
-        ensures { out.new ≡ datagram_octets (range_said limit invoke request.now (records_of self.now request.now)) }
+        ensures { out.new ≡ datagram_octets
+            (range_said limit invoke request.now (records_of self.now request.now)) }
     {
         match self.database.records(request) {
             Ok(log) => log_answer(out, log, limit, invoke, request),
@@ -43,7 +45,8 @@ impl Device {
     /// The answer to a ReadRange, in place of what `out` holds.
     pub(crate) fn answer_range(&self, out: &mut Datagram, limit: u16, invoke: u8, parameters: &[u8])
         requires { limit ≤ 1476 }
-        ensures { out.new ≡ datagram_octets (answer_range self.now limit invoke (read_range_at parameters.now)) }
+        ensures { out.new
+            ≡ datagram_octets (answer_range self.now limit invoke (read_range_at parameters.now)) }
     {
         match ReadRange::read(parameters) {
             Ok(request) => self.range_said(out, limit, invoke, &request),

@@ -15,8 +15,10 @@ impl Device {
     /// The answer to a WriteProperty, in place of what `out` holds, and what the device is after
     /// it.
     pub(crate) fn answer_write(&mut self, out: &mut Datagram, invoke: u8, parameters: &[u8])
-        ensures apdu { out.new ≡ datagram_octets (answer_write self.old invoke (write_property_at parameters.now)).0 }
-        ensures state { self.new ≡ (answer_write self.old invoke (write_property_at parameters.now)).1 }
+        ensures apdu { out.new
+            ≡ datagram_octets (answer_write self.old invoke (write_property_at parameters.now)).0 }
+        ensures state { self.new
+            ≡ (answer_write self.old invoke (write_property_at parameters.now)).1 }
     {
         match WriteProperty::read(parameters) {
             Ok(request) => match self.database.write(&request) {

@@ -101,8 +101,8 @@ pub struct UnfitLine {
 #[derive(Clone, Copy, Debug, PartialEq, Eq)]
 pub struct Refused {
     pub fault: ReplayFault,
-    /// Of a bad line it is always there; of a device that can't be built, if there is memory to look
-    /// for the line; of another fault there is none.
+    /// Of a bad line it is always there; of a device that can't be built, if there is memory to
+    /// look for the line; of another fault there is none.
     pub reason: Option<Reason>,
 }
 

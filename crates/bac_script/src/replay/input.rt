@@ -19,7 +19,8 @@ pub enum Ending {
 /// One read. If a signal interrupts it, it is made again.
 fn read_again<R: Read>(reader: &mut R, buffer: &mut [u8]) -> Result<usize>
     ensures bound { ReadsAtMost result buffer.new }
-    ensures bytes { ReadConsumes (R.remaining reader.old) (R.remaining reader.new) result buffer.new }
+    ensures bytes { ReadConsumes (R.remaining reader.old) (R.remaining reader.new) result
+        buffer.new }
 {
     for _ in 0..u64::MAX {
         match reader.read(buffer) {
@@ -38,7 +39,8 @@ fn read_again<R: Read>(reader: &mut R, buffer: &mut [u8]) -> Result<usize>
 /// refused read. The first part of the answer says how many octets came.
 pub fn fill<R: Read>(reader: &mut R, buffer: &mut [u8]) -> (usize, Ending)
     ensures within { result.0 ≤ length buffer.old }
-    ensures consumed { Consumes (R.remaining reader.old) (R.remaining reader.new) (take result.0 buffer.new) }
+    ensures consumed { Consumes (R.remaining reader.old) (R.remaining reader.new)
+        (take result.0 buffer.new) }
     ensures at_end { result.1 ≡ Ending.End → IsAtEnd (R.remaining reader.new) }
     ensures end { result.1 ≡ Ending.End → result.0 < length buffer.old }
     ensures full { result.1 ≡ Ending.Full → result.0 ≡ length buffer.old }

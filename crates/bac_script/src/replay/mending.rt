@@ -2,7 +2,8 @@
 
 ghost use Rattle.std.specs.Prelude.{◌≡◌, None, IfSome, option_and_then};
 ghost use Rattle.std.specs.Str.Lines.{lines};
-ghost use Rattle.bac_script.specs.Reason.{AreNumbers, IsReason, IsUnbuilt, IsUnfitLine, described, is_of, number_of, others_of, rival_of};
+ghost use Rattle.bac_script.specs.Reason.{AreNumbers, IsReason, IsUnbuilt, IsUnfitLine, described};
+ghost use Rattle.bac_script.specs.Reason.{is_of, number_of, others_of, rival_of};
 ghost use Rattle.bac_script.specs.Script.Words.{words_of};
 
 use crate::configuration::described_before_events;
@@ -15,8 +16,8 @@ use crate::script::words::split_word;
 use bac_device::{BuildFault, LineId, Misfit, misfit};
 use std::alloc::Global;
 
-/// The line with which the device that a script describes can't be built; `None` if it can be, or if
-/// memory runs out.
+/// The line with which the device that a script describes can't be built; `None` if it can be, or
+/// if memory runs out.
 fn misfit_in(alloc: Global, script: &[u8]) -> Option<Misfit>
     ensures { IfSome result (IsUnfitLine (described None (lines script.now))) }
 {
@@ -65,7 +66,8 @@ fn number_of(script: &[u8], id: LineId, others: usize) -> Option<usize>
 
 /// The number of the line that begins as the one with this fault does, or has its name.
 fn rival_in(script: &[u8], misfit: &Misfit) -> Option<usize>
-    ensures { result ≡ option_and_then (λ id. number_of id 0 1 (lines script.now)) (rival_of misfit.now.fault misfit.now.line misfit.now.namesake) }
+    ensures { result ≡ option_and_then (λ id. number_of id 0 1 (lines script.now))
+        (rival_of misfit.now.fault misfit.now.line misfit.now.namesake) }
 {
     match misfit.fault {
         BuildFault::DuplicateId => number_of(script, misfit.line, 0),

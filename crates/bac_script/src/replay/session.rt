@@ -2,7 +2,9 @@
 
 ghost use Rattle.std.specs.Prelude.{◌≡◌, ◌++◌, [], None, OnOk, IfErr};
 ghost use Rattle.bac_objects.specs.Build.{Refuses};
-ghost use Rattle.bac_script.specs.Session.{answer_text, clock_text, end_fault, happens, on_device, on_event, on_line, on_object, receiver_text, sample_text, step};
+ghost use Rattle.bac_script.specs.Session.{answer_text, clock_text, end_fault, happens, on_device};
+ghost use Rattle.bac_script.specs.Session.{on_event, on_line, on_object, receiver_text};
+ghost use Rattle.bac_script.specs.Session.{sample_text, step};
 ghost use Rattle.bac_script.specs.Views.{Meets, event_of, line_of, state_of};
 
 use crate::replay::fault::LineFault;
@@ -181,7 +183,8 @@ impl Session {
         text: &mut Vec<u8>,
     ) -> Result<(), LineFault>
         requires { text.old.items ≡ [] }
-        ensures { Meets (λ _. (text.new.items, state_of self.new)) result (on_event (state_of self.old) (event_of event.now)) }
+        ensures { Meets (λ _. (text.new.items, state_of self.new)) result
+            (on_event (state_of self.old) (event_of event.now)) }
     {
         match self {
             Session::Empty => Err(LineFault::Bad),
@@ -217,7 +220,8 @@ impl Session {
         text: &mut Vec<u8>,
     ) -> Result<(), LineFault>
         requires { text.old.items ≡ [] }
-        ensures { Meets (λ _. (text.new.items, state_of self.new)) result (on_line (state_of self.old) (line_of line.entry)) }
+        ensures { Meets (λ _. (text.new.items, state_of self.new)) result
+            (on_line (state_of self.old) (line_of line.entry)) }
     {
         match line {
             Line::Device(words) => self.play_device(alloc, words),
@@ -234,7 +238,8 @@ impl Session {
         text: &[u8],
         scratch: &mut Scratch,
     ) -> Result<(), LineFault>
-        ensures { Meets (λ _. (scratch.new.text.items, state_of self.new)) result (step (state_of self.old) text.now) }
+        ensures { Meets (λ _. (scratch.new.text.items, state_of self.new)) result
+            (step (state_of self.old) text.now) }
     {
         scratch.text.clear();
         if is_silent(text) {

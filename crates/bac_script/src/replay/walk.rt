@@ -6,7 +6,8 @@ ghost use Rattle.bac_link.specs.Delivery.{History, Moment};
 ghost use Rattle.bac_link.specs.Path.{towards};
 ghost use Rattle.bac_walk.specs.Near.{IsNear};
 ghost use Rattle.bac_walk.specs.Rests.{rest};
-ghost use Rattle.bac_script.specs.Walk.{missed_text, outcome_text, rested_text, start_of, walk_text};
+ghost use Rattle.bac_script.specs.Walk.{missed_text, outcome_text, rested_text, start_of};
+ghost use Rattle.bac_script.specs.Walk.{walk_text};
 
 use crate::script::line::WalkWords;
 use bac_device::Device;
@@ -62,12 +63,15 @@ fn walk_over<L: LogLink>(
     walk: &mut Walk,
     steps: u32,
 ) -> Result<Vec<u8>, AllocError>
-    ensures rests { (r : ℕ) (m : Moment) (H : History) (s : ℕ) →
-        L.is_sure link.old (towards transactions.old.route) → L.is_ours link.old walk.old.log r (m ∷ []) H → walk.old.next ≡ sequence_number s →
-        (walk.old.fresh ≡ false → IsNear s m) →
-        IfOk result (λ text. text.items ≡ rested_text (rest r walk.old.count H m walk.old.fresh s steps)) }
-    ensures missing { L.lacks link.old walk.old.log → L.is_sure link.old (towards transactions.old.route) →
-        IfOk result (λ text. text.items ≡ missed_text walk.old.next steps) }
+    ensures rests { (r : ℕ) (m : Moment) (H : History) (s : ℕ)
+        → L.is_sure link.old (towards transactions.old.route)
+        → L.is_ours link.old walk.old.log r (m ∷ []) H → walk.old.next ≡ sequence_number s
+        → (walk.old.fresh ≡ false → IsNear s m)
+        → IfOk result
+        (λ text. text.items ≡ rested_text (rest r walk.old.count H m walk.old.fresh s steps)) }
+    ensures missing { L.lacks link.old walk.old.log
+        → L.is_sure link.old (towards transactions.old.route)
+        → IfOk result (λ text. text.items ≡ missed_text walk.old.next steps) }
     ensures kept { L.is_sure link.old (towards transactions.old.route) → L.keeps link.old link.new }
     ensures route { transactions.new.route ≡ transactions.old.route }
 {
@@ -95,7 +99,8 @@ pub(crate) fn print_walk(
     local: &mut Local,
     words: WalkWords,
 ) -> Result<Vec<u8>, AllocError>
-    ensures text { IfOk result (λ text. text.items ≡ walk_text device.old words.log words.from words.steps) }
+    ensures text { IfOk result
+        (λ text. text.items ≡ walk_text device.old words.log words.from words.steps) }
     ensures device { device.new ≡ device.old }
 {
     let steps = words.steps;

@@ -5,7 +5,9 @@ ghost use Rattle.std.specs.Char.{is_ascii_digit};
 ghost use Rattle.std.specs.List.{list_all};
 ghost use Rattle.std.specs.Option.{option_map};
 ghost use Rattle.std.specs.Str.Lines.{lines};
-ghost use Rattle.bac_script.specs.Flaw.{blank_at, flaw_from, flaw_of, flaw_there, is_long, is_number, is_wanted, kind_of_words, line_at, line_kind, no_kind, words_left, words_wanted, wrong_word};
+ghost use Rattle.bac_script.specs.Flaw.{blank_at, flaw_from, flaw_of, flaw_there, is_long};
+ghost use Rattle.bac_script.specs.Flaw.{is_number, is_wanted, kind_of_words, line_at, line_kind};
+ghost use Rattle.bac_script.specs.Flaw.{no_kind, words_left, words_wanted, wrong_word};
 ghost use Rattle.bac_script.specs.Script.Words.{words_of};
 
 use crate::script::hexadecimal::{LONGEST, octets_in};
@@ -187,7 +189,8 @@ fn line_kind(word: &[u8]) -> Option<LineKind>
 
 /// The first word, and what follows it, if anything does.
 pub(crate) fn first_word(text: &[u8]) -> (&[u8], Option<&[u8]>)
-    ensures { words_of text.now ≡ result.0.now ∷ words_left (option_map (λ rest. rest.now) result.1) }
+    ensures { words_of text.now
+        ≡ result.0.now ∷ words_left (option_map (λ rest. rest.now) result.1) }
 {
     match split_word(text) {
         Some((word, rest)) => (word, Some(rest)),
@@ -236,7 +239,8 @@ fn blank_at(place: usize, more: Option<&[u8]>) -> Flaw
 
 /// The word with this number isn't what it has to be.
 fn wrong_word(place: usize, wanted: Wanted, word: &[u8], more: Option<&[u8]>) -> Flaw
-    ensures { result ≡ wrong_word place wanted word.now (words_left (option_map (λ rest. rest.now) more.entry)) }
+    ensures { result
+        ≡ wrong_word place wanted word.now (words_left (option_map (λ rest. rest.now) more.entry)) }
 {
     if word.is_empty() {
         return blank_at(place, more);
@@ -273,7 +277,8 @@ fn no_kind(word: &[u8], more: Option<&[u8]>) -> Flaw
 
 /// What is wrong with the words after the first one.
 fn flaw_of_words(kind: LineKind, words: Option<&[u8]>) -> Flaw
-    ensures { result ≡ flaw_from kind 2 (words_wanted kind) (words_left (option_map (λ rest. rest.now) words.entry)) }
+    ensures { result ≡ flaw_from kind 2 (words_wanted kind)
+        (words_left (option_map (λ rest. rest.now) words.entry)) }
 {
     let mut rest = words;
     let mut place = 2;

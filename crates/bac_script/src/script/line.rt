@@ -3,8 +3,12 @@
 ghost use Rattle.std.specs.Prelude.{◌≡◌, ◌<◌, IfOk, IfSome};
 ghost use Rattle.std.specs.Option.{option_map};
 ghost use Rattle.bac_wire.specs.OptionChain.{GivesSome};
-ghost use Rattle.bac_script.specs.Script.Line.{binary_line, clock_line, device_line, integer_line, is_silent, kind_in, line_in, log_line, multistate_line, rx_line, sample_line, source_in, start_in, walk_line, walked_log};
-ghost use Rattle.bac_script.specs.Views.{binary_of, device_of, integer_of, line_of, log_of, multistate_of};
+ghost use Rattle.bac_script.specs.Script.Line.{binary_line, clock_line, device_line, integer_line};
+ghost use Rattle.bac_script.specs.Script.Line.{is_silent, kind_in, line_in, log_line};
+ghost use Rattle.bac_script.specs.Script.Line.{multistate_line, rx_line, sample_line, source_in};
+ghost use Rattle.bac_script.specs.Script.Line.{start_in, walk_line, walked_log};
+ghost use Rattle.bac_script.specs.Views.{binary_of, device_of, integer_of, line_of, log_of};
+ghost use Rattle.bac_script.specs.Views.{multistate_of};
 ghost use Rattle.bac_script.specs.Script.Words.{words_of};
 
 use crate::script::hexadecimal::{LONGEST, octets_in};
@@ -51,7 +55,8 @@ pub(crate) enum Line<'r> {
 /// What the words of a device line say; its name still lies in the script.
 #[tactic(auto, unfolding(crate::specs::Script::Line::device_line))]
 fn device_words(words: &[u8]) -> Option<(u32, &str, u16, u16, Stamp)>
-    ensures { GivesSome (λ x. device_of x.0 x.1.now x.2 x.3 x.4) result (device_line (words_of words.now)) }
+    ensures { GivesSome (λ x. device_of x.0 x.1.now x.2 x.3 x.4) result
+        (device_line (words_of words.now)) }
 {
     let (instance, rest) = split_word(words)?;
     let (name, rest) = split_word(rest)?;
@@ -113,7 +118,8 @@ fn binary_line<'r>(alloc: Global, words: &[u8]) -> Result<Option<Line<'r>>, Allo
 /// What the words of a multi-state line say; its name still lies in the script.
 #[tactic(auto, unfolding(crate::specs::Script::Line::multistate_line))]
 fn multistate_words(words: &[u8]) -> Option<(u32, &str, u32, u32)>
-    ensures { GivesSome (λ x. multistate_of x.0 x.1.now x.2 x.3) result (multistate_line (words_of words.now)) }
+    ensures { GivesSome (λ x. multistate_of x.0 x.1.now x.2 x.3) result
+        (multistate_line (words_of words.now)) }
 {
     let (instance, rest) = split_word(words)?;
     let (name, rest) = split_word(rest)?;
@@ -146,7 +152,8 @@ fn multistate_line<'r>(alloc: Global, words: &[u8]) -> Result<Option<Line<'r>>, 
 /// What the words of an integer line say; its name still lies in the script.
 #[tactic(auto, unfolding(crate::specs::Script::Line::integer_line))]
 fn integer_words(words: &[u8]) -> Option<(u32, &str, i32)>
-    ensures { GivesSome (λ x. integer_of x.0 x.1.now x.2) result (integer_line (words_of words.now)) }
+    ensures { GivesSome (λ x. integer_of x.0 x.1.now x.2) result
+        (integer_line (words_of words.now)) }
 {
     let (instance, rest) = split_word(words)?;
     let (name, rest) = split_word(rest)?;
@@ -205,7 +212,8 @@ fn source_in(kind: &[u8], instance: &[u8]) -> Option<ObjectId>
 /// What the words of a log line say; its name still lies in the script.
 #[tactic(auto, unfolding(crate::specs::Script::Line::log_line))]
 fn log_words(words: &[u8]) -> Option<(u32, &str, ObjectId, u32, u32, u32)>
-    ensures { GivesSome (λ x. log_of x.0 x.1.now x.2 x.3 x.4 x.5) result (log_line (words_of words.now)) }
+    ensures { GivesSome (λ x. log_of x.0 x.1.now x.2 x.3 x.4 x.5) result
+        (log_line (words_of words.now)) }
 {
     let (instance, rest) = split_word(words)?;
     let (name, rest) = split_word(rest)?;

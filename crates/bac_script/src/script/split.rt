@@ -1,5 +1,6 @@
 //! A text split at the first of an octet: lines at a line feed, words at a space.
-ghost use Rattle.std.specs.Prelude.{◌≡◌, ◌∷◌, [], ◌<◌, length, IfSome, IfNone, All, position, false};
+ghost use Rattle.std.specs.Prelude.{◌≡◌, ◌∷◌, [], ◌<◌, length, IfSome, IfNone, All, position};
+ghost use Rattle.std.specs.Prelude.{false};
 ghost use Rattle.std.specs.List.{slice_split};
 ghost use Rattle.bac_script.specs.Script.Split.{is_octet};
 
@@ -13,7 +14,8 @@ fn place(text: &[u8], mark: u8) -> Option<usize>
 
 /// The text before the first octet that is `mark`, and the text after it.
 pub(crate) fn split_at(text: &[u8], mark: u8) -> Option<(&[u8], &[u8])>
-    ensures parts { IfSome result (λ x. slice_split (is_octet mark) text.now ≡ x.0.now ∷ slice_split (is_octet mark) x.1.now) }
+    ensures parts { IfSome result (λ x. slice_split (is_octet mark) text.now
+        ≡ x.0.now ∷ slice_split (is_octet mark) x.1.now) }
     ensures shorter { IfSome result (λ x. length x.1.now < length text.now) }
     ensures last { IfNone result (slice_split (is_octet mark) text.now ≡ text.now ∷ []) }
 {

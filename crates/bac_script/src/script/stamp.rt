@@ -2,7 +2,8 @@
 
 ghost use Rattle.std.specs.Prelude.{◌≡◌, ◌<◌, IfSome};
 ghost use Rattle.bac_wire.specs.OptionChain.{GivesSome};
-ghost use Rattle.bac_script.specs.Script.Stamp.{digit_in, pair_at, year_at, part_at, end_at, stamp_in, checked};
+ghost use Rattle.bac_script.specs.Script.Stamp.{digit_in, pair_at, year_at, part_at, end_at};
+ghost use Rattle.bac_script.specs.Script.Stamp.{stamp_in, checked};
 ghost use Rattle.bac_wire.specs.Stamp.{moment};
 
 use bac_wire::Stamp;
