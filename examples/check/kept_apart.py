@@ -2,6 +2,7 @@
 import sqlite3
 
 from kept_devices import LAST, Device, Log, serve
+from kept_rounds import unheard, why
 
 QUICK = ("--timeout=60", "--retries=0")
 USED_UP = "it began anew, or its numbers came round, 32767 times"
@@ -89,7 +90,7 @@ def dead_devices(judge, _runs):
     before = dead.asked
     judge.same("a dead device", judge.ran(["keep", file, "--timeout=60", "--retries=2"]),
                (2, line(dead, 1, 0, "lost, next 2") + line(dead, 2, 0, "not asked, next 3") + line(other, 1, 2, "caught up, next 3")
-                + line(dead, 3, 0, "not asked, next 4"), ""))
+                + line(dead, 3, 0, "not asked, next 4"), unheard(dead)))
     judge.same("is asked once", dead.asked - before, 3)
     judge.same("its rows stay", [items_of(file, log) for log in (1, 2, 4)], rows)
     judge.judge("a dead device", file, [dead, other])
@@ -98,7 +99,7 @@ def dead_devices(judge, _runs):
     log = dead.logs.pop(1)
     judge.same("a refusal is of one log", judge.ran(["keep", file]),
                (3, line(dead, 1, 0, "refused: error 2 32, next 2") + line(dead, 2, 0, "caught up, next 3") + line(other, 1, 0, "caught up, next 3")
-                + line(dead, 3, 0, "caught up, next 4"), ""))
+                + line(dead, 3, 0, "caught up, next 4"), why(dead, 1, "unknown property")))
     dead.logs = {1: log, **dead.logs}
     # It answers once more: what came is kept, and then it isn't asked any more.
     for log in dead.logs.values():
@@ -106,7 +107,7 @@ def dead_devices(judge, _runs):
     dead.answers = 6
     status, out, errors = judge.ran(["keep", file, *QUICK])
     told = out.splitlines(True)
-    judge.is_right("lost on the way", (status, errors, len(told)) == (2, "", 4) and " 1 " in told[0] and " lost, next " in told[0]
+    judge.is_right("lost on the way", (status, errors, len(told)) == (2, unheard(dead), 4) and " 1 " in told[0] and " lost, next " in told[0]
                    and told[1] == line(dead, 2, 0, "not asked, next 3") and told[3] == line(dead, 3, 0, "not asked, next 4"), (status, out, errors))
     judge.judge("lost on the way", file, [dead, other])
     dead.answers = None
@@ -116,7 +117,7 @@ def dead_devices(judge, _runs):
     file = f"{judge.room}/b.db"
     dead.answers = 0
     judge.same("a first run", judge.ran(["keep", file, dead.address, "3", "1", "2", *QUICK]),
-               (2, line(dead, 3, 0, "lost, next 1") + line(dead, 1, 0, "not asked, next 1") + line(dead, 2, 0, "not asked, next 1"), ""))
+               (2, line(dead, 3, 0, "lost, next 1") + line(dead, 1, 0, "not asked, next 1") + line(dead, 2, 0, "not asked, next 1"), unheard(dead, 3)))
     judge.same("adds none", in_file(file, "SELECT instance FROM logs"), [])
     dead.answers = 7
     status, out, errors = judge.ran(["keep", f"{judge.room}/c.db", dead.address, *QUICK])
@@ -134,4 +135,4 @@ def dead_devices(judge, _runs):
     behind.logs[1].log(1)
     judge.same("behind one router", judge.ran(["keep", file, *QUICK]),
                (2, line(behind, 1, 0, "lost, next 1", "/5/08") + line(behind, 2, 0, "not asked, next 1", "/5/08")
-                + line(behind, 1, 1, "caught up, next 6", "/5/07"), ""))
+                + line(behind, 1, 1, "caught up, next 6", "/5/07"), unheard(behind, 1, "/5/08")))

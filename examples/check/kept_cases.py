@@ -22,9 +22,10 @@ from kept_judge import in_use, no_use, wrongs
 from kept_more import said_more
 from kept_moved import moved, moved_at_each_call, moved_at_random, moved_ways, told_later, two_of_one
 from kept_names import names
-from kept_rounds import one, rounds, said
+from kept_rounds import one, rounds, said, unheard
 from kept_stopped import stopped
 from kept_terminal import terminals
+from kept_told import told_beside
 from kept_warehouse import warehouses
 from kept_whose import other_devices
 from kept_words import first_answers, own_lives, own_rule, own_words, renewed
@@ -112,7 +113,7 @@ def beginnings(judge, _runs):
     device, log = one(count=9)
     file = f"{judge.room}/lost.db"
     device.answers = 4
-    judge.same("counted, and then lost", judge.ran(["keep", file, device.address, "1", *QUICK]), (2, said(device, 0, 0, "lost, next 1"), ""))
+    judge.same("counted, and then lost", judge.ran(["keep", file, device.address, "1", *QUICK]), (2, said(device, 0, 0, "lost, next 1"), unheard(device)))
     device.answers = None
     judge.same("and whole", judge.ran(["keep", file, device.address, "1"]), (0, said(device, 9, 0, "caught up, next 10"), ""))
     judge.judge("and whole", file, [device], True)
@@ -139,7 +140,7 @@ def options(judge, _runs):
     for timeout, retries in ((4, 0), (0.05, 2)):
         before, began = device.asked, time.monotonic()
         judge.same("nobody answers", judge.ran(["keep", file, f"--timeout={timeout * 1000:.0f}", f"--retries={retries}"]),
-                   (2, said(device, 0, 0, "lost, next 5", way), ""))
+                   (2, said(device, 0, 0, "lost, next 5", way), unheard(device, 1, way)))
         took, asks = time.monotonic() - began, device.asked - before
         judge.is_right("--timeout and --retries", took >= timeout and asks == retries + 1, (took, asks))
 
@@ -150,7 +151,7 @@ def losses(judge, _runs):
     file = f"{judge.room}/a.db"
     device.answers = 0
     judge.same("a first run that is lost", judge.ran(["keep", file, device.address, "1", *QUICK]),
-               (2, said(device, 0, 0, "lost, next 1"), ""))
+               (2, said(device, 0, 0, "lost, next 1"), unheard(device)))
     device.answers = 6
     status, out, errors = judge.ran(["keep", file, device.address, "1", *QUICK])
     judge.is_right("lost after two answers", status == 2 and re.search(r" [1-9]\d* records? 0 gaps lost, next \d+\n", out), out)
@@ -183,7 +184,7 @@ def losses(judge, _runs):
     judge.ran(["keep", file, other.address, "1"])
     other.logs[1].log(1)
     judge.same("a device that doesn't answer doesn't stop the others", judge.ran(["keep", file, *QUICK]),
-               (2, said(device, 0, 0, "lost, next 156") + said(other, 1, 0, "caught up, next 5"), ""))
+               (2, said(device, 0, 0, "lost, next 156") + said(other, 1, 0, "caught up, next 5"), unheard(device)))
 
 
 def line_by_line(judge, _runs):
@@ -226,7 +227,7 @@ def step_limits(judge, _runs):
     judge.same("up to the last number", judge.ran(["keep", other, last.address, "1"])[:2],
                (0, said(last, 3, 0, "caught up, next 1")))
     last.answers = 0
-    judge.same("lost behind it", judge.ran(["keep", other, *QUICK]), (2, said(last, 0, 0, "lost, next 1"), ""))
+    judge.same("lost behind it", judge.ran(["keep", other, *QUICK]), (2, said(last, 0, 0, "lost, next 1"), unheard(last)))
 
 
 def words_and_names(judge, _runs):
@@ -666,4 +667,4 @@ def judgements(judge, _runs):
 
 CASES = [judgements, run_after_run, beginnings, options, losses, line_by_line, step_limits, last_epoch, dead_devices, other_devices, words_and_names, no_archive, barred, far_away, rounds, restarts, clocks, questions, cut_files, foreign_files, a_large_file, printed, taken_over, served,
          stopped, terminals, warehouses, names, own_words, own_rule, own_lives, first_answers, renewed, moved, moved_ways, two_of_one, told_later,
-         moved_at_each_call, moved_at_random, emptied, never_begun, told_at_once, said_more]
+         moved_at_each_call, moved_at_random, emptied, never_begun, told_at_once, said_more, told_beside]

@@ -3,7 +3,7 @@ import datetime
 import sqlite3
 
 from kept_devices import LAST, context
-from kept_rounds import one, said
+from kept_rounds import one, said, unheard
 
 HOUR = datetime.timedelta(hours=1)
 
@@ -108,7 +108,7 @@ def questions(judge, _runs):
     log.log(3)
     for answers in range(6):
         device.answers = answers
-        judge.same(f"lost behind {answers}", judge.ran(["keep", file, "--timeout=60", "--retries=0"]), (2, said(device, 0, 0, "lost, next 22"), ""))
+        judge.same(f"lost behind {answers}", judge.ran(["keep", file, "--timeout=60", "--retries=0"]), (2, said(device, 0, 0, "lost, next 22"), unheard(device)))
     device.answers = None
     judge.same("and all of it", judge.ran(["keep", file])[::2], (0, ""))
     judge.judge("and all of it", file, [device], True)

@@ -5,6 +5,7 @@ import signal
 
 from kept_apart import in_file, line
 from kept_devices import Device, Log, answering, chance, lock, serve
+from kept_rounds import why
 from kept_words import HOUR, MORNING, told
 
 # A run that waits once where nobody answers, as long as a busy machine may need where somebody does.
@@ -66,7 +67,8 @@ def moved(judge, _runs):
         ends = {"nobody": ("lost, next 2", "not asked, next 3"), "another": (f"another device answers: {Device.number}, not {device.number}",) * 2,
                 "one that refuses": (f"the device doesn't tell that it is {device.number}",) * 2}[name]
         out = "".join(f"{old} {at} 0 records 0 gaps {end}\n" for at, end in enumerate(ends, 1))
-        judge.same(f"{name} where it was", judge.ran(["keep", file, *SOON]), (2 if name == "nobody" else 3, out, ""))
+        lost = f"{old} 1: no answer came from {old}\n" if name == "nobody" else ""
+        judge.same(f"{name} where it was", judge.ran(["keep", file, *SOON]), (2 if name == "nobody" else 3, out, lost))
         judge.same(f"{name} where it was: nothing changes", tables(file), before)
         # A log that it has too is named, of which there was no row.
         device.said.clear()
@@ -88,7 +90,7 @@ def moved(judge, _runs):
     judge.judge("moved, and all its logs", file, [device], True)
     _port, old, new = moves(device)
     judge.same("moved, and a log that it doesn't have", judge.ran(["keep", file, new, "99"]),
-               (3, line(device, 99, 0, "refused: error 2 32, next 1"), moved_line(device, old, new)))
+               (3, line(device, 99, 0, "refused: error 2 32, next 1"), moved_line(device, old, new) + why(device, 99, "unknown property")))
     judge.judge("moved, and a log that it doesn't have", file, [device], True)
     # Where a log of another device stands, it isn't looked for elsewhere.
     other, _file = known(judge, "placed")

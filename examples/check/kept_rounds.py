@@ -19,6 +19,16 @@ def said(device, records, gaps, end, way=""):
     return f"{device.address}{way} 1 {shown} {gaps} {'gap' if gaps == 1 else 'gaps'} {end}\n"
 
 
+def why(device, instance, text, way=""):
+    """The second line of a log whose walk failed, on standard error."""
+    return f"{device.address}{way} {instance}: {text}\n"
+
+
+def unheard(device, instance=1, way=""):
+    """That of one whose device gave no answer, when nothing else came either."""
+    return why(device, instance, f"no answer came from {device.address}", way)
+
+
 def epochs_of(file):
     """Of each epoch the first and the last number, and how many rows it has."""
     base = sqlite3.connect(file)

@@ -7,7 +7,7 @@ import signal
 from kept_apart import in_file, line
 from kept_clocks import HOUR, either_line, gaps_of
 from kept_devices import Device, Log, serve
-from kept_rounds import one, said
+from kept_rounds import one, said, unheard, why
 
 MORNING = datetime.datetime(2024, 5, 6, 7, 8, 9)
 LONG = b"\x65\xc8" + bytes(range(200))
@@ -130,11 +130,11 @@ def first_answers(judge, _runs):
     device, log = one(count=9)
     told(device, MORNING, 1)
     file = f"{judge.room}/none.db"
-    refused = line(device, 99, 0, "refused: error 2 32, next 1")
+    refused, unknown = line(device, 99, 0, "refused: error 2 32, next 1"), why(device, 99, "unknown property")
     for name in ("a log that isn't there", "and again"):
-        judge.same(name, judge.ran(["keep", file, device.address, "99"]), (3, refused, ""))
+        judge.same(name, judge.ran(["keep", file, device.address, "99"]), (3, refused, unknown))
         judge.same(f"{name} adds no row", in_file(file, "SELECT instance FROM logs"), [])
-    judge.same("beside one that is", judge.ran(["keep", file, device.address, "99", "1"]), (3, refused + line(device, 1, 9, "caught up, next 10"), ""))
+    judge.same("beside one that is", judge.ran(["keep", file, device.address, "99", "1"]), (3, refused + line(device, 1, 9, "caught up, next 10"), unknown))
     judge.same("which has a row", in_file(file, "SELECT instance, device, restart, revision FROM logs"), [(1, device.number, *device.word())])
     judge.same("and alone from then on", judge.ran(["keep", file]), (0, line(device, 1, 0, "caught up, next 10"), ""))
     judge.judge("beside one that is", file, [device], True)
@@ -147,7 +147,7 @@ def first_answers(judge, _runs):
         items = in_file(file, "SELECT id FROM items") if rows else []
         # Four of them lie before the first that has records.
         judge.same(f"dead behind {answers} answers", (rows, bool(items)), ([(device.number, *device.word())], True) if answers > 4 else ([], False))
-        judge.is_right(f"dead behind {answers} answers, its line", status == 0 or (status, errors) == (2, "") and " lost, next " in out, (status, out, errors))
+        judge.is_right(f"dead behind {answers} answers, its line", status == 0 or (status, errors) == (2, unheard(device)) and " lost, next " in out, (status, out, errors))
         if status == 0:
             break
         before += 1

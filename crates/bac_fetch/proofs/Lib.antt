@@ -10,5 +10,6 @@ pub mod WhoseLemmas
 pub mod MovesLemmas
 pub mod QuietLemmas
 pub mod FaultsLemmas
+pub mod CausesLemmas
 pub mod UnfoundLemmas
 pub mod TakenLemmas

@@ -24,8 +24,8 @@ abbrev pub AskTheirSources : Chosen → Type 0
 AskTheirSources (Named all) = All AsksItsSource all.items
 AskTheirSources other = Unit {0}
 
--- What was chosen: the logs of an archive that aren't stopped; logs of one device, each asked for as this one is; or those that the words
--- name.
+-- What was chosen: the logs of an archive that aren't stopped; logs of one device, each asked for as this one is; or
+-- those that the words name.
 abbrev pub AreChosen : Chosen → Trees → List Wanted → Type 0
 AreChosen Kept trees all = AreKeptLogs trees all
 AreChosen (Device like) trees all = All (λ wanted. IsAskedAs like wanted.asking) all

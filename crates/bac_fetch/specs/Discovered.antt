@@ -42,12 +42,14 @@ abbrev pub Tells : List ℕ → Primitive → Type 0
 Tells datagram value = (values : List ℕ) × (values_in (apdu_in datagram) ≡ Some values) × Spells values value
 
 -- a number was read: one Unsigned
-abbrev pub ReadsNumber : {S : Type 0} → (ReadProperty → S → Result (List ℕ) ExchangeFault → S → Type 0) → ReadProperty → S → ℕ → S → Type 0
+abbrev pub ReadsNumber : {S : Type 0} → (ReadProperty → S → Result (List ℕ) ExchangeFault → S → Type 0) → ReadProperty
+    → S → ℕ → S → Type 0
 ReadsNumber reads asked old number new =
     (answer : List ℕ) × reads asked old (Ok answer) new × Tells answer (primitive.Unsigned number)
 
 -- an object identifier was read
-abbrev pub ReadsObject : {S : Type 0} → (ReadProperty → S → Result (List ℕ) ExchangeFault → S → Type 0) → ReadProperty → S → Id → S → Type 0
+abbrev pub ReadsObject : {S : Type 0} → (ReadProperty → S → Result (List ℕ) ExchangeFault → S → Type 0) → ReadProperty
+    → S → Id → S → Type 0
 ReadsObject reads asked old object new = (answer : List ℕ) × reads asked old (Ok answer) new × TellsObject answer object
 
 -- a name is the text of the Character String that an ACK tells, in Unicode; there is none if it tells none
@@ -87,14 +89,16 @@ AddsPlace {S = S} reads place old before after new =
     × AddsObject reads object told before after new
 
 -- the logs at the first places, in their order
-abbrev pub FindsTo : {S : Type 0} → (ReadProperty → S → Result (List ℕ) ExchangeFault → S → Type 0) → ℕ → S → List Wanted → S → Type 0
+abbrev pub FindsTo : {S : Type 0} → (ReadProperty → S → Result (List ℕ) ExchangeFault → S → Type 0) → ℕ → S
+    → List Wanted → S → Type 0
 FindsTo reads zero old found new = (found ≡ []) × (new ≡ old)
 FindsTo {S = S} reads (suc place) old found new =
     (before : List Wanted) × (mid : S) × FindsTo reads place old before mid
     × AddsPlace reads (suc place) mid before found new
 
 -- the logs at all places, of which the device told how many there are
-abbrev pub Finds : {S : Type 0} → (ReadProperty → S → Result (List ℕ) ExchangeFault → S → Type 0) → S → List Wanted → S → Type 0
+abbrev pub Finds : {S : Type 0} → (ReadProperty → S → Result (List ℕ) ExchangeFault → S → Type 0) → S → List Wanted → S
+    → Type 0
 Finds {S = S} reads old found new =
     (count : ℕ) × (mid : S) × ReadsNumber reads (list_at 0) old count mid × FindsTo reads count mid found new
 
@@ -102,7 +106,8 @@ Finds {S = S} reads old found new =
 abbrev pub FindsOver : {S P : Type 0} → SocketRules S P → Asking → S → List Wanted → S → Type 0
 FindsOver {P = P} rules asking before found after =
     UsesSocket rules (own_address asking.asked.local) asking.asked.timeout before
-    (λ port last. (left : UdpLink P) × Finds (Reads (socket_asks rules) (towards asking.asked.route) asking.asked.retries)
+    (λ port last. (left : UdpLink P)
+    × Finds (Reads (socket_asks rules) (towards asking.asked.route) asking.asked.retries)
     (link_over asking.asked.address port) found left × (last ≡ left.port))
     after
 

@@ -1,5 +1,6 @@
 -- A log as a run over it begins: how its row is to be, how it is on record, and what comes of its row.
-use Rattle.std.specs.Prelude.{◌≡◌, ◌==◌, ◌&&◌, ◌||◌, not, ℕ, Bool, true, false, if◌then◌else◌, MatchBool, [], ◌∷◌, Option, None, Some, option_map, String}
+use Rattle.std.specs.Prelude.{◌≡◌, ◌==◌, ◌&&◌, ◌||◌, not, ℕ, Bool, true, false, if◌then◌else◌, MatchBool, [], ◌∷◌}
+use Rattle.std.specs.Prelude.{Option, None, Some, option_map, String}
 use Rattle.std.specs.String.{string_bytes, string_eq}
 use Rattle.std.specs.declared.alloc.Global.{Global}
 use Rattle.sqlite.specs.Effect.{Database}
@@ -46,11 +47,12 @@ abbrev pub eq_number : Option ℕ → Option ℕ → Bool
 eq_number None None = true
 eq_number kept told = is_same_number kept told
 
--- A device's own word on whether it is as it was (clause 12.11): it told its last restart and the revision of its database,
--- and both are as they are kept; or it told one of them, and another is kept; or it doesn't tell.
+-- A device's own word on whether it is as it was (clause 12.11): it told its last restart and the revision of its
+-- database, and both are as they are kept; or it told one of them, and another is kept; or it doesn't tell.
 abbrev pub word_of : Told → Told → Word
 word_of kept told = if is_same_text kept.restart told.restart && is_same_number kept.revision told.revision then Same
-    else (if is_other_text kept.restart told.restart || is_other_number kept.revision told.revision then Changed else Untold)
+    else (if is_other_text kept.restart told.restart
+    || is_other_number kept.revision told.revision then Changed else Untold)
 
 -- the restart and the revision that a device told are as they are kept
 abbrev pub has_word : Told → Told → Bool
@@ -61,8 +63,8 @@ abbrev pub how_recorded : Log → Told → Recorded
 how_recorded log told = if log.stopped || not (eq_number log.told.device told.device) then Otherwise
     else (if has_word log.told told then So else OldWord)
 
--- How a log is on record whose device told this: under an id, by its row, or not yet, and this id is free. Its device's word is
--- by what is kept.
+-- How a log is on record whose device told this: under an id, by its row, or not yet, and this id is free. Its device's
+-- word is by what is kept.
 abbrev pub IsEntry : Trees → Option Log → Told → Entry → Type 0
 IsEntry trees None told entry = IsFreshId trees entry.row.id × (entry.recorded ≡ Not) × (entry.word ≡ Untold)
 IsEntry trees (Some log) told entry = (entry.row.id ≡ log.id) × (entry.recorded ≡ how_recorded log told)
@@ -70,15 +72,16 @@ IsEntry trees (Some log) told entry = (entry.row.id ≡ log.id) × (entry.record
 
 -- a row comes to the logs, if it isn't there
 abbrev pub AdmitsRow : Recorded → Log → Database → Database → Type 0
-AdmitsRow Not row old new = HasNewLog old new (log_row row.id row.source (option_map string_bytes row.name) row.told false)
+AdmitsRow Not row old new =
+    HasNewLog old new (log_row row.id row.source (option_map string_bytes row.name) row.told false)
 AdmitsRow recorded row old new = new ≡ old
 
 -- a log has a row once its device has answered
 abbrev pub Admits : Entry → Database → Database → Type 0
 Admits entry old new = AdmitsRow entry.recorded entry.row old new
 
--- A row is to be changed behind a run that ended so: one that is stopped or has another instance in any case, and one with
--- another word if something was kept by the new one.
+-- A row is to be changed behind a run that ended so: one that is stopped or has another instance in any case, and one
+-- with another word if something was kept by the new one.
 abbrev pub is_due : Recorded → End → Bool
 is_due Otherwise end = true
 is_due OldWord end = not (end.records == 0) || not (end.gaps == 0)

@@ -24,10 +24,11 @@ use Rattle.bac_ports.specs.declared.port.OpenFault.{OpenFault}
 use Rattle.bac_words.specs.declared.job.Asked.{Asked}
 use Rattle.bac_words.specs.declared.word.Word.TheVariants.{Instance}
 
--- A log's rows aren't read or written: memory is wanting; the output refused a line; the file isn't an archive, or has no id
--- left; or its database answers by an error.
+-- A log's rows aren't read or written: memory is wanting; the output refused a line; the file isn't an archive, or has
+-- no id left; or its database answers by an error.
 abbrev pub EndsLog : NotDone → Type 0
-EndsLog fault = WantsMemory fault ⊎ (RefusesLine fault ⊎ ((fault ≡ File Foreign) ⊎ ((fault ≡ File Full) ⊎ IsOfDatabase fault)))
+EndsLog fault = WantsMemory fault
+    ⊎ (RefusesLine fault ⊎ ((fault ≡ File Foreign) ⊎ ((fault ≡ File Full) ⊎ IsOfDatabase fault)))
 
 -- a socket was asked for as a device is asked, and none was opened
 abbrev pub IsUnopened : {S P : Type 0} → SocketRules S P → Asked → S → S → NotDone → Type 0
@@ -41,14 +42,15 @@ EndsAsking rules asked before after fault = WantsMemory fault ⊎ IsUnopened rul
 -- the logs of a device aren't found: it isn't asked, or doesn't tell its list
 abbrev pub EndsFinding : {S P : Type 0} → SocketRules S P → AskedFor → S → S → NotDone → Type 0
 EndsFinding rules like before after fault = EndsAsking rules like.asked before after fault
-    ⊎ ((why : ExchangeFault) × (fault ≡ Asking (Exchange like.asked.address why)) × FailsOver rules like before why after)
+    ⊎ ((why : ExchangeFault) × (fault ≡ Asking (Exchange like.asked.address why))
+    × FailsOver rules like before why after)
 
 -- the last thing that was done to the sockets is an open that failed
 abbrev pub LastFailed : {S P : Type 0} → SocketRules S P → S → NotDone → Type 0
 LastFailed {S = S} rules after fault = (before : S) × (asked : Asked) × IsUnopened rules asked before after fault
 
--- A run over logs ends: the rows of one aren't read or written; no socket was opened; one that is wanted has an instance
--- that is none, as this says; or one that is on record has an address that is none, as this says.
+-- A run over logs ends: the rows of one aren't read or written; no socket was opened; one that is wanted has an
+-- instance that is none, as this says; or one that is on record has an address that is none, as this says.
 abbrev pub EndsRun : {S P : Type 0} → SocketRules S P → Type 0 → Type 0 → S → NotDone → Type 0
 EndsRun rules no_instance no_address after fault = EndsLog fault ⊎ (LastFailed rules after fault
     ⊎ (((fault ≡ Asking (BadValue Instance)) × no_instance) ⊎ ((fault ≡ File Address) × no_address)))
@@ -79,8 +81,8 @@ abbrev pub EndsKept : Type 0 → Type 0 → NotDone → Type 0
 EndsKept none no_address fault = WantsMemory fault ⊎ (IsOfDatabase fault
     ⊎ (((fault ≡ File NoLogs) × none) ⊎ ((fault ≡ File Address) × no_address)))
 
--- The logs that were chosen aren't found: those of a file aren't named, for which no socket is opened; or a device doesn't
--- tell its own.
+-- The logs that were chosen aren't found: those of a file aren't named, for which no socket is opened; or a device
+-- doesn't tell its own.
 abbrev pub EndsChosen : {S P : Type 0} → SocketRules S P → Chosen → Type 0 → Type 0 → S → S → NotDone → Type 0
 EndsChosen rules Kept none no_address before after fault = EndsKept none no_address fault × (after ≡ before)
 EndsChosen rules (Device like) none no_address before after fault = EndsFinding rules like before after fault

@@ -32,8 +32,8 @@ HasFailed (Err (Refused refusal.Back)) = ⊥
 HasFailed (Err (Refused refusal.Epochs)) = ⊥
 HasFailed (Err other) = Unit {0}
 
--- A run of at most so many steps that ended so took so many, the last of which ended so: as its walk says; or, where what a
--- step brought has no place, fewer, each of which brought a whole reply.
+-- A run of at most so many steps that ended so took so many, the last of which ended so: as its walk says; or, where
+-- what a step brought has no place, fewer, each of which brought a whole reply.
 abbrev pub IsRunTo : Ending → ℕ → ℕ → Ended → Type 0
 IsRunTo (Walk why) steps took ended = IsRunOf why steps took ended
 IsRunTo SaidMore steps took ended = ⊥
@@ -48,10 +48,11 @@ abbrev pub IsLeftBy : {S : Type 0} → Ending → S → S → Type 0
 IsLeftBy (Walk why) half left = left ≡ half
 IsLeftBy ending half left = Unit {0}
 
--- What a run of at most so many steps keeps of a walk from a place on, behind a first step, came over a link, in replies
--- to its questions, and that is how the link is left.
+-- What a run of at most so many steps keeps of a walk from a place on, behind a first step, came over a link, in
+-- replies to its questions, and that is how the link is left.
 pub record ComesFrom {S : Type 0} (asks : S → List ℕ → Result (List ℕ) Loss → S → Type 0) (path : Path) (retries : ℕ)
-    (link left : S) (place : Place) (walk : WalkPlace) (step : KeptStep) (steps : ℕ) (old new : Database) (end : End) : Type 0 where
+    (link left : S) (place : Place) (walk : WalkPlace) (step : KeptStep) (steps : ℕ) (old new : Database)
+    (end : End) : Type 0 where
   pub reached : Place
   pub after : WalkPlace
   pub took : ℕ

@@ -1,5 +1,6 @@
 -- What came to the first questions of a run, before any of it is kept.
-use Rattle.std.specs.Prelude.{◌≡◌, ◌==◌, ◌+◌, ◌++◌, ◌⊎◌, ℕ, nat_lt, List, [], ◌∷◌, MatchBool, map, Option, None, Some, Result, Ok, Err}
+use Rattle.std.specs.Prelude.{◌≡◌, ◌==◌, ◌+◌, ◌++◌, ◌⊎◌, ℕ, nat_lt, List, [], ◌∷◌, MatchBool, map, Option, None, Some}
+use Rattle.std.specs.Prelude.{Result, Ok, Err}
 use Rattle.sqlite_value.specs.Order.{Row as Values}
 use Rattle.bac_wire.specs.Primitive.{Id}
 use Rattle.bac_link.specs.declared.item.Item.{Item}
@@ -42,7 +43,8 @@ IsStep (Fault fault) = ⊥
 
 -- What is in hand came to one step of a walk over a link: its rows from a place on, so many records and gaps, and where
 -- it ended.
-abbrev pub IsInHand : {S : Type 0} → (S → List ℕ → Result (List ℕ) Loss → S → Type 0) → Path → ℕ → Place → S → WalkPlace →
+abbrev pub IsInHand : {S : Type 0} → (S → List ℕ → Result (List ℕ) Loss → S → Type 0) → Path → ℕ → Place → S
+    → WalkPlace →
     Gathered → WalkPlace → S → Type 0
 IsInHand asks path retries place link before gathered after left =
     GathersOver asks path retries place gathered.place (map stored gathered.rows.items) gathered.step.records
@@ -50,14 +52,16 @@ IsInHand asks path retries place link before gathered after left =
     × CoverFrom place (map stored gathered.rows.items) before after
 
 -- what came to one step of a walk over a link can't be kept from a place on, where no number below this one may come
-abbrev pub HasNoPlace : {S : Type 0} → (S → List ℕ → Result (List ℕ) Loss → S → Type 0) → Path → ℕ → Place → ℕ → S → WalkPlace →
+abbrev pub HasNoPlace : {S : Type 0} → (S → List ℕ → Result (List ℕ) Loss → S → Type 0) → Path → ℕ → Place → ℕ → S
+    → WalkPlace →
     Refusal → S → Type 0
 HasNoPlace asks path retries place free link before refused left =
     (came : List Came) × (items : List Item) × (after : WalkPlace)
     × Brought asks path retries link before 1 came items Stopped after left × IsCause place free items refused
 
 -- one step of a walk over a link came to no end but this one
-abbrev pub StopsBy : {S : Type 0} → (S → List ℕ → Result (List ℕ) Loss → S → Type 0) → Path → ℕ → Place → ℕ → S → WalkPlace →
+abbrev pub StopsBy : {S : Type 0} → (S → List ℕ → Result (List ℕ) Loss → S → Type 0) → Path → ℕ → Place → ℕ → S
+    → WalkPlace →
     Ending → S → Type 0
 StopsBy asks path retries place free link before (Walk (why.Fault fault)) left =
     (came : List Came) × (items : List Item) × (after : WalkPlace)
@@ -69,7 +73,8 @@ StopsBy asks path retries place free link before Epochs left =
 StopsBy asks path retries place free link before other left = ⊥
 
 -- One step of a walk over a link: what is in hand then, which took that step, or why nothing is.
-abbrev pub Steps : {S : Type 0} → (S → List ℕ → Result (List ℕ) Loss → S → Type 0) → Path → ℕ → Place → ℕ → S → WalkPlace →
+abbrev pub Steps : {S : Type 0} → (S → List ℕ → Result (List ℕ) Loss → S → Type 0) → Path → ℕ → Place → ℕ → S
+    → WalkPlace →
     Result Hand Ending → S → Type 0
 Steps asks path retries place free link before (Ok hand) left =
     IsInHand asks path retries place link before hand.gathered hand.walk left × IsStep hand.gathered.step.ended
@@ -94,13 +99,16 @@ steps_of Stopped = 0
 steps_of (Fault fault) = 0
 
 -- what came to one question of a walk over a link has no place, where no number below this one may come
-abbrev pub IsNotTaken : {S : Type 0} → (S → List ℕ → Result (List ℕ) Loss → S → Type 0) → Path → ℕ → Place → ℕ → S → WalkPlace →
+abbrev pub IsNotTaken : {S : Type 0} → (S → List ℕ → Result (List ℕ) Loss → S → Type 0) → Path → ℕ → Place → ℕ → S
+    → WalkPlace →
     Refusal → S → Type 0
 IsNotTaken asks path retries place free link before refused left =
     (after : WalkPlace) × RefusesAnswer asks path retries place free link before refused after left
 
--- One question of a walk was asked over a link, and what came is in hand, records, none, or a fault; or it has no place.
-abbrev pub TakesAnswer : {S : Type 0} → (S → List ℕ → Result (List ℕ) Loss → S → Type 0) → Path → ℕ → Place → ℕ → S → WalkPlace →
+-- One question of a walk was asked over a link, and what came is in hand, records, none, or a fault; or it has no
+-- place.
+abbrev pub TakesAnswer : {S : Type 0} → (S → List ℕ → Result (List ℕ) Loss → S → Type 0) → Path → ℕ → Place → ℕ → S
+    → WalkPlace →
     Result Hand Ending → S → Type 0
 TakesAnswer asks path retries place free link before (Ok hand) left =
     GathersAnswer asks path retries place free link before hand.gathered hand.walk left
@@ -127,24 +135,29 @@ IsPutBehind hand (Err ending) all =
     × (all.walk ≡ hand.walk) × (all.took ≡ hand.took)
 
 -- the next question of a walk is asked over a link, from where what is in hand ends, and what comes is put behind that
-abbrev pub TakesMore : {S : Type 0} → (S → List ℕ → Result (List ℕ) Loss → S → Type 0) → Path → ℕ → S → Hand → Hand → S → Type 0
+abbrev pub TakesMore : {S : Type 0} → (S → List ℕ → Result (List ℕ) Loss → S → Type 0) → Path → ℕ → S → Hand → Hand → S
+    → Type 0
 TakesMore asks path retries link hand all left =
     (more : Result Hand Ending)
     × TakesAnswer asks path retries hand.gathered.place hand.gathered.free link hand.walk more left
     × IsPutBehind hand more all
 
--- Behind a first question that ended so: if it brought records, and a run may take another step, the number behind them is
--- asked for; if it came to a fault, nothing is in hand; else that is all.
-abbrev pub GoesAhead : {S : Type 0} → (S → List ℕ → Result (List ℕ) Loss → S → Type 0) → Path → ℕ → S → Hand → ℕ → Ended →
+-- Behind a first question that ended so: if it brought records, and a run may take another step, the number behind them
+-- is asked for; if it came to a fault, nothing is in hand; else that is all.
+abbrev pub GoesAhead : {S : Type 0} → (S → List ℕ → Result (List ℕ) Loss → S → Type 0) → Path → ℕ → S → Hand → ℕ
+    → Ended →
     Result Hand Ending → S → Type 0
 GoesAhead asks path retries link hand steps StepLimit ahead left = MatchBool (nat_lt 1 steps)
-    ((all : Hand) × TakesMore asks path retries link hand all left × (ahead ≡ Ok all)) ((ahead ≡ Ok hand) × (left ≡ link))
-GoesAhead asks path retries link hand steps (Fault fault) ahead left = (ahead ≡ Err (Walk (why.Fault fault))) × (left ≡ link)
+    ((all : Hand) × TakesMore asks path retries link hand all left × (ahead ≡ Ok all)) ((ahead ≡ Ok hand)
+    × (left ≡ link))
+GoesAhead asks path retries link hand steps (Fault fault) ahead left = (ahead ≡ Err (Walk (why.Fault fault)))
+    × (left ≡ link)
 GoesAhead asks path retries link hand steps other ahead left = (ahead ≡ Ok hand) × (left ≡ link)
 
 -- What lies ahead of a walk by number is asked for over a link, of which a run may take so many steps, and what came in
 -- hand: by one question, or by two if the first brought records; or why nothing is.
-abbrev pub LooksAhead : {S : Type 0} → (S → List ℕ → Result (List ℕ) Loss → S → Type 0) → Path → ℕ → Place → ℕ → S → WalkPlace → ℕ →
+abbrev pub LooksAhead : {S : Type 0} → (S → List ℕ → Result (List ℕ) Loss → S → Type 0) → Path → ℕ → Place → ℕ → S
+    → WalkPlace → ℕ →
     Result Hand Ending → S → Type 0
 LooksAhead {S = S} asks path retries place free link before steps ahead left =
     ((ending : Ending) × TakesAnswer asks path retries place free link before (Err ending) left × (ahead ≡ Err ending))

@@ -1,5 +1,6 @@
 -- What a run over logs keeps, and what is told of it.
-use Rattle.std.specs.Prelude.{◌≡◌, ◌⊎◌, ◌+◌, ◌-◌, ◌==◌, ◌&&◌, ℕ, map, max, Bool, true, false, MatchBool, List, [], ◌∷◌, ◌++◌, length}
+use Rattle.std.specs.Prelude.{◌≡◌, ◌⊎◌, ◌+◌, ◌-◌, ◌==◌, ◌&&◌, ℕ, map, max, Bool, true, false, MatchBool, List, [], ◌∷◌}
+use Rattle.std.specs.Prelude.{◌++◌, length}
 use Rattle.std.specs.Prelude.{Option, None, Some, option_map, Result, Ok, Err}
 use Rattle.std.specs.Io.KnownBytes.{Appends}
 use Rattle.sqlite.specs.Effect.{Database}
@@ -56,7 +57,8 @@ use Rattle.bac_asked.specs.Status.{end_status}
 -- next epoch where numbers come round. With those of the step they are as many records and gaps as are told, and they
 -- cover each number from the walk's on, or from that of the first record of a walk from the oldest, up to the one that
 -- comes next, once.
-pub record KeepsFrom (place : Place) (walk : WalkPlace) (step : KeptStep) (how : Began) (old new : Database) (end : End) :
+pub record KeepsFrom (place : Place) (walk : WalkPlace) (step : KeptStep) (how : Began) (old new : Database)
+    (end : End) :
     Type 0 where
   pub items : List Item
   pub had_none : Bool
@@ -66,9 +68,10 @@ pub record KeepsFrom (place : Place) (walk : WalkPlace) (step : KeptStep) (how :
   pub goes : (s : ℕ) → Goes walk.fresh walk.next s items had_none end.next
   pub began : end.began ≡ how
 
--- What a run keeps behind what is in hand: no more, and nothing more is asked, if that came to an end, caught up or by a
--- fault; else what comes over the link from there, in at most so many steps.
-abbrev pub KeepsOn : {S : Type 0} → (S → List ℕ → Result (List ℕ) Loss → S → Type 0) → Path → ℕ → S → S → Start → Option Why → ℕ →
+-- What a run keeps behind what is in hand: no more, and nothing more is asked, if that came to an end, caught up or by
+-- a fault; else what comes over the link from there, in at most so many steps.
+abbrev pub KeepsOn : {S : Type 0} → (S → List ℕ → Result (List ℕ) Loss → S → Type 0) → Path → ℕ → S → S → Start
+    → Option Why → ℕ →
     Database → Database → End → Type 0
 KeepsOn asks path retries link left start (Some why) steps old new end =
     (new ≡ old) × (left ≡ link) × (end.records ≡ start.hand.gathered.step.records)
@@ -76,33 +79,37 @@ KeepsOn asks path retries link left start (Some why) steps old new end =
     × (end.began ≡ start.began)
 KeepsOn asks path retries link left start None steps old new end =
     KeepsFrom start.hand.gathered.place start.hand.walk start.hand.gathered.step start.began old new end
-    × ComesFrom asks path retries link left start.hand.gathered.place start.hand.walk start.hand.gathered.step steps old new end
+    × ComesFrom asks path retries link left start.hand.gathered.place start.hand.walk start.hand.gathered.step steps old
+    new end
 
 -- What a run of at most so many steps keeps that begins so: what is in hand, which took some of them, and what comes
 -- behind it; nothing, if the device didn't say where.
-abbrev pub KeepsBegun : {S : Type 0} → (S → List ℕ → Result (List ℕ) Loss → S → Type 0) → Path → ℕ → S → S → Result Start End →
+abbrev pub KeepsBegun : {S : Type 0} → (S → List ℕ → Result (List ℕ) Loss → S → Type 0) → Path → ℕ → S → S
+    → Result Start End →
     ℕ → Database → Database → End → Type 0
 KeepsBegun asks path retries link left (Ok start) steps old new end =
     (mid : Database) × IsAppended old mid (map stored start.hand.gathered.rows.items)
-    × KeepsOn asks path retries link left start (why_of start.hand.gathered.step.ended) (steps - start.hand.took) mid new end
+    × KeepsOn asks path retries link left start (why_of start.hand.gathered.step.ended) (steps - start.hand.took) mid
+    new end
 KeepsBegun asks path retries link left (Err none) steps old new end = (new ≡ old) × (end ≡ none) × (left ≡ link)
 
 -- whether a run is caught up and brought nothing
 abbrev pub is_idle : End → Bool
 is_idle end = (end_status end.why == 0) && (end.records == 0 && end.gaps == 0)
 
--- What is on record behind a run that ended so: this beginning of an epoch, if the run is caught up and brought nothing;
--- else no row changes.
+-- What is on record behind a run that ended so: this beginning of an epoch, if the run is caught up and brought
+-- nothing; else no row changes.
 abbrev pub Marks : Option Beginning → End → Database → Database → Type 0
 Marks None end old new = new ≡ old
 Marks (Some beginning) end old new =
     (is_idle end ≡ true → HasNewBeginning old new (beginning_row beginning))
     × (is_idle end ≡ false → new ≡ old)
 
--- What a run of at most so many steps over a log that begins so keeps: first the log has a row, then what is in hand and what
--- comes behind it is kept, then its epoch begins if nothing came, and then its row says what its device told. Nothing, if the
--- device didn't say where it begins.
-abbrev pub KeepsEntered : {S : Type 0} → (S → List ℕ → Result (List ℕ) Loss → S → Type 0) → Path → ℕ → S → S → Result Start End →
+-- What a run of at most so many steps over a log that begins so keeps: first the log has a row, then what is in hand
+-- and what comes behind it is kept, then its epoch begins if nothing came, and then its row says what its device told.
+-- Nothing, if the device didn't say where it begins.
+abbrev pub KeepsEntered : {S : Type 0} → (S → List ℕ → Result (List ℕ) Loss → S → Type 0) → Path → ℕ → S → S
+    → Result Start End →
     ℕ → Entry → Database → Database → End → Type 0
 KeepsEntered asks path retries link left (Ok start) steps entry old new end =
     (known : Database) × Admits entry old known
@@ -110,14 +117,14 @@ KeepsEntered asks path retries link left (Ok start) steps entry old new end =
     × (marked : Database) × Marks start.begins_at end last marked × Renews entry end marked new
 KeepsEntered asks path retries link left (Err none) steps entry old new end = (new ≡ old) × (end ≡ none) × (left ≡ link)
 
--- What a crash leaves of a run over a log that keeps so: each log as it was, and so its device's word by which the rows were
--- kept that are there; or all that the run kept.
+-- What a crash leaves of a run over a log that keeps so: each log as it was, and so its device's word by which the rows
+-- were kept that are there; or all that the run kept.
 abbrev pub LeavesWord : Trees → (Database → Type 0) → Trees → Type 0
 LeavesWord old keeps left = HasRows old left ⊎ ((db : Database) × keeps db × (left ≡ db.trees))
 
--- A run of at most so many steps over a log, which is this object of its device, over a link that it leaves so: where it
--- begins, by the archive's rows, by what the device tells over the link and by its own word, and what it keeps from there,
--- which came over the link as that was left then.
+-- A run of at most so many steps over a log, which is this object of its device, over a link that it leaves so: where
+-- it begins, by the archive's rows, by what the device tells over the link and by its own word, and what it keeps from
+-- there, which came over the link as that was left then.
 abbrev pub KeepsOverLink : {S : Type 0} → (S → List ℕ → Result (List ℕ) Loss → S → Type 0) → Path → ℕ → S → S → ℕ →
     Entry → Id → (many : ℕ) → Database → Database → End → Type 0
 KeepsOverLink {S = S} asks path retries link left steps entry object many old new end =
@@ -127,7 +134,8 @@ KeepsOverLink {S = S} asks path retries link left steps entry object many old ne
 
 -- The same over a socket: it was opened as the log is asked for, every datagram was asked of the device that is asked,
 -- and it was closed as the last of these left it. It is told if the device said that more is there than it had.
-abbrev pub KeepsLog : {S P : Type 0} → SocketRules S P → Asking → S → S → Entry → Id → Database → Database → End → Type 0
+abbrev pub KeepsLog : {S P : Type 0} → SocketRules S P → Asking → S → S → Entry → Id → Database → Database → End
+    → Type 0
 KeepsLog {P = P} rules asking before after entry object old new end =
     UsesSocket rules (own_address asking.asked.local) asking.asked.timeout before
     (λ port last. (left : Heeding (UdpLink P)) × (before_told : End)
@@ -179,44 +187,51 @@ PassesOver known wanted why before after old new end =
 -- a log is passed over if there is a reason, and else kept
 abbrev pub KeepsUnless : {S P : Type 0} → SocketRules S P → List Log → Wanted → Told → Option Ending →
     S → S → Database → Database → End → Type 0
-KeepsUnless rules known wanted told (Some why) before after old new end = PassesOver known wanted why before after old new end
-KeepsUnless rules known wanted told None before after old new end = KeepsSource rules known wanted told before after old new end
+KeepsUnless rules known wanted told (Some why) before after old new end =
+    PassesOver known wanted why before after old new end
+KeepsUnless rules known wanted told None before after old new end =
+    KeepsSource rules known wanted told before after old new end
 
--- A log of a device that was heard of, or is asked now what it says of itself: it is kept, unless the device gives no answer, or
--- an instance is on record of it and it doesn't tell that one, or it tells one that is on record elsewhere. So the device of
--- each log that is kept told the instance that is on record, if one is.
-pub record KeepsHeard {S P : Type 0} (rules : SocketRules S P) (known : List Log) (heard more : List Heard) (wanted : Wanted)
+-- A log of a device that was heard of, or is asked now what it says of itself: it is kept, unless the device gives no
+-- answer, or an instance is on record of it and it doesn't tell that one, or it tells one that is on record elsewhere.
+-- So the device of each log that is kept told the instance that is on record, if one is.
+pub record KeepsHeard {S P : Type 0} (rules : SocketRules S P) (known : List Log) (heard more : List Heard)
+    (wanted : Wanted)
     (before after : S) (old new : Database) (end : End) : Type 0 where
   pub said : Said
   pub half : S
   pub asked : IsIdentified rules heard wanted before said half
   pub on_record : Option ℕ
   pub on_record_is : IsOnRecord known wanted.source on_record
-  pub kept : KeepsUnless rules known wanted said.told (hindrance known heard wanted.source on_record said.identity) half after old new end
+  pub kept : KeepsUnless rules known wanted said.told (hindrance known heard wanted.source on_record said.identity) half
+      after old new end
   pub heard_is : more ≡ heard_with heard wanted.source said end.why
 
 -- a log is passed over if its device gave no answer before; of any other the device is asked who it is, unless it was
-abbrev pub KeepsNext : {S P : Type 0} → SocketRules S P → List Log → List Heard → List Heard → Wanted → S → S → Database → Database → End → Type 0
+abbrev pub KeepsNext : {S P : Type 0} → SocketRules S P → List Log → List Heard → List Heard → Wanted → S → S → Database
+    → Database → End → Type 0
 KeepsNext rules known heard more wanted before after old new end = MatchBool (is_silent heard wanted.source)
     (PassesOver known wanted NotAsked before after old new end × (more ≡ heard))
     (KeepsHeard rules known heard more wanted before after old new end)
 
--- Logs are kept in their order, each run over the archive that the one before left, and what was heard of devices then is
--- known behind it.
-abbrev pub KeepsAll : {S P : Type 0} → SocketRules S P → List Log → List Heard → List Heard → List Wanted → S → S → Database → Database → List End → Type 0
+-- Logs are kept in their order, each run over the archive that the one before left, and what was heard of devices then
+-- is known behind it.
+abbrev pub KeepsAll : {S P : Type 0} → SocketRules S P → List Log → List Heard → List Heard → List Wanted → S → S
+    → Database → Database → List End → Type 0
 KeepsAll rules known heard last [] before after old new [] = (new ≡ old) × (after ≡ before) × (last ≡ heard)
 KeepsAll {S = S} rules known heard last (wanted ∷ more) before after old new (end ∷ ends) =
     (mid : Database) × (half : S) × (now : List Heard) × KeepsNext rules known heard now wanted before half old mid end
     × KeepsAll rules known now last more half after mid new ends
 KeepsAll rules known heard last _ before after old new _ = ⊥
 
--- So are they in a run: first it is found whether the device of the first one has moved, and then they are kept in an archive
--- that has these logs, with what was heard of that device.
+-- So are they in a run: first it is found whether the device of the first one has moved, and then they are kept in an
+-- archive that has these logs, with what was heard of that device.
 abbrev pub KeepsLogs : {S P : Type 0} → SocketRules S P → List Wanted → S → S → Database → Database → List End → Type 0
 KeepsLogs {S = S} rules all before after old new ends =
     (known : List Log) × AreLogs old.trees known × (heard : List Heard) × (half : S) × (mid : Database)
     × Settles rules known all before heard half old mid
-    × (now : List Log) × AreLogs mid.trees now × (last : List Heard) × KeepsAll rules now heard last all half after mid new ends
+    × (now : List Log) × AreLogs mid.trees now × (last : List Heard)
+    × KeepsAll rules now heard last all half after mid new ends
 
 -- the lines of logs, in their order
 abbrev pub lines_of : List Wanted → List End → List ℕ

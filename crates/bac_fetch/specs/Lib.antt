@@ -14,3 +14,5 @@ pub mod Stays
 pub mod Unfound
 pub mod Faults
 pub mod Keeps
+pub mod Causes
+pub mod Told

@@ -1,5 +1,6 @@
 -- A device that has moved: it tells at one place the instance that is on record of logs at another.
-use Rattle.std.specs.Prelude.{◌≡◌, ◌==◌, ◌&&◌, ℕ, pos, Bool, true, false, MatchBool, if◌then◌else◌, List, [], ◌∷◌, ◌++◌, map, Option, None, Some}
+use Rattle.std.specs.Prelude.{◌≡◌, ◌==◌, ◌&&◌, ℕ, pos, Bool, true, false, MatchBool, if◌then◌else◌, List, [], ◌∷◌, ◌++◌}
+use Rattle.std.specs.Prelude.{map, Option, None, Some}
 use Rattle.std.specs.List.{Contains, filter, list_any}
 use Rattle.std.specs.String.{string_bytes}
 use Rattle.sqlite.specs.Effect.{Database}
@@ -37,7 +38,8 @@ stands device from log = of_device device log && is_same_device log.source from
 
 -- the columns of a log that stands at the place of this one from now on
 abbrev pub moved_columns : Source → Log → Values
-moved_columns to log = Int (pos log.id) ∷ Text (string_bytes to.address) ∷ Int (pos to.dnet) ∷ Text (string_bytes to.dadr)
+moved_columns to log = Int (pos log.id) ∷ Text (string_bytes to.address) ∷ Int (pos to.dnet)
+    ∷ Text (string_bytes to.dadr)
     ∷ Int (pos log.source.instance) ∷ or_null (λ name. Text (string_bytes name)) log.name
     ∷ (told_values log.told ++ flag log.stopped)
 
@@ -49,42 +51,52 @@ moved_of device from to log = if stands device from log then moved_columns to lo
 abbrev pub AreMoved : ℕ → Source → Source → List Log → List Log → Type 0
 AreMoved device from to known moved = map log_columns moved ≡ map (moved_columns to) (filter (stands device from) known)
 
--- Where the old place is asked and tells the instance, too, two devices have it, and nothing changes. Else the logs that
--- stand there stand at the new place from now on, and nothing else changes.
+-- Where the old place is asked and tells the instance, too, two devices have it, and nothing changes. Else the logs
+-- that stand there stand at the new place from now on, and nothing else changes.
 abbrev pub MovesUnless : ℕ → Source → Source → List Log → Identity → Database → Database → Type 0
 MovesUnless device from to known there old new = MatchBool (is_told device there) (new ≡ old)
     ((moved : List Log) × AreMoved device from to known moved × HasChangedLogs old new moved)
 
 -- the old place is asked
-abbrev pub AsksThere : {S P : Type 0} → SocketRules S P → ℕ → Source → Source → List Log → S → S → Database → Database → Type 0
+abbrev pub AsksThere : {S P : Type 0} → SocketRules S P → ℕ → Source → Source → List Log → S → S → Database → Database
+    → Type 0
 AsksThere rules device from to known before after old new =
     (there : Wanted) × AsksItsSource there × (is_same_device there.source from ≡ true)
-    × (said : Said) × Identifies rules there.asking before said after × MovesUnless device from to known said.identity old new
+    × (said : Said) × Identifies rules there.asking before said after
+    × MovesUnless device from to known said.identity old new
 
 -- if there is one
-abbrev pub AsksIf : {S P : Type 0} → SocketRules S P → ℕ → Option Log → Source → List Log → S → S → Database → Database → Type 0
+abbrev pub AsksIf : {S P : Type 0} → SocketRules S P → ℕ → Option Log → Source → List Log → S → S → Database → Database
+    → Type 0
 AsksIf rules device None to known before after old new = (after ≡ before) × (new ≡ old)
-AsksIf rules device (Some log) to known before after old new = AsksThere rules device log.source to known before after old new
+AsksIf rules device (Some log) to known before after old new =
+    AsksThere rules device log.source to known before after old new
 
 -- a device that tells its instance at a place of which no log is on record
-abbrev pub SettlesBy : {S P : Type 0} → SocketRules S P → List Log → Source → Identity → S → S → Database → Database → Type 0
+abbrev pub SettlesBy : {S P : Type 0} → SocketRules S P → List Log → Source → Identity → S → S → Database → Database
+    → Type 0
 SettlesBy rules known to (Told device) before after old new =
     (log : Option Log) × IsElsewhere known to device log × AsksIf rules device log to known before after old new
 SettlesBy rules known to identity before after old new = (after ≡ before) × (new ≡ old)
 
 -- the device of a log is asked what it says of itself, which is heard then, and whether it has moved is settled
-abbrev pub SettlesFirst : {S P : Type 0} → SocketRules S P → List Log → Wanted → S → Heard → S → Database → Database → Type 0
+abbrev pub SettlesFirst : {S P : Type 0} → SocketRules S P → List Log → Wanted → S → Heard → S → Database → Database
+    → Type 0
 SettlesFirst {S = S} rules known first before one after old new =
-    (mid : S) × Identifies rules first.asking before one.said mid × (one.was_told ≡ false) × (is_same_device one.source first.source ≡ true)
+    (mid : S) × Identifies rules first.asking before one.said mid × (one.was_told ≡ false)
+    × (is_same_device one.source first.source ≡ true)
     × SettlesBy rules known first.source one.said.identity mid after old new
 
 -- unless a log of that device is on record: then nothing is asked
-abbrev pub SettlesUnless : {S P : Type 0} → SocketRules S P → List Log → Wanted → S → List Heard → S → Database → Database → Type 0
+abbrev pub SettlesUnless : {S P : Type 0} → SocketRules S P → List Log → Wanted → S → List Heard → S → Database
+    → Database → Type 0
 SettlesUnless rules known first before heard after old new = MatchBool (is_placed known first.source)
     ((heard ≡ []) × (after ≡ before) × (new ≡ old))
     ((one : Heard) × (heard ≡ one ∷ []) × SettlesFirst rules known first before one after old new)
 
 -- so it is with the first of some logs before they are kept
-abbrev pub Settles : {S P : Type 0} → SocketRules S P → List Log → List Wanted → S → List Heard → S → Database → Database → Type 0
+abbrev pub Settles : {S P : Type 0} → SocketRules S P → List Log → List Wanted → S → List Heard → S → Database
+    → Database → Type 0
 Settles rules known [] before heard after old new = (heard ≡ []) × (after ≡ before) × (new ≡ old)
-Settles rules known (first ∷ more) before heard after old new = SettlesUnless rules known first before heard after old new
+Settles rules known (first ∷ more) before heard after old new =
+    SettlesUnless rules known first before heard after old new

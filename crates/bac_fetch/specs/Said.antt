@@ -48,8 +48,8 @@ IsIdentity (Err (fault.Refused refusal)) identity = identity ≡ Untold
 IsIdentity (Err fault.BadReply) identity = identity ≡ Untold
 IsIdentity (Err fault.TooLong) identity = ⊥
 
--- What an answer to the question for the restart says: the octets of its value, in hexadecimal digits; or nothing, as if
--- it is refused; or none came.
+-- What an answer to the question for the restart says: the octets of its value, in hexadecimal digits; or nothing, as
+-- if it is refused; or none came.
 abbrev pub IsRestart : Result (List ℕ) ExchangeFault → Restart → Type 0
 IsRestart (Ok answer) (restart.Told digits) =
     (values : List ℕ) × (values_in (apdu_in answer) ≡ Some values) × (string_bytes digits ≡ encode_lower values)
@@ -61,7 +61,8 @@ IsRestart (Err fault.BadReply) told = told ≡ restart.Untold
 IsRestart (Err fault.TooLong) told = ⊥
 
 -- a device was asked for its Time_Of_Device_Restart (203, clause 12.11) over a link
-abbrev pub AsksRestart : {S : Type 0} → (S → List ℕ → Result (List ℕ) Loss → S → Type 0) → Path → ℕ → S → Id → Restart → S → Type 0
+abbrev pub AsksRestart : {S : Type 0} → (S → List ℕ → Result (List ℕ) Loss → S → Type 0) → Path → ℕ → S → Id → Restart
+    → S → Type 0
 AsksRestart asks path retries old device told new =
     (answer : Result (List ℕ) ExchangeFault) × IsRestart answer told
     × Reads asks path retries (record { object = device; property = 203; index = None }) old answer new
@@ -76,7 +77,8 @@ silent = record { identity = Lost; told = nothing_told }
 
 -- what a device says that told its instance, its restart if it did, and its revision
 abbrev pub says_all : ℕ → Option (String Global) → Option ℕ → Said
-says_all n restarted revision = record { identity = Told n; told = record { device = Some n; restart = restarted; revision = revision } }
+says_all n restarted revision =
+    record { identity = Told n; told = record { device = Some n; restart = restarted; revision = revision } }
 
 -- what it says with this answer to the question for its revision; without one it is silent
 abbrev pub says_by : ℕ → Option (String Global) → Count → Said
@@ -85,26 +87,35 @@ says_by n restarted count.Untold = says_all n restarted None
 says_by n restarted (count.Told revision) = says_all n restarted (Some revision)
 
 -- behind the question for its restart a device is asked for its Database_Revision (155, clause 12.11)
-abbrev pub SaysBehind : {S : Type 0} → (S → List ℕ → Result (List ℕ) Loss → S → Type 0) → Path → ℕ → S → Id → Option (String Global) → Said →
+abbrev pub SaysBehind : {S : Type 0} → (S → List ℕ → Result (List ℕ) Loss → S → Type 0) → Path → ℕ → S → Id
+    → Option (String Global) → Said →
     S → Type 0
 SaysBehind asks path retries link device restarted said left =
-    (revision : Count) × AsksFor asks path retries link device 155 revision left × (said ≡ says_by device.instance restarted revision)
+    (revision : Count) × AsksFor asks path retries link device 155 revision left
+    × (said ≡ says_by device.instance restarted revision)
 
 -- but not if no answer came to that one
-abbrev pub SaysAfter : {S : Type 0} → (S → List ℕ → Result (List ℕ) Loss → S → Type 0) → Path → ℕ → S → Id → Restart → Said → S → Type 0
+abbrev pub SaysAfter : {S : Type 0} → (S → List ℕ → Result (List ℕ) Loss → S → Type 0) → Path → ℕ → S → Id → Restart
+    → Said → S → Type 0
 SaysAfter asks path retries link device restart.Lost said left = (said ≡ silent) × (left ≡ link)
-SaysAfter asks path retries link device restart.Untold said left = SaysBehind asks path retries link device None said left
-SaysAfter asks path retries link device (restart.Told digits) said left = SaysBehind asks path retries link device (Some digits) said left
+SaysAfter asks path retries link device restart.Untold said left =
+    SaysBehind asks path retries link device None said left
+SaysAfter asks path retries link device (restart.Told digits) said left =
+    SaysBehind asks path retries link device (Some digits) said left
 
 -- what a device says that told its instance: it is asked for its restart and for its revision
-abbrev pub SaysMore : {S : Type 0} → (S → List ℕ → Result (List ℕ) Loss → S → Type 0) → Path → ℕ → S → Id → Said → S → Type 0
+abbrev pub SaysMore : {S : Type 0} → (S → List ℕ → Result (List ℕ) Loss → S → Type 0) → Path → ℕ → S → Id → Said → S
+    → Type 0
 SaysMore {S = S} asks path retries link device said left =
-    (told : Restart) × (mid : S) × AsksRestart asks path retries link device told mid × SaysAfter asks path retries mid device told said left
+    (told : Restart) × (mid : S) × AsksRestart asks path retries link device told mid
+    × SaysAfter asks path retries mid device told said left
 
 -- one that didn't isn't asked for more
-abbrev pub SaysAs : {S : Type 0} → (S → List ℕ → Result (List ℕ) Loss → S → Type 0) → Path → ℕ → S → Identity → Said → S → Type 0
+abbrev pub SaysAs : {S : Type 0} → (S → List ℕ → Result (List ℕ) Loss → S → Type 0) → Path → ℕ → S → Identity → Said → S
+    → Type 0
 SaysAs asks path retries link (Told n) said left = SaysMore asks path retries link (itself_of n) said left
-SaysAs asks path retries link identity said left = (said.identity ≡ identity) × (said.told ≡ nothing_told) × (left ≡ link)
+SaysAs asks path retries link identity said left = (said.identity ≡ identity) × (said.told ≡ nothing_told)
+    × (left ≡ link)
 
 -- what a device says of itself over a link, whoever answers: it is asked for its instance first
 abbrev pub Says : {S : Type 0} → (S → List ℕ → Result (List ℕ) Loss → S → Type 0) → Path → ℕ → S → Said → S → Type 0

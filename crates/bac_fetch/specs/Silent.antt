@@ -11,12 +11,14 @@ use Rattle.bac_asked.specs.declared.end.Ending.TheVariants.{Walk}
 
 -- two logs are of one device: it has the same address, and behind a router the same network and address there
 abbrev pub is_same_device : Source → Source → Bool
-is_same_device one other = string_eq one.address other.address && ((one.dnet == other.dnet) && string_eq one.dadr other.dadr)
+is_same_device one other = string_eq one.address other.address
+    && ((one.dnet == other.dnet) && string_eq one.dadr other.dadr)
 
 -- and they are one log
 abbrev pub is_same_log : Source → Source → Bool
 is_same_log one other =
-    string_eq one.address other.address && ((one.dnet == other.dnet) && (string_eq one.dadr other.dadr && (one.instance == other.instance)))
+    string_eq one.address other.address
+    && ((one.dnet == other.dnet) && (string_eq one.dadr other.dadr && (one.instance == other.instance)))
 
 -- a run over a log ended since no answer came
 abbrev pub is_lost : Ending → Bool

@@ -22,7 +22,8 @@ use Rattle.bac_fetch.specs.declared.stands.Stand.TheVariants.{Behind, At}
 abbrev pub IsLastOf : ℕ → List Beginning → Option Beginning → Type 0
 IsLastOf log all None = (b : Beginning) → Contains all b → b.log ≡ log → ⊥
 IsLastOf log all (Some b) =
-    Contains all b × (b.log ≡ log) × ((other : Beginning) → Contains all other → other.log ≡ log → other.epoch ≤ b.epoch)
+    Contains all b × (b.log ≡ log) × ((other : Beginning) → Contains all other → other.log ≡ log
+    → other.epoch ≤ b.epoch)
 
 -- the beginning of a log's last epoch in an archive, or that none has begun
 abbrev pub BeganLast : ℕ → Trees → Option Beginning → Type 0
@@ -64,8 +65,8 @@ octets (Some text) = string_bytes text
 abbrev pub number_before : ℕ → ℕ
 number_before number = if nat_le number 1 then 4294967295 else number - 1
 
--- The record that a log stands behind: its newest item, of which there are no texts if it is a gap; or the one before its
--- beginning. That wasn't held when the epoch began, so if it is held later, it is of a log that began anew.
+-- The record that a log stands behind: its newest item, of which there are no texts if it is a gap; or the one before
+-- its beginning. That wasn't held when the epoch began, so if it is held later, it is of a log that began anew.
 abbrev pub kept_last : Stand → KeptAs
 kept_last (Behind last) = record {
   number = last.item.number;
@@ -95,7 +96,7 @@ abbrev pub epoch_of : Stand → ℕ
 epoch_of (Behind last) = last.item.epoch
 epoch_of (At begun) = begun.epoch
 
--- what a device's word says of a log that stands there: before the number 1 nothing was logged, so that nothing can have
--- begun anew
+-- what a device's word says of a log that stands there: before the number 1 nothing was logged, so that nothing can
+-- have begun anew
 abbrev pub word_at : Stand → Word → Word
 word_at stand word = if begins_at_one stand then Same else word

@@ -1,5 +1,6 @@
 -- Where a run over a log begins.
-use Rattle.std.specs.Prelude.{◌≡◌, ◌⊎◌, ◌+◌, ◌*◌, ◌<◌, ◌≤◌, ◌^◌, ◌==◌, ◌++◌, not, if◌then◌else◌, MatchBool, ℕ, Bool, true, false}
+use Rattle.std.specs.Prelude.{◌≡◌, ◌⊎◌, ◌+◌, ◌*◌, ◌<◌, ◌≤◌, ◌^◌, ◌==◌, ◌++◌, not, if◌then◌else◌, MatchBool, ℕ, Bool}
+use Rattle.std.specs.Prelude.{true, false}
 use Rattle.std.specs.Prelude.{List, [], ◌∷◌, map, Option, None, Some, Result, Ok, Err}
 use Rattle.sqlite_trees.specs.Tree.{Trees}
 use Rattle.bac_wire.specs.Primitive.{Id}
@@ -59,13 +60,15 @@ IsCount (Err fault.BadReply) count = count ≡ Untold
 IsCount (Err fault.TooLong) count = ⊥
 
 -- a property of an object was asked for over a link, and so its count was told, whoever answered
-abbrev pub AsksFor : {S : Type 0} → (S → List ℕ → Result (List ℕ) Loss → S → Type 0) → Path → ℕ → S → Id → ℕ → Count → S → Type 0
+abbrev pub AsksFor : {S : Type 0} → (S → List ℕ → Result (List ℕ) Loss → S → Type 0) → Path → ℕ → S → Id → ℕ → Count → S
+    → Type 0
 AsksFor asks path retries old object property count new =
     (answer : Result (List ℕ) ExchangeFault) × IsCount answer count
     × Reads asks path retries (record { object = object; property = property; index = None }) old answer new
 
 -- so was the Total_Record_Count of a log (145, clause 12.25)
-abbrev pub Counts : {S : Type 0} → (S → List ℕ → Result (List ℕ) Loss → S → Type 0) → Path → ℕ → S → Id → Count → S → Type 0
+abbrev pub Counts : {S : Type 0} → (S → List ℕ → Result (List ℕ) Loss → S → Type 0) → Path → ℕ → S → Id → Count → S
+    → Type 0
 Counts asks path retries old log count new = AsksFor asks path retries old log 145 count new
 
 -- the number from which a log's first epoch covers each one if it holds nothing: the one behind its count, or 1
@@ -78,7 +81,8 @@ begins_behind Lost = 1
 
 -- nothing was kept in a run that ended so, and this number comes next
 abbrev pub KeepsNone : Ending → ℕ → End → Type 0
-KeepsNone why next end = (end.records ≡ 0) × (end.gaps ≡ 0) × (end.why ≡ why) × (end.next ≡ next) × (end.began ≡ began.GoesOn)
+KeepsNone why next end = (end.records ≡ 0) × (end.gaps ≡ 0) × (end.why ≡ why) × (end.next ≡ next)
+    × (end.began ≡ began.GoesOn)
 
 -- a run ends so before it begins to keep
 abbrev pub Ends : Ending → ℕ → Result Start End → Type 0
@@ -189,8 +193,8 @@ OpensBehind from gap (Ok hand) next begun = MatchBool (hand.gathered.step.record
     (Ends (Walk why.CaughtUp) next begun) (BeginsBehind from gap hand begun)
 OpensBehind from gap (Err ending) next begun = Ends ending next begun
 
--- Both are kept: a gap in the epoch in which the log would go on, up to the oldest record, and behind it a new epoch from
--- where the log begins if it began anew.
+-- Both are kept: a gap in the epoch in which the log would go on, up to the oldest record, and behind it a new epoch
+-- from where the log begins if it began anew.
 abbrev pub IsEither : {S : Type 0} → (S → List ℕ → Result (List ℕ) Loss → S → Type 0) → Path → ℕ → S → Id → (many : ℕ) →
     Stand → Place → ℕ → Result Start End → S → Type 0
 IsEither asks path retries link object many stand from oldest begun left =
@@ -204,8 +208,8 @@ IsEither asks path retries link object many stand from oldest begun left =
 -- ---- the one rule
 
 -- The oldest are asked for where what is in hand ends with a question that brought none, as in each step of a walk; but
--- not if the record that was kept last is held as it is kept, which tells already that there is no more: who holds it held
--- nothing behind it before (AskedTellsCaughtUp of bac_keep says so of just these questions).
+-- not if the record that was kept last is held as it is kept, which tells already that there is no more: who holds it
+-- held nothing behind it before (AskedTellsCaughtUp of bac_keep says so of just these questions).
 abbrev pub asks_oldest_next : Seen → Ended → Bool
 asks_oldest_next seen.Same how = false
 asks_oldest_next other ended.CaughtUp = true
@@ -251,7 +255,8 @@ asks_count stand seen.Nothing = not (begins_at_one stand)
 asks_count stand other = false
 
 -- it is asked for where it decides
-abbrev pub CountsWhere : {S : Type 0} → (S → List ℕ → Result (List ℕ) Loss → S → Type 0) → Path → ℕ → S → Id → Bool → Count → S → Type 0
+abbrev pub CountsWhere : {S : Type 0} → (S → List ℕ → Result (List ℕ) Loss → S → Type 0) → Path → ℕ → S → Id → Bool
+    → Count → S → Type 0
 CountsWhere asks path retries link object true count left = Counts asks path retries link object count left
 CountsWhere asks path retries link object false count left = (count ≡ Untold) × (left ≡ link)
 

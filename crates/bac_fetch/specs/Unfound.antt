@@ -43,6 +43,7 @@ FailsToFind {S = S} reads old fault new = LacksNumber reads (list_at 0) old faul
 abbrev pub FailsOver : {S P : Type 0} → SocketRules S P → Asking → S → ExchangeFault → S → Type 0
 FailsOver {P = P} rules asking before fault after =
     UsesSocket rules (own_address asking.asked.local) asking.asked.timeout before
-    (λ port last. (left : UdpLink P) × FailsToFind (Reads (socket_asks rules) (towards asking.asked.route) asking.asked.retries)
+    (λ port last. (left : UdpLink P)
+    × FailsToFind (Reads (socket_asks rules) (towards asking.asked.route) asking.asked.retries)
     (link_over asking.asked.address port) fault left × (last ≡ left.port))
     after

@@ -1,5 +1,6 @@
 -- Whose records these are: which device a log is of, and whether its records are fetched then.
-use Rattle.std.specs.Prelude.{◌≡◌, ◌⊎◌, ◌==◌, ◌&&◌, ◌||◌, not, ℕ, Bool, true, false, if◌then◌else◌, List, ◌∷◌, [], ◌++◌, Option, None, Some, option_map, unwrap_or}
+use Rattle.std.specs.Prelude.{◌≡◌, ◌⊎◌, ◌==◌, ◌&&◌, ◌||◌, not, ℕ, Bool, true, false, if◌then◌else◌, List, ◌∷◌, [], ◌++◌}
+use Rattle.std.specs.Prelude.{Option, None, Some, option_map, unwrap_or}
 use Rattle.std.specs.List.{Contains, list_any}
 use Rattle.bac_ports.specs.Sockets.{SocketRules}
 use Rattle.bac_walk.specs.declared.outcome.WalkFault.TheVariants as walk
@@ -40,11 +41,16 @@ IsIdentified rules heard wanted before said after =
     (IsHeard heard wanted.source said × (after ≡ before))
     ⊎ ((is_heard heard wanted.source ≡ false) × Identifies rules wanted.asking before said after)
 
--- The devices that were heard of behind a log whose device says this, and whose run ended so: with it, if it wasn't among
--- them, or if it gave no answer.
+-- The devices that were heard of behind a log whose device says this, and whose run ended so: with it, if it wasn't
+-- among them, or if it gave no answer.
 abbrev pub heard_with : List Heard → Source → Said → Ending → List Heard
-heard_with heard source said ended = if is_lost ended then heard ++ record { source = source; said = silent; was_told = true } ∷ []
-    else (if is_heard heard source then heard else heard ++ record { source = source; said = said; was_told = false } ∷ [])
+heard_with heard source said ended =
+    if is_lost ended then heard ++ record { source = source; said = silent; was_told = true } ∷ []
+    else (if is_heard heard source then heard else heard ++ record {
+      source = source;
+      said = said;
+      was_told = false;
+    } ∷ [])
 
 -- the instance that is on record of a log's device, by one of its logs; or that none is
 abbrev pub IsOnRecord : List Log → Source → Option ℕ → Type 0
@@ -77,17 +83,18 @@ is_told device _ = false
 
 -- another device than a log's told this instance in this run
 abbrev pub told_elsewhere : List Heard → Source → ℕ → Bool
-told_elsewhere heard source device = list_any (λ (one : Heard). is_told device one.said.identity && not (is_same_device one.source source)) heard
+told_elsewhere heard source device =
+    list_any (λ (one : Heard). is_told device one.said.identity && not (is_same_device one.source source)) heard
 
--- Why the log of a device that tells this instance isn't fetched: another one is on record of it; or none is, and this one is
--- on record of another device, or was told by another in this run.
+-- Why the log of a device that tells this instance isn't fetched: another one is on record of it; or none is, and this
+-- one is on record of another device, or was told by another in this run.
 abbrev pub told_one : List Log → List Heard → Source → Option ℕ → ℕ → Option Ending
 told_one known heard source None told =
     if is_elsewhere known source told || told_elsewhere heard source told then Some (Twice told) else None
 told_one known heard source (Some kept) told = if kept == told then None else Some (Other (Some told) kept)
 
--- Why a log isn't fetched, if it isn't: its device gave no answer; or an instance is on record of it, and it told another
--- one, or none; or it told one that is another device's.
+-- Why a log isn't fetched, if it isn't: its device gave no answer; or an instance is on record of it, and it told
+-- another one, or none; or it told one that is another device's.
 abbrev pub hindrance : List Log → List Heard → Source → Option ℕ → Identity → Option Ending
 hindrance known heard source kept Lost = Some (Walk (why.Fault walk.Lost))
 hindrance known heard source kept (Told n) = told_one known heard source kept n

@@ -5,7 +5,8 @@ ghost use Rattle.bac_link.specs.Path.{towards};
 ghost use Rattle.bac_walk.specs.declared.outcome.Ended.TheVariants.{StepLimit};
 ghost use Rattle.bac_asked.specs.declared.end.Ending.{Ending as EndingOf};
 ghost use Rattle.bac_asked.specs.Faults.{WantsMemory};
-ghost use Rattle.bac_fetch.specs.Hands.{GoesAhead, IsPutBehind, LooksAhead, TakesAnswer, TakesMore, steps_of};
+ghost use Rattle.bac_fetch.specs.Hands.{GoesAhead, IsPutBehind, LooksAhead, TakesAnswer, TakesMore};
+ghost use Rattle.bac_fetch.specs.Hands.{steps_of};
 ghost use Rattle.bac_fetch.specs.Starts.{BeginsWith, GoesOn, asks_oldest_next};
 
 use crate::hands::Hand;
@@ -55,7 +56,8 @@ fn take_answer<L: LogLink>(
 ) -> Result<Result<Hand, Ending>, NotDone>
     ensures retries { transactions.new.retries ≡ transactions.old.retries }
     ensures route { transactions.new.route ≡ transactions.old.route }
-    ensures takes { IfOk result (λ hand. TakesAnswer L.asks (towards transactions.old.route) transactions.old.retries place free link.old walk hand link.new) }
+    ensures takes { IfOk result (λ hand. TakesAnswer L.asks (towards transactions.old.route)
+        transactions.old.retries place free link.old walk hand link.new) }
     ensures fault { IfErr result WantsMemory }
 {
     match gather_answer(alloc, link, transactions, &mut walk, place, free) {
@@ -75,7 +77,8 @@ fn take_answer<L: LogLink>(
 
 /// The counts of two questions, as those of one; it ended as the second did.
 fn sum_of(step: KeptStep, more: KeptStep) -> Result<KeptStep, NotDone>
-    ensures sum { IfOk result (λ it. (it.records ≡ step.records + more.records) × (it.gaps ≡ step.gaps + more.gaps) × (it.ended ≡ more.ended)) }
+    ensures sum { IfOk result (λ it. (it.records ≡ step.records + more.records)
+        × (it.gaps ≡ step.gaps + more.gaps) × (it.ended ≡ more.ended)) }
     ensures fault { IfErr result WantsMemory }
 {
     let (Some(records), Some(gaps)) = (
@@ -167,7 +170,8 @@ fn take_more<L: LogLink>(
 ) -> Result<Hand, NotDone>
     ensures retries { transactions.new.retries ≡ transactions.old.retries }
     ensures route { transactions.new.route ≡ transactions.old.route }
-    ensures takes { IfOk result (λ all. TakesMore L.asks (towards transactions.old.route) transactions.old.retries link.old hand all link.new) }
+    ensures takes { IfOk result (λ all. TakesMore L.asks (towards transactions.old.route)
+        transactions.old.retries link.old hand all link.new) }
     ensures fault { IfErr result WantsMemory }
 {
     let walk = hand.walk.copy();
@@ -189,7 +193,8 @@ fn take_second<L: LogLink>(
 ) -> Result<Hand, NotDone>
     ensures retries { transactions.new.retries ≡ transactions.old.retries }
     ensures route { transactions.new.route ≡ transactions.old.route }
-    ensures goes { IfOk result (λ all. GoesAhead L.asks (towards transactions.old.route) transactions.old.retries link.old hand steps StepLimit (Ok all) link.new) }
+    ensures goes { IfOk result (λ all. GoesAhead L.asks (towards transactions.old.route)
+        transactions.old.retries link.old hand steps StepLimit (Ok all) link.new) }
     ensures fault { IfErr result WantsMemory }
 {
     if may_take_more(steps) {
@@ -209,7 +214,8 @@ fn go_ahead<L: LogLink>(
 ) -> Result<Result<Hand, Ending>, NotDone>
     ensures retries { transactions.new.retries ≡ transactions.old.retries }
     ensures route { transactions.new.route ≡ transactions.old.route }
-    ensures goes { IfOk result (λ ahead. GoesAhead L.asks (towards transactions.old.route) transactions.old.retries link.old hand steps hand.gathered.step.ended ahead link.new) }
+    ensures goes { IfOk result (λ ahead. GoesAhead L.asks (towards transactions.old.route)
+        transactions.old.retries link.old hand steps hand.gathered.step.ended ahead link.new) }
     ensures fault { IfErr result WantsMemory }
 {
     match hand.gathered.step.ended {
@@ -232,7 +238,8 @@ pub(crate) fn look_ahead<L: LogLink>(
 ) -> Result<Result<Hand, Ending>, NotDone>
     ensures retries { transactions.new.retries ≡ transactions.old.retries }
     ensures route { transactions.new.route ≡ transactions.old.route }
-    ensures looks { IfOk result (λ ahead. LooksAhead L.asks (towards transactions.old.route) transactions.old.retries place free link.old walk steps ahead link.new) }
+    ensures looks { IfOk result (λ ahead. LooksAhead L.asks (towards transactions.old.route)
+        transactions.old.retries place free link.old walk steps ahead link.new) }
     ensures fault { IfErr result WantsMemory }
 {
     match take_answer(alloc, link, transactions, walk, place, free)? {
@@ -264,7 +271,8 @@ pub(crate) fn go_on<L: LogLink>(
 ) -> Result<Result<Start, End>, NotDone>
     ensures retries { transactions.new.retries ≡ transactions.old.retries }
     ensures route { transactions.new.route ≡ transactions.old.route }
-    ensures goes { IfOk result (λ begun. GoesOn L.asks (towards transactions.old.route) transactions.old.retries link.old hand seen begun link.new) }
+    ensures goes { IfOk result (λ begun. GoesOn L.asks (towards transactions.old.route)
+        transactions.old.retries link.old hand seen begun link.new) }
     ensures fault { IfErr result WantsMemory }
 {
     if asks_oldest_next(seen, hand.gathered.step.ended) {

@@ -4,7 +4,9 @@ ghost use Rattle.std.specs.Prelude.{◌≡◌, ◌⊎◌, Some, IfErr, IfOk, OnO
 ghost use Rattle.std.specs.List.{All};
 ghost use Rattle.bac_link.specs.Path.{towards};
 ghost use Rattle.bac_asked.specs.Faults.{WantsMemory};
-ghost use Rattle.bac_fetch.specs.Discovered.{AddsObject, Finds, FindsOver, FindsTo, Reads, ReadsName, ReadsNumber, ReadsObject, TellsName, name_of};
+ghost use Rattle.bac_fetch.specs.Discovered.{AddsObject, Finds, FindsOver, FindsTo, Reads};
+ghost use Rattle.bac_fetch.specs.Discovered.{ReadsName, ReadsNumber, ReadsObject, TellsName};
+ghost use Rattle.bac_fetch.specs.Discovered.{name_of};
 ghost use Rattle.bac_fetch.specs.Faults.{EndsFinding};
 ghost use Rattle.bac_fetch.specs.Unfound.{FailsToFind, LacksNumber, LacksObject, LacksPlace};
 ghost use Rattle.bac_ports.specs.Sockets.{socket_rules};
@@ -51,13 +53,19 @@ impl<L: LogLink> Station<L> {
 
     /// How many objects the device has.
     fn count(&mut self, device: ObjectId) -> Result<u32, NotDone>
-        ensures reads { IfOk result (λ count. ReadsNumber (Reads L.asks (towards self.old.transactions.route) self.old.transactions.retries)
-            (record { object = device; property = 76; index = Some 0 }) self.old.link count self.new.link) }
-        ensures retries { OnOk result (self.new.transactions.retries ≡ self.old.transactions.retries) }
+        ensures reads { IfOk result (λ count. ReadsNumber
+            (Reads L.asks (towards self.old.transactions.route) self.old.transactions.retries)
+            (record { object = device; property = 76; index = Some 0 }) self.old.link count
+            self.new.link) }
+        ensures retries { OnOk result
+            (self.new.transactions.retries ≡ self.old.transactions.retries) }
         ensures route { OnOk result (self.new.transactions.route ≡ self.old.transactions.route) }
-        ensures lacks { IfErr result (λ fault. (why : _) × (fault ≡ NotDone.Asking (Fault.Exchange self.old.address why))
-            × LacksNumber (Reads L.asks (towards self.old.transactions.route) self.old.transactions.retries)
-            (record { object = device; property = 76; index = Some 0 }) self.old.link why self.new.link) }
+        ensures lacks { IfErr result (λ fault. (why : _)
+            × (fault ≡ NotDone.Asking (Fault.Exchange self.old.address why))
+            × LacksNumber (Reads L.asks (towards self.old.transactions.route)
+            self.old.transactions.retries)
+            (record { object = device; property = 76; index = Some 0 }) self.old.link why
+            self.new.link) }
         ensures address { self.new.address ≡ self.old.address }
     {
         match read_number(
@@ -74,13 +82,19 @@ impl<L: LogLink> Station<L> {
 
     /// The object at a place of the list, from 1 on.
     fn object(&mut self, device: ObjectId, place: u32) -> Result<ObjectId, NotDone>
-        ensures reads { IfOk result (λ object. ReadsObject (Reads L.asks (towards self.old.transactions.route) self.old.transactions.retries)
-            (record { object = device; property = 76; index = Some place }) self.old.link object self.new.link) }
-        ensures retries { OnOk result (self.new.transactions.retries ≡ self.old.transactions.retries) }
+        ensures reads { IfOk result (λ object. ReadsObject
+            (Reads L.asks (towards self.old.transactions.route) self.old.transactions.retries)
+            (record { object = device; property = 76; index = Some place }) self.old.link object
+            self.new.link) }
+        ensures retries { OnOk result
+            (self.new.transactions.retries ≡ self.old.transactions.retries) }
         ensures route { OnOk result (self.new.transactions.route ≡ self.old.transactions.route) }
-        ensures lacks { IfErr result (λ fault. (why : _) × (fault ≡ NotDone.Asking (Fault.Exchange self.old.address why))
-            × LacksObject (Reads L.asks (towards self.old.transactions.route) self.old.transactions.retries)
-            (record { object = device; property = 76; index = Some place }) self.old.link why self.new.link) }
+        ensures lacks { IfErr result (λ fault. (why : _)
+            × (fault ≡ NotDone.Asking (Fault.Exchange self.old.address why))
+            × LacksObject (Reads L.asks (towards self.old.transactions.route)
+            self.old.transactions.retries)
+            (record { object = device; property = 76; index = Some place }) self.old.link
+            why self.new.link) }
         ensures address { self.new.address ≡ self.old.address }
     {
         let answer = match read(
@@ -101,9 +115,11 @@ impl<L: LogLink> Station<L> {
 
     /// The name of an object in Unicode, if the device tells one.
     fn name(&mut self, alloc: Global, object: ObjectId) -> Result<Option<String>, NotDone>
-        ensures reads { IfOk result (λ name. ReadsName (Reads L.asks (towards self.old.transactions.route) self.old.transactions.retries)
+        ensures reads { IfOk result (λ name. ReadsName
+            (Reads L.asks (towards self.old.transactions.route) self.old.transactions.retries)
             (name_of object) self.old.link name self.new.link) }
-        ensures retries { OnOk result (self.new.transactions.retries ≡ self.old.transactions.retries) }
+        ensures retries { OnOk result
+            (self.new.transactions.retries ≡ self.old.transactions.retries) }
         ensures route { OnOk result (self.new.transactions.route ≡ self.old.transactions.route) }
         ensures fault { IfErr result WantsMemory }
         ensures address { self.new.address ≡ self.old.address }
@@ -175,9 +191,11 @@ fn wanted_of<L: LogLink>(
     ensures asks { IfOk result AsksItsSource }
     ensures alike { IfOk result (λ wanted. IsAskedAs like.now wanted.asking) }
     ensures instance { IfOk result (λ wanted. wanted.asking.instance ≡ object.instance) }
-    ensures reads { IfOk result (λ wanted. ReadsName (Reads L.asks (towards device.old.transactions.route) device.old.transactions.retries)
+    ensures reads { IfOk result (λ wanted. ReadsName
+        (Reads L.asks (towards device.old.transactions.route) device.old.transactions.retries)
         (name_of object) device.old.link wanted.name device.new.link) }
-    ensures retries { OnOk result (device.new.transactions.retries ≡ device.old.transactions.retries) }
+    ensures retries { OnOk result
+        (device.new.transactions.retries ≡ device.old.transactions.retries) }
     ensures route { OnOk result (device.new.transactions.route ≡ device.old.transactions.route) }
     ensures fault { IfErr result WantsMemory }
     ensures address { device.new.address ≡ device.old.address }
@@ -203,10 +221,13 @@ fn add_object<L: LogLink>(
     all: &mut Vec<Wanted>,
 ) -> Result<(), NotDone>
     ensures asks { OnOk result (All AsksItsSource all.old.items → All AsksItsSource all.new.items) }
-    ensures alike { OnOk result (All (λ wanted. IsAskedAs like.now wanted.asking) all.old.items → All (λ wanted. IsAskedAs like.now wanted.asking) all.new.items) }
-    ensures adds { OnOk result (AddsObject (Reads L.asks (towards device.old.transactions.route) device.old.transactions.retries) object
-        device.old.link all.old.items all.new.items device.new.link) }
-    ensures retries { OnOk result (device.new.transactions.retries ≡ device.old.transactions.retries) }
+    ensures alike { OnOk result (All (λ wanted. IsAskedAs like.now wanted.asking) all.old.items
+        → All (λ wanted. IsAskedAs like.now wanted.asking) all.new.items) }
+    ensures adds { OnOk result (AddsObject
+        (Reads L.asks (towards device.old.transactions.route) device.old.transactions.retries)
+        object device.old.link all.old.items all.new.items device.new.link) }
+    ensures retries { OnOk result
+        (device.new.transactions.retries ≡ device.old.transactions.retries) }
     ensures route { OnOk result (device.new.transactions.route ≡ device.old.transactions.route) }
     ensures fault { IfErr result WantsMemory }
     ensures address { device.new.address ≡ device.old.address }
@@ -229,11 +250,16 @@ fn add_listed<L: LogLink>(
 ) -> Result<Vec<Wanted>, NotDone>
     requires { itself ≡ record { kind = 8; instance = 4194303 } }
     ensures asks { IfOk result (λ all. All AsksItsSource all.items) }
-    ensures alike { IfOk result (λ all. All (λ wanted. IsAskedAs like.now wanted.asking) all.items) }
-    ensures finds { IfOk result (λ all. FindsTo (Reads L.asks (towards device.old.transactions.route) device.old.transactions.retries) count
-        device.old.link all.items device.new.link) }
-    ensures lacks { IfErr result (λ fault. WantsMemory fault ⊎ ((why : _) × (fault ≡ NotDone.Asking (Fault.Exchange device.old.address why))
-        × LacksPlace (Reads L.asks (towards device.old.transactions.route) device.old.transactions.retries) count device.old.link why device.new.link)) }
+    ensures alike { IfOk result
+        (λ all. All (λ wanted. IsAskedAs like.now wanted.asking) all.items) }
+    ensures finds { IfOk result (λ all. FindsTo
+        (Reads L.asks (towards device.old.transactions.route) device.old.transactions.retries)
+        count device.old.link all.items device.new.link) }
+    ensures lacks { IfErr result (λ fault. WantsMemory fault
+        ⊎ ((why : _) × (fault ≡ NotDone.Asking (Fault.Exchange device.old.address why))
+        × LacksPlace (Reads L.asks (towards device.old.transactions.route)
+        device.old.transactions.retries) count device.old.link why
+        device.new.link)) }
 {
     let mut all = Vec::new(alloc);
     for place in 0..count {
@@ -250,11 +276,15 @@ fn find_all<L: LogLink>(
     like: &Asking,
 ) -> Result<Vec<Wanted>, NotDone>
     ensures asks { IfOk result (λ all. All AsksItsSource all.items) }
-    ensures alike { IfOk result (λ all. All (λ wanted. IsAskedAs like.now wanted.asking) all.items) }
-    ensures finds { IfOk result (λ all. Finds (Reads L.asks (towards device.old.transactions.route) device.old.transactions.retries)
+    ensures alike { IfOk result
+        (λ all. All (λ wanted. IsAskedAs like.now wanted.asking) all.items) }
+    ensures finds { IfOk result (λ all. Finds
+        (Reads L.asks (towards device.old.transactions.route) device.old.transactions.retries)
         device.old.link all.items device.new.link) }
-    ensures lacks { IfErr result (λ fault. WantsMemory fault ⊎ ((why : _) × (fault ≡ NotDone.Asking (Fault.Exchange device.old.address why))
-        × FailsToFind (Reads L.asks (towards device.old.transactions.route) device.old.transactions.retries) device.old.link why device.new.link)) }
+    ensures lacks { IfErr result (λ fault. WantsMemory fault
+        ⊎ ((why : _) × (fault ≡ NotDone.Asking (Fault.Exchange device.old.address why))
+        × FailsToFind (Reads L.asks (towards device.old.transactions.route)
+        device.old.transactions.retries) device.old.link why device.new.link)) }
 {
     let Some(itself) = ObjectId::new(DEVICE, ITSELF) else {
         return Err(NotDone::Asking(Fault::BadValue(Word::Instance)));
@@ -270,12 +300,17 @@ pub(crate) fn discover<S: Sockets>(
     like: &Asking,
 ) -> Result<Vec<Wanted>, NotDone>
     ensures asks { IfOk result (λ all. All AsksItsSource all.items) }
-    ensures alike { IfOk result (λ all. All (λ wanted. IsAskedAs like.now wanted.asking) all.items) }
+    ensures alike { IfOk result
+        (λ all. All (λ wanted. IsAskedAs like.now wanted.asking) all.items) }
     // They are those of the Object_List of the device that is asked, over a socket opened as asked,
     // and closed behind it.
-    ensures found { IfOk result (λ all. FindsOver (socket_rules S.opens S.closes S.Socket.sends S.Socket.receives S.Socket.receives_within) like.now sockets.old all.items sockets.new) }
+    ensures found { IfOk result (λ all. FindsOver
+        (socket_rules S.opens S.closes S.Socket.sends S.Socket.receives
+        S.Socket.receives_within) like.now sockets.old all.items sockets.new) }
     // Or it isn't asked, or doesn't tell its list.
-    ensures fault { IfErr result (EndsFinding (socket_rules S.opens S.closes S.Socket.sends S.Socket.receives S.Socket.receives_within) like.now sockets.old sockets.new) }
+    ensures fault { IfErr result (EndsFinding
+        (socket_rules S.opens S.closes S.Socket.sends S.Socket.receives
+        S.Socket.receives_within) like.now sockets.old sockets.new) }
 {
     let address = like.asked.address;
     let asked = asked_like(like, 0)?.asked;

@@ -1,6 +1,7 @@
 //! A run over a log of which nobody can tell whether it began anew or its clock was set back.
 
-ghost use Rattle.std.specs.Prelude.{◌≡◌, ◌≤◌, ◌+◌, ◌*◌, ◌++◌, List, map, IfNone, IfOk, IfSome, OnOk, IfErr};
+ghost use Rattle.std.specs.Prelude.{◌≡◌, ◌≤◌, ◌+◌, ◌*◌, ◌++◌, List, map, IfNone, IfOk, IfSome};
+ghost use Rattle.std.specs.Prelude.{OnOk, IfErr};
 ghost use Rattle.bac_archive.specs.Rows.{stored};
 ghost use Rattle.bac_link.specs.Path.{towards};
 ghost use Rattle.bac_link.specs.declared.item.Item.{Item};
@@ -51,11 +52,14 @@ fn row_of_gap(place: Place, first: u32, last: u32) -> Row
 
 /// The gap from a number up to another, which ends an epoch, if there is one behind it.
 fn missing_up_to(from: Place, next: u32, oldest: u32) -> Option<Missing>
-    ensures rows { IfSome result (λ it. stored_in it.first ++ stored_in it.second ≡ kept_rows (era from) (gap_up_to next oldest)) }
+    ensures rows { IfSome result (λ it. stored_in it.first ++ stored_in it.second
+        ≡ kept_rows (era from) (gap_up_to next oldest)) }
     ensures gaps { IfSome result (λ it. it.gaps ≡ gaps_among (gap_up_to next oldest)) }
     ensures log { IfSome result (λ it. it.place.log ≡ from.log) }
-    ensures behind { IfSome result (λ it. era it.place ≡ era_after (era from) (gap_up_to next oldest) + 1) }
-    ensures none { IfNone result (from.log * 32768 + 32767 ≤ era_after (era from) (gap_up_to next oldest)) }
+    ensures behind { IfSome result
+        (λ it. era it.place ≡ era_after (era from) (gap_up_to next oldest) + 1) }
+    ensures none { IfNone result
+        (from.log * 32768 + 32767 ≤ era_after (era from) (gap_up_to next oldest)) }
 {
     if next == oldest {
         return Some(Missing {
@@ -89,7 +93,8 @@ fn missing_up_to(from: Place, next: u32, oldest: u32) -> Option<Missing>
 
 /// Puts a row before others, if there is one.
 fn put_first(rows: &mut Vec<Row>, row: Option<Row>) -> Result<(), NotDone>
-    ensures put { OnOk result (map stored rows.new.items ≡ stored_in row ++ map stored rows.old.items) }
+    ensures put { OnOk result
+        (map stored rows.new.items ≡ stored_in row ++ map stored rows.old.items) }
     ensures fault { IfErr result WantsMemory }
 {
     let Some(row) = row else {
@@ -103,11 +108,14 @@ fn put_first(rows: &mut Vec<Row>, row: Option<Row>) -> Result<(), NotDone>
 
 /// Puts the rows of a gap before what is in hand.
 fn put_gap(hand: Hand, first: Option<Row>, second: Option<Row>, more: u64) -> Result<Hand, NotDone>
-    ensures rows { IfOk result (λ it. map stored it.gathered.rows.items ≡ (stored_in first ++ stored_in second) ++ map stored hand.gathered.rows.items) }
+    ensures rows { IfOk result (λ it. map stored it.gathered.rows.items
+        ≡ (stored_in first ++ stored_in second) ++ map stored hand.gathered.rows.items) }
     ensures records { IfOk result (λ it. it.gathered.step.records ≡ hand.gathered.step.records) }
     ensures gaps { IfOk result (λ it. it.gathered.step.gaps ≡ more + hand.gathered.step.gaps) }
     ensures ended { IfOk result (λ it. it.gathered.step.ended ≡ hand.gathered.step.ended) }
-    ensures place { IfOk result (λ it. (it.gathered.place ≡ hand.gathered.place) × (it.gathered.free ≡ hand.gathered.free) × (it.walk ≡ hand.walk) × (it.took ≡ hand.took)) }
+    ensures place { IfOk result (λ it. (it.gathered.place ≡ hand.gathered.place)
+        × (it.gathered.free ≡ hand.gathered.free) × (it.walk ≡ hand.walk)
+        × (it.took ≡ hand.took)) }
     ensures fault { IfErr result WantsMemory }
 {
     let Hand {
@@ -150,7 +158,8 @@ fn open_behind(
     hand: Result<Hand, Ending>,
     next: u32,
 ) -> Result<Result<Start, End>, NotDone>
-    ensures opened { (from : PlaceOf) (gap : List Item) → stored_in missing.first ++ stored_in missing.second ≡ kept_rows (era from) gap
+    ensures opened { (from : PlaceOf) (gap : List Item)
+        → stored_in missing.first ++ stored_in missing.second ≡ kept_rows (era from) gap
         → missing.gaps ≡ gaps_among gap → IfOk result (OpensBehind from gap hand next) }
     ensures fault { IfErr result WantsMemory }
 {
@@ -190,7 +199,8 @@ pub(crate) fn begin_either<L: LogLink>(
     requires { log.kind ≡ 20 }
     ensures retries { transactions.new.retries ≡ transactions.old.retries }
     ensures route { transactions.new.route ≡ transactions.old.route }
-    ensures either { IfOk result (λ begun. IsEither L.asks (towards transactions.old.route) transactions.old.retries link.old log many stand.now from oldest begun link.new) }
+    ensures either { IfOk result (λ begun. IsEither L.asks (towards transactions.old.route)
+        transactions.old.retries link.old log many stand.now from oldest begun link.new) }
     ensures fault { IfErr result WantsMemory }
 {
     let next = number_behind(last_kept(stand).number);

@@ -1,13 +1,16 @@
 //! A log as a run over it begins: how its row is to be, and how it is on record.
 
-ghost use Rattle.std.specs.Prelude.{◌≡◌, false, if◌then◌else◌, option_map, IfOk, OnOk, IfErr};
+ghost use Rattle.std.specs.Prelude.{◌≡◌, false, if◌then◌else◌, option_map, None, IfOk, OnOk, IfErr};
 ghost use Rattle.std.specs.String.{string_bytes};
 ghost use Rattle.sqlite.specs.State.{HasCleanDisk, Survives};
 ghost use Rattle.sqlite.specs.Held.{state};
 ghost use Rattle.bac_archive.specs.Schema.{archive_schema};
 ghost use Rattle.bac_archive.specs.Beginnings.{IsFreshId};
+ghost use Rattle.bac_fetch.specs.Causes.{FailsOnRows, FailsToEnter};
 ghost use Rattle.bac_fetch.specs.Faults.{EndsLog};
-ghost use Rattle.bac_fetch.specs.Entries.{Admits, IsEntry, Renews, eq_number, eq_text, has_word, how_recorded, is_due, is_other_number, is_other_text, is_same_number, is_same_text, word_of};
+ghost use Rattle.bac_fetch.specs.Entries.{Admits, IsEntry, Renews, eq_number, eq_text, has_word};
+ghost use Rattle.bac_fetch.specs.Entries.{how_recorded, is_due, is_other_number, is_other_text};
+ghost use Rattle.bac_fetch.specs.Entries.{is_same_number, is_same_text, word_of};
 ghost use Rattle.bac_fetch.specs.Stays.{HasAllOf, HasRows};
 
 use bac_archive::{Log, Source, Told, add_log_as, fresh_id, renew_log};
@@ -151,13 +154,19 @@ fn is_due(recorded: Recorded, end: &End) -> bool
 
 /// The id of a log that has no row.
 fn free_id<A: Alter>(conn: &mut Connection<A>, alloc: Global) -> Result<u16, NotDone>
-    ensures fresh { HasCleanDisk (state A.Store conn.new) → (state A.Store conn.old).now.schema ≡ archive_schema
+    ensures fresh { HasCleanDisk (state A.Store conn.new)
+        → (state A.Store conn.old).now.schema ≡ archive_schema
         → IfOk result (IsFreshId (state A.Store conn.old).now.trees) }
-    ensures same { HasCleanDisk (state A.Store conn.new) → (state A.Store conn.old).now.schema ≡ archive_schema
+    ensures same { HasCleanDisk (state A.Store conn.new)
+        → (state A.Store conn.old).now.schema ≡ archive_schema
         → OnOk result ((state A.Store conn.new).now ≡ (state A.Store conn.old).now) }
-    ensures crash { (state A.Store conn.old).now.schema ≡ archive_schema → Survives (state A.Store conn.old) (state A.Store conn.new) (λ _. ⊥) }
+    ensures crash { (state A.Store conn.old).now.schema ≡ archive_schema
+        → Survives (state A.Store conn.old) (state A.Store conn.new) (λ _. ⊥) }
     ensures clean { HasCleanDisk (state A.Store conn.new) → HasCleanDisk (state A.Store conn.old) }
     ensures fault { IfErr result EndsLog }
+    ensures caused { HasCleanDisk (state A.Store conn.new)
+        → (state A.Store conn.old).now.schema ≡ archive_schema
+        → IfErr result (FailsToEnter None (state A.Store conn.old).now.trees) }
 {
     match fresh_id(alloc, conn) {
         Ok(id) => Ok(id),
@@ -174,14 +183,23 @@ pub(crate) fn enter<A: Alter>(
     name: Option<String>,
     told: Told,
 ) -> Result<Entry, NotDone>
-    ensures entry { HasCleanDisk (state A.Store conn.new) → (state A.Store conn.old).now.schema ≡ archive_schema
-        → IfOk result (IsEntry (state A.Store conn.old).now.trees (option_map (λ log. log.now) known.entry) told) }
-    ensures row { IfOk result (λ entry. (entry.row.source ≡ source) × (entry.row.name ≡ name) × (entry.row.told ≡ told) × (entry.row.stopped ≡ false)) }
-    ensures same { HasCleanDisk (state A.Store conn.new) → (state A.Store conn.old).now.schema ≡ archive_schema
+    ensures entry { HasCleanDisk (state A.Store conn.new)
+        → (state A.Store conn.old).now.schema ≡ archive_schema
+        → IfOk result (IsEntry (state A.Store conn.old).now.trees
+        (option_map (λ log. log.now) known.entry) told) }
+    ensures row { IfOk result (λ entry. (entry.row.source ≡ source) × (entry.row.name ≡ name)
+        × (entry.row.told ≡ told) × (entry.row.stopped ≡ false)) }
+    ensures same { HasCleanDisk (state A.Store conn.new)
+        → (state A.Store conn.old).now.schema ≡ archive_schema
         → OnOk result ((state A.Store conn.new).now ≡ (state A.Store conn.old).now) }
-    ensures crash { (state A.Store conn.old).now.schema ≡ archive_schema → Survives (state A.Store conn.old) (state A.Store conn.new) (λ _. ⊥) }
+    ensures crash { (state A.Store conn.old).now.schema ≡ archive_schema
+        → Survives (state A.Store conn.old) (state A.Store conn.new) (λ _. ⊥) }
     ensures clean { HasCleanDisk (state A.Store conn.new) → HasCleanDisk (state A.Store conn.old) }
     ensures fault { IfErr result EndsLog }
+    ensures caused { HasCleanDisk (state A.Store conn.new)
+        → (state A.Store conn.old).now.schema ≡ archive_schema
+        → IfErr result (FailsToEnter (option_map (λ log. log.now) known.entry)
+        (state A.Store conn.old).now.trees) }
 {
     let (id, recorded, word) = match known {
         Some(log) => (log.id, how_recorded(log, &told), word_of(&log.told, &told)),
@@ -212,14 +230,19 @@ fn name_of(text: &Option<String>) -> Option<&str>
 
 /// Adds the row of a log that has none.
 pub(crate) fn admit<A: Alter>(conn: &mut Connection<A>, entry: &Entry) -> Result<(), NotDone>
-    ensures admits { HasCleanDisk (state A.Store conn.new) → (state A.Store conn.old).now.schema ≡ archive_schema
+    ensures admits { HasCleanDisk (state A.Store conn.new)
+        → (state A.Store conn.old).now.schema ≡ archive_schema
         → OnOk result (Admits entry.now (state A.Store conn.old).now (state A.Store conn.new).now) }
     ensures stays { (state A.Store conn.old).now.schema ≡ archive_schema
-        → Survives (state A.Store conn.old) (state A.Store conn.new) (HasAllOf (state A.Store conn.old).now.trees) }
+        → Survives (state A.Store conn.old) (state A.Store conn.new)
+        (HasAllOf (state A.Store conn.old).now.trees) }
     ensures rows { (state A.Store conn.old).now.schema ≡ archive_schema
-        → Survives (state A.Store conn.old) (state A.Store conn.new) (HasRows (state A.Store conn.old).now.trees) }
+        → Survives (state A.Store conn.old) (state A.Store conn.new)
+        (HasRows (state A.Store conn.old).now.trees) }
     ensures clean { HasCleanDisk (state A.Store conn.new) → HasCleanDisk (state A.Store conn.old) }
     ensures fault { IfErr result EndsLog }
+    ensures caused { HasCleanDisk (state A.Store conn.new)
+        → (state A.Store conn.old).now.schema ≡ archive_schema → IfErr result FailsOnRows }
 {
     if entry.recorded != Recorded::Not {
         return Ok(());
@@ -243,15 +266,21 @@ pub(crate) fn renew<A: Alter>(
     entry: &Entry,
     end: &End,
 ) -> Result<(), NotDone>
-    ensures renews { HasCleanDisk (state A.Store conn.new) → (state A.Store conn.old).now.schema ≡ archive_schema
-        → OnOk result (Renews entry.now end.now (state A.Store conn.old).now (state A.Store conn.new).now) }
+    ensures renews { HasCleanDisk (state A.Store conn.new)
+        → (state A.Store conn.old).now.schema ≡ archive_schema
+        → OnOk result
+        (Renews entry.now end.now (state A.Store conn.old).now (state A.Store conn.new).now) }
     ensures stays { (state A.Store conn.old).now.schema ≡ archive_schema
-        → Survives (state A.Store conn.old) (state A.Store conn.new) (HasAllOf (state A.Store conn.old).now.trees) }
+        → Survives (state A.Store conn.old) (state A.Store conn.new)
+        (HasAllOf (state A.Store conn.old).now.trees) }
     // A crash leaves the row as it was, or as it is to be.
-    ensures crash { (state A.Store conn.old).now.schema ≡ archive_schema → Survives (state A.Store conn.old) (state A.Store conn.new)
-        (λ trees. (db : _) × Renews entry.now end.now (state A.Store conn.old).now db × (trees ≡ db.trees)) }
+    ensures crash { (state A.Store conn.old).now.schema ≡ archive_schema
+        → Survives (state A.Store conn.old) (state A.Store conn.new)
+        (λ trees. (db : _) × Renews entry.now end.now (state A.Store conn.old).now db
+        × (trees ≡ db.trees)) }
     ensures clean { HasCleanDisk (state A.Store conn.new) → HasCleanDisk (state A.Store conn.old) }
     ensures fault { IfErr result EndsLog }
+    ensures caused { IfErr result FailsOnRows }
 {
     if !is_due(entry.recorded, end) {
         return Ok(());

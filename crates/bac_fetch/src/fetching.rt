@@ -1,6 +1,6 @@
 //! The records of one log are fetched and kept.
 
-ghost use Rattle.std.specs.Prelude.{◌≡◌, ◌⊎◌, ◌+◌, ◌-◌, ◌≤◌, ◌^◌, map, IfOk, IfErr, IsTrue, OnErr, OnOk, Ok};
+ghost use Rattle.std.specs.Prelude.{◌≡◌, map, IfOk, IfErr, OnOk, Ok};
 ghost use Rattle.sqlite.specs.State.{HasCleanDisk, Survives};
 ghost use Rattle.sqlite.specs.Effect.{Database};
 ghost use Rattle.sqlite.specs.Held.{state};
@@ -8,14 +8,17 @@ ghost use Rattle.bac_archive.specs.Rows.{IsAppended, stored};
 ghost use Rattle.bac_archive.specs.Schema.{archive_schema};
 ghost use Rattle.bac_link.specs.Path.{towards};
 ghost use Rattle.bac_ports.specs.Sockets.{link_over, own_address, socket_rules};
+ghost use Rattle.bac_fetch.specs.Causes.{EndsFetch, FailsOnRows};
 ghost use Rattle.bac_fetch.specs.Faults.{EndsLog, EndsRun, IsNoInstance, IsUnopened};
-ghost use Rattle.bac_fetch.specs.Fetched.{ComesFrom, HasFailed, IsEndingOf};
-ghost use Rattle.bac_fetch.specs.Keeps.{KeepsBegun, KeepsEntered, KeepsFrom, KeepsLog, KeepsOverLink, LeavesWord, Marks, is_idle, trend_log};
+ghost use Rattle.bac_fetch.specs.Fetched.{ComesFrom};
+ghost use Rattle.bac_fetch.specs.Keeps.{KeepsBegun, KeepsEntered, KeepsFrom, KeepsLog};
+ghost use Rattle.bac_fetch.specs.Keeps.{KeepsOverLink, LeavesWord, Marks, trend_log};
 ghost use Rattle.bac_fetch.specs.Stays.{HasAllOf, HasSameLogs};
 ghost use Rattle.bac_asked.specs.declared.end.End.{End as EndOf};
 ghost use Rattle.bac_fetch.specs.Starts.{IsBegun};
 
 use crate::count::Ahead;
+use crate::ending::{end_of, look_at, mark};
 use crate::entry::{Entry, admit, renew};
 use crate::hands::Hand;
 use crate::heeding::{Heeding, end_told};
@@ -23,15 +26,14 @@ use crate::stands::stand_of;
 use crate::starting::{Start, start_at, start_new};
 use bac_apdu::Route;
 use bac_apdu::object_type::TREND_LOG;
-use bac_archive::{Beginning, begin_epoch, is_archive, newest};
-use bac_asked::{Asking, Began, End, Ending, Fault, FileFault, NotDone, end_status};
+use bac_archive::is_archive;
+use bac_asked::{Asking, Began, End, Ending, Fault, FileFault, NotDone};
 use bac_keep::{
-    Gathered, KeptRun, KeptStep, NotKept, Place, Progress, Refusal, Word as DeviceWord,
-    keep_gathered, keep_log,
+    Gathered, KeptStep, NotKept, Place, Progress, Word as DeviceWord, keep_gathered, keep_log,
 };
 use bac_link::{LogLink, Transactions};
 use bac_ports::{Sockets, UdpLink};
-use bac_walk::{Count as Many, Walk, Why};
+use bac_walk::{Count as Many, Walk};
 use bac_wire::ObjectId;
 use bac_words::{Asked, Word};
 use sqlite::{Alter, Connection};
@@ -56,11 +58,14 @@ pub(crate) fn connect<S: Sockets>(
     asked: Asked,
 ) -> Result<(UdpLink<S::Socket>, Transactions), NotDone>
     // Over a socket that is opened as asked, and to the device that is asked.
-    ensures opened { IfOk result (λ made. S.opens sockets.old (own_address asked.local) asked.timeout (Ok made.0.port) sockets.new) }
+    ensures opened { IfOk result (λ made. S.opens sockets.old (own_address asked.local)
+        asked.timeout (Ok made.0.port) sockets.new) }
     ensures link { IfOk result (λ made. made.0 ≡ link_over asked.address made.0.port) }
     ensures retries { IfOk result (λ made. made.1.retries ≡ asked.retries) }
     ensures route { IfOk result (λ made. made.1.route ≡ asked.route) }
-    ensures refused { IfErr result (IsUnopened (socket_rules S.opens S.closes S.Socket.sends S.Socket.receives S.Socket.receives_within) asked sockets.old sockets.new) }
+    ensures refused { IfErr result (IsUnopened
+        (socket_rules S.opens S.closes S.Socket.sends S.Socket.receives
+        S.Socket.receives_within) asked sockets.old sockets.new) }
 {
     let Asked {
         address,
@@ -75,8 +80,9 @@ pub(crate) fn connect<S: Sockets>(
     }
 }
 
-/// Where a log goes on, by what the device tells and by its own word: where it stands, at the oldest
-/// record if nothing of it is on record, or in a new epoch; or why the device didn't say which.
+/// Where a log goes on, by what the device tells and by its own word: where it stands, at the
+/// oldest record if nothing of it is on record, or in a new epoch; or why the device didn't say
+/// which.
 fn where_to_start<L: LogLink, A: Alter>(
     alloc: Global,
     link: &mut L,
@@ -92,14 +98,20 @@ fn where_to_start<L: LogLink, A: Alter>(
     ensures retries { transactions.new.retries ≡ transactions.old.retries }
     ensures route { transactions.new.route ≡ transactions.old.route }
     // By the rows of the archive, and by what the device tells over the link, which is left so.
-    ensures begun { HasCleanDisk (state A.Store conn.new) → (state A.Store conn.old).now.schema ≡ archive_schema
-        → IfOk result (IsBegun L.asks (towards transactions.old.route) transactions.old.retries link.old link.new id log many word steps (state A.Store conn.old).now.trees) }
-    ensures same { HasCleanDisk (state A.Store conn.new) → (state A.Store conn.old).now.schema ≡ archive_schema
+    ensures begun { HasCleanDisk (state A.Store conn.new)
+        → (state A.Store conn.old).now.schema ≡ archive_schema
+        → IfOk result (IsBegun L.asks (towards transactions.old.route) transactions.old.retries
+        link.old link.new id log many word steps (state A.Store conn.old).now.trees) }
+    ensures same { HasCleanDisk (state A.Store conn.new)
+        → (state A.Store conn.old).now.schema ≡ archive_schema
         → OnOk result ((state A.Store conn.new).now ≡ (state A.Store conn.old).now) }
     // Whatever comes of it, nothing is committed.
-    ensures crash { (state A.Store conn.old).now.schema ≡ archive_schema → Survives (state A.Store conn.old) (state A.Store conn.new) (λ _. ⊥) }
+    ensures crash { (state A.Store conn.old).now.schema ≡ archive_schema
+        → Survives (state A.Store conn.old) (state A.Store conn.new) (λ _. ⊥) }
     ensures clean { HasCleanDisk (state A.Store conn.new) → HasCleanDisk (state A.Store conn.old) }
     ensures fault { IfErr result EndsLog }
+    ensures caused { HasCleanDisk (state A.Store conn.new)
+        → (state A.Store conn.old).now.schema ≡ archive_schema → IfErr result FailsOnRows }
 {
     match stand_of(alloc, conn, id)? {
         Some(stand) => start_at(
@@ -117,77 +129,18 @@ fn where_to_start<L: LogLink, A: Alter>(
     }
 }
 
-/// Why a run over a log ended, if it is no fault of the file or of memory.
-fn ending_of(end: Result<Why, NotKept>) -> Result<Ending, NotDone>
-    ensures ending { IfOk result (IsEndingOf end) }
-    ensures failed { OnErr result (HasFailed end) }
-    ensures fault { IfErr result EndsLog }
-{
-    match end {
-        Ok(why) => Ok(Ending::Walk(why)),
-        Err(NotKept::Refused(Refusal::Back)) => Ok(Ending::Back),
-        Err(NotKept::Refused(Refusal::Epochs)) => Ok(Ending::Epochs),
-        Err(NotKept::Refused(Refusal::Memory)) => Err(NotDone::Asking(Fault::Memory)),
-        Err(NotKept::NoArchive) => Err(NotDone::File(FileFault::Foreign)),
-        Err(NotKept::Database(error)) => Err(NotDone::File(FileFault::of(error))),
-    }
-}
-
-/// What a run over a log kept behind its first step, and why it ended.
-fn end_of(run: KeptRun, step: KeptStep, began: Began) -> Result<End, NotDone>
-    ensures end { IfOk result (λ end. IsEndingOf run.end end.why × (end.records ≡ step.records + run.records) × (end.gaps ≡ step.gaps + run.gaps)
-        × (end.next ≡ run.next) × (end.began ≡ began)) }
-    // An error is one of the file or of memory, and no end of the log; or it can't be counted.
-    ensures failed { OnErr result (HasFailed run.end ⊎ (2 ^ 64 ≤ step.records + run.records) ⊎ (2 ^ 64 ≤ step.gaps + run.gaps)) }
-    ensures fault { IfErr result EndsLog }
-{
-    let why = ending_of(run.end)?;
-    let (Some(records), Some(gaps)) = (
-        step.records.checked_add(run.records),
-        step.gaps.checked_add(run.gaps),
-    ) else {
-        return Err(NotDone::Asking(Fault::Memory));
-    };
-    Ok(End {
-        records,
-        gaps,
-        why,
-        next: run.next,
-        began,
-    })
-}
-
-/// Looks whether the file can still be read of a run that didn't end as its walk did: then what it
-/// kept before stands.
-fn look_at<A: Alter>(
-    conn: &mut Connection<A>,
-    log: u16,
-    end: &Result<Why, NotKept>,
-) -> Result<(), NotDone>
-    ensures open { HasCleanDisk (state A.Store conn.new) → OnOk result (IfErr end.now (λ fault. IsTrue (state A.Store conn.old).is_open)) }
-    ensures same { HasCleanDisk (state A.Store conn.new) → OnOk result ((state A.Store conn.new).now ≡ (state A.Store conn.old).now) }
-    ensures crash { Survives (state A.Store conn.old) (state A.Store conn.new) (λ _. ⊥) }
-    ensures clean { HasCleanDisk (state A.Store conn.new) → HasCleanDisk (state A.Store conn.old) }
-    ensures fault { IfErr result EndsLog }
-{
-    if end.is_ok() {
-        return Ok(());
-    }
-    if !is_archive(conn.schema()) {
-        return Err(NotDone::File(FileFault::Foreign));
-    }
-    match newest(conn, log) {
-        Ok(_) => Ok(()),
-        Err(error) => Err(NotDone::File(FileFault::of(error))),
-    }
-}
-
 /// Keeps what is in hand in one transaction.
 fn keep_hand<A: Alter>(conn: &mut Connection<A>, gathered: Gathered) -> Result<(), NotDone>
-    ensures kept { HasCleanDisk (state A.Store conn.new) → OnOk result (IsAppended (state A.Store conn.old).now (state A.Store conn.new).now (map stored gathered.rows.items)) }
-    ensures stays { (state A.Store conn.old).now.schema ≡ archive_schema → Survives (state A.Store conn.old) (state A.Store conn.new) (HasSameLogs (state A.Store conn.old).now.trees) }
+    ensures kept { HasCleanDisk (state A.Store conn.new)
+        → OnOk result (IsAppended (state A.Store conn.old).now (state A.Store conn.new).now
+        (map stored gathered.rows.items)) }
+    ensures stays { (state A.Store conn.old).now.schema ≡ archive_schema
+        → Survives (state A.Store conn.old) (state A.Store conn.new)
+        (HasSameLogs (state A.Store conn.old).now.trees) }
     ensures clean { HasCleanDisk (state A.Store conn.new) → HasCleanDisk (state A.Store conn.old) }
     ensures fault { IfErr result EndsLog }
+    ensures caused { HasCleanDisk (state A.Store conn.new)
+        → (state A.Store conn.old).now.schema ≡ archive_schema → IfErr result FailsOnRows }
 {
     if !is_archive(conn.schema()) {
         return Err(NotDone::File(FileFault::Foreign));
@@ -216,17 +169,26 @@ fn keep_on<L: LogLink, A: Alter, P: Progress>(
     steps: u32,
     progress: &mut P,
 ) -> Result<End, NotDone>
-    ensures kept { HasCleanDisk (state A.Store conn.new) → (state A.Store conn.old).now.schema ≡ archive_schema
-        → IfOk result (KeepsFrom place walk step began (state A.Store conn.old).now (state A.Store conn.new).now) }
+    ensures kept { HasCleanDisk (state A.Store conn.new)
+        → (state A.Store conn.old).now.schema ≡ archive_schema
+        → IfOk result (KeepsFrom place walk step began (state A.Store conn.old).now
+        (state A.Store conn.new).now) }
     // In replies that came over the link.
-    ensures came { HasCleanDisk (state A.Store conn.new) → (state A.Store conn.old).now.schema ≡ archive_schema
-        → IfOk result (ComesFrom L.asks (towards transactions.old.route) transactions.old.retries link.old link.new place walk step steps (state A.Store conn.old).now (state A.Store conn.new).now) }
-    // Whatever comes of it, what a crash leaves then, or at any moment before, has all that was there,
-    // and the same logs.
-    ensures stays { HasCleanDisk (state A.Store conn.new) → (state A.Store conn.old).now.schema ≡ archive_schema
-        → Survives (state A.Store conn.old) (state A.Store conn.new) (HasSameLogs (state A.Store conn.old).now.trees) }
+    ensures came { HasCleanDisk (state A.Store conn.new)
+        → (state A.Store conn.old).now.schema ≡ archive_schema
+        → IfOk result (ComesFrom L.asks (towards transactions.old.route) transactions.old.retries
+        link.old link.new place walk step steps (state A.Store conn.old).now
+        (state A.Store conn.new).now) }
+    // Whatever comes of it, what a crash leaves then, or at any moment before, has all that was
+    // there, and the same logs.
+    ensures stays { HasCleanDisk (state A.Store conn.new)
+        → (state A.Store conn.old).now.schema ≡ archive_schema
+        → Survives (state A.Store conn.old) (state A.Store conn.new)
+        (HasSameLogs (state A.Store conn.old).now.trees) }
     ensures clean { HasCleanDisk (state A.Store conn.new) → HasCleanDisk (state A.Store conn.old) }
     ensures fault { IfErr result EndsLog }
+    ensures caused { HasCleanDisk (state A.Store conn.new)
+        → (state A.Store conn.old).now.schema ≡ archive_schema → IfErr result FailsOnRows }
 {
     let mut behind = Ahead::new(progress, step.records);
     let run = keep_log(
@@ -244,8 +206,8 @@ fn keep_on<L: LogLink, A: Alter, P: Progress>(
     end_of(run, step, began)
 }
 
-/// Keeps what a log has from a start on: what is in hand, and what comes behind it in the steps that
-/// are left, unless it came to an end.
+/// Keeps what a log has from a start on: what is in hand, and what comes behind it in the steps
+/// that are left, unless it came to an end.
 fn keep_from<L: LogLink, A: Alter, P: Progress>(
     alloc: Global,
     link: &mut L,
@@ -255,14 +217,21 @@ fn keep_from<L: LogLink, A: Alter, P: Progress>(
     steps: u32,
     progress: &mut P,
 ) -> Result<End, NotDone>
-    ensures kept { HasCleanDisk (state A.Store conn.new) → (state A.Store conn.old).now.schema ≡ archive_schema
-        → IfOk result (KeepsBegun L.asks (towards transactions.old.route) transactions.old.retries link.old link.new (Ok start) steps (state A.Store conn.old).now (state A.Store conn.new).now) }
-    // Whatever comes of it, what a crash leaves then, or at any moment before, has all that was there,
-    // and the same logs.
-    ensures stays { HasCleanDisk (state A.Store conn.new) → (state A.Store conn.old).now.schema ≡ archive_schema
-        → Survives (state A.Store conn.old) (state A.Store conn.new) (HasSameLogs (state A.Store conn.old).now.trees) }
+    ensures kept { HasCleanDisk (state A.Store conn.new)
+        → (state A.Store conn.old).now.schema ≡ archive_schema
+        → IfOk result (KeepsBegun L.asks (towards transactions.old.route) transactions.old.retries
+        link.old link.new (Ok start) steps (state A.Store conn.old).now
+        (state A.Store conn.new).now) }
+    // Whatever comes of it, what a crash leaves then, or at any moment before, has all that was
+    // there, and the same logs.
+    ensures stays { HasCleanDisk (state A.Store conn.new)
+        → (state A.Store conn.old).now.schema ≡ archive_schema
+        → Survives (state A.Store conn.old) (state A.Store conn.new)
+        (HasSameLogs (state A.Store conn.old).now.trees) }
     ensures clean { HasCleanDisk (state A.Store conn.new) → HasCleanDisk (state A.Store conn.old) }
     ensures fault { IfErr result EndsLog }
+    ensures caused { HasCleanDisk (state A.Store conn.new)
+        → (state A.Store conn.old).now.schema ≡ archive_schema → IfErr result FailsOnRows }
 {
     let Start {
         hand,
@@ -304,38 +273,6 @@ fn keep_from<L: LogLink, A: Alter, P: Progress>(
     )
 }
 
-/// Whether a run is caught up and brought nothing.
-fn is_idle(end: &End) -> bool
-    ensures { result ≡ is_idle end.now }
-{
-    end_status(end.why) == 0 && end.records == 0 && end.gaps == 0
-}
-
-/// Puts the beginning of an epoch on record, behind a run that brought nothing.
-fn mark<A: Alter>(
-    conn: &mut Connection<A>,
-    begins_at: Option<Beginning>,
-    end: &End,
-) -> Result<(), NotDone>
-    ensures marks { HasCleanDisk (state A.Store conn.new) → (state A.Store conn.old).now.schema ≡ archive_schema
-        → OnOk result (Marks begins_at end.now (state A.Store conn.old).now (state A.Store conn.new).now) }
-    ensures stays { HasCleanDisk (state A.Store conn.new) → (state A.Store conn.old).now.schema ≡ archive_schema
-        → Survives (state A.Store conn.old) (state A.Store conn.new) (HasSameLogs (state A.Store conn.old).now.trees) }
-    ensures clean { HasCleanDisk (state A.Store conn.new) → HasCleanDisk (state A.Store conn.old) }
-    ensures fault { IfErr result EndsLog }
-{
-    let Some(beginning) = begins_at else {
-        return Ok(());
-    };
-    if !is_idle(end) {
-        return Ok(());
-    }
-    match begin_epoch(conn, &beginning) {
-        Ok(()) => Ok(()),
-        Err(error) => Err(NotDone::File(FileFault::of(error))),
-    }
-}
-
 /// Keeps what a log has from a start on, and where its epoch begins if nothing came.
 fn keep_and_mark<L: LogLink, A: Alter, P: Progress>(
     alloc: Global,
@@ -346,14 +283,20 @@ fn keep_and_mark<L: LogLink, A: Alter, P: Progress>(
     steps: u32,
     progress: &mut P,
 ) -> Result<End, NotDone>
-    ensures kept { HasCleanDisk (state A.Store conn.new) → (state A.Store conn.old).now.schema ≡ archive_schema
+    ensures kept { HasCleanDisk (state A.Store conn.new)
+        → (state A.Store conn.old).now.schema ≡ archive_schema
         → IfOk result (λ end. (last : Database)
-        × KeepsBegun L.asks (towards transactions.old.route) transactions.old.retries link.old link.new (Ok start) steps (state A.Store conn.old).now last end
+        × KeepsBegun L.asks (towards transactions.old.route) transactions.old.retries
+        link.old link.new (Ok start) steps (state A.Store conn.old).now last end
         × Marks start.begins_at end last (state A.Store conn.new).now) }
-    ensures stays { HasCleanDisk (state A.Store conn.new) → (state A.Store conn.old).now.schema ≡ archive_schema
-        → Survives (state A.Store conn.old) (state A.Store conn.new) (HasSameLogs (state A.Store conn.old).now.trees) }
+    ensures stays { HasCleanDisk (state A.Store conn.new)
+        → (state A.Store conn.old).now.schema ≡ archive_schema
+        → Survives (state A.Store conn.old) (state A.Store conn.new)
+        (HasSameLogs (state A.Store conn.old).now.trees) }
     ensures clean { HasCleanDisk (state A.Store conn.new) → HasCleanDisk (state A.Store conn.old) }
     ensures fault { IfErr result EndsLog }
+    ensures caused { HasCleanDisk (state A.Store conn.new)
+        → (state A.Store conn.old).now.schema ≡ archive_schema → IfErr result FailsOnRows }
 {
     let begins_at = start.begins_at;
     let end = keep_from(alloc, link, transactions, conn, start, steps, progress)?;
@@ -361,8 +304,8 @@ fn keep_and_mark<L: LogLink, A: Alter, P: Progress>(
     Ok(end)
 }
 
-/// Keeps what a log has from a start on, whose row is there before; behind that the row says what the
-/// device told.
+/// Keeps what a log has from a start on, whose row is there before; behind that the row says what
+/// the device told.
 fn keep_entered<L: LogLink, A: Alter, P: Progress>(
     alloc: Global,
     link: &mut L,
@@ -373,18 +316,27 @@ fn keep_entered<L: LogLink, A: Alter, P: Progress>(
     steps: u32,
     progress: &mut P,
 ) -> Result<End, NotDone>
-    ensures kept { HasCleanDisk (state A.Store conn.new) → (state A.Store conn.old).now.schema ≡ archive_schema
-        → IfOk result (KeepsEntered L.asks (towards transactions.old.route) transactions.old.retries link.old link.new (Ok start) steps entry.now
-        (state A.Store conn.old).now (state A.Store conn.new).now) }
-    ensures stays { HasCleanDisk (state A.Store conn.new) → (state A.Store conn.old).now.schema ≡ archive_schema
-        → Survives (state A.Store conn.old) (state A.Store conn.new) (HasAllOf (state A.Store conn.old).now.trees) }
+    ensures kept { HasCleanDisk (state A.Store conn.new)
+        → (state A.Store conn.old).now.schema ≡ archive_schema
+        → IfOk result (KeepsEntered L.asks (towards transactions.old.route) transactions.old.retries
+        link.old link.new (Ok start) steps entry.now (state A.Store conn.old).now
+        (state A.Store conn.new).now) }
+    ensures stays { HasCleanDisk (state A.Store conn.new)
+        → (state A.Store conn.old).now.schema ≡ archive_schema
+        → Survives (state A.Store conn.old) (state A.Store conn.new)
+        (HasAllOf (state A.Store conn.old).now.trees) }
     // What a crash leaves has the device's word from before, or all that the run kept.
-    ensures word { HasCleanDisk (state A.Store conn.new) → (state A.Store conn.old).now.schema ≡ archive_schema
-        → Survives (state A.Store conn.old) (state A.Store conn.new) (LeavesWord (state A.Store conn.old).now.trees
-        (λ db. (left : L) × (end : EndOf) × KeepsEntered L.asks (towards transactions.old.route) transactions.old.retries link.old left (Ok start) steps entry.now
-        (state A.Store conn.old).now db end)) }
+    ensures word { HasCleanDisk (state A.Store conn.new)
+        → (state A.Store conn.old).now.schema ≡ archive_schema
+        → Survives (state A.Store conn.old) (state A.Store conn.new)
+        (LeavesWord (state A.Store conn.old).now.trees
+        (λ db. (left : L) × (end : EndOf) × KeepsEntered L.asks
+        (towards transactions.old.route) transactions.old.retries link.old left
+        (Ok start) steps entry.now (state A.Store conn.old).now db end)) }
     ensures clean { HasCleanDisk (state A.Store conn.new) → HasCleanDisk (state A.Store conn.old) }
     ensures fault { IfErr result EndsLog }
+    ensures caused { HasCleanDisk (state A.Store conn.new)
+        → (state A.Store conn.old).now.schema ≡ archive_schema → IfErr result FailsOnRows }
 {
     admit(conn, entry)?;
     let end = keep_and_mark(alloc, link, transactions, conn, start, steps, progress)?;
@@ -405,19 +357,29 @@ fn fetch_over<L: LogLink, A: Alter, P: Progress>(
     progress: &mut P,
 ) -> Result<End, NotDone>
     requires { log.kind ≡ 20 }
-    ensures kept { HasCleanDisk (state A.Store conn.new) → (state A.Store conn.old).now.schema ≡ archive_schema
-        → IfOk result (KeepsOverLink L.asks (towards transactions.old.route) transactions.old.retries link.old link.new steps entry.now log many
+    ensures kept { HasCleanDisk (state A.Store conn.new)
+        → (state A.Store conn.old).now.schema ≡ archive_schema
+        → IfOk result (KeepsOverLink L.asks (towards transactions.old.route)
+        transactions.old.retries link.old link.new steps entry.now log many
         (state A.Store conn.old).now (state A.Store conn.new).now) }
-    // Whatever comes of it, what a crash leaves then, or at any moment before, has all that was there.
-    ensures stays { HasCleanDisk (state A.Store conn.new) → (state A.Store conn.old).now.schema ≡ archive_schema
-        → Survives (state A.Store conn.old) (state A.Store conn.new) (HasAllOf (state A.Store conn.old).now.trees) }
+    // Whatever comes of it, what a crash leaves then, or at any moment before, has all that was
+    // there.
+    ensures stays { HasCleanDisk (state A.Store conn.new)
+        → (state A.Store conn.old).now.schema ≡ archive_schema
+        → Survives (state A.Store conn.old) (state A.Store conn.new)
+        (HasAllOf (state A.Store conn.old).now.trees) }
     // What a crash leaves has the device's word from before, or all that the run kept.
-    ensures word { HasCleanDisk (state A.Store conn.new) → (state A.Store conn.old).now.schema ≡ archive_schema
-        → Survives (state A.Store conn.old) (state A.Store conn.new) (LeavesWord (state A.Store conn.old).now.trees
-        (λ db. (left : L) × (end : EndOf) × KeepsOverLink L.asks (towards transactions.old.route) transactions.old.retries link.old left steps entry.now log many
-        (state A.Store conn.old).now db end)) }
+    ensures word { HasCleanDisk (state A.Store conn.new)
+        → (state A.Store conn.old).now.schema ≡ archive_schema
+        → Survives (state A.Store conn.old) (state A.Store conn.new)
+        (LeavesWord (state A.Store conn.old).now.trees
+        (λ db. (left : L) × (end : EndOf) × KeepsOverLink L.asks
+        (towards transactions.old.route) transactions.old.retries link.old left
+        steps entry.now log many (state A.Store conn.old).now db end)) }
     ensures clean { HasCleanDisk (state A.Store conn.new) → HasCleanDisk (state A.Store conn.old) }
     ensures fault { IfErr result EndsLog }
+    ensures caused { HasCleanDisk (state A.Store conn.new)
+        → (state A.Store conn.old).now.schema ≡ archive_schema → IfErr result FailsOnRows }
 {
     match where_to_start(
         alloc,
@@ -455,14 +417,27 @@ pub(crate) fn fetch<S: Sockets, A: Alter, P: Progress>(
 ) -> Result<End, NotDone>
     // The rows of what the run brought come to those before, under this log, and it came over a
     // socket that was opened as asked, from the device that is asked, and closed behind it.
-    ensures kept { HasCleanDisk (state A.Store conn.new) → (state A.Store conn.old).now.schema ≡ archive_schema
-        → IfOk result (KeepsLog (socket_rules S.opens S.closes S.Socket.sends S.Socket.receives S.Socket.receives_within) asking sockets.old sockets.new entry.now
-        (trend_log entry.now.row.source.instance) (state A.Store conn.old).now (state A.Store conn.new).now) }
-    // Whatever comes of it, what a crash leaves then, or at any moment before, has all that was there.
-    ensures stays { HasCleanDisk (state A.Store conn.new) → (state A.Store conn.old).now.schema ≡ archive_schema
-        → Survives (state A.Store conn.old) (state A.Store conn.new) (HasAllOf (state A.Store conn.old).now.trees) }
+    ensures kept { HasCleanDisk (state A.Store conn.new)
+        → (state A.Store conn.old).now.schema ≡ archive_schema
+        → IfOk result (KeepsLog (socket_rules S.opens S.closes S.Socket.sends S.Socket.receives
+        S.Socket.receives_within) asking sockets.old sockets.new entry.now
+        (trend_log entry.now.row.source.instance) (state A.Store conn.old).now
+        (state A.Store conn.new).now) }
+    // Whatever comes of it, what a crash leaves then, or at any moment before, has all that was
+    // there.
+    ensures stays { HasCleanDisk (state A.Store conn.new)
+        → (state A.Store conn.old).now.schema ≡ archive_schema
+        → Survives (state A.Store conn.old) (state A.Store conn.new)
+        (HasAllOf (state A.Store conn.old).now.trees) }
     ensures clean { HasCleanDisk (state A.Store conn.new) → HasCleanDisk (state A.Store conn.old) }
-    ensures fault { IfErr result (EndsRun (socket_rules S.opens S.closes S.Socket.sends S.Socket.receives S.Socket.receives_within) (IsNoInstance entry.now.row.source.instance) ⊥ sockets.new) }
+    ensures fault { IfErr result (EndsRun (socket_rules S.opens S.closes S.Socket.sends
+        S.Socket.receives S.Socket.receives_within)
+        (IsNoInstance entry.now.row.source.instance) ⊥ sockets.new) }
+    ensures caused { HasCleanDisk (state A.Store conn.new)
+        → (state A.Store conn.old).now.schema ≡ archive_schema
+        → IfErr result (EndsFetch (socket_rules S.opens S.closes S.Socket.sends S.Socket.receives
+        S.Socket.receives_within) asking.asked entry.now.row.source.instance sockets.old
+        sockets.new) }
 {
     let Asking {
         asked,

@@ -34,7 +34,8 @@ pub(crate) fn take_step<L: LogLink>(
 ) -> Result<Result<Hand, Ending>, NotDone>
     ensures retries { transactions.new.retries ≡ transactions.old.retries }
     ensures route { transactions.new.route ≡ transactions.old.route }
-    ensures steps { IfOk result (λ hand. Steps L.asks (towards transactions.old.route) transactions.old.retries place free link.old walk hand link.new) }
+    ensures steps { IfOk result (λ hand. Steps L.asks (towards transactions.old.route)
+        transactions.old.retries place free link.old walk hand link.new) }
     ensures fault { IfErr result WantsMemory }
 {
     match gather(alloc, link, transactions, &mut walk, place, free) {
@@ -66,7 +67,8 @@ pub(crate) fn take_step_at<L: LogLink>(
     requires { log.kind ≡ 20 }
     ensures retries { transactions.new.retries ≡ transactions.old.retries }
     ensures route { transactions.new.route ≡ transactions.old.route }
-    ensures steps { IfOk result (λ hand. StepsAt L.asks (towards transactions.old.route) transactions.old.retries place link.old log many number hand link.new) }
+    ensures steps { IfOk result (λ hand. StepsAt L.asks (towards transactions.old.route)
+        transactions.old.retries place link.old log many number hand link.new) }
     ensures fault { IfErr result WantsMemory }
 {
     match Walk::from_number(log, number) {

@@ -7,7 +7,9 @@ ghost use Rattle.bac_apdu.specs.Service.ReadRangeAck.{range_ack_of};
 ghost use Rattle.bac_link.specs.Datagrams.{apdu_in};
 ghost use Rattle.bac_link.specs.Heard.{parameters_in};
 ghost use Rattle.bac_link.specs.Ordinals.{number_after};
-ghost use Rattle.bac_fetch.specs.Heeds.{ack_at, end_told, first_of, heeded, heeded_ack, heeding, heeds, is_same_number, number_asked, number_behind, why_told};
+ghost use Rattle.bac_fetch.specs.Heeds.{ack_at, end_told, first_of, heeded, heeded_ack, heeding};
+ghost use Rattle.bac_fetch.specs.Heeds.{heeds, is_same_number, number_asked, number_behind};
+ghost use Rattle.bac_fetch.specs.Heeds.{why_told};
 
 use bac_apdu::choice::READ_RANGE;
 use bac_apdu::{Apdu, Extent, ReadRange, ReadRangeAck};

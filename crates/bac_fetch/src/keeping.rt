@@ -1,6 +1,6 @@
 //! Logs are added to an archive, and what is new of them is kept.
 
-ghost use Rattle.std.specs.Prelude.{◌≡◌, ◌≢◌, ◌⊎◌, ◌∷◌, ◌++◌, IfErr, IfOk, OnOk, List, [], map, option_map};
+ghost use Rattle.std.specs.Prelude.{◌≡◌, ◌≢◌, ◌⊎◌, ◌∷◌, ◌++◌, IfErr, IfOk, OnOk, List, [], map};
 ghost use Rattle.std.specs.List.{All};
 ghost use Rattle.sqlite.specs.State.{HasCleanDisk, Survives};
 ghost use Rattle.sqlite.specs.Held.{state};
@@ -8,13 +8,13 @@ ghost use Rattle.bac_archive.specs.Schema.{archive_schema};
 ghost use Rattle.bac_archive.specs.Logs.{AreLogs};
 ghost use Rattle.bac_ports.specs.Sockets.{socket_rules};
 ghost use Rattle.bac_asked.specs.Faults.{WantsMemory};
-ghost use Rattle.bac_fetch.specs.Faults.{EndsChosen, EndsKeeping, EndsKept, EndsLog, EndsRun, HasNoInstance, HasNone, IsNoInstance, LacksAddress};
-ghost use Rattle.bac_fetch.specs.Keeps.{AreToldBy, IsRowOf, IsToldBy, KeepsAll, KeepsHeard, KeepsLog, KeepsLogs, KeepsNext, KeepsUnless, trend_log};
-ghost use Rattle.bac_fetch.specs.Entries.{IsEntry};
+ghost use Rattle.bac_fetch.specs.Causes.{EndsAll, EndsLogs, EndsRunOver, EndsSettled, FailsOnRows};
+ghost use Rattle.bac_fetch.specs.Causes.{FailsToSettle};
+ghost use Rattle.bac_fetch.specs.Faults.{EndsChosen, EndsKeeping, EndsKept, EndsLog, EndsRun};
+ghost use Rattle.bac_fetch.specs.Faults.{HasNoInstance, HasNone, LacksAddress};
+ghost use Rattle.bac_fetch.specs.Keeps.{AreToldBy, KeepsAll, KeepsLogs};
 ghost use Rattle.bac_fetch.specs.Moves.{Settles};
-ghost use Rattle.bac_fetch.specs.Whose.{heard_with};
 ghost use Rattle.bac_archive.specs.declared.trend_logs.Log.{Log as LogOf};
-ghost use Rattle.bac_fetch.specs.declared.entry.Entry.{Entry as EntryOf};
 ghost use Rattle.bac_fetch.specs.declared.whose.Heard.{Heard as HeardOf};
 ghost use Rattle.bac_fetch.specs.Discovered.{AreFound};
 ghost use Rattle.bac_asked.specs.AsLog.{given_in};
@@ -23,22 +23,14 @@ ghost use Rattle.bac_fetch.specs.Chosen.{AreChosen, AreKeptLogs, AskTheirSources
 ghost use Rattle.bac_fetch.specs.Stays.{HasAllOf};
 ghost use Rattle.bac_asked.specs.declared.wanted.Wanted.{Wanted as WantedOf};
 
-use crate::count::Count;
 use crate::discovering::discover;
-use crate::entry::{Entry, enter};
-use crate::fetching::fetch;
 use crate::moving::settle;
-use crate::passing::{pass_by, pass_over, print_end};
-use crate::said::Said;
-use crate::silent::log_among;
-use crate::whose::{Heard, add_heard, device_on_record, hindrance, is_silent, said_of};
-use bac_archive::{Log, Source, logs};
-use bac_asked::{
-    Asking, Began, End, Ending, Fault, FileFault, NotDone, Options, Wanted, add_wanted, end_status,
-    kept_log, push_began,
-};
+use crate::single::keep_next;
+use crate::whose::Heard;
+use bac_archive::{Log, logs};
+use bac_asked::{Asking, FileFault, NotDone, Options, Wanted, add_wanted, kept_log};
+use bac_heeding::Heeds;
 use bac_ports::Sockets;
-use bac_print::write_text;
 use sqlite::{Alter, Connection};
 use std::alloc::Global;
 use std::io::Write;
@@ -63,8 +55,11 @@ fn add_kept(
 ) -> Result<(), NotDone>
     ensures asks { OnOk result (All AsksItsSource all.old.items → All AsksItsSource all.new.items) }
     ensures added { OnOk result (map (λ (w : WantedOf). w.source) all.new.items
-        ≡ map (λ (w : WantedOf). w.source) all.old.items ++ map (λ (l : LogOf). l.source) (not_stopped (log ∷ []))) }
-    ensures fault { IfErr result (λ fault. WantsMemory fault ⊎ ((fault ≡ NotDone.File FileFault.Address) × HasNoAddress (given_in options.now) log.source)) }
+        ≡ map (λ (w : WantedOf). w.source) all.old.items
+        ++ map (λ (l : LogOf). l.source) (not_stopped (log ∷ []))) }
+    ensures fault { IfErr result (λ fault. WantsMemory fault
+        ⊎ ((fault ≡ NotDone.File FileFault.Address)
+        × HasNoAddress (given_in options.now) log.source)) }
 {
     if log.stopped {
         return Ok(());
@@ -82,15 +77,20 @@ fn kept_logs<A: Alter>(
     ensures asks { IfOk result (λ all. All AsksItsSource all.items) }
     // They are the logs of the archive that aren't stopped, one at least.
     ensures some { IfOk result (λ all. all.items ≢ []) }
-    ensures logs { HasCleanDisk (state A.Store conn.new) → (state A.Store conn.old).now.schema ≡ archive_schema
+    ensures logs { HasCleanDisk (state A.Store conn.new)
+        → (state A.Store conn.old).now.schema ≡ archive_schema
         → IfOk result (λ all. AreKeptLogs (state A.Store conn.old).now.trees all.items) }
-    ensures same { HasCleanDisk (state A.Store conn.new) → (state A.Store conn.old).now.schema ≡ archive_schema
+    ensures same { HasCleanDisk (state A.Store conn.new)
+        → (state A.Store conn.old).now.schema ≡ archive_schema
         → OnOk result ((state A.Store conn.new).now ≡ (state A.Store conn.old).now) }
-    ensures crash { (state A.Store conn.old).now.schema ≡ archive_schema → Survives (state A.Store conn.old) (state A.Store conn.new) (λ _. ⊥) }
+    ensures crash { (state A.Store conn.old).now.schema ≡ archive_schema
+        → Survives (state A.Store conn.old) (state A.Store conn.new) (λ _. ⊥) }
     ensures clean { HasCleanDisk (state A.Store conn.new) → HasCleanDisk (state A.Store conn.old) }
-    ensures fault { IfErr result (EndsKept (HasCleanDisk (state A.Store conn.new) → (state A.Store conn.old).now.schema ≡ archive_schema
+    ensures fault { IfErr result (EndsKept (HasCleanDisk (state A.Store conn.new)
+        → (state A.Store conn.old).now.schema ≡ archive_schema
         → HasNone (state A.Store conn.old).now.trees)
-        (HasCleanDisk (state A.Store conn.new) → (state A.Store conn.old).now.schema ≡ archive_schema
+        (HasCleanDisk (state A.Store conn.new)
+        → (state A.Store conn.old).now.schema ≡ archive_schema
         → LacksAddress (given_in options.now) (state A.Store conn.old).now.trees)) }
 {
     let known = match logs(alloc, conn) {
@@ -107,199 +107,9 @@ fn kept_logs<A: Alter>(
     Ok(all)
 }
 
-/// Tells that a device began anew, or may have.
-fn tell_anew<E: Write>(
-    alloc: Global,
-    source: &Source,
-    began: Began,
-    errors: &mut E,
-) -> Result<(), NotDone>
-    ensures fault { IfErr result WantsMemory }
-{
-    if began == Began::GoesOn {
-        return Ok(());
-    }
-    let mut text = Vec::new(alloc);
-    if push_began(&mut text, source, began).is_err() {
-        return Err(NotDone::Asking(Fault::Memory));
-    }
-    let _ = write_text(errors, &text);
-    Ok(())
-}
-
-/// Keeps what is new of one log; on a terminal its records are counted meanwhile.
-fn fetch_counted<S: Sockets, A: Alter, E: Write>(
-    sockets: &mut S,
-    conn: &mut Connection<A>,
-    alloc: Global,
-    entry: &Entry,
-    asking: Asking,
-    counts: bool,
-    errors: &mut E,
-) -> Result<End, NotDone>
-    ensures kept { HasCleanDisk (state A.Store conn.new) → (state A.Store conn.old).now.schema ≡ archive_schema
-        → IfOk result (KeepsLog (socket_rules S.opens S.closes S.Socket.sends S.Socket.receives S.Socket.receives_within) asking sockets.old sockets.new entry.now
-        (trend_log entry.now.row.source.instance) (state A.Store conn.old).now (state A.Store conn.new).now) }
-    ensures stays { HasCleanDisk (state A.Store conn.new) → (state A.Store conn.old).now.schema ≡ archive_schema
-        → Survives (state A.Store conn.old) (state A.Store conn.new) (HasAllOf (state A.Store conn.old).now.trees) }
-    ensures clean { HasCleanDisk (state A.Store conn.new) → HasCleanDisk (state A.Store conn.old) }
-    ensures fault { IfErr result (EndsRun (socket_rules S.opens S.closes S.Socket.sends S.Socket.receives S.Socket.receives_within) (IsNoInstance entry.now.row.source.instance) ⊥ sockets.new) }
-{
-    let mut count = Count::new(alloc, &entry.row.source, errors, counts);
-    let fetched = fetch(alloc, sockets, conn, entry, asking, &mut count);
-    count.end();
-    fetched
-}
-
-/// Keeps what is new of one log, and prints its line; answers its status.
-fn keep_one<S: Sockets, A: Alter, O: Write, E: Write>(
-    sockets: &mut S,
-    conn: &mut Connection<A>,
-    alloc: Global,
-    log: Option<&Log>,
-    heard: &mut Vec<Heard>,
-    wanted: Wanted,
-    said: Said,
-    counts: bool,
-    output: &mut O,
-    errors: &mut E,
-) -> Result<u8, NotDone>
-    // What is told of a log is how its run ended, and so is the status.
-    // The rows of what the run brought come to those before, under the id of this log.
-    ensures told { IfOk result (IsToldBy (O.contents output.old) (O.contents output.new) wanted.source (λ end.
-        (heard.new.items ≡ heard_with heard.old.items wanted.source said end.why)
-        × (HasCleanDisk (state A.Store conn.new) → (state A.Store conn.old).now.schema ≡ archive_schema →
-        (entry : EntryOf) × IsEntry (state A.Store conn.old).now.trees (option_map (λ it. it.now) log.entry) said.told entry × IsRowOf wanted said.told entry.row
-        × KeepsLog (socket_rules S.opens S.closes S.Socket.sends S.Socket.receives S.Socket.receives_within) wanted.asking sockets.old sockets.new
-        entry (trend_log wanted.source.instance) (state A.Store conn.old).now (state A.Store conn.new).now end))) }
-    // Whatever comes of it, no item and no log is lost: what is on the disk then, or is left by a
-    // crash at any moment before, is what was there or has all of it.
-    ensures stays { HasCleanDisk (state A.Store conn.new) → (state A.Store conn.old).now.schema ≡ archive_schema
-        → Survives (state A.Store conn.old) (state A.Store conn.new) (HasAllOf (state A.Store conn.old).now.trees) }
-    ensures clean { HasCleanDisk (state A.Store conn.new) → HasCleanDisk (state A.Store conn.old) }
-    ensures fault { IfErr result (EndsRun (socket_rules S.opens S.closes S.Socket.sends S.Socket.receives S.Socket.receives_within) (IsNoInstance wanted.source.instance) ⊥ sockets.new) }
-{
-    let Wanted {
-        source,
-        name,
-        asking,
-    } = wanted;
-    let Said { identity, told } = said;
-    let entry = enter(conn, alloc, log, source, name, told)?;
-    let end = fetch_counted(sockets, conn, alloc, &entry, asking, counts, errors)?;
-    tell_anew(alloc, &entry.row.source, end.began, errors)?;
-    print_end(alloc, &entry.row.source, &end, output)?;
-    let Entry {
-        row,
-        recorded: _recorded,
-        word: _word,
-    } = entry;
-    let Log { source, told, .. } = row;
-    add_heard(heard, source, Said { identity, told }, end.why)?;
-    Ok(end_status(end.why))
-}
-
-/// Keeps what is new of one log, unless there is a reason against it, which is told.
-fn keep_unless<S: Sockets, A: Alter, O: Write, E: Write>(
-    sockets: &mut S,
-    conn: &mut Connection<A>,
-    alloc: Global,
-    known: &[Log],
-    at: usize,
-    heard: &mut Vec<Heard>,
-    wanted: Wanted,
-    said: Said,
-    why: Option<Ending>,
-    counts: bool,
-    output: &mut O,
-    errors: &mut E,
-) -> Result<u8, NotDone>
-    ensures told { IfOk result (IsToldBy (O.contents output.old) (O.contents output.new) wanted.source (λ end.
-        (heard.new.items ≡ heard_with heard.old.items wanted.source said end.why)
-        × (HasCleanDisk (state A.Store conn.new) → (state A.Store conn.old).now.schema ≡ archive_schema →
-        KeepsUnless (socket_rules S.opens S.closes S.Socket.sends S.Socket.receives S.Socket.receives_within) known.now wanted said.told why sockets.old sockets.new (state A.Store conn.old).now (state A.Store conn.new).now end))) }
-    ensures stays { HasCleanDisk (state A.Store conn.new) → (state A.Store conn.old).now.schema ≡ archive_schema
-        → Survives (state A.Store conn.old) (state A.Store conn.new) (HasAllOf (state A.Store conn.old).now.trees) }
-    ensures clean { HasCleanDisk (state A.Store conn.new) → HasCleanDisk (state A.Store conn.old) }
-    ensures fault { IfErr result (EndsRun (socket_rules S.opens S.closes S.Socket.sends S.Socket.receives S.Socket.receives_within) (IsNoInstance wanted.source.instance) ⊥ sockets.new) }
-{
-    let log = log_among(known, at, &wanted.source);
-    match why {
-        None => keep_one(
-            sockets, conn, alloc, log, heard, wanted, said, counts, output, errors,
-        ),
-        Some(why) => pass_by(conn, alloc, log, heard, wanted.source, said, why, output),
-    }
-}
-
-/// Keeps what is new of one log, if its device tells the instance that is on record, or none is.
-fn keep_heard<S: Sockets, A: Alter, O: Write, E: Write>(
-    sockets: &mut S,
-    conn: &mut Connection<A>,
-    alloc: Global,
-    known: &[Log],
-    at: usize,
-    heard: &mut Vec<Heard>,
-    wanted: Wanted,
-    counts: bool,
-    output: &mut O,
-    errors: &mut E,
-) -> Result<u8, NotDone>
-    ensures told { IfOk result (IsToldBy (O.contents output.old) (O.contents output.new) wanted.source (λ end.
-        HasCleanDisk (state A.Store conn.new) → (state A.Store conn.old).now.schema ≡ archive_schema →
-        KeepsHeard (socket_rules S.opens S.closes S.Socket.sends S.Socket.receives S.Socket.receives_within) known.now heard.old.items heard.new.items wanted sockets.old sockets.new (state A.Store conn.old).now (state A.Store conn.new).now end)) }
-    ensures stays { HasCleanDisk (state A.Store conn.new) → (state A.Store conn.old).now.schema ≡ archive_schema
-        → Survives (state A.Store conn.old) (state A.Store conn.new) (HasAllOf (state A.Store conn.old).now.trees) }
-    ensures clean { HasCleanDisk (state A.Store conn.new) → HasCleanDisk (state A.Store conn.old) }
-    ensures fault { IfErr result (EndsRun (socket_rules S.opens S.closes S.Socket.sends S.Socket.receives S.Socket.receives_within) (IsNoInstance wanted.source.instance) ⊥ sockets.new) }
-{
-    let said = said_of(sockets, alloc, heard.as_slice(), &wanted)?;
-    let on_record = device_on_record(known, at, &wanted.source);
-    let why = hindrance(
-        known,
-        heard.as_slice(),
-        &wanted.source,
-        on_record,
-        said.identity,
-    );
-    keep_unless(
-        sockets, conn, alloc, known, at, heard, wanted, said, why, counts, output, errors,
-    )
-}
-
-/// Keeps what is new of one log, or tells that it isn't asked, if its device gave no answer before.
-fn keep_next<S: Sockets, A: Alter, O: Write, E: Write>(
-    sockets: &mut S,
-    conn: &mut Connection<A>,
-    alloc: Global,
-    known: &[Log],
-    at: usize,
-    heard: &mut Vec<Heard>,
-    wanted: Wanted,
-    counts: bool,
-    output: &mut O,
-    errors: &mut E,
-) -> Result<u8, NotDone>
-    ensures told { IfOk result (IsToldBy (O.contents output.old) (O.contents output.new) wanted.source (λ end.
-        HasCleanDisk (state A.Store conn.new) → (state A.Store conn.old).now.schema ≡ archive_schema →
-        KeepsNext (socket_rules S.opens S.closes S.Socket.sends S.Socket.receives S.Socket.receives_within) known.now heard.old.items heard.new.items wanted sockets.old sockets.new (state A.Store conn.old).now (state A.Store conn.new).now end)) }
-    ensures stays { HasCleanDisk (state A.Store conn.new) → (state A.Store conn.old).now.schema ≡ archive_schema
-        → Survives (state A.Store conn.old) (state A.Store conn.new) (HasAllOf (state A.Store conn.old).now.trees) }
-    ensures clean { HasCleanDisk (state A.Store conn.new) → HasCleanDisk (state A.Store conn.old) }
-    ensures fault { IfErr result (EndsRun (socket_rules S.opens S.closes S.Socket.sends S.Socket.receives S.Socket.receives_within) (IsNoInstance wanted.source.instance) ⊥ sockets.new) }
-{
-    if is_silent(heard.as_slice(), &wanted.source) {
-        let log = log_among(known, at, &wanted.source);
-        return pass_over(conn, alloc, log, &wanted.source, Ending::NotAsked, output);
-    }
-    keep_heard(
-        sockets, conn, alloc, known, at, heard, wanted, counts, output, errors,
-    )
-}
-
 /// Keeps what is new of each of these logs in an archive that has these logs, where this was heard
 /// of devices before.
-fn keep_known<S: Sockets, A: Alter, O: Write, E: Write>(
+fn keep_known<S: Heeds, A: Alter, O: Write, E: Write>(
     sockets: &mut S,
     conn: &mut Connection<A>,
     alloc: Global,
@@ -310,13 +120,26 @@ fn keep_known<S: Sockets, A: Alter, O: Write, E: Write>(
     output: &mut O,
     errors: &mut E,
 ) -> Result<u8, NotDone>
-    ensures told { IfOk result (AreToldBy (O.contents output.old) (O.contents output.new) all.items (λ ends.
-        HasCleanDisk (state A.Store conn.new) → (state A.Store conn.old).now.schema ≡ archive_schema →
-        (last : List HeardOf) × KeepsAll (socket_rules S.opens S.closes S.Socket.sends S.Socket.receives S.Socket.receives_within) known.now heard.items last all.items sockets.old sockets.new (state A.Store conn.old).now (state A.Store conn.new).now ends)) }
-    ensures stays { HasCleanDisk (state A.Store conn.new) → (state A.Store conn.old).now.schema ≡ archive_schema
-        → Survives (state A.Store conn.old) (state A.Store conn.new) (HasAllOf (state A.Store conn.old).now.trees) }
+    ensures told { IfOk result (AreToldBy (O.contents output.old) (O.contents output.new) all.items
+        (λ ends. HasCleanDisk (state A.Store conn.new)
+        → (state A.Store conn.old).now.schema ≡ archive_schema
+        → (last : List HeardOf) × KeepsAll (socket_rules S.opens S.closes S.Socket.sends
+        S.Socket.receives S.Socket.receives_within) known.now heard.items last
+        all.items sockets.old sockets.new (state A.Store conn.old).now
+        (state A.Store conn.new).now ends)) }
+    ensures stays { HasCleanDisk (state A.Store conn.new)
+        → (state A.Store conn.old).now.schema ≡ archive_schema
+        → Survives (state A.Store conn.old) (state A.Store conn.new)
+        (HasAllOf (state A.Store conn.old).now.trees) }
     ensures clean { HasCleanDisk (state A.Store conn.new) → HasCleanDisk (state A.Store conn.old) }
-    ensures fault { IfErr result (EndsRun (socket_rules S.opens S.closes S.Socket.sends S.Socket.receives S.Socket.receives_within) (HasNoInstance all.items) ⊥ sockets.new) }
+    ensures fault { IfErr result (EndsRun (socket_rules S.opens S.closes S.Socket.sends
+        S.Socket.receives S.Socket.receives_within) (HasNoInstance all.items) ⊥
+        sockets.new) }
+    ensures caused { HasCleanDisk (state A.Store conn.new)
+        → (state A.Store conn.old).now.schema ≡ archive_schema
+        → IfErr result (EndsAll (socket_rules S.opens S.closes S.Socket.sends S.Socket.receives
+        S.Socket.receives_within) known.now heard.items all.items sockets.old
+        sockets.new (state A.Store conn.old).now) }
 {
     let mut heard = heard;
     let mut greatest = 0u8;
@@ -333,13 +156,17 @@ fn keep_known<S: Sockets, A: Alter, O: Write, E: Write>(
 
 /// The logs of an archive.
 fn logs_of<A: Alter>(conn: &mut Connection<A>, alloc: Global) -> Result<Vec<Log>, NotDone>
-    ensures logs { HasCleanDisk (state A.Store conn.new) → (state A.Store conn.old).now.schema ≡ archive_schema
+    ensures logs { HasCleanDisk (state A.Store conn.new)
+        → (state A.Store conn.old).now.schema ≡ archive_schema
         → IfOk result (λ all. AreLogs (state A.Store conn.old).now.trees all.items) }
-    ensures same { HasCleanDisk (state A.Store conn.new) → (state A.Store conn.old).now.schema ≡ archive_schema
+    ensures same { HasCleanDisk (state A.Store conn.new)
+        → (state A.Store conn.old).now.schema ≡ archive_schema
         → OnOk result ((state A.Store conn.new).now ≡ (state A.Store conn.old).now) }
-    ensures crash { (state A.Store conn.old).now.schema ≡ archive_schema → Survives (state A.Store conn.old) (state A.Store conn.new) (λ _. ⊥) }
+    ensures crash { (state A.Store conn.old).now.schema ≡ archive_schema
+        → Survives (state A.Store conn.old) (state A.Store conn.new) (λ _. ⊥) }
     ensures clean { HasCleanDisk (state A.Store conn.new) → HasCleanDisk (state A.Store conn.old) }
     ensures fault { IfErr result EndsLog }
+    ensures caused { IfErr result FailsOnRows }
 {
     match logs(alloc, conn) {
         Ok(known) => Ok(known),
@@ -348,7 +175,7 @@ fn logs_of<A: Alter>(conn: &mut Connection<A>, alloc: Global) -> Result<Vec<Log>
 }
 
 /// Keeps what is new of each of these logs in an archive, where this was heard of devices before.
-fn keep_settled<S: Sockets, A: Alter, O: Write, E: Write>(
+fn keep_settled<S: Heeds, A: Alter, O: Write, E: Write>(
     sockets: &mut S,
     conn: &mut Connection<A>,
     alloc: Global,
@@ -358,14 +185,27 @@ fn keep_settled<S: Sockets, A: Alter, O: Write, E: Write>(
     output: &mut O,
     errors: &mut E,
 ) -> Result<u8, NotDone>
-    ensures told { IfOk result (AreToldBy (O.contents output.old) (O.contents output.new) all.items (λ ends.
-        HasCleanDisk (state A.Store conn.new) → (state A.Store conn.old).now.schema ≡ archive_schema →
-        (known : List LogOf) × AreLogs (state A.Store conn.old).now.trees known × (last : List HeardOf)
-        × KeepsAll (socket_rules S.opens S.closes S.Socket.sends S.Socket.receives S.Socket.receives_within) known heard.items last all.items sockets.old sockets.new (state A.Store conn.old).now (state A.Store conn.new).now ends)) }
-    ensures stays { HasCleanDisk (state A.Store conn.new) → (state A.Store conn.old).now.schema ≡ archive_schema
-        → Survives (state A.Store conn.old) (state A.Store conn.new) (HasAllOf (state A.Store conn.old).now.trees) }
+    ensures told { IfOk result (AreToldBy (O.contents output.old) (O.contents output.new) all.items
+        (λ ends. HasCleanDisk (state A.Store conn.new)
+        → (state A.Store conn.old).now.schema ≡ archive_schema
+        → (known : List LogOf) × AreLogs (state A.Store conn.old).now.trees known
+        × (last : List HeardOf) × KeepsAll (socket_rules S.opens S.closes S.Socket.sends
+        S.Socket.receives S.Socket.receives_within) known heard.items last
+        all.items sockets.old sockets.new (state A.Store conn.old).now
+        (state A.Store conn.new).now ends)) }
+    ensures stays { HasCleanDisk (state A.Store conn.new)
+        → (state A.Store conn.old).now.schema ≡ archive_schema
+        → Survives (state A.Store conn.old) (state A.Store conn.new)
+        (HasAllOf (state A.Store conn.old).now.trees) }
     ensures clean { HasCleanDisk (state A.Store conn.new) → HasCleanDisk (state A.Store conn.old) }
-    ensures fault { IfErr result (EndsRun (socket_rules S.opens S.closes S.Socket.sends S.Socket.receives S.Socket.receives_within) (HasNoInstance all.items) ⊥ sockets.new) }
+    ensures fault { IfErr result (EndsRun (socket_rules S.opens S.closes S.Socket.sends
+        S.Socket.receives S.Socket.receives_within) (HasNoInstance all.items) ⊥
+        sockets.new) }
+    ensures caused { HasCleanDisk (state A.Store conn.new)
+        → (state A.Store conn.old).now.schema ≡ archive_schema
+        → IfErr result (EndsSettled (socket_rules S.opens S.closes S.Socket.sends S.Socket.receives
+        S.Socket.receives_within) heard.items all.items sockets.old sockets.new
+        (state A.Store conn.old).now) }
 {
     let known = logs_of(conn, alloc)?;
     keep_known(
@@ -390,16 +230,29 @@ fn settle_known<S: Sockets, A: Alter, E: Write>(
     options: &Options<'_>,
     errors: &mut E,
 ) -> Result<Vec<Heard>, NotDone>
-    ensures settled { HasCleanDisk (state A.Store conn.new) → (state A.Store conn.old).now.schema ≡ archive_schema → IfOk result (λ heard.
-        (known : List LogOf) × AreLogs (state A.Store conn.old).now.trees known
-        × Settles (socket_rules S.opens S.closes S.Socket.sends S.Socket.receives S.Socket.receives_within) known all.now sockets.old heard.items sockets.new
+    ensures settled { HasCleanDisk (state A.Store conn.new)
+        → (state A.Store conn.old).now.schema ≡ archive_schema
+        → IfOk result (λ heard. (known : List LogOf)
+        × AreLogs (state A.Store conn.old).now.trees known
+        × Settles (socket_rules S.opens S.closes S.Socket.sends S.Socket.receives
+        S.Socket.receives_within) known all.now sockets.old heard.items sockets.new
         (state A.Store conn.old).now (state A.Store conn.new).now) }
-    ensures stays { HasCleanDisk (state A.Store conn.new) → (state A.Store conn.old).now.schema ≡ archive_schema
-        → Survives (state A.Store conn.old) (state A.Store conn.new) (HasAllOf (state A.Store conn.old).now.trees) }
+    ensures stays { HasCleanDisk (state A.Store conn.new)
+        → (state A.Store conn.old).now.schema ≡ archive_schema
+        → Survives (state A.Store conn.old) (state A.Store conn.new)
+        (HasAllOf (state A.Store conn.old).now.trees) }
     ensures clean { HasCleanDisk (state A.Store conn.new) → HasCleanDisk (state A.Store conn.old) }
-    ensures fault { IfErr result (EndsRun (socket_rules S.opens S.closes S.Socket.sends S.Socket.receives S.Socket.receives_within) ⊥
-        (HasCleanDisk (state A.Store conn.new) → (state A.Store conn.old).now.schema ≡ archive_schema
-        → LacksAddress (given_in options.now) (state A.Store conn.old).now.trees) sockets.new) }
+    ensures fault { IfErr result (EndsRun (socket_rules S.opens S.closes S.Socket.sends
+        S.Socket.receives S.Socket.receives_within) ⊥
+        (HasCleanDisk (state A.Store conn.new)
+        → (state A.Store conn.old).now.schema ≡ archive_schema
+        → LacksAddress (given_in options.now) (state A.Store conn.old).now.trees)
+        sockets.new) }
+    ensures caused { HasCleanDisk (state A.Store conn.new)
+        → (state A.Store conn.old).now.schema ≡ archive_schema
+        → IfErr result (FailsToSettle (socket_rules S.opens S.closes S.Socket.sends
+        S.Socket.receives S.Socket.receives_within) (given_in options.now) all.now
+        sockets.old sockets.new (state A.Store conn.old).now) }
 {
     let known = logs_of(conn, alloc)?;
     settle(sockets, conn, alloc, known.as_slice(), all, options, errors)
@@ -410,7 +263,7 @@ fn settle_known<S: Sockets, A: Alter, E: Write>(
 /// record isn't asked for its logs, nor is one that gave no answer before. A device that tells at a
 /// new place the instance on record of logs at another one has moved, if nobody tells it there. If
 /// it counts, the errors have the number of a log's records while it is fetched: for a terminal.
-pub fn keep_each<S: Sockets, A: Alter, O: Write, E: Write>(
+pub fn keep_each<S: Heeds, A: Alter, O: Write, E: Write>(
     sockets: &mut S,
     conn: &mut Connection<A>,
     alloc: Global,
@@ -421,20 +274,33 @@ pub fn keep_each<S: Sockets, A: Alter, O: Write, E: Write>(
     errors: &mut E,
 ) -> Result<u8, NotDone>
     // A line tells each log, in their order; each is kept in the archive that the one before left,
-    // if its device tells the instance that is on record, or none is; or it isn't asked, if its device
-    // gave no answer before.
-    ensures told { IfOk result (AreToldBy (O.contents output.old) (O.contents output.new) all.items (λ ends.
-        HasCleanDisk (state A.Store conn.new) → (state A.Store conn.old).now.schema ≡ archive_schema →
-        KeepsLogs (socket_rules S.opens S.closes S.Socket.sends S.Socket.receives S.Socket.receives_within) all.items sockets.old sockets.new (state A.Store conn.old).now (state A.Store conn.new).now ends)) }
+    // if its device tells the instance that is on record, or none is; or it isn't asked, if its
+    // device gave no answer before.
+    ensures told { IfOk result (AreToldBy (O.contents output.old) (O.contents output.new) all.items
+        (λ ends. HasCleanDisk (state A.Store conn.new)
+        → (state A.Store conn.old).now.schema ≡ archive_schema
+        → KeepsLogs (socket_rules S.opens S.closes S.Socket.sends S.Socket.receives
+        S.Socket.receives_within) all.items sockets.old sockets.new
+        (state A.Store conn.old).now (state A.Store conn.new).now ends)) }
     // Whatever comes of it, no item and no log is lost: what is on the disk then, or is left by a
     // crash at any moment before, is what was there or has all of it.
-    ensures stays { HasCleanDisk (state A.Store conn.new) → (state A.Store conn.old).now.schema ≡ archive_schema
-        → Survives (state A.Store conn.old) (state A.Store conn.new) (HasAllOf (state A.Store conn.old).now.trees) }
+    ensures stays { HasCleanDisk (state A.Store conn.new)
+        → (state A.Store conn.old).now.schema ≡ archive_schema
+        → Survives (state A.Store conn.old) (state A.Store conn.new)
+        (HasAllOf (state A.Store conn.old).now.trees) }
     ensures clean { HasCleanDisk (state A.Store conn.new) → HasCleanDisk (state A.Store conn.old) }
     // Or it ends before that.
-    ensures fault { IfErr result (EndsRun (socket_rules S.opens S.closes S.Socket.sends S.Socket.receives S.Socket.receives_within) (HasNoInstance all.items)
-        (HasCleanDisk (state A.Store conn.new) → (state A.Store conn.old).now.schema ≡ archive_schema
-        → LacksAddress (given_in options.now) (state A.Store conn.old).now.trees) sockets.new) }
+    ensures fault { IfErr result (EndsRun (socket_rules S.opens S.closes S.Socket.sends
+        S.Socket.receives S.Socket.receives_within) (HasNoInstance all.items)
+        (HasCleanDisk (state A.Store conn.new)
+        → (state A.Store conn.old).now.schema ≡ archive_schema
+        → LacksAddress (given_in options.now) (state A.Store conn.old).now.trees)
+        sockets.new) }
+    ensures caused { HasCleanDisk (state A.Store conn.new)
+        → (state A.Store conn.old).now.schema ≡ archive_schema
+        → IfErr result (EndsLogs (socket_rules S.opens S.closes S.Socket.sends S.Socket.receives
+        S.Socket.receives_within) (given_in options.now) all.items sockets.old
+        sockets.new (state A.Store conn.old).now) }
 {
     let heard = settle_known(sockets, conn, alloc, all.as_slice(), options, errors)?;
     keep_settled(sockets, conn, alloc, heard, all, counts, output, errors)
@@ -450,19 +316,28 @@ fn chosen_logs<S: Sockets, A: Alter>(
 ) -> Result<Vec<Wanted>, NotDone>
     requires { AskTheirSources chosen }
     ensures asks { IfOk result (λ all. All AsksItsSource all.items) }
-    ensures chosen { HasCleanDisk (state A.Store conn.new) → (state A.Store conn.old).now.schema ≡ archive_schema
+    ensures chosen { HasCleanDisk (state A.Store conn.new)
+        → (state A.Store conn.old).now.schema ≡ archive_schema
         → IfOk result (λ all. AreChosen chosen (state A.Store conn.old).now.trees all.items) }
-    // Those of a file are one at least, those of a device those of its Object_List, and no socket is
-    // opened for others.
-    ensures found { IfOk result (λ all. AreFound (socket_rules S.opens S.closes S.Socket.sends S.Socket.receives S.Socket.receives_within) chosen sockets.old all.items sockets.new) }
-    ensures same { HasCleanDisk (state A.Store conn.new) → (state A.Store conn.old).now.schema ≡ archive_schema
+    // Those of a file are one at least, those of a device those of its Object_List, and no socket
+    // is opened for others.
+    ensures found { IfOk result (λ all. AreFound
+        (socket_rules S.opens S.closes S.Socket.sends S.Socket.receives
+        S.Socket.receives_within) chosen sockets.old all.items sockets.new) }
+    ensures same { HasCleanDisk (state A.Store conn.new)
+        → (state A.Store conn.old).now.schema ≡ archive_schema
         → OnOk result ((state A.Store conn.new).now ≡ (state A.Store conn.old).now) }
-    ensures crash { (state A.Store conn.old).now.schema ≡ archive_schema → Survives (state A.Store conn.old) (state A.Store conn.new) (λ _. ⊥) }
+    ensures crash { (state A.Store conn.old).now.schema ≡ archive_schema
+        → Survives (state A.Store conn.old) (state A.Store conn.new) (λ _. ⊥) }
     ensures clean { HasCleanDisk (state A.Store conn.new) → HasCleanDisk (state A.Store conn.old) }
-    ensures fault { IfErr result (EndsChosen (socket_rules S.opens S.closes S.Socket.sends S.Socket.receives S.Socket.receives_within) chosen
-        (HasCleanDisk (state A.Store conn.new) → (state A.Store conn.old).now.schema ≡ archive_schema
+    ensures fault { IfErr result (EndsChosen
+        (socket_rules S.opens S.closes S.Socket.sends S.Socket.receives
+        S.Socket.receives_within) chosen
+        (HasCleanDisk (state A.Store conn.new)
+        → (state A.Store conn.old).now.schema ≡ archive_schema
         → HasNone (state A.Store conn.old).now.trees)
-        (HasCleanDisk (state A.Store conn.new) → (state A.Store conn.old).now.schema ≡ archive_schema
+        (HasCleanDisk (state A.Store conn.new)
+        → (state A.Store conn.old).now.schema ≡ archive_schema
         → LacksAddress (given_in options.now) (state A.Store conn.old).now.trees)
         sockets.old sockets.new) }
 {
@@ -474,7 +349,7 @@ fn chosen_logs<S: Sockets, A: Alter>(
 }
 
 /// Keeps what is new of the logs that were chosen.
-pub fn keep_chosen<S: Sockets, A: Alter, O: Write, E: Write>(
+pub fn keep_chosen<S: Heeds, A: Alter, O: Write, E: Write>(
     sockets: &mut S,
     conn: &mut Connection<A>,
     alloc: Global,
@@ -486,23 +361,40 @@ pub fn keep_chosen<S: Sockets, A: Alter, O: Write, E: Write>(
 ) -> Result<u8, NotDone>
     requires { AskTheirSources chosen }
     // They are asked of the devices under which they are kept.
-    ensures told { IfOk result (λ status. (all : List WantedOf) × (between : S) × All AsksItsSource all
-        × AreFound (socket_rules S.opens S.closes S.Socket.sends S.Socket.receives S.Socket.receives_within) chosen sockets.old all between
-        × (HasCleanDisk (state A.Store conn.new) → (state A.Store conn.old).now.schema ≡ archive_schema → AreChosen chosen (state A.Store conn.old).now.trees all)
-        × AreToldBy (O.contents output.old) (O.contents output.new) all (λ ends.
-        HasCleanDisk (state A.Store conn.new) → (state A.Store conn.old).now.schema ≡ archive_schema →
-        KeepsLogs (socket_rules S.opens S.closes S.Socket.sends S.Socket.receives S.Socket.receives_within) all between sockets.new (state A.Store conn.old).now (state A.Store conn.new).now ends) status) }
+    ensures told { IfOk result (λ status. (all : List WantedOf) × (between : S)
+        × All AsksItsSource all × AreFound (socket_rules S.opens S.closes S.Socket.sends
+        S.Socket.receives S.Socket.receives_within) chosen sockets.old all between
+        × (HasCleanDisk (state A.Store conn.new)
+        → (state A.Store conn.old).now.schema ≡ archive_schema
+        → AreChosen chosen (state A.Store conn.old).now.trees all)
+        × AreToldBy (O.contents output.old) (O.contents output.new) all
+        (λ ends. HasCleanDisk (state A.Store conn.new)
+        → (state A.Store conn.old).now.schema ≡ archive_schema
+        → KeepsLogs (socket_rules S.opens S.closes S.Socket.sends S.Socket.receives
+        S.Socket.receives_within) all between sockets.new
+        (state A.Store conn.old).now (state A.Store conn.new).now ends) status) }
     // Whatever comes of it, no item and no log is lost.
-    ensures stays { HasCleanDisk (state A.Store conn.new) → (state A.Store conn.old).now.schema ≡ archive_schema
-        → Survives (state A.Store conn.old) (state A.Store conn.new) (HasAllOf (state A.Store conn.old).now.trees) }
+    ensures stays { HasCleanDisk (state A.Store conn.new)
+        → (state A.Store conn.old).now.schema ≡ archive_schema
+        → Survives (state A.Store conn.old) (state A.Store conn.new)
+        (HasAllOf (state A.Store conn.old).now.trees) }
     ensures clean { HasCleanDisk (state A.Store conn.new) → HasCleanDisk (state A.Store conn.old) }
     // Or their names aren't found, or the run over them ends before that.
-    ensures fault { IfErr result (EndsKeeping (socket_rules S.opens S.closes S.Socket.sends S.Socket.receives S.Socket.receives_within) chosen
-        (HasCleanDisk (state A.Store conn.new) → (state A.Store conn.old).now.schema ≡ archive_schema
+    ensures fault { IfErr result (EndsKeeping
+        (socket_rules S.opens S.closes S.Socket.sends S.Socket.receives
+        S.Socket.receives_within) chosen
+        (HasCleanDisk (state A.Store conn.new)
+        → (state A.Store conn.old).now.schema ≡ archive_schema
         → HasNone (state A.Store conn.old).now.trees)
-        (HasCleanDisk (state A.Store conn.new) → (state A.Store conn.old).now.schema ≡ archive_schema
+        (HasCleanDisk (state A.Store conn.new)
+        → (state A.Store conn.old).now.schema ≡ archive_schema
         → LacksAddress (given_in options.now) (state A.Store conn.old).now.trees)
         sockets.old sockets.new) }
+    ensures caused { HasCleanDisk (state A.Store conn.new)
+        → (state A.Store conn.old).now.schema ≡ archive_schema
+        → IfErr result (EndsRunOver (socket_rules S.opens S.closes S.Socket.sends S.Socket.receives
+        S.Socket.receives_within) (given_in options.now) chosen sockets.old sockets.new
+        (state A.Store conn.old).now) }
 {
     let all = chosen_logs(sockets, conn, alloc, chosen, options)?;
     keep_each(sockets, conn, alloc, all, options, counts, output, errors)

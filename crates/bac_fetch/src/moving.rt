@@ -1,6 +1,7 @@
-//! A device that has moved: it tells at one place the instance that is on record of logs at another.
+//! A device that has moved: it tells at one place the instance that is on record of logs at
+//! another.
 
-ghost use Rattle.std.specs.Prelude.{◌≡◌, ◌++◌, map, true, IfOk, OnOk, option_map, IfErr};
+ghost use Rattle.std.specs.Prelude.{◌≡◌, ◌++◌, ℕ, map, true, IfOk, OnOk, option_map, IfErr};
 ghost use Rattle.sqlite.specs.State.{HasCleanDisk, Survives};
 ghost use Rattle.sqlite.specs.Held.{state};
 ghost use Rattle.bac_archive.specs.Changes.{HasChangedLogs};
@@ -11,8 +12,12 @@ ghost use Rattle.std.specs.String.{string_bytes};
 ghost use Rattle.bac_asked.specs.Wanted.{AsksItsSource, HasNoAddress};
 ghost use Rattle.bac_asked.specs.AsLog.{given_in};
 ghost use Rattle.bac_asked.specs.Faults.{WantsMemory};
+ghost use Rattle.bac_fetch.specs.Causes.{EndsFirst, EndsMoving, EndsSettling, EndsThere};
+ghost use Rattle.bac_fetch.specs.Causes.{FailsOnRows};
 ghost use Rattle.bac_fetch.specs.Faults.{EndsLog, EndsRun, HaveNoAddress};
-ghost use Rattle.bac_fetch.specs.Moves.{AreMoved, AsksThere, IsElsewhere, Settles, SettlesBy, SettlesFirst, SettlesUnless, is_placed, moved_columns, moved_of, stands};
+ghost use Rattle.bac_fetch.specs.Moves.{AreMoved, AsksThere, IsElsewhere, Settles, SettlesBy};
+ghost use Rattle.bac_fetch.specs.Moves.{SettlesFirst, SettlesUnless, is_placed, moved_columns};
+ghost use Rattle.bac_fetch.specs.Moves.{moved_of, stands};
 ghost use Rattle.bac_fetch.specs.Said.{Identifies};
 ghost use Rattle.bac_fetch.specs.Silent.{is_same_device};
 ghost use Rattle.bac_fetch.specs.Stays.{HasAllOf};
@@ -83,7 +88,8 @@ fn add_moved(
     from: &Source,
     to: &Source,
 ) -> Result<(), AllocError>
-    ensures { OnOk result (map log_columns moved.new.items ≡ map log_columns moved.old.items ++ moved_of device from.now to.now log.now) }
+    ensures { OnOk result (map log_columns moved.new.items
+        ≡ map log_columns moved.old.items ++ moved_of device from.now to.now log.now) }
 {
     if of_device(log, device) && is_same_device(&log.source, from) {
         moved.push(moved_log(alloc, log, to)?)?;
@@ -117,12 +123,16 @@ fn move_logs<A: Alter>(
     from: &Source,
     to: &Source,
 ) -> Result<(), NotDone>
-    ensures moved { HasCleanDisk (state A.Store conn.new) → (state A.Store conn.old).now.schema ≡ archive_schema → OnOk result
-        ((moved : _) × AreMoved device from.now to.now known.now moved × HasChangedLogs (state A.Store conn.old).now (state A.Store conn.new).now moved) }
+    ensures moved { HasCleanDisk (state A.Store conn.new)
+        → (state A.Store conn.old).now.schema ≡ archive_schema
+        → OnOk result ((moved : _) × AreMoved device from.now to.now known.now moved
+        × HasChangedLogs (state A.Store conn.old).now (state A.Store conn.new).now moved) }
     ensures stays { (state A.Store conn.old).now.schema ≡ archive_schema
-        → Survives (state A.Store conn.old) (state A.Store conn.new) (HasAllOf (state A.Store conn.old).now.trees) }
+        → Survives (state A.Store conn.old) (state A.Store conn.new)
+        (HasAllOf (state A.Store conn.old).now.trees) }
     ensures clean { HasCleanDisk (state A.Store conn.new) → HasCleanDisk (state A.Store conn.old) }
     ensures fault { IfErr result EndsLog }
+    ensures caused { IfErr result FailsOnRows }
 {
     let Ok(moved) = moved_to(alloc, known, device, from, to) else {
         return Err(NotDone::Asking(Fault::Memory));
@@ -160,8 +170,10 @@ fn tell_place<E: Write>(
 /// The same place once more.
 fn copy_source(alloc: Global, source: &Source) -> Result<Source, NotDone>
     ensures copy { IfOk result (λ copy. is_same_device copy source.now ≡ true) }
-    ensures same { IfOk result (λ copy. (string_bytes copy.address ≡ string_bytes source.now.address) × (copy.dnet ≡ source.now.dnet)
-        × (string_bytes copy.dadr ≡ string_bytes source.now.dadr) × (copy.instance ≡ source.now.instance)) }
+    ensures same { IfOk result (λ copy. (string_bytes copy.address
+        ≡ string_bytes source.now.address) × (copy.dnet ≡ source.now.dnet)
+        × (string_bytes copy.dadr ≡ string_bytes source.now.dadr)
+        × (copy.instance ≡ source.now.instance)) }
     ensures fault { IfErr result WantsMemory }
 {
     let (Ok(address), Ok(dadr)) = (
@@ -185,9 +197,16 @@ fn identify_there<S: Sockets>(
     from: &Source,
     options: &Options<'_>,
 ) -> Result<Said, NotDone>
-    ensures identifies { IfOk result (λ said. (there : _) × AsksItsSource there × (is_same_device there.source from.now ≡ true)
-        × Identifies (socket_rules S.opens S.closes S.Socket.sends S.Socket.receives S.Socket.receives_within) there.asking sockets.old said sockets.new) }
-    ensures fault { IfErr result (EndsRun (socket_rules S.opens S.closes S.Socket.sends S.Socket.receives S.Socket.receives_within) ⊥ (HasNoAddress (given_in options.now) from.now) sockets.new) }
+    ensures identifies { IfOk result (λ said. (there : _) × AsksItsSource there
+        × (is_same_device there.source from.now ≡ true)
+        × Identifies (socket_rules S.opens S.closes S.Socket.sends S.Socket.receives
+        S.Socket.receives_within) there.asking sockets.old said sockets.new) }
+    ensures fault { IfErr result (EndsRun (socket_rules S.opens S.closes S.Socket.sends
+        S.Socket.receives S.Socket.receives_within) ⊥
+        (HasNoAddress (given_in options.now) from.now) sockets.new) }
+    ensures caused { IfErr result (EndsThere
+        (socket_rules S.opens S.closes S.Socket.sends S.Socket.receives
+        S.Socket.receives_within) (given_in options.now) from.now sockets.old sockets.new) }
 {
     let there = kept_at(alloc, copy_source(alloc, from)?, options)?;
     identify(sockets, alloc, &there.asking)
@@ -205,13 +224,21 @@ fn settle_from<S: Sockets, A: Alter, E: Write>(
     options: &Options<'_>,
     errors: &mut E,
 ) -> Result<(), NotDone>
-    ensures settled { HasCleanDisk (state A.Store conn.new) → (state A.Store conn.old).now.schema ≡ archive_schema → OnOk result
-        (AsksThere (socket_rules S.opens S.closes S.Socket.sends S.Socket.receives S.Socket.receives_within) device from.now to.now known.now sockets.old sockets.new
-        (state A.Store conn.old).now (state A.Store conn.new).now) }
+    ensures settled { HasCleanDisk (state A.Store conn.new)
+        → (state A.Store conn.old).now.schema ≡ archive_schema
+        → OnOk result (AsksThere (socket_rules S.opens S.closes S.Socket.sends S.Socket.receives
+        S.Socket.receives_within) device from.now to.now known.now sockets.old
+        sockets.new (state A.Store conn.old).now (state A.Store conn.new).now) }
     ensures stays { (state A.Store conn.old).now.schema ≡ archive_schema
-        → Survives (state A.Store conn.old) (state A.Store conn.new) (HasAllOf (state A.Store conn.old).now.trees) }
+        → Survives (state A.Store conn.old) (state A.Store conn.new)
+        (HasAllOf (state A.Store conn.old).now.trees) }
     ensures clean { HasCleanDisk (state A.Store conn.new) → HasCleanDisk (state A.Store conn.old) }
-    ensures fault { IfErr result (EndsRun (socket_rules S.opens S.closes S.Socket.sends S.Socket.receives S.Socket.receives_within) ⊥ (HasNoAddress (given_in options.now) from.now) sockets.new) }
+    ensures fault { IfErr result (EndsRun (socket_rules S.opens S.closes S.Socket.sends
+        S.Socket.receives S.Socket.receives_within) ⊥
+        (HasNoAddress (given_in options.now) from.now) sockets.new) }
+    ensures caused { IfErr result (EndsThere
+        (socket_rules S.opens S.closes S.Socket.sends S.Socket.receives
+        S.Socket.receives_within) (given_in options.now) from.now sockets.old sockets.new) }
 {
     let said = identify_there(sockets, alloc, from, options)?;
     if is_told(device, said.identity) {
@@ -232,13 +259,22 @@ fn settle_by<S: Sockets, A: Alter, E: Write>(
     options: &Options<'_>,
     errors: &mut E,
 ) -> Result<(), NotDone>
-    ensures settled { HasCleanDisk (state A.Store conn.new) → (state A.Store conn.old).now.schema ≡ archive_schema → OnOk result
-        (SettlesBy (socket_rules S.opens S.closes S.Socket.sends S.Socket.receives S.Socket.receives_within) known.now to.now identity sockets.old sockets.new
+    ensures settled { HasCleanDisk (state A.Store conn.new)
+        → (state A.Store conn.old).now.schema ≡ archive_schema
+        → OnOk result (SettlesBy (socket_rules S.opens S.closes S.Socket.sends S.Socket.receives
+        S.Socket.receives_within) known.now to.now identity sockets.old sockets.new
         (state A.Store conn.old).now (state A.Store conn.new).now) }
     ensures stays { (state A.Store conn.old).now.schema ≡ archive_schema
-        → Survives (state A.Store conn.old) (state A.Store conn.new) (HasAllOf (state A.Store conn.old).now.trees) }
+        → Survives (state A.Store conn.old) (state A.Store conn.new)
+        (HasAllOf (state A.Store conn.old).now.trees) }
     ensures clean { HasCleanDisk (state A.Store conn.new) → HasCleanDisk (state A.Store conn.old) }
-    ensures fault { IfErr result (EndsRun (socket_rules S.opens S.closes S.Socket.sends S.Socket.receives S.Socket.receives_within) ⊥ (HaveNoAddress (given_in options.now) known.now) sockets.new) }
+    ensures fault { IfErr result (EndsRun (socket_rules S.opens S.closes S.Socket.sends
+        S.Socket.receives S.Socket.receives_within) ⊥
+        (HaveNoAddress (given_in options.now) known.now) sockets.new) }
+    ensures caused { IfErr result (λ fault. (device : ℕ) × (identity ≡ Identity.Told device)
+        × EndsMoving (socket_rules S.opens S.closes S.Socket.sends S.Socket.receives
+        S.Socket.receives_within) (given_in options.now) known.now to.now device
+        sockets.old sockets.new fault) }
 {
     let Identity::Told(device) = identity else {
         return Ok(());
@@ -269,13 +305,22 @@ fn settle_first<S: Sockets, A: Alter, E: Write>(
     options: &Options<'_>,
     errors: &mut E,
 ) -> Result<Heard, NotDone>
-    ensures settled { HasCleanDisk (state A.Store conn.new) → (state A.Store conn.old).now.schema ≡ archive_schema → IfOk result
-        (λ one. SettlesFirst (socket_rules S.opens S.closes S.Socket.sends S.Socket.receives S.Socket.receives_within) known.now first.now sockets.old one sockets.new
-        (state A.Store conn.old).now (state A.Store conn.new).now) }
+    ensures settled { HasCleanDisk (state A.Store conn.new)
+        → (state A.Store conn.old).now.schema ≡ archive_schema
+        → IfOk result (λ one. SettlesFirst (socket_rules S.opens S.closes S.Socket.sends
+        S.Socket.receives S.Socket.receives_within) known.now first.now sockets.old one
+        sockets.new (state A.Store conn.old).now (state A.Store conn.new).now) }
     ensures stays { (state A.Store conn.old).now.schema ≡ archive_schema
-        → Survives (state A.Store conn.old) (state A.Store conn.new) (HasAllOf (state A.Store conn.old).now.trees) }
+        → Survives (state A.Store conn.old) (state A.Store conn.new)
+        (HasAllOf (state A.Store conn.old).now.trees) }
     ensures clean { HasCleanDisk (state A.Store conn.new) → HasCleanDisk (state A.Store conn.old) }
-    ensures fault { IfErr result (EndsRun (socket_rules S.opens S.closes S.Socket.sends S.Socket.receives S.Socket.receives_within) ⊥ (HaveNoAddress (given_in options.now) known.now) sockets.new) }
+    ensures fault { IfErr result (EndsRun (socket_rules S.opens S.closes S.Socket.sends
+        S.Socket.receives S.Socket.receives_within) ⊥
+        (HaveNoAddress (given_in options.now) known.now) sockets.new) }
+    ensures caused { IfErr result (EndsFirst
+        (socket_rules S.opens S.closes S.Socket.sends S.Socket.receives
+        S.Socket.receives_within) (given_in options.now) known.now first.now sockets.old
+        sockets.new) }
 {
     let source = copy_source(alloc, &first.source)?;
     let said = identify(sockets, alloc, &first.asking)?;
@@ -307,13 +352,22 @@ fn settle_unless<S: Sockets, A: Alter, E: Write>(
     options: &Options<'_>,
     errors: &mut E,
 ) -> Result<Vec<Heard>, NotDone>
-    ensures settled { HasCleanDisk (state A.Store conn.new) → (state A.Store conn.old).now.schema ≡ archive_schema → IfOk result
-        (λ heard. SettlesUnless (socket_rules S.opens S.closes S.Socket.sends S.Socket.receives S.Socket.receives_within) known.now first.now sockets.old heard.items sockets.new
-        (state A.Store conn.old).now (state A.Store conn.new).now) }
+    ensures settled { HasCleanDisk (state A.Store conn.new)
+        → (state A.Store conn.old).now.schema ≡ archive_schema
+        → IfOk result (λ heard. SettlesUnless (socket_rules S.opens S.closes S.Socket.sends
+        S.Socket.receives S.Socket.receives_within) known.now first.now sockets.old
+        heard.items sockets.new (state A.Store conn.old).now (state A.Store conn.new).now) }
     ensures stays { (state A.Store conn.old).now.schema ≡ archive_schema
-        → Survives (state A.Store conn.old) (state A.Store conn.new) (HasAllOf (state A.Store conn.old).now.trees) }
+        → Survives (state A.Store conn.old) (state A.Store conn.new)
+        (HasAllOf (state A.Store conn.old).now.trees) }
     ensures clean { HasCleanDisk (state A.Store conn.new) → HasCleanDisk (state A.Store conn.old) }
-    ensures fault { IfErr result (EndsRun (socket_rules S.opens S.closes S.Socket.sends S.Socket.receives S.Socket.receives_within) ⊥ (HaveNoAddress (given_in options.now) known.now) sockets.new) }
+    ensures fault { IfErr result (EndsRun (socket_rules S.opens S.closes S.Socket.sends
+        S.Socket.receives S.Socket.receives_within) ⊥
+        (HaveNoAddress (given_in options.now) known.now) sockets.new) }
+    ensures caused { IfErr result (EndsFirst
+        (socket_rules S.opens S.closes S.Socket.sends S.Socket.receives
+        S.Socket.receives_within) (given_in options.now) known.now first.now sockets.old
+        sockets.new) }
 {
     let mut heard = Vec::new(alloc);
     if is_placed(known, &first.source) {
@@ -338,13 +392,22 @@ pub(crate) fn settle<S: Sockets, A: Alter, E: Write>(
     options: &Options<'_>,
     errors: &mut E,
 ) -> Result<Vec<Heard>, NotDone>
-    ensures settled { HasCleanDisk (state A.Store conn.new) → (state A.Store conn.old).now.schema ≡ archive_schema → IfOk result
-        (λ heard. Settles (socket_rules S.opens S.closes S.Socket.sends S.Socket.receives S.Socket.receives_within) known.now all.now sockets.old heard.items sockets.new
-        (state A.Store conn.old).now (state A.Store conn.new).now) }
+    ensures settled { HasCleanDisk (state A.Store conn.new)
+        → (state A.Store conn.old).now.schema ≡ archive_schema
+        → IfOk result (λ heard. Settles (socket_rules S.opens S.closes S.Socket.sends
+        S.Socket.receives S.Socket.receives_within) known.now all.now sockets.old
+        heard.items sockets.new (state A.Store conn.old).now (state A.Store conn.new).now) }
     ensures stays { (state A.Store conn.old).now.schema ≡ archive_schema
-        → Survives (state A.Store conn.old) (state A.Store conn.new) (HasAllOf (state A.Store conn.old).now.trees) }
+        → Survives (state A.Store conn.old) (state A.Store conn.new)
+        (HasAllOf (state A.Store conn.old).now.trees) }
     ensures clean { HasCleanDisk (state A.Store conn.new) → HasCleanDisk (state A.Store conn.old) }
-    ensures fault { IfErr result (EndsRun (socket_rules S.opens S.closes S.Socket.sends S.Socket.receives S.Socket.receives_within) ⊥ (HaveNoAddress (given_in options.now) known.now) sockets.new) }
+    ensures fault { IfErr result (EndsRun (socket_rules S.opens S.closes S.Socket.sends
+        S.Socket.receives S.Socket.receives_within) ⊥
+        (HaveNoAddress (given_in options.now) known.now) sockets.new) }
+    ensures caused { IfErr result (EndsSettling
+        (socket_rules S.opens S.closes S.Socket.sends S.Socket.receives
+        S.Socket.receives_within) (given_in options.now) known.now all.now sockets.old
+        sockets.new) }
 {
     match all {
         [first, ..] => settle_unless(sockets, conn, alloc, known, first, options, errors),

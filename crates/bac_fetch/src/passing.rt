@@ -6,15 +6,18 @@ ghost use Rattle.sqlite.specs.State.{HasCleanDisk, Survives};
 ghost use Rattle.sqlite.specs.Held.{state};
 ghost use Rattle.bac_archive.specs.Schema.{archive_schema};
 ghost use Rattle.bac_asked.specs.Lines.{summary_line};
+ghost use Rattle.bac_fetch.specs.Causes.{FailsOnRows};
 ghost use Rattle.bac_fetch.specs.Faults.{EndsLog};
 ghost use Rattle.bac_fetch.specs.Keeps.{IsNextOf, IsToldBy, next_behind};
 ghost use Rattle.bac_fetch.specs.Whose.{heard_with};
 
 use crate::said::Said;
 use crate::stands::{Stand, last_kept, number_behind, stand_of};
+use crate::telling::tell_why;
 use crate::whose::{Heard, add_heard};
 use bac_archive::{Log, Source};
 use bac_asked::{Began, End, Ending, Fault, NotDone, end_status, push_summary};
+use bac_heeding::Passed;
 use bac_print::write_text;
 use sqlite::{Alter, Connection};
 use std::alloc::Global;
@@ -27,8 +30,10 @@ pub(crate) fn print_end<O: Write>(
     end: &End,
     output: &mut O,
 ) -> Result<(), NotDone>
-    ensures printed { OnOk result (Appends (O.contents output.old) (O.contents output.new) (summary_line source.now end.now)) }
+    ensures printed { OnOk result (Appends (O.contents output.old) (O.contents output.new)
+        (summary_line source.now end.now)) }
     ensures fault { IfErr result EndsLog }
+    ensures caused { IfErr result FailsOnRows }
 {
     let mut text = Vec::new(alloc);
     if push_summary(&mut text, source, end).is_err() {
@@ -56,13 +61,18 @@ fn next_of<A: Alter>(
     alloc: Global,
     id: Option<u16>,
 ) -> Result<u32, NotDone>
-    ensures next { HasCleanDisk (state A.Store conn.new) → (state A.Store conn.old).now.schema ≡ archive_schema
+    ensures next { HasCleanDisk (state A.Store conn.new)
+        → (state A.Store conn.old).now.schema ≡ archive_schema
         → IfOk result (IsNextOf (state A.Store conn.old).now.trees id) }
-    ensures same { HasCleanDisk (state A.Store conn.new) → (state A.Store conn.old).now.schema ≡ archive_schema
+    ensures same { HasCleanDisk (state A.Store conn.new)
+        → (state A.Store conn.old).now.schema ≡ archive_schema
         → OnOk result ((state A.Store conn.new).now ≡ (state A.Store conn.old).now) }
-    ensures crash { (state A.Store conn.old).now.schema ≡ archive_schema → Survives (state A.Store conn.old) (state A.Store conn.new) (λ _. ⊥) }
+    ensures crash { (state A.Store conn.old).now.schema ≡ archive_schema
+        → Survives (state A.Store conn.old) (state A.Store conn.new) (λ _. ⊥) }
     ensures clean { HasCleanDisk (state A.Store conn.new) → HasCleanDisk (state A.Store conn.old) }
     ensures fault { IfErr result EndsLog }
+    ensures caused { HasCleanDisk (state A.Store conn.new)
+        → (state A.Store conn.old).now.schema ≡ archive_schema → IfErr result FailsOnRows }
 {
     let Some(id) = id else {
         return Ok(1);
@@ -89,13 +99,20 @@ pub(crate) fn pass_over<A: Alter, O: Write>(
     why: Ending,
     output: &mut O,
 ) -> Result<u8, NotDone>
-    ensures told { IfOk result (IsToldBy (O.contents output.old) (O.contents output.new) source.now (λ end.
-        (end.records ≡ 0) × (end.gaps ≡ 0) × (end.why ≡ why) × (end.began ≡ Began.GoesOn)
-        × (HasCleanDisk (state A.Store conn.new) → (state A.Store conn.old).now.schema ≡ archive_schema
-        → ((state A.Store conn.new).now ≡ (state A.Store conn.old).now) × IsNextOf (state A.Store conn.old).now.trees (option_map (λ l. l.id) (option_map (λ it. it.now) log.entry)) end.next))) }
-    ensures crash { (state A.Store conn.old).now.schema ≡ archive_schema → Survives (state A.Store conn.old) (state A.Store conn.new) (λ _. ⊥) }
+    ensures told { IfOk result (IsToldBy (O.contents output.old) (O.contents output.new) source.now
+        (λ end. (end.records ≡ 0) × (end.gaps ≡ 0) × (end.why ≡ why)
+        × (end.began ≡ Began.GoesOn) × (HasCleanDisk (state A.Store conn.new)
+        → (state A.Store conn.old).now.schema ≡ archive_schema
+        → ((state A.Store conn.new).now ≡ (state A.Store conn.old).now)
+        × IsNextOf (state A.Store conn.old).now.trees
+        (option_map (λ l. l.id) (option_map (λ it. it.now) log.entry))
+        end.next))) }
+    ensures crash { (state A.Store conn.old).now.schema ≡ archive_schema
+        → Survives (state A.Store conn.old) (state A.Store conn.new) (λ _. ⊥) }
     ensures clean { HasCleanDisk (state A.Store conn.new) → HasCleanDisk (state A.Store conn.old) }
     ensures fault { IfErr result EndsLog }
+    ensures caused { HasCleanDisk (state A.Store conn.new)
+        → (state A.Store conn.old).now.schema ≡ archive_schema → IfErr result FailsOnRows }
 {
     let end = End {
         records: 0,
@@ -109,7 +126,7 @@ pub(crate) fn pass_over<A: Alter, O: Write>(
 }
 
 /// Tells why a log isn't fetched, and what its device was heard to be.
-pub(crate) fn pass_by<A: Alter, O: Write>(
+pub(crate) fn pass_by<A: Alter, O: Write, E: Write>(
     conn: &mut Connection<A>,
     alloc: Global,
     log: Option<&Log>,
@@ -117,18 +134,29 @@ pub(crate) fn pass_by<A: Alter, O: Write>(
     source: Source,
     said: Said,
     why: Ending,
+    passed: Passed,
+    address: [u8; 6],
     output: &mut O,
+    errors: &mut E,
 ) -> Result<u8, NotDone>
-    ensures told { IfOk result (IsToldBy (O.contents output.old) (O.contents output.new) source (λ end.
-        (heard.new.items ≡ heard_with heard.old.items source said end.why)
+    ensures told { IfOk result (IsToldBy (O.contents output.old) (O.contents output.new) source
+        (λ end. (heard.new.items ≡ heard_with heard.old.items source said end.why)
         × (end.records ≡ 0) × (end.gaps ≡ 0) × (end.why ≡ why) × (end.began ≡ Began.GoesOn)
-        × (HasCleanDisk (state A.Store conn.new) → (state A.Store conn.old).now.schema ≡ archive_schema
-        → ((state A.Store conn.new).now ≡ (state A.Store conn.old).now) × IsNextOf (state A.Store conn.old).now.trees (option_map (λ l. l.id) (option_map (λ it. it.now) log.entry)) end.next))) }
-    ensures crash { (state A.Store conn.old).now.schema ≡ archive_schema → Survives (state A.Store conn.old) (state A.Store conn.new) (λ _. ⊥) }
+        × (HasCleanDisk (state A.Store conn.new)
+        → (state A.Store conn.old).now.schema ≡ archive_schema
+        → ((state A.Store conn.new).now ≡ (state A.Store conn.old).now)
+        × IsNextOf (state A.Store conn.old).now.trees
+        (option_map (λ l. l.id) (option_map (λ it. it.now) log.entry))
+        end.next))) }
+    ensures crash { (state A.Store conn.old).now.schema ≡ archive_schema
+        → Survives (state A.Store conn.old) (state A.Store conn.new) (λ _. ⊥) }
     ensures clean { HasCleanDisk (state A.Store conn.new) → HasCleanDisk (state A.Store conn.old) }
     ensures fault { IfErr result EndsLog }
+    ensures caused { HasCleanDisk (state A.Store conn.new)
+        → (state A.Store conn.old).now.schema ≡ archive_schema → IfErr result FailsOnRows }
 {
     let status = pass_over(conn, alloc, log, &source, why, output)?;
+    tell_why(alloc, &source, passed, address, why, errors)?;
     add_heard(heard, source, said, why)?;
     Ok(status)
 }

@@ -1,6 +1,7 @@
 //! Single questions to a device.
 
-ghost use Rattle.std.specs.Prelude.{◌≡◌, Err, ◌<◌, ◌^◌, ℕ, IfErr, IfOk, IfSome, IsNone, IsSomeAnd, List, OnOk};
+ghost use Rattle.std.specs.Prelude.{◌≡◌, Err, ◌<◌, ◌^◌, ℕ, IfErr, IfOk, IfSome, IsNone, IsSomeAnd};
+ghost use Rattle.std.specs.Prelude.{List, OnOk};
 ghost use Rattle.bac_wire.specs.OptionChain.{GivesSome};
 ghost use Rattle.bac_wire.specs.Primitive.{Chars, Id, Primitive, Unsigned};
 ghost use Rattle.bac_wire.specs.View.{view};
@@ -35,7 +36,8 @@ pub(crate) fn values_in(datagram: &Datagram) -> Option<&[u8]>
 /// The one value that octets are.
 fn only_value(octets: &[u8]) -> Option<Value<'_>>
     ensures found { IfSome result (λ value. Spells octets.now (view value)) }
-    ensures only { (value : Primitive) → Spells octets.now value → IsSomeAnd result (λ found. view found ≡ value) }
+    ensures only { (value : Primitive) → Spells octets.now value
+        → IsSomeAnd result (λ found. view found ≡ value) }
 {
     let Ok((value, len)) = read_value(octets) else {
         return None;
@@ -50,7 +52,8 @@ fn only_value(octets: &[u8]) -> Option<Value<'_>>
 /// The one value that an answer has.
 fn value_in(answer: &Datagram) -> Option<Value<'_>>
     ensures found { IfSome result (λ value. Tells answer.now (view value)) }
-    ensures only { (value : Primitive) → Tells answer.now value → IsSomeAnd result (λ found. view found ≡ value) }
+    ensures only { (value : Primitive) → Tells answer.now value
+        → IsSomeAnd result (λ found. view found ≡ value) }
 {
     only_value(values_in(answer)?)
 }
@@ -58,7 +61,8 @@ fn value_in(answer: &Datagram) -> Option<Value<'_>>
 /// The character set and the octets of the text that an answer has.
 pub(crate) fn text_in(answer: &Datagram) -> Option<(u8, &[u8])>
     ensures found { IfSome result (λ it. Tells answer.now (Chars it.0 it.1.now)) }
-    ensures none { IsNone result → (set : ℕ) (octets : List ℕ) → Tells answer.now (Chars set octets) → ⊥ }
+    ensures none { IsNone result → (set : ℕ) (octets : List ℕ) → Tells answer.now (Chars set octets)
+        → ⊥ }
 {
     let Some(value) = value_in(answer) else {
         return None;
@@ -107,7 +111,8 @@ pub(crate) enum Count {
 /// The number of 32 bits that an answer has.
 fn number_in(answer: &Datagram) -> Option<u32>
     ensures found { IfSome result (λ number. Tells answer.now (Unsigned number)) }
-    ensures none { IsNone result → (number : ℕ) → number < 2 ^ 32 → Tells answer.now (Unsigned number) → ⊥ }
+    ensures none { IsNone result → (number : ℕ) → number < 2 ^ 32
+        → Tells answer.now (Unsigned number) → ⊥ }
 {
     let Some(value) = value_in(answer) else {
         return None;
@@ -128,7 +133,8 @@ pub(crate) fn read_unsigned<L: LogLink>(
     object: ObjectId,
     property: u32,
 ) -> Count
-    ensures counts { AsksFor L.asks (towards transactions.old.route) transactions.old.retries link.old object property result link.new }
+    ensures counts { AsksFor L.asks (towards transactions.old.route) transactions.old.retries
+        link.old object property result link.new }
     ensures retries { transactions.new.retries ≡ transactions.old.retries }
     ensures route { transactions.new.route ≡ transactions.old.route }
 {
@@ -149,7 +155,8 @@ pub(crate) fn read_count<L: LogLink>(
     transactions: &mut Transactions,
     log: ObjectId,
 ) -> Count
-    ensures counts { Counts L.asks (towards transactions.old.route) transactions.old.retries link.old log result link.new }
+    ensures counts { Counts L.asks (towards transactions.old.route) transactions.old.retries
+        link.old log result link.new }
     ensures retries { transactions.new.retries ≡ transactions.old.retries }
     ensures route { transactions.new.route ≡ transactions.old.route }
 {
@@ -164,10 +171,14 @@ pub(crate) fn read_number<L: LogLink>(
     property: u32,
     index: Option<u32>,
 ) -> Result<u32, ExchangeFault>
-    ensures reads { IfOk result (λ number. ReadsNumber (Reads L.asks (towards transactions.old.route) transactions.old.retries)
-        (record { object = object; property = property; index = index }) link.old number link.new) }
-    ensures lacks { IfErr result (λ fault. LacksNumber (Reads L.asks (towards transactions.old.route) transactions.old.retries)
-        (record { object = object; property = property; index = index }) link.old fault link.new) }
+    ensures reads { IfOk result (λ number. ReadsNumber
+        (Reads L.asks (towards transactions.old.route) transactions.old.retries)
+        (record { object = object; property = property; index = index }) link.old number
+        link.new) }
+    ensures lacks { IfErr result (λ fault. LacksNumber
+        (Reads L.asks (towards transactions.old.route) transactions.old.retries)
+        (record { object = object; property = property; index = index }) link.old fault
+        link.new) }
     ensures retries { OnOk result (transactions.new.retries ≡ transactions.old.retries) }
     ensures route { OnOk result (transactions.new.route ≡ transactions.old.route) }
 {

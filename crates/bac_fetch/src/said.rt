@@ -8,7 +8,9 @@ ghost use Rattle.bac_ports.specs.Sockets.{socket_rules};
 ghost use Rattle.bac_asked.specs.Faults.{WantsMemory};
 ghost use Rattle.bac_fetch.specs.Faults.{EndsAsking};
 ghost use Rattle.bac_fetch.specs.Discovered.{Reads};
-ghost use Rattle.bac_fetch.specs.Said.{AsksRestart, Identifies, IsIdentity, IsRestart, Says, SaysBehind, SaysMore, TellsDevice, copies, itself_asked, itself_of, nothing_told, says_all, silent};
+ghost use Rattle.bac_fetch.specs.Said.{AsksRestart, Identifies, IsIdentity, IsRestart, Says};
+ghost use Rattle.bac_fetch.specs.Said.{SaysBehind, SaysMore, TellsDevice, copies, itself_asked};
+ghost use Rattle.bac_fetch.specs.Said.{itself_of, nothing_told, says_all, silent};
 
 use crate::discovering::{DEVICE, ITSELF, asked_like};
 use crate::fetching::connect;
@@ -100,7 +102,9 @@ fn read_identity<L: LogLink>(
     link: &mut L,
     transactions: &mut Transactions,
 ) -> Result<Identity, NotDone>
-    ensures says { IfOk result (λ identity. (answer : _) × IsIdentity answer identity × Reads L.asks (towards transactions.old.route) transactions.old.retries itself_asked link.old answer link.new) }
+    ensures says { IfOk result (λ identity. (answer : _) × IsIdentity answer identity
+        × Reads L.asks (towards transactions.old.route) transactions.old.retries itself_asked
+        link.old answer link.new) }
     ensures retries { transactions.new.retries ≡ transactions.old.retries }
     ensures route { transactions.new.route ≡ transactions.old.route }
     ensures fault { IfErr result WantsMemory }
@@ -139,7 +143,8 @@ fn read_restart<L: LogLink>(
     transactions: &mut Transactions,
     itself: ObjectId,
 ) -> Result<Restart, NotDone>
-    ensures asks { IfOk result (λ restart. AsksRestart L.asks (towards transactions.old.route) transactions.old.retries link.old itself restart link.new) }
+    ensures asks { IfOk result (λ restart. AsksRestart L.asks (towards transactions.old.route)
+        transactions.old.retries link.old itself restart link.new) }
     ensures retries { transactions.new.retries ≡ transactions.old.retries }
     ensures route { transactions.new.route ≡ transactions.old.route }
     ensures fault { IfErr result WantsMemory }
@@ -158,7 +163,8 @@ fn read_behind<L: LogLink>(
     itself: ObjectId,
     restart: Option<String>,
 ) -> Said
-    ensures { SaysBehind L.asks (towards transactions.old.route) transactions.old.retries link.old itself restart result link.new }
+    ensures { SaysBehind L.asks (towards transactions.old.route) transactions.old.retries link.old
+        itself restart result link.new }
 {
     match read_unsigned(link, transactions, itself, DATABASE_REVISION) {
         Count::Lost => silent(),
@@ -188,7 +194,8 @@ fn read_more<L: LogLink>(
     transactions: &mut Transactions,
     device: u32,
 ) -> Result<Said, NotDone>
-    ensures says { IfOk result (λ said. SaysMore L.asks (towards transactions.old.route) transactions.old.retries link.old (itself_of device) said link.new) }
+    ensures says { IfOk result (λ said. SaysMore L.asks (towards transactions.old.route)
+        transactions.old.retries link.old (itself_of device) said link.new) }
     ensures fault { device < 4194304 → IfErr result WantsMemory }
 {
     let Some(itself) = ObjectId::new(DEVICE, device) else {
@@ -207,7 +214,8 @@ fn read_said<L: LogLink>(
     link: &mut L,
     transactions: &mut Transactions,
 ) -> Result<Said, NotDone>
-    ensures says { IfOk result (λ said. Says L.asks (towards transactions.old.route) transactions.old.retries link.old said link.new) }
+    ensures says { IfOk result (λ said. Says L.asks (towards transactions.old.route)
+        transactions.old.retries link.old said link.new) }
     ensures fault { IfErr result WantsMemory }
 {
     match read_identity(link, transactions)? {
@@ -225,8 +233,12 @@ pub(crate) fn identify<S: Sockets>(
     alloc: Global,
     like: &Asking,
 ) -> Result<Said, NotDone>
-    ensures identifies { IfOk result (λ said. Identifies (socket_rules S.opens S.closes S.Socket.sends S.Socket.receives S.Socket.receives_within) like.now sockets.old said sockets.new) }
-    ensures fault { IfErr result (EndsAsking (socket_rules S.opens S.closes S.Socket.sends S.Socket.receives S.Socket.receives_within) like.now.asked sockets.old sockets.new) }
+    ensures identifies { IfOk result (λ said. Identifies
+        (socket_rules S.opens S.closes S.Socket.sends S.Socket.receives
+        S.Socket.receives_within) like.now sockets.old said sockets.new) }
+    ensures fault { IfErr result (EndsAsking
+        (socket_rules S.opens S.closes S.Socket.sends S.Socket.receives
+        S.Socket.receives_within) like.now.asked sockets.old sockets.new) }
 {
     let asked = asked_like(like, 0)?.asked;
     let (mut link, mut transactions) = connect(sockets, asked)?;

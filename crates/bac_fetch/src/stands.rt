@@ -1,14 +1,18 @@
 //! Where a log stands in an archive.
 
-ghost use Rattle.std.specs.Prelude.{◌≡◌, ◌<◌, ◌++◌, ◌∷◌, [], List, IfNone, IfOk, IfSome, OnOk, IfErr};
+ghost use Rattle.std.specs.Prelude.{◌≡◌, ◌<◌, ◌++◌, ◌∷◌, [], List, IfNone, IfOk, IfSome, OnOk};
+ghost use Rattle.std.specs.Prelude.{IfErr};
 ghost use Rattle.bac_archive.specs.declared.epochs.Beginning.{Beginning as BeginningOf};
 ghost use Rattle.bac_archive.specs.Rows.{kept};
 ghost use Rattle.sqlite.specs.State.{HasCleanDisk, Survives};
 ghost use Rattle.sqlite.specs.Held.{state};
 ghost use Rattle.bac_archive.specs.Schema.{archive_schema};
 ghost use Rattle.bac_link.specs.Ordinals.{number_after};
+ghost use Rattle.bac_fetch.specs.Causes.{FailsOnRows};
 ghost use Rattle.bac_fetch.specs.Faults.{EndsLog};
-ghost use Rattle.bac_fetch.specs.Stands.{AreFlagsOf, BeganLast, IsItemOf, IsLastOf, IsStand, begins_at_one, epoch_from, epoch_of, flags_in, free_from, kept_last, number_before, octets, stand_by, word_at};
+ghost use Rattle.bac_fetch.specs.Stands.{AreFlagsOf, BeganLast, IsItemOf, IsLastOf, IsStand};
+ghost use Rattle.bac_fetch.specs.Stands.{begins_at_one, epoch_from, epoch_of, flags_in, free_from};
+ghost use Rattle.bac_fetch.specs.Stands.{kept_last, number_before, octets, stand_by, word_at};
 
 use bac_archive::{Beginning, NewestItem, Row, beginnings, head_of, is_archive, newest};
 use bac_asked::{FileFault, NotDone};
@@ -45,7 +49,8 @@ fn last_of(all: &[Beginning], log: u16) -> Option<Beginning>
 
 /// The later one of two beginnings, if this one is of the log.
 fn later(last: Option<Beginning>, begun: Beginning, log: u16) -> Option<Beginning>
-    ensures { (seen : List BeginningOf) → IsLastOf log seen last → IsLastOf log (seen ++ begun ∷ []) result }
+    ensures { (seen : List BeginningOf) → IsLastOf log seen last
+        → IsLastOf log (seen ++ begun ∷ []) result }
 {
     if begun.log != log {
         return last;
@@ -66,14 +71,18 @@ fn began_last<A: Alter>(
     conn: &mut Connection<A>,
     id: u16,
 ) -> Result<Option<Beginning>, NotDone>
-    ensures began { HasCleanDisk (state A.Store conn.new) → (state A.Store conn.old).now.schema ≡ archive_schema
+    ensures began { HasCleanDisk (state A.Store conn.new)
+        → (state A.Store conn.old).now.schema ≡ archive_schema
         → IfOk result (BeganLast id (state A.Store conn.old).now.trees) }
-    ensures same { HasCleanDisk (state A.Store conn.new) → (state A.Store conn.old).now.schema ≡ archive_schema
+    ensures same { HasCleanDisk (state A.Store conn.new)
+        → (state A.Store conn.old).now.schema ≡ archive_schema
         → OnOk result ((state A.Store conn.new).now ≡ (state A.Store conn.old).now) }
-    ensures crash { (HasCleanDisk (state A.Store conn.old) → (state A.Store conn.old).now.schema ≡ archive_schema)
+    ensures crash { (HasCleanDisk (state A.Store conn.old)
+        → (state A.Store conn.old).now.schema ≡ archive_schema)
         → Survives (state A.Store conn.old) (state A.Store conn.new) (λ _. ⊥) }
     ensures clean { HasCleanDisk (state A.Store conn.new) → HasCleanDisk (state A.Store conn.old) }
     ensures fault { IfErr result EndsLog }
+    ensures caused { IfErr result FailsOnRows }
 {
     match beginnings(alloc, conn) {
         Ok(all) => Ok(last_of(all.as_slice(), id)),
@@ -102,13 +111,18 @@ fn last_flags<A: Alter>(
     conn: &mut Connection<A>,
     id: u16,
 ) -> Result<Vec<u8>, NotDone>
-    ensures flags { HasCleanDisk (state A.Store conn.new) → (state A.Store conn.old).now.schema ≡ archive_schema
-        → IfOk result (λ flags. AreFlagsOf id (kept (state A.Store conn.old).now.trees) flags.items) }
-    ensures same { HasCleanDisk (state A.Store conn.new) → (state A.Store conn.old).now.schema ≡ archive_schema
+    ensures flags { HasCleanDisk (state A.Store conn.new)
+        → (state A.Store conn.old).now.schema ≡ archive_schema
+        → IfOk result
+        (λ flags. AreFlagsOf id (kept (state A.Store conn.old).now.trees) flags.items) }
+    ensures same { HasCleanDisk (state A.Store conn.new)
+        → (state A.Store conn.old).now.schema ≡ archive_schema
         → OnOk result ((state A.Store conn.new).now ≡ (state A.Store conn.old).now) }
     ensures crash { Survives (state A.Store conn.old) (state A.Store conn.new) (λ _. ⊥) }
     ensures clean { HasCleanDisk (state A.Store conn.new) → HasCleanDisk (state A.Store conn.old) }
     ensures fault { IfErr result EndsLog }
+    ensures caused { (state A.Store conn.old).now.schema ≡ archive_schema
+        → IfErr result FailsOnRows }
 {
     if !is_archive(conn.schema()) {
         return Err(NotDone::File(FileFault::Foreign));
@@ -125,13 +139,18 @@ fn last_item<A: Alter>(
     conn: &mut Connection<A>,
     id: u16,
 ) -> Result<Option<Last>, NotDone>
-    ensures tells { HasCleanDisk (state A.Store conn.new) → (state A.Store conn.old).now.schema ≡ archive_schema
+    ensures tells { HasCleanDisk (state A.Store conn.new)
+        → (state A.Store conn.old).now.schema ≡ archive_schema
         → IfOk result (IsItemOf id (kept (state A.Store conn.old).now.trees)) }
-    ensures same { HasCleanDisk (state A.Store conn.new) → (state A.Store conn.old).now.schema ≡ archive_schema
+    ensures same { HasCleanDisk (state A.Store conn.new)
+        → (state A.Store conn.old).now.schema ≡ archive_schema
         → OnOk result ((state A.Store conn.new).now ≡ (state A.Store conn.old).now) }
-    ensures crash { (state A.Store conn.old).now.schema ≡ archive_schema → Survives (state A.Store conn.old) (state A.Store conn.new) (λ _. ⊥) }
+    ensures crash { (state A.Store conn.old).now.schema ≡ archive_schema
+        → Survives (state A.Store conn.old) (state A.Store conn.new) (λ _. ⊥) }
     ensures clean { HasCleanDisk (state A.Store conn.new) → HasCleanDisk (state A.Store conn.old) }
     ensures fault { IfErr result EndsLog }
+    ensures caused { HasCleanDisk (state A.Store conn.new)
+        → (state A.Store conn.old).now.schema ≡ archive_schema → IfErr result FailsOnRows }
 {
     match newest(conn, id) {
         Ok(Some(item)) => {
@@ -167,14 +186,19 @@ pub(crate) fn stand_of<A: Alter>(
     conn: &mut Connection<A>,
     id: u16,
 ) -> Result<Option<Stand>, NotDone>
-    ensures stands { HasCleanDisk (state A.Store conn.new) → (state A.Store conn.old).now.schema ≡ archive_schema
+    ensures stands { HasCleanDisk (state A.Store conn.new)
+        → (state A.Store conn.old).now.schema ≡ archive_schema
         → IfOk result (IsStand id (state A.Store conn.old).now.trees) }
-    ensures same { HasCleanDisk (state A.Store conn.new) → (state A.Store conn.old).now.schema ≡ archive_schema
+    ensures same { HasCleanDisk (state A.Store conn.new)
+        → (state A.Store conn.old).now.schema ≡ archive_schema
         → OnOk result ((state A.Store conn.new).now ≡ (state A.Store conn.old).now) }
     // Whatever comes of it, nothing is committed.
-    ensures crash { (state A.Store conn.old).now.schema ≡ archive_schema → Survives (state A.Store conn.old) (state A.Store conn.new) (λ _. ⊥) }
+    ensures crash { (state A.Store conn.old).now.schema ≡ archive_schema
+        → Survives (state A.Store conn.old) (state A.Store conn.new) (λ _. ⊥) }
     ensures clean { HasCleanDisk (state A.Store conn.new) → HasCleanDisk (state A.Store conn.old) }
     ensures fault { IfErr result EndsLog }
+    ensures caused { HasCleanDisk (state A.Store conn.new)
+        → (state A.Store conn.old).now.schema ≡ archive_schema → IfErr result FailsOnRows }
 {
     let last = last_item(alloc, conn, id)?;
     let begun = began_last(alloc, conn, id)?;
@@ -243,7 +267,8 @@ pub(crate) fn epoch_of(stand: &Stand) -> u16
 /// Where a log goes on, and the first number that may be kept there: behind the last number that
 /// there is, in the next epoch, if there is one.
 pub(crate) fn from_there(id: u16, stand: &Stand) -> Option<(Place, u64)>
-    ensures found { IfSome result (λ it. (it.0.log ≡ id) × (it.0.epoch ≡ epoch_from stand.now) × (it.1 ≡ free_from stand.now)) }
+    ensures found { IfSome result (λ it. (it.0.log ≡ id) × (it.0.epoch ≡ epoch_from stand.now)
+        × (it.1 ≡ free_from stand.now)) }
     ensures none { IfNone result (32767 < epoch_from stand.now) }
 {
     match stand {

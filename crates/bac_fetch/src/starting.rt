@@ -1,24 +1,24 @@
 //! Where a run over a log begins: the one rule.
 
-ghost use Rattle.std.specs.Prelude.{◌≡◌, None, Ok, IfOk, IfErr};
-ghost use Rattle.bac_link.specs.Ordinals.{number_after};
+ghost use Rattle.std.specs.Prelude.{◌≡◌, Ok, IfOk, IfErr};
 ghost use Rattle.bac_link.specs.Path.{towards};
 ghost use Rattle.bac_walk.specs.Place.{asking, walk_at};
 ghost use Rattle.bac_keep.specs.Looks.{Looks};
 ghost use Rattle.bac_asked.specs.Faults.{WantsMemory};
 ghost use Rattle.bac_fetch.specs.Stands.{kept_last, word_at};
-ghost use Rattle.bac_fetch.specs.Starts.{AsksBeginning, BeginsBy, BeginsWith, ByCount, ByCourse, ByHand, BySeen, CountsWhere, FindsBeginning, GoesFrom, IsAnew, IsFirst, KeepsNone, OpensFirst, OpensWith, StartsNew, asks_count, counted, next_from};
+ghost use Rattle.bac_fetch.specs.Starts.{AsksBeginning, BeginsBy};
+ghost use Rattle.bac_fetch.specs.Starts.{ByHand, FindsBeginning, GoesFrom};
+ghost use Rattle.bac_fetch.specs.Starts.{IsAnew, IsFirst, KeepsNone, OpensFirst, OpensWith};
+ghost use Rattle.bac_fetch.specs.Starts.{StartsNew, next_from};
 
-use crate::behind::{go_on, look_ahead};
-use crate::either::begin_either;
+use crate::behind::look_ahead;
 use crate::hands::{Hand, take_step, take_step_at};
 use crate::questions::{Count, read_count};
-use crate::stands::{
-    Stand, begins_at_one, epoch_of, from_there, last_kept, number_behind, word_at,
-};
+use crate::seen::start_seen;
+use crate::stands::{Stand, epoch_of, from_there, last_kept, number_behind, word_at};
 use bac_archive::Beginning;
 use bac_asked::{Began, End, Ending, Fault, NotDone};
-use bac_keep::{Course, Place, Seen, Word, beginning_of, course_of, look_for};
+use bac_keep::{Place, Seen, Word, beginning_of, look_for};
 use bac_link::{LogLink, Transactions};
 use bac_walk::{Batch, Count as Many, Step, Walk, WalkFault, Why};
 use bac_wire::ObjectId;
@@ -87,7 +87,8 @@ fn begin_first<L: LogLink>(
     requires { log.kind ≡ 20 }
     ensures retries { transactions.new.retries ≡ transactions.old.retries }
     ensures route { transactions.new.route ≡ transactions.old.route }
-    ensures opens { IfOk result (OpensFirst L.asks (towards transactions.old.route) transactions.old.retries link.old link.new id log many number) }
+    ensures opens { IfOk result (OpensFirst L.asks (towards transactions.old.route)
+        transactions.old.retries link.old link.new id log many number) }
     ensures fault { IfErr result WantsMemory }
 {
     let (Some(place), Some(walk)) = (Place::new(id, 0), Walk::oldest(log)) else {
@@ -116,7 +117,8 @@ fn start_first<L: LogLink>(
     requires { log.kind ≡ 20 }
     ensures retries { transactions.new.retries ≡ transactions.old.retries }
     ensures route { transactions.new.route ≡ transactions.old.route }
-    ensures first { IfOk result (λ begun. IsFirst L.asks (towards transactions.old.route) transactions.old.retries link.old id log many count begun link.new) }
+    ensures first { IfOk result (λ begun. IsFirst L.asks (towards transactions.old.route)
+        transactions.old.retries link.old id log many count begun link.new) }
     ensures fault { IfErr result WantsMemory }
 {
     match count {
@@ -156,7 +158,8 @@ fn ask_beginning<L: LogLink>(
     requires { log.kind ≡ 20 }
     ensures retries { transactions.new.retries ≡ transactions.old.retries }
     ensures route { transactions.new.route ≡ transactions.old.route }
-    ensures asks { AsksBeginning L.asks (towards transactions.old.route) transactions.old.retries link.old log many result link.new }
+    ensures asks { AsksBeginning L.asks (towards transactions.old.route) transactions.old.retries
+        link.old log many result link.new }
 {
     let Some(walk) = Walk::oldest(log) else {
         unreachable!()
@@ -170,7 +173,7 @@ fn ask_beginning<L: LogLink>(
 }
 
 /// Where a log begins that began anew: by its count, if it holds nothing.
-fn find_beginning<L: LogLink>(
+pub(crate) fn find_beginning<L: LogLink>(
     link: &mut L,
     transactions: &mut Transactions,
     log: ObjectId,
@@ -181,7 +184,8 @@ fn find_beginning<L: LogLink>(
     requires { log.kind ≡ 20 }
     ensures retries { transactions.new.retries ≡ transactions.old.retries }
     ensures route { transactions.new.route ≡ transactions.old.route }
-    ensures finds { FindsBeginning L.asks (towards transactions.old.route) transactions.old.retries link.old log many seen count result link.new }
+    ensures finds { FindsBeginning L.asks (towards transactions.old.route) transactions.old.retries
+        link.old log many seen count result link.new }
 {
     match (seen, count) {
         (Seen::Nothing, Count::Told(count)) => Ok(beginning_of(number_behind(count))),
@@ -203,7 +207,8 @@ fn begin_anew<L: LogLink>(
     requires { log.kind ≡ 20 }
     ensures retries { transactions.new.retries ≡ transactions.old.retries }
     ensures route { transactions.new.route ≡ transactions.old.route }
-    ensures anew { IfOk result (λ begun. IsAnew L.asks (towards transactions.old.route) transactions.old.retries link.old id log many stand.now (Ok number) begun link.new) }
+    ensures anew { IfOk result (λ begun. IsAnew L.asks (towards transactions.old.route)
+        transactions.old.retries link.old id log many stand.now (Ok number) begun link.new) }
     ensures fault { IfErr result WantsMemory }
 {
     let Some(place) = Place::new(id, epoch_of(stand).saturating_add(1)) else {
@@ -220,7 +225,7 @@ fn begin_anew<L: LogLink>(
 }
 
 /// The same where that number has to be found.
-fn start_anew<L: LogLink>(
+pub(crate) fn start_anew<L: LogLink>(
     alloc: Global,
     link: &mut L,
     transactions: &mut Transactions,
@@ -233,167 +238,14 @@ fn start_anew<L: LogLink>(
     requires { log.kind ≡ 20 }
     ensures retries { transactions.new.retries ≡ transactions.old.retries }
     ensures route { transactions.new.route ≡ transactions.old.route }
-    ensures anew { IfOk result (λ begun. IsAnew L.asks (towards transactions.old.route) transactions.old.retries link.old id log many stand.now found begun link.new) }
+    ensures anew { IfOk result (λ begun. IsAnew L.asks (towards transactions.old.route)
+        transactions.old.retries link.old id log many stand.now found begun link.new) }
     ensures fault { IfErr result WantsMemory }
 {
     match found {
         Ok(number) => begin_anew(alloc, link, transactions, id, log, many, stand, number),
         Err(fault) => Ok(Err(none_behind(stand, Ending::Walk(Why::Fault(fault))))),
     }
-}
-
-/// Where a run begins that takes this course.
-fn start_by<L: LogLink>(
-    alloc: Global,
-    link: &mut L,
-    transactions: &mut Transactions,
-    id: u16,
-    log: ObjectId,
-    many: Many,
-    stand: &Stand,
-    from: Place,
-    hand: Hand,
-    seen: Seen,
-    count: Count,
-    course: Course,
-) -> Result<Result<Start, End>, NotDone>
-    requires { log.kind ≡ 20 }
-    ensures retries { transactions.new.retries ≡ transactions.old.retries }
-    ensures route { transactions.new.route ≡ transactions.old.route }
-    ensures starts { IfOk result (λ begun. ByCourse L.asks (towards transactions.old.route) transactions.old.retries link.old id log many stand.now from hand seen count course begun link.new) }
-    ensures fault { IfErr result WantsMemory }
-{
-    match course {
-        Course::GoOn => go_on(alloc, link, transactions, hand, seen),
-        Course::Anew => {
-            let found = find_beginning(link, transactions, log, many, seen, count);
-            start_anew(alloc, link, transactions, id, log, many, stand, found)
-        }
-        Course::Both { oldest } => {
-            begin_either(alloc, link, transactions, log, many, stand, from, oldest)
-        }
-    }
-}
-
-/// A count that is told.
-fn counted(count: Count) -> Option<u32>
-    ensures { result ≡ counted count }
-{
-    match count {
-        Count::Told(count) => Some(count),
-        Count::Untold | Count::Lost => None,
-    }
-}
-
-/// Where a run begins, by what the device holds of the record that was kept last, by its own word
-/// and by its count.
-fn start_counted<L: LogLink>(
-    alloc: Global,
-    link: &mut L,
-    transactions: &mut Transactions,
-    id: u16,
-    log: ObjectId,
-    many: Many,
-    word: Word,
-    stand: &Stand,
-    from: Place,
-    hand: Hand,
-    seen: Seen,
-    count: Count,
-) -> Result<Result<Start, End>, NotDone>
-    requires { log.kind ≡ 20 }
-    ensures retries { transactions.new.retries ≡ transactions.old.retries }
-    ensures route { transactions.new.route ≡ transactions.old.route }
-    ensures starts { IfOk result (λ begun. ByCount L.asks (towards transactions.old.route) transactions.old.retries link.old id log many word stand.now from hand seen count begun link.new) }
-    ensures fault { IfErr result WantsMemory }
-{
-    if count == Count::Lost {
-        return Ok(Err(none_behind(stand, Ending::Walk(Why::Fault(WalkFault::Lost)))));
-    }
-    let course = course_of(seen, word, counted(count), last_kept(stand).number);
-    start_by(
-        alloc,
-        link,
-        transactions,
-        id,
-        log,
-        many,
-        stand,
-        from,
-        hand,
-        seen,
-        count,
-        course,
-    )
-}
-
-/// Whether the count of a log decides how it goes on.
-fn asks_count(stand: &Stand, seen: Seen) -> bool
-    ensures { result ≡ asks_count stand.now seen }
-{
-    match seen {
-        Seen::Nothing => !begins_at_one(stand),
-        _ => false,
-    }
-}
-
-/// The count of a log, where it decides.
-fn count_where<L: LogLink>(
-    link: &mut L,
-    transactions: &mut Transactions,
-    log: ObjectId,
-    decides: bool,
-) -> Count
-    ensures retries { transactions.new.retries ≡ transactions.old.retries }
-    ensures route { transactions.new.route ≡ transactions.old.route }
-    ensures counts { CountsWhere L.asks (towards transactions.old.route) transactions.old.retries link.old log decides result link.new }
-{
-    if decides {
-        read_count(link, transactions, log)
-    } else {
-        Count::Untold
-    }
-}
-
-/// Where a run begins, by what was seen of the record that was kept last.
-fn start_seen<L: LogLink>(
-    alloc: Global,
-    link: &mut L,
-    transactions: &mut Transactions,
-    id: u16,
-    log: ObjectId,
-    many: Many,
-    word: Word,
-    stand: &Stand,
-    from: Place,
-    hand: Hand,
-    found: Result<Seen, WalkFault>,
-) -> Result<Result<Start, End>, NotDone>
-    requires { log.kind ≡ 20 }
-    ensures retries { transactions.new.retries ≡ transactions.old.retries }
-    ensures route { transactions.new.route ≡ transactions.old.route }
-    ensures starts { IfOk result (λ begun. BySeen L.asks (towards transactions.old.route) transactions.old.retries link.old id log many word stand.now from hand found begun link.new) }
-    ensures fault { IfErr result WantsMemory }
-{
-    let seen = match found {
-        Ok(seen) => seen,
-        Err(fault) => return Ok(Err(none_behind(stand, Ending::Walk(Why::Fault(fault))))),
-    };
-    let count = count_where(link, transactions, log, asks_count(stand, seen));
-    start_counted(
-        alloc,
-        link,
-        transactions,
-        id,
-        log,
-        many,
-        word,
-        stand,
-        from,
-        hand,
-        seen,
-        count,
-    )
 }
 
 /// What a device holds of the record that a log stands behind.
@@ -408,7 +260,8 @@ fn look_behind<L: LogLink>(
     requires { log.kind ≡ 20 }
     ensures retries { transactions.new.retries ≡ transactions.old.retries }
     ensures route { transactions.new.route ≡ transactions.old.route }
-    ensures looks { IfOk result (λ found. Looks L.asks (towards transactions.old.route) transactions.old.retries link.old log many (kept_last stand.now) found link.new) }
+    ensures looks { IfOk result (λ found. Looks L.asks (towards transactions.old.route)
+        transactions.old.retries link.old log many (kept_last stand.now) found link.new) }
     ensures fault { IfErr result WantsMemory }
 {
     match look_for(alloc, link, transactions, log, many, last_kept(stand)) {
@@ -433,7 +286,8 @@ fn start_behind<L: LogLink>(
     requires { log.kind ≡ 20 }
     ensures retries { transactions.new.retries ≡ transactions.old.retries }
     ensures route { transactions.new.route ≡ transactions.old.route }
-    ensures starts { IfOk result (λ begun. ByHand L.asks (towards transactions.old.route) transactions.old.retries link.old id log many word stand.now from hand begun link.new) }
+    ensures starts { IfOk result (λ begun. ByHand L.asks (towards transactions.old.route)
+        transactions.old.retries link.old id log many word stand.now from hand begun link.new) }
     ensures fault { IfErr result WantsMemory }
 {
     let hand = match hand {
@@ -483,7 +337,8 @@ fn start_from<L: LogLink>(
     requires { log.kind ≡ 20 }
     ensures retries { transactions.new.retries ≡ transactions.old.retries }
     ensures route { transactions.new.route ≡ transactions.old.route }
-    ensures starts { IfOk result (λ begun. GoesFrom L.asks (towards transactions.old.route) transactions.old.retries link.old id log many word stand.now steps begun link.new) }
+    ensures starts { IfOk result (λ begun. GoesFrom L.asks (towards transactions.old.route)
+        transactions.old.retries link.old id log many word stand.now steps begun link.new) }
     ensures fault { IfErr result WantsMemory }
 {
     let Some((from, free)) = from_there(id, stand) else {
@@ -520,15 +375,17 @@ pub(crate) fn start_at<L: LogLink>(
     requires { log.kind ≡ 20 }
     ensures retries { transactions.new.retries ≡ transactions.old.retries }
     ensures route { transactions.new.route ≡ transactions.old.route }
-    ensures starts { IfOk result (λ begun. GoesFrom L.asks (towards transactions.old.route) transactions.old.retries link.old id log many (word_at stand.now word) stand.now steps begun link.new) }
+    ensures starts { IfOk result (λ begun. GoesFrom L.asks (towards transactions.old.route)
+        transactions.old.retries link.old id log many (word_at stand.now word) stand.now steps
+        begun link.new) }
     ensures fault { IfErr result WantsMemory }
 {
     let told = word_at(stand, word);
     start_from(alloc, link, transactions, id, log, many, told, stand, steps)
 }
 
-/// Where a run begins over a log of which nothing is on record: asks how many records it has logged,
-/// and then for the oldest.
+/// Where a run begins over a log of which nothing is on record: asks how many records it has
+/// logged, and then for the oldest.
 pub(crate) fn start_new<L: LogLink>(
     alloc: Global,
     link: &mut L,
@@ -540,7 +397,8 @@ pub(crate) fn start_new<L: LogLink>(
     requires { log.kind ≡ 20 }
     ensures retries { transactions.new.retries ≡ transactions.old.retries }
     ensures route { transactions.new.route ≡ transactions.old.route }
-    ensures starts { IfOk result (λ begun. StartsNew L.asks (towards transactions.old.route) transactions.old.retries link.old id log many begun link.new) }
+    ensures starts { IfOk result (λ begun. StartsNew L.asks (towards transactions.old.route)
+        transactions.old.retries link.old id log many begun link.new) }
     ensures fault { IfErr result WantsMemory }
 {
     let count = read_count(link, transactions, log);

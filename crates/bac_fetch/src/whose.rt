@@ -1,11 +1,15 @@
-//! Whose records these are: a device is known by its instance, and asked once in a run what it says.
+//! Whose records these are: a device is known by its instance, and asked once in a run what it
+//! says.
 
-ghost use Rattle.std.specs.Prelude.{◌≡◌, ◌++◌, ◌∷◌, [], true, false, None, Some, IsNone, IfOk, IfSome, OnOk, IfErr};
+ghost use Rattle.std.specs.Prelude.{◌≡◌, ◌++◌, ◌∷◌, [], true, false, None, Some, IsNone, IfOk};
+ghost use Rattle.std.specs.Prelude.{IfSome, OnOk, IfErr};
 ghost use Rattle.bac_ports.specs.Sockets.{socket_rules};
 ghost use Rattle.bac_asked.specs.Faults.{WantsMemory};
 ghost use Rattle.bac_fetch.specs.Faults.{EndsAsking};
 ghost use Rattle.bac_fetch.specs.Silent.{is_same_device};
-ghost use Rattle.bac_fetch.specs.Whose.{HeardAs, IsHeard, IsIdentified, IsOnRecord, heard_with, hindrance, is_elsewhere, is_heard, is_silent, is_told, of_device, stands_elsewhere, told_elsewhere, told_one};
+ghost use Rattle.bac_fetch.specs.Whose.{HeardAs, IsHeard, IsIdentified, IsOnRecord, heard_with};
+ghost use Rattle.bac_fetch.specs.Whose.{hindrance, is_elsewhere, is_heard, is_silent, is_told};
+ghost use Rattle.bac_fetch.specs.Whose.{of_device, stands_elsewhere, told_elsewhere, told_one};
 
 use crate::said::{Identity, Said, copy_said, identify, silent};
 use crate::silent::{is_lost, is_same_device};
@@ -26,7 +30,8 @@ pub(crate) struct Heard {
 
 /// What the device of a log was heard to say in this run.
 fn heard_of<'a>(heard: &'a [Heard], source: &Source) -> Option<&'a Said>
-    ensures found { IfSome result (λ said. (one : _) × HeardAs heard.now source.now one × (one.said ≡ said.now)) }
+    ensures found { IfSome result
+        (λ said. (one : _) × HeardAs heard.now source.now one × (one.said ≡ said.now)) }
     ensures none { IsNone result → is_heard heard.now source.now ≡ false }
 {
     for one in heard {
@@ -56,8 +61,12 @@ pub(crate) fn said_of<S: Sockets>(
     heard: &[Heard],
     wanted: &Wanted,
 ) -> Result<Said, NotDone>
-    ensures identified { IfOk result (λ said. IsIdentified (socket_rules S.opens S.closes S.Socket.sends S.Socket.receives S.Socket.receives_within) heard.now wanted.now sockets.old said sockets.new) }
-    ensures fault { IfErr result (EndsAsking (socket_rules S.opens S.closes S.Socket.sends S.Socket.receives S.Socket.receives_within) wanted.now.asking.asked sockets.old sockets.new) }
+    ensures identified { IfOk result (λ said. IsIdentified
+        (socket_rules S.opens S.closes S.Socket.sends S.Socket.receives
+        S.Socket.receives_within) heard.now wanted.now sockets.old said sockets.new) }
+    ensures fault { IfErr result (EndsAsking
+        (socket_rules S.opens S.closes S.Socket.sends S.Socket.receives
+        S.Socket.receives_within) wanted.now.asking.asked sockets.old sockets.new) }
 {
     match heard_of(heard, &wanted.source) {
         Some(said) => copy_said(alloc, said),
@@ -102,7 +111,9 @@ fn push_heard(
     said: Said,
     was_told: bool,
 ) -> Result<(), NotDone>
-    ensures pushed { OnOk result (heard.new.items ≡ heard.old.items ++ record { source = source; said = said; was_told = was_told } ∷ []) }
+    ensures pushed { OnOk result (heard.new.items
+        ≡ heard.old.items ++ record { source = source; said = said; was_told = was_told }
+        ∷ []) }
     ensures fault { IfErr result WantsMemory }
 {
     let one = Heard {
@@ -118,8 +129,10 @@ fn push_heard(
 
 /// The instance on record of a log, if it is of this device.
 fn device_if(log: &Log, source: &Source) -> Option<u32>
-    ensures found { IfSome result (λ kept. (is_same_device log.now.source source.now ≡ true) × (log.now.told.device ≡ Some kept)) }
-    ensures none { IsNone result → is_same_device log.now.source source.now ≡ true → log.now.told.device ≡ None }
+    ensures found { IfSome result (λ kept. (is_same_device log.now.source source.now ≡ true)
+        × (log.now.told.device ≡ Some kept)) }
+    ensures none { IsNone result → is_same_device log.now.source source.now ≡ true
+        → log.now.told.device ≡ None }
 {
     if is_same_device(&log.source, source) {
         log.told.device

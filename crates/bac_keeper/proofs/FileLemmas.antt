@@ -1,7 +1,8 @@
 -- What was done over a connection to the files of the words.
-use Rattle.std.proofs.Common.{◌≡◌, ℕ, Option, None, Some, Result, Ok, Err, IfErr, IfOk, IfSome, OnOk, IsTrue, subst, sym}
+use Rattle.std.proofs.Common.{◌≡◌, ◌⊎◌, inl, inr, ℕ, Bool, List, Option, None, Some, Result, Ok, Err, IfErr, IfOk, IfSome, OnOk, IsTrue, refl, subst, sym}
 use Rattle.sqlite_disk.specs.declared.Disk as disk
 use Rattle.sqlite_disk.specs.declared.Files.{Files}
+use Rattle.sqlite_disk.specs.declared.start.Start as start
 use Rattle.sqlite_store.specs.declared.store.FileStore.{FileStore}
 use Rattle.sqlite_wal.specs.Reads.{AreClean}
 use Rattle.sqlite_wal.specs.Recovery.{Image}
@@ -9,31 +10,27 @@ use Rattle.sqlite.specs.Closing.{IsCopied}
 use Rattle.sqlite.specs.Effect.{Database}
 use Rattle.sqlite.specs.Files.{file_state}
 use Rattle.sqlite.specs.Held.{Held as Connected}
-use Rattle.sqlite.specs.State.{HasCleanDisk}
+use Rattle.sqlite.specs.State.{HasCleanDisk, State}
+use Rattle.sqlite.specs.declared.error.Error.{Error}
+use Rattle.bac_asked.specs.Faults.{IsOfDatabase, of_error}
 use Rattle.bac_asked.specs.declared.end.NotDone.{NotDone}
 use Rattle.bac_asked.specs.declared.end.NotDone.TheVariants as done
+use Rattle.bac_asked.specs.declared.fault.FileFault.{FileFault}
 use Rattle.bac_fetch.specs.declared.keeping.Chosen.{Chosen}
 use Rattle.bac_files.proofs.FilesLemmas.{done_to, opened_settled}
-use Rattle.bac_files.specs.Files.{IsClosedBy, IsDoneTo, IsOpenedBy}
+use Rattle.bac_files.specs.Files.{FileOf, IsClosedBy, IsDoneTo, IsNamed, IsOpenedBy, IsUnclosed}
+use Rattle.bac_files.specs.declared.disk_files.DiskFiles.{DiskFiles}
 use Rattle.bac_keeper.proofs.ArchiveLemmas.{tells_weaker}
 use Rattle.bac_keeper.specs.Archives.{IsHeld, KeepsArchive, LosesNothing}
-use Rattle.bac_keeper.specs.Done.{Chooses, KeepsIn, TellsThese}
-use Rattle.bac_keeper.specs.Ends.{MayFail}
+use Rattle.bac_asked.specs.AsLog.{Given}
+use Rattle.bac_keeper.specs.Done.{Chooses, KeepsIn, RefusesKeep, TellsThese}
+use Rattle.bac_keeper.specs.Ends.{FailsFile, IsOfSomeFile, MayAsk, MayFail}
 use Rattle.bac_keeper.specs.Shown.{PrintsArchive, PrintsIn, Shows}
 use Rattle.bac_kept.specs.declared.printing.Shown.{Shown}
 use Rattle.bac_ports.specs.Sockets.{SocketRules}
 use Rattle.bac_print.specs.Output.{Held}
 use Rattle.bac_words.specs.declared.job.Keep.{Keep}
 use Rattle.bac_words.specs.declared.job.Kept.{Kept}
-
-may_fail : (Q : Type 0) (e : NotDone) → Q → MayFail Q e
-may_fail Q (done.File why) q = λ _. q
-may_fail Q (done.Asking why) q = tt
-
--- a tool that asked for the file ends so
-pub fails_named : (Q : Type 0) (r : Result ℕ NotDone) → Q → IfErr r (MayFail Q)
-fails_named Q (Ok v) q = tt
-fails_named Q (Err e) q = may_fail Q e q
 
 pub done_named : (Q : Type 0) (r : Result ℕ NotDone) → Q → OnOk r Q
 done_named Q (Ok v) q = q
@@ -88,3 +85,81 @@ prints_in image opened last closed is words which out out' (Ok v) done clean sho
       some_done image opened last closed is clean' (λ found left. PrintsArchive which words.csv out out' found)
           (λ c open'. subst (λ (r : Result ℕ NotDone). OnOk r (PrintsArchive which words.csv out out' (file_state opened).now)) same (printed c)) shut.1,
     )
+
+-- a tool that fails by one fault fails by another
+pub fails_so : (P Q : FileFault → Type 0) (e : NotDone) → ((why : FileFault) → P why → Q why) → MayFail P e → MayFail Q e
+fails_so P Q (done.File why) f p = f why p
+fails_so P Q (done.Asking why) f p = tt
+
+pub all_fail : (P Q : FileFault → Type 0) (r : Result ℕ NotDone) → ((why : FileFault) → P why → Q why) → IfErr r (MayFail P) → IfErr r (MayFail Q)
+all_fail P Q (Ok v) f p = tt
+all_fail P Q (Err e) f p = fails_so P Q e f p
+
+pub fails_clean : (C : Type 0) (P Q : FileFault → Type 0) (r : Result ℕ NotDone) → C → IfErr r (MayFail (λ why. P why ⊎ Q why)) → IfErr r (MayFail (λ why. P why ⊎ (C × Q why)))
+fails_clean C P Q r clean failed = all_fail _ _ r (λ why it. elim it [ inl p ↦ inl p | inr q ↦ inr (clean, q) ]) failed
+
+-- of files that weren't closed
+abbrev pub Unclosed : {F : Type 0} {s : start.Ghosts F} → DiskFiles F s → Type 0
+Unclosed files = (error : Error) × IsUnclosed error files
+
+-- what was done over a connection failed, or it couldn't be closed
+pub fails_file : {F : Type 0} {s : start.Ghosts F} {g : disk.Ghosts (FileOf s)} (image : Image) (opened last : Connected (FileStore (FileOf s) g)) (files : DiskFiles F s)
+    → IsOpenedBy image opened → (path : List ℕ) (may : Bool) → IsNamed path may files → (refuses : Database → FileFault → Type 0) (did result : Result ℕ NotDone)
+    → IfErr did (MayFail (λ why. ((error : Error) × (why ≡ of_error error)) ⊎ ((HasCleanDisk (file_state last) → HasCleanDisk (file_state opened)) × (IsHeld (file_state last) → refuses (file_state opened).now why))))
+    → IfErr result (λ fault. (did ≡ Err fault) ⊎ (IsOfSomeFile fault × Unclosed files)) → (IsClosedBy last files.closed ⊎ Unclosed files)
+    → IfErr result (MayFail (FailsFile g image path may refuses files))
+fails_file image opened last files is path may named refuses did (Ok v) failed same shut = tt
+fails_file image opened last files is path may named refuses did (Err (done.Asking why)) failed same shut = tt
+fails_file image opened last files is path may named refuses did (Err (done.File why)) failed (inr (file, unclosed)) shut = inr (named, inl unclosed)
+fails_file image opened last files is path may named refuses did (Err (done.File why)) failed (inl same) (inr unclosed) = inr (named, inl unclosed)
+fails_file {s = s} {g = g} image opened last files is path may named refuses did (Err (done.File why)) failed (inl same) (inl shut) =
+    let it = subst (λ (r : Result ℕ NotDone). IfErr r (MayFail (λ why'. ((error : Error) × (why' ≡ of_error error)) ⊎ ((HasCleanDisk (file_state last) → HasCleanDisk (file_state opened)) × (IsHeld (file_state last) → refuses (file_state opened).now why'))))) same failed in
+    inr (
+      named,
+      inr (
+        shut.0,
+        elim it [
+          | inl answered ↦ inl answered
+          | inr refused ↦ inr (some_done image opened last files.closed is refused.0 (λ found left. refuses found why) (λ c open'. refused.1 (c, open')) shut.1)
+        ],
+      ),
+    )
+
+-- what a run over an archive fails by, by options that are the same
+pub refused_by : {S P : Type 0} (rules : SocketRules S P) (which : Chosen) (before after : S) (found : Database) (last : State) (given by : Given) (r : Result ℕ NotDone) → given ≡ by
+    → IfErr r (MayFail (λ why. ((error : Error) × (why ≡ of_error error)) ⊎ (IsHeld last → RefusesKeep rules which given before after found why)))
+    → IfErr r (MayFail (λ why. ((error : Error) × (why ≡ of_error error)) ⊎ (IsHeld last → RefusesKeep rules which by before after found why)))
+refused_by rules which before after found last given by r is it =
+    subst (λ (x : Given). IfErr r (MayFail (λ why. ((error : Error) × (why ≡ of_error error)) ⊎ (IsHeld last → RefusesKeep rules which x before after found why)))) is it
+
+-- a fault of the file is no other
+pub file_asks : (P : NotDone → Type 0) (fault : NotDone) → IsOfSomeFile fault → MayAsk P fault
+file_asks P fault (why, is) = subst (MayAsk P) (sym is) tt
+
+pub database_file : (fault : NotDone) → IsOfDatabase fault → IsOfSomeFile fault
+database_file fault (error, is) = (_, is)
+
+-- one of the database is one of these
+pub database_fails : (P : FileFault → Type 0) (fault : NotDone) → IsOfDatabase fault → MayFail (λ why. ((error : Error) × (why ≡ of_error error)) ⊎ P why) fault
+database_fails P fault (error, is) = subst (MayFail _) (sym is) (inl (error, refl))
+
+pub all_database_fail : (P : FileFault → Type 0) (r : Result ℕ NotDone) → IfErr r IsOfDatabase → IfErr r (MayFail (λ why. ((error : Error) × (why ≡ of_error error)) ⊎ P why))
+all_database_fail P (Ok v) it = tt
+all_database_fail P (Err e) it = database_fails P e it
+
+pub all_database_ask : (P : NotDone → Type 0) (r : Result ℕ NotDone) → IfErr r IsOfDatabase → IfErr r (MayAsk P)
+all_database_ask P (Ok v) it = tt
+all_database_ask P (Err e) it = file_asks P e (database_file e it)
+
+-- a tool ends as what was done over the connection, if the file isn't at fault
+pub closed_asks : (P : NotDone → Type 0) (U : Type 0) (done result : Result ℕ NotDone) → IfErr done (MayAsk P) → IfErr result (λ fault. (done ≡ Err fault) ⊎ (IsOfSomeFile fault × U))
+    → IfErr result (MayAsk P)
+closed_asks P U done (Ok v) asked same = tt
+closed_asks P U done (Err e) asked (inl same) = subst (λ (r : Result ℕ NotDone). IfErr r (MayAsk P)) same asked
+closed_asks P U done (Err e) asked (inr (file, unclosed)) = file_asks P e file
+
+-- so it does for another reason
+pub all_ask_so : (P Q : NotDone → Type 0) (r : Result ℕ NotDone) → ((fault : NotDone) → P fault → Q fault) → IfErr r (MayAsk P) → IfErr r (MayAsk Q)
+all_ask_so P Q (Ok v) f it = tt
+all_ask_so P Q (Err (done.Asking why)) f it = f (done.Asking why) it
+all_ask_so P Q (Err (done.File why)) f it = tt

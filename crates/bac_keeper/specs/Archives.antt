@@ -29,7 +29,8 @@ pub record IsArchiveOf (found archive : Database) : Type 0 where
   pub same : found.schema ≡ archive_schema → archive ≡ found
 
 -- these logs, of those that were chosen, were kept in the archive, and their runs ended so
-pub record KeepsArchive {S P : Type 0} (rules : SocketRules S P) (chosen : Chosen) (all : List Wanted) (before after : S)
+pub record KeepsArchive {S P : Type 0} (rules : SocketRules S P) (chosen : Chosen) (all : List Wanted)
+    (before after : S)
     (ends : List End) (found left : Database) : Type 0 where
   pub archive : Database
   pub opened : IsArchiveOf found archive

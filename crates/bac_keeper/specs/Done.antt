@@ -1,20 +1,30 @@
 -- What was done of the words of `bac keep`. Read from the end.
-use Rattle.std.specs.Prelude.{◌≡◌, ℕ, List, [], ◌∷◌, codes, Option, None, Some, IfSome, IsSome}
+use Rattle.std.specs.Prelude.{◌≡◌, ◌⊎◌, ℕ, List, [], ◌∷◌, codes, Option, None, Some, IfSome, IsSome, is_some}
 use Rattle.std.specs.List.{All}
 use Rattle.clap.specs.Words.{Text}
 use Rattle.sqlite_disk.specs.declared.Disk as disk
 use Rattle.sqlite_disk.specs.declared.Files.{Files}
 use Rattle.sqlite_wal.specs.Recovery.{Image}
 use Rattle.bac_asked.specs.AsLog.{Given, IsAskedBy, log_words}
-use Rattle.bac_asked.specs.Wanted.{AddNamed, AsksItsSource}
+use Rattle.bac_asked.specs.Faults.{WantsMemory}
+use Rattle.bac_asked.specs.Wanted.{AddNamed, AreNoOptions, AreUnnamed, AsksItsSource, IsUnnamed}
 use Rattle.bac_asked.specs.declared.end.End.{End}
 use Rattle.bac_asked.specs.declared.wanted.Wanted.{Wanted}
+use Rattle.bac_fetch.specs.Causes.{EndsRunOver}
 use Rattle.bac_fetch.specs.Discovered.{AreFound}
 use Rattle.bac_fetch.specs.Keeps.{AreToldBy}
 use Rattle.bac_fetch.specs.declared.keeping.Chosen.{Chosen}
 use Rattle.bac_fetch.specs.declared.keeping.Chosen.TheVariants as chosen
-use Rattle.bac_files.specs.Files.{IsDoneTo}
-use Rattle.bac_keeper.specs.Archives.{KeepsArchive}
+use Rattle.sqlite.specs.Effect.{Database}
+use Rattle.sqlite_disk.specs.declared.start.Start as start
+use Rattle.bac_asked.specs.declared.end.NotDone.{NotDone}
+use Rattle.bac_asked.specs.declared.end.NotDone.TheVariants.{File}
+use Rattle.bac_asked.specs.declared.fault.FileFault.{FileFault}
+use Rattle.bac_fetch.specs.Faults.{EndsKeeping}
+use Rattle.bac_files.specs.Files.{FileOf, IsDoneTo}
+use Rattle.bac_files.specs.declared.disk_files.DiskFiles.{DiskFiles}
+use Rattle.bac_keeper.specs.Archives.{IsArchiveOf, KeepsArchive}
+use Rattle.bac_keeper.specs.Ends.{FailsFile, IsNoArchive}
 use Rattle.bac_ports.specs.Sockets.{SocketRules}
 use Rattle.bac_print.specs.Output.{Held}
 use Rattle.bac_words.specs.declared.job.Keep.{Keep}
@@ -32,8 +42,8 @@ given_of options = record {
   dadr = options.dadr;
 }
 
--- With FILE alone those of the file; with ADDRESS those of the device, each asked for as `bac log` with these words asks
--- for log 0; with INSTANCEs the logs that they name, each once.
+-- With FILE alone those of the file; with ADDRESS those of the device, each asked for as `bac log` with these words
+-- asks for log 0; with INSTANCEs the logs that they name, each once.
 abbrev pub ChoosesBy : Option Text → List Text → Given → Chosen → Type 0
 ChoosesBy None instances given chosen.Kept = Unit {0}
 ChoosesBy (Some address) [] given (chosen.Device like) = IsAskedBy (log_words address (codes "0") given) like
@@ -50,10 +60,11 @@ abbrev pub AreThese : Chosen → List Wanted → Type 0
 AreThese (chosen.Named named) all = all ≡ named.items
 AreThese other all = Unit {0}
 
--- A line for each log that was chosen, which was asked of the device that the line names, and the greatest status. Those
--- of a device are those of its Object_List, which came over the caller's sockets. This holds of the logs, of the sockets
--- then, and of how the runs over them ended.
-abbrev pub TellsThese : {S P : Type 0} → SocketRules S P → Chosen → S → Held → Held → (List Wanted → S → List End → Type 0) → ℕ → Type 0
+-- A line for each log that was chosen, which was asked of the device that the line names, and the greatest status.
+-- Those of a device are those of its Object_List, which came over the caller's sockets. This holds of the logs, of the
+-- sockets then, and of how the runs over them ended.
+abbrev pub TellsThese : {S P : Type 0} → SocketRules S P → Chosen → S → Held → Held
+    → (List Wanted → S → List End → Type 0) → ℕ → Type 0
 TellsThese {S = S} rules chosen sockets before after kept status =
     (all : List Wanted) × (between : S) × AreThese chosen all × All AsksItsSource all
     × AreFound rules chosen sockets all between × AreToldBy before after all (kept all between) status
@@ -63,4 +74,35 @@ abbrev pub KeepsIn : {S P D : Type 0} → SocketRules S P → (g : disk.Ghosts D
     Option (Files D) → ℕ → Type 0
 KeepsIn rules g image keep sockets sockets_after before after closed status =
     IsSome closed × (chosen : Chosen) × Chooses keep chosen × TellsThese rules chosen sockets before after
-    (λ all between ends. IfSome closed (IsDoneTo g image (KeepsArchive rules chosen all between sockets_after ends))) status
+    (λ all between ends. IfSome closed (IsDoneTo g image (KeepsArchive rules chosen all between sockets_after ends)))
+    status
+
+-- Why the logs that were chosen aren't kept in the archive that two files held: it is none; or it is one, or becomes
+-- one, and the run over it ends so.
+abbrev pub RefusesKeep : {S P : Type 0} → SocketRules S P → Chosen → Given → S → S → Database → FileFault → Type 0
+RefusesKeep rules which given before after found why = IsNoArchive found why
+    ⊎ ((archive : Database) × IsArchiveOf found archive × EndsRunOver rules given which before after archive (File why))
+
+-- so the file is no use to `keep`
+abbrev pub FailsToKeep : {S P F : Type 0} {s : start.Ghosts F} → SocketRules S P → disk.Ghosts (FileOf s) → Image → Keep
+    → S → S →
+    DiskFiles F s → FileFault → Type 0
+FailsToKeep rules g image keep before after files why = (which : Chosen) × Chooses keep which
+    × FailsFile g image keep.file (is_some keep.address) (RefusesKeep rules which (given_of keep.options) before after)
+    files why
+
+-- Why words name no logs: without ADDRESS this; else `bac log` with them asks for none.
+abbrev pub NamesNone : (NotDone → Type 0) → Option Text → List Text → Given → NotDone → Type 0
+NamesNone alone None instances given fault = alone fault
+NamesNone alone (Some address) [] given fault = IsUnnamed (log_words address (codes "0") given) fault
+NamesNone alone (Some address) (instance ∷ more) given fault = AreUnnamed address given (instance ∷ more) fault
+
+-- why they choose none: without ADDRESS its options are none
+abbrev pub ChoosesNone : Keep → NotDone → Type 0
+ChoosesNone keep = NamesNone (AreNoOptions (given_of keep.options)) keep.address keep.instances (given_of keep.options)
+
+-- Why `keep` isn't done, if the file isn't at fault: memory is wanting; the words choose no logs, and no socket is
+-- opened; or those that they choose aren't kept.
+abbrev pub EndsKeep : {S P : Type 0} → SocketRules S P → Keep → S → S → NotDone → Type 0
+EndsKeep rules keep before after fault = WantsMemory fault ⊎ ((ChoosesNone keep fault × (after ≡ before))
+    ⊎ ((chosen : Chosen) × Chooses keep chosen × EndsKeeping rules chosen (Unit {0}) (Unit {0}) before after fault))

@@ -1,5 +1,6 @@
 -- What is done of the words of `bac keep --stop`. Read from the end.
-use Rattle.std.specs.Prelude.{◌≡◌, ℕ, Bool, true, List, [], ◌∷◌, map, flat_map, codes, Option, Some, IfSome, IsSome}
+use Rattle.std.specs.Prelude.{◌≡◌, ◌⊎◌, ℕ, Bool, true, false, List, [], ◌∷◌, map, flat_map, codes, Option, Some, IfSome}
+use Rattle.std.specs.Prelude.{IsSome}
 use Rattle.std.specs.List.{filter, list_all, list_any}
 use Rattle.std.specs.Io.KnownBytes.{Appends}
 use Rattle.clap.specs.Words.{Text}
@@ -12,12 +13,22 @@ use Rattle.bac_archive.specs.Logs.{AreLogs}
 use Rattle.bac_archive.specs.declared.trend_logs.Log.{Log}
 use Rattle.bac_asked.specs.AsLog.{Given, IsAskedBy, log_words}
 use Rattle.bac_asked.specs.Lines.{stopped_line}
+use Rattle.bac_asked.specs.Faults.{RefusesLine, WantsMemory}
 use Rattle.bac_asked.specs.Wanted.{AddNamed, AsksItsSource}
+use Rattle.bac_asked.specs.declared.end.NotDone.{NotDone}
+use Rattle.bac_asked.specs.declared.end.NotDone.TheVariants.{Asking}
+use Rattle.bac_asked.specs.declared.fault.Fault.TheVariants.{BadValue}
+use Rattle.bac_words.specs.declared.word.Word.TheVariants.{Stop}
 use Rattle.bac_asked.specs.declared.wanted.Wanted.{Wanted}
 use Rattle.bac_fetch.specs.Silent.{is_same_device, is_same_log}
-use Rattle.bac_files.specs.Files.{IsDoneTo}
+use Rattle.sqlite_disk.specs.declared.start.Start as start
+use Rattle.bac_asked.specs.declared.fault.FileFault.{FileFault}
+use Rattle.bac_asked.specs.declared.fault.FileFault.TheVariants as fault
+use Rattle.bac_files.specs.Files.{FileOf, IsDoneTo}
+use Rattle.bac_files.specs.declared.disk_files.DiskFiles.{DiskFiles}
 use Rattle.bac_keeper.specs.Archives.{IsArchiveOf}
-use Rattle.bac_keeper.specs.Done.{given_of}
+use Rattle.bac_keeper.specs.Done.{NamesNone, given_of}
+use Rattle.bac_keeper.specs.Ends.{FailsFile, IsNoArchive}
 use Rattle.bac_keeper.specs.declared.stopping.Meant.{Meant}
 use Rattle.bac_keeper.specs.declared.stopping.Meant.TheVariants as meant
 use Rattle.bac_print.specs.Output.{Held}
@@ -71,3 +82,26 @@ abbrev pub StopsIn : {D : Type 0} → (g : disk.Ghosts D) → Image → Keep →
 StopsIn g image words before after closed status =
     (status ≡ 0) × IsSome closed × (which : Meant) × Means words which
     × IfSome closed (IsDoneTo g image (StopsArchive which before after))
+
+-- why no log is stopped of what two files held: it is no archive; or a log that is meant isn't there
+abbrev pub RefusesStop : Meant → Database → FileFault → Type 0
+RefusesStop which found why = IsNoArchive found why
+    ⊎ ((why ≡ fault.NoLog) × (archive : Database) × IsArchiveOf found archive × (known : List Log)
+    × AreLogs archive.trees known
+    × (are_there which known ≡ false))
+
+-- so the file is no use to `keep --stop`
+abbrev pub FailsToStop : {F : Type 0} {s : start.Ghosts F} → disk.Ghosts (FileOf s) → Image → Keep → DiskFiles F s →
+    FileFault → Type 0
+FailsToStop g image words files why =
+    (which : Meant) × Means words which × FailsFile g image words.file false (RefusesStop which) files why
+
+-- why words mean no logs: without ADDRESS none is stopped
+abbrev pub MeansNone : Keep → NotDone → Type 0
+MeansNone words = NamesNone (λ fault.
+    fault ≡ Asking (BadValue Stop)) words.address words.instances (given_of words.options)
+
+-- why `keep --stop` isn't done, if the file isn't at fault: its words mean no logs; memory is wanting; or the output
+-- refused a line
+abbrev pub EndsStop : Keep → NotDone → Type 0
+EndsStop words fault = MeansNone words fault ⊎ (WantsMemory fault ⊎ RefusesLine fault)

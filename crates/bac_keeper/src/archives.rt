@@ -1,17 +1,18 @@
 //! A database file is opened as an archive, and closed.
 
-ghost use Rattle.std.specs.Prelude.{◌≡◌, ◌⊎◌, IfErr, IfOk, IsTrue, Ok, OnErr, OnOk};
+ghost use Rattle.std.specs.Prelude.{◌≡◌, ◌⊎◌, Err, IfErr, IfOk, IsTrue, Ok, OnErr, OnOk};
 ghost use Rattle.sqlite.specs.Held.{state};
 ghost use Rattle.sqlite.specs.State.{HasCleanDisk};
 ghost use Rattle.sqlite_wal.specs.Files.{image_at};
 ghost use Rattle.bac_archive.specs.Schema.{archive_schema};
-ghost use Rattle.bac_files.specs.Files.{IsClosedBy, IsNamed, IsOpenedBy, IsUnused};
+ghost use Rattle.bac_asked.specs.Faults.{of_error};
+ghost use Rattle.bac_files.specs.Files.{IsClosedBy, IsNamed, IsOpenedBy, IsUnclosed};
 ghost use Rattle.bac_keeper.specs.Archives.{IsArchiveOf, IsHeld};
-ghost use Rattle.bac_keeper.specs.Ends.{fault_of, MayFail};
+ghost use Rattle.bac_keeper.specs.Ends.{IsNoArchive, IsNotOpened, IsOfSomeFile, MayFail, fault_of};
 
 use bac_asked::{FileFault, NotDone};
 use bac_files::{DiskFiles, NotOpened};
-use sqlite::{Alter, Connection, FileFrom, FileStore, Start};
+use sqlite::{Alter, Connection, Error, FileFrom, FileStore, Start};
 
 /// The fault of a file that isn't opened.
 fn fault_of(why: NotOpened) -> FileFault
@@ -35,8 +36,9 @@ pub(crate) fn open_file<F: Start>(
 ) -> Result<Connection<FileStore<FileFrom<F>>>, NotDone>
     ensures opened { IfOk result (IsOpenedBy (image_at F.Start)) }
     ensures named { OnOk result (IsNamed path.now may_make files.new) }
-    ensures fault { IfErr result (MayFail (IsNamed path.now may_make files.new)) }
-    ensures unused { IsUnused files.old → IsUnused files.new }
+    ensures fault { IfErr result (MayFail (IsNotOpened path.now may_make files.new)) }
+    ensures file { IfErr result IsOfSomeFile }
+    ensures kept { files.new.closed ≡ files.old.closed }
 {
     match files.open(path, may_make) {
         Ok(conn) => Ok(conn),
@@ -52,7 +54,12 @@ pub(crate) fn close_file<F: Start, T: Copy>(
 ) -> Result<T, NotDone>
     ensures done { IfOk result (λ value. done ≡ Ok value) }
     ensures closed { OnOk result (IsClosedBy conn files.new.closed) }
-    ensures either { (IsUnused files.old → IsUnused files.new) ⊎ IsClosedBy conn files.new.closed }
+    // It ends as what was done, or the files aren't closed.
+    ensures fault { IfErr result (λ fault. (done ≡ Err fault)
+        ⊎ (IsOfSomeFile fault × ((error : Error) × IsUnclosed error files.new))) }
+    ensures shut { IsClosedBy conn files.new.closed
+        ⊎ ((error : Error) × IsUnclosed error files.new) }
+    ensures either { (files.new.closed ≡ files.old.closed) ⊎ IsClosedBy conn files.new.closed }
     ensures named { (path : _) (may : _) → IsNamed path may files.old → IsNamed path may files.new }
 {
     match files.close(conn) {
@@ -66,10 +73,21 @@ pub(crate) fn close_file<F: Start, T: Copy>(
 
 /// Opens a database as an archive; an empty one becomes one.
 pub(crate) fn open_archive<A: Alter>(conn: &mut Connection<A>) -> Result<(), NotDone>
-    ensures archive { HasCleanDisk (state A.Store conn.new) → OnOk result (IsArchiveOf (state A.Store conn.old).now (state A.Store conn.new).now) }
-    ensures committed { HasCleanDisk (state A.Store conn.new) → OnOk result ((state A.Store conn.new).committed ≡ (state A.Store conn.new).now) }
-    ensures same { HasCleanDisk (state A.Store conn.new) → (state A.Store conn.old).now.schema ≡ archive_schema → OnOk result (IsTrue (state A.Store conn.new).is_open) }
-    ensures left { IsHeld (state A.Store conn.new) → OnErr result ((state A.Store conn.new).committed ≡ (state A.Store conn.old).committed) }
+    ensures archive { HasCleanDisk (state A.Store conn.new)
+        → OnOk result (IsArchiveOf (state A.Store conn.old).now (state A.Store conn.new).now) }
+    ensures committed { HasCleanDisk (state A.Store conn.new)
+        → OnOk result ((state A.Store conn.new).committed ≡ (state A.Store conn.new).now) }
+    ensures same { HasCleanDisk (state A.Store conn.new)
+        → (state A.Store conn.old).now.schema ≡ archive_schema
+        → OnOk result (IsTrue (state A.Store conn.new).is_open) }
+    // It is refused for what it held.
+    ensures file { IfErr result IsOfSomeFile }
+    ensures refused { IfErr result (MayFail
+        (λ why. ((error : Error) × (why ≡ of_error error))
+        ⊎ (IsHeld (state A.Store conn.new)
+        → IsNoArchive (state A.Store conn.old).now why))) }
+    ensures left { IsHeld (state A.Store conn.new)
+        → OnErr result ((state A.Store conn.new).committed ≡ (state A.Store conn.old).committed) }
     ensures clean { HasCleanDisk (state A.Store conn.new) → HasCleanDisk (state A.Store conn.old) }
 {
     match bac_archive::open(conn) {

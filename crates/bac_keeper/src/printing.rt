@@ -1,27 +1,31 @@
 //! `bac kept`: what an archive keeps is printed.
 
-ghost use Rattle.std.specs.Prelude.{◌≡◌, IfErr, IfOk, IfSome, OnOk, false};
+ghost use Rattle.std.specs.Prelude.{◌≡◌, ◌⊎◌, IfErr, IfOk, IfSome, OnOk, false};
 ghost use Rattle.sqlite.specs.Held.{state};
 ghost use Rattle.sqlite.specs.State.{HasCleanDisk};
 ghost use Rattle.sqlite_wal.specs.Files.{image_at};
+ghost use Rattle.bac_asked.specs.Faults.{RefusesLine, WantsMemory, of_error};
 ghost use Rattle.bac_files.specs.Files.{IsNamed};
-ghost use Rattle.bac_keeper.specs.Ends.{MayFail};
-ghost use Rattle.bac_keeper.specs.Shown.{PrintsArchive, PrintsIn, Shows};
+ghost use Rattle.bac_keeper.specs.Archives.{IsHeld};
+ghost use Rattle.bac_keeper.specs.Ends.{MayAsk, MayFail};
+ghost use Rattle.bac_keeper.specs.Shown.{EndsPrint, FailsToPrint, PrintsArchive, PrintsIn};
+ghost use Rattle.bac_keeper.specs.Shown.{RefusesPrint, Shows, ShowsNoneBy};
 
 use crate::archives::{close_file, open_archive, open_file};
-use crate::keeping::{of_words, text_of};
+use crate::keeping::text_of;
 use bac_asked::{NotDone, Options, named};
 use bac_files::DiskFiles;
 use bac_kept::{Shown, print_shown};
 use bac_words::Kept;
-use sqlite::{Alter, Connection, FileFrom, Start};
+use sqlite::{Alter, Connection, Error, FileFrom, Start};
 use sqlite_disk::Disk;
 use std::alloc::Global;
 use std::io::Write;
 
 /// The logs that the words choose.
 fn choose(alloc: Global, asked: &Kept) -> Result<Shown, NotDone>
-    ensures { IfOk result (Shows asked.now) }
+    ensures shows { IfOk result (Shows asked.now) }
+    ensures none { IfErr result (ShowsNoneBy asked.now.address asked.now.instance) }
 {
     let Some(address) = text_of(&asked.address) else {
         return Ok(Shown::All);
@@ -50,9 +54,16 @@ fn print_in<A: Alter, O: Write>(
     output: &mut O,
 ) -> Result<u8, NotDone>
     ensures status { IfOk result (λ status. status ≡ 0) }
-    ensures printed { HasCleanDisk (state A.Store conn.new) → OnOk result
-        (PrintsArchive shown.now csv (O.contents output.old) (O.contents output.new) (state A.Store conn.old).now) }
-    ensures clean { OnOk result (HasCleanDisk (state A.Store conn.new) → HasCleanDisk (state A.Store conn.old)) }
+    ensures printed { HasCleanDisk (state A.Store conn.new)
+        → OnOk result (PrintsArchive shown.now csv (O.contents output.old) (O.contents output.new)
+        (state A.Store conn.old).now) }
+    ensures clean { OnOk result
+        (HasCleanDisk (state A.Store conn.new) → HasCleanDisk (state A.Store conn.old)) }
+    ensures fault { IfErr result (MayFail (λ why. ((error : Error) × (why ≡ of_error error))
+        ⊎ ((HasCleanDisk (state A.Store conn.new) → HasCleanDisk (state A.Store conn.old))
+        × (IsHeld (state A.Store conn.new)
+        → RefusesPrint shown.now (state A.Store conn.old).now why)))) }
+    ensures ends { IfErr result (MayAsk (λ fault. WantsMemory fault ⊎ RefusesLine fault)) }
 {
     open_archive(conn)?;
     print_shown(alloc, conn, shown, csv, output)
@@ -69,12 +80,11 @@ pub(crate) fn kept<F: Start, O: Write>(
     ensures printed { IfOk result (PrintsIn ⟦<FileFrom<F> as Disk>⟧ (image_at F.Start) asked.now
         (O.contents output.old) (O.contents output.new) files.new.closed) }
     ensures named { OnOk result (IsNamed asked.now.file false files.new) }
-    ensures fault { IfErr result (MayFail (IsNamed asked.now.file false files.new)) }
+    ensures fault { IfErr result
+        (MayFail (FailsToPrint ⟦<FileFrom<F> as Disk>⟧ (image_at F.Start) asked.now files.new)) }
+    ensures ends { IfErr result (MayAsk (EndsPrint asked.now)) }
 {
-    let shown = match choose(alloc, asked) {
-        Ok(shown) => shown,
-        Err(refused) => return Err(NotDone::Asking(of_words(refused))),
-    };
+    let shown = choose(alloc, asked)?;
     let mut conn = open_file(files, asked.file.as_str(), false)?;
     let done = print_in(&mut conn, alloc, &shown, asked.csv, output);
     close_file(files, conn, done)

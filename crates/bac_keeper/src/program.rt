@@ -1,14 +1,15 @@
 //! The tools `keep` and `kept`.
 
-ghost use Rattle.std.specs.Prelude.{◌≡◌, ◌⊎◌, IfOk, IfSome, OnErr, false, is_some, true};
+ghost use Rattle.std.specs.Prelude.{◌≡◌, ◌⊎◌, Err, IfErr, IfOk, IfSome, OnErr, false, is_some};
+ghost use Rattle.std.specs.Prelude.{true};
 ghost use Rattle.sqlite_wal.specs.Files.{image_at};
 ghost use Rattle.bac_asked.specs.Status.{file_status};
 ghost use Rattle.bac_files.specs.Files.{IsDoneTo, IsNamed, IsUnused};
 ghost use Rattle.bac_keeper.specs.Archives.{KeepsItems, LosesNothing};
-ghost use Rattle.bac_keeper.specs.Done.{KeepsIn};
+ghost use Rattle.bac_keeper.specs.Done.{EndsKeep, FailsToKeep, KeepsIn};
 ghost use Rattle.bac_keeper.specs.Ends.{EndsBy, IsOfFile, IsUntold};
-ghost use Rattle.bac_keeper.specs.Shown.{PrintsIn};
-ghost use Rattle.bac_keeper.specs.Stops.{StopsIn};
+ghost use Rattle.bac_keeper.specs.Shown.{EndsPrint, FailsToPrint, PrintsIn};
+ghost use Rattle.bac_keeper.specs.Stops.{EndsStop, FailsToStop, StopsIn};
 ghost use Rattle.bac_ports.specs.Sockets.{socket_rules};
 
 use crate::keeping::keep;
@@ -16,7 +17,7 @@ use crate::printing::kept;
 use crate::stopping::stop;
 use bac_asked::{Fault, FileFault, NotDone};
 use bac_files::DiskFiles;
-use bac_ports::Sockets;
+use bac_heeding::Heeds;
 use bac_print::write_text;
 use bac_words::{Keep, Kept};
 use sqlite::{FileFrom, Start};
@@ -33,6 +34,7 @@ fn tell_file<E: Write>(
 ) -> Result<u8, Fault>
     ensures status { IfOk result (λ status. status ≡ file_status fault) }
     ensures untold { OnErr result (E.contents errors.new ≡ E.contents errors.old) }
+    ensures memory { IfErr result (λ why. why ≡ Fault.Memory) }
 {
     match fault.lines(alloc, path) {
         Ok(text) => {
@@ -53,6 +55,7 @@ fn tell_done<E: Write>(
     ensures ends { IfOk result (λ status. EndsBy done status) }
     ensures said { IsUntold done (E.contents errors.old) (E.contents errors.new) }
     ensures untold { OnErr result (E.contents errors.new ≡ E.contents errors.old) }
+    ensures why { IfErr result (λ why. (done ≡ Err (NotDone.Asking why)) ⊎ (why ≡ Fault.Memory)) }
 {
     match done {
         Ok(status) => Ok(status),
@@ -63,9 +66,9 @@ fn tell_done<E: Write>(
 
 /// Does what the words of `bac keep` ask for, and answers the exit status. What was kept of each
 /// log, or with `--stop` which logs were stopped, goes to the output; a file that is no use is told
-/// on the errors, and any other fault is the caller's to tell. `counts` is for a terminal: the errors
-/// have a count of records while a log is fetched.
-pub fn run_keep<S: Sockets, F: Start, O: Write, E: Write>(
+/// on the errors, and any other fault is the caller's to tell. `counts` is for a terminal: the
+/// errors have a count of records while a log is fetched.
+pub fn run_keep<S: Heeds, F: Start, O: Write, E: Write>(
     sockets: &mut S,
     files: &mut DiskFiles<'_, F>,
     alloc: Global,
@@ -74,24 +77,43 @@ pub fn run_keep<S: Sockets, F: Start, O: Write, E: Write>(
     output: &mut O,
     errors: &mut E,
 ) -> Result<u8, Fault>
-    // The logs that the words choose were kept, in the archive that the files held; their lines were
-    // printed, and the status is the greatest of theirs. Or the file is no use.
-    ensures kept { asked.now.stop ≡ false → IfOk result (λ status. (IsNamed asked.now.file (is_some asked.now.address) files.new
-        × KeepsIn (socket_rules S.opens S.closes S.Socket.sends S.Socket.receives S.Socket.receives_within) ⟦<FileFrom<F> as Disk>⟧ (image_at F.Start)
-        asked.now sockets.old sockets.new (O.contents output.old) (O.contents output.new) files.new.closed status)
-        ⊎ IsOfFile (IsNamed asked.now.file (is_some asked.now.address) files.new) status) }
-    // With `--stop` they were stopped, and nothing else of the archive changed; no socket is opened, and
-    // only that the file is no use is told on the errors.
-    ensures stopped { asked.now.stop ≡ true → IfOk result (λ status. ((IsNamed asked.now.file false files.new
-        × StopsIn ⟦<FileFrom<F> as Disk>⟧ (image_at F.Start) asked.now (O.contents output.old) (O.contents output.new) files.new.closed status)
-        × (E.contents errors.new ≡ E.contents errors.old)) ⊎ IsOfFile (IsNamed asked.now.file false files.new) status) }
-    ensures untold { asked.now.stop ≡ true → OnErr result (E.contents errors.new ≡ E.contents errors.old) }
+    // The logs that the words choose were kept, in the archive that the files held; their lines
+    // were printed, and the status is the greatest of theirs. Or the file is no use.
+    ensures kept { asked.now.stop ≡ false
+        → IfOk result (λ status. (IsNamed asked.now.file (is_some asked.now.address) files.new
+        × KeepsIn (socket_rules S.opens S.closes S.Socket.sends S.Socket.receives
+        S.Socket.receives_within) ⟦<FileFrom<F> as Disk>⟧ (image_at F.Start)
+        asked.now sockets.old sockets.new (O.contents output.old)
+        (O.contents output.new) files.new.closed status)
+        ⊎ IsOfFile (FailsToKeep (socket_rules S.opens S.closes S.Socket.sends
+        S.Socket.receives S.Socket.receives_within) ⟦<FileFrom<F> as Disk>⟧
+        (image_at F.Start) asked.now sockets.old sockets.new files.new) status) }
+    // With `--stop` they were stopped, and nothing else of the archive changed; no socket is
+    // opened, and only that the file is no use is told on the errors.
+    ensures stopped { asked.now.stop ≡ true
+        → IfOk result (λ status. ((IsNamed asked.now.file false files.new
+        × StopsIn ⟦<FileFrom<F> as Disk>⟧ (image_at F.Start) asked.now
+        (O.contents output.old) (O.contents output.new) files.new.closed status)
+        × (E.contents errors.new ≡ E.contents errors.old))
+        ⊎ IsOfFile
+        (FailsToStop ⟦<FileFrom<F> as Disk>⟧ (image_at F.Start) asked.now files.new)
+        status) }
+    ensures untold { asked.now.stop ≡ true
+        → OnErr result (E.contents errors.new ≡ E.contents errors.old) }
     ensures silent { asked.now.stop ≡ true → sockets.new ≡ sockets.old }
     // Whatever comes of it, of an archive that the files held no item and no log is lost.
-    ensures stays { IsUnused files.old → IfSome files.new.closed (IsDoneTo ⟦<FileFrom<F> as Disk>⟧ (image_at F.Start) LosesNothing) }
+    ensures stays { IsUnused files.old → IfSome files.new.closed
+        (IsDoneTo ⟦<FileFrom<F> as Disk>⟧ (image_at F.Start) LosesNothing) }
     // With `--stop` no item comes to it either.
     ensures items { asked.now.stop ≡ true → IsUnused files.old
         → IfSome files.new.closed (IsDoneTo ⟦<FileFrom<F> as Disk>⟧ (image_at F.Start) KeepsItems) }
+    // Or it ends so, and that is the caller's to tell.
+    ensures ends { asked.now.stop ≡ false
+        → IfErr result (λ why. EndsKeep (socket_rules S.opens S.closes S.Socket.sends
+        S.Socket.receives S.Socket.receives_within) asked.now sockets.old sockets.new
+        (NotDone.Asking why)) }
+    ensures stop_ends { asked.now.stop ≡ true
+        → IfErr result (λ why. EndsStop asked.now (NotDone.Asking why)) }
 {
     if asked.stop {
         let done = stop(files, alloc, asked, output);
@@ -111,12 +133,16 @@ pub fn run_kept<F: Start, O: Write, E: Write>(
     output: &mut O,
     errors: &mut E,
 ) -> Result<u8, Fault>
-    // What the archive keeps of the logs that the words choose was printed; or the file is no use, which
-    // alone is told on the errors.
+    // What the archive keeps of the logs that the words choose was printed; or the file is no use,
+    // which alone is told on the errors.
     ensures printed { IfOk result (λ status. ((IsNamed asked.now.file false files.new
-        × PrintsIn ⟦<FileFrom<F> as Disk>⟧ (image_at F.Start) asked.now (O.contents output.old) (O.contents output.new) files.new.closed status)
-        × (E.contents errors.new ≡ E.contents errors.old)) ⊎ IsOfFile (IsNamed asked.now.file false files.new) status) }
+        × PrintsIn ⟦<FileFrom<F> as Disk>⟧ (image_at F.Start) asked.now
+        (O.contents output.old) (O.contents output.new) files.new.closed status)
+        × (E.contents errors.new ≡ E.contents errors.old))
+        ⊎ IsOfFile (FailsToPrint ⟦<FileFrom<F> as Disk>⟧ (image_at F.Start) asked.now files.new)
+        status) }
     ensures untold { OnErr result (E.contents errors.new ≡ E.contents errors.old) }
+    ensures ends { IfErr result (λ why. EndsPrint asked.now (NotDone.Asking why)) }
 {
     let done = kept(files, alloc, asked, output);
     tell_done(alloc, asked.file.as_str(), done, errors)

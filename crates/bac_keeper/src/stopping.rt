@@ -1,6 +1,7 @@
 //! `bac keep --stop`: the logs that words name aren't asked any more.
 
-ghost use Rattle.std.specs.Prelude.{◌≡◌, ◌∷◌, [], ◌++◌, IfErr, IfOk, IfSome, List, OnOk, false, true};
+ghost use Rattle.std.specs.Prelude.{◌≡◌, ◌⊎◌, ◌∷◌, [], ◌++◌, IfErr, IfOk, IfSome, List, OnOk};
+ghost use Rattle.std.specs.Prelude.{false, true};
 ghost use Rattle.std.specs.List.{list_all, list_any};
 ghost use Rattle.std.specs.Io.KnownBytes.{Appends};
 ghost use Rattle.sqlite.specs.Held.{state};
@@ -12,15 +13,18 @@ ghost use Rattle.bac_archive.specs.Schema.{archive_schema};
 ghost use Rattle.bac_archive.specs.declared.trend_logs.Log.{Log as LogOf};
 ghost use Rattle.bac_asked.specs.AsLog.{given_in};
 ghost use Rattle.bac_asked.specs.declared.wanted.Wanted.{Wanted as WantedOf};
+ghost use Rattle.bac_asked.specs.Faults.{IsOfDatabase, RefusesLine, WantsMemory, of_error};
 ghost use Rattle.bac_fetch.specs.Silent.{is_same_device, is_same_log};
 ghost use Rattle.bac_files.specs.Files.{IsDoneTo, IsNamed, IsUnused};
 ghost use Rattle.bac_keeper.specs.Archives.{HasSameItems, IsHeld, KeepsItems, LosesNothing};
 ghost use Rattle.bac_keeper.specs.Done.{given_of};
-ghost use Rattle.bac_keeper.specs.Ends.{MayFail};
-ghost use Rattle.bac_keeper.specs.Stops.{Means, StopsArchive, StopsIn, are_there, is_meant, stopped_lines, stopped_logs};
+ghost use Rattle.bac_keeper.specs.Ends.{MayAsk, MayFail};
+ghost use Rattle.bac_keeper.specs.Stops.{EndsStop, FailsToStop, Means, MeansNone, RefusesStop};
+ghost use Rattle.bac_keeper.specs.Stops.{StopsArchive, StopsIn, are_there, is_meant, stopped_lines};
+ghost use Rattle.bac_keeper.specs.Stops.{stopped_logs};
 
 use crate::archives::{close_file, open_archive, open_file};
-use crate::keeping::{of_words, options_of};
+use crate::keeping::options_of;
 use bac_archive::{Log, Source, change_logs, logs};
 use bac_asked::{
     Fault, FileFault, NotDone, Options, Wanted, named, named_all, of_error, push_stopped,
@@ -29,7 +33,7 @@ use bac_fetch::is_same_device;
 use bac_files::DiskFiles;
 use bac_print::write_text;
 use bac_words::{Keep, Word};
-use sqlite::{Alter, Connection, FileFrom, Start};
+use sqlite::{Alter, Connection, Error, FileFrom, Start};
 use sqlite_disk::Disk;
 use std::alloc::{AllocError, Global};
 use std::io::Write;
@@ -98,7 +102,8 @@ fn has_log(known: &[Log], source: &Source) -> bool
 
 /// Whether each of these is one of those that are known.
 fn have_each(known: &[Log], all: &[Wanted]) -> bool
-    ensures { result ≡ list_all (λ (w : WantedOf). list_any (λ (log : LogOf). is_same_log w.source log.source) known.now) all.now }
+    ensures { result ≡ list_all (λ (w : WantedOf). list_any
+        (λ (log : LogOf). is_same_log w.source log.source) known.now) all.now }
 {
     all.iter().all(|wanted| has_log(known, &wanted.source))
 }
@@ -106,7 +111,8 @@ fn have_each(known: &[Log], all: &[Wanted]) -> bool
 /// The logs that the words mean.
 fn choose(alloc: Global, asked: &Keep, options: &Options<'_>) -> Result<Meant, NotDone>
     requires { given_in options.now ≡ given_of asked.now.options }
-    ensures { IfOk result (Means asked.now) }
+    ensures means { IfOk result (Means asked.now) }
+    ensures none { IfErr result (MeansNone asked.now) }
 {
     let Some(address) = &asked.address else {
         return Err(NotDone::Asking(Fault::BadValue(Word::Stop)));
@@ -121,7 +127,9 @@ fn choose(alloc: Global, asked: &Keep, options: &Options<'_>) -> Result<Meant, N
 
 /// Puts a log behind others, stopped, if it is meant.
 fn add_stopped(these: &mut Vec<Log>, log: Log, meant: &Meant) -> Result<(), NotDone>
-    ensures { OnOk result (these.new.items ≡ these.old.items ++ stopped_logs meant.now (log ∷ [])) }
+    ensures added { OnOk result
+        (these.new.items ≡ these.old.items ++ stopped_logs meant.now (log ∷ [])) }
+    ensures fault { IfErr result WantsMemory }
 {
     if !meant.has(&log) {
         return Ok(());
@@ -136,7 +144,8 @@ fn add_stopped(these: &mut Vec<Log>, log: Log, meant: &Meant) -> Result<(), NotD
 
 /// Those of these logs that are meant, stopped.
 fn stopped_of(alloc: Global, known: Vec<Log>, meant: &Meant) -> Result<Vec<Log>, NotDone>
-    ensures { IfOk result (λ these. these.items ≡ stopped_logs meant.now known.items) }
+    ensures stopped { IfOk result (λ these. these.items ≡ stopped_logs meant.now known.items) }
+    ensures fault { IfErr result WantsMemory }
 {
     let mut these = Vec::new(alloc);
     for log in known {
@@ -158,7 +167,9 @@ fn lines_of(alloc: Global, these: &[Log]) -> Result<Vec<u8>, AllocError>
 
 /// Prints them.
 fn print_stopped<O: Write>(alloc: Global, these: &[Log], output: &mut O) -> Result<(), NotDone>
-    ensures { OnOk result (Appends (O.contents output.old) (O.contents output.new) (stopped_lines these.now)) }
+    ensures printed { OnOk result
+        (Appends (O.contents output.old) (O.contents output.new) (stopped_lines these.now)) }
+    ensures fault { IfErr result (λ fault. WantsMemory fault ⊎ RefusesLine fault) }
 {
     let Ok(text) = lines_of(alloc, these) else {
         return Err(NotDone::Asking(Fault::Memory));
@@ -175,15 +186,26 @@ fn stop_known<A: Alter>(
     alloc: Global,
     meant: &Meant,
 ) -> Result<Vec<Log>, NotDone>
-    ensures stopped { HasCleanDisk (state A.Store conn.new) → (state A.Store conn.old).now.schema ≡ archive_schema
-        → IfOk result (λ these. (known : List LogOf) × AreLogs (state A.Store conn.old).now.trees known
+    ensures stopped { HasCleanDisk (state A.Store conn.new)
+        → (state A.Store conn.old).now.schema ≡ archive_schema
+        → IfOk result (λ these. (known : List LogOf)
+        × AreLogs (state A.Store conn.old).now.trees known
         × (are_there meant.now known ≡ true) × (these.items ≡ stopped_logs meant.now known)
-        × HasChangedLogs (state A.Store conn.old).now (state A.Store conn.new).now these.items
+        × HasChangedLogs (state A.Store conn.old).now (state A.Store conn.new).now
+        these.items
         × ((state A.Store conn.new).committed ≡ (state A.Store conn.new).now)) }
     // Whatever comes of it, the items are the same, and no log is lost.
-    ensures stays { HasCleanDisk (state A.Store conn.new) → (state A.Store conn.old).now.schema ≡ archive_schema
-        → Survives (state A.Store conn.old) (state A.Store conn.new) (HasSameItems (state A.Store conn.old).now.trees) }
+    ensures stays { HasCleanDisk (state A.Store conn.new)
+        → (state A.Store conn.old).now.schema ≡ archive_schema
+        → Survives (state A.Store conn.old) (state A.Store conn.new)
+        (HasSameItems (state A.Store conn.old).now.trees) }
     ensures clean { HasCleanDisk (state A.Store conn.new) → HasCleanDisk (state A.Store conn.old) }
+    ensures fault { IfErr result (λ fault. WantsMemory fault
+        ⊎ (IsOfDatabase fault ⊎ ((fault ≡ NotDone.File FileFault.NoLog)
+        × (HasCleanDisk (state A.Store conn.new)
+        → (state A.Store conn.old).now.schema ≡ archive_schema
+        → (known : List LogOf) × AreLogs (state A.Store conn.old).now.trees known
+        × (are_there meant.now known ≡ false))))) }
 {
     let known = match logs(alloc, conn) {
         Ok(known) => known,
@@ -207,12 +229,18 @@ fn stop_in<A: Alter, O: Write>(
     output: &mut O,
 ) -> Result<u8, NotDone>
     ensures status { IfOk result (λ status. status ≡ 0) }
-    ensures stopped { HasCleanDisk (state A.Store conn.new) → OnOk result
-        (StopsArchive meant.now (O.contents output.old) (O.contents output.new) (state A.Store conn.old).now (state A.Store conn.new).committed) }
+    ensures stopped { HasCleanDisk (state A.Store conn.new)
+        → OnOk result (StopsArchive meant.now (O.contents output.old) (O.contents output.new)
+        (state A.Store conn.old).now (state A.Store conn.new).committed) }
     // Whatever comes of it, the items are the same, and no log is lost.
-    ensures stays { IsHeld (state A.Store conn.new) → (state A.Store conn.old).committed ≡ (state A.Store conn.old).now
+    ensures stays { IsHeld (state A.Store conn.new)
+        → (state A.Store conn.old).committed ≡ (state A.Store conn.old).now
         → KeepsItems (state A.Store conn.old).now (state A.Store conn.new).committed }
     ensures clean { HasCleanDisk (state A.Store conn.new) → HasCleanDisk (state A.Store conn.old) }
+    ensures fault { IfErr result (MayFail (λ why. ((error : Error) × (why ≡ of_error error))
+        ⊎ (IsHeld (state A.Store conn.new)
+        → RefusesStop meant.now (state A.Store conn.old).now why))) }
+    ensures ends { IfErr result (MayAsk (λ fault. WantsMemory fault ⊎ RefusesLine fault)) }
 {
     open_archive(conn)?;
     let these = stop_known(conn, alloc, meant)?;
@@ -230,15 +258,16 @@ pub(crate) fn stop<F: Start, O: Write>(
     ensures stopped { IfOk result (StopsIn ⟦<FileFrom<F> as Disk>⟧ (image_at F.Start) asked.now
         (O.contents output.old) (O.contents output.new) files.new.closed) }
     ensures named { OnOk result (IsNamed asked.now.file false files.new) }
-    ensures fault { IfErr result (MayFail (IsNamed asked.now.file false files.new)) }
-    ensures stays { IsUnused files.old → IfSome files.new.closed (IsDoneTo ⟦<FileFrom<F> as Disk>⟧ (image_at F.Start) LosesNothing) }
-    ensures items { IsUnused files.old → IfSome files.new.closed (IsDoneTo ⟦<FileFrom<F> as Disk>⟧ (image_at F.Start) KeepsItems) }
+    ensures fault { IfErr result
+        (MayFail (FailsToStop ⟦<FileFrom<F> as Disk>⟧ (image_at F.Start) asked.now files.new)) }
+    ensures stays { IsUnused files.old → IfSome files.new.closed
+        (IsDoneTo ⟦<FileFrom<F> as Disk>⟧ (image_at F.Start) LosesNothing) }
+    ensures items { IsUnused files.old
+        → IfSome files.new.closed (IsDoneTo ⟦<FileFrom<F> as Disk>⟧ (image_at F.Start) KeepsItems) }
+    ensures ends { IfErr result (MayAsk (EndsStop asked.now)) }
 {
     let options = options_of(&asked.options);
-    let meant = match choose(alloc, asked, &options) {
-        Ok(meant) => meant,
-        Err(refused) => return Err(NotDone::Asking(of_words(refused))),
-    };
+    let meant = choose(alloc, asked, &options)?;
     let mut conn = open_file(files, asked.file.as_str(), false)?;
     let done = stop_in(&mut conn, alloc, &meant, output);
     close_file(files, conn, done)

@@ -1,22 +1,25 @@
 -- What the program does, by what its tools did.
-use Rattle.std.proofs.Common.{◌≡◌, ℕ, Bool, true, false, List, inl, inr, Option, None, is_some, refl, Result, Ok, Err, IfOk, OnErr, subst, sym, ◌⊎◌}
+use Rattle.std.proofs.Common.{◌≡◌, ℕ, Bool, true, false, List, inl, inr, Option, None, is_some, refl, Result, Ok, Err, IfErr, IfOk, OnErr, subst, sym, ◌⊎◌}
 use Rattle.clap.specs.Words.{Text, IsAmong, kind_of}
 use Rattle.sqlite_disk.specs.declared.Disk as disk
 use Rattle.sqlite_disk.specs.declared.start.Start as start
 use Rattle.sqlite_wal.specs.Files.{image_at}
+use Rattle.bac_asked.specs.declared.end.NotDone.{NotDone}
+use Rattle.bac_asked.specs.declared.end.NotDone.TheVariants.{Asking}
 use Rattle.bac_asked.specs.declared.fault.Fault.{Fault as KeepFault}
-use Rattle.bac_files.specs.Files.{IsNamed}
+use Rattle.bac_asked.specs.declared.fault.FileFault.{FileFault}
+use Rattle.bac_files.specs.Files.{FileOf, IsNamed}
 use Rattle.bac_files.specs.declared.disk_files.DiskFiles.{DiskFiles}
 use Rattle.bac_heeding.specs.Notes.{nothing}
 use Rattle.bac_heeding.specs.declared.notes.Passed.{Passed}
-use Rattle.bac_keeper.specs.Done.{KeepsIn}
+use Rattle.bac_keeper.specs.Done.{EndsKeep, FailsToKeep, KeepsIn}
 use Rattle.bac_keeper.specs.Ends.{IsOfFile}
-use Rattle.bac_keeper.specs.Shown.{PrintsIn}
-use Rattle.bac_keeper.specs.Stops.{StopsIn}
+use Rattle.bac_keeper.specs.Shown.{EndsPrint, FailsToPrint, PrintsIn}
+use Rattle.bac_keeper.specs.Stops.{EndsStop, FailsToStop, StopsIn}
 use Rattle.bac_ports.specs.Sockets.{SocketRules}
 use Rattle.bac_print.specs.Output.{Held}
 use Rattle.bac_run.specs.Faults.{ending_of, fault_of}
-use Rattle.bac_run.specs.Run.{DoesAll, DoesTold, FileOf, HasFaultStatus, RunsAll, RunsKeepBy, RunsKept, TellsFault}
+use Rattle.bac_run.specs.Run.{DoesAll, DoesTold, HasFaultStatus, RunsAll, RunsKeepBy, RunsKept, TellsFault}
 use Rattle.std.specs.Io.KnownBytes.{Keeps}
 use Rattle.bac_tools.specs.Run.{AskFor, Ends, IsToldAfter, RunsRead}
 use Rattle.bac_tools.specs.Streams.{Streams, streams}
@@ -31,64 +34,68 @@ use Rattle.bac_words.specs.declared.job.Kept.{Kept as KeptWords}
 use Rattle.bac_words.specs.declared.word.Word.{Word}
 
 -- a fault that is told has its status
-status_told : (passed : Passed) (why : KeepFault) (said errors : Held) (status : ℕ) → IsToldAfter passed (fault_of why) said errors status → HasFaultStatus status
-status_told passed why said errors status told = elim told [
-  | inl its ↦ (why, inl its.0)
-  | inr memory ↦ (why, inr memory.0)
+status_told : (ends : NotDone → Type 0) (passed : Passed) (why : KeepFault) (said errors : Held) (status : ℕ) → ends (Asking why)
+    → IsToldAfter passed (fault_of why) said errors status → HasFaultStatus ends status
+status_told ends passed why said errors status so told = elim told [
+  | inl its ↦ (why, so, inl its.0)
+  | inr memory ↦ (why, so, inr memory.0)
 ]
 
 -- a tool of the archive, and its fault is told
-told_so : (passed : Passed) (Done : ℕ → Type 0) (named : Type 0) (said errors : Held) (done : Result ℕ KeepFault) (status : ℕ)
-    → IfOk done (λ n. Done n ⊎ IsOfFile named n) → Ends passed (ending_of done) said errors status
-    → Done status ⊎ (IsOfFile named status ⊎ HasFaultStatus status)
-told_so passed Done named said errors (Ok n) status ok ends =
-    subst (λ (m : ℕ). Done m ⊎ (IsOfFile named m ⊎ HasFaultStatus m)) (sym ends.0)
+told_so : (Done : ℕ → Type 0) (fails : FileFault → Type 0) (ends : NotDone → Type 0) (passed : Passed) (said errors : Held) (done : Result ℕ KeepFault)
+    (status : ℕ) → IfOk done (λ n. Done n ⊎ IsOfFile fails n) → IfErr done (λ why. ends (Asking why)) → Ends passed (ending_of done) said errors status
+    → Done status ⊎ (IsOfFile fails status ⊎ HasFaultStatus ends status)
+told_so Done fails ends passed said errors (Ok n) status ok so told =
+    subst (λ (m : ℕ). Done m ⊎ (IsOfFile fails m ⊎ HasFaultStatus ends m)) (sym told.0)
     (elim ok [
       | inl is ↦ inl is
       | inr useless ↦ inr (inl useless)
     ])
-told_so passed Done named said errors (Err why) status ok ends = inr (inr (status_told passed why said errors status ends))
+told_so Done fails ends passed said errors (Err why) status ok so told = inr (inr (status_told ends passed why said errors status so told))
 
 -- the same of one that told nothing before, unless the file is at fault
-told_alone : (passed : Passed) (Done : ℕ → Type 0) (named : Type 0) (before said errors : Held) (done : Result ℕ KeepFault) (status : ℕ)
-    → IfOk done (λ n. (Done n × (said ≡ before)) ⊎ IsOfFile named n) → OnErr done (said ≡ before) → Ends passed (ending_of done) said errors status
-    → (Done status × Keeps before errors) ⊎ (IsOfFile named status ⊎ TellsFault passed before errors status)
-told_alone passed Done named before said errors (Ok n) status ok quiet ends = elim ok [
-  | inl is ↦ inl (subst Done (sym ends.0) is.0, subst (λ (h : Held). Keeps h errors) is.1 ends.1)
-  | inr useless ↦ inr (inl (subst (IsOfFile named) (sym ends.0) useless))
+told_alone : (Done : ℕ → Type 0) (fails : FileFault → Type 0) (ends : NotDone → Type 0) (passed : Passed) (before said errors : Held)
+    (done : Result ℕ KeepFault) (status : ℕ) → IfOk done (λ n. (Done n × (said ≡ before)) ⊎ IsOfFile fails n) → OnErr done (said ≡ before)
+    → IfErr done (λ why. ends (Asking why)) → Ends passed (ending_of done) said errors status
+    → (Done status × Keeps before errors) ⊎ (IsOfFile fails status ⊎ TellsFault ends passed before errors status)
+told_alone Done fails ends passed before said errors (Ok n) status ok quiet so told = elim ok [
+  | inl is ↦ inl (subst Done (sym told.0) is.0, subst (λ (h : Held). Keeps h errors) is.1 told.1)
+  | inr useless ↦ inr (inl (subst (IsOfFile fails) (sym told.0) useless))
 ]
-told_alone passed Done named before said errors (Err why) status ok quiet ends =
-    inr (inr (why, subst (λ (h : Held). IsToldAfter passed (fault_of why) h errors status) quiet ends))
+told_alone Done fails ends passed before said errors (Err why) status ok quiet so told =
+    inr (inr (why, so, subst (λ (h : Held). IsToldAfter passed (fault_of why) h errors status) quiet told))
 
 -- `keep`, and its fault is told
 pub keep_ran : {S P F : Type 0} {s : start.Ghosts F} (g : disk.Ghosts (FileOf s)) (rules : SocketRules S P) (passes : S → Passed) (asked : KeepWords) (sockets sockets' : S)
     (out out' before said errors : Held) (left : DiskFiles F s) (done : Result ℕ KeepFault) (status : ℕ) (stops : Bool)
     → (stops ≡ false → IfOk done (λ n. (IsNamed asked.file (is_some asked.address) left × KeepsIn rules g (image_at s) asked sockets sockets' out out' left.closed n)
-    ⊎ IsOfFile (IsNamed asked.file (is_some asked.address) left) n))
+    ⊎ IsOfFile (FailsToKeep rules g (image_at s) asked sockets sockets' left) n))
     → (stops ≡ true → IfOk done (λ n. ((IsNamed asked.file false left × StopsIn g (image_at s) asked out out' left.closed n) × (said ≡ before))
-    ⊎ IsOfFile (IsNamed asked.file false left) n))
+    ⊎ IsOfFile (FailsToStop g (image_at s) asked left) n))
     → (stops ≡ true → OnErr done (said ≡ before))
     → (stops ≡ true → sockets' ≡ sockets)
+    → (stops ≡ false → IfErr done (λ why. EndsKeep rules asked sockets sockets' (Asking why)))
+    → (stops ≡ true → IfErr done (λ why. EndsStop asked (Asking why)))
     → Ends (passes sockets') (ending_of done) said errors status
     → RunsKeepBy g rules passes stops asked (streams None out before sockets (tt {0})) status (streams None out' errors sockets' (tt {0})) left
-keep_ran {s = s} g rules passes asked sockets sockets' out out' before said errors left done status false kept stopped untold silent ends =
-    told_so (passes sockets') (λ n. IsNamed asked.file (is_some asked.address) left × KeepsIn rules g (image_at s) asked sockets sockets' out out' left.closed n)
-    (IsNamed asked.file (is_some asked.address) left) said errors done status (kept refl) ends
-keep_ran {s = s} g rules passes asked sockets sockets' out out' before said errors left done status true kept stopped untold silent ends = (
-  told_alone (passes sockets') (λ n. IsNamed asked.file false left × StopsIn g (image_at s) asked out out' left.closed n)
-      (IsNamed asked.file false left) before said errors done status (stopped refl) (untold refl) ends,
+keep_ran {s = s} g rules passes asked sockets sockets' out out' before said errors left done status false kept stopped untold silent so still told =
+    told_so (λ n. IsNamed asked.file (is_some asked.address) left × KeepsIn rules g (image_at s) asked sockets sockets' out out' left.closed n)
+    (FailsToKeep rules g (image_at s) asked sockets sockets' left) (EndsKeep rules asked sockets sockets') (passes sockets') said errors done status (kept refl) (so refl) told
+keep_ran {s = s} g rules passes asked sockets sockets' out out' before said errors left done status true kept stopped untold silent so still told = (
+  told_alone (λ n. IsNamed asked.file false left × StopsIn g (image_at s) asked out out' left.closed n)
+      (FailsToStop g (image_at s) asked left) (EndsStop asked) (passes sockets') before said errors done status (stopped refl) (untold refl) (still refl) told,
   silent refl,
 )
 
 -- `kept`, and its fault is told
 pub kept_ran : {F : Type 0} {s : start.Ghosts F} (g : disk.Ghosts (FileOf s)) (asked : KeptWords) (out out' before said errors : Held)
     (left : DiskFiles F s) (done : Result ℕ KeepFault) (status : ℕ)
-    → IfOk done (λ n. ((IsNamed asked.file false left × PrintsIn g (image_at s) asked out out' left.closed n) × (said ≡ before)) ⊎ IsOfFile (IsNamed asked.file false left) n)
-    → OnErr done (said ≡ before) → Ends nothing (ending_of done) said errors status
+    → IfOk done (λ n. ((IsNamed asked.file false left × PrintsIn g (image_at s) asked out out' left.closed n) × (said ≡ before)) ⊎ IsOfFile (FailsToPrint g (image_at s) asked left) n)
+    → OnErr done (said ≡ before) → IfErr done (λ why. EndsPrint asked (Asking why)) → Ends nothing (ending_of done) said errors status
     → RunsKept g asked (streams None out before (tt {0}) (tt {0})) status (streams None out' errors (tt {0}) (tt {0})) left
-kept_ran {s = s} g asked out out' before said errors left done status ok untold ends =
-    told_alone nothing (λ n. IsNamed asked.file false left × PrintsIn g (image_at s) asked out out' left.closed n) (IsNamed asked.file false left)
-    before said errors done status ok untold ends
+kept_ran {s = s} g asked out out' before said errors left done status ok untold so told =
+    told_alone (λ n. IsNamed asked.file false left × PrintsIn g (image_at s) asked out out' left.closed n) (FailsToPrint g (image_at s) asked left) (EndsPrint asked)
+    nothing before said errors done status ok untold so told
 
 -- what was done of `keep` is the same beside an input and a clock
 pub keep_over : {S P C F : Type 0} {s : start.Ghosts F} (g : disk.Ghosts (FileOf s)) (rules : SocketRules S P) (passes : S → Passed) (asked : KeepWords) (stops : Bool) (old new : Streams S C)

@@ -1,22 +1,21 @@
--- What the program does with its words: its streams, its sockets and its clock, and the files, before and now. Read from
--- the end.
+-- What the program does with its words: its streams, its sockets and its clock, and the files, before and now. Read
+-- from the end.
 use Rattle.std.specs.Prelude.{◌≡◌, ◌⊎◌, ℕ, Bool, true, false, List, Option, is_some}
 use Rattle.clap.specs.Words.{Text}
-use Rattle.sqlite.below.sqlite_std_file.specs.contracts.host.HostCalls.TheImpl as host
-use Rattle.sqlite.below.sqlite_std_file.specs.declared.host.Host.{Host}
 use Rattle.sqlite_disk.specs.declared.Disk as disk
-use Rattle.sqlite_disk.specs.declared.modelled.Modelled.{Modelled}
 use Rattle.sqlite_disk.specs.declared.start.Start as start
 use Rattle.sqlite_wal.specs.Files.{image_at}
+use Rattle.bac_asked.specs.declared.end.NotDone.{NotDone}
+use Rattle.bac_asked.specs.declared.end.NotDone.TheVariants.{Asking}
 use Rattle.bac_asked.specs.declared.fault.Fault.{Fault as KeepFault}
-use Rattle.bac_files.specs.Files.{IsNamed}
+use Rattle.bac_files.specs.Files.{FileOf, IsNamed}
 use Rattle.bac_files.specs.declared.disk_files.DiskFiles.{DiskFiles}
 use Rattle.bac_heeding.specs.Notes.{nothing}
 use Rattle.bac_heeding.specs.declared.notes.Passed.{Passed}
-use Rattle.bac_keeper.specs.Done.{KeepsIn}
+use Rattle.bac_keeper.specs.Done.{EndsKeep, FailsToKeep, KeepsIn}
 use Rattle.bac_keeper.specs.Ends.{IsOfFile}
-use Rattle.bac_keeper.specs.Shown.{PrintsIn}
-use Rattle.bac_keeper.specs.Stops.{StopsIn}
+use Rattle.bac_keeper.specs.Shown.{EndsPrint, FailsToPrint, PrintsIn}
+use Rattle.bac_keeper.specs.Stops.{EndsStop, FailsToStop, StopsIn}
 use Rattle.bac_ports.specs.Sockets.{SocketRules}
 use Rattle.std.specs.Io.KnownBytes.{Keeps}
 use Rattle.bac_print.specs.Output.{Held}
@@ -32,10 +31,6 @@ use Rattle.bac_words.specs.declared.job.Job.TheVariants as job
 use Rattle.bac_words.specs.declared.job.Keep.{Keep}
 use Rattle.bac_words.specs.declared.job.Kept.{Kept}
 
--- a file of the machine that held what a `Start` says
-abbrev pub FileOf : {F : Type 0} → start.Ghosts F → Type 0
-FileOf {F = F} s = Modelled Host F host.ghosts s
-
 -- a job of `kept`
 abbrev pub IsOfKept : Job → Type 0
 IsOfKept asked = (kept : Kept) × (asked ≡ job.Kept kept)
@@ -48,44 +43,48 @@ AskForKept words = (kept : Kept) × AskFor words (job.Kept kept)
 abbrev pub IsStill : {S C : Type 0} → Streams S C → Streams S C → Type 0
 IsStill old new = (new.input ≡ old.input) × (new.clock ≡ old.clock)
 
--- a fault of `keep` or `kept` is told with its status, after a last question since which this passed
-abbrev pub TellsFault : Passed → Held → Held → ℕ → Type 0
-TellsFault passed said errors status = (why : KeepFault) × IsToldAfter passed (fault_of why) said errors status
+-- `keep` or `kept` ends so, and its fault is told with its status, after a last question since which this passed
+abbrev pub TellsFault : (NotDone → Type 0) → Passed → Held → Held → ℕ → Type 0
+TellsFault ends passed said errors status =
+    (why : KeepFault) × ends (Asking why) × IsToldAfter passed (fault_of why) said errors status
 
--- The status is that of a fault of `keep`, or of no memory to tell it: what the runs over logs told on the errors before is
--- nowhere said, so of what is told here nothing can be.
-abbrev pub HasFaultStatus : ℕ → Type 0
-HasFaultStatus status =
-    (why : KeepFault) × ((status ≡ exit_status (fault_of why)) ⊎ (status ≡ exit_status Memory))
+-- `keep` ends so, and the status is that of its fault, or of no memory to tell it: what the runs over logs told on the
+-- errors before is nowhere said, so of what is told here nothing can be.
+abbrev pub HasFaultStatus : (NotDone → Type 0) → ℕ → Type 0
+HasFaultStatus ends status =
+    (why : KeepFault) × ends (Asking why) × ((status ≡ exit_status (fault_of why)) ⊎ (status ≡ exit_status Memory))
 
 module _ {S C F : Type 0} {s : start.Ghosts F} (g : disk.Ghosts (FileOf s)) where
   -- `keep`: the logs that the words choose were kept in the archive that the files held; or the file is no use; or the
-  -- status is a fault's. With `--stop` those that the words mean were stopped, or the file is no use, or a fault is told; and
-  -- no socket is opened.
-  abbrev pub RunsKeepBy : {P : Type 0} → SocketRules S P → (S → Passed) → Bool → Keep → Streams S C → ℕ → Streams S C → DiskFiles F s → Type 0
+  -- status is a fault's. With `--stop` those that the words mean were stopped, or the file is no use, or a fault is
+  -- told; and no socket is opened.
+  abbrev pub RunsKeepBy : {P : Type 0} → SocketRules S P → (S → Passed) → Bool → Keep → Streams S C → ℕ → Streams S C
+      → DiskFiles F s → Type 0
   RunsKeepBy rules passes false asked old status new left =
       (IsNamed asked.file (is_some asked.address) left
       × KeepsIn rules g (image_at s) asked old.sockets new.sockets old.output new.output left.closed status)
-      ⊎ (IsOfFile (IsNamed asked.file (is_some asked.address) left) status
-      ⊎ HasFaultStatus status)
+      ⊎ (IsOfFile (FailsToKeep rules g (image_at s) asked old.sockets new.sockets left) status
+      ⊎ HasFaultStatus (EndsKeep rules asked old.sockets new.sockets) status)
   RunsKeepBy rules passes true asked old status new left =
       (((IsNamed asked.file false left × StopsIn g (image_at s) asked old.output new.output left.closed status)
       × Keeps old.errors new.errors)
-      ⊎ (IsOfFile (IsNamed asked.file false left) status
-      ⊎ TellsFault (passes new.sockets) old.errors new.errors status))
+      ⊎ (IsOfFile (FailsToStop g (image_at s) asked left) status
+      ⊎ TellsFault (EndsStop asked) (passes new.sockets) old.errors new.errors status))
       × (new.sockets ≡ old.sockets)
 
   -- the same by the words
-  abbrev pub RunsKeep : {P : Type 0} → SocketRules S P → (S → Passed) → Keep → Streams S C → ℕ → Streams S C → DiskFiles F s → Type 0
+  abbrev pub RunsKeep : {P : Type 0} → SocketRules S P → (S → Passed) → Keep → Streams S C → ℕ → Streams S C
+      → DiskFiles F s → Type 0
   RunsKeep rules passes asked old status new left = RunsKeepBy rules passes asked.stop asked old status new left
 
-  -- `kept`: what the archive keeps of the logs that the words choose was printed; or the file is no use; or a fault is told
+  -- `kept`: what the archive keeps of the logs that the words choose was printed; or the file is no use; or a fault is
+  -- told
   abbrev pub RunsKept : Kept → Streams S C → ℕ → Streams S C → DiskFiles F s → Type 0
   RunsKept asked old status new left =
       ((IsNamed asked.file false left × PrintsIn g (image_at s) asked old.output new.output left.closed status)
       × Keeps old.errors new.errors)
-      ⊎ (IsOfFile (IsNamed asked.file false left) status
-      ⊎ TellsFault nothing old.errors new.errors status)
+      ⊎ (IsOfFile (FailsToPrint g (image_at s) asked left) status
+      ⊎ TellsFault (EndsPrint asked) nothing old.errors new.errors status)
 
   -- The tool of a job. Each other one than `keep` and `kept` leaves the files alone; `kept` opens no socket.
   abbrev pub DoesAll : {P : Type 0} → SocketRules S P → (S → Passed) → (C → Option CivilTime → C → Type 0) → Job →
@@ -94,17 +93,22 @@ module _ {S C F : Type 0} {s : start.Ghosts F} (g : disk.Ghosts (FileOf s)) wher
       RunsKeep rules passes asked old status new left × IsStill old new
   DoesAll rules passes tells (job.Kept asked) old files status new left =
       RunsKept asked old status new left × IsStill old new × (new.sockets ≡ old.sockets)
-  DoesAll rules passes tells other old files status new left = Runs rules passes tells other old status new × (left ≡ files)
+  DoesAll rules passes tells other old files status new left = Runs rules passes tells other old status new
+      × (left ≡ files)
 
   -- The sockets are switched on to tell each datagram, or off, as the words say; the tool does its work over these.
-  abbrev pub DoesTold : {P : Type 0} → (S → Bool → S → Type 0) → SocketRules S P → (S → Passed) → (C → Option CivilTime → C → Type 0) →
+  abbrev pub DoesTold : {P : Type 0} → (S → Bool → S → Type 0) → SocketRules S P → (S → Passed)
+      → (C → Option CivilTime → C → Type 0) →
       Job → Streams S C → DiskFiles F s → ℕ → Streams S C → DiskFiles F s → Type 0
   DoesTold traces rules passes tells asked old files status new left =
       (sockets : S) × traces old.sockets (is_traced asked) sockets
-      × DoesAll rules passes tells asked (streams old.input old.output old.errors sockets old.clock) files status new left
+      × DoesAll rules passes tells asked (streams old.input old.output old.errors sockets old.clock) files status new
+      left
 
   -- What the words ask for is done; or nothing is, as there is no memory for the words.
-  abbrev pub RunsAll : {P : Type 0} → (S → Bool → S → Type 0) → SocketRules S P → (S → Passed) → (C → Option CivilTime → C → Type 0) →
+  abbrev pub RunsAll : {P : Type 0} → (S → Bool → S → Type 0) → SocketRules S P → (S → Passed)
+      → (C → Option CivilTime → C → Type 0) →
       Job → Streams S C → DiskFiles F s → ℕ → Streams S C → DiskFiles F s → Type 0
   RunsAll traces rules passes tells asked old files status new left =
-      (OnlyTells Memory old status new × (left ≡ files)) ⊎ DoesTold traces rules passes tells asked old files status new left
+      (OnlyTells Memory old status new × (left ≡ files))
+      ⊎ DoesTold traces rules passes tells asked old files status new left

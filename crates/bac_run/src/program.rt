@@ -12,7 +12,8 @@ ghost use Rattle.bac_words.specs.Outcome.{mistakes_of};
 ghost use Rattle.bac_words.specs.declared.job.Job.{Job as AnyJob};
 ghost use Rattle.bac_words.specs.declared.word.Word.{Word as AnyWord};
 ghost use Rattle.bac_run.specs.Faults.{ending_of, fault_of};
-ghost use Rattle.bac_run.specs.Run.{AskForKept, DoesAll, DoesTold, IsOfKept, RunsAll, RunsKeep, RunsKept};
+ghost use Rattle.bac_run.specs.Run.{AskForKept, DoesAll, DoesTold, IsOfKept, RunsAll, RunsKeep};
+ghost use Rattle.bac_run.specs.Run.{RunsKept};
 
 use bac_heeding::{Heeds, Passed};
 use bac_keeper::{DiskFiles, Fault as KeepFault, run_keep, run_kept};
@@ -58,10 +59,14 @@ fn keep_and_tell<S: Heeds, F: Start, O: Write, E: Write>(
     output: &mut O,
     errors: &mut E,
 ) -> u8
-    ensures ran { RunsKeep ⟦<FileFrom<F> as Disk>⟧ (socket_rules S.opens S.closes S.Socket.sends S.Socket.receives S.Socket.receives_within) S.passes asked.now
+    ensures ran { RunsKeep ⟦<FileFrom<F> as Disk>⟧
+        (socket_rules S.opens S.closes S.Socket.sends S.Socket.receives S.Socket.receives_within)
+        S.passes asked.now
         (streams None (O.contents output.old) (E.contents errors.old) sockets.old (tt {0})) result
-        (streams None (O.contents output.new) (E.contents errors.new) sockets.new (tt {0})) files.new }
-    ensures stays { IsUnused files.old → IfSome files.new.closed (IsDoneTo ⟦<FileFrom<F> as Disk>⟧ (image_at F.Start) LosesNothing) }
+        (streams None (O.contents output.new) (E.contents errors.new) sockets.new (tt {0}))
+        files.new }
+    ensures stays { IsUnused files.old → IfSome files.new.closed
+        (IsDoneTo ⟦<FileFrom<F> as Disk>⟧ (image_at F.Start) LosesNothing) }
 {
     let done = run_keep(sockets, files, alloc, asked, counts, output, errors);
     ended(alloc, sockets.passed(), done, errors)
@@ -95,10 +100,15 @@ fn run_job<S: Heeds, F: Start, I: Read, O: Write, E: Write, C: Clock>(
     errors: &mut E,
     clock: &mut C,
 ) -> u8
-    ensures ran { DoesAll ⟦<FileFrom<F> as Disk>⟧ (socket_rules S.opens S.closes S.Socket.sends S.Socket.receives S.Socket.receives_within) S.passes C.tells job
-        (streams (I.remaining input.old) (O.contents output.old) (E.contents errors.old) sockets.old clock.old) files.old result
-        (streams (I.remaining input.new) (O.contents output.new) (E.contents errors.new) sockets.new clock.new) files.new }
-    ensures stays { IsUnused files.old → (IsOfKept job → ⊥) → IfSome files.new.closed (IsDoneTo ⟦<FileFrom<F> as Disk>⟧ (image_at F.Start) LosesNothing) }
+    ensures ran { DoesAll ⟦<FileFrom<F> as Disk>⟧
+        (socket_rules S.opens S.closes S.Socket.sends S.Socket.receives S.Socket.receives_within)
+        S.passes C.tells job (streams (I.remaining input.old) (O.contents output.old)
+        (E.contents errors.old) sockets.old clock.old) files.old result
+        (streams (I.remaining input.new) (O.contents output.new) (E.contents errors.new) sockets.new
+        clock.new) files.new }
+    ensures stays { IsUnused files.old → (IsOfKept job → ⊥)
+        → IfSome files.new.closed
+        (IsDoneTo ⟦<FileFrom<F> as Disk>⟧ (image_at F.Start) LosesNothing) }
 {
     match job {
         Job::Keep(asked) => keep_and_tell(sockets, files, alloc, &asked, counts, output, errors),
@@ -119,10 +129,15 @@ fn run_told<S: Tracing, F: Start, I: Read, O: Write, E: Write, C: Clock>(
     errors: &mut E,
     clock: &mut C,
 ) -> u8
-    ensures ran { DoesTold ⟦<FileFrom<F> as Disk>⟧ S.traces (socket_rules S.opens S.closes S.Socket.sends S.Socket.receives S.Socket.receives_within) S.passes C.tells job
-        (streams (I.remaining input.old) (O.contents output.old) (E.contents errors.old) sockets.old clock.old) files.old result
-        (streams (I.remaining input.new) (O.contents output.new) (E.contents errors.new) sockets.new clock.new) files.new }
-    ensures stays { IsUnused files.old → (IsOfKept job → ⊥) → IfSome files.new.closed (IsDoneTo ⟦<FileFrom<F> as Disk>⟧ (image_at F.Start) LosesNothing) }
+    ensures ran { DoesTold ⟦<FileFrom<F> as Disk>⟧ S.traces
+        (socket_rules S.opens S.closes S.Socket.sends S.Socket.receives S.Socket.receives_within)
+        S.passes C.tells job (streams (I.remaining input.old) (O.contents output.old)
+        (E.contents errors.old) sockets.old clock.old) files.old result
+        (streams (I.remaining input.new) (O.contents output.new) (E.contents errors.new) sockets.new
+        clock.new) files.new }
+    ensures stays { IsUnused files.old → (IsOfKept job → ⊥)
+        → IfSome files.new.closed
+        (IsDoneTo ⟦<FileFrom<F> as Disk>⟧ (image_at F.Start) LosesNothing) }
 {
     sockets.trace(job.is_traced());
     run_job(
@@ -146,24 +161,33 @@ pub fn run<S: Tracing, F: Start, I: Read, O: Write, E: Write, C: Clock>(
     clock: &mut C,
 ) -> u8
     // The tool that the words name does what they say.
-    ensures done { (job : AnyJob) → AskFor (map string_bytes words.now) job →
-        RunsAll ⟦<FileFrom<F> as Disk>⟧ S.traces (socket_rules S.opens S.closes S.Socket.sends S.Socket.receives S.Socket.receives_within) S.passes C.tells job
-        (streams (I.remaining input.old) (O.contents output.old) (E.contents errors.old) sockets.old clock.old) files.old result
-        (streams (I.remaining input.new) (O.contents output.new) (E.contents errors.new) sockets.new clock.new) files.new }
+    ensures done { (job : AnyJob) → AskFor (map string_bytes words.now) job
+        → RunsAll ⟦<FileFrom<F> as Disk>⟧ S.traces
+        (socket_rules S.opens S.closes S.Socket.sends S.Socket.receives
+        S.Socket.receives_within) S.passes C.tells job
+        (streams (I.remaining input.old) (O.contents output.old) (E.contents errors.old)
+        sockets.old clock.old) files.old result
+        (streams (I.remaining input.new) (O.contents output.new) (E.contents errors.new)
+        sockets.new clock.new) files.new }
     // Whatever comes of it, of an archive that the files held no item and no log is lost.
     ensures stays { IsUnused files.old → (AskForKept (map string_bytes words.now) → ⊥)
-        → IfSome files.new.closed (IsDoneTo ⟦<FileFrom<F> as Disk>⟧ (image_at F.Start) LosesNothing) }
+        → IfSome files.new.closed
+        (IsDoneTo ⟦<FileFrom<F> as Disk>⟧ (image_at F.Start) LosesNothing) }
     // Of words with a wrong value this is told, and nothing else is done.
-    ensures bad_value { (word : AnyWord) → AreWrong (map string_bytes words.now) word → (files.new ≡ files.old)
-        × OnlyTells (wrong_fault (map string_bytes words.now) word)
-        (streams (I.remaining input.old) (O.contents output.old) (E.contents errors.old) sockets.old clock.old) result
-        (streams (I.remaining input.new) (O.contents output.new) (E.contents errors.new) sockets.new clock.new) }
+    ensures bad_value { (word : AnyWord) → AreWrong (map string_bytes words.now) word
+        → (files.new ≡ files.old) × OnlyTells (wrong_fault (map string_bytes words.now) word)
+        (streams (I.remaining input.old) (O.contents output.old) (E.contents errors.old)
+        sockets.old clock.old) result
+        (streams (I.remaining input.new) (O.contents output.new) (E.contents errors.new)
+        sockets.new clock.new) }
     // Words that ask for help or the version have it on the output, those with a mistake on the
     // errors, and nothing else is done.
-    ensures explained { (mistakes_of (map string_bytes words.now) ≡ [] → ⊥) → (files.new ≡ files.old)
-        × AnswersWords (map string_bytes words.now)
-        (streams (I.remaining input.old) (O.contents output.old) (E.contents errors.old) sockets.old clock.old) result
-        (streams (I.remaining input.new) (O.contents output.new) (E.contents errors.new) sockets.new clock.new) }
+    ensures explained { (mistakes_of (map string_bytes words.now) ≡ [] → ⊥)
+        → (files.new ≡ files.old) × AnswersWords (map string_bytes words.now)
+        (streams (I.remaining input.old) (O.contents output.old) (E.contents errors.old)
+        sockets.old clock.old) result
+        (streams (I.remaining input.new) (O.contents output.new) (E.contents errors.new)
+        sockets.new clock.new) }
 {
     match read_words(alloc, words) {
         Ok(job) => run_told(

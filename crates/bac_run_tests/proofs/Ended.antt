@@ -107,8 +107,8 @@ module _ {S P C F : Type 0} {s : start.Ghosts F} (traces : S → Bool → S → 
     kept = kept;
   }
   kept_at asked told (inr (inl (why, is, named))) none = absurd (file_is_told why (sym is ∙ none))
-  kept_at asked told (inr (inr (why, inl is))) none = absurd (fault_is_told why (sym is ∙ none))
-  kept_at asked told (inr (inr (why, inr is))) none = absurd (cc)
+  kept_at asked told (inr (inr (why, so, inl is))) none = absurd (fault_is_told why (sym is ∙ none))
+  kept_at asked told (inr (inr (why, so, inr is))) none = absurd (cc)
 
   -- `keep` that ended with 0
   pub all_kept : (asked : KeepWords) → RunsAll g traces rules passes tells (job.Keep asked) old files status new left

@@ -25,8 +25,8 @@ abbrev pub AreCaughtUp : List End → Type 0
 AreCaughtUp [] = Unit {0}
 AreCaughtUp (end ∷ ends) = (end.why ≡ Walk CaughtUp) × AreCaughtUp ends
 
--- Each log that the words of `keep` choose is caught up and has its line, and two closed files hold the archive in which
--- these runs kept them.
+-- Each log that the words of `keep` choose is caught up and has its line, and two closed files hold the archive in
+-- which these runs kept them.
 pub record IsAllKept {S P D : Type 0} (rules : SocketRules S P) (g : disk.Ghosts D) (image : Image) (asked : Keep)
     (sockets sockets_after : S) (before after : Held) (closed : Option (Files D)) : Type 0 where
   pub chosen : Chosen

@@ -31,10 +31,11 @@ pub fn keep_until_done<S: Tracing, F: Start, I: Read, O: Write, E: Write, C: Clo
     clock: &mut C,
 ) -> u8
     ensures { (asked : KeepWords) → AskFor (map string_bytes words.now) (job.Keep asked)
-        → asked.stop ≡ false → result ≡ 0 → (told : S) × S.traces sockets.old asked.trace told
-        × IsAllKept (socket_rules S.opens S.closes S.Socket.sends S.Socket.receives S.Socket.receives_within)
-        ⟦<FileFrom<F> as Disk>⟧ (image_at F.Start) asked told sockets.new
-        (O.contents output.old) (O.contents output.new) files.new.closed }
+        → asked.stop ≡ false → result ≡ 0
+        → (told : S) × S.traces sockets.old asked.trace told
+        × IsAllKept (socket_rules S.opens S.closes S.Socket.sends S.Socket.receives
+        S.Socket.receives_within) ⟦<FileFrom<F> as Disk>⟧ (image_at F.Start) asked told
+        sockets.new (O.contents output.old) (O.contents output.new) files.new.closed }
 {
     run(
         sockets, files, alloc, words, false, input, output, errors, clock,

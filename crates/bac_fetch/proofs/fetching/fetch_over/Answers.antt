@@ -61,3 +61,8 @@ returns-in-Err-clause-word g c clean has = quiet_rows (state g.A.Store c.args.co
 
 pub returns-in_err-start-clause-word : goal.returns-in_err-start-clause-word
 returns-in_err-start-clause-word g c clean has = quiet_rows (state g.A.Store c.args.conn.now) (state g.A.Store c.where_to_start.new.conn) _ (c.where_to_start.ensures.crash has)
+
+pub returns-in-Ok-clause-caused : goal.returns-in-Ok-clause-caused
+returns-in-Ok-clause-caused g c clean has =
+    let same = c.in_ok-start.ensures.same (c.keep_entered.ensures.clean clean) has in
+    c.keep_entered.ensures.caused clean (ap (λ (d : Database). d.schema) same ∙ has)

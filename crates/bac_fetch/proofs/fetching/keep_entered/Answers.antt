@@ -1,8 +1,9 @@
-use Rattle.std.proofs.Common.{◌≡◌, Ok, ap, ◌∙◌}
+use Rattle.std.proofs.Common.{◌≡◌, Ok, ap, rules, ◌∙◌}
 use Rattle.std.proofs.lemmas.Result.{IfOk-weaker}
 use Rattle.sqlite.specs.State.{HasCleanDisk}
 use Rattle.sqlite.specs.Held.{state}
 use Rattle.bac_archive.specs.Schema.{archive_schema}
+use Rattle.bac_fetch.proofs.FaultsLemmas.{because}
 use Rattle.bac_fetch.proofs.KeepsLemmas.{admit_schema, marked_schema}
 use Rattle.bac_fetch.proofs.SameLemmas.{begun_same, marks_same, same_then}
 use Rattle.bac_fetch.proofs.StaysLemmas.{admitted_keeps, admitted_stays, all_of_same, all_then, begun_stays, leaves_rows, marks_stay, leaves_word, rows_then, same_after, stays_then}
@@ -111,3 +112,11 @@ returns-clause-word g c clean has =
     (rows_then old known marked (admitted_keeps c.args.entry.now old.now known.now admits) (c.admit.ensures.rows has) (c.keep_and_mark.ensures.stays late schema))
     (λ _ db left. (left.0, (c.keep_and_mark.new.link, c.in_ok-end.end, (known.now, admits, last, keeps, marked.now, marks, left.1)), left.2))
     (c.renew.ensures.crash is)
+
+pub returns-in_err-end-clause-caused : goal.returns-in_err-end-clause-caused
+returns-in_err-end-clause-caused g c clean has =
+    let old = state g.A.Store c.args.conn.now in
+    let known = state g.A.Store c.admit.new.conn in
+    let early : HasCleanDisk known = c.keep_and_mark.ensures.clean clean in
+    let schema : known.now.schema ≡ archive_schema = admit_schema c.args.entry.now old.now known.now (c.in_ok-admit.ensures.admits early has) has in
+    because c.from_residual-in_err-end.result c.in_err-end.field-0.0 _ (search rules) (c.in_err-end.ensures.caused clean schema)

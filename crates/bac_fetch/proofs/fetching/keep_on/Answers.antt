@@ -1,5 +1,8 @@
-use Rattle.std.proofs.Common.{◌≡◌, refl, subst, sym, ◌∙◌}
+use Rattle.std.proofs.Common.{◌≡◌, refl, rules, subst, sym, ◌∙◌}
 use Rattle.std.proofs.lemmas.Result.{IfOk-weaker}
+use Rattle.bac_keep.specs.declared.keep.NotKept.TheVariants.{NoArchive}
+use Rattle.bac_fetch.proofs.CausesLemmas.{never}
+use Rattle.bac_fetch.proofs.FaultsLemmas.{because}
 use Rattle.sqlite.specs.Effect.{Database}
 use Rattle.sqlite.specs.State.{HasCleanDisk}
 use Rattle.sqlite.specs.Held.{state}
@@ -72,3 +75,14 @@ returns-in_err-look_at-clause-stays g c clean has =
     same_quiet_last old mid (state g.A.Store c.look_at.new.conn) (survives_as old mid _ (HasSameLogs old.now.trees)
     (λ clean db left. subst (HasSameLogs old.now.trees) (sym left.8) (adds_same old.now.trees left.0.trees _ left.10.rows.rows)) c.keep_log-run.ensures.crash_over)
     c.look_at.ensures.crash
+
+pub returns-in_err-look_at-clause-caused : goal.returns-in_err-look_at-clause-caused
+returns-in_err-look_at-clause-caused g c clean has =
+    let early : HasCleanDisk (state g.A.Store c.keep_log-run.new.conn) = c.look_at.ensures.clean clean in
+    because c.from_residual.result c.in_err-look_at.field-0.0 _ (search rules)
+    (c.in_err-look_at.ensures.caused (never c.keep_log-run.result.end NoArchive _ (c.keep_log-run.ensures.cause early has) (λ ends. ends.cause)))
+
+pub returns-clause-caused : goal.returns-clause-caused
+returns-clause-caused g c clean has =
+    let early : HasCleanDisk (state g.A.Store c.keep_log-run.new.conn) = c.look_at.ensures.clean clean in
+    c.end_of.ensures.caused (never c.keep_log-run.result.end NoArchive _ (c.keep_log-run.ensures.cause early has) (λ ends. ends.cause))

@@ -14,7 +14,7 @@ use Rattle.bac_fetch.proofs.StaysLemmas.{all_itself, all_then, itself_stays, nex
 use Rattle.std.specs.List.{Contains}
 use Rattle.bac_fetch.specs.Faults.{HasNoInstance, IsNoInstance}
 use Rattle.bac_fetch.proofs.FaultsLemmas.{because, ends_so}
-use Rattle.bac_fetch.proofs.TakenLemmas.{has_taken}
+use Rattle.bac_fetch.proofs.TakenLemmas.{has_taken, taken_apart}
 use Rattle.bac_fetch.proofs.keeping.keep_known.Goals as goal
 
 pub loop-wanted-preserved : goal.loop-wanted-preserved
@@ -98,3 +98,27 @@ returns-in_err-status-clause-fault g c =
     because c.from_residual.result c.in_err-status.field-0.0 _ (search rules)
     (ends_so over (IsNoInstance c.in-Some.wanted.source.instance) (HasNoInstance c.args.all.items) ⊥ ⊥ c.keep_next.new.sockets c.in_err-status.field-0.0
     (λ none. (c.in-Some.wanted, there, none)) (λ never. never) c.in_err-status.ensures.fault)
+
+pub returns-in_err-status-clause-caused : goal.returns-in_err-status-clause-caused
+returns-in_err-status-clause-caused g c clean has =
+    let over = socket_rules g.S.Sockets.opens g.S.Sockets.closes g.S.Socket.Port.sends g.S.Socket.Port.receives g.S.Socket.Port.receives_within in
+    let yielded = c.loop-wanted.yielded in
+    let old = state g.A.Store c.args.conn.now in
+    let mid = state g.A.Store c.loop-wanted.conn in
+    let early : HasCleanDisk mid = c.keep_next.ensures.clean clean in
+    let was = c.loop-wanted.invariant.told in
+    let kept = was.4 early has in
+    let schema = all_schema over c.args.known.now c.args.heard.items c.loop-wanted.heard.items yielded c.args.sockets.now c.loop-wanted.sockets old.now mid.now was.0 kept has in
+    let (rest, are) = taken_apart c.into_iter-wanted-iterator.result yielded c.loop-wanted.wanted-iterator c.next.new.self c.in-Some.wanted c.loop-wanted.yielded_by c.in-Some.ensures.steps in
+    because c.from_residual.result c.in_err-status.field-0.0 _ (search rules) (record {
+      front = yielded;
+      wanted = c.in-Some.wanted;
+      rest = rest;
+      all_are = sym c.into_iter-wanted-iterator.ensures.into_iter_gives.0 ∙ are;
+      ends = was.0;
+      half = c.loop-wanted.sockets;
+      mid = mid.now;
+      now = c.loop-wanted.heard.items;
+      kept = kept;
+      cause = c.in_err-status.ensures.caused clean schema;
+    })

@@ -1,5 +1,5 @@
-use Rattle.std.proofs.Common.{◌≡◌, List, ap, subst, sym, ◌∙◌}
-use Rattle.std.proofs.lemmas.Result.{IfOk-weaker}
+use Rattle.std.proofs.Common.{◌≡◌, List, ap, inr, subst, sym, ◌∙◌}
+use Rattle.std.proofs.lemmas.Result.{IfErr-weaker, IfOk-weaker}
 use Rattle.sqlite.specs.Effect.{Database}
 use Rattle.sqlite.specs.State.{HasCleanDisk}
 use Rattle.sqlite.specs.Held.{state}
@@ -7,6 +7,7 @@ use Rattle.bac_archive.specs.Logs.{AreLogs}
 use Rattle.bac_archive.specs.Schema.{archive_schema}
 use Rattle.bac_archive.specs.declared.trend_logs.Log.{Log}
 use Rattle.bac_ports.specs.Sockets.{socket_rules}
+use Rattle.bac_fetch.specs.Causes.{EndsAll}
 use Rattle.bac_fetch.specs.Keeps.{KeepsAll}
 use Rattle.bac_fetch.proofs.StaysLemmas.{quiet_first, quiet_stays}
 use Rattle.bac_fetch.proofs.keeping.keep_settled.Goals as goal
@@ -50,3 +51,19 @@ returns-clause-stays g c clean has =
 
 pub returns-in_err-known-clause-stays : goal.returns-in_err-known-clause-stays
 returns-in_err-known-clause-stays g c clean has = quiet_stays (state g.A.Store c.args.conn.now) (state g.A.Store c.logs_of.new.conn) (c.logs_of.ensures.crash has)
+
+pub returns-clause-caused : goal.returns-clause-caused
+returns-clause-caused g c clean has =
+    let over = socket_rules g.S.Sockets.opens g.S.Sockets.closes g.S.Socket.Port.sends g.S.Socket.Port.receives g.S.Socket.Port.receives_within in
+    let known = c.as_slice.result.now in
+    let before = c.args.sockets.now in
+    let after = c.keep_known.new.sockets in
+    let old = state g.A.Store c.args.conn.now in
+    let mid = state g.A.Store c.logs_of.new.conn in
+    let early : HasCleanDisk mid = c.keep_known.ensures.clean clean in
+    let same : mid.now ≡ old.now = c.in_ok-known.ensures.same early has in
+    let are : AreLogs old.now.trees known = subst (λ (l : List Log). AreLogs old.now.trees l) (sym c.as_slice.ensures.value) (c.in_ok-known.ensures.logs early has) in
+    let schema : mid.now.schema ≡ archive_schema = ap (λ (d : Database). d.schema) same ∙ has in
+    IfErr-weaker c.keep_known.result _ _
+    (λ fault it. inr (known, are, subst (λ (d : Database). EndsAll over known c.args.heard.items c.args.all.items before after d fault) same it))
+    (c.keep_known.ensures.caused clean schema)

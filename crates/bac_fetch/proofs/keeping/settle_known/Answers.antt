@@ -1,5 +1,5 @@
-use Rattle.std.proofs.Common.{◌≡◌, List, ap, subst, sym, ◌∙◌}
-use Rattle.std.proofs.lemmas.Result.{IfOk-weaker}
+use Rattle.std.proofs.Common.{◌≡◌, List, ap, inr, subst, sym, ◌∙◌}
+use Rattle.std.proofs.lemmas.Result.{IfErr-weaker, IfOk-weaker}
 use Rattle.sqlite.specs.Effect.{Database}
 use Rattle.sqlite.specs.State.{HasCleanDisk}
 use Rattle.sqlite.specs.Held.{state}
@@ -51,3 +51,10 @@ returns-clause-fault g c =
     let early = c.settle.ensures.clean clean in
     (c.as_slice.result.now, subst (λ (l : List Log). AreLogs old.now.trees l) (sym c.as_slice.ensures.value) (c.in_ok-known.ensures.logs early has), wrong))
     c.settle.ensures.fault
+
+pub returns-clause-caused : goal.returns-clause-caused
+returns-clause-caused g c clean has =
+    let old = state g.A.Store c.args.conn.now in
+    let early = c.settle.ensures.clean clean in
+    let are = subst (λ (l : List Log). AreLogs old.now.trees l) (sym c.as_slice.ensures.value) (c.in_ok-known.ensures.logs early has) in
+    IfErr-weaker c.settle.result _ _ (λ fault it. inr (c.as_slice.result.now, are, it)) c.settle.ensures.caused

@@ -1,5 +1,5 @@
-use Rattle.std.proofs.Common.{rules, inr, inl, ◌≡◌, true, sym, subst}
-use Rattle.std.proofs.lemmas.Result.{IfOk-weaker}
+use Rattle.std.proofs.Common.{rules, inr, inl, ◌≡◌, true, refl, sym, subst}
+use Rattle.std.proofs.lemmas.Result.{IfErr-weaker, IfOk-weaker}
 use Rattle.bac_archive.specs.declared.trend_logs.Source.{Source}
 use Rattle.bac_fetch.specs.Silent.{is_same_device}
 use Rattle.bac_asked.specs.AsLog.{given_in}
@@ -19,3 +19,22 @@ returns-in_err-there-clause-fault g c =
       | inl memory ↦ inl (inl memory)
       | inr (is, wrong) ↦ inr (inr (inr (is, copy_no_address (given_in c.args.options.now) c.in_ok-copy_source.field-0 c.args.from.now same.0 same.1 same.2 same.3 wrong)))
     ])
+
+pub returns-in_err-there-clause-caused : goal.returns-in_err-there-clause-caused
+returns-in_err-there-clause-caused g c =
+    let same = c.in_ok-copy_source.ensures.same in
+    because c.from_residual-in_err-there.result c.in_err-there.field-0.0 _ (search rules) (elim c.in_err-there.ensures.refused [
+      | inl memory ↦ inl (inl memory)
+      | inr (is, wrong) ↦ inr (inl (is, copy_no_address (given_in c.args.options.now) c.in_ok-copy_source.field-0 c.args.from.now same.0 same.1 same.2 same.3 wrong, refl))
+    ])
+
+pub returns-clause-caused : goal.returns-clause-caused
+returns-clause-caused g c =
+    let there = c.in_ok-there.there in
+    let same = subst (λ (s : Source). is_same_device s c.args.from.now ≡ true) (sym c.in_ok-there.ensures.source) c.in_ok-copy_source.ensures.copy in
+    IfErr-weaker c.identify.result _ _
+    (λ fault it. elim it [
+      | inl memory ↦ inl (inl memory)
+      | inr unopened ↦ inr (inr (there, c.in_ok-there.ensures.asks, same, unopened))
+    ])
+    c.identify.ensures.fault

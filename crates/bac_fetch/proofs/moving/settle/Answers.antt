@@ -1,4 +1,6 @@
-use Rattle.std.proofs.lemmas.Result.{IfOk-weaker}
+use Rattle.std.proofs.lemmas.Result.{IfErr-weaker, IfOk-weaker}
+use Rattle.bac_asked.specs.AsLog.{given_in}
+use Rattle.bac_fetch.proofs.CausesLemmas.{settling_of_first}
 use Rattle.sqlite.specs.Held.{state}
 use Rattle.bac_ports.specs.Sockets.{socket_rules}
 use Rattle.bac_fetch.proofs.MovesLemmas.{settles_of_first}
@@ -13,3 +15,11 @@ returns-in-len1-up-clause-settled g c clean has =
     (λ heard it. settles_of_first over c.args.known.now c.args.all.now c.first-item.result c.args.sockets.now heard.items c.settle_unless.new.sockets old.now new.now
     c.in-len1-up.len_at_least c.first-item.is it)
     (c.settle_unless.ensures.settled clean has)
+
+pub returns-in-len1-up-clause-caused : goal.returns-in-len1-up-clause-caused
+returns-in-len1-up-clause-caused g c =
+    let over = socket_rules g.S.Sockets.opens g.S.Sockets.closes g.S.Socket.Port.sends g.S.Socket.Port.receives g.S.Socket.Port.receives_within in
+    IfErr-weaker c.settle_unless.result _ _
+    (λ fault it. settling_of_first over (given_in c.args.options.now) c.args.known.now c.args.all.now c.first-item.result c.args.sockets.now c.settle_unless.new.sockets fault
+    c.in-len1-up.len_at_least c.first-item.is it)
+    c.settle_unless.ensures.caused

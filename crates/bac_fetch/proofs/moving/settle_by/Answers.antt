@@ -1,4 +1,5 @@
 use Rattle.std.proofs.Common.{refl}
+use Rattle.std.proofs.lemmas.Result.{IfErr-weaker}
 use Rattle.bac_asked.specs.AsLog.{given_in}
 use Rattle.bac_asked.specs.Wanted.{HasNoAddress}
 use Rattle.bac_ports.specs.Sockets.{socket_rules}
@@ -11,3 +12,7 @@ returns-in-Some-clause-fault g c =
     let over = socket_rules g.S.Sockets.opens g.S.Sockets.closes g.S.Socket.Port.sends g.S.Socket.Port.receives g.S.Socket.Port.receives_within in
     all_end_so over ⊥ ⊥ (HasNoAddress (given_in c.args.options.now) c.in-Some.log.now.source) (HaveNoAddress (given_in c.args.options.now) c.args.known.now) _ c.settle_from.result
     (λ never. never) (λ wrong. (c.in-Some.log.now, (c.in-Some.ensures {u = tt}).0, wrong)) c.settle_from.ensures.fault
+
+pub returns-in-Some-clause-caused : goal.returns-in-Some-clause-caused
+returns-in-Some-clause-caused g c =
+    IfErr-weaker c.settle_from.result _ _ (λ fault it. (c.in-Told.device, c.in-Told.is, (c.in-Some.log.now, c.in-Some.ensures {u = tt}, it))) c.settle_from.ensures.caused

@@ -1,8 +1,16 @@
-use Rattle.std.proofs.Common.{◌≡◌, ℕ, List, Bool, inl, inr, is_some, rules, subst₂}
+use Rattle.std.proofs.Common.{refl, ◌≡◌, ◌∙◌, ℕ, List, Bool, inl, inr, is_some, rules, subst₂}
+use Rattle.sqlite.specs.Files.{file_state}
 use Rattle.sqlite_wal.specs.Files.{image_at}
 use Rattle.bac_files.specs.Files.{IsNamed}
 use Rattle.bac_ports.specs.Sockets.{socket_rules}
-use Rattle.bac_keeper.proofs.FileLemmas.{done_named, fails_named, keeps_in, loses_none, none_closed}
+use Rattle.bac_asked.specs.AsLog.{given_in}
+use Rattle.bac_fetch.specs.Faults.{EndsKeeping}
+use Rattle.bac_keeper.specs.Done.{EndsKeep, RefusesKeep, given_of}
+use Rattle.bac_keeper.specs.Ends.{IsNotOpened}
+use Rattle.bac_fetch.proofs.FaultsLemmas.{because}
+use Rattle.bac_keeper.proofs.FileLemmas.{all_ask_so, all_fail, closed_asks, file_asks, done_named, fails_clean, fails_file, fails_so, keeps_in, loses_none, none_closed, refused_by}
+use Rattle.bac_asked.specs.Wanted.{AreNoOptions}
+use Rattle.bac_keeper.proofs.NamesLemmas.{asks_no_options, asks_none, may_ask, never_fails}
 use Rattle.bac_keeper.proofs.keeping.keep.Goals as goal
 
 pub returns-clause-kept : goal.returns-clause-kept
@@ -10,8 +18,8 @@ returns-clause-kept g c =
     let over = socket_rules g.S.Sockets.opens g.S.Sockets.closes g.S.Socket.Port.sends g.S.Socket.Port.receives g.S.Socket.Port.receives_within in
     let done = c.keep_in-done in
     keeps_in (image_at g.F.Start) c.in_ok-conn.conn done.new.conn c.close_file.new.files.closed c.in_ok-conn.ensures.opened done.ensures.clean
-    over c.args.asked.now c.in-Ok.chosen c.args.sockets.now done.new.sockets (g.O.Write.contents c.args.output.now) (g.O.Write.contents done.new.output)
-    c.close_file.result done.result c.in-Ok.ensures.chosen done.ensures.told c.close_file.ensures.done c.close_file.ensures.closed
+    over c.args.asked.now c.in_ok-chosen.chosen c.args.sockets.now done.new.sockets (g.O.Write.contents c.args.output.now) (g.O.Write.contents done.new.output)
+    c.close_file.result done.result c.in_ok-chosen.ensures.chosen done.ensures.told c.close_file.ensures.done c.close_file.ensures.closed
 
 pub returns-clause-named : goal.returns-clause-named
 returns-clause-named g c =
@@ -23,16 +31,55 @@ returns-clause-named g c =
 
 pub returns-clause-fault : goal.returns-clause-fault
 returns-clause-fault g c =
+    let over = socket_rules g.S.Sockets.opens g.S.Sockets.closes g.S.Socket.Port.sends g.S.Socket.Port.receives g.S.Socket.Port.receives_within in
+    let done = c.keep_in-done in
     let file : c.as_str.result.now ≡ c.args.asked.now.file = search rules in
     let some : c.is_some.result ≡ is_some c.args.asked.now.address = search rules in
     let named = subst₂ (λ (p : List ℕ) (b : Bool). IsNamed p b c.close_file.new.files) file some
     (c.close_file.ensures.named c.as_str.result.now c.is_some.result c.in_ok-conn.ensures.named) in
-    fails_named (IsNamed c.args.asked.now.file (is_some c.args.asked.now.address) c.close_file.new.files) c.close_file.result named
+    let given = given_in c.options_of-options.result in
+    let by = given_of c.args.asked.now.options in
+    all_fail _ _ c.close_file.result (λ why it. (c.in_ok-chosen.chosen, c.in_ok-chosen.ensures.chosen, it))
+    (fails_file (image_at g.F.Start) c.in_ok-conn.conn done.new.conn c.close_file.new.files c.in_ok-conn.ensures.opened c.args.asked.now.file (is_some c.args.asked.now.address) named
+    (RefusesKeep over c.in_ok-chosen.chosen by c.args.sockets.now done.new.sockets) done.result c.close_file.result (fails_clean _ _ _ done.result done.ensures.clean
+    (refused_by over c.in_ok-chosen.chosen c.args.sockets.now done.new.sockets (file_state c.in_ok-conn.conn).now (file_state done.new.conn) given by done.result c.options_of-options.ensures done.ensures.fault)) c.close_file.ensures.fault c.close_file.ensures.shut)
+
+pub returns-in_err-conn-clause-fault : goal.returns-in_err-conn-clause-fault
+returns-in_err-conn-clause-fault g c =
+    let file : c.as_str.result.now ≡ c.args.asked.now.file = search rules in
+    let some : c.is_some.result ≡ is_some c.args.asked.now.address = search rules in
+    because c.from_residual-in_err-conn.result c.in_err-conn.field-0.0 _ (search rules)
+    (fails_so _ _ c.in_err-conn.field-0.0 (λ why it. (c.in_ok-chosen.chosen, c.in_ok-chosen.ensures.chosen, inl (subst₂ (λ (p : List ℕ) (b : Bool). IsNotOpened p b c.open_file.new.files why) file some it))) c.in_err-conn.ensures.fault)
 
 pub returns-clause-stays : goal.returns-clause-stays
 returns-clause-stays g c unused =
     let done = c.keep_in-done in
     elim c.close_file.ensures.either [
-      | inl still ↦ none_closed c.close_file.new.files.closed _ (still (c.open_file.ensures.unused unused))
+      | inl still ↦ none_closed c.close_file.new.files.closed _ (still ∙ c.open_file.ensures.kept ∙ unused)
       | inr shut ↦ loses_none (image_at g.F.Start) c.in_ok-conn.conn done.new.conn c.close_file.new.files.closed c.in_ok-conn.ensures.opened done.ensures.clean done.ensures.stays shut
     ]
+
+pub returns-in_err-chosen-clause-fault : goal.returns-in_err-chosen-clause-fault
+returns-in_err-chosen-clause-fault g c =
+    because c.from_residual.result c.in_err-chosen.field-0.0 _ (search rules)
+    (never_fails _ c.in_err-chosen.field-0.0 (asks_none (AreNoOptions (given_of c.args.asked.now.options)) (asks_no_options (given_of c.args.asked.now.options)) _ _ _ c.in_err-chosen.field-0.0 c.in_err-chosen.ensures.none))
+
+pub returns-in_err-chosen-clause-ends : goal.returns-in_err-chosen-clause-ends
+returns-in_err-chosen-clause-ends g c =
+    let over = socket_rules g.S.Sockets.opens g.S.Sockets.closes g.S.Socket.Port.sends g.S.Socket.Port.receives g.S.Socket.Port.receives_within in
+    because c.from_residual.result c.in_err-chosen.field-0.0 _ (search rules)
+    (may_ask (EndsKeep over c.args.asked.now c.args.sockets.now c.args.sockets.now) c.in_err-chosen.field-0.0 (inr (inl (c.in_err-chosen.ensures.none, refl))))
+
+pub returns-in_err-conn-clause-ends : goal.returns-in_err-conn-clause-ends
+returns-in_err-conn-clause-ends g c =
+    let over = socket_rules g.S.Sockets.opens g.S.Sockets.closes g.S.Socket.Port.sends g.S.Socket.Port.receives g.S.Socket.Port.receives_within in
+    because c.from_residual-in_err-conn.result c.in_err-conn.field-0.0 _ (search rules)
+    (file_asks (EndsKeep over c.args.asked.now c.args.sockets.now c.args.sockets.now) c.in_err-conn.field-0.0 c.in_err-conn.ensures.file)
+
+pub returns-clause-ends : goal.returns-clause-ends
+returns-clause-ends g c =
+    let over = socket_rules g.S.Sockets.opens g.S.Sockets.closes g.S.Socket.Port.sends g.S.Socket.Port.receives g.S.Socket.Port.receives_within in
+    let done = c.keep_in-done in
+    let ends = EndsKeep over c.args.asked.now c.args.sockets.now done.new.sockets in
+    let runs = EndsKeeping over c.in_ok-chosen.chosen (Unit {0}) (Unit {0}) c.args.sockets.now done.new.sockets in
+    closed_asks ends _ done.result c.close_file.result (all_ask_so runs ends done.result (λ fault it. inr (inr (c.in_ok-chosen.chosen, c.in_ok-chosen.ensures.chosen, it))) done.ensures.ends) c.close_file.ensures.fault

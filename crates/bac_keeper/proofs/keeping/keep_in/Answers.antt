@@ -1,13 +1,19 @@
-use Rattle.std.proofs.Common.{◌∙◌, ℕ, ap, subst, sym}
+use Rattle.std.proofs.Common.{rules, inl, inr, ◌∙◌, ℕ, ap, subst, sym}
 use Rattle.std.proofs.lemmas.Result.{IfOk-weaker}
 use Rattle.sqlite.specs.Effect.{Database}
 use Rattle.sqlite.specs.Held.{state}
 use Rattle.sqlite.specs.State.{HasCleanDisk}
 use Rattle.bac_fetch.specs.Keeps.{KeepsLogs}
+use Rattle.bac_fetch.proofs.FaultsLemmas.{because}
 use Rattle.bac_keeper.proofs.ArchiveLemmas.{loses_nothing, tells_weaker}
-use Rattle.bac_keeper.specs.Archives.{IsHeld, KeepsArchive}
+use Rattle.bac_fetch.specs.Faults.{EndsKeeping, HasNone, LacksAddress}
+use Rattle.bac_keeper.specs.Archives.{IsCleanArchive, IsHeld, KeepsArchive}
 use Rattle.bac_keeper.specs.Done.{TellsThese}
 use Rattle.bac_ports.specs.Sockets.{socket_rules}
+use Rattle.bac_asked.specs.AsLog.{given_in}
+use Rattle.bac_keeper.proofs.FileLemmas.{all_database_ask, all_database_fail, fails_so, file_asks}
+use Rattle.bac_keeper.proofs.KeepLemmas.{keeping_so, refused_so}
+use Rattle.bac_keeper.proofs.NamesLemmas.{may_ask}
 use Rattle.bac_keeper.proofs.keeping.keep_in.Goals as goal
 
 pub returns-clause-told : goal.returns-clause-told
@@ -33,7 +39,7 @@ returns-clause-told g c =
       chose = it.0;
       kept = subst (λ (d : Database). KeepsLogs over all between after archive.now d ends) (is.1 held.1) it.1;
     }) c.in_ok-status.ensures.told))
-    c.settled.ensures
+    c.settled.ensures.settled
 
 pub returns-clause-stays : goal.returns-clause-stays
 returns-clause-stays g c held was has =
@@ -60,3 +66,40 @@ returns-in_err-status-clause-stays g c held was has =
     (λ db may. g.met.A.Store.settled c.open_archive.new.conn.store db (c.in_ok-open_archive.ensures.same early has) may)
     (g.met.A.Store.stays c.keep_these.new.conn.store held.1) held.0
     (c.keep_these.ensures.stays (held.0, ap (λ (d : Database). d.schema) same ∙ has))
+
+pub returns-in_err-open_archive-clause-fault : goal.returns-in_err-open_archive-clause-fault
+returns-in_err-open_archive-clause-fault g c =
+    because c.from_residual.result c.in_err-open_archive.field-0.0 _ (search rules)
+    (fails_so _ _ c.in_err-open_archive.field-0.0 (λ why it. elim it [ inl answered ↦ inl answered | inr refused ↦ inr (λ held. inl (refused held)) ]) c.in_err-open_archive.ensures.refused)
+
+pub returns-in_err-open_archive-clause-ends : goal.returns-in_err-open_archive-clause-ends
+returns-in_err-open_archive-clause-ends g c =
+    let over = socket_rules g.S.Sockets.opens g.S.Sockets.closes g.S.Socket.Port.sends g.S.Socket.Port.receives g.S.Socket.Port.receives_within in
+    because c.from_residual.result c.in_err-open_archive.field-0.0 _ (search rules)
+    (file_asks (EndsKeeping over c.args.chosen (Unit {0}) (Unit {0}) c.args.sockets.now c.args.sockets.now) c.in_err-open_archive.field-0.0 c.in_err-open_archive.ensures.file)
+
+pub returns-in_err-status-clause-fault : goal.returns-in_err-status-clause-fault
+returns-in_err-status-clause-fault g c =
+    let over = socket_rules g.S.Sockets.opens g.S.Sockets.closes g.S.Socket.Port.sends g.S.Socket.Port.receives g.S.Socket.Port.receives_within in
+    let archive = state g.A.Store c.open_archive.new.conn in
+    because c.from_residual-in_err-status.result c.in_err-status.field-0.0 _ (search rules)
+    (refused_so over c.args.chosen (given_in c.args.options.now) (state g.A.Store c.args.conn.now).now archive (state g.A.Store c.keep_these.new.conn) c.args.sockets.now c.keep_these.new.sockets c.in_err-status.field-0.0
+    (λ held. let opened = c.in_ok-open_archive.ensures.archive (c.keep_these.ensures.clean held.0) in (opened, opened.is.schema)) c.in_err-status.ensures.caused)
+
+pub returns-in_err-status-clause-ends : goal.returns-in_err-status-clause-ends
+returns-in_err-status-clause-ends g c =
+    let over = socket_rules g.S.Sockets.opens g.S.Sockets.closes g.S.Socket.Port.sends g.S.Socket.Port.receives g.S.Socket.Port.receives_within in
+    let archive = state g.A.Store c.open_archive.new.conn in
+    let last = state g.A.Store c.keep_these.new.conn in
+    because c.from_residual-in_err-status.result c.in_err-status.field-0.0 _ (search rules)
+    (may_ask (EndsKeeping over c.args.chosen (Unit {0}) (Unit {0}) c.args.sockets.now c.keep_these.new.sockets) c.in_err-status.field-0.0
+    (keeping_so over (IsCleanArchive archive last → HasNone archive.now.trees) (Unit {0}) (IsCleanArchive archive last → LacksAddress (given_in c.args.options.now) archive.now.trees) (Unit {0})
+    (λ n. tt {0}) (λ n. tt {0}) c.args.chosen c.args.sockets.now c.keep_these.new.sockets c.in_err-status.field-0.0 c.in_err-status.ensures.fault))
+
+pub returns-clause-fault : goal.returns-clause-fault
+returns-clause-fault g c = all_database_fail _ c.settled.result c.settled.ensures.fault
+
+pub returns-clause-ends : goal.returns-clause-ends
+returns-clause-ends g c =
+    let over = socket_rules g.S.Sockets.opens g.S.Sockets.closes g.S.Socket.Port.sends g.S.Socket.Port.receives g.S.Socket.Port.receives_within in
+    all_database_ask (EndsKeeping over c.args.chosen (Unit {0}) (Unit {0}) c.args.sockets.now c.keep_these.new.sockets) c.settled.result c.settled.ensures.fault

@@ -4,11 +4,17 @@ use Rattle.std.proofs.lemmas.List.{nil_from_length}
 use Rattle.clap.specs.Words.{Text}
 use Rattle.bac_asked.specs.AsLog.{Given, IsAskedBy, log_words}
 use Rattle.bac_asked.specs.Wanted.{AddNamed, AsksItsSource}
+use Rattle.bac_asked.specs.declared.end.NotDone.{NotDone}
+use Rattle.bac_asked.specs.declared.end.NotDone.TheVariants.{Asking}
+use Rattle.bac_asked.specs.declared.fault.Fault.TheVariants.{BadValue}
 use Rattle.bac_asked.specs.declared.wanted.Wanted.{Wanted}
 use Rattle.bac_keeper.specs.Done.{given_of}
 use Rattle.bac_keeper.specs.Stops.{Means, MeansBy}
 use Rattle.bac_keeper.specs.declared.stopping.Meant.TheVariants.{Device, Logs}
 use Rattle.bac_words.specs.declared.job.Keep.{Keep}
+use Rattle.bac_words.specs.declared.word.Word.TheVariants.{Stop}
+use Rattle.bac_fetch.proofs.FaultsLemmas.{because}
+use Rattle.bac_keeper.proofs.NamesLemmas.{alone_none, names_no_device, names_none}
 use Rattle.bac_keeper.proofs.stopping.choose.Goals as goal
 
 -- INSTANCEs are there
@@ -44,17 +50,43 @@ device_of keep address a given instances wanted is same by these none asked asks
     alone keep.address a keep.instances (given_of keep.options) wanted (is ∙ ap Some (sym same)) (sym these ∙ none)
     (subst (λ (g : Given). IsAskedBy (log_words a (codes "0") g) wanted.asking) by asked) asks
 
-pub returns : goal.returns
-returns c =
+pub returns-clause-means : goal.returns-clause-means
+returns-clause-means c =
     let is : c.args.asked.now.address ≡ Some c.in-Some.address = search rules in
     let some : c.as_slice-instances.result.now ≡ [] → ⊥ = λ e. first_of (search (rules, e), grind (arith, e)) in
     logs_of c.args.asked.now c.in-Some.address _ _ _ c.in_ok-named_all.field-0 is c.as_str-address.ensures c.requires
     c.as_slice-instances.ensures some c.in_ok-named_all.ensures.named
 
-pub returns-then-is_empty : goal.returns-then-is_empty
-returns-then-is_empty c =
+pub returns-then-is_empty-clause-means : goal.returns-then-is_empty-clause-means
+returns-then-is_empty-clause-means c =
     let is : c.args.asked.now.address ≡ Some c.in-Some.address = search rules in
     let zero : length c.as_slice-instances.result.now ≡ 0 = first_of (omega arith, grind (arith, nat_tests)) in
     let none : c.as_slice-instances.result.now ≡ [] = nil_from_length _ zero in
     device_of c.args.asked.now c.in-Some.address _ _ _ c.in_ok-named.field-0 is c.as_str-address.ensures c.requires
     c.as_slice-instances.ensures none c.in_ok-named.ensures.asked c.in_ok-named.ensures.source
+
+-- without ADDRESS none is stopped
+abbrev NotStopped : NotDone → Type 0
+NotStopped fault = fault ≡ Asking (BadValue Stop)
+
+pub returns-in_default-clause-none : goal.returns-in_default-clause-none
+returns-in_default-clause-none c =
+    let none : c.args.asked.now.address ≡ None = search rules in
+    alone_none NotStopped c.args.asked.now _ none refl
+
+pub returns-in_err-named-clause-none : goal.returns-in_err-named-clause-none
+returns-in_err-named-clause-none c =
+    let is : c.args.asked.now.address ≡ Some c.in-Some.address = search rules in
+    let zero : length c.as_slice-instances.result.now ≡ 0 = first_of (omega arith, grind (arith, nat_tests)) in
+    let none : c.as_slice-instances.result.now ≡ [] = nil_from_length _ zero in
+    because c.from_residual.result c.in_err-named.field-0.0 _ (search rules)
+    (names_no_device NotStopped c.args.asked.now c.in-Some.address _ _ _ c.in_err-named.field-0.0 is c.as_str-address.ensures c.requires
+    c.as_slice-instances.ensures none c.in_err-named.ensures.unnamed)
+
+pub returns-in_err-named_all-clause-none : goal.returns-in_err-named_all-clause-none
+returns-in_err-named_all-clause-none c =
+    let is : c.args.asked.now.address ≡ Some c.in-Some.address = search rules in
+    let some : c.as_slice-instances.result.now ≡ [] → ⊥ = λ e. first_of (search (rules, e), grind (arith, e)) in
+    because c.from_residual-in_err-named_all.result c.in_err-named_all.field-0.0 _ (search rules)
+    (names_none NotStopped c.args.asked.now c.in-Some.address _ _ _ c.in_err-named_all.field-0.0 is c.as_str-address.ensures c.requires
+    c.as_slice-instances.ensures some c.in_err-named_all.ensures.unnamed)

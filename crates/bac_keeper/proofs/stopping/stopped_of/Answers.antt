@@ -7,11 +7,11 @@ use Rattle.bac_keeper.proofs.stopping.stopped_of.Goals as goal
 
 pub loop-log-preserved : goal.loop-log-preserved
 loop-log-preserved c =
-    c.in_ok-add_stopped.ensures ∙ ap (λ (l : List Log). l ++ stopped_logs c.args.meant.now (c.in-Some.log ∷ [])) c.loop-log.invariant
+    c.in_ok-add_stopped.ensures.added ∙ ap (λ (l : List Log). l ++ stopped_logs c.args.meant.now (c.in-Some.log ∷ [])) c.loop-log.invariant
     ∙ sym (stopped_more c.args.meant.now c.loop-log.yielded (c.in-Some.log ∷ []))
 
-pub returns : goal.returns
-returns c =
+pub returns-clause-stopped : goal.returns-clause-stopped
+returns-clause-stopped c =
     let all : c.loop-log.yielded ≡ c.args.known.items = All-taken c.into_iter-log-iterator.result c.loop-log.yielded (c.next.new.self, (c.loop-log.log-iterator, c.loop-log.yielded_by, c.in-None.ensures.steps))
     ∙ c.into_iter-log-iterator.ensures.into_iter_gives.0 in
     c.loop-log.invariant ∙ ap (stopped_logs c.args.meant.now) all

@@ -10,4 +10,4 @@ returns g c =
     let done = c.run_kept-done in
     kept_ran disk c.args.asked.now (g.O.Write.contents c.args.output.now) (g.O.Write.contents done.new.output)
     (g.E.Write.contents c.args.errors.now) (g.E.Write.contents done.new.errors) (g.E.Write.contents c.ended.new.errors) done.new.files
-    done.result c.ended.result done.ensures.printed done.ensures.untold (rw c.nothing.ensures at c.ended.ensures)
+    done.result c.ended.result done.ensures.printed done.ensures.untold done.ensures.ends (rw c.nothing.ensures at c.ended.ensures)

@@ -1,13 +1,15 @@
-use Rattle.std.proofs.Common.{◌≡◌, ap, refl, subst, ◌∙◌}
+use Rattle.std.proofs.Common.{◌≡◌, ap, inl, inr, refl, rules, subst, ◌∙◌}
 use Rattle.sqlite.specs.Effect.{Database}
 use Rattle.sqlite.specs.State.{HasCleanDisk}
 use Rattle.sqlite.specs.Held.{state}
 use Rattle.bac_archive.specs.Schema.{archive_schema}
 use Rattle.bac_archive.specs.declared.trend_logs.Source.{Source}
 use Rattle.bac_ports.specs.Sockets.{socket_rules}
+use Rattle.bac_fetch.specs.Causes.{EndsFetch}
 use Rattle.bac_fetch.specs.Keeps.{KeepsLog, trend_log}
+use Rattle.bac_fetch.proofs.FaultsLemmas.{because}
 use Rattle.bac_fetch.proofs.StaysLemmas.{quiet_first, quiet_stays}
-use Rattle.bac_fetch.proofs.keeping.keep_one.Goals as goal
+use Rattle.bac_fetch.proofs.single.keep_one.Goals as goal
 
 pub returns-clause-told : goal.returns-clause-told
 returns-clause-told g c =
@@ -65,6 +67,15 @@ returns-in_err-print_end-clause-stays g c clean has =
     let schema : mid.now.schema ≡ archive_schema = ap (λ (d : Database). d.schema) same ∙ has in
     quiet_first old mid (state g.A.Store c.fetch_counted.new.conn) same (c.enter.ensures.crash has) (c.fetch_counted.ensures.stays clean schema)
 
+pub returns-in_err-tell_why-clause-stays : goal.returns-in_err-tell_why-clause-stays
+returns-in_err-tell_why-clause-stays g c clean has =
+    let old = state g.A.Store c.args.conn.now in
+    let mid = state g.A.Store c.enter.new.conn in
+    let early : HasCleanDisk mid = c.fetch_counted.ensures.clean clean in
+    let same : mid.now ≡ old.now = c.in_ok-entry.ensures.same early has in
+    let schema : mid.now.schema ≡ archive_schema = ap (λ (d : Database). d.schema) same ∙ has in
+    quiet_first old mid (state g.A.Store c.fetch_counted.new.conn) same (c.enter.ensures.crash has) (c.fetch_counted.ensures.stays clean schema)
+
 pub returns-in_err-add_heard-clause-stays : goal.returns-in_err-add_heard-clause-stays
 returns-in_err-add_heard-clause-stays g c clean has =
     let old = state g.A.Store c.args.conn.now in
@@ -82,3 +93,27 @@ returns-clause-stays g c clean has =
     let same : mid.now ≡ old.now = c.in_ok-entry.ensures.same early has in
     let schema : mid.now.schema ≡ archive_schema = ap (λ (d : Database). d.schema) same ∙ has in
     quiet_first old mid (state g.A.Store c.fetch_counted.new.conn) same (c.enter.ensures.crash has) (c.fetch_counted.ensures.stays clean schema)
+
+pub returns-in_err-entry-clause-caused : goal.returns-in_err-entry-clause-caused
+returns-in_err-entry-clause-caused g c clean has =
+    because c.from_residual.result c.in_err-entry.field-0.0 _ (search rules) (elim (c.in_err-entry.ensures.caused clean has) [
+      | inl rows ↦ inl (inl rows)
+      | inr lacks ↦ inr (lacks, refl)
+    ])
+
+pub returns-in_err-end-clause-caused : goal.returns-in_err-end-clause-caused
+returns-in_err-end-clause-caused g c clean has =
+    let over = socket_rules g.S.Sockets.opens g.S.Sockets.closes g.S.Socket.Port.sends g.S.Socket.Port.receives g.S.Socket.Port.receives_within in
+    let old = state g.A.Store c.args.conn.now in
+    let mid = state g.A.Store c.enter.new.conn in
+    let early : HasCleanDisk mid = c.fetch_counted.ensures.clean clean in
+    let same : mid.now ≡ old.now = c.in_ok-entry.ensures.same early has in
+    let schema : mid.now.schema ≡ archive_schema = ap (λ (d : Database). d.schema) same ∙ has in
+    let fault = c.in_err-end.field-0.0 in
+    let it = c.in_err-end.ensures.caused clean schema in
+    because c.from_residual-in_err-end.result fault _ (search rules)
+    (inl (subst (λ (s : Source). EndsFetch over c.args.wanted.asking.asked s.instance c.args.sockets.now c.fetch_counted.new.sockets fault) c.in_ok-entry.ensures.row.0 it))
+
+pub returns-in_err-print_end-clause-caused : goal.returns-in_err-print_end-clause-caused
+returns-in_err-print_end-clause-caused g c clean has =
+    because c.from_residual-in_err-print_end.result c.in_err-print_end.field-0.0 _ (search rules) (inl (inl c.in_err-print_end.ensures.caused))

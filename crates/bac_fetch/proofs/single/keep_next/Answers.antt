@@ -1,12 +1,12 @@
-use Rattle.std.proofs.Common.{◌≡◌, ◌∙◌, MatchBool, true, false, refl, subst, sym}
-use Rattle.std.proofs.lemmas.Result.{IfOk-weaker}
+use Rattle.std.proofs.Common.{◌≡◌, ◌∙◌, MatchBool, true, false, inl, refl, subst, sym}
+use Rattle.std.proofs.lemmas.Result.{IfErr-weaker, IfOk-weaker}
 use Rattle.sqlite.specs.Held.{state}
 use Rattle.bac_ports.specs.Sockets.{socket_rules}
 use Rattle.bac_asked.specs.declared.end.Ending.TheVariants.{NotAsked}
 use Rattle.bac_fetch.specs.Keeps.{KeepsHeard, PassesOver}
 use Rattle.bac_fetch.specs.Whose.{is_silent}
 use Rattle.bac_fetch.proofs.StaysLemmas.{quiet_stays}
-use Rattle.bac_fetch.proofs.keeping.keep_next.Goals as goal
+use Rattle.bac_fetch.proofs.single.keep_next.Goals as goal
 
 pub returns-then-is_silent-clause-told : goal.returns-then-is_silent-clause-told
 returns-then-is_silent-clause-told g c =
@@ -57,3 +57,6 @@ returns-clause-told g c =
           (told.3 clean has),
     ))
     c.keep_heard.ensures.told
+
+pub returns-then-is_silent-clause-caused : goal.returns-then-is_silent-clause-caused
+returns-then-is_silent-clause-caused g c clean has = IfErr-weaker c.pass_over.result _ _ (λ fault it. inl it) (c.pass_over.ensures.caused clean has)

@@ -1,11 +1,12 @@
-use Rattle.std.proofs.Common.{subst}
+use Rattle.std.proofs.Common.{inl, inr, rules, subst}
 use Rattle.std.specs.Prelude.{Option}
-use Rattle.std.proofs.lemmas.Result.{IfOk-weaker}
+use Rattle.std.proofs.lemmas.Result.{IfErr-weaker, IfOk-weaker}
 use Rattle.sqlite.specs.Held.{state}
 use Rattle.bac_ports.specs.Sockets.{socket_rules}
 use Rattle.bac_asked.specs.declared.end.Ending.{Ending}
 use Rattle.bac_fetch.specs.Keeps.{KeepsUnless}
-use Rattle.bac_fetch.proofs.keeping.keep_heard.Goals as goal
+use Rattle.bac_fetch.proofs.FaultsLemmas.{because}
+use Rattle.bac_fetch.proofs.single.keep_heard.Goals as goal
 
 pub returns-clause-told : goal.returns-clause-told
 returns-clause-told g c =
@@ -33,3 +34,15 @@ returns-clause-told g c =
       },
     ))
     c.keep_unless.ensures.told
+
+pub returns-in_err-said-clause-caused : goal.returns-in_err-said-clause-caused
+returns-in_err-said-clause-caused g c clean has =
+    because c.from_residual.result c.in_err-said.field-0.0 _ (search rules) (elim c.in_err-said.ensures.fault [
+      | inl memory ↦ inl (inl memory)
+      | inr unopened ↦ inr (inl unopened)
+    ])
+
+pub returns-clause-caused : goal.returns-clause-caused
+returns-clause-caused g c clean has =
+    let asked = rw c.as_slice.ensures.value at c.in_ok-said.ensures.identified in
+    IfErr-weaker c.keep_unless.result _ _ (λ fault it. inr (inr (c.in_ok-said.said, c.said_of.new.sockets, asked, it))) (c.keep_unless.ensures.caused clean has)

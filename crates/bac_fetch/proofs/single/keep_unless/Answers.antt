@@ -1,11 +1,11 @@
-use Rattle.std.proofs.Common.{refl, subst, sym, Option}
-use Rattle.std.proofs.lemmas.Result.{IfOk-weaker}
+use Rattle.std.proofs.Common.{inl, refl, subst, sym, Option}
+use Rattle.std.proofs.lemmas.Result.{IfErr-weaker, IfOk-weaker}
 use Rattle.sqlite.specs.Held.{state}
 use Rattle.bac_ports.specs.Sockets.{socket_rules}
 use Rattle.bac_asked.specs.declared.end.Ending.{Ending}
 use Rattle.bac_fetch.specs.Keeps.{KeepsUnless}
 use Rattle.bac_fetch.proofs.StaysLemmas.{quiet_stays}
-use Rattle.bac_fetch.proofs.keeping.keep_unless.Goals as goal
+use Rattle.bac_fetch.proofs.single.keep_unless.Goals as goal
 
 pub returns-in-None-clause-told : goal.returns-in-None-clause-told
 returns-in-None-clause-told g c =
@@ -54,3 +54,11 @@ returns-in-Some-clause-told g c =
 
 pub returns-in-Some-clause-stays : goal.returns-in-Some-clause-stays
 returns-in-Some-clause-stays g c clean has = quiet_stays (state g.A.Store c.args.conn.now) (state g.A.Store c.pass_by.new.conn) (c.pass_by.ensures.crash has)
+
+pub returns-in-None-clause-caused : goal.returns-in-None-clause-caused
+returns-in-None-clause-caused g c clean has =
+    IfErr-weaker c.keep_one.result _ _ (λ fault it. (_, c.log_among-log.ensures, it)) (c.keep_one.ensures.caused clean has)
+
+pub returns-in-Some-clause-caused : goal.returns-in-Some-clause-caused
+returns-in-Some-clause-caused g c clean has =
+    IfErr-weaker c.pass_by.result _ _ (λ fault it. (_, c.log_among-log.ensures, inl (inl it))) (c.pass_by.ensures.caused clean has)

@@ -1,0 +1,53 @@
+-- Why a run ends, in an archive.
+use Rattle.std.proofs.Common.{◌≡◌, inl, inr, refl, subst, ap, ◌∙◌, ℕ, List, [], ◌∷◌, None, Result, Err, IfErr, length, slice_index_or, ◌≤◌, arith}
+use Rattle.sqlite.specs.declared.error.Error.{Error}
+use Rattle.sqlite_trees.specs.Tree.{Trees}
+use Rattle.bac_archive.specs.Causes.{HasNoFreshId}
+use Rattle.bac_archive.specs.declared.trend_logs.Log.{Log}
+use Rattle.bac_archive.specs.declared.trend_logs.NotAdded.{NotAdded}
+use Rattle.bac_archive.specs.declared.trend_logs.NotAdded.TheVariants as unadded
+use Rattle.bac_asked.specs.AsLog.{Given}
+use Rattle.bac_asked.specs.Faults.{of_error, of_not_added}
+use Rattle.bac_asked.specs.declared.end.NotDone.{NotDone}
+use Rattle.bac_asked.specs.declared.end.NotDone.TheVariants.{File}
+use Rattle.bac_asked.specs.declared.fault.FileFault.{FileFault}
+use Rattle.bac_asked.specs.declared.wanted.Wanted.{Wanted}
+use Rattle.bac_ports.specs.Sockets.{SocketRules}
+use Rattle.bac_fetch.specs.Causes.{EndsFirst, EndsSettling, FailsOnRows, FailsToEnter}
+use Rattle.bac_fetch.specs.Faults.{EndsChosen}
+use Rattle.bac_fetch.specs.declared.keeping.Chosen.{Chosen}
+use Rattle.bac_fetch.specs.declared.keeping.Chosen.TheVariants.{Device, Kept, Named}
+
+-- a database answers by an error
+pub database_rows : (why : FileFault) (error : Error) → why ≡ of_error error → FailsOnRows (File why)
+database_rows why error is = inr (inr (error, ap File is))
+
+-- a log that isn't added since the database answers by one
+pub not_added_rows : (why : FileFault) (fault : NotAdded) (error : Error) → why ≡ of_not_added fault → fault ≡ unadded.Database error → FailsOnRows (File why)
+not_added_rows why fault error is same = database_rows why error (is ∙ ap of_not_added same)
+
+-- a log that has no row isn't entered
+pub not_entered : (why : FileFault) (fault : NotAdded) (trees : Trees) → why ≡ of_not_added fault
+    → (◌≡◌ {A = Result ℕ NotAdded} (Err fault) (Err unadded.Full) → HasNoFreshId trees) → FailsToEnter None trees (File why)
+not_entered why unadded.Full trees is none = inr (ap File is, refl, none refl)
+not_entered why (unadded.Database error) trees is none = inl (database_rows why error is)
+
+-- what an error isn't
+pub never : {T E : Type 0} (r : Result T E) (e : E) (P : E → Type 0) → IfErr r P → (P e → ⊥) → r ≡ Err e → ⊥
+never r e P it f is = f (subst (λ x. IfErr x P) is it)
+
+-- the logs that were chosen aren't found, for these reasons or for others
+pub chosen_so : {S P : Type 0} (rules : SocketRules S P) (which : Chosen) (N M A B : Type 0) (before after : S) (fault : NotDone)
+    → (N → M) → (A → B) → EndsChosen rules which N A before after fault → EndsChosen rules which M B before after fault
+chosen_so rules Kept N M A B before after fault f h (inl it, same) = (inl it, same)
+chosen_so rules Kept N M A B before after fault f h (inr (inl it), same) = (inr (inl it), same)
+chosen_so rules Kept N M A B before after fault f h (inr (inr (inl it)), same) = (inr (inr (inl (it.0, f it.1))), same)
+chosen_so rules Kept N M A B before after fault f h (inr (inr (inr it)), same) = (inr (inr (inr (it.0, h it.1))), same)
+chosen_so rules (Device like) N M A B before after fault f h it = it
+chosen_so rules (Named all) N M A B before after fault f h it = absurd it
+
+-- the first of some logs
+pub settling_of_first : {S P : Type 0} (rules : SocketRules S P) (given : Given) (known : List Log) (all : List Wanted) (first : Wanted) (before after : S) (fault : NotDone)
+    → 1 ≤ length all → first ≡ slice_index_or all 0 first → EndsFirst rules given known first before after fault → EndsSettling rules given known all before after fault
+settling_of_first rules given known [] first before after fault lt is it = absurd (omega (arith, lt))
+settling_of_first rules given known (x ∷ xs) first before after fault lt is it = subst (λ (w : Wanted). EndsFirst rules given known w before after fault) is it

@@ -1,0 +1,17 @@
+use Rattle.std.proofs.Common.{ap, inr}
+use Rattle.sqlite.specs.declared.error.Error.{Error}
+use Rattle.sqlite.specs.declared.error.Error.TheVariants.{SqliteFailure}
+use Rattle.sqlite.specs.declared.error.ErrorCode.TheVariants.{Closed}
+use Rattle.bac_asked.specs.declared.end.NotDone.TheVariants.{File}
+use Rattle.bac_fetch.proofs.CausesLemmas.{database_rows}
+use Rattle.bac_fetch.proofs.ending.look_at.Goals as goal
+
+pub returns-then-not-is_archive-clause-fault : goal.returns-then-not-is_archive-clause-fault
+returns-then-not-is_archive-clause-fault g c =
+    let shut : Error = SqliteFailure Closed in
+    inr (inr (inr (inr (shut, ap File c.of.ensures))))
+
+pub returns-then-not-is_archive-clause-caused : goal.returns-then-not-is_archive-clause-caused
+returns-then-not-is_archive-clause-caused g c unread =
+    let shut : Error = SqliteFailure Closed in
+    database_rows c.of.result shut c.of.ensures

@@ -1,0 +1,148 @@
+-- Why a run over logs of an archive on a clean disk ends before each of them was told, from what its caller has on.
+-- Read `EndsLogs`.
+use Rattle.std.specs.Prelude.{◌≡◌, ◌⊎◌, ℕ, List, [], ◌∷◌, ◌++◌, Option, None, Some, true}
+use Rattle.sqlite.specs.Effect.{Database}
+use Rattle.sqlite_trees.specs.Tree.{Trees}
+use Rattle.bac_archive.specs.Causes.{HasNoFreshId}
+use Rattle.bac_archive.specs.Logs.{AreLogs}
+use Rattle.bac_archive.specs.declared.trend_logs.Log.{Log}
+use Rattle.bac_archive.specs.declared.trend_logs.Source.{Source}
+use Rattle.bac_asked.specs.AsLog.{Given}
+use Rattle.bac_asked.specs.Faults.{IsOfDatabase, RefusesLine, WantsMemory}
+use Rattle.bac_asked.specs.Wanted.{AsksItsSource, HasNoAddress}
+use Rattle.bac_asked.specs.declared.end.End.{End}
+use Rattle.bac_asked.specs.declared.end.NotDone.{NotDone}
+use Rattle.bac_asked.specs.declared.end.NotDone.TheVariants.{Asking, File}
+use Rattle.bac_asked.specs.declared.fault.Fault.TheVariants.{BadValue}
+use Rattle.bac_asked.specs.declared.fault.FileFault.TheVariants.{Address, Full}
+use Rattle.bac_asked.specs.declared.wanted.Wanted.{Wanted}
+use Rattle.bac_fetch.specs.Discovered.{AreFound}
+use Rattle.bac_fetch.specs.Faults.{EndsChosen, HasNone, IsNoInstance, IsUnopened, LacksAddress}
+use Rattle.bac_fetch.specs.Keeps.{KeepsAll}
+use Rattle.bac_fetch.specs.Moves.{IsElsewhere, Settles}
+use Rattle.bac_fetch.specs.Said.{Identifies}
+use Rattle.bac_fetch.specs.Silent.{IsAmong, is_same_device}
+use Rattle.bac_fetch.specs.Whose.{IsIdentified}
+use Rattle.bac_fetch.specs.declared.keeping.Chosen.{Chosen}
+use Rattle.bac_fetch.specs.declared.said.Identity.TheVariants.{Told}
+use Rattle.bac_fetch.specs.declared.said.Said.{Said}
+use Rattle.bac_fetch.specs.declared.whose.Heard.{Heard}
+use Rattle.bac_ports.specs.Sockets.{SocketRules}
+use Rattle.bac_words.specs.declared.job.Asked.{Asked}
+use Rattle.bac_words.specs.declared.word.Word.TheVariants.{Instance}
+
+-- ---- one log
+
+-- Rows of an archive aren't read or written, or a line isn't: memory is wanting; the output refused the line; or the
+-- database answers by an error. No fault of the file itself is among them.
+abbrev pub FailsOnRows : NotDone → Type 0
+FailsOnRows fault = WantsMemory fault ⊎ (RefusesLine fault ⊎ IsOfDatabase fault)
+
+-- a log has no row, and no id is left for it
+abbrev pub LacksId : Option Log → Trees → NotDone → Type 0
+LacksId log trees fault = (fault ≡ File Full) × (log ≡ None) × HasNoFreshId trees
+
+-- a log isn't entered for a run
+abbrev pub FailsToEnter : Option Log → Trees → NotDone → Type 0
+FailsToEnter log trees fault = FailsOnRows fault ⊎ LacksId log trees fault
+
+-- What is new of a log of this instance isn't fetched that is asked for so: its rows aren't read or written; no socket
+-- was opened for it; or the instance is none, and none was asked for.
+abbrev pub EndsFetch : {S P : Type 0} → SocketRules S P → Asked → ℕ → S → S → NotDone → Type 0
+EndsFetch rules asked instance before after fault = FailsOnRows fault
+    ⊎ (IsUnopened rules asked before after fault
+    ⊎ ((fault ≡ Asking (BadValue Instance)) × IsNoInstance instance × (after ≡ before)))
+
+-- A log that is on record so isn't kept: what is new of it isn't fetched as it is asked for; or it has no row and no id
+-- is left for it, and no socket was asked for.
+abbrev pub EndsOne : {S P : Type 0} → SocketRules S P → Option Log → Wanted → Trees → S → S → NotDone → Type 0
+EndsOne rules log wanted trees before after fault =
+    EndsFetch rules wanted.asking.asked wanted.source.instance before after fault
+    ⊎ (LacksId log trees fault × (after ≡ before))
+
+-- the same of one that is on record as it is among these
+abbrev pub EndsAmong : {S P : Type 0} → SocketRules S P → List Log → Wanted → Trees → S → S → NotDone → Type 0
+EndsAmong rules known wanted trees before after fault =
+    (log : Option Log) × IsAmong known wanted.source log × EndsOne rules log wanted trees before after fault
+
+-- The next log isn't kept, nor told: its rows aren't read or its line isn't written; no socket was opened to ask its
+-- device what it says of itself; or it was asked or heard of before, and the log isn't kept.
+abbrev pub EndsNext : {S P : Type 0} → SocketRules S P → List Log → List Heard → Wanted → Trees → S → S → NotDone
+    → Type 0
+EndsNext {S = S} rules known heard wanted trees before after fault = FailsOnRows fault
+    ⊎ (IsUnopened rules wanted.asking.asked before after fault
+    ⊎ ((said : Said) × (half : S) × IsIdentified rules heard wanted before said half
+    × EndsAmong rules known wanted trees half after fault))
+
+-- ---- one log after the other
+
+-- A run over logs ends at one of them: those before it were kept or passed over, as they are in a run that doesn't end,
+-- and from where they left the archive, the sockets and what was heard, this one isn't.
+pub record EndsAll {S P : Type 0} (rules : SocketRules S P) (known : List Log) (heard : List Heard) (all : List Wanted)
+    (before after : S) (old : Database) (fault : NotDone) : Type 0 where
+  pub front : List Wanted
+  pub wanted : Wanted
+  pub rest : List Wanted
+  pub all_are : all ≡ front ++ wanted ∷ rest
+  pub ends : List End
+  pub half : S
+  pub mid : Database
+  pub now : List Heard
+  pub kept : KeepsAll rules known heard now front before half old mid ends
+  pub cause : EndsNext rules known now wanted mid.trees half after fault
+
+-- so it does in an archive that has these logs, or they aren't told
+abbrev pub EndsSettled : {S P : Type 0} → SocketRules S P → List Heard → List Wanted → S → S → Database → NotDone
+    → Type 0
+EndsSettled rules heard all before after old fault = FailsOnRows fault
+    ⊎ ((known : List Log) × AreLogs old.trees known × EndsAll rules known heard all before after old fault)
+
+-- ---- before them, whether a device has moved
+
+-- The device at the place of this source isn't asked, or its logs aren't moved: their rows aren't written; its address
+-- is none; or no socket was opened for it.
+abbrev pub EndsThere : {S P : Type 0} → SocketRules S P → Given → Source → S → S → NotDone → Type 0
+EndsThere rules given from before after fault = FailsOnRows fault
+    ⊎ (((fault ≡ File Address) × HasNoAddress given from × (after ≡ before))
+    ⊎ ((there : Wanted) × AsksItsSource there × (is_same_device there.source from ≡ true)
+    × IsUnopened rules there.asking.asked before after fault))
+
+-- so it is of a device that tells this instance at the place of a log, which is on record of one of these elsewhere
+abbrev pub EndsMoving : {S P : Type 0} → SocketRules S P → Given → List Log → Source → ℕ → S → S → NotDone → Type 0
+EndsMoving rules given known to device before after fault =
+    (log : Log) × IsElsewhere known to device (Some log) × EndsThere rules given log.source before after fault
+
+-- It isn't settled where the device of a log stands: memory is wanting; no socket was opened to ask it what it says of
+-- itself; or it told an instance that is on record elsewhere, and that isn't settled.
+abbrev pub EndsFirst : {S P : Type 0} → SocketRules S P → Given → List Log → Wanted → S → S → NotDone → Type 0
+EndsFirst {S = S} rules given known first before after fault = WantsMemory fault
+    ⊎ (IsUnopened rules first.asking.asked before after fault
+    ⊎ ((said : Said) × (half : S) × Identifies rules first.asking before said half
+    × (device : ℕ) × (said.identity ≡ Told device) × EndsMoving rules given known first.source device half after fault))
+
+-- so it is of the first of some logs
+abbrev pub EndsSettling : {S P : Type 0} → SocketRules S P → Given → List Log → List Wanted → S → S → NotDone → Type 0
+EndsSettling rules given known [] before after fault = WantsMemory fault
+EndsSettling rules given known (first ∷ more) before after fault = EndsFirst rules given known first before after fault
+
+-- so it is in an archive that has these logs, or they aren't told
+abbrev pub FailsToSettle : {S P : Type 0} → SocketRules S P → Given → List Wanted → S → S → Database → NotDone → Type 0
+FailsToSettle rules given all before after old fault = FailsOnRows fault
+    ⊎ ((known : List Log) × AreLogs old.trees known × EndsSettling rules given known all before after fault)
+
+-- ---- the whole run
+
+-- A run over logs ends: where the device of the first one stands isn't settled; or it was, and from where that left the
+-- archive and the sockets the run ends at one of them.
+abbrev pub EndsLogs : {S P : Type 0} → SocketRules S P → Given → List Wanted → S → S → Database → NotDone → Type 0
+EndsLogs {S = S} rules given all before after old fault = FailsToSettle rules given all before after old fault
+    ⊎ ((known : List Log) × AreLogs old.trees known × (heard : List Heard) × (half : S) × (mid : Database)
+    × Settles rules known all before heard half old mid × EndsSettled rules heard all half after mid fault)
+
+-- A run over the logs that were chosen ends: they aren't found; or they were, and from where that left the sockets the
+-- run over them ends.
+abbrev pub EndsRunOver : {S P : Type 0} → SocketRules S P → Given → Chosen → S → S → Database → NotDone → Type 0
+EndsRunOver {S = S} rules given chosen before after old fault =
+    EndsChosen rules chosen (HasNone old.trees) (LacksAddress given old.trees) before after fault
+    ⊎ ((all : List Wanted) × (between : S) × AreFound rules chosen before all between
+    × EndsLogs rules given all between after old fault)

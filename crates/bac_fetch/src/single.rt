@@ -1,0 +1,278 @@
+//! One log of a run is kept, or it is told why it isn't.
+
+ghost use Rattle.std.specs.Prelude.{◌≡◌, IfErr, IfOk, option_map};
+ghost use Rattle.sqlite.specs.State.{HasCleanDisk, Survives};
+ghost use Rattle.sqlite.specs.Held.{state};
+ghost use Rattle.bac_archive.specs.Schema.{archive_schema};
+ghost use Rattle.bac_ports.specs.Sockets.{socket_rules};
+ghost use Rattle.bac_fetch.specs.Causes.{EndsAmong, EndsFetch, EndsNext, EndsOne};
+ghost use Rattle.bac_fetch.specs.Faults.{EndsRun, IsNoInstance};
+ghost use Rattle.bac_fetch.specs.Keeps.{IsRowOf, IsToldBy, KeepsHeard, KeepsLog, KeepsNext};
+ghost use Rattle.bac_fetch.specs.Keeps.{KeepsUnless, trend_log};
+ghost use Rattle.bac_fetch.specs.Entries.{IsEntry};
+ghost use Rattle.bac_fetch.specs.Whose.{heard_with};
+ghost use Rattle.bac_fetch.specs.declared.entry.Entry.{Entry as EntryOf};
+ghost use Rattle.bac_fetch.specs.Stays.{HasAllOf};
+
+use crate::count::Count;
+use crate::entry::{Entry, enter};
+use crate::fetching::fetch;
+use crate::passing::{pass_by, pass_over, print_end};
+use crate::said::Said;
+use crate::silent::log_among;
+use crate::telling::{tell_anew, tell_why};
+use crate::whose::{Heard, add_heard, device_on_record, hindrance, is_silent, said_of};
+use bac_archive::Log;
+use bac_asked::{Asking, End, Ending, NotDone, Wanted, end_status};
+use bac_heeding::Heeds;
+use bac_ports::Sockets;
+use sqlite::{Alter, Connection};
+use std::alloc::Global;
+use std::io::Write;
+
+/// Keeps what is new of one log; on a terminal its records are counted meanwhile.
+fn fetch_counted<S: Sockets, A: Alter, E: Write>(
+    sockets: &mut S,
+    conn: &mut Connection<A>,
+    alloc: Global,
+    entry: &Entry,
+    asking: Asking,
+    counts: bool,
+    errors: &mut E,
+) -> Result<End, NotDone>
+    ensures kept { HasCleanDisk (state A.Store conn.new)
+        → (state A.Store conn.old).now.schema ≡ archive_schema
+        → IfOk result (KeepsLog (socket_rules S.opens S.closes S.Socket.sends S.Socket.receives
+        S.Socket.receives_within) asking sockets.old sockets.new entry.now
+        (trend_log entry.now.row.source.instance) (state A.Store conn.old).now
+        (state A.Store conn.new).now) }
+    ensures stays { HasCleanDisk (state A.Store conn.new)
+        → (state A.Store conn.old).now.schema ≡ archive_schema
+        → Survives (state A.Store conn.old) (state A.Store conn.new)
+        (HasAllOf (state A.Store conn.old).now.trees) }
+    ensures clean { HasCleanDisk (state A.Store conn.new) → HasCleanDisk (state A.Store conn.old) }
+    ensures fault { IfErr result (EndsRun (socket_rules S.opens S.closes S.Socket.sends
+        S.Socket.receives S.Socket.receives_within)
+        (IsNoInstance entry.now.row.source.instance) ⊥ sockets.new) }
+    ensures caused { HasCleanDisk (state A.Store conn.new)
+        → (state A.Store conn.old).now.schema ≡ archive_schema
+        → IfErr result (EndsFetch (socket_rules S.opens S.closes S.Socket.sends S.Socket.receives
+        S.Socket.receives_within) asking.asked entry.now.row.source.instance sockets.old
+        sockets.new) }
+{
+    let mut count = Count::new(alloc, &entry.row.source, errors, counts);
+    let fetched = fetch(alloc, sockets, conn, entry, asking, &mut count);
+    count.end();
+    fetched
+}
+
+/// Keeps what is new of one log, and prints its line; answers its status.
+fn keep_one<S: Heeds, A: Alter, O: Write, E: Write>(
+    sockets: &mut S,
+    conn: &mut Connection<A>,
+    alloc: Global,
+    log: Option<&Log>,
+    heard: &mut Vec<Heard>,
+    wanted: Wanted,
+    said: Said,
+    counts: bool,
+    output: &mut O,
+    errors: &mut E,
+) -> Result<u8, NotDone>
+    // What is told of a log is how its run ended, and so is the status.
+    // The rows of what the run brought come to those before, under the id of this log.
+    ensures told { IfOk result (IsToldBy (O.contents output.old) (O.contents output.new)
+        wanted.source (λ end. (heard.new.items
+        ≡ heard_with heard.old.items wanted.source said end.why)
+        × (HasCleanDisk (state A.Store conn.new)
+        → (state A.Store conn.old).now.schema ≡ archive_schema
+        → (entry : EntryOf) × IsEntry (state A.Store conn.old).now.trees
+        (option_map (λ it. it.now) log.entry) said.told entry
+        × IsRowOf wanted said.told entry.row
+        × KeepsLog (socket_rules S.opens S.closes S.Socket.sends S.Socket.receives
+        S.Socket.receives_within) wanted.asking sockets.old sockets.new
+        entry (trend_log wanted.source.instance) (state A.Store conn.old).now
+        (state A.Store conn.new).now end))) }
+    // Whatever comes of it, no item and no log is lost: what is on the disk then, or is left by a
+    // crash at any moment before, is what was there or has all of it.
+    ensures stays { HasCleanDisk (state A.Store conn.new)
+        → (state A.Store conn.old).now.schema ≡ archive_schema
+        → Survives (state A.Store conn.old) (state A.Store conn.new)
+        (HasAllOf (state A.Store conn.old).now.trees) }
+    ensures clean { HasCleanDisk (state A.Store conn.new) → HasCleanDisk (state A.Store conn.old) }
+    ensures fault { IfErr result (EndsRun (socket_rules S.opens S.closes S.Socket.sends
+        S.Socket.receives S.Socket.receives_within) (IsNoInstance wanted.source.instance) ⊥
+        sockets.new) }
+    ensures caused { HasCleanDisk (state A.Store conn.new)
+        → (state A.Store conn.old).now.schema ≡ archive_schema
+        → IfErr result (EndsOne (socket_rules S.opens S.closes S.Socket.sends S.Socket.receives
+        S.Socket.receives_within) (option_map (λ it. it.now) log.entry) wanted
+        (state A.Store conn.old).now.trees sockets.old sockets.new) }
+{
+    let address = wanted.asking.asked.address;
+    let Wanted {
+        source,
+        name,
+        asking,
+    } = wanted;
+    let Said { identity, told } = said;
+    let entry = enter(conn, alloc, log, source, name, told)?;
+    let end = fetch_counted(sockets, conn, alloc, &entry, asking, counts, errors)?;
+    tell_anew(alloc, &entry.row.source, end.began, errors)?;
+    print_end(alloc, &entry.row.source, &end, output)?;
+    let source = &entry.row.source;
+    tell_why(alloc, source, sockets.passed(), address, end.why, errors)?;
+    let Entry {
+        row,
+        recorded: _recorded,
+        word: _word,
+    } = entry;
+    let Log { source, told, .. } = row;
+    add_heard(heard, source, Said { identity, told }, end.why)?;
+    Ok(end_status(end.why))
+}
+
+/// Keeps what is new of one log, unless there is a reason against it, which is told.
+fn keep_unless<S: Heeds, A: Alter, O: Write, E: Write>(
+    sockets: &mut S,
+    conn: &mut Connection<A>,
+    alloc: Global,
+    known: &[Log],
+    at: usize,
+    heard: &mut Vec<Heard>,
+    wanted: Wanted,
+    said: Said,
+    why: Option<Ending>,
+    counts: bool,
+    output: &mut O,
+    errors: &mut E,
+) -> Result<u8, NotDone>
+    ensures told { IfOk result (IsToldBy (O.contents output.old) (O.contents output.new)
+        wanted.source (λ end. (heard.new.items
+        ≡ heard_with heard.old.items wanted.source said end.why)
+        × (HasCleanDisk (state A.Store conn.new)
+        → (state A.Store conn.old).now.schema ≡ archive_schema
+        → KeepsUnless (socket_rules S.opens S.closes S.Socket.sends S.Socket.receives
+        S.Socket.receives_within) known.now wanted said.told why sockets.old
+        sockets.new (state A.Store conn.old).now (state A.Store conn.new).now
+        end))) }
+    ensures stays { HasCleanDisk (state A.Store conn.new)
+        → (state A.Store conn.old).now.schema ≡ archive_schema
+        → Survives (state A.Store conn.old) (state A.Store conn.new)
+        (HasAllOf (state A.Store conn.old).now.trees) }
+    ensures clean { HasCleanDisk (state A.Store conn.new) → HasCleanDisk (state A.Store conn.old) }
+    ensures fault { IfErr result (EndsRun (socket_rules S.opens S.closes S.Socket.sends
+        S.Socket.receives S.Socket.receives_within) (IsNoInstance wanted.source.instance) ⊥
+        sockets.new) }
+    ensures caused { HasCleanDisk (state A.Store conn.new)
+        → (state A.Store conn.old).now.schema ≡ archive_schema
+        → IfErr result (EndsAmong (socket_rules S.opens S.closes S.Socket.sends S.Socket.receives
+        S.Socket.receives_within) known.now wanted (state A.Store conn.old).now.trees
+        sockets.old sockets.new) }
+{
+    let log = log_among(known, at, &wanted.source);
+    match why {
+        None => keep_one(
+            sockets, conn, alloc, log, heard, wanted, said, counts, output, errors,
+        ),
+        Some(why) => {
+            let address = wanted.asking.asked.address;
+            let passed = sockets.passed();
+            let source = wanted.source;
+            pass_by(
+                conn, alloc, log, heard, source, said, why, passed, address, output, errors,
+            )
+        }
+    }
+}
+
+/// Keeps what is new of one log, if its device tells the instance that is on record, or none is.
+fn keep_heard<S: Heeds, A: Alter, O: Write, E: Write>(
+    sockets: &mut S,
+    conn: &mut Connection<A>,
+    alloc: Global,
+    known: &[Log],
+    at: usize,
+    heard: &mut Vec<Heard>,
+    wanted: Wanted,
+    counts: bool,
+    output: &mut O,
+    errors: &mut E,
+) -> Result<u8, NotDone>
+    ensures told { IfOk result (IsToldBy (O.contents output.old) (O.contents output.new)
+        wanted.source (λ end. HasCleanDisk (state A.Store conn.new)
+        → (state A.Store conn.old).now.schema ≡ archive_schema
+        → KeepsHeard (socket_rules S.opens S.closes S.Socket.sends S.Socket.receives
+        S.Socket.receives_within) known.now heard.old.items heard.new.items wanted
+        sockets.old sockets.new (state A.Store conn.old).now
+        (state A.Store conn.new).now end)) }
+    ensures stays { HasCleanDisk (state A.Store conn.new)
+        → (state A.Store conn.old).now.schema ≡ archive_schema
+        → Survives (state A.Store conn.old) (state A.Store conn.new)
+        (HasAllOf (state A.Store conn.old).now.trees) }
+    ensures clean { HasCleanDisk (state A.Store conn.new) → HasCleanDisk (state A.Store conn.old) }
+    ensures fault { IfErr result (EndsRun (socket_rules S.opens S.closes S.Socket.sends
+        S.Socket.receives S.Socket.receives_within) (IsNoInstance wanted.source.instance) ⊥
+        sockets.new) }
+    ensures caused { HasCleanDisk (state A.Store conn.new)
+        → (state A.Store conn.old).now.schema ≡ archive_schema
+        → IfErr result (EndsNext (socket_rules S.opens S.closes S.Socket.sends S.Socket.receives
+        S.Socket.receives_within) known.now heard.old.items wanted
+        (state A.Store conn.old).now.trees sockets.old sockets.new) }
+{
+    let said = said_of(sockets, alloc, heard.as_slice(), &wanted)?;
+    let on_record = device_on_record(known, at, &wanted.source);
+    let why = hindrance(
+        known,
+        heard.as_slice(),
+        &wanted.source,
+        on_record,
+        said.identity,
+    );
+    keep_unless(
+        sockets, conn, alloc, known, at, heard, wanted, said, why, counts, output, errors,
+    )
+}
+
+/// Keeps what is new of one log, or tells that it isn't asked, if its device gave no answer before.
+pub(crate) fn keep_next<S: Heeds, A: Alter, O: Write, E: Write>(
+    sockets: &mut S,
+    conn: &mut Connection<A>,
+    alloc: Global,
+    known: &[Log],
+    at: usize,
+    heard: &mut Vec<Heard>,
+    wanted: Wanted,
+    counts: bool,
+    output: &mut O,
+    errors: &mut E,
+) -> Result<u8, NotDone>
+    ensures told { IfOk result (IsToldBy (O.contents output.old) (O.contents output.new)
+        wanted.source (λ end. HasCleanDisk (state A.Store conn.new)
+        → (state A.Store conn.old).now.schema ≡ archive_schema
+        → KeepsNext (socket_rules S.opens S.closes S.Socket.sends S.Socket.receives
+        S.Socket.receives_within) known.now heard.old.items heard.new.items wanted
+        sockets.old sockets.new (state A.Store conn.old).now
+        (state A.Store conn.new).now end)) }
+    ensures stays { HasCleanDisk (state A.Store conn.new)
+        → (state A.Store conn.old).now.schema ≡ archive_schema
+        → Survives (state A.Store conn.old) (state A.Store conn.new)
+        (HasAllOf (state A.Store conn.old).now.trees) }
+    ensures clean { HasCleanDisk (state A.Store conn.new) → HasCleanDisk (state A.Store conn.old) }
+    ensures fault { IfErr result (EndsRun (socket_rules S.opens S.closes S.Socket.sends
+        S.Socket.receives S.Socket.receives_within) (IsNoInstance wanted.source.instance) ⊥
+        sockets.new) }
+    ensures caused { HasCleanDisk (state A.Store conn.new)
+        → (state A.Store conn.old).now.schema ≡ archive_schema
+        → IfErr result (EndsNext (socket_rules S.opens S.closes S.Socket.sends S.Socket.receives
+        S.Socket.receives_within) known.now heard.old.items wanted
+        (state A.Store conn.old).now.trees sockets.old sockets.new) }
+{
+    if is_silent(heard.as_slice(), &wanted.source) {
+        let log = log_among(known, at, &wanted.source);
+        return pass_over(conn, alloc, log, &wanted.source, Ending::NotAsked, output);
+    }
+    keep_heard(
+        sockets, conn, alloc, known, at, heard, wanted, counts, output, errors,
+    )
+}

@@ -1,0 +1,35 @@
+-- Why logs that were chosen aren't kept, if the file is at fault.
+use Rattle.std.proofs.Common.{◌≡◌, ◌⊎◌, inl, inr}
+use Rattle.sqlite.specs.declared.error.Error.{Error}
+use Rattle.bac_asked.specs.Faults.{of_error}
+use Rattle.bac_asked.specs.declared.end.NotDone.{NotDone}
+use Rattle.bac_asked.specs.declared.end.NotDone.TheVariants as done
+use Rattle.bac_fetch.specs.Causes.{EndsRunOver}
+use Rattle.bac_fetch.specs.Faults.{EndsKeeping, HasNoInstance}
+use Rattle.bac_fetch.specs.declared.keeping.Chosen.{Chosen}
+use Rattle.bac_ports.specs.Sockets.{SocketRules}
+use Rattle.sqlite.specs.Effect.{Database}
+use Rattle.sqlite.specs.State.{State}
+use Rattle.bac_archive.specs.Schema.{archive_schema}
+use Rattle.bac_asked.specs.AsLog.{Given}
+use Rattle.bac_fetch.proofs.CausesLemmas.{chosen_so}
+use Rattle.bac_fetch.proofs.FaultsLemmas.{ends_so}
+use Rattle.bac_keeper.specs.Archives.{IsArchiveOf, IsCleanArchive, IsHeld}
+use Rattle.bac_keeper.specs.Done.{RefusesKeep}
+use Rattle.bac_keeper.specs.Ends.{MayFail}
+
+-- what ends for one reason ends for another
+pub keeping_so : {S P : Type 0} (rules : SocketRules S P) (N M A B : Type 0) → (N → M) → (A → B) → (which : Chosen) (before after : S) (fault : NotDone)
+    → EndsKeeping rules which N A before after fault → EndsKeeping rules which M B before after fault
+keeping_so rules N M A B f h which before after fault (inl it) = inl (chosen_so rules which N M A B before after fault f h it)
+keeping_so rules N M A B f h which before after fault (inr (all, between, found, it)) =
+    inr (all, between, found, ends_so rules (HasNoInstance all) (HasNoInstance all) A B after fault (λ n. n) h it)
+
+-- so a run ends over what two files held, which became this archive
+pub refused_so : {S P : Type 0} (rules : SocketRules S P) (which : Chosen) (given : Given) (found : Database) (archive last : State) (before after : S) (fault : NotDone)
+    → (IsHeld last → IsArchiveOf found archive.now × (archive.now.schema ≡ archive_schema))
+    → (IsCleanArchive archive last → EndsRunOver rules given which before after archive.now fault)
+    → MayFail (λ why. ((error : Error) × (why ≡ of_error error)) ⊎ (IsHeld last → RefusesKeep rules which given before after found why)) fault
+refused_so rules which given found archive last before after (done.Asking why) is ends = tt
+refused_so rules which given found archive last before after (done.File why) is ends =
+    inr (λ held. let (of, has) = is held in inr (archive.now, of, ends (held.0, has)))

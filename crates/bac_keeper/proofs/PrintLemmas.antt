@@ -1,0 +1,81 @@
+-- Why nothing is printed or stopped, if the file is at fault.
+use Rattle.std.proofs.Common.{◌≡◌, ◌⊎◌, inl, inr, false, ℕ, List, Result, Ok, Err, IfErr, refl, subst, sym}
+use Rattle.sqlite.specs.State.{State, HasCleanDisk}
+use Rattle.sqlite.specs.declared.error.Error.{Error}
+use Rattle.bac_archive.specs.Logs.{AreLogs}
+use Rattle.bac_archive.specs.Schema.{archive_schema}
+use Rattle.bac_archive.specs.declared.trend_logs.Log.{Log}
+use Rattle.bac_asked.specs.Faults.{IsOfDatabase, RefusesLine, WantsMemory, of_error}
+use Rattle.bac_asked.specs.declared.end.NotDone.{NotDone}
+use Rattle.bac_asked.specs.declared.end.NotDone.TheVariants as done
+use Rattle.bac_asked.specs.declared.fault.FileFault.{FileFault}
+use Rattle.bac_asked.specs.declared.fault.FileFault.TheVariants as file
+use Rattle.bac_keeper.specs.Archives.{IsArchiveOf, IsHeld}
+use Rattle.bac_keeper.specs.Ends.{MayAsk, MayFail}
+use Rattle.bac_keeper.specs.Shown.{RefusesPrint}
+use Rattle.bac_keeper.specs.Stops.{RefusesStop, are_there}
+use Rattle.bac_keeper.specs.declared.stopping.Meant.{Meant}
+use Rattle.bac_keeper.proofs.FileLemmas.{database_fails, file_asks, database_file}
+use Rattle.bac_keeper.proofs.NamesLemmas.{may_ask, never_fails}
+use Rattle.bac_kept.specs.Faults.{EndsPrinting, HasNoneOf}
+use Rattle.bac_kept.specs.declared.printing.Shown.{Shown}
+
+-- memory is wanting, or the output refused a line
+pub printing_fails : (P : FileFault → Type 0) (fault : NotDone) → WantsMemory fault ⊎ RefusesLine fault → MayFail P fault
+printing_fails P fault (inl memory) = never_fails P fault (_, memory)
+printing_fails P fault (inr line) = never_fails P fault (_, line)
+
+-- none of the archive is chosen
+abbrev pub NoneBy : Shown → State → State → Type 0
+NoneBy which archive last = HasCleanDisk last → HasCleanDisk archive × (archive.now.schema ≡ archive_schema → HasNoneOf which archive.now.trees)
+
+-- what a print fails by
+abbrev pub PrintFails : Shown → State → State → NotDone → Type 0
+PrintFails which found last = MayFail (λ why. ((error : Error) × (why ≡ of_error error)) ⊎ ((HasCleanDisk last → HasCleanDisk found) × (IsHeld last → RefusesPrint which found.now why)))
+
+print_fails : (which : Shown) (found archive last : State) → (HasCleanDisk archive → HasCleanDisk found) → (HasCleanDisk archive → IsArchiveOf found.now archive.now)
+    → (fault : NotDone) → EndsPrinting (NoneBy which archive last) fault → PrintFails which found last fault
+print_fails which found archive last clean of fault (inl (inl memory)) = never_fails _ fault (_, memory)
+print_fails which found archive last clean of fault (inl (inr (inl line))) = never_fails _ fault (_, line)
+print_fails which found archive last clean of fault (inl (inr (inr database))) = database_fails _ fault database
+print_fails which found archive last clean of fault (inr (is, none)) = subst (PrintFails which found last) (sym is) (inr (
+  (λ late. clean (none late).0),
+  (λ held.
+      let (early, nothing) = none held.0 in
+      inr (refl, archive.now, of early, nothing (of early).is.schema)),
+))
+
+pub all_print_fails : (which : Shown) (found archive last : State) → (HasCleanDisk archive → HasCleanDisk found) → (HasCleanDisk archive → IsArchiveOf found.now archive.now)
+    → (r : Result ℕ NotDone) → IfErr r (EndsPrinting (NoneBy which archive last)) → IfErr r (PrintFails which found last)
+all_print_fails which found archive last clean of (Ok v) it = tt
+all_print_fails which found archive last clean of (Err e) it = print_fails which found archive last clean of e it
+
+print_asks : (N : Type 0) (fault : NotDone) → EndsPrinting N fault → MayAsk (λ f. WantsMemory f ⊎ RefusesLine f) fault
+print_asks N fault (inl (inl memory)) = may_ask (λ f. WantsMemory f ⊎ RefusesLine f) fault (inl memory)
+print_asks N fault (inl (inr (inl line))) = may_ask (λ f. WantsMemory f ⊎ RefusesLine f) fault (inr line)
+print_asks N fault (inl (inr (inr database))) = file_asks (λ f. WantsMemory f ⊎ RefusesLine f) fault (database_file fault database)
+print_asks N fault (inr (is, none)) = file_asks (λ f. WantsMemory f ⊎ RefusesLine f) fault (file.NoLog, is)
+
+pub all_print_ask : (N : Type 0) (r : Result ℕ NotDone) → IfErr r (EndsPrinting N) → IfErr r (MayAsk (λ f. WantsMemory f ⊎ RefusesLine f))
+all_print_ask N (Ok v) it = tt
+all_print_ask N (Err e) it = print_asks N e it
+
+-- a log that is meant isn't there
+abbrev pub IsMissing : Meant → State → State → Type 0
+IsMissing which archive last = HasCleanDisk last → archive.now.schema ≡ archive_schema → (known : List Log) × AreLogs archive.now.trees known × (are_there which known ≡ false)
+
+abbrev pub StopFails : Meant → State → State → NotDone → Type 0
+StopFails which found last = MayFail (λ why. ((error : Error) × (why ≡ of_error error)) ⊎ (IsHeld last → RefusesStop which found.now why))
+
+-- what stopping them fails by
+pub stop_fails : (which : Meant) (found archive last : State) → (IsHeld last → IsArchiveOf found.now archive.now) → (fault : NotDone)
+    → WantsMemory fault ⊎ (IsOfDatabase fault ⊎ ((fault ≡ done.File file.NoLog) × IsMissing which archive last)) → StopFails which found last fault
+stop_fails which found archive last of fault (inl memory) = never_fails _ fault (_, memory)
+stop_fails which found archive last of fault (inr (inl database)) = database_fails _ fault database
+stop_fails which found archive last of fault (inr (inr (is, missing))) = subst (StopFails which found last) (sym is)
+    (inr (λ held. let (known, are, gone) = missing held.0 (of held).is.schema in inr (refl, archive.now, of held, known, are, gone)))
+
+pub stop_asks : (N : Type 0) (fault : NotDone) → WantsMemory fault ⊎ (IsOfDatabase fault ⊎ ((fault ≡ done.File file.NoLog) × N)) → MayAsk (λ f. WantsMemory f ⊎ RefusesLine f) fault
+stop_asks N fault (inl memory) = may_ask (λ f. WantsMemory f ⊎ RefusesLine f) fault (inl memory)
+stop_asks N fault (inr (inl database)) = file_asks (λ f. WantsMemory f ⊎ RefusesLine f) fault (database_file fault database)
+stop_asks N fault (inr (inr (is, missing))) = file_asks (λ f. WantsMemory f ⊎ RefusesLine f) fault (file.NoLog, is)

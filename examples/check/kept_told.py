@@ -1,0 +1,63 @@
+"""What `bac keep` tells beside the line of a log whose walk failed, for kept.py."""
+from kept_devices import Device, Log, serve
+from kept_rounds import said, unheard, why
+
+SOON = ("--timeout=60", "--retries=1")
+
+# What comes in place of each answer: Reject-Message-To-Network for reason 1 and network 5, an I-Am, and nothing.
+ROUTER = bytes.fromhex("018003010005")
+I_AM = bytes.fromhex("01001000c4020000072205c491032103")
+STRAYS = (("a router", ROUTER, "router: no route to network 5"), ("an I-Am", I_AM, "an I-Am"))
+
+
+class Twisted(Device):
+    """`stray` is the NPDU that is sent in place of each answer, and `twist` makes another of each ReadRange-ACK."""
+
+    def __init__(self):
+        super().__init__([Log(1, 50)], "twisted")
+        self.stray = self.twist = None
+        serve([self])
+
+    def answer(self, port, request, asker):
+        if self.stray is None:
+            super().answer(port, request, asker)
+        else:
+            port.sendto(b"\x81\x0a" + (len(self.stray) + 4).to_bytes(2, "big") + self.stray, asker)
+
+    def ack(self, apdu):
+        ack = super().ack(apdu)
+        return self.twist(ack) if self.twist and apdu[3] == 26 else ack
+
+
+def told_beside(judge, _runs):
+    """Who sent what in place of an answer, what a refusal means, and of a bad reply who tells what is wrong with it."""
+    device = Twisted()
+    device.logs[1].log(3)
+    file = f"{judge.room}/a.db"
+    for name, device.stray, content in STRAYS:
+        text = f"no answer in 2 tries; 2 datagrams came that don't answer, the last from {device.address}: {content}"
+        judge.same(name, judge.ran(["keep", file, device.address, "1", *SOON]),
+                   (2, said(device, 0, 0, "lost, next 1"), why(device, 1, text)))
+    device.stray = None
+    # The last octet of the object is another: an ACK of log 0.
+    device.twist = lambda ack: ack[:7] + bytes([ack[7] ^ 1]) + ack[8:]
+    judge.same("an ACK of another log", judge.ran(["keep", file, device.address, "1"]),
+               (4, said(device, 0, 0, "bad reply, next 1"),
+                why(device, 1, "the reply isn't as asked for: bac log tells what is wrong with it")))
+    status, out, errors = judge.ran(["log", device.address, "1", "1"])
+    judge.is_right("log tells it", (status, out) == (4, "bad reply, next 1\n") and "object 20 0" in errors, (status, out, errors))
+    # A refusal is told in the words of `log`.
+    for name, reply, end in (("an Abort", lambda ack: bytes([0x71, ack[1], 4]), "refused: abort 4, next 1"),
+                             ("an Error", lambda ack: bytes([0x50, ack[1], ack[2], 0x91, 1, 0x91, 31]), "refused: error 1 31, next 1")):
+        device.twist = reply
+        status, out, errors = judge.ran(["log", device.address, "1", "1"])
+        judge.same(f"{name}, log", (status, out), (3, f"{end}\n"))
+        judge.same(name, judge.ran(["keep", file, device.address, "1"]), (3, said(device, 0, 0, end), f"{device.address} 1: {errors}"))
+        judge.is_right(f"{name} has words", len(errors) > 5, errors)
+    device.twist = None
+    judge.same("and all of it", judge.ran(["keep", file, device.address, "1"]), (0, said(device, 3, 0, "caught up, next 4"), ""))
+    judge.judge("and all of it", file, [device], True)
+    # One that had answered, and then doesn't.
+    device.logs[1].log(1)
+    device.answers = 4
+    judge.same("lost on the way", judge.ran(["keep", file, "--timeout=60", "--retries=0"])[2], unheard(device))
