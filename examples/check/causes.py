@@ -19,7 +19,7 @@ ROOT = os.path.join(HERE, "..", "..")
 PROGRAM = os.path.abspath(sys.argv[1] if len(sys.argv) > 1 else os.path.join(ROOT, "crates/bac/out/bac"))
 UNNAMED = "the standard has no name for it"
 # What stands behind an Abort whose cause is that the answer is too long.
-ADVICE = ": the answer is too long for one datagram; an array can be read in parts, with --index=0 and on"
+ADVICE = ": the answer is too long for one datagram; --index=0 and on reads an array in parts, --count=20 a log"
 TOO_LONG = (1, 4, 11)
 
 

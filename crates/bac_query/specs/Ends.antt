@@ -17,9 +17,10 @@ refusal_text (Error class code) = codes "refused: " ++ (numbered_word (codes "er
 refusal_text (Reject reason) = codes "refused: " ++ numbered_word (codes "reject") reason
 refusal_text (Abort reason) = codes "refused: " ++ numbered_word (codes "abort") reason
 
--- the answer to a question for an array is too long
+-- the answer is too long for one datagram, of an array or of a log's records
 abbrev pub too_long : List ℕ
-too_long = codes ": the answer is too long for one datagram; an array can be read in parts, with --index=0 and on"
+too_long =
+    codes ": the answer is too long for one datagram; --index=0 and on reads an array in parts, --count=20 a log"
 
 -- a name of the standard's, or that it has none
 unfoldable pub named : List ℕ → List ℕ

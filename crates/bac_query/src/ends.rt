@@ -9,10 +9,10 @@ use bac_print::{abort_reason_name, error_code_name, push_number, reject_reason_n
 use bac_walk::{WalkFault, Why};
 use std::alloc::AllocError;
 
-/// What is told where the answer to a question for an array is too long.
+/// What is told where the answer to a question is too long.
 const TOO_LONG: &str =
-    ": the answer is too long for one datagram; an array can be read in parts, with --index=0 \
-     and on";
+    ": the answer is too long for one datagram; --index=0 and on reads an array in parts, \
+     --count=20 a log";
 
 /// Appends a word and a number after a blank.
 fn push_numbered(text: &mut Vec<u8>, word: &[u8], n: u64) -> Result<(), AllocError>

@@ -37,8 +37,8 @@ macro_rules! with_refusals {
             6 insufficient security; 7 window size out of range;
             8 application exceeded reply time; 9 out of resources;
             10 TSM timeout; 11 APDU too long
-After abort 1, 4 or 11 the answer is too long for one datagram: an array can be
-read in parts, with --index=0 and on."
+After abort 1, 4 or 11 the answer is too long for one datagram: --index=0 and on
+reads an array in parts, --count=20 a log."
         )
     };
 }
