@@ -11,7 +11,7 @@ STRAYS = (("a router", ROUTER, "router: no route to network 5"), ("an I-Am", I_A
 
 
 class Twisted(Device):
-    """`stray` is the NPDU that is sent in place of each answer, and `twist` makes another of each ReadRange-ACK."""
+    """`stray` is the NPDU that is sent in place of each answer that isn't given, and `twist` makes another of each ReadRange-ACK."""
 
     def __init__(self):
         super().__init__([Log(1, 50)], "twisted")
@@ -19,7 +19,7 @@ class Twisted(Device):
         serve([self])
 
     def answer(self, port, request, asker):
-        if self.stray is None:
+        if self.stray is None or self.answers:
             super().answer(port, request, asker)
         else:
             port.sendto(b"\x81\x0a" + (len(self.stray) + 4).to_bytes(2, "big") + self.stray, asker)
@@ -61,3 +61,6 @@ def told_beside(judge, _runs):
     device.logs[1].log(1)
     device.answers = 4
     judge.same("lost on the way", judge.ran(["keep", file, "--timeout=60", "--retries=0"])[2], unheard(device))
+    device.answers, device.stray = 4, I_AM
+    judge.same("strays on the way", judge.ran(["keep", file, *SOON])[2],
+               why(device, 1, f"no answer in 2 tries; 2 datagrams came that don't answer, the last from {device.address}: an I-Am"))
