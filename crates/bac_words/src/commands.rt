@@ -334,7 +334,8 @@ fn logs<'a>(alloc: Global) -> Result<Command<'a>, AllocError>
     ensures { IfOk result (IsCommand logs_app) }
 {
     let about = "List the trend logs of a device, with what they log and hold";
-    let example = "Example: bac logs 192.168.1.20
+    let example = with_refusals!(
+        "Example: bac logs 192.168.1.20
 asks each trend log of the device's Object_List, one question a property, and
 prints a table: a line of names, and a line a log, with a tab between two cells.
 bac logs 192.168.1.20 1 2 asks trend logs 1 and 2 alone.
@@ -351,7 +352,10 @@ bac logs 192.168.1.20 1 2 asks trend logs 1 and 2 alone.
   stop      true: it stops when it is full; false: the oldest record is dropped
 
 A cell is - if the device refuses, and ? if its answer can't be read. The first
-question without an answer ends the table.";
+question without an answer ends the table. Where the device refuses its list,
+standard error has a line with the meaning. 'error' is printed with its class
+and its code:"
+    );
     let command = tool(alloc, "logs", about, example);
     let help = "The device: A.B.C.D or A.B.C.D:PORT (port 47808)";
     let command = with(command, needed(alloc, Word::Address, help))?;
@@ -364,7 +368,8 @@ fn keep<'a>(alloc: Global) -> Result<Command<'a>, AllocError>
     ensures { IfOk result (IsCommand keep_app) }
 {
     let about = "Keep the records of trend logs in a database file, each once";
-    let example = "Example: bac keep site.db 192.168.1.20 1 2
+    let example = with_refusals!(
+        "Example: bac keep site.db 192.168.1.20 1 2
 adds trend logs 1 and 2 of that device to site.db and fetches their records:
 
   192.168.1.20:47808 1 120 records 0 gaps caught up, next 121
@@ -377,7 +382,11 @@ With --stop the file keeps what it has of these logs, and they are left out.
 Status: the greatest of its logs' as bac log has them, but 8 for a step limit,
 and 4 where a log is caught up, though the last reply said that more is there;
 6 the file isn't an archive, can't be read or written, or is full; 7 another
-program has it open.";
+program has it open.
+
+Standard error tells why a log is lost, refused or has a bad reply. 'error' is
+printed with its class and its code:"
+    );
     let command = tool(alloc, "keep", about, example);
     let command = with(command, needed(alloc, Word::File, "The database file"))?;
     let help = "The device: A.B.C.D or A.B.C.D:PORT (port 47808)";
