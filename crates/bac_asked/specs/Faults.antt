@@ -1,5 +1,5 @@
 -- Which fault an error of a database, a refused archive, a refused log and refused words are.
-use Rattle.std.specs.Prelude.{◌≡◌}
+use Rattle.std.specs.Prelude.{◌≡◌, ◌⊎◌}
 use Rattle.sqlite.specs.declared.error.Error.{Error}
 use Rattle.sqlite.specs.declared.error.Error.TheVariants.{SqliteFailure}
 use Rattle.sqlite.specs.declared.error.ErrorCode.TheVariants.{DatabaseBusy}
@@ -55,3 +55,14 @@ RefusesLine fault = fault ≡ Asking asking.Write
 -- a file's database answers by an error
 abbrev pub IsOfDatabase : NotDone → Type 0
 IsOfDatabase fault = (error : Error) × (fault ≡ File (of_error error))
+
+-- Rows of an archive aren't read or written, or a line isn't: memory is wanting; the output refused the line; or the
+-- database answers by an error. No fault of the file itself is among them.
+abbrev pub FailsOnRows : NotDone → Type 0
+FailsOnRows fault = WantsMemory fault ⊎ (RefusesLine fault ⊎ IsOfDatabase fault)
+
+-- A log's rows aren't read or written: memory is wanting; the output refused a line; the file isn't an archive, or has
+-- no id left; or its database answers by an error.
+abbrev pub EndsLog : NotDone → Type 0
+EndsLog fault = WantsMemory fault
+    ⊎ (RefusesLine fault ⊎ ((fault ≡ File Foreign) ⊎ ((fault ≡ File Full) ⊎ IsOfDatabase fault)))

@@ -13,7 +13,8 @@ use Rattle.bac_asked.specs.declared.end.NotDone.TheVariants.{File}
 use Rattle.bac_asked.specs.declared.fault.FileFault.{FileFault}
 use Rattle.bac_asked.specs.declared.wanted.Wanted.{Wanted}
 use Rattle.bac_ports.specs.Sockets.{SocketRules}
-use Rattle.bac_fetch.specs.Causes.{EndsFirst, EndsSettling, FailsOnRows, FailsToEnter}
+use Rattle.bac_fetch.specs.Causes.{EndsFirst, EndsSettling, FailsToEnter}
+use Rattle.bac_asked.specs.Faults.{FailsOnRows}
 use Rattle.bac_fetch.specs.Faults.{EndsChosen}
 use Rattle.bac_fetch.specs.declared.keeping.Chosen.{Chosen}
 use Rattle.bac_fetch.specs.declared.keeping.Chosen.TheVariants.{Device, Kept, Named}

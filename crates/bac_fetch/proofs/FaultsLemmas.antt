@@ -1,16 +1,17 @@
 -- What ends a run.
-use Rattle.std.proofs.Common.{◌≡◌, ◌⊎◌, inl, inr, refl, subst, sym, ap, ◌∙◌, ℕ, List, ◌∷◌, Option, None, Some, Result, Ok, Err, IfErr}
-use Rattle.std.specs.List.{Contains}
+use Rattle.std.proofs.Common.{◌≡◌, inl, inr, refl, subst, ap, ◌∙◌, ℕ, List, Option, None, Some, Result, Ok, Err, IfErr}
 use Rattle.sqlite.specs.declared.error.Error.{Error}
 use Rattle.bac_archive.specs.declared.trend_logs.NotAdded.{NotAdded}
 use Rattle.bac_archive.specs.declared.trend_logs.NotAdded.TheVariants as unadded
-use Rattle.bac_asked.specs.Faults.{IsOfDatabase, RefusesLine, WantsMemory, of_error, of_not_added}
+use Rattle.bac_asked.specs.Faults.{RefusesLine, WantsMemory, of_error, of_not_added}
 use Rattle.bac_asked.specs.declared.end.NotDone.{NotDone}
-use Rattle.bac_asked.specs.declared.end.NotDone.TheVariants.{Asking, File}
+use Rattle.bac_asked.specs.declared.end.NotDone.TheVariants.{File}
 use Rattle.bac_asked.specs.declared.fault.FileFault.{FileFault}
 use Rattle.bac_asked.specs.declared.fault.FileFault.TheVariants.{Foreign, Full}
-use Rattle.bac_fetch.specs.Discovered.{AreFound}
-use Rattle.bac_fetch.specs.Faults.{EndsAsking, EndsChosen, EndsKeeping, EndsKept, EndsLog, EndsRun, HasNoInstance, LastFailed}
+use Rattle.bac_fetch.specs.Chosen.{AreFound}
+use Rattle.bac_fetch.specs.Faults.{EndsChosen, EndsKeeping, EndsKept, EndsRun, HasNoInstance}
+use Rattle.bac_questions.specs.Faults.{EndsAsking}
+use Rattle.bac_asked.specs.Faults.{EndsLog}
 use Rattle.bac_fetch.specs.declared.keeping.Chosen.{Chosen}
 use Rattle.bac_fetch.specs.declared.keeping.Chosen.TheVariants.{Device, Kept, Named}
 use Rattle.bac_asked.specs.declared.wanted.Wanted.{Wanted}
@@ -61,10 +62,6 @@ module _ {S P : Type 0} (rules : SocketRules S P) where
   pub all_end_so : {T : Type 0} (I J A B : Type 0) (after : S) (r : Result T NotDone) → (I → J) → (A → B) → IfErr r (EndsRun rules I A after) → IfErr r (EndsRun rules J B after)
   all_end_so I J A B after (Ok v) f h it = tt
   all_end_so I J A B after (Err e) f h it = ends_so I J A B after e f h it
-
--- an error is this one
-pub because : {T E : Type 0} (r : Result T E) (e : E) (P : E → Type 0) → r ≡ Err e → P e → IfErr r P
-because r e P is p = subst (λ x. IfErr x P) (sym is) p
 
 same_words : (given : Given) (a b : Source) → string_bytes a.address ≡ string_bytes b.address → a.dnet ≡ b.dnet → string_bytes a.dadr ≡ string_bytes b.dadr
     → a.instance ≡ b.instance → words_at given a ≡ words_at given b

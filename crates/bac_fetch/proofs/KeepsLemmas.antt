@@ -1,5 +1,5 @@
 -- What is kept of logs, one after the other.
-use Rattle.std.proofs.Common.{◌≡◌, ◌-◌, ℕ, max, Bool, true, false, List, [], ◌∷◌, ◌++◌, length, Option, None, Some, Result, Ok, Err, IfOk, refl, sym, ap, subst, ◌∙◌, append_assoc, append-nil, length-append, arith}
+use Rattle.std.proofs.Common.{◌≡◌, ◌-◌, ℕ, max, Bool, true, false, List, [], ◌∷◌, ◌++◌, length, Option, None, Some, Result, Ok, Err, refl, sym, ap, subst, ◌∙◌, append_assoc, append-nil, length-append, arith}
 use Rattle.sqlite.specs.Effect.{Database}
 use Rattle.bac_wire.specs.Primitive.{Id}
 use Rattle.bac_archive.specs.Schema.{archive_schema}
@@ -9,7 +9,8 @@ use Rattle.bac_walk.specs.Outcomes.{why_of}
 use Rattle.bac_walk.specs.declared.outcome.Why.{Why}
 use Rattle.bac_archive.specs.declared.epochs.Beginning.{Beginning}
 use Rattle.bac_asked.specs.declared.end.End.{End}
-use Rattle.bac_fetch.specs.declared.starting.Start.{Start}
+use Rattle.bac_begin.proofs.Ways.{over}
+use Rattle.bac_begin.specs.declared.starting.Start.{Start}
 use Rattle.bac_asked.specs.declared.wanted.Wanted.{Wanted}
 use Rattle.bac_apdu.specs.Npdu.{Place}
 use Rattle.bac_link.specs.Path.{Path, towards}
@@ -25,22 +26,13 @@ use Rattle.bac_fetch.specs.Entries.{Admits, AdmitsRow, Renews, is_due}
 use Rattle.bac_fetch.specs.declared.entry.Entry.{Entry}
 use Rattle.bac_fetch.specs.declared.entry.Recorded.{Recorded}
 use Rattle.bac_fetch.specs.declared.entry.Recorded.TheVariants.{So, OldWord, Otherwise, Not}
-use Rattle.bac_fetch.specs.Whose.{hindrance, is_silent}
-use Rattle.bac_fetch.specs.declared.whose.Heard.{Heard}
+use Rattle.bac_questions.specs.Whose.{hindrance, is_silent}
+use Rattle.bac_questions.specs.declared.whose.Heard.{Heard}
 use Rattle.bac_asked.specs.declared.end.Ending.{Ending}
 use Rattle.bac_asked.specs.declared.end.Ending.TheVariants.{NotAsked}
-use Rattle.bac_fetch.specs.Starts.{IsBegun}
+use Rattle.bac_begin.specs.Starts.{IsBegun}
 use Rattle.bac_asked.specs.Status.{end_status}
-use Rattle.bac_fetch.proofs.SilentLemmas.{either_holds}
-
--- what holds of an Ok twice
-pub both_ok : {T E : Type 0} (r : Result T E) (P Q R : T → Type 0) → ((x : T) → P x → Q x → R x) → IfOk r P → IfOk r Q → IfOk r R
-both_ok (Ok x) P Q R f p q = f x p q
-both_ok (Err e) P Q R f p q = tt
-
--- what holds of one route and number of retries holds of the same
-pub over : (P : Path → ℕ → Type 0) (route way : Option Place) (retries tries : ℕ) → route ≡ way → retries ≡ tries → P (towards route) retries → P (towards way) tries
-over P route way retries tries r n it = subst (λ m. P (towards way) m) n (subst (λ (q : Option Place). P (towards q) retries) r it)
+use Rattle.bac_questions.proofs.SilentLemmas.{either_holds}
 
 -- what is kept of a log whose beginning changed nothing, over a link
 pub keeps_begun : {L : Type 0} (asks : L → List ℕ → Result (List ℕ) Loss → L → Type 0) (way route : Option Place) (tries retries : ℕ) (link mid left : L)

@@ -1,15 +1,9 @@
-pub mod SilentLemmas
-pub mod CountLemmas
-pub mod StandLemmas
 pub mod SameLemmas
 pub mod StaysLemmas
 pub mod EndsLemmas
 pub mod KeepsLemmas
-pub mod DiscoveredLemmas
-pub mod WhoseLemmas
 pub mod MovesLemmas
 pub mod QuietLemmas
 pub mod FaultsLemmas
 pub mod CausesLemmas
-pub mod UnfoundLemmas
 pub mod TakenLemmas

@@ -12,11 +12,11 @@ use Rattle.bac_asked.specs.declared.wanted.Wanted.{Wanted}
 use Rattle.bac_ports.specs.Sockets.{SocketRules}
 use Rattle.bac_fetch.specs.Moves.{AreMoved, AsksIf, MovesUnless, Settles, SettlesBy, SettlesFirst, SettlesUnless, is_placed, moved_columns, moved_of, stands}
 use Rattle.bac_fetch.specs.Stays.{HasAllOf}
-use Rattle.bac_fetch.specs.Whose.{is_told}
-use Rattle.bac_fetch.specs.declared.said.Identity.{Identity}
-use Rattle.bac_fetch.specs.declared.said.Identity.TheVariants.{Told, Untold, Lost}
-use Rattle.bac_fetch.specs.declared.whose.Heard.{Heard}
-use Rattle.bac_fetch.proofs.SilentLemmas.{either_holds}
+use Rattle.bac_questions.specs.Whose.{is_told}
+use Rattle.bac_questions.specs.declared.said.Identity.{Identity}
+use Rattle.bac_questions.specs.declared.said.Identity.TheVariants.{Told, Untold, Lost}
+use Rattle.bac_questions.specs.declared.whose.Heard.{Heard}
+use Rattle.bac_questions.proofs.SilentLemmas.{either_holds}
 use Rattle.bac_fetch.proofs.StaysLemmas.{all_itself, changes_all}
 
 -- an archive is one still, and has all that another had

@@ -1,5 +1,5 @@
 -- What a run keeps leaves the logs as they are.
-use Rattle.std.proofs.Common.{◌≡◌, ◌-◌, inl, inr, ℕ, ◌⊎◌, Bool, true, false, List, Option, None, Some, Result, Ok, Err, ap, refl, subst, sym, ◌∙◌, arith}
+use Rattle.std.proofs.Common.{◌≡◌, ◌-◌, inl, inr, ℕ, Bool, true, false, List, Option, None, Some, Result, Ok, Err, refl, subst, sym, ◌∙◌, arith}
 use Rattle.std.specs.List.{Contains}
 use Rattle.std.proofs.lemmas.List.Elements.{Contains-append_left}
 use Rattle.std.proofs.lemmas.List.Sorted.{Contains-permutation}
@@ -20,7 +20,7 @@ use Rattle.bac_walk.specs.declared.outcome.Why.{Why}
 use Rattle.bac_asked.specs.declared.end.End.{End}
 use Rattle.bac_fetch.specs.Keeps.{KeepsBegun, KeepsOn, Marks, is_idle}
 use Rattle.bac_fetch.specs.Stays.{HasSameLogs}
-use Rattle.bac_fetch.specs.declared.starting.Start.{Start}
+use Rattle.bac_begin.specs.declared.starting.Start.{Start}
 
 -- what a call may leave in one sense it leaves in a wider one
 pub survives_as : (old new : State) (P Q : Trees → Type 0) → (HasCleanDisk new → (db : Trees) → P db → Q db) → Survives old new P → Survives old new Q

@@ -1,5 +1,5 @@
 -- A run takes nothing away.
-use Rattle.std.proofs.Common.{◌≡◌, ◌-◌, inl, inr, ℕ, pos, ◌⊎◌, Bool, true, false, MatchBool, List, [], ◌∷◌, Option, None, Some, Result, Ok, Err, ap, refl, subst, sym, ◌∙◌, arith}
+use Rattle.std.proofs.Common.{◌≡◌, ◌-◌, inl, inr, ℕ, pos, true, MatchBool, List, [], ◌∷◌, Option, None, Some, Result, Ok, Err, ap, refl, subst, sym, ◌∙◌, arith}
 use Rattle.std.specs.List.{Contains}
 use Rattle.std.proofs.lemmas.List.Elements.{Contains-append_left}
 use Rattle.std.proofs.lemmas.List.Sorted.{Contains-permutation}
@@ -9,36 +9,32 @@ use Rattle.sqlite_trees.specs.Tree.{Trees, rowid}
 use Rattle.sqlite.specs.Effect.{Database}
 use Rattle.sqlite.specs.State.{State, HasCleanDisk, IsUnchanged, Survives}
 use Rattle.sqlite.proofs.StateLemmas.{survives_then}
-use Rattle.bac_archive.specs.Rows.{kept, known, Adds}
+use Rattle.bac_archive.specs.Rows.{kept, known}
 use Rattle.bac_archive.specs.Schema.{archive_schema}
-use Rattle.bac_archive.specs.Beginnings.{AddsBeginnings}
-use Rattle.bac_archive.specs.Standing.{HasNewBeginning}
 use Rattle.bac_archive.specs.declared.epochs.Beginning.{Beginning}
 use Rattle.bac_link.specs.Path.{Path}
 use Rattle.bac_link.specs.declared.link.Lost.{Lost as Loss}
-use Rattle.bac_walk.specs.Outcomes.{why_of}
-use Rattle.bac_walk.specs.declared.outcome.Why.{Why}
 use Rattle.bac_archive.specs.Changes.{ChangesLogs, HasChangedLogs, IsStill, KeepsLogs}
 use Rattle.bac_archive.proofs.ChangeLemmas.{changes_keep}
 use Rattle.bac_archive.specs.Logs.{AddsLog, HasNewLog}
 use Rattle.bac_archive.specs.declared.trend_logs.Log.{Log}
 use Rattle.bac_archive.specs.declared.trend_logs.Told.{Told}
 use Rattle.bac_ports.specs.Sockets.{SocketRules}
-use Rattle.bac_fetch.specs.Keeps.{KeepsBegun, KeepsEntered, KeepsOn, KeepsHeard, KeepsNext, KeepsSource, KeepsUnless, LeavesWord, Marks, PassesOver}
+use Rattle.bac_fetch.specs.Keeps.{KeepsBegun, KeepsEntered, KeepsHeard, KeepsNext, KeepsSource, KeepsUnless, LeavesWord, Marks, PassesOver}
 use Rattle.bac_fetch.specs.Entries.{Admits, AdmitsRow, Renews, is_due}
 use Rattle.bac_fetch.specs.declared.entry.Entry.{Entry}
 use Rattle.bac_fetch.specs.declared.entry.Recorded.{Recorded}
 use Rattle.bac_fetch.specs.declared.entry.Recorded.TheVariants.{So, OldWord, Otherwise, Not}
-use Rattle.bac_fetch.specs.Whose.{hindrance, is_silent}
-use Rattle.bac_fetch.specs.declared.whose.Heard.{Heard}
+use Rattle.bac_questions.specs.Whose.{hindrance, is_silent}
+use Rattle.bac_questions.specs.declared.whose.Heard.{Heard}
 use Rattle.bac_asked.specs.declared.end.Ending.{Ending}
 use Rattle.bac_asked.specs.declared.end.Ending.TheVariants.{NotAsked}
 use Rattle.bac_fetch.specs.Stays.{HasAllOf, HasRows, HasSameLogs}
 use Rattle.bac_fetch.proofs.SameLemmas.{begun_same, marks_same, survives_as}
 use Rattle.bac_asked.specs.declared.end.End.{End}
-use Rattle.bac_fetch.specs.declared.starting.Start.{Start}
+use Rattle.bac_begin.specs.declared.starting.Start.{Start}
 use Rattle.bac_asked.specs.declared.wanted.Wanted.{Wanted}
-use Rattle.bac_fetch.proofs.SilentLemmas.{either_holds}
+use Rattle.bac_questions.proofs.SilentLemmas.{either_holds}
 
 -- a row is still there under its id
 still : (row : Values) (id : ℕ) → rowid row ≡ Int (pos id) → IsStill row row id
@@ -100,9 +96,6 @@ changed_stays old new logs has it = survives_as old new _ (HasAllOf old.now.tree
 -- nor does what is put on record behind a run
 pub marks_stay : (begins_at : Option Beginning) (end : End) (old new : Database) → Marks begins_at end old new → HasAllOf old.trees new.trees
 marks_stay begins_at end old new it = all_of_same old.trees new.trees (marks_same begins_at end old new it)
-
-pub quiet_then : (old mid new : State) → Survives old mid (λ _. ⊥) → Survives mid new (λ _. ⊥) → Survives old new (λ _. ⊥)
-quiet_then old mid new one two = survives_then old mid new (λ _. ⊥) (λ _. ⊥) (λ _. ⊥) (λ _ _ none. none) (λ _ _ none. none) one two
 
 -- two calls that commit nothing
 pub none_then : (old mid new : State) → (HasCleanDisk mid → IsUnchanged old mid) → old.now.schema ≡ archive_schema

@@ -1,5 +1,5 @@
 -- What a loop over a list has in hand is of the list.
-use Rattle.std.proofs.Common.{◌≡◌, ◌∙◌, List, [], ◌∷◌, ◌++◌, ap, map, Option, Some, subst, sym}
+use Rattle.std.proofs.Common.{◌≡◌, ◌∙◌, List, [], ◌∷◌, ◌++◌, ap, map, Some, subst, sym}
 use Rattle.std.proofs.IntoIterSteps.{taken, takes}
 use Rattle.std.proofs.iter.Yields.{gives_left}
 use Rattle.std.proofs.lemmas.List.{map-id}

@@ -8,7 +8,7 @@ use Rattle.bac_archive.specs.Logs.{AreLogs}
 use Rattle.bac_archive.specs.declared.trend_logs.Log.{Log}
 use Rattle.bac_archive.specs.declared.trend_logs.Source.{Source}
 use Rattle.bac_asked.specs.AsLog.{Given}
-use Rattle.bac_asked.specs.Faults.{IsOfDatabase, RefusesLine, WantsMemory}
+use Rattle.bac_asked.specs.Faults.{FailsOnRows, WantsMemory}
 use Rattle.bac_asked.specs.Wanted.{AsksItsSource, HasNoAddress}
 use Rattle.bac_asked.specs.declared.end.End.{End}
 use Rattle.bac_asked.specs.declared.end.NotDone.{NotDone}
@@ -16,27 +16,23 @@ use Rattle.bac_asked.specs.declared.end.NotDone.TheVariants.{Asking, File}
 use Rattle.bac_asked.specs.declared.fault.Fault.TheVariants.{BadValue}
 use Rattle.bac_asked.specs.declared.fault.FileFault.TheVariants.{Address, Full}
 use Rattle.bac_asked.specs.declared.wanted.Wanted.{Wanted}
-use Rattle.bac_fetch.specs.Discovered.{AreFound}
-use Rattle.bac_fetch.specs.Faults.{EndsChosen, HasNone, IsNoInstance, IsUnopened, LacksAddress}
+use Rattle.bac_fetch.specs.Chosen.{AreFound}
+use Rattle.bac_fetch.specs.Faults.{EndsChosen, HasNone, IsNoInstance, LacksAddress}
+use Rattle.bac_questions.specs.Faults.{IsUnopened}
 use Rattle.bac_fetch.specs.Keeps.{KeepsAll}
 use Rattle.bac_fetch.specs.Moves.{IsElsewhere, Settles}
-use Rattle.bac_fetch.specs.Said.{Identifies}
-use Rattle.bac_fetch.specs.Silent.{IsAmong, is_same_device}
-use Rattle.bac_fetch.specs.Whose.{IsIdentified}
+use Rattle.bac_questions.specs.Said.{Identifies}
+use Rattle.bac_questions.specs.Silent.{IsAmong, is_same_device}
+use Rattle.bac_questions.specs.Whose.{IsIdentified}
 use Rattle.bac_fetch.specs.declared.keeping.Chosen.{Chosen}
-use Rattle.bac_fetch.specs.declared.said.Identity.TheVariants.{Told}
-use Rattle.bac_fetch.specs.declared.said.Said.{Said}
-use Rattle.bac_fetch.specs.declared.whose.Heard.{Heard}
+use Rattle.bac_questions.specs.declared.said.Identity.TheVariants.{Told}
+use Rattle.bac_questions.specs.declared.said.Said.{Said}
+use Rattle.bac_questions.specs.declared.whose.Heard.{Heard}
 use Rattle.bac_ports.specs.Sockets.{SocketRules}
 use Rattle.bac_words.specs.declared.job.Asked.{Asked}
 use Rattle.bac_words.specs.declared.word.Word.TheVariants.{Instance}
 
 -- ---- one log
-
--- Rows of an archive aren't read or written, or a line isn't: memory is wanting; the output refused the line; or the
--- database answers by an error. No fault of the file itself is among them.
-abbrev pub FailsOnRows : NotDone → Type 0
-FailsOnRows fault = WantsMemory fault ⊎ (RefusesLine fault ⊎ IsOfDatabase fault)
 
 -- a log has no row, and no id is left for it
 abbrev pub LacksId : Option Log → Trees → NotDone → Type 0

@@ -1,5 +1,5 @@
 -- Which logs are fetched.
-use Rattle.std.specs.Prelude.{◌≡◌, List, map, not}
+use Rattle.std.specs.Prelude.{◌≡◌, ◌≢◌, List, [], map, not}
 use Rattle.std.specs.List.{All, filter}
 use Rattle.sqlite_trees.specs.Tree.{Trees}
 use Rattle.bac_archive.specs.Logs.{AreLogs}
@@ -8,6 +8,8 @@ use Rattle.bac_asked.specs.Wanted.{AsksItsSource, IsAskedAs}
 use Rattle.bac_asked.specs.declared.wanted.Wanted.{Wanted}
 use Rattle.bac_fetch.specs.declared.keeping.Chosen.{Chosen}
 use Rattle.bac_fetch.specs.declared.keeping.Chosen.TheVariants.{Kept, Device, Named}
+use Rattle.bac_ports.specs.Sockets.{SocketRules}
+use Rattle.bac_questions.specs.Discovered.{FindsOver}
 
 -- these logs but those that are stopped
 abbrev pub not_stopped : List Log → List Log
@@ -30,3 +32,10 @@ abbrev pub AreChosen : Chosen → Trees → List Wanted → Type 0
 AreChosen Kept trees all = AreKeptLogs trees all
 AreChosen (Device like) trees all = All (λ wanted. IsAskedAs like wanted.asking) all
 AreChosen (Named named) trees all = all ≡ named.items
+
+-- Which logs are fetched, and what was asked for that: of a file at least one, and of words those that they name, for
+-- which no socket is opened; those of a device as it told them.
+abbrev pub AreFound : {S P : Type 0} → SocketRules S P → Chosen → S → List Wanted → S → Type 0
+AreFound rules Kept before all after = (all ≢ []) × (after ≡ before)
+AreFound rules (Device like) before all after = FindsOver rules like before all after
+AreFound rules (Named named) before all after = (all ≡ named.items) × (after ≡ before)

@@ -1,49 +1,24 @@
 -- What ends a run over logs before each of them was told, and what can be seen of it.
-use Rattle.std.specs.Prelude.{◌≡◌, ◌⊎◌, ◌≤◌, ℕ, List, [], Err}
+use Rattle.std.specs.Prelude.{◌≡◌, ◌⊎◌, ◌≤◌, ℕ, List, []}
 use Rattle.std.specs.List.{Contains}
 use Rattle.sqlite_trees.specs.Tree.{Trees}
 use Rattle.bac_archive.specs.Logs.{AreLogs}
 use Rattle.bac_archive.specs.declared.trend_logs.Log.{Log}
 use Rattle.bac_asked.specs.AsLog.{Given}
-use Rattle.bac_asked.specs.Faults.{IsOfDatabase, RefusesLine, WantsMemory}
+use Rattle.bac_asked.specs.Faults.{EndsLog, IsOfDatabase, WantsMemory}
 use Rattle.bac_asked.specs.Wanted.{HasNoAddress}
 use Rattle.bac_asked.specs.declared.end.NotDone.{NotDone}
 use Rattle.bac_asked.specs.declared.end.NotDone.TheVariants.{Asking, File}
-use Rattle.bac_asked.specs.declared.fault.Fault.TheVariants.{BadValue, Exchange, Unopened}
-use Rattle.bac_asked.specs.declared.fault.FileFault.TheVariants.{Address, Foreign, Full, NoLogs}
-use Rattle.bac_asked.specs.declared.log_words.Asking.{Asking as AskedFor}
+use Rattle.bac_asked.specs.declared.fault.Fault.TheVariants.{BadValue}
+use Rattle.bac_asked.specs.declared.fault.FileFault.TheVariants.{Address, NoLogs}
 use Rattle.bac_asked.specs.declared.wanted.Wanted.{Wanted}
-use Rattle.bac_fetch.specs.Chosen.{not_stopped}
-use Rattle.bac_fetch.specs.Discovered.{AreFound}
-use Rattle.bac_fetch.specs.Unfound.{FailsOver}
+use Rattle.bac_fetch.specs.Chosen.{AreFound, not_stopped}
 use Rattle.bac_fetch.specs.declared.keeping.Chosen.{Chosen}
 use Rattle.bac_fetch.specs.declared.keeping.Chosen.TheVariants.{Device, Kept, Named}
-use Rattle.bac_link.specs.declared.exchanges.ExchangeFault.{ExchangeFault}
-use Rattle.bac_ports.specs.Sockets.{SocketRules, own_address}
-use Rattle.bac_ports.specs.declared.port.OpenFault.{OpenFault}
+use Rattle.bac_ports.specs.Sockets.{SocketRules}
+use Rattle.bac_questions.specs.Faults.{EndsFinding, IsUnopened}
 use Rattle.bac_words.specs.declared.job.Asked.{Asked}
 use Rattle.bac_words.specs.declared.word.Word.TheVariants.{Instance}
-
--- A log's rows aren't read or written: memory is wanting; the output refused a line; the file isn't an archive, or has
--- no id left; or its database answers by an error.
-abbrev pub EndsLog : NotDone → Type 0
-EndsLog fault = WantsMemory fault
-    ⊎ (RefusesLine fault ⊎ ((fault ≡ File Foreign) ⊎ ((fault ≡ File Full) ⊎ IsOfDatabase fault)))
-
--- a socket was asked for as a device is asked, and none was opened
-abbrev pub IsUnopened : {S P : Type 0} → SocketRules S P → Asked → S → S → NotDone → Type 0
-IsUnopened rules asked before after fault = (why : OpenFault) × (fault ≡ Asking (Unopened why))
-    × rules.opens before (own_address asked.local) asked.timeout (Err why) after
-
--- a device isn't asked who it is: memory is wanting, or no socket was opened for it
-abbrev pub EndsAsking : {S P : Type 0} → SocketRules S P → Asked → S → S → NotDone → Type 0
-EndsAsking rules asked before after fault = WantsMemory fault ⊎ IsUnopened rules asked before after fault
-
--- the logs of a device aren't found: it isn't asked, or doesn't tell its list
-abbrev pub EndsFinding : {S P : Type 0} → SocketRules S P → AskedFor → S → S → NotDone → Type 0
-EndsFinding rules like before after fault = EndsAsking rules like.asked before after fault
-    ⊎ ((why : ExchangeFault) × (fault ≡ Asking (Exchange like.asked.address why))
-    × FailsOver rules like before why after)
 
 -- the last thing that was done to the sockets is an open that failed
 abbrev pub LastFailed : {S P : Type 0} → SocketRules S P → S → NotDone → Type 0

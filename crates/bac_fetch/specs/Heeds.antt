@@ -1,5 +1,5 @@
 -- What a device says of more records of a log, and whether it holds to it (MORE_ITEMS, clause 15.8.1.2).
-use Rattle.std.specs.Prelude.{◌≡◌, ℕ, ◌==◌, ◌&&◌, not, if◌then◌else◌, Bool, true, false, List, length}
+use Rattle.std.specs.Prelude.{◌≡◌, ℕ, ◌==◌, ◌&&◌, not, if◌then◌else◌, Bool, false, List, length}
 use Rattle.std.specs.Prelude.{Option, None, Some, option_map, Result, Ok, Err}
 use Rattle.bac_apdu.specs.Apdu.{Apdu, Confirmed}
 use Rattle.bac_apdu.specs.Service.Choice.{read_range_service}

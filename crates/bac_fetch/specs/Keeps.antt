@@ -31,7 +31,7 @@ use Rattle.bac_asked.specs.declared.began.Began.{Began}
 use Rattle.bac_asked.specs.declared.began.Began.TheVariants.{GoesOn}
 use Rattle.bac_asked.specs.declared.end.Ending.{Ending}
 use Rattle.bac_asked.specs.declared.end.Ending.TheVariants.{NotAsked, Walk}
-use Rattle.bac_fetch.specs.declared.starting.Start.{Start}
+use Rattle.bac_begin.specs.declared.starting.Start.{Start}
 use Rattle.bac_asked.specs.declared.log_words.Asking.{Asking}
 use Rattle.bac_asked.specs.declared.wanted.Wanted.{Wanted}
 use Rattle.bac_ports.specs.Sockets.{SocketRules, UsesSocket, link_over, own_address, socket_asks}
@@ -42,15 +42,15 @@ use Rattle.bac_fetch.specs.declared.heeding.Heeding.{Heeding}
 use Rattle.bac_asked.specs.Lines.{summary_line}
 use Rattle.bac_fetch.specs.Entries.{Admits, IsEntry, Renews}
 use Rattle.bac_fetch.specs.Moves.{Settles}
-use Rattle.bac_fetch.specs.Silent.{IsAmong}
+use Rattle.bac_questions.specs.Silent.{IsAmong}
 use Rattle.bac_fetch.specs.Stays.{HasRows}
-use Rattle.bac_fetch.specs.Whose.{IsIdentified, IsOnRecord, heard_with, hindrance, is_silent}
+use Rattle.bac_questions.specs.Whose.{IsIdentified, IsOnRecord, heard_with, hindrance, is_silent}
 use Rattle.bac_fetch.specs.declared.entry.Entry.{Entry}
-use Rattle.bac_fetch.specs.declared.said.Said.{Said}
-use Rattle.bac_fetch.specs.declared.whose.Heard.{Heard}
-use Rattle.bac_fetch.specs.Stands.{IsStand, kept_last}
-use Rattle.bac_fetch.specs.declared.stands.Stand.{Stand}
-use Rattle.bac_fetch.specs.Starts.{IsBegun}
+use Rattle.bac_questions.specs.declared.said.Said.{Said}
+use Rattle.bac_questions.specs.declared.whose.Heard.{Heard}
+use Rattle.bac_begin.specs.Stands.{IsStand, kept_last}
+use Rattle.bac_begin.specs.declared.stands.Stand.{Stand}
+use Rattle.bac_begin.specs.Starts.{IsBegun}
 use Rattle.bac_asked.specs.Status.{end_status}
 
 -- Behind a first step, the rows of what a run brought come to those before, from a place's log and epoch on, and in the

@@ -1,17 +1,9 @@
 pub mod Chosen
-pub mod Stands
-pub mod Hands
-pub mod Starts
 pub mod Fetched
 pub mod Heeds
-pub mod Discovered
-pub mod Silent
-pub mod Said
-pub mod Whose
 pub mod Entries
 pub mod Moves
 pub mod Stays
-pub mod Unfound
 pub mod Faults
 pub mod Keeps
 pub mod Causes

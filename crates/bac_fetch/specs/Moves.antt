@@ -1,5 +1,5 @@
 -- A device that has moved: it tells at one place the instance that is on record of logs at another.
-use Rattle.std.specs.Prelude.{◌≡◌, ◌==◌, ◌&&◌, ℕ, pos, Bool, true, false, MatchBool, if◌then◌else◌, List, [], ◌∷◌, ◌++◌}
+use Rattle.std.specs.Prelude.{◌≡◌, ◌&&◌, ℕ, pos, Bool, true, false, MatchBool, if◌then◌else◌, List, [], ◌∷◌, ◌++◌}
 use Rattle.std.specs.Prelude.{map, Option, None, Some}
 use Rattle.std.specs.List.{Contains, filter, list_any}
 use Rattle.std.specs.String.{string_bytes}
@@ -14,13 +14,13 @@ use Rattle.bac_archive.specs.declared.trend_logs.Log.{Log}
 use Rattle.bac_archive.specs.declared.trend_logs.Source.{Source}
 use Rattle.bac_asked.specs.Wanted.{AsksItsSource}
 use Rattle.bac_asked.specs.declared.wanted.Wanted.{Wanted}
-use Rattle.bac_fetch.specs.Said.{Identifies}
-use Rattle.bac_fetch.specs.Silent.{is_same_device}
-use Rattle.bac_fetch.specs.Whose.{is_elsewhere, is_told, of_device, stands_elsewhere}
-use Rattle.bac_fetch.specs.declared.said.Identity.{Identity}
-use Rattle.bac_fetch.specs.declared.said.Identity.TheVariants.{Told}
-use Rattle.bac_fetch.specs.declared.said.Said.{Said}
-use Rattle.bac_fetch.specs.declared.whose.Heard.{Heard}
+use Rattle.bac_questions.specs.Said.{Identifies}
+use Rattle.bac_questions.specs.Silent.{is_same_device}
+use Rattle.bac_questions.specs.Whose.{is_elsewhere, is_told, of_device, stands_elsewhere}
+use Rattle.bac_questions.specs.declared.said.Identity.{Identity}
+use Rattle.bac_questions.specs.declared.said.Identity.TheVariants.{Told}
+use Rattle.bac_questions.specs.declared.said.Said.{Said}
+use Rattle.bac_questions.specs.declared.whose.Heard.{Heard}
 
 -- a log of the device of this one is on record
 abbrev pub is_placed : List Log → Source → Bool

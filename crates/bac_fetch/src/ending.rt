@@ -4,8 +4,8 @@ ghost use Rattle.std.specs.Prelude.{◌≡◌, ◌⊎◌, ◌+◌, ◌≤◌, �
 ghost use Rattle.std.specs.Prelude.{OnOk, Ok, Err};
 ghost use Rattle.sqlite.specs.State.{HasCleanDisk, Survives};
 ghost use Rattle.sqlite.specs.Held.{state};
-ghost use Rattle.bac_fetch.specs.Causes.{FailsOnRows};
-ghost use Rattle.bac_fetch.specs.Faults.{EndsLog};
+ghost use Rattle.bac_asked.specs.Faults.{FailsOnRows};
+ghost use Rattle.bac_asked.specs.Faults.{EndsLog};
 ghost use Rattle.bac_archive.specs.Schema.{archive_schema};
 ghost use Rattle.bac_fetch.specs.Fetched.{HasFailed, IsEndingOf};
 ghost use Rattle.bac_fetch.specs.Keeps.{Marks, is_idle};

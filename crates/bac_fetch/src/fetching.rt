@@ -8,77 +8,37 @@ ghost use Rattle.bac_archive.specs.Rows.{IsAppended, stored};
 ghost use Rattle.bac_archive.specs.Schema.{archive_schema};
 ghost use Rattle.bac_link.specs.Path.{towards};
 ghost use Rattle.bac_ports.specs.Sockets.{link_over, own_address, socket_rules};
-ghost use Rattle.bac_fetch.specs.Causes.{EndsFetch, FailsOnRows};
-ghost use Rattle.bac_fetch.specs.Faults.{EndsLog, EndsRun, IsNoInstance, IsUnopened};
+ghost use Rattle.bac_fetch.specs.Causes.{EndsFetch};
+ghost use Rattle.bac_asked.specs.Faults.{FailsOnRows};
+ghost use Rattle.bac_fetch.specs.Faults.{EndsRun, IsNoInstance};
+ghost use Rattle.bac_asked.specs.Faults.{EndsLog};
+ghost use Rattle.bac_questions.specs.Faults.{IsUnopened};
 ghost use Rattle.bac_fetch.specs.Fetched.{ComesFrom};
 ghost use Rattle.bac_fetch.specs.Keeps.{KeepsBegun, KeepsEntered, KeepsFrom, KeepsLog};
 ghost use Rattle.bac_fetch.specs.Keeps.{KeepsOverLink, LeavesWord, Marks, trend_log};
 ghost use Rattle.bac_fetch.specs.Stays.{HasAllOf, HasSameLogs};
 ghost use Rattle.bac_asked.specs.declared.end.End.{End as EndOf};
-ghost use Rattle.bac_fetch.specs.Starts.{IsBegun};
+ghost use Rattle.bac_begin.specs.Starts.{IsBegun};
 
 use crate::count::Ahead;
 use crate::ending::{end_of, look_at, mark};
 use crate::entry::{Entry, admit, renew};
-use crate::hands::Hand;
 use crate::heeding::{Heeding, end_told};
-use crate::stands::stand_of;
-use crate::starting::{Start, start_at, start_new};
-use bac_apdu::Route;
 use bac_apdu::object_type::TREND_LOG;
 use bac_archive::is_archive;
 use bac_asked::{Asking, Began, End, Ending, Fault, FileFault, NotDone};
+use bac_begin::{Hand, Start, stand_of, start_at, start_new};
 use bac_keep::{
     Gathered, KeptStep, NotKept, Place, Progress, Word as DeviceWord, keep_gathered, keep_log,
 };
 use bac_link::{LogLink, Transactions};
-use bac_ports::{Sockets, UdpLink};
+use bac_ports::Sockets;
+use bac_questions::connect;
 use bac_walk::{Count as Many, Walk};
 use bac_wire::ObjectId;
-use bac_words::{Asked, Word};
+use bac_words::Word;
 use sqlite::{Alter, Connection};
 use std::alloc::Global;
-
-/// Any address of this machine, and any free port.
-const ANY: [u8; 6] = [0; 6];
-
-fn transactions_by(retries: u8, route: Option<Route>) -> Transactions
-    ensures retries { result.retries ≡ retries }
-    ensures route { result.route ≡ route }
-{
-    match route {
-        Some(route) => Transactions::through(retries, route),
-        None => Transactions::new(retries),
-    }
-}
-
-/// A link to the device that is asked, and transactions with it.
-pub(crate) fn connect<S: Sockets>(
-    sockets: &mut S,
-    asked: Asked,
-) -> Result<(UdpLink<S::Socket>, Transactions), NotDone>
-    // Over a socket that is opened as asked, and to the device that is asked.
-    ensures opened { IfOk result (λ made. S.opens sockets.old (own_address asked.local)
-        asked.timeout (Ok made.0.port) sockets.new) }
-    ensures link { IfOk result (λ made. made.0 ≡ link_over asked.address made.0.port) }
-    ensures retries { IfOk result (λ made. made.1.retries ≡ asked.retries) }
-    ensures route { IfOk result (λ made. made.1.route ≡ asked.route) }
-    ensures refused { IfErr result (IsUnopened
-        (socket_rules S.opens S.closes S.Socket.sends S.Socket.receives
-        S.Socket.receives_within) asked sockets.old sockets.new) }
-{
-    let Asked {
-        address,
-        local,
-        timeout,
-        retries,
-        route,
-    } = asked;
-    match sockets.open(local.unwrap_or(ANY), timeout) {
-        Ok(port) => Ok((UdpLink::new(port, address), transactions_by(retries, route))),
-        Err(why) => Err(NotDone::Asking(Fault::Unopened(why))),
-    }
-}
 
 /// Where a log goes on, by what the device tells and by its own word: where it stands, at the
 /// oldest record if nothing of it is on record, or in a new epoch; or why the device didn't say

@@ -8,29 +8,30 @@ ghost use Rattle.bac_archive.specs.Schema.{archive_schema};
 ghost use Rattle.bac_archive.specs.Logs.{AreLogs};
 ghost use Rattle.bac_ports.specs.Sockets.{socket_rules};
 ghost use Rattle.bac_asked.specs.Faults.{WantsMemory};
-ghost use Rattle.bac_fetch.specs.Causes.{EndsAll, EndsLogs, EndsRunOver, EndsSettled, FailsOnRows};
+ghost use Rattle.bac_fetch.specs.Causes.{EndsAll, EndsLogs, EndsRunOver, EndsSettled};
+ghost use Rattle.bac_asked.specs.Faults.{FailsOnRows};
 ghost use Rattle.bac_fetch.specs.Causes.{FailsToSettle};
-ghost use Rattle.bac_fetch.specs.Faults.{EndsChosen, EndsKeeping, EndsKept, EndsLog, EndsRun};
+ghost use Rattle.bac_fetch.specs.Faults.{EndsChosen, EndsKeeping, EndsKept, EndsRun};
+ghost use Rattle.bac_asked.specs.Faults.{EndsLog};
 ghost use Rattle.bac_fetch.specs.Faults.{HasNoInstance, HasNone, LacksAddress};
 ghost use Rattle.bac_fetch.specs.Keeps.{AreToldBy, KeepsAll, KeepsLogs};
 ghost use Rattle.bac_fetch.specs.Moves.{Settles};
 ghost use Rattle.bac_archive.specs.declared.trend_logs.Log.{Log as LogOf};
-ghost use Rattle.bac_fetch.specs.declared.whose.Heard.{Heard as HeardOf};
-ghost use Rattle.bac_fetch.specs.Discovered.{AreFound};
+ghost use Rattle.bac_questions.specs.declared.whose.Heard.{Heard as HeardOf};
+ghost use Rattle.bac_fetch.specs.Chosen.{AreFound};
 ghost use Rattle.bac_asked.specs.AsLog.{given_in};
 ghost use Rattle.bac_asked.specs.Wanted.{AsksItsSource, HasNoAddress};
 ghost use Rattle.bac_fetch.specs.Chosen.{AreChosen, AreKeptLogs, AskTheirSources, not_stopped};
 ghost use Rattle.bac_fetch.specs.Stays.{HasAllOf};
 ghost use Rattle.bac_asked.specs.declared.wanted.Wanted.{Wanted as WantedOf};
 
-use crate::discovering::discover;
 use crate::moving::settle;
 use crate::single::keep_next;
-use crate::whose::Heard;
 use bac_archive::{Log, logs};
 use bac_asked::{Asking, FileFault, NotDone, Options, Wanted, add_wanted, kept_log};
 use bac_heeding::Heeds;
 use bac_ports::Sockets;
+use bac_questions::{Heard, discover};
 use sqlite::{Alter, Connection};
 use std::alloc::Global;
 use std::io::Write;
@@ -261,8 +262,10 @@ fn settle_known<S: Sockets, A: Alter, E: Write>(
 /// Keeps what is new of each of these logs in an archive; answers the greatest of their statuses. A
 /// device is asked once what it says of itself; one that tells another instance than the one on
 /// record isn't asked for its logs, nor is one that gave no answer before. A device that tells at a
-/// new place the instance on record of logs at another one has moved, if nobody tells it there. If
-/// it counts, the errors have the number of a log's records while it is fetched: for a terminal.
+/// new place the instance on record of logs at another one has moved, if nobody tells it there. The
+/// errors have a line for such a device, for a log that began anew, and for one whose walk failed:
+/// what came in place of the answer, or what a refusal means. If it counts, they have the number of
+/// a log's records while it is fetched: for a terminal.
 pub fn keep_each<S: Heeds, A: Alter, O: Write, E: Write>(
     sockets: &mut S,
     conn: &mut Connection<A>,

@@ -13,22 +13,24 @@ ghost use Rattle.bac_asked.specs.Wanted.{AsksItsSource, HasNoAddress};
 ghost use Rattle.bac_asked.specs.AsLog.{given_in};
 ghost use Rattle.bac_asked.specs.Faults.{WantsMemory};
 ghost use Rattle.bac_fetch.specs.Causes.{EndsFirst, EndsMoving, EndsSettling, EndsThere};
-ghost use Rattle.bac_fetch.specs.Causes.{FailsOnRows};
-ghost use Rattle.bac_fetch.specs.Faults.{EndsLog, EndsRun, HaveNoAddress};
+ghost use Rattle.bac_asked.specs.Faults.{FailsOnRows};
+ghost use Rattle.bac_fetch.specs.Faults.{EndsRun, HaveNoAddress};
+ghost use Rattle.bac_asked.specs.Faults.{EndsLog};
 ghost use Rattle.bac_fetch.specs.Moves.{AreMoved, AsksThere, IsElsewhere, Settles, SettlesBy};
 ghost use Rattle.bac_fetch.specs.Moves.{SettlesFirst, SettlesUnless, is_placed, moved_columns};
 ghost use Rattle.bac_fetch.specs.Moves.{moved_of, stands};
-ghost use Rattle.bac_fetch.specs.Said.{Identifies};
-ghost use Rattle.bac_fetch.specs.Silent.{is_same_device};
+ghost use Rattle.bac_questions.specs.Said.{Identifies};
+ghost use Rattle.bac_questions.specs.Silent.{is_same_device};
 ghost use Rattle.bac_fetch.specs.Stays.{HasAllOf};
 
-use crate::said::{Identity, Said, copy_text, identify};
-use crate::silent::is_same_device;
-use crate::whose::{Heard, is_told, of_device, stands_elsewhere};
 use bac_archive::{Log, Source, Told, change_logs};
 use bac_asked::{Fault, FileFault, NotDone, Options, Wanted, kept_at, push_both, push_moved};
 use bac_ports::Sockets;
 use bac_print::write_text;
+use bac_questions::{
+    Heard, Identity, Said, copy_text, identify, is_same_device, is_told, of_device,
+    stands_elsewhere,
+};
 use sqlite::{Alter, Connection};
 use std::alloc::{AllocError, Global};
 use std::io::Write;

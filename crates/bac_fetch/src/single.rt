@@ -10,7 +10,7 @@ ghost use Rattle.bac_fetch.specs.Faults.{EndsRun, IsNoInstance};
 ghost use Rattle.bac_fetch.specs.Keeps.{IsRowOf, IsToldBy, KeepsHeard, KeepsLog, KeepsNext};
 ghost use Rattle.bac_fetch.specs.Keeps.{KeepsUnless, trend_log};
 ghost use Rattle.bac_fetch.specs.Entries.{IsEntry};
-ghost use Rattle.bac_fetch.specs.Whose.{heard_with};
+ghost use Rattle.bac_questions.specs.Whose.{heard_with};
 ghost use Rattle.bac_fetch.specs.declared.entry.Entry.{Entry as EntryOf};
 ghost use Rattle.bac_fetch.specs.Stays.{HasAllOf};
 
@@ -18,14 +18,14 @@ use crate::count::Count;
 use crate::entry::{Entry, enter};
 use crate::fetching::fetch;
 use crate::passing::{pass_by, pass_over, print_end};
-use crate::said::Said;
-use crate::silent::log_among;
 use crate::telling::{tell_anew, tell_why};
-use crate::whose::{Heard, add_heard, device_on_record, hindrance, is_silent, said_of};
 use bac_archive::Log;
 use bac_asked::{Asking, End, Ending, NotDone, Wanted, end_status};
 use bac_heeding::Heeds;
 use bac_ports::Sockets;
+use bac_questions::{
+    Heard, Said, add_heard, device_on_record, hindrance, is_silent, log_among, said_of,
+};
 use sqlite::{Alter, Connection};
 use std::alloc::Global;
 use std::io::Write;

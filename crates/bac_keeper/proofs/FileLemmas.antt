@@ -1,5 +1,5 @@
 -- What was done over a connection to the files of the words.
-use Rattle.std.proofs.Common.{◌≡◌, ◌⊎◌, inl, inr, ℕ, Bool, List, Option, None, Some, Result, Ok, Err, IfErr, IfOk, IfSome, OnOk, IsTrue, refl, subst, sym}
+use Rattle.std.proofs.Common.{◌≡◌, ◌⊎◌, inl, inr, ℕ, Bool, List, Option, None, Some, Result, Ok, Err, IfErr, IfOk, IfSome, IsSome, OnOk, IsTrue, refl, subst, sym}
 use Rattle.sqlite_disk.specs.declared.Disk as disk
 use Rattle.sqlite_disk.specs.declared.Files.{Files}
 use Rattle.sqlite_disk.specs.declared.start.Start as start
@@ -15,6 +15,7 @@ use Rattle.sqlite.specs.declared.error.Error.{Error}
 use Rattle.bac_asked.specs.Faults.{IsOfDatabase, of_error}
 use Rattle.bac_asked.specs.declared.end.NotDone.{NotDone}
 use Rattle.bac_asked.specs.declared.end.NotDone.TheVariants as done
+use Rattle.bac_asked.specs.declared.fault.Fault.{Fault}
 use Rattle.bac_asked.specs.declared.fault.FileFault.{FileFault}
 use Rattle.bac_fetch.specs.declared.keeping.Chosen.{Chosen}
 use Rattle.bac_files.proofs.FilesLemmas.{done_to, opened_settled}
@@ -23,8 +24,8 @@ use Rattle.bac_files.specs.declared.disk_files.DiskFiles.{DiskFiles}
 use Rattle.bac_keeper.proofs.ArchiveLemmas.{tells_weaker}
 use Rattle.bac_keeper.specs.Archives.{IsHeld, KeepsArchive, LosesNothing}
 use Rattle.bac_asked.specs.AsLog.{Given}
-use Rattle.bac_keeper.specs.Done.{Chooses, KeepsIn, RefusesKeep, TellsThese}
-use Rattle.bac_keeper.specs.Ends.{FailsFile, IsOfSomeFile, MayAsk, MayFail}
+use Rattle.bac_keeper.specs.Done.{Chooses, EndsOver, KeepsIn, RefusesKeep, TellsThese}
+use Rattle.bac_keeper.specs.Ends.{FailsFile, IsOfSomeFile, IsUnclosedBySome, MayAsk, MayFail}
 use Rattle.bac_keeper.specs.Shown.{PrintsArchive, PrintsIn, Shows}
 use Rattle.bac_kept.specs.declared.printing.Shown.{Shown}
 use Rattle.bac_ports.specs.Sockets.{SocketRules}
@@ -98,15 +99,11 @@ all_fail P Q (Err e) f p = fails_so P Q e f p
 pub fails_clean : (C : Type 0) (P Q : FileFault → Type 0) (r : Result ℕ NotDone) → C → IfErr r (MayFail (λ why. P why ⊎ Q why)) → IfErr r (MayFail (λ why. P why ⊎ (C × Q why)))
 fails_clean C P Q r clean failed = all_fail _ _ r (λ why it. elim it [ inl p ↦ inl p | inr q ↦ inr (clean, q) ]) failed
 
--- of files that weren't closed
-abbrev pub Unclosed : {F : Type 0} {s : start.Ghosts F} → DiskFiles F s → Type 0
-Unclosed files = (error : Error) × IsUnclosed error files
-
 -- what was done over a connection failed, or it couldn't be closed
 pub fails_file : {F : Type 0} {s : start.Ghosts F} {g : disk.Ghosts (FileOf s)} (image : Image) (opened last : Connected (FileStore (FileOf s) g)) (files : DiskFiles F s)
     → IsOpenedBy image opened → (path : List ℕ) (may : Bool) → IsNamed path may files → (refuses : Database → FileFault → Type 0) (did result : Result ℕ NotDone)
     → IfErr did (MayFail (λ why. ((error : Error) × (why ≡ of_error error)) ⊎ ((HasCleanDisk (file_state last) → HasCleanDisk (file_state opened)) × (IsHeld (file_state last) → refuses (file_state opened).now why))))
-    → IfErr result (λ fault. (did ≡ Err fault) ⊎ (IsOfSomeFile fault × Unclosed files)) → (IsClosedBy last files.closed ⊎ Unclosed files)
+    → IfErr result (λ fault. (did ≡ Err fault) ⊎ (IsOfSomeFile fault × IsUnclosedBySome files)) → (IsClosedBy last files.closed ⊎ IsUnclosedBySome files)
     → IfErr result (MayFail (FailsFile g image path may refuses files))
 fails_file image opened last files is path may named refuses did (Ok v) failed same shut = tt
 fails_file image opened last files is path may named refuses did (Err (done.Asking why)) failed same shut = tt
@@ -125,12 +122,39 @@ fails_file {s = s} {g = g} image opened last files is path may named refuses did
       ),
     )
 
+asking_not_file : (why : Fault) → IsOfSomeFile (done.Asking why) → ⊥
+asking_not_file why (file, is) = cc
+
+-- what was done over a connection ends so, by no fault of the file; and so it is of the closed files
+pub asks_file : {F : Type 0} {s : start.Ghosts F} {g : disk.Ghosts (FileOf s)} (image : Image) (opened last : Connected (FileStore (FileOf s) g)) (files : DiskFiles F s)
+    → IsOpenedBy image opened → (HasCleanDisk (file_state last) → HasCleanDisk (file_state opened)) → (ends : NotDone → Type 0) (over : Database → NotDone → Type 0) (did result : Result ℕ NotDone)
+    → IfErr did (MayAsk (λ fault. ends fault × (IsHeld (file_state last) → over (file_state opened).now fault)))
+    → IfErr result (λ fault. (did ≡ Err fault) ⊎ (IsOfSomeFile fault × IsUnclosedBySome files)) → (IsClosedBy last files.closed ⊎ IsUnclosedBySome files)
+    → IfErr result (MayAsk (λ fault. ends fault × (IsUnclosedBySome files ⊎ (IsSome files.closed × IfSome files.closed (IsDoneTo g image (λ found left. over found fault))))))
+asks_file image opened last files is clean ends over did (Ok v) asked same shut = tt
+asks_file image opened last files is clean ends over did (Err (done.File why)) asked same shut = tt
+asks_file image opened last files is clean ends over did (Err (done.Asking why)) asked (inr (file, unclosed)) shut = absurd (asking_not_file why file)
+asks_file image opened last files is clean ends over did (Err (done.Asking why)) asked (inl same) (inr unclosed) =
+    let it = subst (λ (r : Result ℕ NotDone). IfErr r (MayAsk (λ fault. ends fault × (IsHeld (file_state last) → over (file_state opened).now fault)))) same asked in
+    (it.0, inl unclosed)
+asks_file image opened last files is clean ends over did (Err (done.Asking why)) asked (inl same) (inl shut) =
+    let it = subst (λ (r : Result ℕ NotDone). IfErr r (MayAsk (λ fault. ends fault × (IsHeld (file_state last) → over (file_state opened).now fault)))) same asked in
+    (it.0, inr (shut.0, some_done image opened last files.closed is clean (λ found left. over found (done.Asking why)) (λ c open'. it.1 (c, open')) shut.1))
+
 -- what a run over an archive fails by, by options that are the same
 pub refused_by : {S P : Type 0} (rules : SocketRules S P) (which : Chosen) (before after : S) (found : Database) (last : State) (given by : Given) (r : Result ℕ NotDone) → given ≡ by
     → IfErr r (MayFail (λ why. ((error : Error) × (why ≡ of_error error)) ⊎ (IsHeld last → RefusesKeep rules which given before after found why)))
     → IfErr r (MayFail (λ why. ((error : Error) × (why ≡ of_error error)) ⊎ (IsHeld last → RefusesKeep rules which by before after found why)))
 refused_by rules which before after found last given by r is it =
     subst (λ (x : Given). IfErr r (MayFail (λ why. ((error : Error) × (why ≡ of_error error)) ⊎ (IsHeld last → RefusesKeep rules which x before after found why)))) is it
+
+-- so what it ends by, by options that are the same
+pub ended_by : {S P : Type 0} (rules : SocketRules S P) (which : Chosen) (before after : S) (found : Database) (last : State) (given by : Given) (ends : NotDone → Type 0) (r : Result ℕ NotDone)
+    → given ≡ by
+    → IfErr r (MayAsk (λ fault. ends fault × (IsHeld last → EndsOver rules which given before after found fault)))
+    → IfErr r (MayAsk (λ fault. ends fault × (IsHeld last → EndsOver rules which by before after found fault)))
+ended_by rules which before after found last given by ends r is it =
+    subst (λ (x : Given). IfErr r (MayAsk (λ fault. ends fault × (IsHeld last → EndsOver rules which x before after found fault)))) is it
 
 -- a fault of the file is no other
 pub file_asks : (P : NotDone → Type 0) (fault : NotDone) → IsOfSomeFile fault → MayAsk P fault

@@ -11,7 +11,7 @@ use Rattle.bac_asked.specs.Wanted.{AddNamed, AreNoOptions, AreUnnamed, AsksItsSo
 use Rattle.bac_asked.specs.declared.end.End.{End}
 use Rattle.bac_asked.specs.declared.wanted.Wanted.{Wanted}
 use Rattle.bac_fetch.specs.Causes.{EndsRunOver}
-use Rattle.bac_fetch.specs.Discovered.{AreFound}
+use Rattle.bac_fetch.specs.Chosen.{AreFound}
 use Rattle.bac_fetch.specs.Keeps.{AreToldBy}
 use Rattle.bac_fetch.specs.declared.keeping.Chosen.{Chosen}
 use Rattle.bac_fetch.specs.declared.keeping.Chosen.TheVariants as chosen
@@ -24,7 +24,7 @@ use Rattle.bac_fetch.specs.Faults.{EndsKeeping}
 use Rattle.bac_files.specs.Files.{FileOf, IsDoneTo}
 use Rattle.bac_files.specs.declared.disk_files.DiskFiles.{DiskFiles}
 use Rattle.bac_keeper.specs.Archives.{IsArchiveOf, KeepsArchive}
-use Rattle.bac_keeper.specs.Ends.{FailsFile, IsNoArchive}
+use Rattle.bac_keeper.specs.Ends.{FailsFile, IsNoArchive, IsUnclosedBySome}
 use Rattle.bac_ports.specs.Sockets.{SocketRules}
 use Rattle.bac_print.specs.Output.{Held}
 use Rattle.bac_words.specs.declared.job.Keep.{Keep}
@@ -77,11 +77,15 @@ KeepsIn rules g image keep sockets sockets_after before after closed status =
     (λ all between ends. IfSome closed (IsDoneTo g image (KeepsArchive rules chosen all between sockets_after ends)))
     status
 
--- Why the logs that were chosen aren't kept in the archive that two files held: it is none; or it is one, or becomes
--- one, and the run over it ends so.
+-- what two files held is an archive, or becomes one, and the run over the logs that were chosen ends so
+abbrev pub EndsOver : {S P : Type 0} → SocketRules S P → Chosen → Given → S → S → Database → NotDone → Type 0
+EndsOver rules which given before after found fault =
+    (archive : Database) × IsArchiveOf found archive × EndsRunOver rules given which before after archive fault
+
+-- Why the logs that were chosen aren't kept in the archive that two files held: it is none; or the run over it ends so.
 abbrev pub RefusesKeep : {S P : Type 0} → SocketRules S P → Chosen → Given → S → S → Database → FileFault → Type 0
 RefusesKeep rules which given before after found why = IsNoArchive found why
-    ⊎ ((archive : Database) × IsArchiveOf found archive × EndsRunOver rules given which before after archive (File why))
+    ⊎ EndsOver rules which given before after found (File why)
 
 -- so the file is no use to `keep`
 abbrev pub FailsToKeep : {S P F : Type 0} {s : start.Ghosts F} → SocketRules S P → disk.Ghosts (FileOf s) → Image → Keep
@@ -101,8 +105,19 @@ NamesNone alone (Some address) (instance ∷ more) given fault = AreUnnamed addr
 abbrev pub ChoosesNone : Keep → NotDone → Type 0
 ChoosesNone keep = NamesNone (AreNoOptions (given_of keep.options)) keep.address keep.instances (given_of keep.options)
 
--- Why `keep` isn't done, if the file isn't at fault: memory is wanting; the words choose no logs, and no socket is
--- opened; or those that they choose aren't kept.
-abbrev pub EndsKeep : {S P : Type 0} → SocketRules S P → Keep → S → S → NotDone → Type 0
-EndsKeep rules keep before after fault = WantsMemory fault ⊎ ((ChoosesNone keep fault × (after ≡ before))
-    ⊎ ((chosen : Chosen) × Chooses keep chosen × EndsKeeping rules chosen (Unit {0}) (Unit {0}) before after fault))
+module _ {S P F : Type 0} {s : start.Ghosts F} (rules : SocketRules S P) (g : disk.Ghosts (FileOf s)) (image : Image)
+  where
+    -- The logs that were chosen aren't kept, whatever the files hold; and of two closed files the run over what they held
+    -- ends so, unless they couldn't be closed.
+    abbrev pub EndsChosenKeep : Chosen → Given → S → S → DiskFiles F s → NotDone → Type 0
+    EndsChosenKeep which given before after files fault =
+        EndsKeeping rules which (Unit {0}) (Unit {0}) before after fault × (IsUnclosedBySome files
+        ⊎ (IsSome files.closed
+        × IfSome files.closed (IsDoneTo g image (λ found left. EndsOver rules which given before after found fault))))
+
+    -- Why `keep` isn't done, if the file isn't at fault: memory is wanting; the words choose no logs, and no socket is
+    -- opened; or those that they choose aren't kept.
+    abbrev pub EndsKeep : Keep → S → S → DiskFiles F s → NotDone → Type 0
+    EndsKeep keep before after files fault = WantsMemory fault ⊎ ((ChoosesNone keep fault × (after ≡ before))
+        ⊎ ((which : Chosen) × Chooses keep which
+        × EndsChosenKeep which (given_of keep.options) before after files fault))

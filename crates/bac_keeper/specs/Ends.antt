@@ -65,6 +65,10 @@ abbrev pub IsOfFile : (FileFault → Type 0) → ℕ → Type 0
 IsOfFile fails status = (why : FileFault) × (status ≡ file_status why) × fails why
 
 module _ {F : Type 0} {s : start.Ghosts F} where
+  -- a database that was opened couldn't be closed
+  abbrev pub IsUnclosedBySome : DiskFiles F s → Type 0
+  IsUnclosedBySome files = (error : Error) × IsUnclosed error files
+
   -- The file of this name, which might be made or not, isn't opened. It was asked for by its name, unless memory was
   -- wanting for that.
   abbrev pub IsNotOpened : List ℕ → Bool → DiskFiles F s → FileFault → Type 0
@@ -77,7 +81,7 @@ module _ {F : Type 0} {s : start.Ghosts F} where
   abbrev pub FailsFile : disk.Ghosts (FileOf s) → Image → List ℕ → Bool → (Database → FileFault → Type 0) →
       DiskFiles F s → FileFault → Type 0
   FailsFile g image path may refuses files why = IsNotOpened path may files why
-      ⊎ (IsNamed path may files × (((error : Error) × IsUnclosed error files)
+      ⊎ (IsNamed path may files × (IsUnclosedBySome files
       ⊎ (IsSome files.closed × (((error : Error) × (why ≡ of_error error))
       ⊎ IfSome files.closed (IsDoneTo g image (λ found left. refuses found why))))))
 

@@ -20,7 +20,7 @@ use Rattle.bac_asked.specs.declared.end.NotDone.TheVariants.{Asking}
 use Rattle.bac_asked.specs.declared.fault.Fault.TheVariants.{BadValue}
 use Rattle.bac_words.specs.declared.word.Word.TheVariants.{Stop}
 use Rattle.bac_asked.specs.declared.wanted.Wanted.{Wanted}
-use Rattle.bac_fetch.specs.Silent.{is_same_device, is_same_log}
+use Rattle.bac_questions.specs.Silent.{is_same_device, is_same_log}
 use Rattle.sqlite_disk.specs.declared.start.Start as start
 use Rattle.bac_asked.specs.declared.fault.FileFault.{FileFault}
 use Rattle.bac_asked.specs.declared.fault.FileFault.TheVariants as fault

@@ -14,8 +14,8 @@ ghost use Rattle.bac_fetch.specs.Keeps.{KeepsLogs};
 ghost use Rattle.bac_fetch.specs.Stays.{HasAllOf};
 ghost use Rattle.bac_files.specs.Files.{IsDoneTo, IsNamed, IsUnused};
 ghost use Rattle.bac_keeper.specs.Archives.{IsCleanArchive, IsHeld, KeepsArchive, LosesNothing};
-ghost use Rattle.bac_keeper.specs.Done.{Chooses, ChoosesNone, EndsKeep, FailsToKeep, KeepsIn};
-ghost use Rattle.bac_keeper.specs.Done.{RefusesKeep, TellsThese, given_of};
+ghost use Rattle.bac_keeper.specs.Done.{Chooses, ChoosesNone, EndsKeep, EndsOver, FailsToKeep};
+ghost use Rattle.bac_keeper.specs.Done.{KeepsIn, RefusesKeep, TellsThese, given_of};
 ghost use Rattle.bac_keeper.specs.Ends.{MayAsk, MayFail};
 ghost use Rattle.bac_ports.specs.Sockets.{socket_rules};
 
@@ -148,10 +148,14 @@ fn keep_in<S: Heeds, A: Alter, O: Write, E: Write>(
         (socket_rules S.opens S.closes S.Socket.sends S.Socket.receives
         S.Socket.receives_within) chosen (given_in options.now) sockets.old
         sockets.new (state A.Store conn.old).now why))) }
-    ensures ends { IfErr result (MayAsk (EndsKeeping
+    ensures ends { IfErr result (MayAsk (λ fault. EndsKeeping
         (socket_rules S.opens S.closes S.Socket.sends S.Socket.receives
         S.Socket.receives_within) chosen (Unit {0}) (Unit {0}) sockets.old
-        sockets.new)) }
+        sockets.new fault
+        × (IsHeld (state A.Store conn.new) → EndsOver
+        (socket_rules S.opens S.closes S.Socket.sends S.Socket.receives
+        S.Socket.receives_within) chosen (given_in options.now) sockets.old
+        sockets.new (state A.Store conn.old).now fault))) }
 {
     open_archive(conn)?;
     let status = keep_these(
@@ -196,7 +200,8 @@ pub(crate) fn keep<S: Heeds, F: Start, O: Write, E: Write>(
         (IsDoneTo ⟦<FileFrom<F> as Disk>⟧ (image_at F.Start) LosesNothing) }
     ensures ends { IfErr result (MayAsk (EndsKeep
         (socket_rules S.opens S.closes S.Socket.sends S.Socket.receives
-        S.Socket.receives_within) asked.now sockets.old sockets.new)) }
+        S.Socket.receives_within) ⟦<FileFrom<F> as Disk>⟧ (image_at F.Start) asked.now
+        sockets.old sockets.new files.new)) }
 {
     let options = options_of(&asked.options);
     let chosen = choose(alloc, asked, &options)?;

@@ -65,9 +65,11 @@ fn tell_done<E: Write>(
 }
 
 /// Does what the words of `bac keep` ask for, and answers the exit status. What was kept of each
-/// log, or with `--stop` which logs were stopped, goes to the output; a file that is no use is told
-/// on the errors, and any other fault is the caller's to tell. `counts` is for a terminal: the
-/// errors have a count of records while a log is fetched.
+/// log, or with `--stop` which logs were stopped, goes to the output. The errors have a second line
+/// for a log whose walk failed (what came in place of the answer, or what a refusal means), for one
+/// that began anew, and for a device that has moved; and why a file is no use. Any other fault is
+/// the caller's to tell. `counts` is for a terminal: the errors have a count of records while a log
+/// is fetched.
 pub fn run_keep<S: Heeds, F: Start, O: Write, E: Write>(
     sockets: &mut S,
     files: &mut DiskFiles<'_, F>,
@@ -110,7 +112,8 @@ pub fn run_keep<S: Heeds, F: Start, O: Write, E: Write>(
     // Or it ends so, and that is the caller's to tell.
     ensures ends { asked.now.stop ≡ false
         → IfErr result (λ why. EndsKeep (socket_rules S.opens S.closes S.Socket.sends
-        S.Socket.receives S.Socket.receives_within) asked.now sockets.old sockets.new
+        S.Socket.receives S.Socket.receives_within) ⟦<FileFrom<F> as Disk>⟧
+        (image_at F.Start) asked.now sockets.old sockets.new files.new
         (NotDone.Asking why)) }
     ensures stop_ends { asked.now.stop ≡ true
         → IfErr result (λ why. EndsStop asked.now (NotDone.Asking why)) }

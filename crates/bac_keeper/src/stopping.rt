@@ -14,7 +14,7 @@ ghost use Rattle.bac_archive.specs.declared.trend_logs.Log.{Log as LogOf};
 ghost use Rattle.bac_asked.specs.AsLog.{given_in};
 ghost use Rattle.bac_asked.specs.declared.wanted.Wanted.{Wanted as WantedOf};
 ghost use Rattle.bac_asked.specs.Faults.{IsOfDatabase, RefusesLine, WantsMemory, of_error};
-ghost use Rattle.bac_fetch.specs.Silent.{is_same_device, is_same_log};
+ghost use Rattle.bac_questions.specs.Silent.{is_same_device, is_same_log};
 ghost use Rattle.bac_files.specs.Files.{IsDoneTo, IsNamed, IsUnused};
 ghost use Rattle.bac_keeper.specs.Archives.{HasSameItems, IsHeld, KeepsItems, LosesNothing};
 ghost use Rattle.bac_keeper.specs.Done.{given_of};
@@ -29,9 +29,9 @@ use bac_archive::{Log, Source, change_logs, logs};
 use bac_asked::{
     Fault, FileFault, NotDone, Options, Wanted, named, named_all, of_error, push_stopped,
 };
-use bac_fetch::is_same_device;
 use bac_files::DiskFiles;
 use bac_print::write_text;
+use bac_questions::is_same_device;
 use bac_words::{Keep, Word};
 use sqlite::{Alter, Connection, Error, FileFrom, Start};
 use sqlite_disk::Disk;

@@ -74,13 +74,13 @@ pub keep_ran : {S P F : Type 0} {s : start.Ghosts F} (g : disk.Ghosts (FileOf s)
     ⊎ IsOfFile (FailsToStop g (image_at s) asked left) n))
     → (stops ≡ true → OnErr done (said ≡ before))
     → (stops ≡ true → sockets' ≡ sockets)
-    → (stops ≡ false → IfErr done (λ why. EndsKeep rules asked sockets sockets' (Asking why)))
+    → (stops ≡ false → IfErr done (λ why. EndsKeep rules g (image_at s) asked sockets sockets' left (Asking why)))
     → (stops ≡ true → IfErr done (λ why. EndsStop asked (Asking why)))
     → Ends (passes sockets') (ending_of done) said errors status
     → RunsKeepBy g rules passes stops asked (streams None out before sockets (tt {0})) status (streams None out' errors sockets' (tt {0})) left
 keep_ran {s = s} g rules passes asked sockets sockets' out out' before said errors left done status false kept stopped untold silent so still told =
     told_so (λ n. IsNamed asked.file (is_some asked.address) left × KeepsIn rules g (image_at s) asked sockets sockets' out out' left.closed n)
-    (FailsToKeep rules g (image_at s) asked sockets sockets' left) (EndsKeep rules asked sockets sockets') (passes sockets') said errors done status (kept refl) (so refl) told
+    (FailsToKeep rules g (image_at s) asked sockets sockets' left) (EndsKeep rules g (image_at s) asked sockets sockets' left) (passes sockets') said errors done status (kept refl) (so refl) told
 keep_ran {s = s} g rules passes asked sockets sockets' out out' before said errors left done status true kept stopped untold silent so still told = (
   told_alone (λ n. IsNamed asked.file false left × StopsIn g (image_at s) asked out out' left.closed n)
       (FailsToStop g (image_at s) asked left) (EndsStop asked) (passes sockets') before said errors done status (stopped refl) (untold refl) (still refl) told,

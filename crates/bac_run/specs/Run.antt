@@ -64,7 +64,7 @@ module _ {S C F : Type 0} {s : start.Ghosts F} (g : disk.Ghosts (FileOf s)) wher
       (IsNamed asked.file (is_some asked.address) left
       × KeepsIn rules g (image_at s) asked old.sockets new.sockets old.output new.output left.closed status)
       ⊎ (IsOfFile (FailsToKeep rules g (image_at s) asked old.sockets new.sockets left) status
-      ⊎ HasFaultStatus (EndsKeep rules asked old.sockets new.sockets) status)
+      ⊎ HasFaultStatus (EndsKeep rules g (image_at s) asked old.sockets new.sockets left) status)
   RunsKeepBy rules passes true asked old status new left =
       (((IsNamed asked.file false left × StopsIn g (image_at s) asked old.output new.output left.closed status)
       × Keeps old.errors new.errors)

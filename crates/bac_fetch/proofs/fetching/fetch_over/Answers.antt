@@ -5,7 +5,7 @@ use Rattle.sqlite.specs.State.{HasCleanDisk}
 use Rattle.sqlite.specs.Held.{state}
 use Rattle.bac_link.specs.Path.{towards}
 use Rattle.bac_archive.specs.Schema.{archive_schema}
-use Rattle.bac_fetch.specs.Starts.{IsBegun}
+use Rattle.bac_begin.specs.Starts.{IsBegun}
 use Rattle.bac_fetch.proofs.KeepsLemmas.{keeps_begun}
 use Rattle.bac_fetch.proofs.StaysLemmas.{quiet_rows, quiet_word}
 use Rattle.bac_fetch.proofs.fetching.fetch_over.Goals as goal

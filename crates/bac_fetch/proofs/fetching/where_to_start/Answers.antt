@@ -1,7 +1,7 @@
 use Rattle.std.proofs.Common.{None, Some, inl, inr}
 use Rattle.std.proofs.lemmas.Result.{IfOk-weaker}
 use Rattle.sqlite.specs.Held.{state}
-use Rattle.bac_fetch.specs.Stands.{IsStand}
+use Rattle.bac_begin.specs.Stands.{IsStand}
 use Rattle.bac_fetch.proofs.fetching.where_to_start.Goals as goal
 
 pub returns-in-Some-clause-begun : goal.returns-in-Some-clause-begun

@@ -10,7 +10,8 @@ use Rattle.bac_asked.specs.AsLog.{given_in}
 use Rattle.bac_archive.specs.Schema.{archive_schema}
 use Rattle.bac_fetch.specs.Faults.{HasNone, LacksAddress}
 use Rattle.bac_fetch.proofs.CausesLemmas.{chosen_so}
-use Rattle.bac_fetch.proofs.FaultsLemmas.{because, run_of}
+use Rattle.bac_fetch.proofs.FaultsLemmas.{run_of}
+use Rattle.bac_asked.proofs.Results.{because}
 use Rattle.bac_fetch.proofs.StaysLemmas.{quiet_first, quiet_stays}
 use Rattle.bac_fetch.proofs.keeping.keep_chosen.Goals as goal
 

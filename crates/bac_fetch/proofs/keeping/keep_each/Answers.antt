@@ -2,9 +2,8 @@ use Rattle.std.proofs.Common.{inl, inr, rules}
 use Rattle.std.proofs.lemmas.Result.{IfErr-weaker, IfOk-weaker}
 use Rattle.sqlite.specs.State.{HasCleanDisk}
 use Rattle.sqlite.specs.Held.{state}
-use Rattle.bac_archive.specs.Schema.{archive_schema}
 use Rattle.bac_ports.specs.Sockets.{socket_rules}
-use Rattle.bac_fetch.proofs.FaultsLemmas.{because}
+use Rattle.bac_asked.proofs.Results.{because}
 use Rattle.bac_fetch.proofs.MovesLemmas.{settles_schema, settles_stay}
 use Rattle.bac_fetch.proofs.StaysLemmas.{stays_then}
 use Rattle.bac_fetch.proofs.keeping.keep_each.Goals as goal

@@ -5,7 +5,7 @@ use Rattle.std.specs.Io.KnownBytes.{Appends}
 use Rattle.sqlite.specs.State.{HasCleanDisk}
 use Rattle.sqlite.specs.Held.{state}
 use Rattle.bac_archive.specs.Schema.{archive_schema}
-use Rattle.bac_fetch.specs.declared.whose.Heard.{Heard}
+use Rattle.bac_questions.specs.declared.whose.Heard.{Heard}
 use Rattle.bac_ports.specs.Sockets.{socket_rules}
 use Rattle.bac_fetch.specs.Keeps.{AreToldBy, KeepsAll, lines_of}
 use Rattle.bac_asked.specs.Lines.{summary_line}
@@ -13,7 +13,8 @@ use Rattle.bac_fetch.proofs.KeepsLemmas.{all_schema, greatest_more, length_more,
 use Rattle.bac_fetch.proofs.StaysLemmas.{all_itself, all_then, itself_stays, next_stays, stays_then}
 use Rattle.std.specs.List.{Contains}
 use Rattle.bac_fetch.specs.Faults.{HasNoInstance, IsNoInstance}
-use Rattle.bac_fetch.proofs.FaultsLemmas.{because, ends_so}
+use Rattle.bac_fetch.proofs.FaultsLemmas.{ends_so}
+use Rattle.bac_asked.proofs.Results.{because}
 use Rattle.bac_fetch.proofs.TakenLemmas.{has_taken, taken_apart}
 use Rattle.bac_fetch.proofs.keeping.keep_known.Goals as goal
 

@@ -9,7 +9,7 @@ use Rattle.std.proofs.lemmas.Bool.Decides.{nat_tests}
 use Rattle.std.proofs.lemmas.List.{nil_from_length}
 use Rattle.std.specs.List.{Contains}
 use Rattle.bac_asked.specs.declared.wanted.Wanted.{Wanted}
-use Rattle.bac_fetch.proofs.FaultsLemmas.{because}
+use Rattle.bac_asked.proofs.Results.{because}
 use Rattle.bac_fetch.proofs.TakenLemmas.{has_taken}
 use Rattle.bac_fetch.proofs.keeping.kept_logs.Goals as goal
 

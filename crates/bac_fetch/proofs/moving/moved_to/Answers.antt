@@ -1,4 +1,4 @@
-use Rattle.std.proofs.Common.{◌∙◌, ◌++◌, List, ap, map, rules, sym}
+use Rattle.std.proofs.Common.{◌∙◌, ◌++◌, List, ap, rules, sym}
 use Rattle.sqlite_value.specs.Order.{Row as Values}
 use Rattle.bac_fetch.specs.Moves.{moved_of}
 use Rattle.bac_fetch.proofs.MovesLemmas.{moved_more, all_moved}

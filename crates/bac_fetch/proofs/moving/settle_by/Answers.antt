@@ -1,4 +1,3 @@
-use Rattle.std.proofs.Common.{refl}
 use Rattle.std.proofs.lemmas.Result.{IfErr-weaker}
 use Rattle.bac_asked.specs.AsLog.{given_in}
 use Rattle.bac_asked.specs.Wanted.{HasNoAddress}

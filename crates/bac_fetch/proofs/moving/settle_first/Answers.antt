@@ -1,5 +1,5 @@
 use Rattle.std.proofs.Common.{inl, inr, rules}
-use Rattle.bac_fetch.proofs.FaultsLemmas.{because}
+use Rattle.bac_asked.proofs.Results.{because}
 use Rattle.bac_fetch.proofs.moving.settle_first.Goals as goal
 
 pub returns-in_err-said-clause-caused : goal.returns-in_err-said-clause-caused

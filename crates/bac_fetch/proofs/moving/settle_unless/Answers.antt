@@ -2,7 +2,7 @@ use Rattle.std.proofs.Common.{◌≡◌, ◌∙◌, ◌∷◌, [], MatchBool, Li
 use Rattle.sqlite.specs.Held.{state}
 use Rattle.bac_ports.specs.Sockets.{socket_rules}
 use Rattle.bac_fetch.specs.Moves.{SettlesFirst}
-use Rattle.bac_fetch.specs.declared.whose.Heard.{Heard}
+use Rattle.bac_questions.specs.declared.whose.Heard.{Heard}
 use Rattle.bac_fetch.proofs.moving.settle_unless.Goals as goal
 
 pub returns-then-is_placed-clause-settled : goal.returns-then-is_placed-clause-settled

@@ -4,7 +4,7 @@ use Rattle.sqlite.specs.Held.{state}
 use Rattle.bac_ports.specs.Sockets.{socket_rules}
 use Rattle.bac_asked.specs.declared.end.Ending.TheVariants.{NotAsked}
 use Rattle.bac_fetch.specs.Keeps.{KeepsHeard, PassesOver}
-use Rattle.bac_fetch.specs.Whose.{is_silent}
+use Rattle.bac_questions.specs.Whose.{is_silent}
 use Rattle.bac_fetch.proofs.StaysLemmas.{quiet_stays}
 use Rattle.bac_fetch.proofs.single.keep_next.Goals as goal
 

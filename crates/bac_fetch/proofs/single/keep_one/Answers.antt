@@ -7,7 +7,7 @@ use Rattle.bac_archive.specs.declared.trend_logs.Source.{Source}
 use Rattle.bac_ports.specs.Sockets.{socket_rules}
 use Rattle.bac_fetch.specs.Causes.{EndsFetch}
 use Rattle.bac_fetch.specs.Keeps.{KeepsLog, trend_log}
-use Rattle.bac_fetch.proofs.FaultsLemmas.{because}
+use Rattle.bac_asked.proofs.Results.{because}
 use Rattle.bac_fetch.proofs.StaysLemmas.{quiet_first, quiet_stays}
 use Rattle.bac_fetch.proofs.single.keep_one.Goals as goal
 

@@ -8,7 +8,7 @@ use Rattle.bac_asked.specs.declared.wanted.Wanted.{Wanted}
 use Rattle.bac_fetch.specs.declared.keeping.Chosen.TheVariants.{Named}
 use Rattle.bac_keeper.specs.Done.{Chooses, ChoosesBy, given_of}
 use Rattle.bac_words.specs.declared.job.Keep.{Keep}
-use Rattle.bac_fetch.proofs.FaultsLemmas.{because}
+use Rattle.bac_asked.proofs.Results.{because}
 use Rattle.bac_keeper.proofs.NamesLemmas.{alone_none, names_no_device, names_none}
 use Rattle.bac_keeper.proofs.keeping.choose.Goals as goal
 

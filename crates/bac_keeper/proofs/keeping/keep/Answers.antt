@@ -1,3 +1,6 @@
+use Rattle.sqlite.below.sqlite_std_file.specs.contracts.host.Host.{the_row}
+use Rattle.sqlite.below.sqlite_std_file.specs.contracts.host.HostCalls.TheImpl as host
+use Rattle.sqlite_disk.specs.contracts.modelled.ModelledDisk.TheImpl as modelled
 use Rattle.std.proofs.Common.{refl, ◌≡◌, ◌∙◌, ℕ, List, Bool, inl, inr, is_some, rules, subst₂}
 use Rattle.sqlite.specs.Files.{file_state}
 use Rattle.sqlite_wal.specs.Files.{image_at}
@@ -5,10 +8,10 @@ use Rattle.bac_files.specs.Files.{IsNamed}
 use Rattle.bac_ports.specs.Sockets.{socket_rules}
 use Rattle.bac_asked.specs.AsLog.{given_in}
 use Rattle.bac_fetch.specs.Faults.{EndsKeeping}
-use Rattle.bac_keeper.specs.Done.{EndsKeep, RefusesKeep, given_of}
+use Rattle.bac_keeper.specs.Done.{EndsChosenKeep, EndsKeep, EndsOver, RefusesKeep, given_of}
 use Rattle.bac_keeper.specs.Ends.{IsNotOpened}
-use Rattle.bac_fetch.proofs.FaultsLemmas.{because}
-use Rattle.bac_keeper.proofs.FileLemmas.{all_ask_so, all_fail, closed_asks, file_asks, done_named, fails_clean, fails_file, fails_so, keeps_in, loses_none, none_closed, refused_by}
+use Rattle.bac_asked.proofs.Results.{because}
+use Rattle.bac_keeper.proofs.FileLemmas.{all_ask_so, all_fail, asks_file, ended_by, file_asks, done_named, fails_clean, fails_file, fails_so, keeps_in, loses_none, none_closed, refused_by}
 use Rattle.bac_asked.specs.Wanted.{AreNoOptions}
 use Rattle.bac_keeper.proofs.NamesLemmas.{asks_no_options, asks_none, may_ask, never_fails}
 use Rattle.bac_keeper.proofs.keeping.keep.Goals as goal
@@ -66,20 +69,30 @@ returns-in_err-chosen-clause-fault g c =
 
 pub returns-in_err-chosen-clause-ends : goal.returns-in_err-chosen-clause-ends
 returns-in_err-chosen-clause-ends g c =
+    let disk = modelled.ghosts the_row g.row.F host.ghosts host.dict g.F.Start g.F.Start-dict g.F.Destruct-dict in
     let over = socket_rules g.S.Sockets.opens g.S.Sockets.closes g.S.Socket.Port.sends g.S.Socket.Port.receives g.S.Socket.Port.receives_within in
     because c.from_residual.result c.in_err-chosen.field-0.0 _ (search rules)
-    (may_ask (EndsKeep over c.args.asked.now c.args.sockets.now c.args.sockets.now) c.in_err-chosen.field-0.0 (inr (inl (c.in_err-chosen.ensures.none, refl))))
+    (may_ask (EndsKeep over disk (image_at g.F.Start) c.args.asked.now c.args.sockets.now c.args.sockets.now c.args.files.now) c.in_err-chosen.field-0.0 (inr (inl (c.in_err-chosen.ensures.none, refl))))
 
 pub returns-in_err-conn-clause-ends : goal.returns-in_err-conn-clause-ends
 returns-in_err-conn-clause-ends g c =
+    let disk = modelled.ghosts the_row g.row.F host.ghosts host.dict g.F.Start g.F.Start-dict g.F.Destruct-dict in
     let over = socket_rules g.S.Sockets.opens g.S.Sockets.closes g.S.Socket.Port.sends g.S.Socket.Port.receives g.S.Socket.Port.receives_within in
     because c.from_residual-in_err-conn.result c.in_err-conn.field-0.0 _ (search rules)
-    (file_asks (EndsKeep over c.args.asked.now c.args.sockets.now c.args.sockets.now) c.in_err-conn.field-0.0 c.in_err-conn.ensures.file)
+    (file_asks (EndsKeep over disk (image_at g.F.Start) c.args.asked.now c.args.sockets.now c.args.sockets.now c.open_file.new.files) c.in_err-conn.field-0.0 c.in_err-conn.ensures.file)
 
 pub returns-clause-ends : goal.returns-clause-ends
 returns-clause-ends g c =
+    let disk = modelled.ghosts the_row g.row.F host.ghosts host.dict g.F.Start g.F.Start-dict g.F.Destruct-dict in
     let over = socket_rules g.S.Sockets.opens g.S.Sockets.closes g.S.Socket.Port.sends g.S.Socket.Port.receives g.S.Socket.Port.receives_within in
     let done = c.keep_in-done in
-    let ends = EndsKeep over c.args.asked.now c.args.sockets.now done.new.sockets in
-    let runs = EndsKeeping over c.in_ok-chosen.chosen (Unit {0}) (Unit {0}) c.args.sockets.now done.new.sockets in
-    closed_asks ends _ done.result c.close_file.result (all_ask_so runs ends done.result (λ fault it. inr (inr (c.in_ok-chosen.chosen, c.in_ok-chosen.ensures.chosen, it))) done.ensures.ends) c.close_file.ensures.fault
+    let which = c.in_ok-chosen.chosen in
+    let by = given_of c.args.asked.now.options in
+    let runs = EndsKeeping over which (Unit {0}) (Unit {0}) c.args.sockets.now done.new.sockets in
+    all_ask_so (EndsChosenKeep over disk (image_at g.F.Start) which by c.args.sockets.now done.new.sockets c.close_file.new.files)
+    (EndsKeep over disk (image_at g.F.Start) c.args.asked.now c.args.sockets.now done.new.sockets c.close_file.new.files) c.close_file.result
+    (λ fault it. inr (inr (which, c.in_ok-chosen.ensures.chosen, it)))
+    (asks_file (image_at g.F.Start) c.in_ok-conn.conn done.new.conn c.close_file.new.files c.in_ok-conn.ensures.opened done.ensures.clean runs
+    (EndsOver over which by c.args.sockets.now done.new.sockets) done.result c.close_file.result
+    (ended_by over which c.args.sockets.now done.new.sockets (file_state c.in_ok-conn.conn).now (file_state done.new.conn) (given_in c.options_of-options.result) by runs done.result
+    c.options_of-options.ensures done.ensures.ends) c.close_file.ensures.fault c.close_file.ensures.shut)

@@ -4,11 +4,11 @@ use Rattle.sqlite.specs.Effect.{Database}
 use Rattle.sqlite.specs.Held.{state}
 use Rattle.sqlite.specs.State.{HasCleanDisk}
 use Rattle.bac_fetch.specs.Keeps.{KeepsLogs}
-use Rattle.bac_fetch.proofs.FaultsLemmas.{because}
+use Rattle.bac_asked.proofs.Results.{because}
 use Rattle.bac_keeper.proofs.ArchiveLemmas.{loses_nothing, tells_weaker}
 use Rattle.bac_fetch.specs.Faults.{EndsKeeping, HasNone, LacksAddress}
 use Rattle.bac_keeper.specs.Archives.{IsCleanArchive, IsHeld, KeepsArchive}
-use Rattle.bac_keeper.specs.Done.{TellsThese}
+use Rattle.bac_keeper.specs.Done.{EndsOver, TellsThese}
 use Rattle.bac_ports.specs.Sockets.{socket_rules}
 use Rattle.bac_asked.specs.AsLog.{given_in}
 use Rattle.bac_keeper.proofs.FileLemmas.{all_database_ask, all_database_fail, fails_so, file_asks}
@@ -76,7 +76,9 @@ pub returns-in_err-open_archive-clause-ends : goal.returns-in_err-open_archive-c
 returns-in_err-open_archive-clause-ends g c =
     let over = socket_rules g.S.Sockets.opens g.S.Sockets.closes g.S.Socket.Port.sends g.S.Socket.Port.receives g.S.Socket.Port.receives_within in
     because c.from_residual.result c.in_err-open_archive.field-0.0 _ (search rules)
-    (file_asks (EndsKeeping over c.args.chosen (Unit {0}) (Unit {0}) c.args.sockets.now c.args.sockets.now) c.in_err-open_archive.field-0.0 c.in_err-open_archive.ensures.file)
+    (file_asks (λ fault. EndsKeeping over c.args.chosen (Unit {0}) (Unit {0}) c.args.sockets.now c.args.sockets.now fault
+    × (IsHeld (state g.A.Store c.open_archive.new.conn) → EndsOver over c.args.chosen (given_in c.args.options.now) c.args.sockets.now c.args.sockets.now (state g.A.Store c.args.conn.now).now fault))
+    c.in_err-open_archive.field-0.0 c.in_err-open_archive.ensures.file)
 
 pub returns-in_err-status-clause-fault : goal.returns-in_err-status-clause-fault
 returns-in_err-status-clause-fault g c =
@@ -92,9 +94,12 @@ returns-in_err-status-clause-ends g c =
     let archive = state g.A.Store c.open_archive.new.conn in
     let last = state g.A.Store c.keep_these.new.conn in
     because c.from_residual-in_err-status.result c.in_err-status.field-0.0 _ (search rules)
-    (may_ask (EndsKeeping over c.args.chosen (Unit {0}) (Unit {0}) c.args.sockets.now c.keep_these.new.sockets) c.in_err-status.field-0.0
-    (keeping_so over (IsCleanArchive archive last → HasNone archive.now.trees) (Unit {0}) (IsCleanArchive archive last → LacksAddress (given_in c.args.options.now) archive.now.trees) (Unit {0})
-    (λ n. tt {0}) (λ n. tt {0}) c.args.chosen c.args.sockets.now c.keep_these.new.sockets c.in_err-status.field-0.0 c.in_err-status.ensures.fault))
+    (may_ask (λ fault. EndsKeeping over c.args.chosen (Unit {0}) (Unit {0}) c.args.sockets.now c.keep_these.new.sockets fault
+    × (IsHeld last → EndsOver over c.args.chosen (given_in c.args.options.now) c.args.sockets.now c.keep_these.new.sockets (state g.A.Store c.args.conn.now).now fault)) c.in_err-status.field-0.0 (
+      keeping_so over (IsCleanArchive archive last → HasNone archive.now.trees) (Unit {0}) (IsCleanArchive archive last → LacksAddress (given_in c.args.options.now) archive.now.trees) (Unit {0})
+          (λ n. tt {0}) (λ n. tt {0}) c.args.chosen c.args.sockets.now c.keep_these.new.sockets c.in_err-status.field-0.0 c.in_err-status.ensures.fault,
+      λ held. let opened = c.in_ok-open_archive.ensures.archive (c.keep_these.ensures.clean held.0) in (archive.now, opened, c.in_err-status.ensures.caused (held.0, opened.is.schema)),
+    ))
 
 pub returns-clause-fault : goal.returns-clause-fault
 returns-clause-fault g c = all_database_fail _ c.settled.result c.settled.ensures.fault
@@ -102,4 +107,6 @@ returns-clause-fault g c = all_database_fail _ c.settled.result c.settled.ensure
 pub returns-clause-ends : goal.returns-clause-ends
 returns-clause-ends g c =
     let over = socket_rules g.S.Sockets.opens g.S.Sockets.closes g.S.Socket.Port.sends g.S.Socket.Port.receives g.S.Socket.Port.receives_within in
-    all_database_ask (EndsKeeping over c.args.chosen (Unit {0}) (Unit {0}) c.args.sockets.now c.keep_these.new.sockets) c.settled.result c.settled.ensures.fault
+    all_database_ask (λ fault. EndsKeeping over c.args.chosen (Unit {0}) (Unit {0}) c.args.sockets.now c.keep_these.new.sockets fault
+    × (IsHeld (state g.A.Store c.keep_these.new.conn) → EndsOver over c.args.chosen (given_in c.args.options.now) c.args.sockets.now c.keep_these.new.sockets (state g.A.Store c.args.conn.now).now fault))
+    c.settled.result c.settled.ensures.fault

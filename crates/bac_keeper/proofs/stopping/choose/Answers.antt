@@ -13,7 +13,7 @@ use Rattle.bac_keeper.specs.Stops.{Means, MeansBy}
 use Rattle.bac_keeper.specs.declared.stopping.Meant.TheVariants.{Device, Logs}
 use Rattle.bac_words.specs.declared.job.Keep.{Keep}
 use Rattle.bac_words.specs.declared.word.Word.TheVariants.{Stop}
-use Rattle.bac_fetch.proofs.FaultsLemmas.{because}
+use Rattle.bac_asked.proofs.Results.{because}
 use Rattle.bac_keeper.proofs.NamesLemmas.{alone_none, names_no_device, names_none}
 use Rattle.bac_keeper.proofs.stopping.choose.Goals as goal
 

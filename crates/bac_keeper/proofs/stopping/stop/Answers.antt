@@ -4,7 +4,7 @@ use Rattle.bac_files.specs.Files.{IsNamed}
 use Rattle.bac_keeper.specs.Ends.{IsNotOpened}
 use Rattle.bac_asked.specs.Faults.{RefusesLine, WantsMemory}
 use Rattle.bac_keeper.specs.Stops.{EndsStop, RefusesStop}
-use Rattle.bac_fetch.proofs.FaultsLemmas.{because}
+use Rattle.bac_asked.proofs.Results.{because}
 use Rattle.bac_keeper.proofs.FileLemmas.{all_ask_so, all_fail, closed_asks, file_asks, done_named, fails_clean, fails_file, fails_so, none_closed}
 use Rattle.bac_keeper.proofs.StopLemmas.{items_kept, items_stay, stops_in}
 use Rattle.bac_asked.specs.declared.end.NotDone.{NotDone}

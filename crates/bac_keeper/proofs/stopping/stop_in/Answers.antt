@@ -4,7 +4,7 @@ use Rattle.bac_asked.specs.declared.end.NotDone.{NotDone}
 use Rattle.sqlite.specs.Effect.{Database}
 use Rattle.sqlite.specs.Held.{state}
 use Rattle.sqlite.specs.State.{HasCleanDisk}
-use Rattle.bac_fetch.proofs.FaultsLemmas.{because}
+use Rattle.bac_asked.proofs.Results.{because}
 use Rattle.bac_keeper.proofs.ArchiveLemmas.{keeps_items}
 use Rattle.bac_keeper.proofs.FileLemmas.{fails_so, file_asks}
 use Rattle.bac_keeper.proofs.NamesLemmas.{may_ask}

@@ -1,0 +1,3 @@
+pub mod StandLemmas
+pub mod Ways
+pub mod Quiet

@@ -1,0 +1,23 @@
+use Rattle.std.proofs.Common.{subst}
+use Rattle.bac_link.specs.Path.{towards}
+use Rattle.bac_walk.specs.Came.{Brought}
+use Rattle.bac_walk.specs.declared.outcome.Ended.{Ended}
+use Rattle.bac_keep.specs.Rising.{IsCause}
+use Rattle.bac_keep.specs.declared.sink.Refusal.{Refusal}
+use Rattle.bac_begin.proofs.hands.take_step.Goals as goal
+
+pub returns-in-Fault-clause-steps : goal.returns-in-Fault-clause-steps
+returns-in-Fault-clause-steps g c =
+    let it = c.in-Ok.ensures.brought in
+    let t = c.args.transactions.now in
+    (it.2.0, it.0, c.gather.new.walk, subst (λ (e : Ended). Brought g.L.LogLink.asks (towards t.route) t.retries c.args.link.now c.args.walk 1 it.2.0 it.0 e c.gather.new.walk c.gather.new.link) c.in-Fault.is it.2.1)
+
+pub returns-in-Err-Back-clause-steps : goal.returns-in-Err-Back-clause-steps
+returns-in-Err-Back-clause-steps g c =
+    let it = c.in-Err-Back.ensures.cause in
+    (it.0, it.1, c.gather.new.walk, it.2, subst (λ (r : Refusal). IsCause c.args.place c.args.free it.1 r) c.in-Err-Back.field-0-is it.3)
+
+pub returns-in-Err-Epochs-clause-steps : goal.returns-in-Err-Epochs-clause-steps
+returns-in-Err-Epochs-clause-steps g c =
+    let it = c.in-Err-Epochs.ensures.cause in
+    (it.0, it.1, c.gather.new.walk, it.2, subst (λ (r : Refusal). IsCause c.args.place c.args.free it.1 r) c.in-Err-Epochs.field-0-is it.3)

@@ -1,0 +1,3 @@
+pub mod Stands
+pub mod Hands
+pub mod Starts

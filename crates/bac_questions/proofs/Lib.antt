@@ -1,0 +1,5 @@
+pub mod SilentLemmas
+pub mod CountLemmas
+pub mod DiscoveredLemmas
+pub mod WhoseLemmas
+pub mod UnfoundLemmas

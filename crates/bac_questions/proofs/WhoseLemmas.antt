@@ -1,0 +1,80 @@
+-- What an ACK tells of a device, and the question for that over a socket.
+use Rattle.std.proofs.Common.{◌≡◌, ℕ, zero, suc, ◌<◌, ◌≤◌, ◌+◌, ◌++◌, ◌∷◌, [], true, None, inl, inr, take, length, get_or, List, Option, Some, Result, Ok, Err, IfOk, ap, sym, subst, ◌∙◌, arith}
+use Rattle.std.specs.Int.{w32, from_be_bytes}
+use Rattle.std.specs.List.{Contains}
+use Rattle.std.proofs.lemmas.List.{take_more, take_all}
+use Rattle.std.proofs.lemmas.List.Elements.{Contains-append_cases}
+use Rattle.bac_archive.specs.declared.trend_logs.Log.{Log}
+use Rattle.bac_archive.specs.declared.trend_logs.Source.{Source}
+use Rattle.bac_questions.specs.Silent.{is_same_device}
+use Rattle.bac_apdu.specs.Npdu.{Place}
+use Rattle.bac_wire.specs.Primitive.{Id}
+use Rattle.bac_link.specs.Path.{towards}
+use Rattle.bac_ports.specs.declared.udp_link.UdpLink.{UdpLink}
+use Rattle.bac_words.specs.declared.job.Asked.{Asked}
+use Rattle.bac_asked.specs.declared.end.NotDone.{NotDone}
+use Rattle.bac_asked.specs.declared.log_words.Asking.{Asking}
+use Rattle.bac_ports.specs.Sockets.{SocketRules, link_over, own_address, socket_asks}
+use Rattle.bac_questions.specs.Discovered.{IsObject, TellsObject}
+use Rattle.bac_questions.specs.Said.{Identifies, Says, TellsDevice}
+use Rattle.bac_questions.specs.Whose.{IsOnRecord}
+use Rattle.bac_questions.specs.declared.said.Said.{Said}
+
+pub same_octets : (a b : List ℕ) → Some a ≡ Some b → a ≡ b
+same_octets a b h = cc
+
+same_rest : (a b : List ℕ) → 196 ∷ a ≡ 196 ∷ b → a ≡ b
+same_rest a b h = cc
+
+-- octets are one object identifier at most
+one_object : (a b : Id) (values : List ℕ) → IsObject a values → IsObject b values → (a.kind ≡ b.kind) × (a.instance ≡ b.instance)
+one_object a b values is other =
+    let same : is.0 ≡ other.0 = same_rest is.0 other.0 (sym is.1 ∙ other.1) in
+    let sums = sym is.3 ∙ ap (λ octets. from_be_bytes w32 octets) same ∙ other.3 in
+    (omega (arith, sums, is.4, other.4), omega (arith, sums, is.4, other.4))
+
+-- and so is what an ACK tells
+pub tells_one : (datagram : List ℕ) (a b : Id) → TellsObject datagram a → TellsObject datagram b → (a.kind ≡ b.kind) × (a.instance ≡ b.instance)
+tells_one datagram a b is other =
+    let same : is.0 ≡ other.0 = same_octets is.0 other.0 (sym is.1 ∙ other.1) in
+    one_object a b other.0 (subst (λ v. IsObject a v) same is.2) other.2
+
+-- a device that is told by the object identifier that an ACK has
+pub is_device : (datagram : List ℕ) (object : Id) → object.kind ≡ 8 → object.instance < 4194303 → TellsObject datagram object → TellsDevice datagram object.instance
+is_device datagram object kind less it = (less, subst (λ k. TellsObject datagram (record { kind = k; instance = object.instance })) kind it)
+
+-- what a device says over a socket that was opened as words ask that ask so, and closed behind it
+pub identifies_over : {S P : Type 0} (rules : SocketRules S P) (asking : Asking) (asked : Asked) (before middle after : S) (port last : P)
+    (link left : UdpLink P) (route : Option Place) (retries : ℕ) (result : Result Said NotDone)
+    → asked ≡ asking.asked → rules.opens before (own_address asked.local) asked.timeout (Ok port) middle
+    → link ≡ link_over asked.address port → route ≡ asked.route → retries ≡ asked.retries → last ≡ left.port → rules.closes middle last after
+    → IfOk result (λ said. Says (socket_asks rules) (towards route) retries link said left)
+    → IfOk result (λ said. Identifies rules asking before said after)
+identifies_over rules asking asked before middle after port last link left route retries (Err fault) same opened is_link way tries is_last closes it = tt
+identifies_over rules asking asked before middle after port last link left route retries (Ok said) same opened is_link way tries is_last closes it =
+    let asks = socket_asks rules in
+    let opened₁ = subst (λ (a : Asked). rules.opens before (own_address a.local) a.timeout (Ok port) middle) same opened in
+    let link₁ = subst (λ (a : Asked). link ≡ link_over a.address port) same is_link in
+    let route₁ = subst (λ (a : Asked). route ≡ a.route) same way in
+    let retries₁ = subst (λ (a : Asked). retries ≡ a.retries) same tries in
+    let says₁ = subst (λ (x : Option Place). Says asks (towards x) retries link said left) route₁ it in
+    let says₂ = subst (λ x. Says asks (towards asking.asked.route) x link said left) retries₁ says₁ in
+    let says₃ = subst (λ x. Says asks (towards asking.asked.route) asking.asked.retries x said left) link₁ says₂ in
+    (port, middle, last, opened₁, (left, says₃, is_last), closes)
+
+only_one : {X : Type 0} (x y : X) → Contains (x ∷ []) y → x ≡ y
+only_one x y (zero, lt, is) = is
+only_one x y (suc i, lt, is) = absurd (omega (arith, lt))
+
+-- one log more that has no instance of this device on record
+pub none_more : (known : List Log) (at : ℕ) (x : Log) (source : Source) → at < length known → x ≡ get_or known at x
+    → (is_same_device x.source source ≡ true → x.told.device ≡ None) → IsOnRecord (take at known) source None → IsOnRecord (take (at + 1) known) source None
+none_more known at x source lt is here before = λ log has same.
+    let list = take_more known at x lt ∙ ap (λ z. take at known ++ z ∷ []) (sym is) in
+    elim (Contains-append_cases (take at known) (x ∷ []) log (subst (λ l. Contains l log) list has)) [
+      | inl was ↦ before log was same
+      | inr one ↦ let e = only_one x log one in subst (λ (l : Log). is_same_device l.source source ≡ true → l.told.device ≡ None) e here same
+    ]
+
+pub none_of_all : (known : List Log) (at : ℕ) (source : Source) → length known ≤ at → IsOnRecord (take at known) source None → IsOnRecord known source None
+none_of_all known at source past it = subst (λ l. IsOnRecord l source None) (take_all at known past) it

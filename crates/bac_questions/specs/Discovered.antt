@@ -1,0 +1,110 @@
+-- The trend logs that a device tells of, place by place of its Object_List.
+use Rattle.std.specs.Prelude.{◌≡◌, ◌≢◌, ◌⊎◌, ◌<◌, ◌+◌, ◌*◌, ℕ, zero, suc, List, [], ◌∷◌, ◌++◌, length, Option}
+use Rattle.std.specs.Prelude.{Some, None, Result, Ok, Err, String}
+use Rattle.std.specs.Int.{w32, from_be_bytes}
+use Rattle.bac_apdu.specs.declared.service.read_property.ReadProperty.{ReadProperty}
+use Rattle.bac_link.specs.declared.exchanges.ExchangeFault.{ExchangeFault}
+use Rattle.bac_link.specs.declared.link.Lost.{Lost as Loss}
+use Rattle.bac_link.specs.declared.request.Request.TheVariants as request
+use Rattle.bac_link.specs.Datagrams.{apdu_in}
+use Rattle.bac_link.specs.Exchanges.{Exchanges}
+use Rattle.bac_link.specs.Path.{Path, towards}
+use Rattle.bac_print.specs.Texts.{IsTextOf}
+use Rattle.bac_query.specs.Reading.{values_in}
+use Rattle.bac_wire.specs.Primitive.{Id, Primitive}
+use Rattle.bac_wire.specs.Primitive as primitive
+use Rattle.bac_wire.specs.Spelling.{Spells}
+use Rattle.bac_ports.specs.declared.udp_link.UdpLink.{UdpLink}
+use Rattle.bac_ports.specs.Sockets.{SocketRules, UsesSocket, link_over, own_address, socket_asks}
+use Rattle.bac_asked.specs.declared.log_words.Asking.{Asking}
+use Rattle.bac_asked.specs.declared.wanted.Wanted.{Wanted}
+
+-- a ReadProperty was exchanged over a link, under some invoke ID: a datagram with its ACK came, or why none did
+abbrev pub Reads : {S : Type 0} → (S → List ℕ → Result (List ℕ) Loss → S → Type 0) → Path → ℕ →
+    ReadProperty → S → Result (List ℕ) ExchangeFault → S → Type 0
+Reads asks path retries asked old answer new =
+    (invoke : ℕ) × Exchanges asks path invoke (request.ReadProperty asked) retries old answer new
+
+-- octets are an object identifier: C4, and in four octets the type in the high ten bits, then the instance (20.2.14)
+abbrev pub IsObject : Id → List ℕ → Type 0
+IsObject object values =
+    (octets : List ℕ) × (values ≡ 196 ∷ octets) × (length octets ≡ 4)
+    × (from_be_bytes w32 octets ≡ object.kind * 4194304 + object.instance) × (object.instance < 4194304)
+
+-- the values of an ACK are one object identifier
+abbrev pub TellsObject : List ℕ → Id → Type 0
+TellsObject datagram object = (values : List ℕ) × (values_in (apdu_in datagram) ≡ Some values) × IsObject object values
+
+-- the values of an ACK are this one value
+abbrev pub Tells : List ℕ → Primitive → Type 0
+Tells datagram value = (values : List ℕ) × (values_in (apdu_in datagram) ≡ Some values) × Spells values value
+
+-- a number was read: one Unsigned
+abbrev pub ReadsNumber : {S : Type 0} → (ReadProperty → S → Result (List ℕ) ExchangeFault → S → Type 0) → ReadProperty
+    → S → ℕ → S → Type 0
+ReadsNumber reads asked old number new =
+    (answer : List ℕ) × reads asked old (Ok answer) new × Tells answer (primitive.Unsigned number)
+
+-- an object identifier was read
+abbrev pub ReadsObject : {S : Type 0} → (ReadProperty → S → Result (List ℕ) ExchangeFault → S → Type 0) → ReadProperty
+    → S → Id → S → Type 0
+ReadsObject reads asked old object new = (answer : List ℕ) × reads asked old (Ok answer) new × TellsObject answer object
+
+-- a name is the text of the Character String that an ACK tells, in Unicode; there is none if it tells none
+abbrev pub TellsName : {A : Type 0} → List ℕ → Option (String A) → Type 0
+TellsName datagram name =
+    ((set : ℕ) × (octets : List ℕ) × Tells datagram (primitive.Chars set octets) × IsTextOf set octets name)
+    ⊎ ((name ≡ None) × ((set : ℕ) (octets : List ℕ) → Tells datagram (primitive.Chars set octets) → ⊥))
+
+-- the name of an object was read; it has none if it is refused, or if no answer comes
+abbrev pub ReadsName : {S A : Type 0} → (ReadProperty → S → Result (List ℕ) ExchangeFault → S → Type 0) → ReadProperty →
+    S → Option (String A) → S → Type 0
+ReadsName reads asked old name new =
+    ((answer : List ℕ) × reads asked old (Ok answer) new × TellsName answer name)
+    ⊎ ((fault : ExchangeFault) × reads asked old (Err fault) new × (name ≡ None))
+
+-- a place of the Object_List (76) of the device itself, instance 4194303; at 0 it has how many there are (clause 12.11)
+abbrev pub list_at : ℕ → ReadProperty
+list_at place = record { object = record { kind = 8; instance = 4194303 }; property = 76; index = Some place }
+
+-- the Object_Name (77) of an object
+abbrev pub name_of : Id → ReadProperty
+name_of object = record { object = object; property = 77; index = None }
+
+-- a trend log (type 20) comes to those found, with the name that the device tells; of another object nothing is asked
+abbrev pub AddsObject : {S : Type 0} → (ReadProperty → S → Result (List ℕ) ExchangeFault → S → Type 0) → Id →
+    S → List Wanted → List Wanted → S → Type 0
+AddsObject reads object old before after new =
+    ((wanted : Wanted) × (object.kind ≡ 20) × (wanted.asking.instance ≡ object.instance)
+    × ReadsName reads (name_of object) old wanted.name new × (after ≡ before ++ wanted ∷ []))
+    ⊎ ((object.kind ≢ 20) × (after ≡ before) × (new ≡ old))
+
+-- the object that the device told at a place is added so
+abbrev pub AddsPlace : {S : Type 0} → (ReadProperty → S → Result (List ℕ) ExchangeFault → S → Type 0) → ℕ →
+    S → List Wanted → List Wanted → S → Type 0
+AddsPlace {S = S} reads place old before after new =
+    (object : Id) × (told : S) × ReadsObject reads (list_at place) old object told
+    × AddsObject reads object told before after new
+
+-- the logs at the first places, in their order
+abbrev pub FindsTo : {S : Type 0} → (ReadProperty → S → Result (List ℕ) ExchangeFault → S → Type 0) → ℕ → S
+    → List Wanted → S → Type 0
+FindsTo reads zero old found new = (found ≡ []) × (new ≡ old)
+FindsTo {S = S} reads (suc place) old found new =
+    (before : List Wanted) × (mid : S) × FindsTo reads place old before mid
+    × AddsPlace reads (suc place) mid before found new
+
+-- the logs at all places, of which the device told how many there are
+abbrev pub Finds : {S : Type 0} → (ReadProperty → S → Result (List ℕ) ExchangeFault → S → Type 0) → S → List Wanted → S
+    → Type 0
+Finds {S = S} reads old found new =
+    (count : ℕ) × (mid : S) × ReadsNumber reads (list_at 0) old count mid × FindsTo reads count mid found new
+
+-- those of the device that is asked, over a socket that was opened as asked, and closed as the last question left it
+abbrev pub FindsOver : {S P : Type 0} → SocketRules S P → Asking → S → List Wanted → S → Type 0
+FindsOver {P = P} rules asking before found after =
+    UsesSocket rules (own_address asking.asked.local) asking.asked.timeout before
+    (λ port last. (left : UdpLink P)
+    × Finds (Reads (socket_asks rules) (towards asking.asked.route) asking.asked.retries)
+    (link_over asking.asked.address port) found left × (last ≡ left.port))
+    after

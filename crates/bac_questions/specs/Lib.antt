@@ -1,0 +1,7 @@
+pub mod Discovered
+pub mod Unfound
+pub mod Faults
+pub mod Counts
+pub mod Silent
+pub mod Said
+pub mod Whose

@@ -1,0 +1,137 @@
+-- What a device says of itself: its instance, its last restart and the revision of its database.
+use Rattle.std.specs.Prelude.{◌≡◌, ◌<◌, ℕ, List, Option, None, Some, option_map, Result, Ok, Err, String}
+use Rattle.std.specs.declared.alloc.Global.{Global}
+use Rattle.std.specs.String.{string_bytes}
+use Rattle.hex.specs.Hex.{encode_lower}
+use Rattle.bac_wire.specs.Primitive.{Id}
+use Rattle.bac_apdu.specs.declared.service.read_property.ReadProperty.{ReadProperty}
+use Rattle.bac_link.specs.Datagrams.{apdu_in}
+use Rattle.bac_link.specs.Path.{Path, towards}
+use Rattle.bac_link.specs.declared.exchanges.ExchangeFault.{ExchangeFault}
+use Rattle.bac_link.specs.declared.exchanges.ExchangeFault.TheVariants as fault
+use Rattle.bac_link.specs.declared.link.Lost.{Lost as Loss}
+use Rattle.bac_ports.specs.Sockets.{SocketRules, UsesSocket, link_over, own_address, socket_asks}
+use Rattle.bac_ports.specs.declared.udp_link.UdpLink.{UdpLink}
+use Rattle.bac_query.specs.Reading.{values_in}
+use Rattle.bac_archive.specs.declared.trend_logs.Told.{Told as Kept}
+use Rattle.bac_asked.specs.declared.log_words.Asking.{Asking}
+use Rattle.bac_questions.specs.Discovered.{Reads, TellsObject}
+use Rattle.bac_questions.specs.Counts.{AsksFor}
+use Rattle.bac_questions.specs.declared.questions.Count.{Count}
+use Rattle.bac_questions.specs.declared.questions.Count.TheVariants as count
+use Rattle.bac_questions.specs.declared.said.Identity.{Identity}
+use Rattle.bac_questions.specs.declared.said.Identity.TheVariants.{Told, Untold, Lost}
+use Rattle.bac_questions.specs.declared.said.Restart.{Restart}
+use Rattle.bac_questions.specs.declared.said.Restart.TheVariants as restart
+use Rattle.bac_questions.specs.declared.said.Said.{Said}
+
+-- the Device object of this instance (clause 12.11)
+abbrev pub itself_of : ℕ → Id
+itself_of instance = record { kind = 8; instance = instance }
+
+-- the question for the Object_Identifier (75) of the device itself, which each device answers as instance 4194303
+-- (clauses 12.11 and 15.5)
+abbrev pub itself_asked : ReadProperty
+itself_asked = record { object = itself_of 4194303; property = 75; index = None }
+
+-- an ACK tells this instance of a device, which isn't the wildcard
+abbrev pub TellsDevice : List ℕ → ℕ → Type 0
+TellsDevice datagram n = (n < 4194303) × TellsObject datagram (itself_of n)
+
+-- what an answer to that question says: an instance; or nothing that can be read so, as if it is refused; or none came
+abbrev pub IsIdentity : Result (List ℕ) ExchangeFault → Identity → Type 0
+IsIdentity (Ok answer) (Told n) = TellsDevice answer n
+IsIdentity (Ok answer) Untold = (n : ℕ) → TellsDevice answer n → ⊥
+IsIdentity (Ok answer) Lost = ⊥
+IsIdentity (Err fault.Lost) identity = identity ≡ Lost
+IsIdentity (Err (fault.Refused refusal)) identity = identity ≡ Untold
+IsIdentity (Err fault.BadReply) identity = identity ≡ Untold
+IsIdentity (Err fault.TooLong) identity = ⊥
+
+-- What an answer to the question for the restart says: the octets of its value, in hexadecimal digits; or nothing, as
+-- if it is refused; or none came.
+abbrev pub IsRestart : Result (List ℕ) ExchangeFault → Restart → Type 0
+IsRestart (Ok answer) (restart.Told digits) =
+    (values : List ℕ) × (values_in (apdu_in answer) ≡ Some values) × (string_bytes digits ≡ encode_lower values)
+IsRestart (Ok answer) restart.Untold = values_in (apdu_in answer) ≡ None
+IsRestart (Ok answer) restart.Lost = ⊥
+IsRestart (Err fault.Lost) told = told ≡ restart.Lost
+IsRestart (Err (fault.Refused refusal)) told = told ≡ restart.Untold
+IsRestart (Err fault.BadReply) told = told ≡ restart.Untold
+IsRestart (Err fault.TooLong) told = ⊥
+
+-- a device was asked for its Time_Of_Device_Restart (203, clause 12.11) over a link
+abbrev pub AsksRestart : {S : Type 0} → (S → List ℕ → Result (List ℕ) Loss → S → Type 0) → Path → ℕ → S → Id → Restart
+    → S → Type 0
+AsksRestart asks path retries old device told new =
+    (answer : Result (List ℕ) ExchangeFault) × IsRestart answer told
+    × Reads asks path retries (record { object = device; property = 203; index = None }) old answer new
+
+-- nothing is known of a device
+abbrev pub nothing_told : Kept
+nothing_told = record { device = None; restart = None; revision = None }
+
+-- a device that gave no answer
+abbrev pub silent : Said
+silent = record { identity = Lost; told = nothing_told }
+
+-- what a device says that told its instance, its restart if it did, and its revision
+abbrev pub says_all : ℕ → Option (String Global) → Option ℕ → Said
+says_all n restarted revision =
+    record { identity = Told n; told = record { device = Some n; restart = restarted; revision = revision } }
+
+-- what it says with this answer to the question for its revision; without one it is silent
+abbrev pub says_by : ℕ → Option (String Global) → Count → Said
+says_by n restarted count.Lost = silent
+says_by n restarted count.Untold = says_all n restarted None
+says_by n restarted (count.Told revision) = says_all n restarted (Some revision)
+
+-- behind the question for its restart a device is asked for its Database_Revision (155, clause 12.11)
+abbrev pub SaysBehind : {S : Type 0} → (S → List ℕ → Result (List ℕ) Loss → S → Type 0) → Path → ℕ → S → Id
+    → Option (String Global) → Said →
+    S → Type 0
+SaysBehind asks path retries link device restarted said left =
+    (revision : Count) × AsksFor asks path retries link device 155 revision left
+    × (said ≡ says_by device.instance restarted revision)
+
+-- but not if no answer came to that one
+abbrev pub SaysAfter : {S : Type 0} → (S → List ℕ → Result (List ℕ) Loss → S → Type 0) → Path → ℕ → S → Id → Restart
+    → Said → S → Type 0
+SaysAfter asks path retries link device restart.Lost said left = (said ≡ silent) × (left ≡ link)
+SaysAfter asks path retries link device restart.Untold said left =
+    SaysBehind asks path retries link device None said left
+SaysAfter asks path retries link device (restart.Told digits) said left =
+    SaysBehind asks path retries link device (Some digits) said left
+
+-- what a device says that told its instance: it is asked for its restart and for its revision
+abbrev pub SaysMore : {S : Type 0} → (S → List ℕ → Result (List ℕ) Loss → S → Type 0) → Path → ℕ → S → Id → Said → S
+    → Type 0
+SaysMore {S = S} asks path retries link device said left =
+    (told : Restart) × (mid : S) × AsksRestart asks path retries link device told mid
+    × SaysAfter asks path retries mid device told said left
+
+-- one that didn't isn't asked for more
+abbrev pub SaysAs : {S : Type 0} → (S → List ℕ → Result (List ℕ) Loss → S → Type 0) → Path → ℕ → S → Identity → Said → S
+    → Type 0
+SaysAs asks path retries link (Told n) said left = SaysMore asks path retries link (itself_of n) said left
+SaysAs asks path retries link identity said left = (said.identity ≡ identity) × (said.told ≡ nothing_told)
+    × (left ≡ link)
+
+-- what a device says of itself over a link, whoever answers: it is asked for its instance first
+abbrev pub Says : {S : Type 0} → (S → List ℕ → Result (List ℕ) Loss → S → Type 0) → Path → ℕ → S → Said → S → Type 0
+Says {S = S} asks path retries link said left =
+    (answer : Result (List ℕ) ExchangeFault) × (identity : Identity) × (mid : S) × IsIdentity answer identity
+    × Reads asks path retries itself_asked link answer mid × SaysAs asks path retries mid identity said left
+
+-- the device of a log was asked what it says of itself, over a socket that was opened as asked, and closed as the last
+-- question left it
+abbrev pub Identifies : {S P : Type 0} → SocketRules S P → Asking → S → Said → S → Type 0
+Identifies {P = P} rules asking before said after =
+    UsesSocket rules (own_address asking.asked.local) asking.asked.timeout before
+    (λ port last. (left : UdpLink P) × Says (socket_asks rules) (towards asking.asked.route) asking.asked.retries
+    (link_over asking.asked.address port) said left × (last ≡ left.port))
+    after
+
+-- a text is another's, octet by octet
+abbrev pub copies : Option (String Global) → Option (String Global) → Type 0
+copies text copy = option_map (λ s. string_bytes s) copy ≡ option_map (λ s. string_bytes s) text

@@ -1,0 +1,49 @@
+-- Why the logs of a device aren't found.
+use Rattle.std.specs.Prelude.{◌≡◌, ◌⊎◌, ◌<◌, ◌^◌, ℕ, suc, List, Result, Ok, Err}
+use Rattle.bac_apdu.specs.declared.service.read_property.ReadProperty.{ReadProperty}
+use Rattle.bac_link.specs.Path.{towards}
+use Rattle.bac_link.specs.declared.exchanges.ExchangeFault.{ExchangeFault}
+use Rattle.bac_link.specs.declared.exchanges.ExchangeFault.TheVariants.{BadReply}
+use Rattle.bac_wire.specs.Primitive.{Id}
+use Rattle.bac_wire.specs.Primitive as primitive
+use Rattle.bac_asked.specs.declared.log_words.Asking.{Asking}
+use Rattle.bac_asked.specs.declared.wanted.Wanted.{Wanted}
+use Rattle.bac_questions.specs.Discovered.{FindsTo, Reads, ReadsNumber, Tells, TellsObject, list_at}
+use Rattle.bac_ports.specs.Sockets.{SocketRules, UsesSocket, link_over, own_address, socket_asks}
+use Rattle.bac_ports.specs.declared.udp_link.UdpLink.{UdpLink}
+
+-- no number of 32 bits was read: no ACK came, for this reason, or one that doesn't tell such a number
+abbrev pub LacksNumber : {S : Type 0} → (ReadProperty → S → Result (List ℕ) ExchangeFault → S → Type 0) → ReadProperty →
+    S → ExchangeFault → S → Type 0
+LacksNumber reads asked old fault new = reads asked old (Err fault) new
+    ⊎ ((fault ≡ BadReply) × (answer : List ℕ) × reads asked old (Ok answer) new
+    × ((number : ℕ) → number < 2 ^ 32 → Tells answer (primitive.Unsigned number) → ⊥))
+
+-- no object identifier was read
+abbrev pub LacksObject : {S : Type 0} → (ReadProperty → S → Result (List ℕ) ExchangeFault → S → Type 0) → ReadProperty →
+    S → ExchangeFault → S → Type 0
+LacksObject reads asked old fault new = reads asked old (Err fault) new
+    ⊎ ((fault ≡ BadReply) × (answer : List ℕ) × reads asked old (Ok answer) new
+    × ((object : Id) → TellsObject answer object → ⊥))
+
+-- behind the logs at the first places of a list of this length, no object was read at the next one
+abbrev pub LacksPlace : {S : Type 0} → (ReadProperty → S → Result (List ℕ) ExchangeFault → S → Type 0) → ℕ →
+    S → ExchangeFault → S → Type 0
+LacksPlace {S = S} reads count old fault new =
+    (place : ℕ) × (place < count) × (found : List Wanted) × (mid : S) × FindsTo reads place old found mid
+    × LacksObject reads (list_at (suc place)) mid fault new
+
+-- the device didn't tell how many objects it has, or not the one at some place
+abbrev pub FailsToFind : {S : Type 0} → (ReadProperty → S → Result (List ℕ) ExchangeFault → S → Type 0) →
+    S → ExchangeFault → S → Type 0
+FailsToFind {S = S} reads old fault new = LacksNumber reads (list_at 0) old fault new
+    ⊎ ((count : ℕ) × (mid : S) × ReadsNumber reads (list_at 0) old count mid × LacksPlace reads count mid fault new)
+
+-- so it is over a socket that was opened as asked, and closed as the last question left it
+abbrev pub FailsOver : {S P : Type 0} → SocketRules S P → Asking → S → ExchangeFault → S → Type 0
+FailsOver {P = P} rules asking before fault after =
+    UsesSocket rules (own_address asking.asked.local) asking.asked.timeout before
+    (λ port last. (left : UdpLink P)
+    × FailsToFind (Reads (socket_asks rules) (towards asking.asked.route) asking.asked.retries)
+    (link_over asking.asked.address port) fault left × (last ≡ left.port))
+    after

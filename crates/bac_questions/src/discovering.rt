@@ -1,0 +1,327 @@
+//! The trend logs in a device's Object_List.
+
+ghost use Rattle.std.specs.Prelude.{◌≡◌, ◌⊎◌, Some, IfErr, IfOk, OnOk};
+ghost use Rattle.std.specs.List.{All};
+ghost use Rattle.bac_link.specs.Path.{towards};
+ghost use Rattle.bac_asked.specs.Faults.{WantsMemory};
+ghost use Rattle.bac_questions.specs.Discovered.{AddsObject, Finds, FindsOver, FindsTo, Reads};
+ghost use Rattle.bac_questions.specs.Discovered.{ReadsName, ReadsNumber, ReadsObject, TellsName};
+ghost use Rattle.bac_questions.specs.Discovered.{name_of};
+ghost use Rattle.bac_questions.specs.Faults.{EndsFinding};
+ghost use Rattle.bac_questions.specs.Unfound.{FailsToFind, LacksNumber, LacksObject, LacksPlace};
+ghost use Rattle.bac_ports.specs.Sockets.{socket_rules};
+ghost use Rattle.bac_asked.specs.Wanted.{AsksItsSource, IsAskedAs};
+
+use crate::connecting::connect;
+use crate::questions::{object_in, read, read_number, text_in};
+use bac_apdu::object_type::TREND_LOG;
+use bac_asked::{Asking, Fault, NotDone, Wanted, add_wanted, source_of};
+use bac_link::{ExchangeFault, LogLink, Transactions};
+use bac_ports::Sockets;
+use bac_print::text_of;
+use bac_wire::{Datagram, ObjectId};
+use bac_words::{Asked, Word};
+use std::alloc::Global;
+
+/// The type of a Device object (clause 21).
+pub(crate) const DEVICE: u16 = 8;
+
+const OBJECT_LIST: u32 = 76;
+
+const OBJECT_NAME: u32 = 77;
+
+/// The instance that stands for the device itself, whichever it has (clause 12.11).
+pub(crate) const ITSELF: u32 = 4_194_303;
+
+/// A device that is asked for its objects.
+#[derive(Drop)]
+struct Station<L> {
+    link: L,
+    transactions: Transactions,
+    address: [u8; 6],
+}
+
+impl<L: LogLink> Station<L> {
+    fn fault(&self, fault: ExchangeFault) -> NotDone
+        ensures { result ≡ NotDone.Asking (Fault.Exchange self.now.address fault) }
+    {
+        NotDone::Asking(Fault::Exchange {
+            address: self.address,
+            fault,
+        })
+    }
+
+    /// How many objects the device has.
+    fn count(&mut self, device: ObjectId) -> Result<u32, NotDone>
+        ensures reads { IfOk result (λ count. ReadsNumber
+            (Reads L.asks (towards self.old.transactions.route) self.old.transactions.retries)
+            (record { object = device; property = 76; index = Some 0 }) self.old.link count
+            self.new.link) }
+        ensures retries { OnOk result
+            (self.new.transactions.retries ≡ self.old.transactions.retries) }
+        ensures route { OnOk result (self.new.transactions.route ≡ self.old.transactions.route) }
+        ensures lacks { IfErr result (λ fault. (why : _)
+            × (fault ≡ NotDone.Asking (Fault.Exchange self.old.address why))
+            × LacksNumber (Reads L.asks (towards self.old.transactions.route)
+            self.old.transactions.retries)
+            (record { object = device; property = 76; index = Some 0 }) self.old.link why
+            self.new.link) }
+        ensures address { self.new.address ≡ self.old.address }
+    {
+        match read_number(
+            &mut self.link,
+            &mut self.transactions,
+            device,
+            OBJECT_LIST,
+            Some(0),
+        ) {
+            Ok(count) => Ok(count),
+            Err(fault) => Err(self.fault(fault)),
+        }
+    }
+
+    /// The object at a place of the list, from 1 on.
+    fn object(&mut self, device: ObjectId, place: u32) -> Result<ObjectId, NotDone>
+        ensures reads { IfOk result (λ object. ReadsObject
+            (Reads L.asks (towards self.old.transactions.route) self.old.transactions.retries)
+            (record { object = device; property = 76; index = Some place }) self.old.link object
+            self.new.link) }
+        ensures retries { OnOk result
+            (self.new.transactions.retries ≡ self.old.transactions.retries) }
+        ensures route { OnOk result (self.new.transactions.route ≡ self.old.transactions.route) }
+        ensures lacks { IfErr result (λ fault. (why : _)
+            × (fault ≡ NotDone.Asking (Fault.Exchange self.old.address why))
+            × LacksObject (Reads L.asks (towards self.old.transactions.route)
+            self.old.transactions.retries)
+            (record { object = device; property = 76; index = Some place }) self.old.link
+            why self.new.link) }
+        ensures address { self.new.address ≡ self.old.address }
+    {
+        let answer = match read(
+            &mut self.link,
+            &mut self.transactions,
+            device,
+            OBJECT_LIST,
+            Some(place),
+        ) {
+            Ok(answer) => answer,
+            Err(fault) => return Err(self.fault(fault)),
+        };
+        match object_in(&answer) {
+            Some(object) => Ok(object),
+            None => Err(self.fault(ExchangeFault::BadReply)),
+        }
+    }
+
+    /// The name of an object in Unicode, if the device tells one.
+    fn name(&mut self, alloc: Global, object: ObjectId) -> Result<Option<String>, NotDone>
+        ensures reads { IfOk result (λ name. ReadsName
+            (Reads L.asks (towards self.old.transactions.route) self.old.transactions.retries)
+            (name_of object) self.old.link name self.new.link) }
+        ensures retries { OnOk result
+            (self.new.transactions.retries ≡ self.old.transactions.retries) }
+        ensures route { OnOk result (self.new.transactions.route ≡ self.old.transactions.route) }
+        ensures fault { IfErr result WantsMemory }
+        ensures address { self.new.address ≡ self.old.address }
+    {
+        match read(
+            &mut self.link,
+            &mut self.transactions,
+            object,
+            OBJECT_NAME,
+            None,
+        ) {
+            Ok(answer) => name_in(alloc, &answer),
+            Err(_fault) => Ok(None),
+        }
+    }
+}
+
+/// The name that an answer tells, in Unicode.
+fn name_in(alloc: Global, answer: &Datagram) -> Result<Option<String>, NotDone>
+    ensures tells { IfOk result (TellsName answer.now) }
+    ensures fault { IfErr result WantsMemory }
+{
+    let Some((set, octets)) = text_in(answer) else {
+        return Ok(None);
+    };
+    match text_of(alloc, set, octets) {
+        Ok(name) => Ok(name),
+        Err(_) => Err(NotDone::Asking(Fault::Memory)),
+    }
+}
+
+/// How a log of the device is asked for, as another of its logs is.
+pub(crate) fn asked_like(like: &Asking, instance: u32) -> Result<Asking, NotDone>
+    ensures alike { IfOk result (IsAskedAs like.now) }
+    ensures instance { IfOk result (λ asking. asking.instance ≡ instance) }
+    ensures fault { IfErr result WantsMemory }
+{
+    let Asked {
+        address,
+        local,
+        timeout,
+        retries,
+        route,
+    } = &like.asked;
+    let Ok(route) = route.clone() else {
+        return Err(NotDone::Asking(Fault::Memory));
+    };
+    Ok(Asking {
+        asked: Asked {
+            address: *address,
+            local: *local,
+            timeout: *timeout,
+            retries: *retries,
+            route,
+        },
+        instance,
+        steps: like.steps,
+        count: like.count,
+    })
+}
+
+/// A log of the device.
+fn wanted_of<L: LogLink>(
+    alloc: Global,
+    device: &mut Station<L>,
+    object: ObjectId,
+    like: &Asking,
+) -> Result<Wanted, NotDone>
+    ensures asks { IfOk result AsksItsSource }
+    ensures alike { IfOk result (λ wanted. IsAskedAs like.now wanted.asking) }
+    ensures instance { IfOk result (λ wanted. wanted.asking.instance ≡ object.instance) }
+    ensures reads { IfOk result (λ wanted. ReadsName
+        (Reads L.asks (towards device.old.transactions.route) device.old.transactions.retries)
+        (name_of object) device.old.link wanted.name device.new.link) }
+    ensures retries { OnOk result
+        (device.new.transactions.retries ≡ device.old.transactions.retries) }
+    ensures route { OnOk result (device.new.transactions.route ≡ device.old.transactions.route) }
+    ensures fault { IfErr result WantsMemory }
+    ensures address { device.new.address ≡ device.old.address }
+{
+    let name = device.name(alloc, object)?;
+    let asking = asked_like(like, object.instance())?;
+    match source_of(alloc, &asking.asked, object.instance()) {
+        Ok(source) => Ok(Wanted {
+            source,
+            name,
+            asking,
+        }),
+        Err(_) => Err(NotDone::Asking(Fault::Memory)),
+    }
+}
+
+/// Adds an object of the device, if it is a trend log.
+fn add_object<L: LogLink>(
+    alloc: Global,
+    device: &mut Station<L>,
+    object: ObjectId,
+    like: &Asking,
+    all: &mut Vec<Wanted>,
+) -> Result<(), NotDone>
+    ensures asks { OnOk result (All AsksItsSource all.old.items → All AsksItsSource all.new.items) }
+    ensures alike { OnOk result (All (λ wanted. IsAskedAs like.now wanted.asking) all.old.items
+        → All (λ wanted. IsAskedAs like.now wanted.asking) all.new.items) }
+    ensures adds { OnOk result (AddsObject
+        (Reads L.asks (towards device.old.transactions.route) device.old.transactions.retries)
+        object device.old.link all.old.items all.new.items device.new.link) }
+    ensures retries { OnOk result
+        (device.new.transactions.retries ≡ device.old.transactions.retries) }
+    ensures route { OnOk result (device.new.transactions.route ≡ device.old.transactions.route) }
+    ensures fault { IfErr result WantsMemory }
+    ensures address { device.new.address ≡ device.old.address }
+{
+    if object.kind() != TREND_LOG {
+        return Ok(());
+    }
+    let wanted = wanted_of(alloc, device, object, like)?;
+    add_wanted(all, wanted)?;
+    Ok(())
+}
+
+/// Adds each trend log of a device, in the order of its list.
+fn add_listed<L: LogLink>(
+    alloc: Global,
+    device: &mut Station<L>,
+    itself: ObjectId,
+    count: u32,
+    like: &Asking,
+) -> Result<Vec<Wanted>, NotDone>
+    requires { itself ≡ record { kind = 8; instance = 4194303 } }
+    ensures asks { IfOk result (λ all. All AsksItsSource all.items) }
+    ensures alike { IfOk result
+        (λ all. All (λ wanted. IsAskedAs like.now wanted.asking) all.items) }
+    ensures finds { IfOk result (λ all. FindsTo
+        (Reads L.asks (towards device.old.transactions.route) device.old.transactions.retries)
+        count device.old.link all.items device.new.link) }
+    ensures lacks { IfErr result (λ fault. WantsMemory fault
+        ⊎ ((why : _) × (fault ≡ NotDone.Asking (Fault.Exchange device.old.address why))
+        × LacksPlace (Reads L.asks (towards device.old.transactions.route)
+        device.old.transactions.retries) count device.old.link why
+        device.new.link)) }
+{
+    let mut all = Vec::new(alloc);
+    for place in 0..count {
+        let object = device.object(itself, place + 1)?;
+        add_object(alloc, device, object, like, &mut all)?;
+    }
+    Ok(all)
+}
+
+/// Each trend log in the list of a device that is asked.
+fn find_all<L: LogLink>(
+    alloc: Global,
+    device: &mut Station<L>,
+    like: &Asking,
+) -> Result<Vec<Wanted>, NotDone>
+    ensures asks { IfOk result (λ all. All AsksItsSource all.items) }
+    ensures alike { IfOk result
+        (λ all. All (λ wanted. IsAskedAs like.now wanted.asking) all.items) }
+    ensures finds { IfOk result (λ all. Finds
+        (Reads L.asks (towards device.old.transactions.route) device.old.transactions.retries)
+        device.old.link all.items device.new.link) }
+    ensures lacks { IfErr result (λ fault. WantsMemory fault
+        ⊎ ((why : _) × (fault ≡ NotDone.Asking (Fault.Exchange device.old.address why))
+        × FailsToFind (Reads L.asks (towards device.old.transactions.route)
+        device.old.transactions.retries) device.old.link why device.new.link)) }
+{
+    let Some(itself) = ObjectId::new(DEVICE, ITSELF) else {
+        return Err(NotDone::Asking(Fault::BadValue(Word::Instance)));
+    };
+    let count = device.count(itself)?;
+    add_listed(alloc, device, itself, count, like)
+}
+
+/// Each trend log of a device, asked as this one is.
+pub fn discover<S: Sockets>(
+    sockets: &mut S,
+    alloc: Global,
+    like: &Asking,
+) -> Result<Vec<Wanted>, NotDone>
+    ensures asks { IfOk result (λ all. All AsksItsSource all.items) }
+    ensures alike { IfOk result
+        (λ all. All (λ wanted. IsAskedAs like.now wanted.asking) all.items) }
+    // They are those of the Object_List of the device that is asked, over a socket opened as asked,
+    // and closed behind it.
+    ensures found { IfOk result (λ all. FindsOver
+        (socket_rules S.opens S.closes S.Socket.sends S.Socket.receives
+        S.Socket.receives_within) like.now sockets.old all.items sockets.new) }
+    // Or it isn't asked, or doesn't tell its list.
+    ensures fault { IfErr result (EndsFinding
+        (socket_rules S.opens S.closes S.Socket.sends S.Socket.receives
+        S.Socket.receives_within) like.now sockets.old sockets.new) }
+{
+    let address = like.asked.address;
+    let asked = asked_like(like, 0)?.asked;
+    let (link, transactions) = connect(sockets, asked)?;
+    let mut device = Station {
+        link,
+        transactions,
+        address,
+    };
+    let found = find_all(alloc, &mut device, like);
+    let Station { link, .. } = device;
+    sockets.close(link.into_port());
+    found
+}

@@ -1,0 +1,61 @@
+//! Which logs an archive had as a run began, and which of them are of one device.
+
+ghost use Rattle.std.specs.Prelude.{◌≡◌, IfSome, Some, option_map};
+ghost use Rattle.bac_questions.specs.Silent.{IsAmong, is_lost, is_same_device};
+
+use bac_archive::{Log, Source};
+use bac_asked::Ending;
+use bac_walk::{WalkFault, Why};
+
+/// Whether two logs are of one device.
+pub fn is_same_device(one: &Source, other: &Source) -> bool
+    ensures { result ≡ is_same_device one.now other.now }
+{
+    one.address == other.address && one.dnet == other.dnet && one.dadr == other.dadr
+}
+
+/// Whether a run over a log ended since no answer came.
+pub(crate) fn is_lost(why: Ending) -> bool
+    ensures { result ≡ is_lost why }
+{
+    match why {
+        Ending::Walk(Why::Fault(WalkFault::Lost)) => true,
+        _ => false,
+    }
+}
+
+/// The log at this place, if it is this one.
+fn log_at<'a>(known: &'a [Log], at: usize, source: &Source) -> Option<&'a Log>
+    ensures { IfSome result (λ log. IsAmong known.now source.now (Some log.now)) }
+{
+    let Some(log) = known.get(at) else {
+        return None;
+    };
+    if log.source == *source {
+        Some(log)
+    } else {
+        None
+    }
+}
+
+/// A log, if it is among these.
+fn first_log<'a>(known: &'a [Log], source: &Source) -> Option<&'a Log>
+    ensures { IsAmong known.now source.now (option_map (λ log. log.now) result) }
+{
+    for log in known {
+        if log.source == *source {
+            return Some(log);
+        }
+    }
+    None
+}
+
+/// A log, if it is among these: most likely at this place.
+pub fn log_among<'a>(known: &'a [Log], at: usize, source: &Source) -> Option<&'a Log>
+    ensures { IsAmong known.now source.now (option_map (λ log. log.now) result) }
+{
+    match log_at(known, at, source) {
+        Some(log) => Some(log),
+        None => first_log(known, source),
+    }
+}
