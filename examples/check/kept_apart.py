@@ -1,5 +1,6 @@
 """One log of a run never stops another, for kept.py: of a log whose epochs are used up, and of devices that don't answer."""
 import sqlite3
+import time
 
 from kept_devices import LAST, Device, Log, serve
 from kept_rounds import unheard, why
@@ -136,3 +137,38 @@ def dead_devices(judge, _runs):
     judge.same("behind one router", judge.ran(["keep", file, *QUICK]),
                (2, line(behind, 1, 0, "lost, next 1", "/5/08") + line(behind, 2, 0, "not asked, next 1", "/5/08")
                 + line(behind, 1, 1, "caught up, next 6", "/5/07"), unheard(behind, 1, "/5/08")))
+
+
+def dead_at_once(judge, _runs):
+    """Devices that give no answer are waited for beside one another, each asked once, before the first log."""
+    dead, alive = [Device([Log(1, 50)], f"dead{n}") for n in range(5)], [Device([Log(1, 50), Log(2, 50)], f"alive{n}") for n in range(2)]
+    all_of_them = [dead[0], alive[0], *dead[1:], alive[1]]
+    serve(all_of_them)
+    file = f"{judge.room}/a.db"
+    for device in all_of_them:
+        for log in device.logs.values():
+            log.log(2)
+        judge.ran(["keep", file, device.address])
+    for device in dead:
+        device.answers = 0
+    for device in alive:
+        device.logs[2].log(3)
+    asked = [device.asked for device in dead]
+    start = time.monotonic()
+    status, out, errors = judge.ran(["keep", file, "--timeout=400", "--retries=2"])
+    took = time.monotonic() - start
+    told = [line(device, number, new, f"caught up, next {device.logs[number].total + 1}") if device in alive else line(device, 1, 0, "lost, next 3")
+            for device in all_of_them for number, new in ((1, 0), (2, 3)) if number in device.logs]
+    judge.same("they are lost, and the others kept", (status, out.splitlines(True), errors), (2, told, "".join(map(unheard, dead))))
+    judge.same("each is asked as often as once", [device.asked - before for device, before in zip(dead, asked)], [3] * 5)
+    judge.is_right("in one wait", 1.1 < took < 2.3, took)
+    judge.judge("beside dead devices", file, all_of_them)
+    # One that is back is kept in the next run.
+    dead[3].answers = None
+    dead[3].logs[1].log(4)
+    status, out, _ = judge.ran(["keep", file, *QUICK])
+    judge.is_right("one is back", status == 2 and line(dead[3], 1, 4, "caught up, next 7") in out, (status, out))
+    for device in dead:
+        device.answers = None
+    judge.same("all are back", judge.ran(["keep", file])[0], 0)
+    judge.judge("all are back", file, all_of_them, True)

@@ -13,7 +13,7 @@ import subprocess
 import sys
 import time
 
-from kept_apart import dead_devices, last_epoch
+from kept_apart import dead_at_once, dead_devices, last_epoch
 from kept_clocks import clocks, either_line, questions
 from kept_devices import Device, Log, chance, lock, serve, wait_until_asked
 from kept_doubts import emptied, never_begun, told_at_once
@@ -195,10 +195,9 @@ def line_by_line(judge, _runs):
         judge.ran(["keep", file, device.address, "1"])
     log.log(1)
     other.log(1)
-    second.open.clear()
-    before = second.asked
+    # It tells who it is as all are asked that at once, and is held back then.
+    second.then[75] = second.open.clear
     process = judge.started(["keep", file, "--timeout=60000"])
-    wait_until_asked(second, before)
     # A line that isn't written yet would come only once the second device answers.
     ready = select.select([process.stdout], [], [], 30)[0]
     judge.same("a line comes before the next log", os.read(process.stdout.fileno(), 4096).decode() if ready else "nothing",
@@ -665,6 +664,6 @@ def judgements(judge, _runs):
     judge.is_right("a broken page is seen", wrongs(broken, [device], True))
 
 
-CASES = [judgements, run_after_run, beginnings, options, losses, line_by_line, step_limits, last_epoch, dead_devices, other_devices, words_and_names, no_archive, barred, far_away, rounds, restarts, clocks, questions, cut_files, foreign_files, a_large_file, printed, taken_over, served,
+CASES = [judgements, run_after_run, beginnings, options, losses, line_by_line, step_limits, last_epoch, dead_devices, dead_at_once, other_devices, words_and_names, no_archive, barred, far_away, rounds, restarts, clocks, questions, cut_files, foreign_files, a_large_file, printed, taken_over, served,
          stopped, terminals, warehouses, names, own_words, own_rule, own_lives, first_answers, renewed, moved, moved_ways, two_of_one, told_later,
          moved_at_each_call, moved_at_random, emptied, never_begun, told_at_once, said_more, told_beside]

@@ -2,6 +2,7 @@
 //! clock. What it does with them is in the crate bac_run.
 #![tactic(auto)]
 
+use bac_desks::SteadyClock;
 use bac_heeding::Heeding;
 use bac_run::{DiskFiles, run};
 use bac_tools::{Fault, SystemClock, UdpSockets, UntilRefused, tell};
@@ -61,6 +62,7 @@ fn started(rt: &HostRuntime) -> Result<u8, Fault> {
         ),
         &mut DiskFiles::new(rt, Unknown),
         rt.alloc(),
+        SteadyClock::new(rt),
         &words,
         counts,
         &mut rt.reader(),

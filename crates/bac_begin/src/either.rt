@@ -11,7 +11,7 @@ ghost use Rattle.bac_keep.specs.Items.{era, era_after, kept_row, kept_rows};
 ghost use Rattle.bac_keep.specs.Runs.{gaps_among};
 ghost use Rattle.bac_asked.specs.Faults.{WantsMemory};
 ghost use Rattle.bac_begin.specs.Hands.{stored_in};
-ghost use Rattle.bac_begin.specs.Starts.{IsEither, OpensBehind, gap_up_to, next_from};
+ghost use Rattle.bac_begin.specs.Starts.{IsEither, OpensBehind, gap_up_to};
 
 use crate::hands::{Hand, take_step_at};
 use crate::stands::{Stand, last_kept, number_behind};

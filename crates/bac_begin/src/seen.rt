@@ -3,9 +3,8 @@
 ghost use Rattle.std.specs.Prelude.{◌≡◌, None, Ok, IfOk, IfErr};
 ghost use Rattle.bac_link.specs.Path.{towards};
 ghost use Rattle.bac_asked.specs.Faults.{WantsMemory};
-ghost use Rattle.bac_begin.specs.Starts.{ByCount, ByCourse};
-ghost use Rattle.bac_begin.specs.Starts.{BySeen, CountsWhere};
-ghost use Rattle.bac_begin.specs.Starts.{asks_count, counted};
+ghost use Rattle.bac_begin.specs.Starts.{ByCount, ByCourse, BySeen, CountsWhere, asks_count};
+ghost use Rattle.bac_begin.specs.Starts.{counted};
 
 use crate::behind::go_on;
 use crate::either::begin_either;

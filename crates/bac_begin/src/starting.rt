@@ -6,8 +6,7 @@ ghost use Rattle.bac_walk.specs.Place.{asking, walk_at};
 ghost use Rattle.bac_keep.specs.Looks.{Looks};
 ghost use Rattle.bac_asked.specs.Faults.{WantsMemory};
 ghost use Rattle.bac_begin.specs.Stands.{kept_last, word_at};
-ghost use Rattle.bac_begin.specs.Starts.{AsksBeginning, BeginsBy};
-ghost use Rattle.bac_begin.specs.Starts.{ByHand, FindsBeginning, GoesFrom};
+ghost use Rattle.bac_begin.specs.Starts.{AsksBeginning, BeginsBy, ByHand, FindsBeginning, GoesFrom};
 ghost use Rattle.bac_begin.specs.Starts.{IsAnew, IsFirst, KeepsNone, OpensFirst, OpensWith};
 ghost use Rattle.bac_begin.specs.Starts.{StartsNew, next_from};
 

@@ -14,7 +14,9 @@ use Rattle.bac_questions.specs.Faults.{EndsAsking}
 use Rattle.bac_asked.specs.Faults.{EndsLog}
 use Rattle.bac_fetch.specs.declared.keeping.Chosen.{Chosen}
 use Rattle.bac_fetch.specs.declared.keeping.Chosen.TheVariants.{Device, Kept, Named}
+use Rattle.bac_absent.specs.Absent.{EndsCalling}
 use Rattle.bac_asked.specs.declared.wanted.Wanted.{Wanted}
+use Rattle.bac_questions.specs.declared.whose.Heard.{Heard}
 use Rattle.bac_apdu.specs.Npdu.{Place}
 use Rattle.std.specs.String.{string_bytes}
 use Rattle.bac_archive.specs.declared.trend_logs.Source.{Source}
@@ -51,6 +53,12 @@ module _ {S P : Type 0} (rules : SocketRules S P) where
   pub asking_ends_run : (I A : Type 0) (asked : Asked) (before after : S) (fault : NotDone) → EndsAsking rules asked before after fault → EndsRun rules I A after fault
   asking_ends_run I A asked before after fault (inl it) = inl (inl it)
   asking_ends_run I A asked before after fault (inr it) = inr (inl (before, asked, it))
+
+  -- devices that aren't called end it
+  pub calling_ends_run : (I A : Type 0) (all : List Wanted) (heard : List Heard) (before after : S) (fault : NotDone) → EndsCalling rules all heard before after fault
+      → EndsRun rules I A after fault
+  calling_ends_run I A all heard before after fault (inl it) = inl (inl it)
+  calling_ends_run I A all heard before after fault (inr it) = inr (inl (before, it.0.asking.asked, it.3))
 
   -- what ends it for one reason ends it for another
   pub ends_so : (I J A B : Type 0) (after : S) (fault : NotDone) → (I → J) → (A → B) → EndsRun rules I A after fault → EndsRun rules J B after fault

@@ -7,3 +7,4 @@ pub mod QuietLemmas
 pub mod FaultsLemmas
 pub mod CausesLemmas
 pub mod TakenLemmas
+pub mod CalledLemmas

@@ -28,6 +28,8 @@ use Rattle.bac_fetch.specs.declared.keeping.Chosen.{Chosen}
 use Rattle.bac_questions.specs.declared.said.Identity.TheVariants.{Told}
 use Rattle.bac_questions.specs.declared.said.Said.{Said}
 use Rattle.bac_questions.specs.declared.whose.Heard.{Heard}
+use Rattle.bac_absent.specs.Absent.{EndsCalling, FindsAbsent}
+use Rattle.bac_hearing.specs.Hearing.{StartedClock}
 use Rattle.bac_ports.specs.Sockets.{SocketRules}
 use Rattle.bac_words.specs.declared.job.Asked.{Asked}
 use Rattle.bac_words.specs.declared.word.Word.TheVariants.{Instance}
@@ -128,17 +130,25 @@ FailsToSettle rules given all before after old fault = FailsOnRows fault
 
 -- ---- the whole run
 
--- A run over logs ends: where the device of the first one stands isn't settled; or it was, and from where that left the
--- archive and the sockets the run ends at one of them.
-abbrev pub EndsLogs : {S P : Type 0} → SocketRules S P → Given → List Wanted → S → S → Database → NotDone → Type 0
-EndsLogs {S = S} rules given all before after old fault = FailsToSettle rules given all before after old fault
+-- Devices aren't called at once; or they were, and from where that left the sockets the run ends at one of the logs.
+abbrev pub EndsCalled : {S P C : Type 0} → SocketRules S P → StartedClock C → List Heard → List Wanted → S → S
+    → Database → NotDone → Type 0
+EndsCalled {S = S} rules clock heard all before after old fault = EndsCalling rules all heard before after fault
+    ⊎ ((found : List Heard) × (called : S) × FindsAbsent rules clock all heard before found called
+    × EndsSettled rules found all called after old fault)
+
+-- A run over logs ends: where the device of the first one stands isn't settled; or it was, and the run ends behind that.
+abbrev pub EndsLogs : {S P C : Type 0} → SocketRules S P → StartedClock C → Given → List Wanted → S → S → Database
+    → NotDone → Type 0
+EndsLogs {S = S} rules clock given all before after old fault = FailsToSettle rules given all before after old fault
     ⊎ ((known : List Log) × AreLogs old.trees known × (heard : List Heard) × (half : S) × (mid : Database)
-    × Settles rules known all before heard half old mid × EndsSettled rules heard all half after mid fault)
+    × Settles rules known all before heard half old mid × EndsCalled rules clock heard all half after mid fault)
 
 -- A run over the logs that were chosen ends: they aren't found; or they were, and from where that left the sockets the
 -- run over them ends.
-abbrev pub EndsRunOver : {S P : Type 0} → SocketRules S P → Given → Chosen → S → S → Database → NotDone → Type 0
-EndsRunOver {S = S} rules given chosen before after old fault =
+abbrev pub EndsRunOver : {S P C : Type 0} → SocketRules S P → StartedClock C → Given → Chosen → S → S → Database
+    → NotDone → Type 0
+EndsRunOver {S = S} rules clock given chosen before after old fault =
     EndsChosen rules chosen (HasNone old.trees) (LacksAddress given old.trees) before after fault
     ⊎ ((all : List Wanted) × (between : S) × AreFound rules chosen before all between
-    × EndsLogs rules given all between after old fault)
+    × EndsLogs rules clock given all between after old fault)

@@ -1,11 +1,10 @@
 //! How a run over a log ended.
 
-ghost use Rattle.std.specs.Prelude.{◌≡◌, ◌⊎◌, ◌+◌, ◌≤◌, ◌^◌, IfOk, IfErr, IsTrue, OnErr};
-ghost use Rattle.std.specs.Prelude.{OnOk, Ok, Err};
+ghost use Rattle.std.specs.Prelude.{◌≡◌, ◌⊎◌, ◌+◌, ◌≤◌, ◌^◌, IfOk, IfErr, IsTrue, OnErr, OnOk, Ok};
+ghost use Rattle.std.specs.Prelude.{Err};
 ghost use Rattle.sqlite.specs.State.{HasCleanDisk, Survives};
 ghost use Rattle.sqlite.specs.Held.{state};
-ghost use Rattle.bac_asked.specs.Faults.{FailsOnRows};
-ghost use Rattle.bac_asked.specs.Faults.{EndsLog};
+ghost use Rattle.bac_asked.specs.Faults.{FailsOnRows, EndsLog};
 ghost use Rattle.bac_archive.specs.Schema.{archive_schema};
 ghost use Rattle.bac_fetch.specs.Fetched.{HasFailed, IsEndingOf};
 ghost use Rattle.bac_fetch.specs.Keeps.{Marks, is_idle};

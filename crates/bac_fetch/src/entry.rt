@@ -1,14 +1,13 @@
 //! A log as a run over it begins: how its row is to be, and how it is on record.
 
-ghost use Rattle.std.specs.Prelude.{◌≡◌, false, if◌then◌else◌, option_map, None, IfOk, OnOk, IfErr};
+ghost use Rattle.std.specs.Prelude.{◌≡◌, false, option_map, None, IfOk, OnOk, IfErr};
 ghost use Rattle.std.specs.String.{string_bytes};
 ghost use Rattle.sqlite.specs.State.{HasCleanDisk, Survives};
 ghost use Rattle.sqlite.specs.Held.{state};
 ghost use Rattle.bac_archive.specs.Schema.{archive_schema};
 ghost use Rattle.bac_archive.specs.Beginnings.{IsFreshId};
 ghost use Rattle.bac_fetch.specs.Causes.{FailsToEnter};
-ghost use Rattle.bac_asked.specs.Faults.{FailsOnRows};
-ghost use Rattle.bac_asked.specs.Faults.{EndsLog};
+ghost use Rattle.bac_asked.specs.Faults.{FailsOnRows, EndsLog};
 ghost use Rattle.bac_fetch.specs.Entries.{Admits, IsEntry, Renews, eq_number, eq_text, has_word};
 ghost use Rattle.bac_fetch.specs.Entries.{how_recorded, is_due, is_other_number, is_other_text};
 ghost use Rattle.bac_fetch.specs.Entries.{is_same_number, is_same_text, word_of};

@@ -6,29 +6,30 @@ ghost use Rattle.sqlite.specs.State.{HasCleanDisk, Survives};
 ghost use Rattle.sqlite.specs.Held.{state};
 ghost use Rattle.bac_archive.specs.Schema.{archive_schema};
 ghost use Rattle.bac_archive.specs.Logs.{AreLogs};
+ghost use Rattle.bac_hearing.specs.Hearing.{started};
 ghost use Rattle.bac_ports.specs.Sockets.{socket_rules};
-ghost use Rattle.bac_asked.specs.Faults.{WantsMemory};
+ghost use Rattle.bac_asked.specs.Faults.{WantsMemory, FailsOnRows, EndsLog};
 ghost use Rattle.bac_fetch.specs.Causes.{EndsAll, EndsLogs, EndsRunOver, EndsSettled};
-ghost use Rattle.bac_asked.specs.Faults.{FailsOnRows};
 ghost use Rattle.bac_fetch.specs.Causes.{FailsToSettle};
-ghost use Rattle.bac_fetch.specs.Faults.{EndsChosen, EndsKeeping, EndsKept, EndsRun};
-ghost use Rattle.bac_asked.specs.Faults.{EndsLog};
-ghost use Rattle.bac_fetch.specs.Faults.{HasNoInstance, HasNone, LacksAddress};
+ghost use Rattle.bac_fetch.specs.Faults.{EndsChosen, EndsKeeping, EndsKept, EndsRun, HasNoInstance};
+ghost use Rattle.bac_fetch.specs.Faults.{HasNone, LacksAddress};
 ghost use Rattle.bac_fetch.specs.Keeps.{AreToldBy, KeepsAll, KeepsLogs};
 ghost use Rattle.bac_fetch.specs.Moves.{Settles};
 ghost use Rattle.bac_archive.specs.declared.trend_logs.Log.{Log as LogOf};
 ghost use Rattle.bac_questions.specs.declared.whose.Heard.{Heard as HeardOf};
-ghost use Rattle.bac_fetch.specs.Chosen.{AreFound};
+ghost use Rattle.bac_fetch.specs.Chosen.{AreFound, AreChosen, AreKeptLogs, AskTheirSources};
+ghost use Rattle.bac_fetch.specs.Chosen.{not_stopped};
 ghost use Rattle.bac_asked.specs.AsLog.{given_in};
 ghost use Rattle.bac_asked.specs.Wanted.{AsksItsSource, HasNoAddress};
-ghost use Rattle.bac_fetch.specs.Chosen.{AreChosen, AreKeptLogs, AskTheirSources, not_stopped};
 ghost use Rattle.bac_fetch.specs.Stays.{HasAllOf};
 ghost use Rattle.bac_asked.specs.declared.wanted.Wanted.{Wanted as WantedOf};
 
 use crate::moving::settle;
 use crate::single::keep_next;
+use bac_absent::find_absent;
 use bac_archive::{Log, logs};
 use bac_asked::{Asking, FileFault, NotDone, Options, Wanted, add_wanted, kept_log};
+use bac_desks::Clock;
 use bac_heeding::Heeds;
 use bac_ports::Sockets;
 use bac_questions::{Heard, discover};
@@ -109,7 +110,7 @@ fn kept_logs<A: Alter>(
 }
 
 /// Keeps what is new of each of these logs in an archive that has these logs, where this was heard
-/// of devices before.
+/// of devices before; devices may have been called at once for it.
 fn keep_known<S: Heeds, A: Alter, O: Write, E: Write>(
     sockets: &mut S,
     conn: &mut Connection<A>,
@@ -117,6 +118,7 @@ fn keep_known<S: Heeds, A: Alter, O: Write, E: Write>(
     known: &[Log],
     heard: Vec<Heard>,
     all: Vec<Wanted>,
+    called: bool,
     counts: bool,
     output: &mut O,
     errors: &mut E,
@@ -147,7 +149,7 @@ fn keep_known<S: Heeds, A: Alter, O: Write, E: Write>(
     let mut at = 0usize;
     for wanted in all {
         let status = keep_next(
-            sockets, conn, alloc, known, at, &mut heard, wanted, counts, output, errors,
+            sockets, conn, alloc, known, at, &mut heard, wanted, called, counts, output, errors,
         )?;
         greatest = greatest.max(status);
         at = at.saturating_add(1);
@@ -182,6 +184,7 @@ fn keep_settled<S: Heeds, A: Alter, O: Write, E: Write>(
     alloc: Global,
     heard: Vec<Heard>,
     all: Vec<Wanted>,
+    called: bool,
     counts: bool,
     output: &mut O,
     errors: &mut E,
@@ -216,6 +219,7 @@ fn keep_settled<S: Heeds, A: Alter, O: Write, E: Write>(
         known.as_slice(),
         heard,
         all,
+        called,
         counts,
         output,
         errors,
@@ -266,16 +270,19 @@ fn settle_known<S: Sockets, A: Alter, E: Write>(
 /// errors have a line for such a device, for a log that began anew, and for one whose walk failed:
 /// what came in place of the answer, or what a refusal means. If it counts, they have the number of
 /// a log's records while it is fetched: for a terminal.
-pub fn keep_each<S: Heeds, A: Alter, O: Write, E: Write>(
+pub fn keep_each<S: Heeds, C: Clock, A: Alter, O: Write, E: Write>(
     sockets: &mut S,
     conn: &mut Connection<A>,
     alloc: Global,
+    clock: C,
     all: Vec<Wanted>,
     options: &Options<'_>,
     counts: bool,
     output: &mut O,
     errors: &mut E,
 ) -> Result<u8, NotDone>
+where
+    C: Drop,
     // A line tells each log, in their order; each is kept in the archive that the one before left,
     // if its device tells the instance that is on record, or none is; or it isn't asked, if its
     // device gave no answer before.
@@ -283,7 +290,7 @@ pub fn keep_each<S: Heeds, A: Alter, O: Write, E: Write>(
         (λ ends. HasCleanDisk (state A.Store conn.new)
         → (state A.Store conn.old).now.schema ≡ archive_schema
         → KeepsLogs (socket_rules S.opens S.closes S.Socket.sends S.Socket.receives
-        S.Socket.receives_within) all.items sockets.old sockets.new
+        S.Socket.receives_within) (started C.reads clock) all.items sockets.old sockets.new
         (state A.Store conn.old).now (state A.Store conn.new).now ends)) }
     // Whatever comes of it, no item and no log is lost: what is on the disk then, or is left by a
     // crash at any moment before, is what was there or has all of it.
@@ -302,11 +309,14 @@ pub fn keep_each<S: Heeds, A: Alter, O: Write, E: Write>(
     ensures caused { HasCleanDisk (state A.Store conn.new)
         → (state A.Store conn.old).now.schema ≡ archive_schema
         → IfErr result (EndsLogs (socket_rules S.opens S.closes S.Socket.sends S.Socket.receives
-        S.Socket.receives_within) (given_in options.now) all.items sockets.old
+        S.Socket.receives_within) (started C.reads clock) (given_in options.now) all.items sockets.old
         sockets.new (state A.Store conn.old).now) }
 {
-    let heard = settle_known(sockets, conn, alloc, all.as_slice(), options, errors)?;
-    keep_settled(sockets, conn, alloc, heard, all, counts, output, errors)
+    let mut heard = settle_known(sockets, conn, alloc, all.as_slice(), options, errors)?;
+    let called = find_absent(sockets, alloc, clock, all.as_slice(), &mut heard)?;
+    keep_settled(
+        sockets, conn, alloc, heard, all, called, counts, output, errors,
+    )
 }
 
 /// Which logs were chosen, in the order in which they are fetched.
@@ -352,16 +362,19 @@ fn chosen_logs<S: Sockets, A: Alter>(
 }
 
 /// Keeps what is new of the logs that were chosen.
-pub fn keep_chosen<S: Heeds, A: Alter, O: Write, E: Write>(
+pub fn keep_chosen<S: Heeds, C: Clock, A: Alter, O: Write, E: Write>(
     sockets: &mut S,
     conn: &mut Connection<A>,
     alloc: Global,
+    clock: C,
     chosen: Chosen,
     options: &Options<'_>,
     counts: bool,
     output: &mut O,
     errors: &mut E,
 ) -> Result<u8, NotDone>
+where
+    C: Drop,
     requires { AskTheirSources chosen }
     // They are asked of the devices under which they are kept.
     ensures told { IfOk result (λ status. (all : List WantedOf) × (between : S)
@@ -374,7 +387,7 @@ pub fn keep_chosen<S: Heeds, A: Alter, O: Write, E: Write>(
         (λ ends. HasCleanDisk (state A.Store conn.new)
         → (state A.Store conn.old).now.schema ≡ archive_schema
         → KeepsLogs (socket_rules S.opens S.closes S.Socket.sends S.Socket.receives
-        S.Socket.receives_within) all between sockets.new
+        S.Socket.receives_within) (started C.reads clock) all between sockets.new
         (state A.Store conn.old).now (state A.Store conn.new).now ends) status) }
     // Whatever comes of it, no item and no log is lost.
     ensures stays { HasCleanDisk (state A.Store conn.new)
@@ -396,9 +409,11 @@ pub fn keep_chosen<S: Heeds, A: Alter, O: Write, E: Write>(
     ensures caused { HasCleanDisk (state A.Store conn.new)
         → (state A.Store conn.old).now.schema ≡ archive_schema
         → IfErr result (EndsRunOver (socket_rules S.opens S.closes S.Socket.sends S.Socket.receives
-        S.Socket.receives_within) (given_in options.now) chosen sockets.old sockets.new
+        S.Socket.receives_within) (started C.reads clock) (given_in options.now) chosen sockets.old sockets.new
         (state A.Store conn.old).now) }
 {
     let all = chosen_logs(sockets, conn, alloc, chosen, options)?;
-    keep_each(sockets, conn, alloc, all, options, counts, output, errors)
+    keep_each(
+        sockets, conn, alloc, clock, all, options, counts, output, errors,
+    )
 }

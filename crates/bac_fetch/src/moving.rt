@@ -8,14 +8,11 @@ ghost use Rattle.bac_archive.specs.Changes.{HasChangedLogs};
 ghost use Rattle.bac_archive.specs.Logs.{log_columns};
 ghost use Rattle.bac_archive.specs.Schema.{archive_schema};
 ghost use Rattle.bac_ports.specs.Sockets.{socket_rules};
-ghost use Rattle.std.specs.String.{string_bytes};
 ghost use Rattle.bac_asked.specs.Wanted.{AsksItsSource, HasNoAddress};
 ghost use Rattle.bac_asked.specs.AsLog.{given_in};
-ghost use Rattle.bac_asked.specs.Faults.{WantsMemory};
+ghost use Rattle.bac_asked.specs.Faults.{WantsMemory, FailsOnRows, EndsLog};
 ghost use Rattle.bac_fetch.specs.Causes.{EndsFirst, EndsMoving, EndsSettling, EndsThere};
-ghost use Rattle.bac_asked.specs.Faults.{FailsOnRows};
 ghost use Rattle.bac_fetch.specs.Faults.{EndsRun, HaveNoAddress};
-ghost use Rattle.bac_asked.specs.Faults.{EndsLog};
 ghost use Rattle.bac_fetch.specs.Moves.{AreMoved, AsksThere, IsElsewhere, Settles, SettlesBy};
 ghost use Rattle.bac_fetch.specs.Moves.{SettlesFirst, SettlesUnless, is_placed, moved_columns};
 ghost use Rattle.bac_fetch.specs.Moves.{moved_of, stands};
@@ -28,7 +25,7 @@ use bac_asked::{Fault, FileFault, NotDone, Options, Wanted, kept_at, push_both, 
 use bac_ports::Sockets;
 use bac_print::write_text;
 use bac_questions::{
-    Heard, Identity, Said, copy_text, identify, is_same_device, is_told, of_device,
+    Heard, Identity, Said, copy_source, copy_text, identify, is_same_device, is_told, of_device,
     stands_elsewhere,
 };
 use sqlite::{Alter, Connection};
@@ -167,29 +164,6 @@ fn tell_place<E: Write>(
     }
     let _ = write_text(errors, &text);
     Ok(())
-}
-
-/// The same place once more.
-fn copy_source(alloc: Global, source: &Source) -> Result<Source, NotDone>
-    ensures copy { IfOk result (λ copy. is_same_device copy source.now ≡ true) }
-    ensures same { IfOk result (λ copy. (string_bytes copy.address
-        ≡ string_bytes source.now.address) × (copy.dnet ≡ source.now.dnet)
-        × (string_bytes copy.dadr ≡ string_bytes source.now.dadr)
-        × (copy.instance ≡ source.now.instance)) }
-    ensures fault { IfErr result WantsMemory }
-{
-    let (Ok(address), Ok(dadr)) = (
-        String::from_str(alloc, &source.address),
-        String::from_str(alloc, &source.dadr),
-    ) else {
-        return Err(NotDone::Asking(Fault::Memory));
-    };
-    Ok(Source {
-        address,
-        dnet: source.dnet,
-        dadr,
-        instance: source.instance,
-    })
 }
 
 /// What the device at an old place says of itself.

@@ -6,8 +6,7 @@ ghost use Rattle.sqlite.specs.State.{HasCleanDisk, Survives};
 ghost use Rattle.sqlite.specs.Held.{state};
 ghost use Rattle.bac_archive.specs.Schema.{archive_schema};
 ghost use Rattle.bac_asked.specs.Lines.{summary_line};
-ghost use Rattle.bac_asked.specs.Faults.{FailsOnRows};
-ghost use Rattle.bac_asked.specs.Faults.{EndsLog};
+ghost use Rattle.bac_asked.specs.Faults.{FailsOnRows, EndsLog};
 ghost use Rattle.bac_fetch.specs.Keeps.{IsNextOf, IsToldBy, next_behind};
 ghost use Rattle.bac_questions.specs.Whose.{heard_with};
 

@@ -1,6 +1,7 @@
 //! One log of a run is kept, or it is told why it isn't.
 
-ghost use Rattle.std.specs.Prelude.{◌≡◌, IfErr, IfOk, option_map};
+ghost use Rattle.std.specs.Prelude.{◌≡◌, if◌then◌else◌, IfErr, IfOk, option_map};
+ghost use Rattle.bac_heeding.specs.Notes.{nothing};
 ghost use Rattle.sqlite.specs.State.{HasCleanDisk, Survives};
 ghost use Rattle.sqlite.specs.Held.{state};
 ghost use Rattle.bac_archive.specs.Schema.{archive_schema};
@@ -21,10 +22,10 @@ use crate::passing::{pass_by, pass_over, print_end};
 use crate::telling::{tell_anew, tell_why};
 use bac_archive::Log;
 use bac_asked::{Asking, End, Ending, NotDone, Wanted, end_status};
-use bac_heeding::Heeds;
+use bac_heeding::{Heeds, Passed};
 use bac_ports::Sockets;
 use bac_questions::{
-    Heard, Said, add_heard, device_on_record, hindrance, is_silent, log_among, said_of,
+    Heard, Said, add_heard, device_on_record, hindrance, is_heard, is_silent, log_among, said_of,
 };
 use sqlite::{Alter, Connection};
 use std::alloc::Global;
@@ -142,6 +143,7 @@ fn keep_unless<S: Heeds, A: Alter, O: Write, E: Write>(
     heard: &mut Vec<Heard>,
     wanted: Wanted,
     said: Said,
+    passed: Passed,
     why: Option<Ending>,
     counts: bool,
     output: &mut O,
@@ -177,12 +179,23 @@ fn keep_unless<S: Heeds, A: Alter, O: Write, E: Write>(
         ),
         Some(why) => {
             let address = wanted.asking.asked.address;
-            let passed = sockets.passed();
             let source = wanted.source;
             pass_by(
                 conn, alloc, log, heard, source, said, why, passed, address, output, errors,
             )
         }
+    }
+}
+
+/// What passed since the last question to the device of a log was first sent, by the socket that was
+/// closed last; nothing of one that was called beside others.
+fn passed_since<S: Heeds>(sockets: &S, was_called: bool) -> Passed
+    ensures { result ≡ (if was_called then nothing else S.passes sockets.now) }
+{
+    if was_called {
+        Passed::nothing()
+    } else {
+        sockets.passed()
     }
 }
 
@@ -195,6 +208,7 @@ fn keep_heard<S: Heeds, A: Alter, O: Write, E: Write>(
     at: usize,
     heard: &mut Vec<Heard>,
     wanted: Wanted,
+    called: bool,
     counts: bool,
     output: &mut O,
     errors: &mut E,
@@ -229,8 +243,11 @@ fn keep_heard<S: Heeds, A: Alter, O: Write, E: Write>(
         on_record,
         said.identity,
     );
+    // What passed of a device that was called at once stands beside what passed of others.
+    let was_heard = is_heard(heard.as_slice(), &wanted.source);
+    let passed = passed_since(sockets, called && was_heard);
     keep_unless(
-        sockets, conn, alloc, known, at, heard, wanted, said, why, counts, output, errors,
+        sockets, conn, alloc, known, at, heard, wanted, said, passed, why, counts, output, errors,
     )
 }
 
@@ -243,6 +260,7 @@ pub(crate) fn keep_next<S: Heeds, A: Alter, O: Write, E: Write>(
     at: usize,
     heard: &mut Vec<Heard>,
     wanted: Wanted,
+    called: bool,
     counts: bool,
     output: &mut O,
     errors: &mut E,
@@ -273,6 +291,6 @@ pub(crate) fn keep_next<S: Heeds, A: Alter, O: Write, E: Write>(
         return pass_over(conn, alloc, log, &wanted.source, Ending::NotAsked, output);
     }
     keep_heard(
-        sockets, conn, alloc, known, at, heard, wanted, counts, output, errors,
+        sockets, conn, alloc, known, at, heard, wanted, called, counts, output, errors,
     )
 }

@@ -2,7 +2,6 @@
 use Rattle.std.specs.Prelude.{◌≡◌, ℕ, ◌≤◌, List, [], ◌∷◌, ◌++◌, Option, Some, Err, All, map, slice_get}
 use Rattle.bac_ports.specs.Port.{Receiving, Sending}
 use Rattle.bac_ports.specs.Sockets.{SocketRules, UsesSocket, own_address}
-use Rattle.bac_ports.specs.declared.port.OpenFault.{OpenFault}
 use Rattle.bac_play.specs.declared.play.Outcome.{Outcome}
 use Rattle.bac_desks.specs.Chain.{Chain}
 use Rattle.bac_desks.specs.Event.{Event, Sent}
@@ -16,7 +15,7 @@ use Rattle.bac_desks.specs.declared.seat.Seat.{Seat}
 use Rattle.bac_jobs.specs.Jobs.{AreEnded, IsIdle, MakesRounds}
 use Rattle.bac_jobs.specs.declared.job.Turn.{Turn}
 use Rattle.bac_hearing.specs.declared.hearing.NotHeard.{NotHeard}
-use Rattle.bac_hearing.specs.declared.hearing.NotHeard.TheVariants.{Socket, Memory, Unfinished}
+use Rattle.bac_hearing.specs.declared.hearing.NotHeard.TheVariants.{Memory, Unfinished, Unopened}
 
 -- a question waits so long and is sent so often again; at most 64 are open, one at each address
 abbrev pub limits : ℕ → ℕ → Rules
@@ -69,8 +68,8 @@ Waits {C = C} sends receives reads rounds port start fresh last =
 abbrev pub FailsToHear : {S P C : Type 0} → SocketRules S P → StartedClock C → List (List ℕ) → Option (List ℕ) → ℕ → ℕ
     → S → S →
     NotHeard → Type 0
-FailsToHear rules clock peers local timeout retries before after Socket =
-    (why : OpenFault) × rules.opens before (own_address local) timeout (Err why) after
+FailsToHear rules clock peers local timeout retries before after (Unopened why) =
+    rules.opens before (own_address local) timeout (Err why) after
 FailsToHear rules clock peers local timeout retries before after Memory = Unit {0}
 FailsToHear rules clock peers local timeout retries before after Unfinished =
     UsesSocket rules (own_address local) timeout before

@@ -7,7 +7,7 @@ ghost use Rattle.bac_hearing.specs.Hearing.{with_peers};
 
 use bac_desks::{Clock, Desks, Rules};
 use bac_jobs::{Job, finish};
-use bac_ports::{Port, Sockets};
+use bac_ports::{OpenFault, Port, Sockets};
 use std::alloc::{AllocError, Global};
 
 /// Any address of this machine, and any free port.
@@ -17,7 +17,7 @@ const ANY: [u8; 6] = [0; 6];
 #[derive(Clone, Copy, Debug, PartialEq, Eq)]
 pub enum NotHeard {
     /// No socket was opened.
-    Socket,
+    Unopened(OpenFault),
     /// Out of memory.
     Memory,
     /// A job hasn't ended, after as many turns as fit a number of 64 bits.
@@ -96,8 +96,9 @@ where
         S.Socket.receives_within) (started C.reads clock) peers.now local timeout retries
         sockets.old sockets.new) }
 {
-    let Ok(port) = sockets.open(local.unwrap_or(ANY), timeout) else {
-        return Err(NotHeard::Socket);
+    let port = match sockets.open(local.unwrap_or(ANY), timeout) {
+        Ok(port) => port,
+        Err(why) => return Err(NotHeard::Unopened(why)),
     };
     let mut desks = Desks::new(alloc, port, clock, limits(timeout, retries));
     let heard = hear(alloc, &mut desks, peers, jobs);

@@ -13,6 +13,7 @@ use Rattle.bac_fetch.specs.Chosen.{AreChosen}
 use Rattle.bac_fetch.specs.Keeps.{KeepsLogs}
 use Rattle.bac_fetch.specs.Stays.{HasAllOf}
 use Rattle.bac_fetch.specs.declared.keeping.Chosen.{Chosen}
+use Rattle.bac_hearing.specs.Hearing.{StartedClock}
 use Rattle.bac_ports.specs.Sockets.{SocketRules}
 
 -- a connection is open, and its disk has given back what was written
@@ -29,13 +30,13 @@ pub record IsArchiveOf (found archive : Database) : Type 0 where
   pub same : found.schema ≡ archive_schema → archive ≡ found
 
 -- these logs, of those that were chosen, were kept in the archive, and their runs ended so
-pub record KeepsArchive {S P : Type 0} (rules : SocketRules S P) (chosen : Chosen) (all : List Wanted)
-    (before after : S)
+pub record KeepsArchive {S P C : Type 0} (rules : SocketRules S P) (clock : StartedClock C) (chosen : Chosen)
+    (all : List Wanted) (before after : S)
     (ends : List End) (found left : Database) : Type 0 where
   pub archive : Database
   pub opened : IsArchiveOf found archive
   pub chose : AreChosen chosen archive.trees all
-  pub kept : KeepsLogs rules all before after archive left ends
+  pub kept : KeepsLogs rules clock all before after archive left ends
 
 -- of an archive that was found no item and no log is lost
 abbrev pub LosesNothing : Database → Database → Type 0

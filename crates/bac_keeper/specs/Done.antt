@@ -25,6 +25,7 @@ use Rattle.bac_files.specs.Files.{FileOf, IsDoneTo}
 use Rattle.bac_files.specs.declared.disk_files.DiskFiles.{DiskFiles}
 use Rattle.bac_keeper.specs.Archives.{IsArchiveOf, KeepsArchive}
 use Rattle.bac_keeper.specs.Ends.{FailsFile, IsNoArchive, IsUnclosedBySome}
+use Rattle.bac_hearing.specs.Hearing.{StartedClock}
 use Rattle.bac_ports.specs.Sockets.{SocketRules}
 use Rattle.bac_print.specs.Output.{Held}
 use Rattle.bac_words.specs.declared.job.Keep.{Keep}
@@ -70,29 +71,29 @@ TellsThese {S = S} rules chosen sockets before after kept status =
     × AreFound rules chosen sockets all between × AreToldBy before after all (kept all between) status
 
 -- The logs that the words choose were kept in the archive that two files held, which the closed files hold now.
-abbrev pub KeepsIn : {S P D : Type 0} → SocketRules S P → (g : disk.Ghosts D) → Image → Keep → S → S → Held → Held →
-    Option (Files D) → ℕ → Type 0
-KeepsIn rules g image keep sockets sockets_after before after closed status =
+abbrev pub KeepsIn : {S P C D : Type 0} → SocketRules S P → StartedClock C → (g : disk.Ghosts D) → Image → Keep → S → S
+    → Held → Held → Option (Files D) → ℕ → Type 0
+KeepsIn rules clock g image keep sockets sockets_after before after closed status =
     IsSome closed × (chosen : Chosen) × Chooses keep chosen × TellsThese rules chosen sockets before after
-    (λ all between ends. IfSome closed (IsDoneTo g image (KeepsArchive rules chosen all between sockets_after ends)))
+    (λ all between ends. IfSome closed (IsDoneTo g image (KeepsArchive rules clock chosen all between sockets_after ends)))
     status
 
 -- what two files held is an archive, or becomes one, and the run over the logs that were chosen ends so
-abbrev pub EndsOver : {S P : Type 0} → SocketRules S P → Chosen → Given → S → S → Database → NotDone → Type 0
-EndsOver rules which given before after found fault =
-    (archive : Database) × IsArchiveOf found archive × EndsRunOver rules given which before after archive fault
+abbrev pub EndsOver : {S P C : Type 0} → SocketRules S P → StartedClock C → Chosen → Given → S → S → Database → NotDone → Type 0
+EndsOver rules clock which given before after found fault =
+    (archive : Database) × IsArchiveOf found archive × EndsRunOver rules clock given which before after archive fault
 
 -- Why the logs that were chosen aren't kept in the archive that two files held: it is none; or the run over it ends so.
-abbrev pub RefusesKeep : {S P : Type 0} → SocketRules S P → Chosen → Given → S → S → Database → FileFault → Type 0
-RefusesKeep rules which given before after found why = IsNoArchive found why
-    ⊎ EndsOver rules which given before after found (File why)
+abbrev pub RefusesKeep : {S P C : Type 0} → SocketRules S P → StartedClock C → Chosen → Given → S → S → Database
+    → FileFault → Type 0
+RefusesKeep rules clock which given before after found why = IsNoArchive found why
+    ⊎ EndsOver rules clock which given before after found (File why)
 
 -- so the file is no use to `keep`
-abbrev pub FailsToKeep : {S P F : Type 0} {s : start.Ghosts F} → SocketRules S P → disk.Ghosts (FileOf s) → Image → Keep
-    → S → S →
-    DiskFiles F s → FileFault → Type 0
-FailsToKeep rules g image keep before after files why = (which : Chosen) × Chooses keep which
-    × FailsFile g image keep.file (is_some keep.address) (RefusesKeep rules which (given_of keep.options) before after)
+abbrev pub FailsToKeep : {S P C F : Type 0} {s : start.Ghosts F} → SocketRules S P → StartedClock C
+    → disk.Ghosts (FileOf s) → Image → Keep → S → S → DiskFiles F s → FileFault → Type 0
+FailsToKeep rules clock g image keep before after files why = (which : Chosen) × Chooses keep which
+    × FailsFile g image keep.file (is_some keep.address) (RefusesKeep rules clock which (given_of keep.options) before after)
     files why
 
 -- Why words name no logs: without ADDRESS this; else `bac log` with them asks for none.
@@ -105,19 +106,19 @@ NamesNone alone (Some address) (instance ∷ more) given fault = AreUnnamed addr
 abbrev pub ChoosesNone : Keep → NotDone → Type 0
 ChoosesNone keep = NamesNone (AreNoOptions (given_of keep.options)) keep.address keep.instances (given_of keep.options)
 
-module _ {S P F : Type 0} {s : start.Ghosts F} (rules : SocketRules S P) (g : disk.Ghosts (FileOf s)) (image : Image)
-  where
-    -- The logs that were chosen aren't kept, whatever the files hold; and of two closed files the run over what they held
-    -- ends so, unless they couldn't be closed.
-    abbrev pub EndsChosenKeep : Chosen → Given → S → S → DiskFiles F s → NotDone → Type 0
-    EndsChosenKeep which given before after files fault =
-        EndsKeeping rules which (Unit {0}) (Unit {0}) before after fault × (IsUnclosedBySome files
-        ⊎ (IsSome files.closed
-        × IfSome files.closed (IsDoneTo g image (λ found left. EndsOver rules which given before after found fault))))
+module _ {S P C F : Type 0} {s : start.Ghosts F} (rules : SocketRules S P) (clock : StartedClock C)
+    (g : disk.Ghosts (FileOf s)) (image : Image) where
+  -- The logs that were chosen aren't kept, whatever the files hold; and of two closed files the run over what they held
+  -- ends so, unless they couldn't be closed.
+  abbrev pub EndsChosenKeep : Chosen → Given → S → S → DiskFiles F s → NotDone → Type 0
+  EndsChosenKeep which given before after files fault =
+      EndsKeeping rules which (Unit {0}) (Unit {0}) before after fault × (IsUnclosedBySome files
+      ⊎ (IsSome files.closed
+      × IfSome files.closed (IsDoneTo g image (λ found left. EndsOver rules clock which given before after found fault))))
 
-    -- Why `keep` isn't done, if the file isn't at fault: memory is wanting; the words choose no logs, and no socket is
-    -- opened; or those that they choose aren't kept.
-    abbrev pub EndsKeep : Keep → S → S → DiskFiles F s → NotDone → Type 0
-    EndsKeep keep before after files fault = WantsMemory fault ⊎ ((ChoosesNone keep fault × (after ≡ before))
-        ⊎ ((which : Chosen) × Chooses keep which
-        × EndsChosenKeep which (given_of keep.options) before after files fault))
+  -- Why `keep` isn't done, if the file isn't at fault: memory is wanting; the words choose no logs, and no socket is
+  -- opened; or those that they choose aren't kept.
+  abbrev pub EndsKeep : Keep → S → S → DiskFiles F s → NotDone → Type 0
+  EndsKeep keep before after files fault = WantsMemory fault ⊎ ((ChoosesNone keep fault × (after ≡ before))
+      ⊎ ((which : Chosen) × Chooses keep which
+      × EndsChosenKeep which (given_of keep.options) before after files fault))

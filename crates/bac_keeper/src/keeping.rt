@@ -17,10 +17,12 @@ ghost use Rattle.bac_keeper.specs.Archives.{IsCleanArchive, IsHeld, KeepsArchive
 ghost use Rattle.bac_keeper.specs.Done.{Chooses, ChoosesNone, EndsKeep, EndsOver, FailsToKeep};
 ghost use Rattle.bac_keeper.specs.Done.{KeepsIn, RefusesKeep, TellsThese, given_of};
 ghost use Rattle.bac_keeper.specs.Ends.{MayAsk, MayFail};
+ghost use Rattle.bac_hearing.specs.Hearing.{started};
 ghost use Rattle.bac_ports.specs.Sockets.{socket_rules};
 
 use crate::archives::{close_file, open_archive, open_file};
 use bac_asked::{FileFault, NotDone, Options, check_options, named, named_all};
+use bac_desks::Clock;
 use bac_fetch::{Chosen, keep_chosen, keep_each};
 use bac_files::DiskFiles;
 use bac_heeding::Heeds;
@@ -74,16 +76,19 @@ fn choose(alloc: Global, asked: &Keep, options: &Options<'_>) -> Result<Chosen, 
 }
 
 /// Keeps what is new of the logs that were chosen in an open archive.
-fn keep_these<S: Heeds, A: Alter, O: Write, E: Write>(
+fn keep_these<S: Heeds, C: Clock, A: Alter, O: Write, E: Write>(
     sockets: &mut S,
     conn: &mut Connection<A>,
     alloc: Global,
+    clock: C,
     chosen: Chosen,
     options: &Options<'_>,
     counts: bool,
     output: &mut O,
     errors: &mut E,
 ) -> Result<u8, NotDone>
+where
+    C: Drop,
     requires { AskTheirSources chosen }
     ensures told { IfOk result (TellsThese (socket_rules S.opens S.closes S.Socket.sends
         S.Socket.receives S.Socket.receives_within) chosen sockets.old
@@ -91,7 +96,7 @@ fn keep_these<S: Heeds, A: Alter, O: Write, E: Write>(
         (λ all between ends. IsCleanArchive (state A.Store conn.old) (state A.Store conn.new)
         → AreChosen chosen (state A.Store conn.old).now.trees all
         × KeepsLogs (socket_rules S.opens S.closes S.Socket.sends S.Socket.receives
-        S.Socket.receives_within) all between sockets.new
+        S.Socket.receives_within) (started C.reads clock) all between sockets.new
         (state A.Store conn.old).now (state A.Store conn.new).now ends)) }
     ensures stays { IsCleanArchive (state A.Store conn.old) (state A.Store conn.new)
         → Survives (state A.Store conn.old) (state A.Store conn.new)
@@ -107,28 +112,33 @@ fn keep_these<S: Heeds, A: Alter, O: Write, E: Write>(
         sockets.old sockets.new) }
     ensures caused { IsCleanArchive (state A.Store conn.old) (state A.Store conn.new)
         → IfErr result (EndsRunOver (socket_rules S.opens S.closes S.Socket.sends S.Socket.receives
-        S.Socket.receives_within) (given_in options.now) chosen sockets.old sockets.new
+        S.Socket.receives_within) (started C.reads clock) (given_in options.now) chosen sockets.old sockets.new
         (state A.Store conn.old).now) }
 {
     match chosen {
-        Chosen::Named(all) => keep_each(sockets, conn, alloc, all, options, counts, output, errors),
+        Chosen::Named(all) => keep_each(
+            sockets, conn, alloc, clock, all, options, counts, output, errors,
+        ),
         chosen => keep_chosen(
-            sockets, conn, alloc, chosen, options, counts, output, errors,
+            sockets, conn, alloc, clock, chosen, options, counts, output, errors,
         ),
     }
 }
 
 /// The same in an open database, which has to be an archive, or becomes one.
-fn keep_in<S: Heeds, A: Alter, O: Write, E: Write>(
+fn keep_in<S: Heeds, C: Clock, A: Alter, O: Write, E: Write>(
     sockets: &mut S,
     conn: &mut Connection<A>,
     alloc: Global,
+    clock: C,
     chosen: Chosen,
     options: &Options<'_>,
     counts: bool,
     output: &mut O,
     errors: &mut E,
 ) -> Result<u8, NotDone>
+where
+    C: Drop,
     requires { AskTheirSources chosen }
     // What is kept is committed.
     ensures told { IfOk result (TellsThese (socket_rules S.opens S.closes S.Socket.sends
@@ -136,7 +146,7 @@ fn keep_in<S: Heeds, A: Alter, O: Write, E: Write>(
         (O.contents output.old) (O.contents output.new)
         (λ all between ends. IsHeld (state A.Store conn.new)
         → KeepsArchive (socket_rules S.opens S.closes S.Socket.sends S.Socket.receives
-        S.Socket.receives_within) chosen all between sockets.new ends
+        S.Socket.receives_within) (started C.reads clock) chosen all between sockets.new ends
         (state A.Store conn.old).now (state A.Store conn.new).committed)) }
     // Whatever comes of it, no item and no log is lost.
     ensures stays { IsHeld (state A.Store conn.new)
@@ -146,7 +156,7 @@ fn keep_in<S: Heeds, A: Alter, O: Write, E: Write>(
     ensures fault { IfErr result (MayFail (λ why. ((error : Error) × (why ≡ of_error error))
         ⊎ (IsHeld (state A.Store conn.new) → RefusesKeep
         (socket_rules S.opens S.closes S.Socket.sends S.Socket.receives
-        S.Socket.receives_within) chosen (given_in options.now) sockets.old
+        S.Socket.receives_within) (started C.reads clock) chosen (given_in options.now) sockets.old
         sockets.new (state A.Store conn.old).now why))) }
     ensures ends { IfErr result (MayAsk (λ fault. EndsKeeping
         (socket_rules S.opens S.closes S.Socket.sends S.Socket.receives
@@ -154,12 +164,12 @@ fn keep_in<S: Heeds, A: Alter, O: Write, E: Write>(
         sockets.new fault
         × (IsHeld (state A.Store conn.new) → EndsOver
         (socket_rules S.opens S.closes S.Socket.sends S.Socket.receives
-        S.Socket.receives_within) chosen (given_in options.now) sockets.old
+        S.Socket.receives_within) (started C.reads clock) chosen (given_in options.now) sockets.old
         sockets.new (state A.Store conn.old).now fault))) }
 {
     open_archive(conn)?;
     let status = keep_these(
-        sockets, conn, alloc, chosen, options, counts, output, errors,
+        sockets, conn, alloc, clock, chosen, options, counts, output, errors,
     )?;
     settled(conn, status)
 }
@@ -178,29 +188,32 @@ fn settled<A: Alter>(conn: &Connection<A>, status: u8) -> Result<u8, NotDone>
 }
 
 /// `bac keep`: opens the archive, keeps what is new of the logs that the words name, and closes it.
-pub(crate) fn keep<S: Heeds, F: Start, O: Write, E: Write>(
+pub(crate) fn keep<S: Heeds, C: Clock, F: Start, O: Write, E: Write>(
     sockets: &mut S,
     files: &mut DiskFiles<'_, F>,
     alloc: Global,
+    clock: C,
     asked: &Keep,
     counts: bool,
     output: &mut O,
     errors: &mut E,
 ) -> Result<u8, NotDone>
+where
+    C: Drop,
     ensures kept { IfOk result (KeepsIn (socket_rules S.opens S.closes S.Socket.sends
-        S.Socket.receives S.Socket.receives_within) ⟦<FileFrom<F> as Disk>⟧
+        S.Socket.receives S.Socket.receives_within) (started C.reads clock) ⟦<FileFrom<F> as Disk>⟧
         (image_at F.Start) asked.now sockets.old sockets.new (O.contents output.old)
         (O.contents output.new) files.new.closed) }
     ensures named { OnOk result (IsNamed asked.now.file (is_some asked.now.address) files.new) }
     ensures fault { IfErr result (MayFail (FailsToKeep
         (socket_rules S.opens S.closes S.Socket.sends S.Socket.receives
-        S.Socket.receives_within) ⟦<FileFrom<F> as Disk>⟧ (image_at F.Start) asked.now
+        S.Socket.receives_within) (started C.reads clock) ⟦<FileFrom<F> as Disk>⟧ (image_at F.Start) asked.now
         sockets.old sockets.new files.new)) }
     ensures stays { IsUnused files.old → IfSome files.new.closed
         (IsDoneTo ⟦<FileFrom<F> as Disk>⟧ (image_at F.Start) LosesNothing) }
     ensures ends { IfErr result (MayAsk (EndsKeep
         (socket_rules S.opens S.closes S.Socket.sends S.Socket.receives
-        S.Socket.receives_within) ⟦<FileFrom<F> as Disk>⟧ (image_at F.Start) asked.now
+        S.Socket.receives_within) (started C.reads clock) ⟦<FileFrom<F> as Disk>⟧ (image_at F.Start) asked.now
         sockets.old sockets.new files.new)) }
 {
     let options = options_of(&asked.options);
@@ -208,7 +221,7 @@ pub(crate) fn keep<S: Heeds, F: Start, O: Write, E: Write>(
     // Without a device only an archive that has logs is of use, and none is made.
     let mut conn = open_file(files, asked.file.as_str(), asked.address.is_some())?;
     let done = keep_in(
-        sockets, &mut conn, alloc, chosen, &options, counts, output, errors,
+        sockets, &mut conn, alloc, clock, chosen, &options, counts, output, errors,
     );
     close_file(files, conn, done)
 }

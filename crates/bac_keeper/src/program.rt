@@ -10,12 +10,14 @@ ghost use Rattle.bac_keeper.specs.Done.{EndsKeep, FailsToKeep, KeepsIn};
 ghost use Rattle.bac_keeper.specs.Ends.{EndsBy, IsOfFile, IsUntold};
 ghost use Rattle.bac_keeper.specs.Shown.{EndsPrint, FailsToPrint, PrintsIn};
 ghost use Rattle.bac_keeper.specs.Stops.{EndsStop, FailsToStop, StopsIn};
+ghost use Rattle.bac_hearing.specs.Hearing.{started};
 ghost use Rattle.bac_ports.specs.Sockets.{socket_rules};
 
 use crate::keeping::keep;
 use crate::printing::kept;
 use crate::stopping::stop;
 use bac_asked::{Fault, FileFault, NotDone};
+use bac_desks::Clock;
 use bac_files::DiskFiles;
 use bac_heeding::Heeds;
 use bac_print::write_text;
@@ -70,25 +72,28 @@ fn tell_done<E: Write>(
 /// that began anew, and for a device that has moved; and why a file is no use. Any other fault is
 /// the caller's to tell. `counts` is for a terminal: the errors have a count of records while a log
 /// is fetched.
-pub fn run_keep<S: Heeds, F: Start, O: Write, E: Write>(
+pub fn run_keep<S: Heeds, C: Clock, F: Start, O: Write, E: Write>(
     sockets: &mut S,
     files: &mut DiskFiles<'_, F>,
     alloc: Global,
+    clock: C,
     asked: &Keep,
     counts: bool,
     output: &mut O,
     errors: &mut E,
 ) -> Result<u8, Fault>
+where
+    C: Drop,
     // The logs that the words choose were kept, in the archive that the files held; their lines
     // were printed, and the status is the greatest of theirs. Or the file is no use.
     ensures kept { asked.now.stop ≡ false
         → IfOk result (λ status. (IsNamed asked.now.file (is_some asked.now.address) files.new
         × KeepsIn (socket_rules S.opens S.closes S.Socket.sends S.Socket.receives
-        S.Socket.receives_within) ⟦<FileFrom<F> as Disk>⟧ (image_at F.Start)
+        S.Socket.receives_within) (started C.reads clock) ⟦<FileFrom<F> as Disk>⟧ (image_at F.Start)
         asked.now sockets.old sockets.new (O.contents output.old)
         (O.contents output.new) files.new.closed status)
         ⊎ IsOfFile (FailsToKeep (socket_rules S.opens S.closes S.Socket.sends
-        S.Socket.receives S.Socket.receives_within) ⟦<FileFrom<F> as Disk>⟧
+        S.Socket.receives S.Socket.receives_within) (started C.reads clock) ⟦<FileFrom<F> as Disk>⟧
         (image_at F.Start) asked.now sockets.old sockets.new files.new) status) }
     // With `--stop` they were stopped, and nothing else of the archive changed; no socket is
     // opened, and only that the file is no use is told on the errors.
@@ -112,7 +117,7 @@ pub fn run_keep<S: Heeds, F: Start, O: Write, E: Write>(
     // Or it ends so, and that is the caller's to tell.
     ensures ends { asked.now.stop ≡ false
         → IfErr result (λ why. EndsKeep (socket_rules S.opens S.closes S.Socket.sends
-        S.Socket.receives S.Socket.receives_within) ⟦<FileFrom<F> as Disk>⟧
+        S.Socket.receives S.Socket.receives_within) (started C.reads clock) ⟦<FileFrom<F> as Disk>⟧
         (image_at F.Start) asked.now sockets.old sockets.new files.new
         (NotDone.Asking why)) }
     ensures stop_ends { asked.now.stop ≡ true
@@ -122,7 +127,7 @@ pub fn run_keep<S: Heeds, F: Start, O: Write, E: Write>(
         let done = stop(files, alloc, asked, output);
         return tell_done(alloc, asked.file.as_str(), done, errors);
     }
-    let done = keep(sockets, files, alloc, asked, counts, output, errors);
+    let done = keep(sockets, files, alloc, clock, asked, counts, output, errors);
     tell_done(alloc, asked.file.as_str(), done, errors)
 }
 

@@ -2,19 +2,19 @@
 //! a log ever had; and which devices are behind the logs on record. What comes may come from anyone.
 #![tactic(auto)]
 
+mod among;
 mod connecting;
 mod discovering;
 mod questions;
 mod said;
-mod silent;
 mod whose;
 
+pub use among::{copy_source, is_same_device, log_among};
 pub use connecting::connect;
 pub use discovering::discover;
 pub use questions::{Count, read_count};
-pub use said::{Identity, Said, copy_text, identify};
-pub use silent::{is_same_device, log_among};
+pub use said::{Identity, Said, copy_text, identify, silent};
 pub use whose::{
-    Heard, add_heard, device_on_record, hindrance, is_silent, is_told, of_device, said_of,
-    stands_elsewhere,
+    Heard, add_heard, device_on_record, hindrance, is_heard, is_silent, is_told, of_device,
+    said_of, stands_elsewhere,
 };

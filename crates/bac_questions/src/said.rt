@@ -1,7 +1,6 @@
 //! What a device says of itself: its instance, its last restart and the revision of its database.
 
 ghost use Rattle.std.specs.Prelude.{◌≡◌, ◌<◌, Ok, IsNone, IfOk, IfSome, ℕ, IfErr};
-ghost use Rattle.std.specs.String.{string_bytes};
 ghost use Rattle.bac_archive.specs.Logs.{told_values};
 ghost use Rattle.bac_link.specs.Path.{towards};
 ghost use Rattle.bac_ports.specs.Sockets.{socket_rules};
@@ -71,7 +70,7 @@ fn nothing_told() -> Told
 }
 
 /// A device that gave no answer.
-pub(crate) fn silent() -> Said
+pub fn silent() -> Said
     ensures { result ≡ silent }
 {
     Said {

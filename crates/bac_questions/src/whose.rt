@@ -7,12 +7,12 @@ ghost use Rattle.bac_ports.specs.Sockets.{socket_rules};
 ghost use Rattle.bac_asked.specs.Faults.{WantsMemory};
 ghost use Rattle.bac_questions.specs.Faults.{EndsAsking};
 ghost use Rattle.bac_questions.specs.Silent.{is_same_device};
-ghost use Rattle.bac_questions.specs.Whose.{HeardAs, IsHeard, IsIdentified, IsOnRecord, heard_with};
+ghost use Rattle.bac_questions.specs.Whose.{HeardAs, IsIdentified, IsOnRecord, heard_with};
 ghost use Rattle.bac_questions.specs.Whose.{hindrance, is_elsewhere, is_heard, is_silent, is_told};
 ghost use Rattle.bac_questions.specs.Whose.{of_device, stands_elsewhere, told_elsewhere, told_one};
 
+use crate::among::{is_lost, is_same_device};
 use crate::said::{Identity, Said, copy_said, identify, silent};
-use crate::silent::{is_lost, is_same_device};
 use bac_archive::{Log, Source};
 use bac_asked::{Ending, Fault, NotDone, Wanted};
 use bac_ports::Sockets;
@@ -75,7 +75,7 @@ pub fn said_of<S: Sockets>(
 }
 
 /// Whether the device of a log was heard of.
-fn is_heard(heard: &[Heard], source: &Source) -> bool
+pub fn is_heard(heard: &[Heard], source: &Source) -> bool
     ensures { result ≡ is_heard heard.now source.now }
 {
     for one in heard {

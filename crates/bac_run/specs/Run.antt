@@ -10,6 +10,7 @@ use Rattle.bac_asked.specs.declared.end.NotDone.TheVariants.{Asking}
 use Rattle.bac_asked.specs.declared.fault.Fault.{Fault as KeepFault}
 use Rattle.bac_files.specs.Files.{FileOf, IsNamed}
 use Rattle.bac_files.specs.declared.disk_files.DiskFiles.{DiskFiles}
+use Rattle.bac_hearing.specs.Hearing.{StartedClock}
 use Rattle.bac_heeding.specs.Notes.{nothing}
 use Rattle.bac_heeding.specs.declared.notes.Passed.{Passed}
 use Rattle.bac_keeper.specs.Done.{EndsKeep, FailsToKeep, KeepsIn}
@@ -55,6 +56,16 @@ HasFaultStatus ends status =
     (why : KeepFault) × ends (Asking why) × ((status ≡ exit_status (fault_of why)) ⊎ (status ≡ exit_status Memory))
 
 module _ {S C F : Type 0} {s : start.Ghosts F} (g : disk.Ghosts (FileOf s)) where
+  -- `kept`: what the archive keeps of the logs that the words choose was printed; or the file is no use; or a fault is
+  -- told
+  abbrev pub RunsKept : Kept → Streams S C → ℕ → Streams S C → DiskFiles F s → Type 0
+  RunsKept asked old status new left =
+      ((IsNamed asked.file false left × PrintsIn g (image_at s) asked old.output new.output left.closed status)
+      × Keeps old.errors new.errors)
+      ⊎ (IsOfFile (FailsToPrint g (image_at s) asked left) status
+      ⊎ TellsFault (EndsPrint asked) nothing old.errors new.errors status)
+
+module _ {S C F T : Type 0} {s : start.Ghosts F} (g : disk.Ghosts (FileOf s)) (waits : StartedClock T) where
   -- `keep`: the logs that the words choose were kept in the archive that the files held; or the file is no use; or the
   -- status is a fault's. With `--stop` those that the words mean were stopped, or the file is no use, or a fault is
   -- told; and no socket is opened.
@@ -62,9 +73,9 @@ module _ {S C F : Type 0} {s : start.Ghosts F} (g : disk.Ghosts (FileOf s)) wher
       → DiskFiles F s → Type 0
   RunsKeepBy rules passes false asked old status new left =
       (IsNamed asked.file (is_some asked.address) left
-      × KeepsIn rules g (image_at s) asked old.sockets new.sockets old.output new.output left.closed status)
-      ⊎ (IsOfFile (FailsToKeep rules g (image_at s) asked old.sockets new.sockets left) status
-      ⊎ HasFaultStatus (EndsKeep rules g (image_at s) asked old.sockets new.sockets left) status)
+      × KeepsIn rules waits g (image_at s) asked old.sockets new.sockets old.output new.output left.closed status)
+      ⊎ (IsOfFile (FailsToKeep rules waits g (image_at s) asked old.sockets new.sockets left) status
+      ⊎ HasFaultStatus (EndsKeep rules waits g (image_at s) asked old.sockets new.sockets left) status)
   RunsKeepBy rules passes true asked old status new left =
       (((IsNamed asked.file false left × StopsIn g (image_at s) asked old.output new.output left.closed status)
       × Keeps old.errors new.errors)
@@ -77,22 +88,13 @@ module _ {S C F : Type 0} {s : start.Ghosts F} (g : disk.Ghosts (FileOf s)) wher
       → DiskFiles F s → Type 0
   RunsKeep rules passes asked old status new left = RunsKeepBy rules passes asked.stop asked old status new left
 
-  -- `kept`: what the archive keeps of the logs that the words choose was printed; or the file is no use; or a fault is
-  -- told
-  abbrev pub RunsKept : Kept → Streams S C → ℕ → Streams S C → DiskFiles F s → Type 0
-  RunsKept asked old status new left =
-      ((IsNamed asked.file false left × PrintsIn g (image_at s) asked old.output new.output left.closed status)
-      × Keeps old.errors new.errors)
-      ⊎ (IsOfFile (FailsToPrint g (image_at s) asked left) status
-      ⊎ TellsFault (EndsPrint asked) nothing old.errors new.errors status)
-
   -- The tool of a job. Each other one than `keep` and `kept` leaves the files alone; `kept` opens no socket.
   abbrev pub DoesAll : {P : Type 0} → SocketRules S P → (S → Passed) → (C → Option CivilTime → C → Type 0) → Job →
       Streams S C → DiskFiles F s → ℕ → Streams S C → DiskFiles F s → Type 0
   DoesAll rules passes tells (job.Keep asked) old files status new left =
       RunsKeep rules passes asked old status new left × IsStill old new
   DoesAll rules passes tells (job.Kept asked) old files status new left =
-      RunsKept asked old status new left × IsStill old new × (new.sockets ≡ old.sockets)
+      RunsKept g asked old status new left × IsStill old new × (new.sockets ≡ old.sockets)
   DoesAll rules passes tells other old files status new left = Runs rules passes tells other old status new
       × (left ≡ files)
 

@@ -5,6 +5,7 @@ ghost use Rattle.std.specs.String.{string_bytes};
 ghost use Rattle.sqlite_wal.specs.Files.{image_at};
 ghost use Rattle.bac_files.specs.Files.{IsDoneTo, IsUnused};
 ghost use Rattle.bac_keeper.specs.Archives.{LosesNothing};
+ghost use Rattle.bac_hearing.specs.Hearing.{started};
 ghost use Rattle.bac_ports.specs.Sockets.{socket_rules};
 ghost use Rattle.bac_tools.specs.Run.{AnswersWords, AreWrong, AskFor, Ends, OnlyTells, wrong_fault};
 ghost use Rattle.bac_tools.specs.Streams.{streams};
@@ -15,6 +16,7 @@ ghost use Rattle.bac_run.specs.Faults.{ending_of, fault_of};
 ghost use Rattle.bac_run.specs.Run.{AskForKept, DoesAll, DoesTold, IsOfKept, RunsAll, RunsKeep};
 ghost use Rattle.bac_run.specs.Run.{RunsKept};
 
+use bac_desks::Clock as WaitClock;
 use bac_heeding::{Heeds, Passed};
 use bac_keeper::{DiskFiles, Fault as KeepFault, run_keep, run_kept};
 use bac_tools::{Clock, Fault, run_read, tell_after};
@@ -50,16 +52,19 @@ fn ended<E: Write>(alloc: Global, passed: Passed, done: Result<u8, KeepFault>, e
 }
 
 /// `keep`, and its fault is told.
-fn keep_and_tell<S: Heeds, F: Start, O: Write, E: Write>(
+fn keep_and_tell<S: Heeds, F: Start, O: Write, E: Write, W: WaitClock>(
     sockets: &mut S,
     files: &mut DiskFiles<'_, F>,
     alloc: Global,
+    waits: W,
     asked: &Keep,
     counts: bool,
     output: &mut O,
     errors: &mut E,
 ) -> u8
-    ensures ran { RunsKeep ⟦<FileFrom<F> as Disk>⟧
+where
+    W: Drop,
+    ensures ran { RunsKeep ⟦<FileFrom<F> as Disk>⟧ (started W.reads waits)
         (socket_rules S.opens S.closes S.Socket.sends S.Socket.receives S.Socket.receives_within)
         S.passes asked.now
         (streams None (O.contents output.old) (E.contents errors.old) sockets.old (tt {0})) result
@@ -68,7 +73,7 @@ fn keep_and_tell<S: Heeds, F: Start, O: Write, E: Write>(
     ensures stays { IsUnused files.old → IfSome files.new.closed
         (IsDoneTo ⟦<FileFrom<F> as Disk>⟧ (image_at F.Start) LosesNothing) }
 {
-    let done = run_keep(sockets, files, alloc, asked, counts, output, errors);
+    let done = run_keep(sockets, files, alloc, waits, asked, counts, output, errors);
     ended(alloc, sockets.passed(), done, errors)
 }
 
@@ -89,10 +94,11 @@ fn print_and_tell<F: Start, O: Write, E: Write>(
 }
 
 /// Does what a job asks for, and answers the exit status.
-fn run_job<S: Heeds, F: Start, I: Read, O: Write, E: Write, C: Clock>(
+fn run_job<S: Heeds, F: Start, I: Read, O: Write, E: Write, C: Clock, W: WaitClock>(
     sockets: &mut S,
     files: &mut DiskFiles<'_, F>,
     alloc: Global,
+    waits: W,
     job: Job,
     counts: bool,
     input: &mut I,
@@ -100,7 +106,9 @@ fn run_job<S: Heeds, F: Start, I: Read, O: Write, E: Write, C: Clock>(
     errors: &mut E,
     clock: &mut C,
 ) -> u8
-    ensures ran { DoesAll ⟦<FileFrom<F> as Disk>⟧
+where
+    W: Drop,
+    ensures ran { DoesAll ⟦<FileFrom<F> as Disk>⟧ (started W.reads waits)
         (socket_rules S.opens S.closes S.Socket.sends S.Socket.receives S.Socket.receives_within)
         S.passes C.tells job (streams (I.remaining input.old) (O.contents output.old)
         (E.contents errors.old) sockets.old clock.old) files.old result
@@ -111,17 +119,20 @@ fn run_job<S: Heeds, F: Start, I: Read, O: Write, E: Write, C: Clock>(
         (IsDoneTo ⟦<FileFrom<F> as Disk>⟧ (image_at F.Start) LosesNothing) }
 {
     match job {
-        Job::Keep(asked) => keep_and_tell(sockets, files, alloc, &asked, counts, output, errors),
+        Job::Keep(asked) => keep_and_tell(
+            sockets, files, alloc, waits, &asked, counts, output, errors,
+        ),
         Job::Kept(asked) => print_and_tell(files, alloc, &asked, output, errors),
         other => run_read(sockets, alloc, Ok(other), input, output, errors, clock),
     }
 }
 
 /// The same over sockets that tell each datagram, if the words ask for it.
-fn run_told<S: Tracing, F: Start, I: Read, O: Write, E: Write, C: Clock>(
+fn run_told<S: Tracing, F: Start, I: Read, O: Write, E: Write, C: Clock, W: WaitClock>(
     sockets: &mut S,
     files: &mut DiskFiles<'_, F>,
     alloc: Global,
+    waits: W,
     job: Job,
     counts: bool,
     input: &mut I,
@@ -129,7 +140,9 @@ fn run_told<S: Tracing, F: Start, I: Read, O: Write, E: Write, C: Clock>(
     errors: &mut E,
     clock: &mut C,
 ) -> u8
-    ensures ran { DoesTold ⟦<FileFrom<F> as Disk>⟧ S.traces
+where
+    W: Drop,
+    ensures ran { DoesTold ⟦<FileFrom<F> as Disk>⟧ (started W.reads waits) S.traces
         (socket_rules S.opens S.closes S.Socket.sends S.Socket.receives S.Socket.receives_within)
         S.passes C.tells job (streams (I.remaining input.old) (O.contents output.old)
         (E.contents errors.old) sockets.old clock.old) files.old result
@@ -141,7 +154,7 @@ fn run_told<S: Tracing, F: Start, I: Read, O: Write, E: Write, C: Clock>(
 {
     sockets.trace(job.is_traced());
     run_job(
-        sockets, files, alloc, job, counts, input, output, errors, clock,
+        sockets, files, alloc, waits, job, counts, input, output, errors, clock,
     )
 }
 
@@ -149,10 +162,11 @@ fn run_told<S: Tracing, F: Start, I: Read, O: Write, E: Write, C: Clock>(
 /// exit status. Results and help go to the output; faults, and the line of a server that is up, go
 /// to the errors. `counts` is for a terminal: of `keep` the errors have a count of records while a
 /// log is fetched.
-pub fn run<S: Tracing, F: Start, I: Read, O: Write, E: Write, C: Clock>(
+pub fn run<S: Tracing, F: Start, I: Read, O: Write, E: Write, C: Clock, W: WaitClock>(
     sockets: &mut S,
     files: &mut DiskFiles<'_, F>,
     alloc: Global,
+    waits: W,
     words: &[String],
     counts: bool,
     input: &mut I,
@@ -160,9 +174,11 @@ pub fn run<S: Tracing, F: Start, I: Read, O: Write, E: Write, C: Clock>(
     errors: &mut E,
     clock: &mut C,
 ) -> u8
+where
+    W: Drop,
     // The tool that the words name does what they say.
     ensures done { (job : AnyJob) → AskFor (map string_bytes words.now) job
-        → RunsAll ⟦<FileFrom<F> as Disk>⟧ S.traces
+        → RunsAll ⟦<FileFrom<F> as Disk>⟧ (started W.reads waits) S.traces
         (socket_rules S.opens S.closes S.Socket.sends S.Socket.receives
         S.Socket.receives_within) S.passes C.tells job
         (streams (I.remaining input.old) (O.contents output.old) (E.contents errors.old)
@@ -191,7 +207,7 @@ pub fn run<S: Tracing, F: Start, I: Read, O: Write, E: Write, C: Clock>(
 {
     match read_words(alloc, words) {
         Ok(job) => run_told(
-            sockets, files, alloc, job, counts, input, output, errors, clock,
+            sockets, files, alloc, waits, job, counts, input, output, errors, clock,
         ),
         Err(fault) => run_read(sockets, alloc, Err(fault), input, output, errors, clock),
     }

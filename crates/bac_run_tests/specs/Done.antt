@@ -13,6 +13,7 @@ use Rattle.bac_fetch.specs.Chosen.{AreFound}
 use Rattle.bac_fetch.specs.Keeps.{lines_of}
 use Rattle.bac_fetch.specs.declared.keeping.Chosen.{Chosen}
 use Rattle.bac_files.specs.Files.{IsDoneTo}
+use Rattle.bac_hearing.specs.Hearing.{StartedClock}
 use Rattle.bac_keeper.specs.Archives.{KeepsArchive}
 use Rattle.bac_keeper.specs.Done.{AreThese, Chooses}
 use Rattle.bac_ports.specs.Sockets.{SocketRules}
@@ -27,7 +28,8 @@ AreCaughtUp (end ∷ ends) = (end.why ≡ Walk CaughtUp) × AreCaughtUp ends
 
 -- Each log that the words of `keep` choose is caught up and has its line, and two closed files hold the archive in
 -- which these runs kept them.
-pub record IsAllKept {S P D : Type 0} (rules : SocketRules S P) (g : disk.Ghosts D) (image : Image) (asked : Keep)
+pub record IsAllKept {S P C D : Type 0} (rules : SocketRules S P) (clock : StartedClock C) (g : disk.Ghosts D)
+    (image : Image) (asked : Keep)
     (sockets sockets_after : S) (before after : Held) (closed : Option (Files D)) : Type 0 where
   pub chosen : Chosen
   pub by_words : Chooses asked chosen
@@ -40,4 +42,4 @@ pub record IsAllKept {S P D : Type 0} (rules : SocketRules S P) (g : disk.Ghosts
   pub caught_up : AreCaughtUp ends
   pub lines : Appends before after (lines_of all ends)
   pub is_closed : IsSome closed
-  pub kept : IfSome closed (IsDoneTo g image (KeepsArchive rules chosen all between sockets_after ends))
+  pub kept : IfSome closed (IsDoneTo g image (KeepsArchive rules clock chosen all between sockets_after ends))

@@ -3,6 +3,7 @@
 ghost use Rattle.std.specs.Prelude.{◌≡◌, ◌⊎◌, false, map};
 ghost use Rattle.std.specs.String.{string_bytes};
 ghost use Rattle.sqlite_wal.specs.Files.{image_at};
+ghost use Rattle.bac_hearing.specs.Hearing.{started};
 ghost use Rattle.bac_ports.specs.Sockets.{socket_rules};
 ghost use Rattle.bac_tools.specs.Run.{AskFor};
 ghost use Rattle.bac_words.specs.declared.job.Job.TheVariants as job;
@@ -10,6 +11,7 @@ ghost use Rattle.bac_words.specs.declared.job.Keep.{Keep as KeepWords};
 ghost use Rattle.bac_words.specs.declared.job.Kept.{Kept as KeptWords};
 ghost use Rattle.bac_run_tests.specs.Done.{IsAllKept};
 
+use bac_desks::Clock as WaitClock;
 use bac_run::{DiskFiles, run};
 use bac_tools::Clock;
 use bac_trace::Tracing;
@@ -20,44 +22,51 @@ use std::io::{Read, Write};
 
 /// The program with the words of `keep`. Where it ends with 0, each log that the words choose is
 /// caught up and has its line, and the file holds the archive in which it is kept.
-pub fn keep_until_done<S: Tracing, F: Start, I: Read, O: Write, E: Write, C: Clock>(
+pub fn keep_until_done<S: Tracing, F: Start, I: Read, O: Write, E: Write, C: Clock, W: WaitClock>(
     sockets: &mut S,
     files: &mut DiskFiles<'_, F>,
     alloc: Global,
+    waits: W,
     words: &[String],
     input: &mut I,
     output: &mut O,
     errors: &mut E,
     clock: &mut C,
 ) -> u8
+where
+    W: Drop,
     ensures { (asked : KeepWords) → AskFor (map string_bytes words.now) (job.Keep asked)
         → asked.stop ≡ false → result ≡ 0
         → (told : S) × S.traces sockets.old asked.trace told
         × IsAllKept (socket_rules S.opens S.closes S.Socket.sends S.Socket.receives
-        S.Socket.receives_within) ⟦<FileFrom<F> as Disk>⟧ (image_at F.Start) asked told
+        S.Socket.receives_within) (started W.reads waits) ⟦<FileFrom<F> as Disk>⟧ (image_at F.Start)
+        asked told
         sockets.new (O.contents output.old) (O.contents output.new) files.new.closed }
 {
     run(
-        sockets, files, alloc, words, false, input, output, errors, clock,
+        sockets, files, alloc, waits, words, false, input, output, errors, clock,
     )
 }
 
 /// The program with the words of `kept`. It opens no socket: they are as they were, or as they are
 /// once they are switched not to tell datagrams.
-pub fn print_kept<S: Tracing, F: Start, I: Read, O: Write, E: Write, C: Clock>(
+pub fn print_kept<S: Tracing, F: Start, I: Read, O: Write, E: Write, C: Clock, W: WaitClock>(
     sockets: &mut S,
     files: &mut DiskFiles<'_, F>,
     alloc: Global,
+    waits: W,
     words: &[String],
     input: &mut I,
     output: &mut O,
     errors: &mut E,
     clock: &mut C,
 ) -> u8
+where
+    W: Drop,
     ensures { (asked : KeptWords) → AskFor (map string_bytes words.now) (job.Kept asked)
         → (sockets.new ≡ sockets.old) ⊎ S.traces sockets.old false sockets.new }
 {
     run(
-        sockets, files, alloc, words, false, input, output, errors, clock,
+        sockets, files, alloc, waits, words, false, input, output, errors, clock,
     )
 }

@@ -3,6 +3,7 @@ use Rattle.std.proofs.lemmas.Result.{IfErr-weaker, IfOk-weaker}
 use Rattle.sqlite.specs.Effect.{Database}
 use Rattle.sqlite.specs.State.{HasCleanDisk}
 use Rattle.sqlite.specs.Held.{state}
+use Rattle.bac_hearing.specs.Hearing.{started}
 use Rattle.bac_ports.specs.Sockets.{socket_rules}
 use Rattle.bac_fetch.specs.Causes.{EndsLogs}
 use Rattle.bac_fetch.specs.Keeps.{KeepsLogs}
@@ -39,7 +40,7 @@ returns g c =
               λ clean has.
                   let early : HasCleanDisk mid = c.keep_each.ensures.clean clean in
                   let same = c.in_ok-all.ensures.same early has in
-                  subst (λ (d : Database). KeepsLogs over all between after d new.now told.0) same (told.4 clean (ap (λ (d : Database). d.schema) same ∙ has)),
+                  subst (λ (d : Database). KeepsLogs over (started g.C.Clock.reads c.args.clock) all between after d new.now told.0) same (told.4 clean (ap (λ (d : Database). d.schema) same ∙ has)),
             ),
           ))
           c.keep_each.ensures.told;
@@ -57,7 +58,7 @@ returns g c =
             all,
             between,
             c.in_ok-all.ensures.found,
-            subst (λ (d : Database). EndsLogs over (given_in c.args.options.now) all between after d fault) same it,
+            subst (λ (d : Database). EndsLogs over (started g.C.Clock.reads c.args.clock) (given_in c.args.options.now) all between after d fault) same it,
           ))
           (c.keep_each.ensures.caused clean (ap (λ (d : Database). d.schema) same ∙ has));
       stays = λ clean has.

@@ -1,9 +1,17 @@
-use Rattle.std.proofs.Common.{inl, inr, rules}
+use Rattle.std.proofs.Common.{◌≡◌, List, inl, inr, rules, subst}
 use Rattle.std.proofs.lemmas.Result.{IfErr-weaker, IfOk-weaker}
 use Rattle.sqlite.specs.State.{HasCleanDisk}
 use Rattle.sqlite.specs.Held.{state}
+use Rattle.bac_absent.specs.Absent.{EndsCalling, FindsAbsent}
+use Rattle.bac_asked.specs.declared.wanted.Wanted.{Wanted}
+use Rattle.bac_hearing.specs.Hearing.{started}
 use Rattle.bac_ports.specs.Sockets.{socket_rules}
 use Rattle.bac_asked.proofs.Results.{because}
+use Rattle.bac_archive.specs.Schema.{archive_schema}
+use Rattle.bac_fetch.specs.Faults.{HasNoInstance, LacksAddress}
+use Rattle.bac_fetch.proofs.FaultsLemmas.{all_end_so, calling_ends_run}
+use Rattle.bac_asked.specs.AsLog.{given_in}
+use Rattle.bac_fetch.proofs.CalledLemmas.{logs_end, logs_kept}
 use Rattle.bac_fetch.proofs.MovesLemmas.{settles_schema, settles_stay}
 use Rattle.bac_fetch.proofs.StaysLemmas.{stays_then}
 use Rattle.bac_fetch.proofs.keeping.keep_each.Goals as goal
@@ -14,6 +22,11 @@ returns-clause-told g c =
     let all = c.args.all.items in
     let old = state g.A.Store c.args.conn.now in
     let mid = state g.A.Store c.settle_known.new.conn in
+    let time = started g.C.Clock.reads c.args.clock in
+    let silent = c.find_absent.new.heard.items in
+    let called = c.find_absent.new.sockets in
+    let found : FindsAbsent over time c.args.all.items c.in_ok-heard.heard.items c.settle_known.new.sockets silent called =
+    subst (λ (l : List Wanted). FindsAbsent over time l c.in_ok-heard.heard.items c.settle_known.new.sockets silent called) c.as_slice-2.ensures.value c.in_ok-called.ensures.found in
     IfOk-weaker c.keep_settled.result _ _
     (λ status told. (
       told.0,
@@ -25,7 +38,8 @@ returns-clause-told g c =
           let (known, are, settles) = rw c.as_slice.ensures.value at c.in_ok-heard.ensures.settled early has in
           let schema = settles_schema over known all c.args.sockets.now c.in_ok-heard.heard.items c.settle_known.new.sockets old.now mid.now settles has in
           let (now, are_now, last, kept) = told.4 clean schema in
-          (known, are, c.in_ok-heard.heard.items, c.settle_known.new.sockets, mid.now, settles, now, are_now, last, kept),
+          logs_kept over time all c.args.sockets.now c.settle_known.new.sockets called c.keep_settled.new.sockets old.now mid.now (state g.A.Store c.keep_settled.new.conn).now
+          known now c.in_ok-heard.heard.items silent last told.0 are settles found are_now kept,
     ))
     c.keep_settled.ensures.told
 
@@ -51,9 +65,46 @@ returns-clause-caused g c clean has =
     let early : HasCleanDisk mid = c.keep_settled.ensures.clean clean in
     let (known, are, settles) = rw c.as_slice.ensures.value at c.in_ok-heard.ensures.settled early has in
     let schema = settles_schema over known all c.args.sockets.now heard half old.now mid.now settles has in
-    IfErr-weaker c.keep_settled.result _ _ (λ fault it. inr (known, are, heard, half, mid.now, settles, it))
+    let time = started g.C.Clock.reads c.args.clock in
+    let silent = c.find_absent.new.heard.items in
+    let called = c.find_absent.new.sockets in
+    let found : FindsAbsent over time c.args.all.items c.in_ok-heard.heard.items c.settle_known.new.sockets silent called =
+    subst (λ (l : List Wanted). FindsAbsent over time l c.in_ok-heard.heard.items c.settle_known.new.sockets silent called) c.as_slice-2.ensures.value c.in_ok-called.ensures.found in
+    IfErr-weaker c.keep_settled.result _ _
+    (λ fault it. logs_end over time (given_in c.args.options.now) all c.args.sockets.now half called c.keep_settled.new.sockets old.now mid.now known heard silent fault are settles found it)
     (c.keep_settled.ensures.caused clean schema)
 
 pub returns-in_err-heard-clause-caused : goal.returns-in_err-heard-clause-caused
 returns-in_err-heard-clause-caused g c clean has =
     because c.from_residual.result c.in_err-heard.field-0.0 _ (search rules) (inl (rw c.as_slice.ensures.value at c.in_err-heard.ensures.caused clean has))
+
+pub returns-in_err-called-clause-caused : goal.returns-in_err-called-clause-caused
+returns-in_err-called-clause-caused g c clean has =
+    let over = socket_rules g.S.Sockets.opens g.S.Sockets.closes g.S.Socket.Port.sends g.S.Socket.Port.receives g.S.Socket.Port.receives_within in
+    let mid = state g.A.Store c.settle_known.new.conn in
+    let (known, are, settles) = rw c.as_slice.ensures.value at c.in_ok-heard.ensures.settled clean has in
+    because c.from_residual-in_err-called.result c.in_err-called.field-0.0 _ (search rules)
+    (inr (
+      known,
+      are,
+      c.in_ok-heard.heard.items,
+      c.settle_known.new.sockets,
+      mid.now,
+      settles,
+      inl (subst (λ (l : List Wanted). EndsCalling over l c.in_ok-heard.heard.items c.settle_known.new.sockets c.find_absent.new.sockets c.in_err-called.field-0.0) c.as_slice-2.ensures.value c.in_err-called.ensures.fault),
+    ))
+
+pub returns-in_err-called-clause-fault : goal.returns-in_err-called-clause-fault
+returns-in_err-called-clause-fault g c =
+    let over = socket_rules g.S.Sockets.opens g.S.Sockets.closes g.S.Socket.Port.sends g.S.Socket.Port.receives g.S.Socket.Port.receives_within in
+    because c.from_residual-in_err-called.result c.in_err-called.field-0.0 _ (search rules)
+    (calling_ends_run over _ _ c.as_slice-2.result.now c.in_ok-heard.heard.items c.settle_known.new.sockets c.find_absent.new.sockets c.in_err-called.field-0.0 c.in_err-called.ensures.fault)
+
+pub returns-clause-fault : goal.returns-clause-fault
+returns-clause-fault g c =
+    let over = socket_rules g.S.Sockets.opens g.S.Sockets.closes g.S.Socket.Port.sends g.S.Socket.Port.receives g.S.Socket.Port.receives_within in
+    let all = c.args.all.items in
+    let old = state g.A.Store c.args.conn.now in
+    let new = state g.A.Store c.keep_settled.new.conn in
+    all_end_so over (HasNoInstance all) (HasNoInstance all) ⊥ (HasCleanDisk new → old.now.schema ≡ archive_schema → LacksAddress (given_in c.args.options.now) old.now.trees)
+    c.keep_settled.new.sockets c.keep_settled.result (λ none. none) (λ never. absurd never) c.keep_settled.ensures.fault

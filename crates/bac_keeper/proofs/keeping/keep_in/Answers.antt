@@ -9,6 +9,7 @@ use Rattle.bac_keeper.proofs.ArchiveLemmas.{loses_nothing, tells_weaker}
 use Rattle.bac_fetch.specs.Faults.{EndsKeeping, HasNone, LacksAddress}
 use Rattle.bac_keeper.specs.Archives.{IsCleanArchive, IsHeld, KeepsArchive}
 use Rattle.bac_keeper.specs.Done.{EndsOver, TellsThese}
+use Rattle.bac_hearing.specs.Hearing.{started}
 use Rattle.bac_ports.specs.Sockets.{socket_rules}
 use Rattle.bac_asked.specs.AsLog.{given_in}
 use Rattle.bac_keeper.proofs.FileLemmas.{all_database_ask, all_database_fail, fails_so, file_asks}
@@ -27,7 +28,7 @@ returns-clause-told g c =
     let last = state g.A.Store c.keep_these.new.conn in
     IfOk-weaker c.settled.result _ _
     (λ done is.
-    subst (λ (n : ℕ). TellsThese over c.args.chosen c.args.sockets.now out out' (λ all between ends. IsHeld last → KeepsArchive over c.args.chosen all between after ends found.now last.committed) n) (sym is.0)
+    subst (λ (n : ℕ). TellsThese over c.args.chosen c.args.sockets.now out out' (λ all between ends. IsHeld last → KeepsArchive over (started g.C.Clock.reads c.args.clock) c.args.chosen all between after ends found.now last.committed) n) (sym is.0)
     (tells_weaker over c.args.chosen c.args.sockets.now out out' _ _ _
     (λ all between ends kept held.
     let early : HasCleanDisk archive = c.keep_these.ensures.clean held.0 in
@@ -37,7 +38,7 @@ returns-clause-told g c =
       archive = archive.now;
       opened = opened;
       chose = it.0;
-      kept = subst (λ (d : Database). KeepsLogs over all between after archive.now d ends) (is.1 held.1) it.1;
+      kept = subst (λ (d : Database). KeepsLogs over (started g.C.Clock.reads c.args.clock) all between after archive.now d ends) (is.1 held.1) it.1;
     }) c.in_ok-status.ensures.told))
     c.settled.ensures.settled
 
@@ -77,7 +78,7 @@ returns-in_err-open_archive-clause-ends g c =
     let over = socket_rules g.S.Sockets.opens g.S.Sockets.closes g.S.Socket.Port.sends g.S.Socket.Port.receives g.S.Socket.Port.receives_within in
     because c.from_residual.result c.in_err-open_archive.field-0.0 _ (search rules)
     (file_asks (λ fault. EndsKeeping over c.args.chosen (Unit {0}) (Unit {0}) c.args.sockets.now c.args.sockets.now fault
-    × (IsHeld (state g.A.Store c.open_archive.new.conn) → EndsOver over c.args.chosen (given_in c.args.options.now) c.args.sockets.now c.args.sockets.now (state g.A.Store c.args.conn.now).now fault))
+    × (IsHeld (state g.A.Store c.open_archive.new.conn) → EndsOver over (started g.C.Clock.reads c.args.clock) c.args.chosen (given_in c.args.options.now) c.args.sockets.now c.args.sockets.now (state g.A.Store c.args.conn.now).now fault))
     c.in_err-open_archive.field-0.0 c.in_err-open_archive.ensures.file)
 
 pub returns-in_err-status-clause-fault : goal.returns-in_err-status-clause-fault
@@ -85,7 +86,7 @@ returns-in_err-status-clause-fault g c =
     let over = socket_rules g.S.Sockets.opens g.S.Sockets.closes g.S.Socket.Port.sends g.S.Socket.Port.receives g.S.Socket.Port.receives_within in
     let archive = state g.A.Store c.open_archive.new.conn in
     because c.from_residual-in_err-status.result c.in_err-status.field-0.0 _ (search rules)
-    (refused_so over c.args.chosen (given_in c.args.options.now) (state g.A.Store c.args.conn.now).now archive (state g.A.Store c.keep_these.new.conn) c.args.sockets.now c.keep_these.new.sockets c.in_err-status.field-0.0
+    (refused_so over (started g.C.Clock.reads c.args.clock) c.args.chosen (given_in c.args.options.now) (state g.A.Store c.args.conn.now).now archive (state g.A.Store c.keep_these.new.conn) c.args.sockets.now c.keep_these.new.sockets c.in_err-status.field-0.0
     (λ held. let opened = c.in_ok-open_archive.ensures.archive (c.keep_these.ensures.clean held.0) in (opened, opened.is.schema)) c.in_err-status.ensures.caused)
 
 pub returns-in_err-status-clause-ends : goal.returns-in_err-status-clause-ends
@@ -95,7 +96,7 @@ returns-in_err-status-clause-ends g c =
     let last = state g.A.Store c.keep_these.new.conn in
     because c.from_residual-in_err-status.result c.in_err-status.field-0.0 _ (search rules)
     (may_ask (λ fault. EndsKeeping over c.args.chosen (Unit {0}) (Unit {0}) c.args.sockets.now c.keep_these.new.sockets fault
-    × (IsHeld last → EndsOver over c.args.chosen (given_in c.args.options.now) c.args.sockets.now c.keep_these.new.sockets (state g.A.Store c.args.conn.now).now fault)) c.in_err-status.field-0.0 (
+    × (IsHeld last → EndsOver over (started g.C.Clock.reads c.args.clock) c.args.chosen (given_in c.args.options.now) c.args.sockets.now c.keep_these.new.sockets (state g.A.Store c.args.conn.now).now fault)) c.in_err-status.field-0.0 (
       keeping_so over (IsCleanArchive archive last → HasNone archive.now.trees) (Unit {0}) (IsCleanArchive archive last → LacksAddress (given_in c.args.options.now) archive.now.trees) (Unit {0})
           (λ n. tt {0}) (λ n. tt {0}) c.args.chosen c.args.sockets.now c.keep_these.new.sockets c.in_err-status.field-0.0 c.in_err-status.ensures.fault,
       λ held. let opened = c.in_ok-open_archive.ensures.archive (c.keep_these.ensures.clean held.0) in (archive.now, opened, c.in_err-status.ensures.caused (held.0, opened.is.schema)),
@@ -108,5 +109,5 @@ pub returns-clause-ends : goal.returns-clause-ends
 returns-clause-ends g c =
     let over = socket_rules g.S.Sockets.opens g.S.Sockets.closes g.S.Socket.Port.sends g.S.Socket.Port.receives g.S.Socket.Port.receives_within in
     all_database_ask (λ fault. EndsKeeping over c.args.chosen (Unit {0}) (Unit {0}) c.args.sockets.now c.keep_these.new.sockets fault
-    × (IsHeld (state g.A.Store c.keep_these.new.conn) → EndsOver over c.args.chosen (given_in c.args.options.now) c.args.sockets.now c.keep_these.new.sockets (state g.A.Store c.args.conn.now).now fault))
+    × (IsHeld (state g.A.Store c.keep_these.new.conn) → EndsOver over (started g.C.Clock.reads c.args.clock) c.args.chosen (given_in c.args.options.now) c.args.sockets.now c.keep_these.new.sockets (state g.A.Store c.args.conn.now).now fault))
     c.settled.result c.settled.ensures.fault

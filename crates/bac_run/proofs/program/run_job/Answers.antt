@@ -3,6 +3,7 @@ use Rattle.sqlite.below.sqlite_std_file.specs.contracts.host.Host.{the_row}
 use Rattle.sqlite.below.sqlite_std_file.specs.contracts.host.HostCalls.TheImpl as host
 use Rattle.sqlite_disk.specs.contracts.modelled.ModelledDisk.TheImpl as modelled
 use Rattle.bac_keeper.proofs.FileLemmas.{none_closed}
+use Rattle.bac_hearing.specs.Hearing.{started}
 use Rattle.bac_ports.specs.Sockets.{socket_rules}
 use Rattle.bac_run.proofs.Ran.{keep_over, other_done}
 use Rattle.bac_tools.specs.Streams.{streams}
@@ -15,7 +16,7 @@ returns-in-Keep-clause-ran g c =
     let done = c.keep_and_tell in
     let old = streams (g.I.Read.remaining c.args.input.now) (g.O.Write.contents c.args.output.now) (g.E.Write.contents c.args.errors.now) c.args.sockets.now c.args.clock.now in
     let new = streams (g.I.Read.remaining c.args.input.now) (g.O.Write.contents done.new.output) (g.E.Write.contents done.new.errors) done.new.sockets c.args.clock.now in
-    rw c.in-Keep.is (keep_over disk rules g.S.Heeds.passes c.in-Keep.asked c.in-Keep.asked.stop old new done.result done.new.files done.ensures.ran, (refl, refl))
+    rw c.in-Keep.is (keep_over disk (started g.W.Clock.reads c.args.waits) rules g.S.Heeds.passes c.in-Keep.asked c.in-Keep.asked.stop old new done.result done.new.files done.ensures.ran, (refl, refl))
 
 pub returns-in_default-clause-ran : goal.returns-in_default-clause-ran
 returns-in_default-clause-ran g c =
@@ -24,7 +25,7 @@ returns-in_default-clause-ran g c =
     let done = c.run_read in
     let old = streams (g.I.Read.remaining c.args.input.now) (g.O.Write.contents c.args.output.now) (g.E.Write.contents c.args.errors.now) c.args.sockets.now c.args.clock.now in
     let new = streams (g.I.Read.remaining done.new.input) (g.O.Write.contents done.new.output) (g.E.Write.contents done.new.errors) done.new.sockets done.new.clock in
-    other_done rules g.S.Heeds.passes g.C.Clock.tells disk old new c.args.files.now c.args.files.now done.result c.args.job c.in_default.not-Keep c.in_default.not-Kept done.ensures refl
+    other_done rules g.S.Heeds.passes g.C.Clock.tells disk (started g.W.Clock.reads c.args.waits) old new c.args.files.now c.args.files.now done.result c.args.job c.in_default.not-Keep c.in_default.not-Kept done.ensures refl
 
 pub returns-in_default-clause-stays : goal.returns-in_default-clause-stays
 returns-in_default-clause-stays g c unused not = none_closed c.args.files.now.closed _ unused

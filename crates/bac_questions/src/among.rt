@@ -1,11 +1,14 @@
 //! Which logs an archive had as a run began, and which of them are of one device.
 
-ghost use Rattle.std.specs.Prelude.{◌≡◌, IfSome, Some, option_map};
-ghost use Rattle.bac_questions.specs.Silent.{IsAmong, is_lost, is_same_device};
+ghost use Rattle.std.specs.Prelude.{◌≡◌, true, IfErr, IfOk, IfSome, Some, option_map};
+ghost use Rattle.std.specs.String.{string_bytes};
+ghost use Rattle.bac_asked.specs.Faults.{WantsMemory};
+ghost use Rattle.bac_questions.specs.Silent.{IsAmong, is_lost, is_same_device, is_same_log};
 
 use bac_archive::{Log, Source};
-use bac_asked::Ending;
+use bac_asked::{Ending, Fault, NotDone};
 use bac_walk::{WalkFault, Why};
+use std::alloc::Global;
 
 /// Whether two logs are of one device.
 pub fn is_same_device(one: &Source, other: &Source) -> bool
@@ -58,4 +61,28 @@ pub fn log_among<'a>(known: &'a [Log], at: usize, source: &Source) -> Option<&'a
         Some(log) => Some(log),
         None => first_log(known, source),
     }
+}
+
+/// The same log once more.
+pub fn copy_source(alloc: Global, source: &Source) -> Result<Source, NotDone>
+    ensures copy { IfOk result (λ copy. is_same_device copy source.now ≡ true) }
+    ensures log { IfOk result (λ copy. is_same_log copy source.now ≡ true) }
+    ensures same { IfOk result (λ copy. (string_bytes copy.address
+        ≡ string_bytes source.now.address) × (copy.dnet ≡ source.now.dnet)
+        × (string_bytes copy.dadr ≡ string_bytes source.now.dadr)
+        × (copy.instance ≡ source.now.instance)) }
+    ensures fault { IfErr result WantsMemory }
+{
+    let (Ok(address), Ok(dadr)) = (
+        String::from_str(alloc, &source.address),
+        String::from_str(alloc, &source.dadr),
+    ) else {
+        return Err(NotDone::Asking(Fault::Memory));
+    };
+    Ok(Source {
+        address,
+        dnet: source.dnet,
+        dadr,
+        instance: source.instance,
+    })
 }

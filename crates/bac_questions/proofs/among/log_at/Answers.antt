@@ -1,5 +1,5 @@
 use Rattle.std.proofs.Common.{sym, ◌∙◌}
-use Rattle.bac_questions.proofs.silent.log_at.Goals as goal
+use Rattle.bac_questions.proofs.among.log_at.Goals as goal
 
 pub returns-then-eq : goal.returns-then-eq
 returns-then-eq c =

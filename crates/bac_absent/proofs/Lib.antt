@@ -1,0 +1,4 @@
+pub mod Called
+pub mod Put
+pub mod Together
+pub mod Found
