@@ -1,6 +1,6 @@
 //! Where a run over a log begins: behind its newest item on record, in an epoch that has none, or
-//! anew, by what its device tells. What comes may come from anyone, and a file may have been written
-//! by anyone.
+//! anew, by what its device tells. What comes may come from anyone, and a file may have been
+//! written by anyone.
 #![tactic(auto)]
 
 mod behind;

@@ -137,7 +137,7 @@ EndsCalled {S = S} rules clock heard all before after old fault = EndsCalling ru
     ⊎ ((found : List Heard) × (called : S) × FindsAbsent rules clock all heard before found called
     × EndsSettled rules found all called after old fault)
 
--- A run over logs ends: where the device of the first one stands isn't settled; or it was, and the run ends behind that.
+-- A run over logs ends: where the device of the first one stands isn't settled; or it was, and the run ends behind it.
 abbrev pub EndsLogs : {S P C : Type 0} → SocketRules S P → StartedClock C → Given → List Wanted → S → S → Database
     → NotDone → Type 0
 EndsLogs {S = S} rules clock given all before after old fault = FailsToSettle rules given all before after old fault

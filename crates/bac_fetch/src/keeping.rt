@@ -309,8 +309,8 @@ where
     ensures caused { HasCleanDisk (state A.Store conn.new)
         → (state A.Store conn.old).now.schema ≡ archive_schema
         → IfErr result (EndsLogs (socket_rules S.opens S.closes S.Socket.sends S.Socket.receives
-        S.Socket.receives_within) (started C.reads clock) (given_in options.now) all.items sockets.old
-        sockets.new (state A.Store conn.old).now) }
+        S.Socket.receives_within) (started C.reads clock) (given_in options.now) all.items
+        sockets.old sockets.new (state A.Store conn.old).now) }
 {
     let mut heard = settle_known(sockets, conn, alloc, all.as_slice(), options, errors)?;
     let called = find_absent(sockets, alloc, clock, all.as_slice(), &mut heard)?;
@@ -409,8 +409,8 @@ where
     ensures caused { HasCleanDisk (state A.Store conn.new)
         → (state A.Store conn.old).now.schema ≡ archive_schema
         → IfErr result (EndsRunOver (socket_rules S.opens S.closes S.Socket.sends S.Socket.receives
-        S.Socket.receives_within) (started C.reads clock) (given_in options.now) chosen sockets.old sockets.new
-        (state A.Store conn.old).now) }
+        S.Socket.receives_within) (started C.reads clock) (given_in options.now) chosen sockets.old
+        sockets.new (state A.Store conn.old).now) }
 {
     let all = chosen_logs(sockets, conn, alloc, chosen, options)?;
     keep_each(

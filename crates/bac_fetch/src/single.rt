@@ -187,8 +187,8 @@ fn keep_unless<S: Heeds, A: Alter, O: Write, E: Write>(
     }
 }
 
-/// What passed since the last question to the device of a log was first sent, by the socket that was
-/// closed last; nothing of one that was called beside others.
+/// What passed since the last question to the device of a log was first sent, by the socket that
+/// was closed last; nothing of one that was called beside others.
 fn passed_since<S: Heeds>(sockets: &S, was_called: bool) -> Passed
     ensures { result ≡ (if was_called then nothing else S.passes sockets.now) }
 {

@@ -75,11 +75,13 @@ abbrev pub KeepsIn : {S P C D : Type 0} → SocketRules S P → StartedClock C �
     → Held → Held → Option (Files D) → ℕ → Type 0
 KeepsIn rules clock g image keep sockets sockets_after before after closed status =
     IsSome closed × (chosen : Chosen) × Chooses keep chosen × TellsThese rules chosen sockets before after
-    (λ all between ends. IfSome closed (IsDoneTo g image (KeepsArchive rules clock chosen all between sockets_after ends)))
+    (λ all between ends. IfSome closed
+    (IsDoneTo g image (KeepsArchive rules clock chosen all between sockets_after ends)))
     status
 
 -- what two files held is an archive, or becomes one, and the run over the logs that were chosen ends so
-abbrev pub EndsOver : {S P C : Type 0} → SocketRules S P → StartedClock C → Chosen → Given → S → S → Database → NotDone → Type 0
+abbrev pub EndsOver : {S P C : Type 0} → SocketRules S P → StartedClock C → Chosen → Given → S → S → Database
+    → NotDone → Type 0
 EndsOver rules clock which given before after found fault =
     (archive : Database) × IsArchiveOf found archive × EndsRunOver rules clock given which before after archive fault
 
@@ -93,7 +95,8 @@ RefusesKeep rules clock which given before after found why = IsNoArchive found w
 abbrev pub FailsToKeep : {S P C F : Type 0} {s : start.Ghosts F} → SocketRules S P → StartedClock C
     → disk.Ghosts (FileOf s) → Image → Keep → S → S → DiskFiles F s → FileFault → Type 0
 FailsToKeep rules clock g image keep before after files why = (which : Chosen) × Chooses keep which
-    × FailsFile g image keep.file (is_some keep.address) (RefusesKeep rules clock which (given_of keep.options) before after)
+    × FailsFile g image keep.file (is_some keep.address)
+    (RefusesKeep rules clock which (given_of keep.options) before after)
     files why
 
 -- Why words name no logs: without ADDRESS this; else `bac log` with them asks for none.
@@ -114,7 +117,8 @@ module _ {S P C F : Type 0} {s : start.Ghosts F} (rules : SocketRules S P) (cloc
   EndsChosenKeep which given before after files fault =
       EndsKeeping rules which (Unit {0}) (Unit {0}) before after fault × (IsUnclosedBySome files
       ⊎ (IsSome files.closed
-      × IfSome files.closed (IsDoneTo g image (λ found left. EndsOver rules clock which given before after found fault))))
+      × IfSome files.closed
+      (IsDoneTo g image (λ found left. EndsOver rules clock which given before after found fault))))
 
   -- Why `keep` isn't done, if the file isn't at fault: memory is wanting; the words choose no logs, and no socket is
   -- opened; or those that they choose aren't kept.

@@ -112,8 +112,8 @@ where
         sockets.old sockets.new) }
     ensures caused { IsCleanArchive (state A.Store conn.old) (state A.Store conn.new)
         → IfErr result (EndsRunOver (socket_rules S.opens S.closes S.Socket.sends S.Socket.receives
-        S.Socket.receives_within) (started C.reads clock) (given_in options.now) chosen sockets.old sockets.new
-        (state A.Store conn.old).now) }
+        S.Socket.receives_within) (started C.reads clock) (given_in options.now) chosen sockets.old
+        sockets.new (state A.Store conn.old).now) }
 {
     match chosen {
         Chosen::Named(all) => keep_each(
@@ -207,13 +207,15 @@ where
     ensures named { OnOk result (IsNamed asked.now.file (is_some asked.now.address) files.new) }
     ensures fault { IfErr result (MayFail (FailsToKeep
         (socket_rules S.opens S.closes S.Socket.sends S.Socket.receives
-        S.Socket.receives_within) (started C.reads clock) ⟦<FileFrom<F> as Disk>⟧ (image_at F.Start) asked.now
+        S.Socket.receives_within) (started C.reads clock) ⟦<FileFrom<F> as Disk>⟧
+        (image_at F.Start) asked.now
         sockets.old sockets.new files.new)) }
     ensures stays { IsUnused files.old → IfSome files.new.closed
         (IsDoneTo ⟦<FileFrom<F> as Disk>⟧ (image_at F.Start) LosesNothing) }
     ensures ends { IfErr result (MayAsk (EndsKeep
         (socket_rules S.opens S.closes S.Socket.sends S.Socket.receives
-        S.Socket.receives_within) (started C.reads clock) ⟦<FileFrom<F> as Disk>⟧ (image_at F.Start) asked.now
+        S.Socket.receives_within) (started C.reads clock) ⟦<FileFrom<F> as Disk>⟧
+        (image_at F.Start) asked.now
         sockets.old sockets.new files.new)) }
 {
     let options = options_of(&asked.options);

@@ -1,5 +1,6 @@
-//! What a device is asked before its logs are walked: which logs it has, who it is, how many records
-//! a log ever had; and which devices are behind the logs on record. What comes may come from anyone.
+//! What a device is asked before its logs are walked: which logs it has, who it is, how many
+//! records a log ever had; and which devices are behind the logs on record. What comes may come
+//! from anyone.
 #![tactic(auto)]
 
 mod among;
