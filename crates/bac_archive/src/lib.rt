@@ -32,6 +32,6 @@ pub use parts::{
 };
 pub use row::Row;
 pub use rows::{adds_join, append, leaves_the_last_commit};
-pub use shape::is_archive;
+pub use shape::{is_archive, is_nothing};
 pub use standing::{Standing, part_stands, standing_of};
 pub use trend_logs::{Log, NotAdded, Source, Told, add_log, add_log_as, fresh_id, logs};

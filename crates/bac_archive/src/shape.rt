@@ -368,7 +368,7 @@ pub(crate) fn is_first(schema: &Schema) -> bool
 }
 
 /// Whether a schema has nothing.
-pub(crate) fn is_nothing(schema: &Schema) -> bool
+pub fn is_nothing(schema: &Schema) -> bool
     ensures { IsTrue result ↔ (schema.now ≡ no_schema) }
 {
     schema.tables.is_empty() && schema.indexes.is_empty() && schema.views.is_empty()

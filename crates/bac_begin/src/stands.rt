@@ -6,7 +6,7 @@ ghost use Rattle.bac_archive.specs.declared.epochs.Beginning.{Beginning as Begin
 ghost use Rattle.bac_archive.specs.Rows.{kept};
 ghost use Rattle.sqlite.specs.State.{HasCleanDisk, Survives};
 ghost use Rattle.sqlite.specs.Held.{state};
-ghost use Rattle.bac_archive.specs.Schema.{archive_schema};
+ghost use Rattle.bac_archive.specs.Schema.{OverArchive, archive_schema};
 ghost use Rattle.bac_link.specs.Ordinals.{number_after};
 ghost use Rattle.bac_asked.specs.Faults.{FailsOnRows, EndsLog};
 ghost use Rattle.bac_begin.specs.Stands.{AreFlagsOf, BeganLast, IsItemOf, IsLastOf, IsStand};
@@ -70,12 +70,10 @@ fn began_last<A: Alter>(
     conn: &mut Connection<A>,
     id: u16,
 ) -> Result<Option<Beginning>, NotDone>
-    ensures began { HasCleanDisk (state A.Store conn.new)
-        → (state A.Store conn.old).now.schema ≡ archive_schema
-        → IfOk result (BeganLast id (state A.Store conn.old).now.trees) }
-    ensures same { HasCleanDisk (state A.Store conn.new)
-        → (state A.Store conn.old).now.schema ≡ archive_schema
-        → OnOk result ((state A.Store conn.new).now ≡ (state A.Store conn.old).now) }
+    ensures began { OverArchive (state A.Store conn.old) (state A.Store conn.new)
+        (IfOk result (BeganLast id (state A.Store conn.old).now.trees)) }
+    ensures same { OverArchive (state A.Store conn.old) (state A.Store conn.new)
+        (OnOk result ((state A.Store conn.new).now ≡ (state A.Store conn.old).now)) }
     ensures crash { (HasCleanDisk (state A.Store conn.old)
         → (state A.Store conn.old).now.schema ≡ archive_schema)
         → Survives (state A.Store conn.old) (state A.Store conn.new) (λ _. ⊥) }
@@ -110,13 +108,11 @@ fn last_flags<A: Alter>(
     conn: &mut Connection<A>,
     id: u16,
 ) -> Result<Vec<u8>, NotDone>
-    ensures flags { HasCleanDisk (state A.Store conn.new)
-        → (state A.Store conn.old).now.schema ≡ archive_schema
-        → IfOk result
-        (λ flags. AreFlagsOf id (kept (state A.Store conn.old).now.trees) flags.items) }
-    ensures same { HasCleanDisk (state A.Store conn.new)
-        → (state A.Store conn.old).now.schema ≡ archive_schema
-        → OnOk result ((state A.Store conn.new).now ≡ (state A.Store conn.old).now) }
+    ensures flags { OverArchive (state A.Store conn.old) (state A.Store conn.new)
+        (IfOk result
+        (λ flags. AreFlagsOf id (kept (state A.Store conn.old).now.trees) flags.items)) }
+    ensures same { OverArchive (state A.Store conn.old) (state A.Store conn.new)
+        (OnOk result ((state A.Store conn.new).now ≡ (state A.Store conn.old).now)) }
     ensures crash { Survives (state A.Store conn.old) (state A.Store conn.new) (λ _. ⊥) }
     ensures clean { HasCleanDisk (state A.Store conn.new) → HasCleanDisk (state A.Store conn.old) }
     ensures fault { IfErr result EndsLog }
@@ -138,18 +134,16 @@ fn last_item<A: Alter>(
     conn: &mut Connection<A>,
     id: u16,
 ) -> Result<Option<Last>, NotDone>
-    ensures tells { HasCleanDisk (state A.Store conn.new)
-        → (state A.Store conn.old).now.schema ≡ archive_schema
-        → IfOk result (IsItemOf id (kept (state A.Store conn.old).now.trees)) }
-    ensures same { HasCleanDisk (state A.Store conn.new)
-        → (state A.Store conn.old).now.schema ≡ archive_schema
-        → OnOk result ((state A.Store conn.new).now ≡ (state A.Store conn.old).now) }
+    ensures tells { OverArchive (state A.Store conn.old) (state A.Store conn.new)
+        (IfOk result (IsItemOf id (kept (state A.Store conn.old).now.trees))) }
+    ensures same { OverArchive (state A.Store conn.old) (state A.Store conn.new)
+        (OnOk result ((state A.Store conn.new).now ≡ (state A.Store conn.old).now)) }
     ensures crash { (state A.Store conn.old).now.schema ≡ archive_schema
         → Survives (state A.Store conn.old) (state A.Store conn.new) (λ _. ⊥) }
     ensures clean { HasCleanDisk (state A.Store conn.new) → HasCleanDisk (state A.Store conn.old) }
     ensures fault { IfErr result EndsLog }
-    ensures caused { HasCleanDisk (state A.Store conn.new)
-        → (state A.Store conn.old).now.schema ≡ archive_schema → IfErr result FailsOnRows }
+    ensures caused { OverArchive (state A.Store conn.old) (state A.Store conn.new)
+        (IfErr result FailsOnRows) }
 {
     match newest(conn, id) {
         Ok(Some(item)) => {
@@ -185,19 +179,17 @@ pub fn stand_of<A: Alter>(
     conn: &mut Connection<A>,
     id: u16,
 ) -> Result<Option<Stand>, NotDone>
-    ensures stands { HasCleanDisk (state A.Store conn.new)
-        → (state A.Store conn.old).now.schema ≡ archive_schema
-        → IfOk result (IsStand id (state A.Store conn.old).now.trees) }
-    ensures same { HasCleanDisk (state A.Store conn.new)
-        → (state A.Store conn.old).now.schema ≡ archive_schema
-        → OnOk result ((state A.Store conn.new).now ≡ (state A.Store conn.old).now) }
+    ensures stands { OverArchive (state A.Store conn.old) (state A.Store conn.new)
+        (IfOk result (IsStand id (state A.Store conn.old).now.trees)) }
+    ensures same { OverArchive (state A.Store conn.old) (state A.Store conn.new)
+        (OnOk result ((state A.Store conn.new).now ≡ (state A.Store conn.old).now)) }
     // Whatever comes of it, nothing is committed.
     ensures crash { (state A.Store conn.old).now.schema ≡ archive_schema
         → Survives (state A.Store conn.old) (state A.Store conn.new) (λ _. ⊥) }
     ensures clean { HasCleanDisk (state A.Store conn.new) → HasCleanDisk (state A.Store conn.old) }
     ensures fault { IfErr result EndsLog }
-    ensures caused { HasCleanDisk (state A.Store conn.new)
-        → (state A.Store conn.old).now.schema ≡ archive_schema → IfErr result FailsOnRows }
+    ensures caused { OverArchive (state A.Store conn.old) (state A.Store conn.new)
+        (IfErr result FailsOnRows) }
 {
     let last = last_item(alloc, conn, id)?;
     let begun = began_last(alloc, conn, id)?;

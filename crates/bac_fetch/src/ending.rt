@@ -5,7 +5,7 @@ ghost use Rattle.std.specs.Prelude.{Err};
 ghost use Rattle.sqlite.specs.State.{HasCleanDisk, Survives};
 ghost use Rattle.sqlite.specs.Held.{state};
 ghost use Rattle.bac_asked.specs.Faults.{FailsOnRows, EndsLog};
-ghost use Rattle.bac_archive.specs.Schema.{archive_schema};
+ghost use Rattle.bac_archive.specs.Schema.{OverArchive};
 ghost use Rattle.bac_fetch.specs.Fetched.{HasFailed, IsEndingOf};
 ghost use Rattle.bac_fetch.specs.Keeps.{Marks, is_idle};
 ghost use Rattle.bac_fetch.specs.Stays.{HasSameLogs};
@@ -105,14 +105,12 @@ pub(crate) fn mark<A: Alter>(
     begins_at: Option<Beginning>,
     end: &End,
 ) -> Result<(), NotDone>
-    ensures marks { HasCleanDisk (state A.Store conn.new)
-        → (state A.Store conn.old).now.schema ≡ archive_schema
-        → OnOk result
-        (Marks begins_at end.now (state A.Store conn.old).now (state A.Store conn.new).now) }
-    ensures stays { HasCleanDisk (state A.Store conn.new)
-        → (state A.Store conn.old).now.schema ≡ archive_schema
-        → Survives (state A.Store conn.old) (state A.Store conn.new)
-        (HasSameLogs (state A.Store conn.old).now.trees) }
+    ensures marks { OverArchive (state A.Store conn.old) (state A.Store conn.new)
+        (OnOk result
+        (Marks begins_at end.now (state A.Store conn.old).now (state A.Store conn.new).now)) }
+    ensures stays { OverArchive (state A.Store conn.old) (state A.Store conn.new)
+        (Survives (state A.Store conn.old) (state A.Store conn.new)
+        (HasSameLogs (state A.Store conn.old).now.trees)) }
     ensures clean { HasCleanDisk (state A.Store conn.new) → HasCleanDisk (state A.Store conn.old) }
     ensures fault { IfErr result EndsLog }
     ensures caused { IfErr result FailsOnRows }

@@ -4,7 +4,7 @@ ghost use Rattle.std.specs.Prelude.{◌≡◌, false, option_map, None, IfOk, On
 ghost use Rattle.std.specs.String.{string_bytes};
 ghost use Rattle.sqlite.specs.State.{HasCleanDisk, Survives};
 ghost use Rattle.sqlite.specs.Held.{state};
-ghost use Rattle.bac_archive.specs.Schema.{archive_schema};
+ghost use Rattle.bac_archive.specs.Schema.{OverArchive, archive_schema};
 ghost use Rattle.bac_archive.specs.Beginnings.{IsFreshId};
 ghost use Rattle.bac_fetch.specs.Causes.{FailsToEnter};
 ghost use Rattle.bac_asked.specs.Faults.{FailsOnRows, EndsLog};
@@ -154,19 +154,16 @@ fn is_due(recorded: Recorded, end: &End) -> bool
 
 /// The id of a log that has no row.
 fn free_id<A: Alter>(conn: &mut Connection<A>, alloc: Global) -> Result<u16, NotDone>
-    ensures fresh { HasCleanDisk (state A.Store conn.new)
-        → (state A.Store conn.old).now.schema ≡ archive_schema
-        → IfOk result (IsFreshId (state A.Store conn.old).now.trees) }
-    ensures same { HasCleanDisk (state A.Store conn.new)
-        → (state A.Store conn.old).now.schema ≡ archive_schema
-        → OnOk result ((state A.Store conn.new).now ≡ (state A.Store conn.old).now) }
+    ensures fresh { OverArchive (state A.Store conn.old) (state A.Store conn.new)
+        (IfOk result (IsFreshId (state A.Store conn.old).now.trees)) }
+    ensures same { OverArchive (state A.Store conn.old) (state A.Store conn.new)
+        (OnOk result ((state A.Store conn.new).now ≡ (state A.Store conn.old).now)) }
     ensures crash { (state A.Store conn.old).now.schema ≡ archive_schema
         → Survives (state A.Store conn.old) (state A.Store conn.new) (λ _. ⊥) }
     ensures clean { HasCleanDisk (state A.Store conn.new) → HasCleanDisk (state A.Store conn.old) }
     ensures fault { IfErr result EndsLog }
-    ensures caused { HasCleanDisk (state A.Store conn.new)
-        → (state A.Store conn.old).now.schema ≡ archive_schema
-        → IfErr result (FailsToEnter None (state A.Store conn.old).now.trees) }
+    ensures caused { OverArchive (state A.Store conn.old) (state A.Store conn.new)
+        (IfErr result (FailsToEnter None (state A.Store conn.old).now.trees)) }
 {
     match fresh_id(alloc, conn) {
         Ok(id) => Ok(id),
@@ -183,23 +180,20 @@ pub(crate) fn enter<A: Alter>(
     name: Option<String>,
     told: Told,
 ) -> Result<Entry, NotDone>
-    ensures entry { HasCleanDisk (state A.Store conn.new)
-        → (state A.Store conn.old).now.schema ≡ archive_schema
-        → IfOk result (IsEntry (state A.Store conn.old).now.trees
-        (option_map (λ log. log.now) known.entry) told) }
+    ensures entry { OverArchive (state A.Store conn.old) (state A.Store conn.new)
+        (IfOk result (IsEntry (state A.Store conn.old).now.trees
+        (option_map (λ log. log.now) known.entry) told)) }
     ensures row { IfOk result (λ entry. (entry.row.source ≡ source) × (entry.row.name ≡ name)
         × (entry.row.told ≡ told) × (entry.row.stopped ≡ false)) }
-    ensures same { HasCleanDisk (state A.Store conn.new)
-        → (state A.Store conn.old).now.schema ≡ archive_schema
-        → OnOk result ((state A.Store conn.new).now ≡ (state A.Store conn.old).now) }
+    ensures same { OverArchive (state A.Store conn.old) (state A.Store conn.new)
+        (OnOk result ((state A.Store conn.new).now ≡ (state A.Store conn.old).now)) }
     ensures crash { (state A.Store conn.old).now.schema ≡ archive_schema
         → Survives (state A.Store conn.old) (state A.Store conn.new) (λ _. ⊥) }
     ensures clean { HasCleanDisk (state A.Store conn.new) → HasCleanDisk (state A.Store conn.old) }
     ensures fault { IfErr result EndsLog }
-    ensures caused { HasCleanDisk (state A.Store conn.new)
-        → (state A.Store conn.old).now.schema ≡ archive_schema
-        → IfErr result (FailsToEnter (option_map (λ log. log.now) known.entry)
-        (state A.Store conn.old).now.trees) }
+    ensures caused { OverArchive (state A.Store conn.old) (state A.Store conn.new)
+        (IfErr result (FailsToEnter (option_map (λ log. log.now) known.entry)
+        (state A.Store conn.old).now.trees)) }
 {
     let (id, recorded, word) = match known {
         Some(log) => (log.id, how_recorded(log, &told), word_of(&log.told, &told)),
@@ -230,9 +224,8 @@ fn name_of(text: &Option<String>) -> Option<&str>
 
 /// Adds the row of a log that has none.
 pub(crate) fn admit<A: Alter>(conn: &mut Connection<A>, entry: &Entry) -> Result<(), NotDone>
-    ensures admits { HasCleanDisk (state A.Store conn.new)
-        → (state A.Store conn.old).now.schema ≡ archive_schema
-        → OnOk result (Admits entry.now (state A.Store conn.old).now (state A.Store conn.new).now) }
+    ensures admits { OverArchive (state A.Store conn.old) (state A.Store conn.new)
+        (OnOk result (Admits entry.now (state A.Store conn.old).now (state A.Store conn.new).now)) }
     ensures stays { (state A.Store conn.old).now.schema ≡ archive_schema
         → Survives (state A.Store conn.old) (state A.Store conn.new)
         (HasAllOf (state A.Store conn.old).now.trees) }
@@ -241,8 +234,8 @@ pub(crate) fn admit<A: Alter>(conn: &mut Connection<A>, entry: &Entry) -> Result
         (HasRows (state A.Store conn.old).now.trees) }
     ensures clean { HasCleanDisk (state A.Store conn.new) → HasCleanDisk (state A.Store conn.old) }
     ensures fault { IfErr result EndsLog }
-    ensures caused { HasCleanDisk (state A.Store conn.new)
-        → (state A.Store conn.old).now.schema ≡ archive_schema → IfErr result FailsOnRows }
+    ensures caused { OverArchive (state A.Store conn.old) (state A.Store conn.new)
+        (IfErr result FailsOnRows) }
 {
     if entry.recorded != Recorded::Not {
         return Ok(());
@@ -266,10 +259,9 @@ pub(crate) fn renew<A: Alter>(
     entry: &Entry,
     end: &End,
 ) -> Result<(), NotDone>
-    ensures renews { HasCleanDisk (state A.Store conn.new)
-        → (state A.Store conn.old).now.schema ≡ archive_schema
-        → OnOk result
-        (Renews entry.now end.now (state A.Store conn.old).now (state A.Store conn.new).now) }
+    ensures renews { OverArchive (state A.Store conn.old) (state A.Store conn.new)
+        (OnOk result
+        (Renews entry.now end.now (state A.Store conn.old).now (state A.Store conn.new).now)) }
     ensures stays { (state A.Store conn.old).now.schema ≡ archive_schema
         → Survives (state A.Store conn.old) (state A.Store conn.new)
         (HasAllOf (state A.Store conn.old).now.trees) }

@@ -5,7 +5,7 @@ ghost use Rattle.sqlite.specs.State.{HasCleanDisk, Survives};
 ghost use Rattle.sqlite.specs.Effect.{Database};
 ghost use Rattle.sqlite.specs.Held.{state};
 ghost use Rattle.bac_archive.specs.Rows.{IsAppended, stored};
-ghost use Rattle.bac_archive.specs.Schema.{archive_schema};
+ghost use Rattle.bac_archive.specs.Schema.{OverArchive, archive_schema};
 ghost use Rattle.bac_link.specs.Path.{towards};
 ghost use Rattle.bac_ports.specs.Sockets.{socket_rules};
 ghost use Rattle.bac_fetch.specs.Causes.{EndsFetch};
@@ -56,20 +56,18 @@ fn where_to_start<L: LogLink, A: Alter>(
     ensures retries { transactions.new.retries ≡ transactions.old.retries }
     ensures route { transactions.new.route ≡ transactions.old.route }
     // By the rows of the archive, and by what the device tells over the link, which is left so.
-    ensures begun { HasCleanDisk (state A.Store conn.new)
-        → (state A.Store conn.old).now.schema ≡ archive_schema
-        → IfOk result (IsBegun L.asks (towards transactions.old.route) transactions.old.retries
-        link.old link.new id log many word steps (state A.Store conn.old).now.trees) }
-    ensures same { HasCleanDisk (state A.Store conn.new)
-        → (state A.Store conn.old).now.schema ≡ archive_schema
-        → OnOk result ((state A.Store conn.new).now ≡ (state A.Store conn.old).now) }
+    ensures begun { OverArchive (state A.Store conn.old) (state A.Store conn.new)
+        (IfOk result (IsBegun L.asks (towards transactions.old.route) transactions.old.retries
+        link.old link.new id log many word steps (state A.Store conn.old).now.trees)) }
+    ensures same { OverArchive (state A.Store conn.old) (state A.Store conn.new)
+        (OnOk result ((state A.Store conn.new).now ≡ (state A.Store conn.old).now)) }
     // Whatever comes of it, nothing is committed.
     ensures crash { (state A.Store conn.old).now.schema ≡ archive_schema
         → Survives (state A.Store conn.old) (state A.Store conn.new) (λ _. ⊥) }
     ensures clean { HasCleanDisk (state A.Store conn.new) → HasCleanDisk (state A.Store conn.old) }
     ensures fault { IfErr result EndsLog }
-    ensures caused { HasCleanDisk (state A.Store conn.new)
-        → (state A.Store conn.old).now.schema ≡ archive_schema → IfErr result FailsOnRows }
+    ensures caused { OverArchive (state A.Store conn.old) (state A.Store conn.new)
+        (IfErr result FailsOnRows) }
 {
     match stand_of(alloc, conn, id)? {
         Some(stand) => start_at(
@@ -97,8 +95,8 @@ fn keep_hand<A: Alter>(conn: &mut Connection<A>, gathered: Gathered) -> Result<(
         (HasSameLogs (state A.Store conn.old).now.trees) }
     ensures clean { HasCleanDisk (state A.Store conn.new) → HasCleanDisk (state A.Store conn.old) }
     ensures fault { IfErr result EndsLog }
-    ensures caused { HasCleanDisk (state A.Store conn.new)
-        → (state A.Store conn.old).now.schema ≡ archive_schema → IfErr result FailsOnRows }
+    ensures caused { OverArchive (state A.Store conn.old) (state A.Store conn.new)
+        (IfErr result FailsOnRows) }
 {
     if !is_archive(conn.schema()) {
         return Err(NotDone::File(FileFault::Foreign));
@@ -127,26 +125,23 @@ fn keep_on<L: LogLink, A: Alter, P: Progress>(
     steps: u32,
     progress: &mut P,
 ) -> Result<End, NotDone>
-    ensures kept { HasCleanDisk (state A.Store conn.new)
-        → (state A.Store conn.old).now.schema ≡ archive_schema
-        → IfOk result (KeepsFrom place walk step began (state A.Store conn.old).now
-        (state A.Store conn.new).now) }
+    ensures kept { OverArchive (state A.Store conn.old) (state A.Store conn.new)
+        (IfOk result (KeepsFrom place walk step began (state A.Store conn.old).now
+        (state A.Store conn.new).now)) }
     // In replies that came over the link.
-    ensures came { HasCleanDisk (state A.Store conn.new)
-        → (state A.Store conn.old).now.schema ≡ archive_schema
-        → IfOk result (ComesFrom L.asks (towards transactions.old.route) transactions.old.retries
+    ensures came { OverArchive (state A.Store conn.old) (state A.Store conn.new)
+        (IfOk result (ComesFrom L.asks (towards transactions.old.route) transactions.old.retries
         link.old link.new place walk step steps (state A.Store conn.old).now
-        (state A.Store conn.new).now) }
+        (state A.Store conn.new).now)) }
     // Whatever comes of it, what a crash leaves then, or at any moment before, has all that was
     // there, and the same logs.
-    ensures stays { HasCleanDisk (state A.Store conn.new)
-        → (state A.Store conn.old).now.schema ≡ archive_schema
-        → Survives (state A.Store conn.old) (state A.Store conn.new)
-        (HasSameLogs (state A.Store conn.old).now.trees) }
+    ensures stays { OverArchive (state A.Store conn.old) (state A.Store conn.new)
+        (Survives (state A.Store conn.old) (state A.Store conn.new)
+        (HasSameLogs (state A.Store conn.old).now.trees)) }
     ensures clean { HasCleanDisk (state A.Store conn.new) → HasCleanDisk (state A.Store conn.old) }
     ensures fault { IfErr result EndsLog }
-    ensures caused { HasCleanDisk (state A.Store conn.new)
-        → (state A.Store conn.old).now.schema ≡ archive_schema → IfErr result FailsOnRows }
+    ensures caused { OverArchive (state A.Store conn.old) (state A.Store conn.new)
+        (IfErr result FailsOnRows) }
 {
     let mut behind = Ahead::new(progress, step.records);
     let run = keep_log(
@@ -175,21 +170,19 @@ fn keep_from<L: LogLink, A: Alter, P: Progress>(
     steps: u32,
     progress: &mut P,
 ) -> Result<End, NotDone>
-    ensures kept { HasCleanDisk (state A.Store conn.new)
-        → (state A.Store conn.old).now.schema ≡ archive_schema
-        → IfOk result (KeepsBegun L.asks (towards transactions.old.route) transactions.old.retries
+    ensures kept { OverArchive (state A.Store conn.old) (state A.Store conn.new)
+        (IfOk result (KeepsBegun L.asks (towards transactions.old.route) transactions.old.retries
         link.old link.new (Ok start) steps (state A.Store conn.old).now
-        (state A.Store conn.new).now) }
+        (state A.Store conn.new).now)) }
     // Whatever comes of it, what a crash leaves then, or at any moment before, has all that was
     // there, and the same logs.
-    ensures stays { HasCleanDisk (state A.Store conn.new)
-        → (state A.Store conn.old).now.schema ≡ archive_schema
-        → Survives (state A.Store conn.old) (state A.Store conn.new)
-        (HasSameLogs (state A.Store conn.old).now.trees) }
+    ensures stays { OverArchive (state A.Store conn.old) (state A.Store conn.new)
+        (Survives (state A.Store conn.old) (state A.Store conn.new)
+        (HasSameLogs (state A.Store conn.old).now.trees)) }
     ensures clean { HasCleanDisk (state A.Store conn.new) → HasCleanDisk (state A.Store conn.old) }
     ensures fault { IfErr result EndsLog }
-    ensures caused { HasCleanDisk (state A.Store conn.new)
-        → (state A.Store conn.old).now.schema ≡ archive_schema → IfErr result FailsOnRows }
+    ensures caused { OverArchive (state A.Store conn.old) (state A.Store conn.new)
+        (IfErr result FailsOnRows) }
 {
     let Start {
         hand,
@@ -241,20 +234,18 @@ fn keep_and_mark<L: LogLink, A: Alter, P: Progress>(
     steps: u32,
     progress: &mut P,
 ) -> Result<End, NotDone>
-    ensures kept { HasCleanDisk (state A.Store conn.new)
-        → (state A.Store conn.old).now.schema ≡ archive_schema
-        → IfOk result (λ end. (last : Database)
+    ensures kept { OverArchive (state A.Store conn.old) (state A.Store conn.new)
+        (IfOk result (λ end. (last : Database)
         × KeepsBegun L.asks (towards transactions.old.route) transactions.old.retries
         link.old link.new (Ok start) steps (state A.Store conn.old).now last end
-        × Marks start.begins_at end last (state A.Store conn.new).now) }
-    ensures stays { HasCleanDisk (state A.Store conn.new)
-        → (state A.Store conn.old).now.schema ≡ archive_schema
-        → Survives (state A.Store conn.old) (state A.Store conn.new)
-        (HasSameLogs (state A.Store conn.old).now.trees) }
+        × Marks start.begins_at end last (state A.Store conn.new).now)) }
+    ensures stays { OverArchive (state A.Store conn.old) (state A.Store conn.new)
+        (Survives (state A.Store conn.old) (state A.Store conn.new)
+        (HasSameLogs (state A.Store conn.old).now.trees)) }
     ensures clean { HasCleanDisk (state A.Store conn.new) → HasCleanDisk (state A.Store conn.old) }
     ensures fault { IfErr result EndsLog }
-    ensures caused { HasCleanDisk (state A.Store conn.new)
-        → (state A.Store conn.old).now.schema ≡ archive_schema → IfErr result FailsOnRows }
+    ensures caused { OverArchive (state A.Store conn.old) (state A.Store conn.new)
+        (IfErr result FailsOnRows) }
 {
     let begins_at = start.begins_at;
     let end = keep_from(alloc, link, transactions, conn, start, steps, progress)?;
@@ -274,27 +265,24 @@ fn keep_entered<L: LogLink, A: Alter, P: Progress>(
     steps: u32,
     progress: &mut P,
 ) -> Result<End, NotDone>
-    ensures kept { HasCleanDisk (state A.Store conn.new)
-        → (state A.Store conn.old).now.schema ≡ archive_schema
-        → IfOk result (KeepsEntered L.asks (towards transactions.old.route) transactions.old.retries
+    ensures kept { OverArchive (state A.Store conn.old) (state A.Store conn.new)
+        (IfOk result (KeepsEntered L.asks (towards transactions.old.route) transactions.old.retries
         link.old link.new (Ok start) steps entry.now (state A.Store conn.old).now
-        (state A.Store conn.new).now) }
-    ensures stays { HasCleanDisk (state A.Store conn.new)
-        → (state A.Store conn.old).now.schema ≡ archive_schema
-        → Survives (state A.Store conn.old) (state A.Store conn.new)
-        (HasAllOf (state A.Store conn.old).now.trees) }
+        (state A.Store conn.new).now)) }
+    ensures stays { OverArchive (state A.Store conn.old) (state A.Store conn.new)
+        (Survives (state A.Store conn.old) (state A.Store conn.new)
+        (HasAllOf (state A.Store conn.old).now.trees)) }
     // What a crash leaves has the device's word from before, or all that the run kept.
-    ensures word { HasCleanDisk (state A.Store conn.new)
-        → (state A.Store conn.old).now.schema ≡ archive_schema
-        → Survives (state A.Store conn.old) (state A.Store conn.new)
+    ensures word { OverArchive (state A.Store conn.old) (state A.Store conn.new)
+        (Survives (state A.Store conn.old) (state A.Store conn.new)
         (LeavesWord (state A.Store conn.old).now.trees
         (λ db. (left : L) × (end : EndOf) × KeepsEntered L.asks
         (towards transactions.old.route) transactions.old.retries link.old left
-        (Ok start) steps entry.now (state A.Store conn.old).now db end)) }
+        (Ok start) steps entry.now (state A.Store conn.old).now db end))) }
     ensures clean { HasCleanDisk (state A.Store conn.new) → HasCleanDisk (state A.Store conn.old) }
     ensures fault { IfErr result EndsLog }
-    ensures caused { HasCleanDisk (state A.Store conn.new)
-        → (state A.Store conn.old).now.schema ≡ archive_schema → IfErr result FailsOnRows }
+    ensures caused { OverArchive (state A.Store conn.old) (state A.Store conn.new)
+        (IfErr result FailsOnRows) }
 {
     admit(conn, entry)?;
     let end = keep_and_mark(alloc, link, transactions, conn, start, steps, progress)?;
@@ -315,29 +303,26 @@ fn fetch_over<L: LogLink, A: Alter, P: Progress>(
     progress: &mut P,
 ) -> Result<End, NotDone>
     requires { log.kind ≡ 20 }
-    ensures kept { HasCleanDisk (state A.Store conn.new)
-        → (state A.Store conn.old).now.schema ≡ archive_schema
-        → IfOk result (KeepsOverLink L.asks (towards transactions.old.route)
+    ensures kept { OverArchive (state A.Store conn.old) (state A.Store conn.new)
+        (IfOk result (KeepsOverLink L.asks (towards transactions.old.route)
         transactions.old.retries link.old link.new steps entry.now log many
-        (state A.Store conn.old).now (state A.Store conn.new).now) }
+        (state A.Store conn.old).now (state A.Store conn.new).now)) }
     // Whatever comes of it, what a crash leaves then, or at any moment before, has all that was
     // there.
-    ensures stays { HasCleanDisk (state A.Store conn.new)
-        → (state A.Store conn.old).now.schema ≡ archive_schema
-        → Survives (state A.Store conn.old) (state A.Store conn.new)
-        (HasAllOf (state A.Store conn.old).now.trees) }
+    ensures stays { OverArchive (state A.Store conn.old) (state A.Store conn.new)
+        (Survives (state A.Store conn.old) (state A.Store conn.new)
+        (HasAllOf (state A.Store conn.old).now.trees)) }
     // What a crash leaves has the device's word from before, or all that the run kept.
-    ensures word { HasCleanDisk (state A.Store conn.new)
-        → (state A.Store conn.old).now.schema ≡ archive_schema
-        → Survives (state A.Store conn.old) (state A.Store conn.new)
+    ensures word { OverArchive (state A.Store conn.old) (state A.Store conn.new)
+        (Survives (state A.Store conn.old) (state A.Store conn.new)
         (LeavesWord (state A.Store conn.old).now.trees
         (λ db. (left : L) × (end : EndOf) × KeepsOverLink L.asks
         (towards transactions.old.route) transactions.old.retries link.old left
-        steps entry.now log many (state A.Store conn.old).now db end)) }
+        steps entry.now log many (state A.Store conn.old).now db end))) }
     ensures clean { HasCleanDisk (state A.Store conn.new) → HasCleanDisk (state A.Store conn.old) }
     ensures fault { IfErr result EndsLog }
-    ensures caused { HasCleanDisk (state A.Store conn.new)
-        → (state A.Store conn.old).now.schema ≡ archive_schema → IfErr result FailsOnRows }
+    ensures caused { OverArchive (state A.Store conn.old) (state A.Store conn.new)
+        (IfErr result FailsOnRows) }
 {
     match where_to_start(
         alloc,
@@ -375,27 +360,24 @@ pub(crate) fn fetch<S: Sockets, A: Alter, P: Progress>(
 ) -> Result<End, NotDone>
     // The rows of what the run brought come to those before, under this log, and it came over a
     // socket that was opened as asked, from the device that is asked, and closed behind it.
-    ensures kept { HasCleanDisk (state A.Store conn.new)
-        → (state A.Store conn.old).now.schema ≡ archive_schema
-        → IfOk result (KeepsLog (socket_rules S.opens S.closes S.Socket.sends S.Socket.receives
+    ensures kept { OverArchive (state A.Store conn.old) (state A.Store conn.new)
+        (IfOk result (KeepsLog (socket_rules S.opens S.closes S.Socket.sends S.Socket.receives
         S.Socket.receives_within) asking sockets.old sockets.new entry.now
         (trend_log entry.now.row.source.instance) (state A.Store conn.old).now
-        (state A.Store conn.new).now) }
+        (state A.Store conn.new).now)) }
     // Whatever comes of it, what a crash leaves then, or at any moment before, has all that was
     // there.
-    ensures stays { HasCleanDisk (state A.Store conn.new)
-        → (state A.Store conn.old).now.schema ≡ archive_schema
-        → Survives (state A.Store conn.old) (state A.Store conn.new)
-        (HasAllOf (state A.Store conn.old).now.trees) }
+    ensures stays { OverArchive (state A.Store conn.old) (state A.Store conn.new)
+        (Survives (state A.Store conn.old) (state A.Store conn.new)
+        (HasAllOf (state A.Store conn.old).now.trees)) }
     ensures clean { HasCleanDisk (state A.Store conn.new) → HasCleanDisk (state A.Store conn.old) }
     ensures fault { IfErr result (EndsRun (socket_rules S.opens S.closes S.Socket.sends
         S.Socket.receives S.Socket.receives_within)
         (IsNoInstance entry.now.row.source.instance) ⊥ sockets.new) }
-    ensures caused { HasCleanDisk (state A.Store conn.new)
-        → (state A.Store conn.old).now.schema ≡ archive_schema
-        → IfErr result (EndsFetch (socket_rules S.opens S.closes S.Socket.sends S.Socket.receives
+    ensures caused { OverArchive (state A.Store conn.old) (state A.Store conn.new)
+        (IfErr result (EndsFetch (socket_rules S.opens S.closes S.Socket.sends S.Socket.receives
         S.Socket.receives_within) asking.asked entry.now.row.source.instance sockets.old
-        sockets.new) }
+        sockets.new)) }
 {
     let Asking {
         asked,

@@ -4,7 +4,7 @@ ghost use Rattle.std.specs.Prelude.{◌≡◌, ◌≢◌, ◌⊎◌, ◌∷◌, 
 ghost use Rattle.std.specs.List.{All};
 ghost use Rattle.sqlite.specs.State.{HasCleanDisk, Survives};
 ghost use Rattle.sqlite.specs.Held.{state};
-ghost use Rattle.bac_archive.specs.Schema.{archive_schema};
+ghost use Rattle.bac_archive.specs.Schema.{OverArchive, archive_schema};
 ghost use Rattle.bac_archive.specs.Logs.{AreLogs};
 ghost use Rattle.bac_hearing.specs.Hearing.{started};
 ghost use Rattle.bac_ports.specs.Sockets.{socket_rules};
@@ -79,21 +79,18 @@ fn kept_logs<A: Alter>(
     ensures asks { IfOk result (λ all. All AsksItsSource all.items) }
     // They are the logs of the archive that aren't stopped, one at least.
     ensures some { IfOk result (λ all. all.items ≢ []) }
-    ensures logs { HasCleanDisk (state A.Store conn.new)
-        → (state A.Store conn.old).now.schema ≡ archive_schema
-        → IfOk result (λ all. AreKeptLogs (state A.Store conn.old).now.trees all.items) }
-    ensures same { HasCleanDisk (state A.Store conn.new)
-        → (state A.Store conn.old).now.schema ≡ archive_schema
-        → OnOk result ((state A.Store conn.new).now ≡ (state A.Store conn.old).now) }
+    ensures logs { OverArchive (state A.Store conn.old) (state A.Store conn.new)
+        (IfOk result (λ all. AreKeptLogs (state A.Store conn.old).now.trees all.items)) }
+    ensures same { OverArchive (state A.Store conn.old) (state A.Store conn.new)
+        (OnOk result ((state A.Store conn.new).now ≡ (state A.Store conn.old).now)) }
     ensures crash { (state A.Store conn.old).now.schema ≡ archive_schema
         → Survives (state A.Store conn.old) (state A.Store conn.new) (λ _. ⊥) }
     ensures clean { HasCleanDisk (state A.Store conn.new) → HasCleanDisk (state A.Store conn.old) }
-    ensures fault { IfErr result (EndsKept (HasCleanDisk (state A.Store conn.new)
-        → (state A.Store conn.old).now.schema ≡ archive_schema
-        → HasNone (state A.Store conn.old).now.trees)
-        (HasCleanDisk (state A.Store conn.new)
-        → (state A.Store conn.old).now.schema ≡ archive_schema
-        → LacksAddress (given_in options.now) (state A.Store conn.old).now.trees)) }
+    ensures fault { IfErr result (EndsKept (OverArchive (state A.Store conn.old)
+        (state A.Store conn.new)
+        (HasNone (state A.Store conn.old).now.trees))
+        (OverArchive (state A.Store conn.old) (state A.Store conn.new)
+        (LacksAddress (given_in options.now) (state A.Store conn.old).now.trees))) }
 {
     let known = match logs(alloc, conn) {
         Ok(known) => known,
@@ -124,25 +121,22 @@ fn keep_known<S: Heeds, A: Alter, O: Write, E: Write>(
     errors: &mut E,
 ) -> Result<u8, NotDone>
     ensures told { IfOk result (AreToldBy (O.contents output.old) (O.contents output.new) all.items
-        (λ ends. HasCleanDisk (state A.Store conn.new)
-        → (state A.Store conn.old).now.schema ≡ archive_schema
-        → (last : List HeardOf) × KeepsAll (socket_rules S.opens S.closes S.Socket.sends
+        (λ ends. OverArchive (state A.Store conn.old) (state A.Store conn.new)
+        ((last : List HeardOf) × KeepsAll (socket_rules S.opens S.closes S.Socket.sends
         S.Socket.receives S.Socket.receives_within) known.now heard.items last
         all.items sockets.old sockets.new (state A.Store conn.old).now
-        (state A.Store conn.new).now ends)) }
-    ensures stays { HasCleanDisk (state A.Store conn.new)
-        → (state A.Store conn.old).now.schema ≡ archive_schema
-        → Survives (state A.Store conn.old) (state A.Store conn.new)
-        (HasAllOf (state A.Store conn.old).now.trees) }
+        (state A.Store conn.new).now ends))) }
+    ensures stays { OverArchive (state A.Store conn.old) (state A.Store conn.new)
+        (Survives (state A.Store conn.old) (state A.Store conn.new)
+        (HasAllOf (state A.Store conn.old).now.trees)) }
     ensures clean { HasCleanDisk (state A.Store conn.new) → HasCleanDisk (state A.Store conn.old) }
     ensures fault { IfErr result (EndsRun (socket_rules S.opens S.closes S.Socket.sends
         S.Socket.receives S.Socket.receives_within) (HasNoInstance all.items) ⊥
         sockets.new) }
-    ensures caused { HasCleanDisk (state A.Store conn.new)
-        → (state A.Store conn.old).now.schema ≡ archive_schema
-        → IfErr result (EndsAll (socket_rules S.opens S.closes S.Socket.sends S.Socket.receives
+    ensures caused { OverArchive (state A.Store conn.old) (state A.Store conn.new)
+        (IfErr result (EndsAll (socket_rules S.opens S.closes S.Socket.sends S.Socket.receives
         S.Socket.receives_within) known.now heard.items all.items sockets.old
-        sockets.new (state A.Store conn.old).now) }
+        sockets.new (state A.Store conn.old).now)) }
 {
     let mut heard = heard;
     let mut greatest = 0u8;
@@ -159,12 +153,10 @@ fn keep_known<S: Heeds, A: Alter, O: Write, E: Write>(
 
 /// The logs of an archive.
 fn logs_of<A: Alter>(conn: &mut Connection<A>, alloc: Global) -> Result<Vec<Log>, NotDone>
-    ensures logs { HasCleanDisk (state A.Store conn.new)
-        → (state A.Store conn.old).now.schema ≡ archive_schema
-        → IfOk result (λ all. AreLogs (state A.Store conn.old).now.trees all.items) }
-    ensures same { HasCleanDisk (state A.Store conn.new)
-        → (state A.Store conn.old).now.schema ≡ archive_schema
-        → OnOk result ((state A.Store conn.new).now ≡ (state A.Store conn.old).now) }
+    ensures logs { OverArchive (state A.Store conn.old) (state A.Store conn.new)
+        (IfOk result (λ all. AreLogs (state A.Store conn.old).now.trees all.items)) }
+    ensures same { OverArchive (state A.Store conn.old) (state A.Store conn.new)
+        (OnOk result ((state A.Store conn.new).now ≡ (state A.Store conn.old).now)) }
     ensures crash { (state A.Store conn.old).now.schema ≡ archive_schema
         → Survives (state A.Store conn.old) (state A.Store conn.new) (λ _. ⊥) }
     ensures clean { HasCleanDisk (state A.Store conn.new) → HasCleanDisk (state A.Store conn.old) }
@@ -190,26 +182,23 @@ fn keep_settled<S: Heeds, A: Alter, O: Write, E: Write>(
     errors: &mut E,
 ) -> Result<u8, NotDone>
     ensures told { IfOk result (AreToldBy (O.contents output.old) (O.contents output.new) all.items
-        (λ ends. HasCleanDisk (state A.Store conn.new)
-        → (state A.Store conn.old).now.schema ≡ archive_schema
-        → (known : List LogOf) × AreLogs (state A.Store conn.old).now.trees known
+        (λ ends. OverArchive (state A.Store conn.old) (state A.Store conn.new)
+        ((known : List LogOf) × AreLogs (state A.Store conn.old).now.trees known
         × (last : List HeardOf) × KeepsAll (socket_rules S.opens S.closes S.Socket.sends
         S.Socket.receives S.Socket.receives_within) known heard.items last
         all.items sockets.old sockets.new (state A.Store conn.old).now
-        (state A.Store conn.new).now ends)) }
-    ensures stays { HasCleanDisk (state A.Store conn.new)
-        → (state A.Store conn.old).now.schema ≡ archive_schema
-        → Survives (state A.Store conn.old) (state A.Store conn.new)
-        (HasAllOf (state A.Store conn.old).now.trees) }
+        (state A.Store conn.new).now ends))) }
+    ensures stays { OverArchive (state A.Store conn.old) (state A.Store conn.new)
+        (Survives (state A.Store conn.old) (state A.Store conn.new)
+        (HasAllOf (state A.Store conn.old).now.trees)) }
     ensures clean { HasCleanDisk (state A.Store conn.new) → HasCleanDisk (state A.Store conn.old) }
     ensures fault { IfErr result (EndsRun (socket_rules S.opens S.closes S.Socket.sends
         S.Socket.receives S.Socket.receives_within) (HasNoInstance all.items) ⊥
         sockets.new) }
-    ensures caused { HasCleanDisk (state A.Store conn.new)
-        → (state A.Store conn.old).now.schema ≡ archive_schema
-        → IfErr result (EndsSettled (socket_rules S.opens S.closes S.Socket.sends S.Socket.receives
+    ensures caused { OverArchive (state A.Store conn.old) (state A.Store conn.new)
+        (IfErr result (EndsSettled (socket_rules S.opens S.closes S.Socket.sends S.Socket.receives
         S.Socket.receives_within) heard.items all.items sockets.old sockets.new
-        (state A.Store conn.old).now) }
+        (state A.Store conn.old).now)) }
 {
     let known = logs_of(conn, alloc)?;
     keep_known(
@@ -235,41 +224,39 @@ fn settle_known<S: Sockets, A: Alter, E: Write>(
     options: &Options<'_>,
     errors: &mut E,
 ) -> Result<Vec<Heard>, NotDone>
-    ensures settled { HasCleanDisk (state A.Store conn.new)
-        → (state A.Store conn.old).now.schema ≡ archive_schema
-        → IfOk result (λ heard. (known : List LogOf)
+    ensures settled { OverArchive (state A.Store conn.old) (state A.Store conn.new)
+        (IfOk result (λ heard. (known : List LogOf)
         × AreLogs (state A.Store conn.old).now.trees known
         × Settles (socket_rules S.opens S.closes S.Socket.sends S.Socket.receives
         S.Socket.receives_within) known all.now sockets.old heard.items sockets.new
-        (state A.Store conn.old).now (state A.Store conn.new).now) }
-    ensures stays { HasCleanDisk (state A.Store conn.new)
-        → (state A.Store conn.old).now.schema ≡ archive_schema
-        → Survives (state A.Store conn.old) (state A.Store conn.new)
-        (HasAllOf (state A.Store conn.old).now.trees) }
+        (state A.Store conn.old).now (state A.Store conn.new).now)) }
+    ensures stays { OverArchive (state A.Store conn.old) (state A.Store conn.new)
+        (Survives (state A.Store conn.old) (state A.Store conn.new)
+        (HasAllOf (state A.Store conn.old).now.trees)) }
     ensures clean { HasCleanDisk (state A.Store conn.new) → HasCleanDisk (state A.Store conn.old) }
     ensures fault { IfErr result (EndsRun (socket_rules S.opens S.closes S.Socket.sends
         S.Socket.receives S.Socket.receives_within) ⊥
-        (HasCleanDisk (state A.Store conn.new)
-        → (state A.Store conn.old).now.schema ≡ archive_schema
-        → LacksAddress (given_in options.now) (state A.Store conn.old).now.trees)
+        (OverArchive (state A.Store conn.old) (state A.Store conn.new)
+        (LacksAddress (given_in options.now) (state A.Store conn.old).now.trees))
         sockets.new) }
-    ensures caused { HasCleanDisk (state A.Store conn.new)
-        → (state A.Store conn.old).now.schema ≡ archive_schema
-        → IfErr result (FailsToSettle (socket_rules S.opens S.closes S.Socket.sends
+    ensures caused { OverArchive (state A.Store conn.old) (state A.Store conn.new)
+        (IfErr result (FailsToSettle (socket_rules S.opens S.closes S.Socket.sends
         S.Socket.receives S.Socket.receives_within) (given_in options.now) all.now
-        sockets.old sockets.new (state A.Store conn.old).now) }
+        sockets.old sockets.new (state A.Store conn.old).now)) }
 {
     let known = logs_of(conn, alloc)?;
     settle(sockets, conn, alloc, known.as_slice(), all, options, errors)
 }
 
-/// Keeps what is new of each of these logs in an archive; answers the greatest of their statuses. A
-/// device is asked once what it says of itself; one that tells another instance than the one on
-/// record isn't asked for its logs, nor is one that gave no answer before. A device that tells at a
-/// new place the instance on record of logs at another one has moved, if nobody tells it there. The
-/// errors have a line for such a device, for a log that began anew, and for one whose walk failed:
-/// what came in place of the answer, or what a refusal means. If it counts, they have the number of
-/// a log's records while it is fetched: for a terminal.
+/// Keeps what is new of each of these logs in an archive; answers the greatest of their statuses.
+/// Devices that no router is in front of are called at once, before the first log, if they are two
+/// or more: by the clock, which is read for how long each is waited for. A device is asked once what
+/// it says of itself; one that tells another instance than the one on record isn't asked for its
+/// logs, nor is one that gave no answer before. A device that tells at a new place the instance on
+/// record of logs at another one has moved, if nobody tells it there. The errors have a line for
+/// such a device, for a log that began anew, and for one whose walk failed: what came in place of
+/// the answer, or what a refusal means. If it counts, they have the number of a log's records while
+/// it is fetched: for a terminal.
 pub fn keep_each<S: Heeds, C: Clock, A: Alter, O: Write, E: Write>(
     sockets: &mut S,
     conn: &mut Connection<A>,
@@ -287,30 +274,26 @@ where
     // if its device tells the instance that is on record, or none is; or it isn't asked, if its
     // device gave no answer before.
     ensures told { IfOk result (AreToldBy (O.contents output.old) (O.contents output.new) all.items
-        (λ ends. HasCleanDisk (state A.Store conn.new)
-        → (state A.Store conn.old).now.schema ≡ archive_schema
-        → KeepsLogs (socket_rules S.opens S.closes S.Socket.sends S.Socket.receives
+        (λ ends. OverArchive (state A.Store conn.old) (state A.Store conn.new)
+        (KeepsLogs (socket_rules S.opens S.closes S.Socket.sends S.Socket.receives
         S.Socket.receives_within) (started C.reads clock) all.items sockets.old sockets.new
-        (state A.Store conn.old).now (state A.Store conn.new).now ends)) }
+        (state A.Store conn.old).now (state A.Store conn.new).now ends))) }
     // Whatever comes of it, no item and no log is lost: what is on the disk then, or is left by a
     // crash at any moment before, is what was there or has all of it.
-    ensures stays { HasCleanDisk (state A.Store conn.new)
-        → (state A.Store conn.old).now.schema ≡ archive_schema
-        → Survives (state A.Store conn.old) (state A.Store conn.new)
-        (HasAllOf (state A.Store conn.old).now.trees) }
+    ensures stays { OverArchive (state A.Store conn.old) (state A.Store conn.new)
+        (Survives (state A.Store conn.old) (state A.Store conn.new)
+        (HasAllOf (state A.Store conn.old).now.trees)) }
     ensures clean { HasCleanDisk (state A.Store conn.new) → HasCleanDisk (state A.Store conn.old) }
     // Or it ends before that.
     ensures fault { IfErr result (EndsRun (socket_rules S.opens S.closes S.Socket.sends
         S.Socket.receives S.Socket.receives_within) (HasNoInstance all.items)
-        (HasCleanDisk (state A.Store conn.new)
-        → (state A.Store conn.old).now.schema ≡ archive_schema
-        → LacksAddress (given_in options.now) (state A.Store conn.old).now.trees)
+        (OverArchive (state A.Store conn.old) (state A.Store conn.new)
+        (LacksAddress (given_in options.now) (state A.Store conn.old).now.trees))
         sockets.new) }
-    ensures caused { HasCleanDisk (state A.Store conn.new)
-        → (state A.Store conn.old).now.schema ≡ archive_schema
-        → IfErr result (EndsLogs (socket_rules S.opens S.closes S.Socket.sends S.Socket.receives
+    ensures caused { OverArchive (state A.Store conn.old) (state A.Store conn.new)
+        (IfErr result (EndsLogs (socket_rules S.opens S.closes S.Socket.sends S.Socket.receives
         S.Socket.receives_within) (started C.reads clock) (given_in options.now) all.items
-        sockets.old sockets.new (state A.Store conn.old).now) }
+        sockets.old sockets.new (state A.Store conn.old).now)) }
 {
     let mut heard = settle_known(sockets, conn, alloc, all.as_slice(), options, errors)?;
     let called = find_absent(sockets, alloc, clock, all.as_slice(), &mut heard)?;
@@ -329,29 +312,25 @@ fn chosen_logs<S: Sockets, A: Alter>(
 ) -> Result<Vec<Wanted>, NotDone>
     requires { AskTheirSources chosen }
     ensures asks { IfOk result (λ all. All AsksItsSource all.items) }
-    ensures chosen { HasCleanDisk (state A.Store conn.new)
-        → (state A.Store conn.old).now.schema ≡ archive_schema
-        → IfOk result (λ all. AreChosen chosen (state A.Store conn.old).now.trees all.items) }
+    ensures chosen { OverArchive (state A.Store conn.old) (state A.Store conn.new)
+        (IfOk result (λ all. AreChosen chosen (state A.Store conn.old).now.trees all.items)) }
     // Those of a file are one at least, those of a device those of its Object_List, and no socket
     // is opened for others.
     ensures found { IfOk result (λ all. AreFound
         (socket_rules S.opens S.closes S.Socket.sends S.Socket.receives
         S.Socket.receives_within) chosen sockets.old all.items sockets.new) }
-    ensures same { HasCleanDisk (state A.Store conn.new)
-        → (state A.Store conn.old).now.schema ≡ archive_schema
-        → OnOk result ((state A.Store conn.new).now ≡ (state A.Store conn.old).now) }
+    ensures same { OverArchive (state A.Store conn.old) (state A.Store conn.new)
+        (OnOk result ((state A.Store conn.new).now ≡ (state A.Store conn.old).now)) }
     ensures crash { (state A.Store conn.old).now.schema ≡ archive_schema
         → Survives (state A.Store conn.old) (state A.Store conn.new) (λ _. ⊥) }
     ensures clean { HasCleanDisk (state A.Store conn.new) → HasCleanDisk (state A.Store conn.old) }
     ensures fault { IfErr result (EndsChosen
         (socket_rules S.opens S.closes S.Socket.sends S.Socket.receives
         S.Socket.receives_within) chosen
-        (HasCleanDisk (state A.Store conn.new)
-        → (state A.Store conn.old).now.schema ≡ archive_schema
-        → HasNone (state A.Store conn.old).now.trees)
-        (HasCleanDisk (state A.Store conn.new)
-        → (state A.Store conn.old).now.schema ≡ archive_schema
-        → LacksAddress (given_in options.now) (state A.Store conn.old).now.trees)
+        (OverArchive (state A.Store conn.old) (state A.Store conn.new)
+        (HasNone (state A.Store conn.old).now.trees))
+        (OverArchive (state A.Store conn.old) (state A.Store conn.new)
+        (LacksAddress (given_in options.now) (state A.Store conn.old).now.trees))
         sockets.old sockets.new) }
 {
     match chosen {
@@ -361,7 +340,7 @@ fn chosen_logs<S: Sockets, A: Alter>(
     }
 }
 
-/// Keeps what is new of the logs that were chosen.
+/// Keeps what is new of the logs that were chosen, as [`keep_each`] does.
 pub fn keep_chosen<S: Heeds, C: Clock, A: Alter, O: Write, E: Write>(
     sockets: &mut S,
     conn: &mut Connection<A>,
@@ -380,37 +359,31 @@ where
     ensures told { IfOk result (λ status. (all : List WantedOf) × (between : S)
         × All AsksItsSource all × AreFound (socket_rules S.opens S.closes S.Socket.sends
         S.Socket.receives S.Socket.receives_within) chosen sockets.old all between
-        × (HasCleanDisk (state A.Store conn.new)
-        → (state A.Store conn.old).now.schema ≡ archive_schema
-        → AreChosen chosen (state A.Store conn.old).now.trees all)
+        × (OverArchive (state A.Store conn.old) (state A.Store conn.new)
+        (AreChosen chosen (state A.Store conn.old).now.trees all))
         × AreToldBy (O.contents output.old) (O.contents output.new) all
-        (λ ends. HasCleanDisk (state A.Store conn.new)
-        → (state A.Store conn.old).now.schema ≡ archive_schema
-        → KeepsLogs (socket_rules S.opens S.closes S.Socket.sends S.Socket.receives
+        (λ ends. OverArchive (state A.Store conn.old) (state A.Store conn.new)
+        (KeepsLogs (socket_rules S.opens S.closes S.Socket.sends S.Socket.receives
         S.Socket.receives_within) (started C.reads clock) all between sockets.new
-        (state A.Store conn.old).now (state A.Store conn.new).now ends) status) }
+        (state A.Store conn.old).now (state A.Store conn.new).now ends)) status) }
     // Whatever comes of it, no item and no log is lost.
-    ensures stays { HasCleanDisk (state A.Store conn.new)
-        → (state A.Store conn.old).now.schema ≡ archive_schema
-        → Survives (state A.Store conn.old) (state A.Store conn.new)
-        (HasAllOf (state A.Store conn.old).now.trees) }
+    ensures stays { OverArchive (state A.Store conn.old) (state A.Store conn.new)
+        (Survives (state A.Store conn.old) (state A.Store conn.new)
+        (HasAllOf (state A.Store conn.old).now.trees)) }
     ensures clean { HasCleanDisk (state A.Store conn.new) → HasCleanDisk (state A.Store conn.old) }
     // Or their names aren't found, or the run over them ends before that.
     ensures fault { IfErr result (EndsKeeping
         (socket_rules S.opens S.closes S.Socket.sends S.Socket.receives
         S.Socket.receives_within) chosen
-        (HasCleanDisk (state A.Store conn.new)
-        → (state A.Store conn.old).now.schema ≡ archive_schema
-        → HasNone (state A.Store conn.old).now.trees)
-        (HasCleanDisk (state A.Store conn.new)
-        → (state A.Store conn.old).now.schema ≡ archive_schema
-        → LacksAddress (given_in options.now) (state A.Store conn.old).now.trees)
+        (OverArchive (state A.Store conn.old) (state A.Store conn.new)
+        (HasNone (state A.Store conn.old).now.trees))
+        (OverArchive (state A.Store conn.old) (state A.Store conn.new)
+        (LacksAddress (given_in options.now) (state A.Store conn.old).now.trees))
         sockets.old sockets.new) }
-    ensures caused { HasCleanDisk (state A.Store conn.new)
-        → (state A.Store conn.old).now.schema ≡ archive_schema
-        → IfErr result (EndsRunOver (socket_rules S.opens S.closes S.Socket.sends S.Socket.receives
+    ensures caused { OverArchive (state A.Store conn.old) (state A.Store conn.new)
+        (IfErr result (EndsRunOver (socket_rules S.opens S.closes S.Socket.sends S.Socket.receives
         S.Socket.receives_within) (started C.reads clock) (given_in options.now) chosen sockets.old
-        sockets.new (state A.Store conn.old).now) }
+        sockets.new (state A.Store conn.old).now)) }
 {
     let all = chosen_logs(sockets, conn, alloc, chosen, options)?;
     keep_each(

@@ -6,7 +6,7 @@ ghost use Rattle.sqlite.specs.State.{HasCleanDisk, Survives};
 ghost use Rattle.sqlite.specs.Held.{state};
 ghost use Rattle.bac_archive.specs.Changes.{HasChangedLogs};
 ghost use Rattle.bac_archive.specs.Logs.{log_columns};
-ghost use Rattle.bac_archive.specs.Schema.{archive_schema};
+ghost use Rattle.bac_archive.specs.Schema.{OverArchive, archive_schema};
 ghost use Rattle.bac_ports.specs.Sockets.{socket_rules};
 ghost use Rattle.bac_asked.specs.Wanted.{AsksItsSource, HasNoAddress};
 ghost use Rattle.bac_asked.specs.AsLog.{given_in};
@@ -122,10 +122,9 @@ fn move_logs<A: Alter>(
     from: &Source,
     to: &Source,
 ) -> Result<(), NotDone>
-    ensures moved { HasCleanDisk (state A.Store conn.new)
-        → (state A.Store conn.old).now.schema ≡ archive_schema
-        → OnOk result ((moved : _) × AreMoved device from.now to.now known.now moved
-        × HasChangedLogs (state A.Store conn.old).now (state A.Store conn.new).now moved) }
+    ensures moved { OverArchive (state A.Store conn.old) (state A.Store conn.new)
+        (OnOk result ((moved : _) × AreMoved device from.now to.now known.now moved
+        × HasChangedLogs (state A.Store conn.old).now (state A.Store conn.new).now moved)) }
     ensures stays { (state A.Store conn.old).now.schema ≡ archive_schema
         → Survives (state A.Store conn.old) (state A.Store conn.new)
         (HasAllOf (state A.Store conn.old).now.trees) }
@@ -200,11 +199,10 @@ fn settle_from<S: Sockets, A: Alter, E: Write>(
     options: &Options<'_>,
     errors: &mut E,
 ) -> Result<(), NotDone>
-    ensures settled { HasCleanDisk (state A.Store conn.new)
-        → (state A.Store conn.old).now.schema ≡ archive_schema
-        → OnOk result (AsksThere (socket_rules S.opens S.closes S.Socket.sends S.Socket.receives
+    ensures settled { OverArchive (state A.Store conn.old) (state A.Store conn.new)
+        (OnOk result (AsksThere (socket_rules S.opens S.closes S.Socket.sends S.Socket.receives
         S.Socket.receives_within) device from.now to.now known.now sockets.old
-        sockets.new (state A.Store conn.old).now (state A.Store conn.new).now) }
+        sockets.new (state A.Store conn.old).now (state A.Store conn.new).now)) }
     ensures stays { (state A.Store conn.old).now.schema ≡ archive_schema
         → Survives (state A.Store conn.old) (state A.Store conn.new)
         (HasAllOf (state A.Store conn.old).now.trees) }
@@ -235,11 +233,10 @@ fn settle_by<S: Sockets, A: Alter, E: Write>(
     options: &Options<'_>,
     errors: &mut E,
 ) -> Result<(), NotDone>
-    ensures settled { HasCleanDisk (state A.Store conn.new)
-        → (state A.Store conn.old).now.schema ≡ archive_schema
-        → OnOk result (SettlesBy (socket_rules S.opens S.closes S.Socket.sends S.Socket.receives
+    ensures settled { OverArchive (state A.Store conn.old) (state A.Store conn.new)
+        (OnOk result (SettlesBy (socket_rules S.opens S.closes S.Socket.sends S.Socket.receives
         S.Socket.receives_within) known.now to.now identity sockets.old sockets.new
-        (state A.Store conn.old).now (state A.Store conn.new).now) }
+        (state A.Store conn.old).now (state A.Store conn.new).now)) }
     ensures stays { (state A.Store conn.old).now.schema ≡ archive_schema
         → Survives (state A.Store conn.old) (state A.Store conn.new)
         (HasAllOf (state A.Store conn.old).now.trees) }
@@ -281,11 +278,10 @@ fn settle_first<S: Sockets, A: Alter, E: Write>(
     options: &Options<'_>,
     errors: &mut E,
 ) -> Result<Heard, NotDone>
-    ensures settled { HasCleanDisk (state A.Store conn.new)
-        → (state A.Store conn.old).now.schema ≡ archive_schema
-        → IfOk result (λ one. SettlesFirst (socket_rules S.opens S.closes S.Socket.sends
+    ensures settled { OverArchive (state A.Store conn.old) (state A.Store conn.new)
+        (IfOk result (λ one. SettlesFirst (socket_rules S.opens S.closes S.Socket.sends
         S.Socket.receives S.Socket.receives_within) known.now first.now sockets.old one
-        sockets.new (state A.Store conn.old).now (state A.Store conn.new).now) }
+        sockets.new (state A.Store conn.old).now (state A.Store conn.new).now)) }
     ensures stays { (state A.Store conn.old).now.schema ≡ archive_schema
         → Survives (state A.Store conn.old) (state A.Store conn.new)
         (HasAllOf (state A.Store conn.old).now.trees) }
@@ -328,11 +324,10 @@ fn settle_unless<S: Sockets, A: Alter, E: Write>(
     options: &Options<'_>,
     errors: &mut E,
 ) -> Result<Vec<Heard>, NotDone>
-    ensures settled { HasCleanDisk (state A.Store conn.new)
-        → (state A.Store conn.old).now.schema ≡ archive_schema
-        → IfOk result (λ heard. SettlesUnless (socket_rules S.opens S.closes S.Socket.sends
+    ensures settled { OverArchive (state A.Store conn.old) (state A.Store conn.new)
+        (IfOk result (λ heard. SettlesUnless (socket_rules S.opens S.closes S.Socket.sends
         S.Socket.receives S.Socket.receives_within) known.now first.now sockets.old
-        heard.items sockets.new (state A.Store conn.old).now (state A.Store conn.new).now) }
+        heard.items sockets.new (state A.Store conn.old).now (state A.Store conn.new).now)) }
     ensures stays { (state A.Store conn.old).now.schema ≡ archive_schema
         → Survives (state A.Store conn.old) (state A.Store conn.new)
         (HasAllOf (state A.Store conn.old).now.trees) }
@@ -368,11 +363,10 @@ pub(crate) fn settle<S: Sockets, A: Alter, E: Write>(
     options: &Options<'_>,
     errors: &mut E,
 ) -> Result<Vec<Heard>, NotDone>
-    ensures settled { HasCleanDisk (state A.Store conn.new)
-        → (state A.Store conn.old).now.schema ≡ archive_schema
-        → IfOk result (λ heard. Settles (socket_rules S.opens S.closes S.Socket.sends
+    ensures settled { OverArchive (state A.Store conn.old) (state A.Store conn.new)
+        (IfOk result (λ heard. Settles (socket_rules S.opens S.closes S.Socket.sends
         S.Socket.receives S.Socket.receives_within) known.now all.now sockets.old
-        heard.items sockets.new (state A.Store conn.old).now (state A.Store conn.new).now) }
+        heard.items sockets.new (state A.Store conn.old).now (state A.Store conn.new).now)) }
     ensures stays { (state A.Store conn.old).now.schema ≡ archive_schema
         → Survives (state A.Store conn.old) (state A.Store conn.new)
         (HasAllOf (state A.Store conn.old).now.trees) }

@@ -4,7 +4,7 @@ ghost use Rattle.std.specs.Prelude.{◌≡◌, option_map, OnOk, IfOk, IfErr};
 ghost use Rattle.std.specs.Io.KnownBytes.{Appends};
 ghost use Rattle.sqlite.specs.State.{HasCleanDisk, Survives};
 ghost use Rattle.sqlite.specs.Held.{state};
-ghost use Rattle.bac_archive.specs.Schema.{archive_schema};
+ghost use Rattle.bac_archive.specs.Schema.{OverArchive, archive_schema};
 ghost use Rattle.bac_asked.specs.Lines.{summary_line};
 ghost use Rattle.bac_asked.specs.Faults.{FailsOnRows, EndsLog};
 ghost use Rattle.bac_fetch.specs.Keeps.{IsNextOf, IsToldBy, next_behind};
@@ -59,18 +59,16 @@ fn next_of<A: Alter>(
     alloc: Global,
     id: Option<u16>,
 ) -> Result<u32, NotDone>
-    ensures next { HasCleanDisk (state A.Store conn.new)
-        → (state A.Store conn.old).now.schema ≡ archive_schema
-        → IfOk result (IsNextOf (state A.Store conn.old).now.trees id) }
-    ensures same { HasCleanDisk (state A.Store conn.new)
-        → (state A.Store conn.old).now.schema ≡ archive_schema
-        → OnOk result ((state A.Store conn.new).now ≡ (state A.Store conn.old).now) }
+    ensures next { OverArchive (state A.Store conn.old) (state A.Store conn.new)
+        (IfOk result (IsNextOf (state A.Store conn.old).now.trees id)) }
+    ensures same { OverArchive (state A.Store conn.old) (state A.Store conn.new)
+        (OnOk result ((state A.Store conn.new).now ≡ (state A.Store conn.old).now)) }
     ensures crash { (state A.Store conn.old).now.schema ≡ archive_schema
         → Survives (state A.Store conn.old) (state A.Store conn.new) (λ _. ⊥) }
     ensures clean { HasCleanDisk (state A.Store conn.new) → HasCleanDisk (state A.Store conn.old) }
     ensures fault { IfErr result EndsLog }
-    ensures caused { HasCleanDisk (state A.Store conn.new)
-        → (state A.Store conn.old).now.schema ≡ archive_schema → IfErr result FailsOnRows }
+    ensures caused { OverArchive (state A.Store conn.old) (state A.Store conn.new)
+        (IfErr result FailsOnRows) }
 {
     let Some(id) = id else {
         return Ok(1);
@@ -99,18 +97,18 @@ pub(crate) fn pass_over<A: Alter, O: Write>(
 ) -> Result<u8, NotDone>
     ensures told { IfOk result (IsToldBy (O.contents output.old) (O.contents output.new) source.now
         (λ end. (end.records ≡ 0) × (end.gaps ≡ 0) × (end.why ≡ why)
-        × (end.began ≡ Began.GoesOn) × (HasCleanDisk (state A.Store conn.new)
-        → (state A.Store conn.old).now.schema ≡ archive_schema
-        → ((state A.Store conn.new).now ≡ (state A.Store conn.old).now)
+        × (end.began ≡ Began.GoesOn) × (OverArchive (state A.Store conn.old)
+        (state A.Store conn.new)
+        (((state A.Store conn.new).now ≡ (state A.Store conn.old).now)
         × IsNextOf (state A.Store conn.old).now.trees
         (option_map (λ l. l.id) (option_map (λ it. it.now) log.entry))
-        end.next))) }
+        end.next)))) }
     ensures crash { (state A.Store conn.old).now.schema ≡ archive_schema
         → Survives (state A.Store conn.old) (state A.Store conn.new) (λ _. ⊥) }
     ensures clean { HasCleanDisk (state A.Store conn.new) → HasCleanDisk (state A.Store conn.old) }
     ensures fault { IfErr result EndsLog }
-    ensures caused { HasCleanDisk (state A.Store conn.new)
-        → (state A.Store conn.old).now.schema ≡ archive_schema → IfErr result FailsOnRows }
+    ensures caused { OverArchive (state A.Store conn.old) (state A.Store conn.new)
+        (IfErr result FailsOnRows) }
 {
     let end = End {
         records: 0,
@@ -140,18 +138,17 @@ pub(crate) fn pass_by<A: Alter, O: Write, E: Write>(
     ensures told { IfOk result (IsToldBy (O.contents output.old) (O.contents output.new) source
         (λ end. (heard.new.items ≡ heard_with heard.old.items source said end.why)
         × (end.records ≡ 0) × (end.gaps ≡ 0) × (end.why ≡ why) × (end.began ≡ Began.GoesOn)
-        × (HasCleanDisk (state A.Store conn.new)
-        → (state A.Store conn.old).now.schema ≡ archive_schema
-        → ((state A.Store conn.new).now ≡ (state A.Store conn.old).now)
+        × (OverArchive (state A.Store conn.old) (state A.Store conn.new)
+        (((state A.Store conn.new).now ≡ (state A.Store conn.old).now)
         × IsNextOf (state A.Store conn.old).now.trees
         (option_map (λ l. l.id) (option_map (λ it. it.now) log.entry))
-        end.next))) }
+        end.next)))) }
     ensures crash { (state A.Store conn.old).now.schema ≡ archive_schema
         → Survives (state A.Store conn.old) (state A.Store conn.new) (λ _. ⊥) }
     ensures clean { HasCleanDisk (state A.Store conn.new) → HasCleanDisk (state A.Store conn.old) }
     ensures fault { IfErr result EndsLog }
-    ensures caused { HasCleanDisk (state A.Store conn.new)
-        → (state A.Store conn.old).now.schema ≡ archive_schema → IfErr result FailsOnRows }
+    ensures caused { OverArchive (state A.Store conn.old) (state A.Store conn.new)
+        (IfErr result FailsOnRows) }
 {
     let status = pass_over(conn, alloc, log, &source, why, output)?;
     tell_why(alloc, &source, passed, address, why, errors)?;

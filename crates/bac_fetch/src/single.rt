@@ -4,7 +4,7 @@ ghost use Rattle.std.specs.Prelude.{◌≡◌, if◌then◌else◌, IfErr, IfOk,
 ghost use Rattle.bac_heeding.specs.Notes.{nothing};
 ghost use Rattle.sqlite.specs.State.{HasCleanDisk, Survives};
 ghost use Rattle.sqlite.specs.Held.{state};
-ghost use Rattle.bac_archive.specs.Schema.{archive_schema};
+ghost use Rattle.bac_archive.specs.Schema.{OverArchive};
 ghost use Rattle.bac_ports.specs.Sockets.{socket_rules};
 ghost use Rattle.bac_fetch.specs.Causes.{EndsAmong, EndsFetch, EndsNext, EndsOne};
 ghost use Rattle.bac_fetch.specs.Faults.{EndsRun, IsNoInstance};
@@ -41,25 +41,22 @@ fn fetch_counted<S: Sockets, A: Alter, E: Write>(
     counts: bool,
     errors: &mut E,
 ) -> Result<End, NotDone>
-    ensures kept { HasCleanDisk (state A.Store conn.new)
-        → (state A.Store conn.old).now.schema ≡ archive_schema
-        → IfOk result (KeepsLog (socket_rules S.opens S.closes S.Socket.sends S.Socket.receives
+    ensures kept { OverArchive (state A.Store conn.old) (state A.Store conn.new)
+        (IfOk result (KeepsLog (socket_rules S.opens S.closes S.Socket.sends S.Socket.receives
         S.Socket.receives_within) asking sockets.old sockets.new entry.now
         (trend_log entry.now.row.source.instance) (state A.Store conn.old).now
-        (state A.Store conn.new).now) }
-    ensures stays { HasCleanDisk (state A.Store conn.new)
-        → (state A.Store conn.old).now.schema ≡ archive_schema
-        → Survives (state A.Store conn.old) (state A.Store conn.new)
-        (HasAllOf (state A.Store conn.old).now.trees) }
+        (state A.Store conn.new).now)) }
+    ensures stays { OverArchive (state A.Store conn.old) (state A.Store conn.new)
+        (Survives (state A.Store conn.old) (state A.Store conn.new)
+        (HasAllOf (state A.Store conn.old).now.trees)) }
     ensures clean { HasCleanDisk (state A.Store conn.new) → HasCleanDisk (state A.Store conn.old) }
     ensures fault { IfErr result (EndsRun (socket_rules S.opens S.closes S.Socket.sends
         S.Socket.receives S.Socket.receives_within)
         (IsNoInstance entry.now.row.source.instance) ⊥ sockets.new) }
-    ensures caused { HasCleanDisk (state A.Store conn.new)
-        → (state A.Store conn.old).now.schema ≡ archive_schema
-        → IfErr result (EndsFetch (socket_rules S.opens S.closes S.Socket.sends S.Socket.receives
+    ensures caused { OverArchive (state A.Store conn.old) (state A.Store conn.new)
+        (IfErr result (EndsFetch (socket_rules S.opens S.closes S.Socket.sends S.Socket.receives
         S.Socket.receives_within) asking.asked entry.now.row.source.instance sockets.old
-        sockets.new) }
+        sockets.new)) }
 {
     let mut count = Count::new(alloc, &entry.row.source, errors, counts);
     let fetched = fetch(alloc, sockets, conn, entry, asking, &mut count);
@@ -85,30 +82,27 @@ fn keep_one<S: Heeds, A: Alter, O: Write, E: Write>(
     ensures told { IfOk result (IsToldBy (O.contents output.old) (O.contents output.new)
         wanted.source (λ end. (heard.new.items
         ≡ heard_with heard.old.items wanted.source said end.why)
-        × (HasCleanDisk (state A.Store conn.new)
-        → (state A.Store conn.old).now.schema ≡ archive_schema
-        → (entry : EntryOf) × IsEntry (state A.Store conn.old).now.trees
+        × (OverArchive (state A.Store conn.old) (state A.Store conn.new)
+        ((entry : EntryOf) × IsEntry (state A.Store conn.old).now.trees
         (option_map (λ it. it.now) log.entry) said.told entry
         × IsRowOf wanted said.told entry.row
         × KeepsLog (socket_rules S.opens S.closes S.Socket.sends S.Socket.receives
         S.Socket.receives_within) wanted.asking sockets.old sockets.new
         entry (trend_log wanted.source.instance) (state A.Store conn.old).now
-        (state A.Store conn.new).now end))) }
+        (state A.Store conn.new).now end)))) }
     // Whatever comes of it, no item and no log is lost: what is on the disk then, or is left by a
     // crash at any moment before, is what was there or has all of it.
-    ensures stays { HasCleanDisk (state A.Store conn.new)
-        → (state A.Store conn.old).now.schema ≡ archive_schema
-        → Survives (state A.Store conn.old) (state A.Store conn.new)
-        (HasAllOf (state A.Store conn.old).now.trees) }
+    ensures stays { OverArchive (state A.Store conn.old) (state A.Store conn.new)
+        (Survives (state A.Store conn.old) (state A.Store conn.new)
+        (HasAllOf (state A.Store conn.old).now.trees)) }
     ensures clean { HasCleanDisk (state A.Store conn.new) → HasCleanDisk (state A.Store conn.old) }
     ensures fault { IfErr result (EndsRun (socket_rules S.opens S.closes S.Socket.sends
         S.Socket.receives S.Socket.receives_within) (IsNoInstance wanted.source.instance) ⊥
         sockets.new) }
-    ensures caused { HasCleanDisk (state A.Store conn.new)
-        → (state A.Store conn.old).now.schema ≡ archive_schema
-        → IfErr result (EndsOne (socket_rules S.opens S.closes S.Socket.sends S.Socket.receives
+    ensures caused { OverArchive (state A.Store conn.old) (state A.Store conn.new)
+        (IfErr result (EndsOne (socket_rules S.opens S.closes S.Socket.sends S.Socket.receives
         S.Socket.receives_within) (option_map (λ it. it.now) log.entry) wanted
-        (state A.Store conn.old).now.trees sockets.old sockets.new) }
+        (state A.Store conn.old).now.trees sockets.old sockets.new)) }
 {
     let address = wanted.asking.asked.address;
     let Wanted {
@@ -152,25 +146,22 @@ fn keep_unless<S: Heeds, A: Alter, O: Write, E: Write>(
     ensures told { IfOk result (IsToldBy (O.contents output.old) (O.contents output.new)
         wanted.source (λ end. (heard.new.items
         ≡ heard_with heard.old.items wanted.source said end.why)
-        × (HasCleanDisk (state A.Store conn.new)
-        → (state A.Store conn.old).now.schema ≡ archive_schema
-        → KeepsUnless (socket_rules S.opens S.closes S.Socket.sends S.Socket.receives
+        × (OverArchive (state A.Store conn.old) (state A.Store conn.new)
+        (KeepsUnless (socket_rules S.opens S.closes S.Socket.sends S.Socket.receives
         S.Socket.receives_within) known.now wanted said.told why sockets.old
         sockets.new (state A.Store conn.old).now (state A.Store conn.new).now
-        end))) }
-    ensures stays { HasCleanDisk (state A.Store conn.new)
-        → (state A.Store conn.old).now.schema ≡ archive_schema
-        → Survives (state A.Store conn.old) (state A.Store conn.new)
-        (HasAllOf (state A.Store conn.old).now.trees) }
+        end)))) }
+    ensures stays { OverArchive (state A.Store conn.old) (state A.Store conn.new)
+        (Survives (state A.Store conn.old) (state A.Store conn.new)
+        (HasAllOf (state A.Store conn.old).now.trees)) }
     ensures clean { HasCleanDisk (state A.Store conn.new) → HasCleanDisk (state A.Store conn.old) }
     ensures fault { IfErr result (EndsRun (socket_rules S.opens S.closes S.Socket.sends
         S.Socket.receives S.Socket.receives_within) (IsNoInstance wanted.source.instance) ⊥
         sockets.new) }
-    ensures caused { HasCleanDisk (state A.Store conn.new)
-        → (state A.Store conn.old).now.schema ≡ archive_schema
-        → IfErr result (EndsAmong (socket_rules S.opens S.closes S.Socket.sends S.Socket.receives
+    ensures caused { OverArchive (state A.Store conn.old) (state A.Store conn.new)
+        (IfErr result (EndsAmong (socket_rules S.opens S.closes S.Socket.sends S.Socket.receives
         S.Socket.receives_within) known.now wanted (state A.Store conn.old).now.trees
-        sockets.old sockets.new) }
+        sockets.old sockets.new)) }
 {
     let log = log_among(known, at, &wanted.source);
     match why {
@@ -214,25 +205,22 @@ fn keep_heard<S: Heeds, A: Alter, O: Write, E: Write>(
     errors: &mut E,
 ) -> Result<u8, NotDone>
     ensures told { IfOk result (IsToldBy (O.contents output.old) (O.contents output.new)
-        wanted.source (λ end. HasCleanDisk (state A.Store conn.new)
-        → (state A.Store conn.old).now.schema ≡ archive_schema
-        → KeepsHeard (socket_rules S.opens S.closes S.Socket.sends S.Socket.receives
+        wanted.source (λ end. OverArchive (state A.Store conn.old) (state A.Store conn.new)
+        (KeepsHeard (socket_rules S.opens S.closes S.Socket.sends S.Socket.receives
         S.Socket.receives_within) known.now heard.old.items heard.new.items wanted
         sockets.old sockets.new (state A.Store conn.old).now
-        (state A.Store conn.new).now end)) }
-    ensures stays { HasCleanDisk (state A.Store conn.new)
-        → (state A.Store conn.old).now.schema ≡ archive_schema
-        → Survives (state A.Store conn.old) (state A.Store conn.new)
-        (HasAllOf (state A.Store conn.old).now.trees) }
+        (state A.Store conn.new).now end))) }
+    ensures stays { OverArchive (state A.Store conn.old) (state A.Store conn.new)
+        (Survives (state A.Store conn.old) (state A.Store conn.new)
+        (HasAllOf (state A.Store conn.old).now.trees)) }
     ensures clean { HasCleanDisk (state A.Store conn.new) → HasCleanDisk (state A.Store conn.old) }
     ensures fault { IfErr result (EndsRun (socket_rules S.opens S.closes S.Socket.sends
         S.Socket.receives S.Socket.receives_within) (IsNoInstance wanted.source.instance) ⊥
         sockets.new) }
-    ensures caused { HasCleanDisk (state A.Store conn.new)
-        → (state A.Store conn.old).now.schema ≡ archive_schema
-        → IfErr result (EndsNext (socket_rules S.opens S.closes S.Socket.sends S.Socket.receives
+    ensures caused { OverArchive (state A.Store conn.old) (state A.Store conn.new)
+        (IfErr result (EndsNext (socket_rules S.opens S.closes S.Socket.sends S.Socket.receives
         S.Socket.receives_within) known.now heard.old.items wanted
-        (state A.Store conn.old).now.trees sockets.old sockets.new) }
+        (state A.Store conn.old).now.trees sockets.old sockets.new)) }
 {
     let said = said_of(sockets, alloc, heard.as_slice(), &wanted)?;
     let on_record = device_on_record(known, at, &wanted.source);
@@ -266,25 +254,22 @@ pub(crate) fn keep_next<S: Heeds, A: Alter, O: Write, E: Write>(
     errors: &mut E,
 ) -> Result<u8, NotDone>
     ensures told { IfOk result (IsToldBy (O.contents output.old) (O.contents output.new)
-        wanted.source (λ end. HasCleanDisk (state A.Store conn.new)
-        → (state A.Store conn.old).now.schema ≡ archive_schema
-        → KeepsNext (socket_rules S.opens S.closes S.Socket.sends S.Socket.receives
+        wanted.source (λ end. OverArchive (state A.Store conn.old) (state A.Store conn.new)
+        (KeepsNext (socket_rules S.opens S.closes S.Socket.sends S.Socket.receives
         S.Socket.receives_within) known.now heard.old.items heard.new.items wanted
         sockets.old sockets.new (state A.Store conn.old).now
-        (state A.Store conn.new).now end)) }
-    ensures stays { HasCleanDisk (state A.Store conn.new)
-        → (state A.Store conn.old).now.schema ≡ archive_schema
-        → Survives (state A.Store conn.old) (state A.Store conn.new)
-        (HasAllOf (state A.Store conn.old).now.trees) }
+        (state A.Store conn.new).now end))) }
+    ensures stays { OverArchive (state A.Store conn.old) (state A.Store conn.new)
+        (Survives (state A.Store conn.old) (state A.Store conn.new)
+        (HasAllOf (state A.Store conn.old).now.trees)) }
     ensures clean { HasCleanDisk (state A.Store conn.new) → HasCleanDisk (state A.Store conn.old) }
     ensures fault { IfErr result (EndsRun (socket_rules S.opens S.closes S.Socket.sends
         S.Socket.receives S.Socket.receives_within) (IsNoInstance wanted.source.instance) ⊥
         sockets.new) }
-    ensures caused { HasCleanDisk (state A.Store conn.new)
-        → (state A.Store conn.old).now.schema ≡ archive_schema
-        → IfErr result (EndsNext (socket_rules S.opens S.closes S.Socket.sends S.Socket.receives
+    ensures caused { OverArchive (state A.Store conn.old) (state A.Store conn.new)
+        (IfErr result (EndsNext (socket_rules S.opens S.closes S.Socket.sends S.Socket.receives
         S.Socket.receives_within) known.now heard.old.items wanted
-        (state A.Store conn.old).now.trees sockets.old sockets.new) }
+        (state A.Store conn.old).now.trees sockets.old sockets.new)) }
 {
     if is_silent(heard.as_slice(), &wanted.source) {
         let log = log_among(known, at, &wanted.source);

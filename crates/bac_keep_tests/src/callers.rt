@@ -8,7 +8,7 @@ ghost use Rattle.bac_link.specs.Delivery.{History, Moment};
 ghost use Rattle.bac_link.specs.Laws.{after_answers};
 ghost use Rattle.bac_archive.specs.Rows.{kept};
 ghost use Rattle.bac_walk.specs.Near.{StaysNear};
-ghost use Rattle.bac_archive.specs.Schema.{archive_schema};
+ghost use Rattle.bac_archive.specs.Schema.{OverArchive};
 ghost use Rattle.bac_keep.specs.Items.{era};
 ghost use Rattle.bac_keep.specs.Kept.{HasNoneBehind, IsKept, rows_at};
 
@@ -87,9 +87,8 @@ pub fn keep_again<L: LogLink, K: LogLink, S: Alter>(
     place: Place,
     steps: u32,
 ) -> Option<(KeptRun, KeptRun)>
-    ensures { HasCleanDisk (state S.Store conn.new)
-        → (state S.Store conn.old).now.schema ≡ archive_schema
-        → rows_at place (kept (state S.Store conn.old).now.trees) ≡ []
+    ensures { OverArchive (state S.Store conn.old) (state S.Store conn.new)
+        (rows_at place (kept (state S.Store conn.old).now.trees) ≡ []
         → IfSome result (λ runs. HasNoneBehind (era place) (era runs.1.place)
         (kept (state S.Store conn.old).now.trees)
         → IfOk runs.1.end (λ why. (r : ℕ) (M : List Moment) (H : History) (k : ℕ)
@@ -100,7 +99,7 @@ pub fn keep_again<L: LogLink, K: LogLink, S: Alter>(
         → StaysNear r 100 H (after_answers count M) false t steps
         → (u : ℕ) × (all : ℕ) × (runs.1.next ≡ sequence_number u)
         × IsKept H (era place) (era runs.1.place)
-        (state S.Store conn.new).now.trees k u M all))) }
+        (state S.Store conn.new).now.trees k u M all)))) }
 {
     // For the prover alone: laws that the contract follows from.
     begins_empty();

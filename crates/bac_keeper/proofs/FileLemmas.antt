@@ -19,7 +19,7 @@ use Rattle.bac_asked.specs.declared.fault.Fault.{Fault}
 use Rattle.bac_asked.specs.declared.fault.FileFault.{FileFault}
 use Rattle.bac_fetch.specs.declared.keeping.Chosen.{Chosen}
 use Rattle.bac_files.proofs.FilesLemmas.{done_to, opened_settled}
-use Rattle.bac_files.specs.Files.{FileOf, IsClosedBy, IsDoneTo, IsNamed, IsOpenedBy, IsUnclosed}
+use Rattle.bac_files.specs.Files.{FileOf, IsClosedBy, IsDoneTo, IsNamed, IsOpenedBy}
 use Rattle.bac_files.specs.declared.disk_files.DiskFiles.{DiskFiles}
 use Rattle.bac_keeper.proofs.ArchiveLemmas.{tells_weaker}
 use Rattle.bac_keeper.specs.Archives.{IsHeld, KeepsArchive, LosesNothing}

@@ -11,11 +11,11 @@ use Rattle.bac_hearing.specs.Hearing.{StartedClock}
 use Rattle.bac_ports.specs.Sockets.{SocketRules}
 use Rattle.sqlite.specs.Effect.{Database}
 use Rattle.sqlite.specs.State.{State}
-use Rattle.bac_archive.specs.Schema.{archive_schema}
+use Rattle.bac_archive.specs.Schema.{OverArchive, archive_schema}
 use Rattle.bac_asked.specs.AsLog.{Given}
 use Rattle.bac_fetch.proofs.CausesLemmas.{chosen_so}
 use Rattle.bac_fetch.proofs.FaultsLemmas.{ends_so}
-use Rattle.bac_keeper.specs.Archives.{IsArchiveOf, IsCleanArchive, IsHeld}
+use Rattle.bac_keeper.specs.Archives.{IsArchiveOf, IsHeld}
 use Rattle.bac_keeper.specs.Done.{RefusesKeep}
 use Rattle.bac_keeper.specs.Ends.{MayFail}
 
@@ -29,8 +29,8 @@ keeping_so rules N M A B f h which before after fault (inr (all, between, found,
 -- so a run ends over what two files held, which became this archive
 pub refused_so : {S P C : Type 0} (rules : SocketRules S P) (clock : StartedClock C) (which : Chosen) (given : Given) (found : Database) (archive last : State) (before after : S) (fault : NotDone)
     → (IsHeld last → IsArchiveOf found archive.now × (archive.now.schema ≡ archive_schema))
-    → (IsCleanArchive archive last → EndsRunOver rules clock given which before after archive.now fault)
+    → OverArchive archive last (EndsRunOver rules clock given which before after archive.now fault)
     → MayFail (λ why. ((error : Error) × (why ≡ of_error error)) ⊎ (IsHeld last → RefusesKeep rules clock which given before after found why)) fault
 refused_so rules clock which given found archive last before after (done.Asking why) is ends = tt
 refused_so rules clock which given found archive last before after (done.File why) is ends =
-    inr (λ held. let (of, has) = is held in inr (archive.now, of, ends (held.0, has)))
+    inr (λ held. let (of, has) = is held in inr (archive.now, of, ends held.0 has))

@@ -20,10 +20,6 @@ use Rattle.bac_ports.specs.Sockets.{SocketRules}
 abbrev pub IsHeld : State → Type 0
 IsHeld s = HasCleanDisk s × IsTrue s.is_open
 
--- the disk has given back what was written, in an archive
-abbrev pub IsCleanArchive : State → State → Type 0
-IsCleanArchive old new = HasCleanDisk new × (old.now.schema ≡ archive_schema)
-
 -- an archive is the one that was found, or a new one
 pub record IsArchiveOf (found archive : Database) : Type 0 where
   pub is : IsArchive archive

@@ -4,7 +4,7 @@ ghost use Rattle.std.specs.Prelude.{◌≡◌, ◌⊎◌, Err, IfErr, IfOk, IsTr
 ghost use Rattle.sqlite.specs.Held.{state};
 ghost use Rattle.sqlite.specs.State.{HasCleanDisk};
 ghost use Rattle.sqlite_wal.specs.Files.{image_at};
-ghost use Rattle.bac_archive.specs.Schema.{archive_schema};
+ghost use Rattle.bac_archive.specs.Schema.{OverArchive};
 ghost use Rattle.bac_asked.specs.Faults.{of_error};
 ghost use Rattle.bac_files.specs.Files.{IsClosedBy, IsNamed, IsOpenedBy, IsUnclosed};
 ghost use Rattle.bac_keeper.specs.Archives.{IsArchiveOf, IsHeld};
@@ -77,9 +77,8 @@ pub(crate) fn open_archive<A: Alter>(conn: &mut Connection<A>) -> Result<(), Not
         → OnOk result (IsArchiveOf (state A.Store conn.old).now (state A.Store conn.new).now) }
     ensures committed { HasCleanDisk (state A.Store conn.new)
         → OnOk result ((state A.Store conn.new).committed ≡ (state A.Store conn.new).now) }
-    ensures same { HasCleanDisk (state A.Store conn.new)
-        → (state A.Store conn.old).now.schema ≡ archive_schema
-        → OnOk result (IsTrue (state A.Store conn.new).is_open) }
+    ensures same { OverArchive (state A.Store conn.old) (state A.Store conn.new)
+        (OnOk result (IsTrue (state A.Store conn.new).is_open)) }
     // It is refused for what it held.
     ensures file { IfErr result IsOfSomeFile }
     ensures refused { IfErr result (MayFail

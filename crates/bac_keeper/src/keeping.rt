@@ -5,6 +5,7 @@ ghost use Rattle.std.specs.Prelude.{option_map};
 ghost use Rattle.sqlite.specs.Held.{state};
 ghost use Rattle.sqlite.specs.State.{HasCleanDisk, Survives};
 ghost use Rattle.sqlite_wal.specs.Files.{image_at};
+ghost use Rattle.bac_archive.specs.Schema.{OverArchive};
 ghost use Rattle.bac_asked.specs.AsLog.{given_in};
 ghost use Rattle.bac_asked.specs.Faults.{IsOfDatabase, of_error};
 ghost use Rattle.bac_fetch.specs.Causes.{EndsRunOver};
@@ -13,7 +14,7 @@ ghost use Rattle.bac_fetch.specs.Faults.{EndsKeeping, HasNone, LacksAddress};
 ghost use Rattle.bac_fetch.specs.Keeps.{KeepsLogs};
 ghost use Rattle.bac_fetch.specs.Stays.{HasAllOf};
 ghost use Rattle.bac_files.specs.Files.{IsDoneTo, IsNamed, IsUnused};
-ghost use Rattle.bac_keeper.specs.Archives.{IsCleanArchive, IsHeld, KeepsArchive, LosesNothing};
+ghost use Rattle.bac_keeper.specs.Archives.{IsHeld, KeepsArchive, LosesNothing};
 ghost use Rattle.bac_keeper.specs.Done.{Chooses, ChoosesNone, EndsKeep, EndsOver, FailsToKeep};
 ghost use Rattle.bac_keeper.specs.Done.{KeepsIn, RefusesKeep, TellsThese, given_of};
 ghost use Rattle.bac_keeper.specs.Ends.{MayAsk, MayFail};
@@ -93,27 +94,27 @@ where
     ensures told { IfOk result (TellsThese (socket_rules S.opens S.closes S.Socket.sends
         S.Socket.receives S.Socket.receives_within) chosen sockets.old
         (O.contents output.old) (O.contents output.new)
-        (λ all between ends. IsCleanArchive (state A.Store conn.old) (state A.Store conn.new)
-        → AreChosen chosen (state A.Store conn.old).now.trees all
+        (λ all between ends. OverArchive (state A.Store conn.old) (state A.Store conn.new)
+        (AreChosen chosen (state A.Store conn.old).now.trees all
         × KeepsLogs (socket_rules S.opens S.closes S.Socket.sends S.Socket.receives
         S.Socket.receives_within) (started C.reads clock) all between sockets.new
-        (state A.Store conn.old).now (state A.Store conn.new).now ends)) }
-    ensures stays { IsCleanArchive (state A.Store conn.old) (state A.Store conn.new)
-        → Survives (state A.Store conn.old) (state A.Store conn.new)
-        (HasAllOf (state A.Store conn.old).now.trees) }
+        (state A.Store conn.old).now (state A.Store conn.new).now ends))) }
+    ensures stays { OverArchive (state A.Store conn.old) (state A.Store conn.new)
+        (Survives (state A.Store conn.old) (state A.Store conn.new)
+        (HasAllOf (state A.Store conn.old).now.trees)) }
     ensures clean { HasCleanDisk (state A.Store conn.new) → HasCleanDisk (state A.Store conn.old) }
     ensures fault { IfErr result (EndsKeeping
         (socket_rules S.opens S.closes S.Socket.sends S.Socket.receives
         S.Socket.receives_within) chosen
-        (IsCleanArchive (state A.Store conn.old) (state A.Store conn.new)
-        → HasNone (state A.Store conn.old).now.trees)
-        (IsCleanArchive (state A.Store conn.old) (state A.Store conn.new)
-        → LacksAddress (given_in options.now) (state A.Store conn.old).now.trees)
+        (OverArchive (state A.Store conn.old) (state A.Store conn.new)
+        (HasNone (state A.Store conn.old).now.trees))
+        (OverArchive (state A.Store conn.old) (state A.Store conn.new)
+        (LacksAddress (given_in options.now) (state A.Store conn.old).now.trees))
         sockets.old sockets.new) }
-    ensures caused { IsCleanArchive (state A.Store conn.old) (state A.Store conn.new)
-        → IfErr result (EndsRunOver (socket_rules S.opens S.closes S.Socket.sends S.Socket.receives
+    ensures caused { OverArchive (state A.Store conn.old) (state A.Store conn.new)
+        (IfErr result (EndsRunOver (socket_rules S.opens S.closes S.Socket.sends S.Socket.receives
         S.Socket.receives_within) (started C.reads clock) (given_in options.now) chosen sockets.old
-        sockets.new (state A.Store conn.old).now) }
+        sockets.new (state A.Store conn.old).now)) }
 {
     match chosen {
         Chosen::Named(all) => keep_each(

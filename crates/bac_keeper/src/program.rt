@@ -69,7 +69,8 @@ fn tell_done<E: Write>(
 /// Does what the words of `bac keep` ask for, and answers the exit status. What was kept of each
 /// log, or with `--stop` which logs were stopped, goes to the output. The errors have a second line
 /// for a log whose walk failed (what came in place of the answer, or what a refusal means), for one
-/// that began anew, and for a device that has moved; and why a file is no use. Any other fault is
+/// that began anew, and for a device that has moved; and why a file is no use. Devices are called
+/// at once before the first log, by the clock. Any other fault is
 /// the caller's to tell. `counts` is for a terminal: the errors have a count of records while a log
 /// is fetched.
 pub fn run_keep<S: Heeds, C: Clock, F: Start, O: Write, E: Write>(

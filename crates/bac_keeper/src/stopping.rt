@@ -9,7 +9,7 @@ ghost use Rattle.sqlite.specs.State.{HasCleanDisk, Survives};
 ghost use Rattle.sqlite_wal.specs.Files.{image_at};
 ghost use Rattle.bac_archive.specs.Logs.{AreLogs};
 ghost use Rattle.bac_archive.specs.Changes.{HasChangedLogs};
-ghost use Rattle.bac_archive.specs.Schema.{archive_schema};
+ghost use Rattle.bac_archive.specs.Schema.{OverArchive};
 ghost use Rattle.bac_archive.specs.declared.trend_logs.Log.{Log as LogOf};
 ghost use Rattle.bac_asked.specs.AsLog.{given_in};
 ghost use Rattle.bac_asked.specs.declared.wanted.Wanted.{Wanted as WantedOf};
@@ -186,26 +186,23 @@ fn stop_known<A: Alter>(
     alloc: Global,
     meant: &Meant,
 ) -> Result<Vec<Log>, NotDone>
-    ensures stopped { HasCleanDisk (state A.Store conn.new)
-        → (state A.Store conn.old).now.schema ≡ archive_schema
-        → IfOk result (λ these. (known : List LogOf)
+    ensures stopped { OverArchive (state A.Store conn.old) (state A.Store conn.new)
+        (IfOk result (λ these. (known : List LogOf)
         × AreLogs (state A.Store conn.old).now.trees known
         × (are_there meant.now known ≡ true) × (these.items ≡ stopped_logs meant.now known)
         × HasChangedLogs (state A.Store conn.old).now (state A.Store conn.new).now
         these.items
-        × ((state A.Store conn.new).committed ≡ (state A.Store conn.new).now)) }
+        × ((state A.Store conn.new).committed ≡ (state A.Store conn.new).now))) }
     // Whatever comes of it, the items are the same, and no log is lost.
-    ensures stays { HasCleanDisk (state A.Store conn.new)
-        → (state A.Store conn.old).now.schema ≡ archive_schema
-        → Survives (state A.Store conn.old) (state A.Store conn.new)
-        (HasSameItems (state A.Store conn.old).now.trees) }
+    ensures stays { OverArchive (state A.Store conn.old) (state A.Store conn.new)
+        (Survives (state A.Store conn.old) (state A.Store conn.new)
+        (HasSameItems (state A.Store conn.old).now.trees)) }
     ensures clean { HasCleanDisk (state A.Store conn.new) → HasCleanDisk (state A.Store conn.old) }
     ensures fault { IfErr result (λ fault. WantsMemory fault
         ⊎ (IsOfDatabase fault ⊎ ((fault ≡ NotDone.File FileFault.NoLog)
-        × (HasCleanDisk (state A.Store conn.new)
-        → (state A.Store conn.old).now.schema ≡ archive_schema
-        → (known : List LogOf) × AreLogs (state A.Store conn.old).now.trees known
-        × (are_there meant.now known ≡ false))))) }
+        × (OverArchive (state A.Store conn.old) (state A.Store conn.new)
+        ((known : List LogOf) × AreLogs (state A.Store conn.old).now.trees known
+        × (are_there meant.now known ≡ false)))))) }
 {
     let known = match logs(alloc, conn) {
         Ok(known) => known,

@@ -6,7 +6,7 @@ ghost use Rattle.csv.specs.Writing.{default_writer, row_text};
 ghost use Rattle.sqlite.specs.State.{HasCleanDisk, IsUnchanged};
 ghost use Rattle.sqlite.specs.Held.{state};
 ghost use Rattle.bac_archive.specs.Rows.{kept};
-ghost use Rattle.bac_archive.specs.Schema.{archive_schema};
+ghost use Rattle.bac_archive.specs.Schema.{OverArchive};
 ghost use Rattle.bac_kept.specs.Faults.{EndsLines};
 ghost use Rattle.bac_kept.specs.Csv.{AreFieldsOf, IsRowText, IsValueText, WritesItems, device_text};
 ghost use Rattle.bac_kept.specs.Csv.{gap_text, item_fields, name_text, names};
@@ -270,14 +270,12 @@ pub(crate) fn write_items<A: Alter, O: Write>(
     output: &mut O,
 ) -> Result<(), NotDone>
     // The rows of its items, in the order of their ids.
-    ensures ok { HasCleanDisk (state A.Store conn.new)
-        → (state A.Store conn.old).now.schema ≡ archive_schema
-        → OnOk result ((text : List _)
+    ensures ok { OverArchive (state A.Store conn.old) (state A.Store conn.new)
+        (OnOk result ((text : List _)
         × WritesItems log.now (kept (state A.Store conn.old).now.trees) text
-        × Appends (O.contents output.old) (O.contents output.new) text) }
-    ensures same { HasCleanDisk (state A.Store conn.new)
-        → (state A.Store conn.old).now.schema ≡ archive_schema
-        → OnOk result (IsUnchanged (state A.Store conn.old) (state A.Store conn.new)) }
+        × Appends (O.contents output.old) (O.contents output.new) text)) }
+    ensures same { OverArchive (state A.Store conn.old) (state A.Store conn.new)
+        (OnOk result (IsUnchanged (state A.Store conn.old) (state A.Store conn.new))) }
     ensures clean { OnOk result
         (HasCleanDisk (state A.Store conn.new) → HasCleanDisk (state A.Store conn.old)) }
     ensures fault { IfErr result EndsLines }

@@ -6,7 +6,7 @@ ghost use Rattle.sqlite.specs.State.{HasCleanDisk, IsUnchanged};
 ghost use Rattle.sqlite.specs.Held.{state};
 ghost use Rattle.bac_archive.specs.Items.{epoch_in};
 ghost use Rattle.bac_archive.specs.Rows.{kept};
-ghost use Rattle.bac_archive.specs.Schema.{archive_schema};
+ghost use Rattle.bac_archive.specs.Schema.{OverArchive};
 ghost use Rattle.bac_print.specs.Output.{AppendsPart};
 ghost use Rattle.bac_kept.specs.Faults.{EndsLines};
 ghost use Rattle.bac_kept.specs.Printed.{PrintsFront, PrintsItems, anew_if, item_line, log_line};
@@ -128,19 +128,16 @@ pub(crate) fn print_items<A: Alter, O: Write>(
     output: &mut O,
 ) -> Result<(), NotDone>
     // The lines of its items, in the order of their ids.
-    ensures ok { HasCleanDisk (state A.Store conn.new)
-        → (state A.Store conn.old).now.schema ≡ archive_schema
-        → OnOk result ((text : _)
+    ensures ok { OverArchive (state A.Store conn.old) (state A.Store conn.new)
+        (OnOk result ((text : _)
         × PrintsItems log.now.id (kept (state A.Store conn.old).now.trees) text
-        × Appends (O.contents output.old) (O.contents output.new) text) }
+        × Appends (O.contents output.old) (O.contents output.new) text)) }
     // After a fault a front of them.
-    ensures err { HasCleanDisk (state A.Store conn.new)
-        → (state A.Store conn.old).now.schema ≡ archive_schema
-        → OnErr result (PrintsFront (O.contents output.old) (O.contents output.new) log.now.id
-        (kept (state A.Store conn.old).now.trees)) }
-    ensures same { HasCleanDisk (state A.Store conn.new)
-        → (state A.Store conn.old).now.schema ≡ archive_schema
-        → OnOk result (IsUnchanged (state A.Store conn.old) (state A.Store conn.new)) }
+    ensures err { OverArchive (state A.Store conn.old) (state A.Store conn.new)
+        (OnErr result (PrintsFront (O.contents output.old) (O.contents output.new) log.now.id
+        (kept (state A.Store conn.old).now.trees))) }
+    ensures same { OverArchive (state A.Store conn.old) (state A.Store conn.new)
+        (OnOk result (IsUnchanged (state A.Store conn.old) (state A.Store conn.new))) }
     ensures clean { OnOk result
         (HasCleanDisk (state A.Store conn.new) → HasCleanDisk (state A.Store conn.old)) }
     ensures fault { IfErr result EndsLines }

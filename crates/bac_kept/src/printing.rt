@@ -8,7 +8,7 @@ ghost use Rattle.sqlite.specs.State.{HasCleanDisk};
 ghost use Rattle.sqlite.specs.Held.{state};
 ghost use Rattle.bac_archive.specs.Logs.{AreLogs};
 ghost use Rattle.bac_archive.specs.Rows.{kept};
-ghost use Rattle.bac_archive.specs.Schema.{archive_schema};
+ghost use Rattle.bac_archive.specs.Schema.{OverArchive, archive_schema};
 ghost use Rattle.bac_archive.specs.declared.trend_logs.Log.{Log as LogOf};
 ghost use Rattle.bac_kept.specs.Faults.{EndsLines, EndsPrinting, HasNoneOf};
 ghost use Rattle.bac_kept.specs.Csv.{WritesLog, WritesLogs, names};
@@ -68,14 +68,12 @@ fn print_log<A: Alter, O: Write>(
     shown: &Shown,
     output: &mut O,
 ) -> Result<bool, NotDone>
-    ensures printed { HasCleanDisk (state A.Store conn.new)
-        → (state A.Store conn.old).now.schema ≡ archive_schema
-        → OnOk result ((text : List _)
+    ensures printed { OverArchive (state A.Store conn.old) (state A.Store conn.new)
+        (OnOk result ((text : List _)
         × PrintsLog shown.now (kept (state A.Store conn.old).now.trees) log.now text
-        × Appends (O.contents output.old) (O.contents output.new) text) }
-    ensures same { HasCleanDisk (state A.Store conn.new)
-        → (state A.Store conn.old).now.schema ≡ archive_schema
-        → OnOk result ((state A.Store conn.new).now ≡ (state A.Store conn.old).now) }
+        × Appends (O.contents output.old) (O.contents output.new) text)) }
+    ensures same { OverArchive (state A.Store conn.old) (state A.Store conn.new)
+        (OnOk result ((state A.Store conn.new).now ≡ (state A.Store conn.old).now)) }
     ensures clean { OnOk result
         (HasCleanDisk (state A.Store conn.new) → HasCleanDisk (state A.Store conn.old)) }
     ensures fault { IfErr result EndsLines }
@@ -107,11 +105,10 @@ fn print_logs<A: Alter, O: Write>(
     shown: &Shown,
     output: &mut O,
 ) -> Result<usize, NotDone>
-    ensures printed { HasCleanDisk (state A.Store conn.new)
-        → (state A.Store conn.old).now.schema ≡ archive_schema
-        → OnOk result ((text : List _)
+    ensures printed { OverArchive (state A.Store conn.old) (state A.Store conn.new)
+        (OnOk result ((text : List _)
         × PrintsLogs shown.now (kept (state A.Store conn.old).now.trees) all.now text
-        × Appends (O.contents output.old) (O.contents output.new) text) }
+        × Appends (O.contents output.old) (O.contents output.new) text)) }
     ensures clean { OnOk result
         (HasCleanDisk (state A.Store conn.new) → HasCleanDisk (state A.Store conn.old)) }
     ensures fault { IfErr result EndsLines }
@@ -133,14 +130,12 @@ fn write_log<A: Alter, O: Write>(
     shown: &Shown,
     output: &mut O,
 ) -> Result<bool, NotDone>
-    ensures written { HasCleanDisk (state A.Store conn.new)
-        → (state A.Store conn.old).now.schema ≡ archive_schema
-        → OnOk result ((text : List _)
+    ensures written { OverArchive (state A.Store conn.old) (state A.Store conn.new)
+        (OnOk result ((text : List _)
         × WritesLog shown.now (kept (state A.Store conn.old).now.trees) log.now text
-        × Appends (O.contents output.old) (O.contents output.new) text) }
-    ensures same { HasCleanDisk (state A.Store conn.new)
-        → (state A.Store conn.old).now.schema ≡ archive_schema
-        → OnOk result ((state A.Store conn.new).now ≡ (state A.Store conn.old).now) }
+        × Appends (O.contents output.old) (O.contents output.new) text)) }
+    ensures same { OverArchive (state A.Store conn.old) (state A.Store conn.new)
+        (OnOk result ((state A.Store conn.new).now ≡ (state A.Store conn.old).now)) }
     ensures clean { OnOk result
         (HasCleanDisk (state A.Store conn.new) → HasCleanDisk (state A.Store conn.old)) }
     ensures fault { IfErr result EndsLines }
@@ -161,12 +156,11 @@ fn write_logs<A: Alter, O: Write>(
     shown: &Shown,
     output: &mut O,
 ) -> Result<usize, NotDone>
-    ensures written { HasCleanDisk (state A.Store conn.new)
-        → (state A.Store conn.old).now.schema ≡ archive_schema
-        → OnOk result ((text : List _)
+    ensures written { OverArchive (state A.Store conn.old) (state A.Store conn.new)
+        (OnOk result ((text : List _)
         × WritesLogs shown.now (kept (state A.Store conn.old).now.trees) all.now text
         × Appends (O.contents output.old) (O.contents output.new)
-        (row_text default_writer names ++ text)) }
+        (row_text default_writer names ++ text))) }
     ensures clean { OnOk result
         (HasCleanDisk (state A.Store conn.new) → HasCleanDisk (state A.Store conn.old)) }
     ensures fault { IfErr result EndsLines }
@@ -192,21 +186,19 @@ pub fn print_shown<A: Alter, O: Write>(
     ensures status { IfOk result (λ status. status ≡ 0) }
     // The lines of the archive's logs, each of which is told once: of each that was chosen its
     // head, and its items by their ids.
-    ensures printed { HasCleanDisk (state A.Store conn.new)
-        → (state A.Store conn.old).now.schema ≡ archive_schema → csv ≡ false
+    ensures printed { OverArchive (state A.Store conn.old) (state A.Store conn.new) (csv ≡ false
         → OnOk result ((all : List LogOf) × AreLogs (state A.Store conn.old).now.trees all
         × (text : List _)
         × PrintsLogs shown.now (kept (state A.Store conn.old).now.trees) all text
-        × Appends (O.contents output.old) (O.contents output.new) text) }
+        × Appends (O.contents output.old) (O.contents output.new) text)) }
     // As CSV the row of names, and of each of those logs that was chosen a row for each of its
     // items.
-    ensures written { HasCleanDisk (state A.Store conn.new)
-        → (state A.Store conn.old).now.schema ≡ archive_schema → csv ≡ true
+    ensures written { OverArchive (state A.Store conn.old) (state A.Store conn.new) (csv ≡ true
         → OnOk result ((all : List LogOf) × AreLogs (state A.Store conn.old).now.trees all
         × (text : List _)
         × WritesLogs shown.now (kept (state A.Store conn.old).now.trees) all text
         × Appends (O.contents output.old) (O.contents output.new)
-        (row_text default_writer names ++ text)) }
+        (row_text default_writer names ++ text))) }
     ensures clean { OnOk result
         (HasCleanDisk (state A.Store conn.new) → HasCleanDisk (state A.Store conn.old)) }
     // Or it ends before that; that no log was chosen is told only of an archive that has none such.

@@ -7,7 +7,8 @@ use Rattle.bac_fetch.specs.Keeps.{KeepsLogs}
 use Rattle.bac_asked.proofs.Results.{because}
 use Rattle.bac_keeper.proofs.ArchiveLemmas.{loses_nothing, tells_weaker}
 use Rattle.bac_fetch.specs.Faults.{EndsKeeping, HasNone, LacksAddress}
-use Rattle.bac_keeper.specs.Archives.{IsCleanArchive, IsHeld, KeepsArchive}
+use Rattle.bac_keeper.specs.Archives.{IsHeld, KeepsArchive}
+use Rattle.bac_archive.specs.Schema.{OverArchive}
 use Rattle.bac_keeper.specs.Done.{EndsOver, TellsThese}
 use Rattle.bac_hearing.specs.Hearing.{started}
 use Rattle.bac_ports.specs.Sockets.{socket_rules}
@@ -33,7 +34,7 @@ returns-clause-told g c =
     (λ all between ends kept held.
     let early : HasCleanDisk archive = c.keep_these.ensures.clean held.0 in
     let opened = c.in_ok-open_archive.ensures.archive early in
-    let it = kept (held.0, opened.is.schema) in
+    let it = kept held.0 opened.is.schema in
     record {
       archive = archive.now;
       opened = opened;
@@ -53,7 +54,7 @@ returns-clause-stays g c held was has =
     loses_nothing found archive last was (c.in_ok-open_archive.ensures.committed early) same
     (λ db may. g.met.A.Store.settled c.open_archive.new.conn.store db (c.in_ok-open_archive.ensures.same early has) may)
     (g.met.A.Store.stays c.keep_these.new.conn.store held.1) held.0
-    (c.keep_these.ensures.stays (held.0, ap (λ (d : Database). d.schema) same ∙ has))
+    (c.keep_these.ensures.stays held.0 (ap (λ (d : Database). d.schema) same ∙ has))
 
 pub returns-in_err-status-clause-stays : goal.returns-in_err-status-clause-stays
 returns-in_err-status-clause-stays g c held was has =
@@ -66,7 +67,7 @@ returns-in_err-status-clause-stays g c held was has =
     loses_nothing found archive last was (c.in_ok-open_archive.ensures.committed early) same
     (λ db may. g.met.A.Store.settled c.open_archive.new.conn.store db (c.in_ok-open_archive.ensures.same early has) may)
     (g.met.A.Store.stays c.keep_these.new.conn.store held.1) held.0
-    (c.keep_these.ensures.stays (held.0, ap (λ (d : Database). d.schema) same ∙ has))
+    (c.keep_these.ensures.stays held.0 (ap (λ (d : Database). d.schema) same ∙ has))
 
 pub returns-in_err-open_archive-clause-fault : goal.returns-in_err-open_archive-clause-fault
 returns-in_err-open_archive-clause-fault g c =
@@ -97,9 +98,9 @@ returns-in_err-status-clause-ends g c =
     because c.from_residual-in_err-status.result c.in_err-status.field-0.0 _ (search rules)
     (may_ask (λ fault. EndsKeeping over c.args.chosen (Unit {0}) (Unit {0}) c.args.sockets.now c.keep_these.new.sockets fault
     × (IsHeld last → EndsOver over (started g.C.Clock.reads c.args.clock) c.args.chosen (given_in c.args.options.now) c.args.sockets.now c.keep_these.new.sockets (state g.A.Store c.args.conn.now).now fault)) c.in_err-status.field-0.0 (
-      keeping_so over (IsCleanArchive archive last → HasNone archive.now.trees) (Unit {0}) (IsCleanArchive archive last → LacksAddress (given_in c.args.options.now) archive.now.trees) (Unit {0})
+      keeping_so over (OverArchive archive last (HasNone archive.now.trees)) (Unit {0}) (OverArchive archive last (LacksAddress (given_in c.args.options.now) archive.now.trees)) (Unit {0})
           (λ n. tt {0}) (λ n. tt {0}) c.args.chosen c.args.sockets.now c.keep_these.new.sockets c.in_err-status.field-0.0 c.in_err-status.ensures.fault,
-      λ held. let opened = c.in_ok-open_archive.ensures.archive (c.keep_these.ensures.clean held.0) in (archive.now, opened, c.in_err-status.ensures.caused (held.0, opened.is.schema)),
+      λ held. let opened = c.in_ok-open_archive.ensures.archive (c.keep_these.ensures.clean held.0) in (archive.now, opened, c.in_err-status.ensures.caused held.0 opened.is.schema),
     ))
 
 pub returns-clause-fault : goal.returns-clause-fault
