@@ -25,7 +25,7 @@ from kept_names import names
 from kept_rounds import one, rounds, said, unheard
 from kept_stopped import stopped
 from kept_terminal import terminals
-from kept_told import told_beside
+from kept_told import told_among_others, told_beside
 from kept_warehouse import warehouses
 from kept_whose import other_devices
 from kept_words import first_answers, own_lives, own_rule, own_words, renewed
@@ -666,4 +666,4 @@ def judgements(judge, _runs):
 
 CASES = [judgements, run_after_run, beginnings, options, losses, line_by_line, step_limits, last_epoch, dead_devices, dead_at_once, other_devices, words_and_names, no_archive, barred, far_away, rounds, restarts, clocks, questions, cut_files, foreign_files, a_large_file, printed, taken_over, served,
          stopped, terminals, warehouses, names, own_words, own_rule, own_lives, first_answers, renewed, moved, moved_ways, two_of_one, told_later,
-         moved_at_each_call, moved_at_random, emptied, never_begun, told_at_once, said_more, told_beside]
+         moved_at_each_call, moved_at_random, emptied, never_begun, told_at_once, said_more, told_beside, told_among_others]

@@ -1,4 +1,6 @@
 """What `bac keep` tells beside the line of a log whose walk failed, for kept.py."""
+import socket
+
 from kept_devices import Device, Log, serve
 from kept_rounds import said, unheard, why
 
@@ -8,18 +10,26 @@ SOON = ("--timeout=60", "--retries=1")
 ROUTER = bytes.fromhex("018003010005")
 I_AM = bytes.fromhex("01001000c4020000072205c491032103")
 STRAYS = (("a router", ROUTER, "router: no route to network 5"), ("an I-Am", I_AM, "an I-Am"))
+# Whole datagrams: a BVLC-Result, an Error that is cut, and one that is whole.
+RESULT = bytes.fromhex("810000060030")
+CUT = bytes.fromhex("810a000801005001")
+ERROR = bytes.fromhex("810a000d010050010c9102911f")
 
 
 class Twisted(Device):
-    """`stray` is the NPDU that is sent in place of each answer that isn't given, and `twist` makes another of each ReadRange-ACK."""
+    """`stray` is the NPDU that is sent in place of each answer that isn't given, and `twist` makes another of each ReadRange-ACK;
+    `whole` is a datagram that is sent in its place, from another socket or this one."""
 
     def __init__(self):
         super().__init__([Log(1, 50)], "twisted")
-        self.stray = self.twist = None
+        self.stray = self.twist = self.whole = None
         serve([self])
 
     def answer(self, port, request, asker):
-        if self.stray is None or self.answers:
+        if self.whole:
+            self.asked += 1
+            (self.whole[0] or port).sendto(self.whole[1], asker)
+        elif self.stray is None or self.answers:
             super().answer(port, request, asker)
         else:
             port.sendto(b"\x81\x0a" + (len(self.stray) + 4).to_bytes(2, "big") + self.stray, asker)
@@ -64,3 +74,33 @@ def told_beside(judge, _runs):
     device.answers, device.stray = 4, I_AM
     judge.same("strays on the way", judge.ran(["keep", file, *SOON])[2],
                why(device, 1, f"no answer in 2 tries; 2 datagrams came that don't answer, the last from {device.address}: an I-Am"))
+
+
+def told_among_others(judge, _runs):
+    """The same of a device that others are asked beside: what its host sends in place of its answer is told, and one that
+    sends nothing is waited for once."""
+    twisted, silent, alive = Twisted(), Device([Log(1, 50)], "silent"), Device([Log(1, 50)], "alive")
+    serve([silent, alive])
+    file = f"{judge.room}/a.db"
+    for device in (twisted, silent, alive):
+        device.logs[1].log(2)
+        judge.ran(["keep", file, device.address])
+    silent.answers = 0
+    other = socket.socket(socket.AF_INET, socket.SOCK_DGRAM)
+    other.bind(("127.0.0.1", 0))
+    elsewhere = "%s:%d" % other.getsockname()
+    for name, twisted.whole, sender, content in (
+            ("a BVLC-Result", (None, RESULT), twisted.address, "BVLC-Result 0030"),
+            ("an Error that is cut", (None, CUT), twisted.address, "it can't be read"),
+            ("an answer from another port", (other, ERROR), elsewhere, f"an answer, but not from {twisted.address}")):
+        before = twisted.asked, silent.asked
+        text = f"no answer in 2 tries; 2 datagrams came that don't answer, the last from {sender}: {content}"
+        told = said(twisted, 0, 0, "lost, next 3"), said(silent, 0, 0, "lost, next 3"), said(alive, 0, 0, "caught up, next 3")
+        judge.same(name, judge.ran(["keep", file, *SOON]), (2, "".join(told), why(twisted, 1, text) + unheard(silent)))
+        # Another port of their host may be that of either.
+        alone = 4 if sender == elsewhere else 2
+        judge.same(f"{name}: who was asked", (twisted.asked - before[0], silent.asked - before[1]), (4, alone))
+    other.close()
+    twisted.whole = silent.answers = None
+    judge.same("both are back", judge.ran(["keep", file])[0], 0)
+    judge.judge("both are back", file, [twisted, silent, alive], True)

@@ -1,6 +1,6 @@
 -- What is done of calls, from one function to the next.
-use Rattle.std.specs.Prelude.{IfOk, IfErr, OnOk}
-use Rattle.std.proofs.Common.{◌≡◌, ◌⊎◌, inl, inr, ℕ, ◌<◌, ◌≤◌, Bool, false, true, List, [], ◌∷◌, length, map, get_or, Result, Ok, Err, refl, ap, sym, subst, ◌∙◌, arith}
+use Rattle.std.specs.Prelude.{IfErr}
+use Rattle.std.proofs.Common.{◌≡◌, ◌⊎◌, inl, inr, ◌≤◌, List, [], ◌∷◌, length, map, get_or, Result, Ok, Err, ap, sym, subst, arith}
 use Rattle.std.specs.List.{Contains}
 use denote.Ref.{Bor}
 use Rattle.bac_asked.specs.Faults.{WantsMemory}
@@ -10,9 +10,7 @@ use Rattle.bac_hearing.specs.Hearing.{StartedClock}
 use Rattle.bac_ports.specs.Sockets.{SocketRules}
 use Rattle.bac_questions.specs.Faults.{EndsAsking, IsUnopened}
 use Rattle.bac_questions.specs.declared.whose.Heard.{Heard}
-use Rattle.bac_words.specs.declared.job.Asked.{Asked}
-use Rattle.bac_absent.specs.Absent.{AreCalled, Calls, CallsAll, CallsMany, EndsCalling, FindsAbsent, PutsAbsent, SaysMany, are_many}
-use Rattle.bac_absent.specs.declared.call.Presence.{Presence}
+use Rattle.bac_absent.specs.Absent.{AreCalled, CallsAll, CallsMany, EndsCalling}
 
 -- two or more are called as the first is asked
 pub many : {S P C : Type 0} (rules : SocketRules S P) (clock : StartedClock C) (refs : List (Bor Wanted)) (first : Bor Wanted) (heard now : List Heard)

@@ -1,5 +1,5 @@
 -- Those that gave no answer, call by call.
-use Rattle.std.proofs.Common.{◌≡◌, ℕ, suc, List, [], ◌∷◌, ◌++◌, length, map, take, get_or, ◌<◌, ◌+◌, false, true, Result, Ok, Err, refl, ap, sym, subst, ◌∙◌, append_assoc, arith}
+use Rattle.std.proofs.Common.{◌≡◌, ℕ, List, [], ◌∷◌, ◌++◌, length, map, take, get_or, ◌<◌, ◌+◌, false, true, Result, Ok, Err, refl, ap, sym, subst, ◌∙◌, append_assoc, arith}
 use Rattle.std.proofs.lemmas.List.{length-map, length-take, map_push, take_more}
 use Rattle.std.specs.Prelude.{OnOk}
 use denote.Ref.{Bor}
@@ -7,6 +7,7 @@ use Rattle.bac_archive.specs.declared.trend_logs.Source.{Source}
 use Rattle.bac_questions.specs.Said.{silent}
 use Rattle.bac_questions.specs.Silent.{is_same_log}
 use Rattle.bac_asked.specs.declared.wanted.Wanted.{Wanted}
+use Rattle.bac_questions.specs.declared.said.Said.{Said}
 use Rattle.bac_questions.specs.declared.whose.Heard.{Heard}
 use Rattle.bac_absent.specs.Absent.{AreAbsent, PutsAbsent}
 use Rattle.bac_absent.specs.declared.call.Presence.{Presence}
@@ -57,10 +58,10 @@ next_place refs ends at one other old mid new lt same is before put =
     (one_more (map now (take at refs)) (take at ends) old mid new one.now (get_or ends at other) lengths before put))
 
 -- one that gave no answer
-pub alone : {A E : Type 0} (wanted : Wanted) (source : Source) (end : Presence) (old new : List Heard) (result : Result A E) → end ≡ Absent →
-    is_same_log source wanted.source ≡ true → OnOk result (new ≡ old ++ record { source = source; said = silent; was_told = false } ∷ []) →
+pub alone : {A E : Type 0} (wanted : Wanted) (source : Source) (said : Said) (end : Presence) (old new : List Heard) (result : Result A E) → end ≡ Absent →
+    said ≡ silent → is_same_log source wanted.source ≡ true → OnOk result (new ≡ old ++ record { source = source; said = said; was_told = false } ∷ []) →
     OnOk result (PutsAbsent (wanted ∷ []) (end ∷ []) old new)
-alone wanted source end old new (Err e) is same pushed = tt
-alone wanted source end old new (Ok a) is same pushed =
-    let one : Heard = record { source = source; said = silent; was_told = false } in
-    subst (λ (p : Presence). PutsAbsent (wanted ∷ []) (p ∷ []) old new) (sym is) (one ∷ [], (one, [], refl, (same, refl, refl), refl), pushed)
+alone wanted source said end old new (Err e) is quiet same pushed = tt
+alone wanted source said end old new (Ok a) is quiet same pushed =
+    let one : Heard = record { source = source; said = said; was_told = false } in
+    subst (λ (p : Presence). PutsAbsent (wanted ∷ []) (p ∷ []) old new) (sym is) (one ∷ [], (one, [], refl, (same, quiet, refl), refl), pushed)

@@ -5,9 +5,10 @@ use denote.Ref.{Bor}
 use Rattle.bac_asked.specs.declared.wanted.Wanted.{Wanted}
 use Rattle.bac_hearing.specs.Hearing.{FailsToHear, HearsAll, StartedClock}
 use Rattle.bac_hearing.specs.declared.hearing.NotHeard.TheVariants.{Unfinished}
+use Rattle.bac_jobs.specs.declared.job.Ending.{Ending}
 use Rattle.bac_ports.specs.Sockets.{SocketRules}
 use Rattle.bac_words.specs.declared.job.Asked.{Asked}
-use Rattle.bac_absent.specs.Absent.{Calls, IsCall, Plays, Unending, peers_of}
+use Rattle.bac_absent.specs.Absent.{HearsCalls, IsCall, Plays, Unending, peers_of}
 use Rattle.bac_absent.specs.declared.call.Call.{Call}
 use Rattle.bac_absent.specs.declared.call.Presence.{Presence}
 
@@ -16,10 +17,10 @@ peers_seen [] = refl
 peers_seen (one ∷ refs) = ap (λ (l : List (List ℕ)). one.now.asking.asked.address ∷ l) (peers_seen refs)
 
 pub calls_all : {S P C : Type 0} (rules : SocketRules S P) (clock : StartedClock C) (asked : Asked) (refs : List (Bor Wanted)) (peers : List (List ℕ))
-    (calls : List Call) (before after : S) (ends : List Presence) →
+    (calls : List Call) (before after : S) (ends : List (Ending Presence)) →
     peers ≡ map (λ (one : Bor Wanted). one.now.asking.asked.address) refs → length calls ≡ length refs → All IsCall calls →
     HearsAll rules clock Plays peers calls asked.local asked.timeout asked.retries before ends after →
-    Calls rules clock asked (map (λ (one : Bor Wanted). one.now) refs) before ends after
+    HearsCalls rules clock asked (map (λ (one : Bor Wanted). one.now) refs) before ends after
 calls_all rules clock asked refs peers calls before after ends are same all heard = (
   calls,
   same ∙ sym (length-map refs (λ (one : Bor Wanted). one.now)),

@@ -1,12 +1,13 @@
 -- Which devices of a run give no answer: all are called at once. Read `FindsAbsent`.
 use Rattle.std.specs.Prelude.{◌≡◌, ◌≢◌, ◌⊎◌, ◌&&◌, ◌++◌, not, ℕ, Bool, true, false, List, [], ◌∷◌, None, Ok, Err}
-use Rattle.std.specs.Prelude.{is_none, length, map}
+use Rattle.std.specs.Prelude.{if◌then◌else◌, is_none, length, map}
 use Rattle.std.specs.List.{All, AllPairs, Contains}
 use Rattle.bac_asked.specs.Faults.{WantsMemory}
 use Rattle.bac_asked.specs.declared.end.NotDone.{NotDone}
 use Rattle.bac_asked.specs.declared.wanted.Wanted.{Wanted}
 use Rattle.bac_hearing.specs.Hearing.{FailsToHear, HearsAll, StartedClock}
 use Rattle.bac_hearing.specs.declared.hearing.NotHeard.TheVariants.{Unfinished}
+use Rattle.bac_jobs.specs.declared.job.Ending.{Ending}
 use Rattle.bac_jobs.specs.declared.job.Turn.{Turn}
 use Rattle.bac_jobs.specs.declared.job.Turn.TheVariants.{Ended, Unfit, Wants}
 use Rattle.bac_link.specs.Path.{towards}
@@ -42,6 +43,10 @@ Plays call (one ∷ []) Unfit = one.request ≢ call.question
 Plays call (one ∷ two ∷ more) Unfit = Unit {0}
 Plays call _ _ = ⊥
 
+-- what came of a call: something came in place of an answer, or this
+abbrev pub presence_of : Ending Presence → Presence
+presence_of ending = if ending.has_stray then Here else ending.end
+
 -- ---- which devices are called
 
 -- the device of a log is called if no router is in front of it, and it wasn't heard of before
@@ -61,7 +66,7 @@ pub record AreCalled (heard : List Heard) (all called : List Wanted) : Type 0 wh
 abbrev pub IsAbsent : Wanted → Heard → Type 0
 IsAbsent wanted one = (is_same_log one.source wanted.source ≡ true) × (one.said ≡ silent) × (one.was_told ≡ false)
 
--- those of whose calls no answer came, in their order
+-- those of whose calls nothing came, in their order
 abbrev pub AreAbsent : List Wanted → List Presence → List Heard → Type 0
 AreAbsent (one ∷ called) (Absent ∷ ends) absent =
     (first : Heard) × (more : List Heard) × (absent ≡ first ∷ more) × IsAbsent one first × AreAbsent called ends more
@@ -77,19 +82,26 @@ abbrev pub peers_of : List Wanted → List (List ℕ)
 peers_of called = map (λ (w : Wanted). w.asking.asked.address) called
 
 -- The devices of these logs were called at once, as this one is asked: over one socket, with its waits and retries.
+abbrev pub HearsCalls : {S P C : Type 0} → SocketRules S P → StartedClock C → Asked → List Wanted → S →
+    List (Ending Presence) → S → Type 0
+HearsCalls rules clock asked called before endings after =
+    (calls : List Call) × (length calls ≡ length called) × All IsCall calls
+    × HearsAll rules clock Plays (peers_of called) calls asked.local asked.timeout asked.retries before endings after
+
+-- that is what came of each
 abbrev pub Calls : {S P C : Type 0} → SocketRules S P → StartedClock C → Asked → List Wanted → S → List Presence → S →
     Type 0
 Calls rules clock asked called before ends after =
-    (calls : List Call) × (length calls ≡ length called) × All IsCall calls
-    × HearsAll rules clock Plays (peers_of called) calls asked.local asked.timeout asked.retries before ends after
+    (endings : List (Ending Presence)) × HearsCalls rules clock asked called before endings after
+    × (ends ≡ map presence_of endings)
 
 -- as many rounds as fit 64 bits weren't enough for that
 abbrev pub Unending : {S P C : Type 0} → SocketRules S P → StartedClock C → Asked → List Wanted → S → S → Type 0
 Unending rules clock asked called before after =
     FailsToHear rules clock (peers_of called) asked.local asked.timeout asked.retries before after Unfinished
 
--- They were called so, and those that gave no answer come behind those that were heard of; or the calls didn't end, and
--- none is put down as absent.
+-- They were called so, and those from whose hosts nothing came are put behind those that were heard of; or the calls
+-- didn't end, and none is put down as absent.
 abbrev pub CallsAll : {S P C : Type 0} → SocketRules S P → StartedClock C → Asked → List Wanted → List Heard → S →
     List Heard → S → Type 0
 CallsAll rules clock asked called heard before now after =
@@ -104,7 +116,7 @@ CallsMany rules clock (one ∷ two ∷ more) heard before now after =
 CallsMany rules clock called heard before now after = (now ≡ heard) × (after ≡ before)
 
 -- The devices of these logs that no router is in front of, and that weren't heard of, are called at once, each once, if
--- there are two or more; those that give no answer are silent in this run.
+-- there are two or more; those that give no answer, and nothing in its place, are silent in this run.
 abbrev pub FindsAbsent : {S P C : Type 0} → SocketRules S P → StartedClock C → List Wanted → List Heard → S →
     List Heard → S → Type 0
 FindsAbsent rules clock all heard before now after =

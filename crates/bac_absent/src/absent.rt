@@ -11,16 +11,17 @@ ghost use Rattle.bac_questions.specs.Faults.{EndsAsking, IsUnopened};
 ghost use Rattle.bac_questions.specs.Said.{silent};
 ghost use Rattle.bac_questions.specs.Silent.{is_same_device};
 ghost use Rattle.bac_absent.specs.Absent.{AreCalled, Calls, CallsAll, CallsMany, EndsCalling};
-ghost use Rattle.bac_absent.specs.Absent.{FindsAbsent, IsCall, PutsAbsent, SaysMany, Unending};
-ghost use Rattle.bac_absent.specs.Absent.{are_many, is_called};
+ghost use Rattle.bac_absent.specs.Absent.{FindsAbsent, HearsCalls, IsCall, PutsAbsent, SaysMany};
+ghost use Rattle.bac_absent.specs.Absent.{Unending, are_many, is_called, presence_of};
 
-use crate::call::{Call, Presence};
+use crate::call::{Call, Presence, presence_of};
 use bac_archive::Source;
 use bac_asked::{Fault, NotDone, Wanted};
 use bac_desks::Clock;
 use bac_hearing::{NotHeard, hear_all};
+use bac_jobs::Ending;
 use bac_ports::Sockets;
-use bac_questions::{Heard, copy_source, is_heard, is_same_device, silent};
+use bac_questions::{Heard, copy_source, is_heard, is_same_device, push_heard, silent};
 use bac_words::Asked;
 use std::alloc::{AllocError, Global};
 
@@ -121,18 +122,18 @@ fn calls_of(alloc: Global, count: usize) -> Result<Vec<Call>, AllocError>
     Ok(calls)
 }
 
-/// Calls the devices of these logs at once, each as this one is asked: what came of each call;
-/// nothing if it didn't end.
-fn call_all<S: Sockets, C: Clock>(
+/// Calls the devices of these logs at once, each as this one is asked: how each call ended; nothing
+/// if it didn't.
+fn hear_calls<S: Sockets, C: Clock>(
     sockets: &mut S,
     alloc: Global,
     clock: C,
     asked: &Asked,
     called: &[&Wanted],
-) -> Result<Option<Vec<Presence>>, NotDone>
+) -> Result<Option<Vec<Ending<Presence>>>, NotDone>
 where
     C: Drop,
-    ensures called { IfOk result (λ ends. IfSome ends (λ all. Calls
+    ensures called { IfOk result (λ ends. IfSome ends (λ all. HearsCalls
         (socket_rules S.opens S.closes S.Socket.sends S.Socket.receives
         S.Socket.receives_within) (started C.reads clock) asked.now
         (map (λ one. one.now) called.now) sockets.old all.items sockets.new)) }
@@ -165,20 +166,56 @@ where
     }
 }
 
-/// Puts the device of a log behind those heard of, as silent.
-fn push_silent(heard: &mut Vec<Heard>, source: Source) -> Result<(), NotDone>
-    ensures pushed { OnOk result (heard.new.items
-        ≡ heard.old.items ++ record { source = source; said = silent; was_told = false } ∷ []) }
+/// What came of calls that ended so.
+fn presences_of(alloc: Global, endings: &[Ending<Presence>]) -> Result<Vec<Presence>, NotDone>
+    ensures ends { IfOk result (λ ends. ends.items ≡ map presence_of endings.now) }
     ensures fault { IfErr result WantsMemory }
 {
-    let absent = Heard {
-        source,
-        said: silent(),
-        was_told: false,
-    };
-    match heard.push(absent) {
+    let mut ends = Vec::new(alloc);
+    for ending in endings {
+        push_presence(&mut ends, presence_of(ending))?;
+    }
+    Ok(ends)
+}
+
+/// Puts what came of a call behind that of others.
+fn push_presence(ends: &mut Vec<Presence>, end: Presence) -> Result<(), NotDone>
+    ensures pushed { OnOk result (ends.new.items ≡ ends.old.items ++ end ∷ []) }
+    ensures fault { IfErr result WantsMemory }
+{
+    match ends.push(end) {
         Ok(()) => Ok(()),
         Err(_) => Err(NotDone::Asking(Fault::Memory)),
+    }
+}
+
+/// Calls the devices of these logs at once, each as this one is asked: what came of each call;
+/// nothing if it didn't end.
+fn call_all<S: Sockets, C: Clock>(
+    sockets: &mut S,
+    alloc: Global,
+    clock: C,
+    asked: &Asked,
+    called: &[&Wanted],
+) -> Result<Option<Vec<Presence>>, NotDone>
+where
+    C: Drop,
+    ensures called { IfOk result (λ ends. IfSome ends (λ all. Calls
+        (socket_rules S.opens S.closes S.Socket.sends S.Socket.receives
+        S.Socket.receives_within) (started C.reads clock) asked.now
+        (map (λ one. one.now) called.now) sockets.old all.items sockets.new)) }
+    ensures each { IfOk result (λ ends. IfSome ends
+        (λ all. length all.items ≡ length called.now)) }
+    ensures unending { IfOk result (λ ends. IfNone ends (Unending
+        (socket_rules S.opens S.closes S.Socket.sends S.Socket.receives
+        S.Socket.receives_within) (started C.reads clock) asked.now
+        (map (λ one. one.now) called.now) sockets.old sockets.new)) }
+    ensures fault { IfErr result (EndsAsking (socket_rules S.opens S.closes S.Socket.sends
+        S.Socket.receives S.Socket.receives_within) asked.now sockets.old sockets.new) }
+{
+    match hear_calls(sockets, alloc, clock, asked, called)? {
+        Some(endings) => Ok(Some(presences_of(alloc, endings.as_slice())?)),
+        None => Ok(None),
     }
 }
 
@@ -195,7 +232,7 @@ fn put_one(
 {
     match end {
         Presence::Here => Ok(()),
-        Presence::Absent => push_silent(heard, copy_source(alloc, &one.source)?),
+        Presence::Absent => { push_heard(heard, copy_source(alloc, &one.source)?, silent(), false) }
     }
 }
 
@@ -272,7 +309,8 @@ where
 
 /// Calls the devices of these logs at once that no router is in front of, and that weren't heard
 /// of, each once, if there are two or more: whether they were called. Those that give no answer are
-/// put behind those heard of, as silent. A call is asked, waited for and repeated as the run asks
+/// put behind those heard of, as silent, if nothing came from their hosts in its place: what came
+/// is told when they are asked alone. A call is asked, waited for and repeated as the run asks
 /// the first of them.
 pub fn find_absent<S: Sockets, C: Clock>(
     sockets: &mut S,

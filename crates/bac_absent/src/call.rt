@@ -3,30 +3,34 @@
 ghost use Rattle.std.specs.Prelude.{◌≡◌, ◌∷◌, [], None, IfOk, IsErr};
 ghost use Rattle.bac_link.specs.Path.{towards};
 ghost use Rattle.bac_link.specs.Requests.{next_invoke, request_octets};
-ghost use Rattle.bac_absent.specs.Absent.{IsCall, Plays};
+ghost use Rattle.bac_absent.specs.Absent.{IsCall, Plays, presence_of};
 
 use bac_apdu::ReadProperty;
-use bac_jobs::{Job, Turn};
+use bac_jobs::{Ending, Job, Turn};
 use bac_link::{Request, Transactions};
 use bac_play::Outcome;
+use bac_questions::{DEVICE, ITSELF, OBJECT_IDENTIFIER};
 use bac_wire::{Datagram, Full, ObjectId};
 use std::alloc::{AllocError, Global};
-
-/// The object type of a Device (clause 12.11).
-const DEVICE: u16 = 8;
-
-/// The instance by which each device answers as its own Device object (clause 15.5).
-const ITSELF: u32 = 4_194_303;
-
-const OBJECT_IDENTIFIER: u32 = 75;
 
 /// What came of a call.
 #[derive(Clone, Copy, Debug, PartialEq, Eq)]
 pub enum Presence {
-    /// An answer.
+    /// An answer, or something in its place.
     Here,
-    /// None.
+    /// Nothing.
     Absent,
+}
+
+/// What came of a call that ended so.
+pub(crate) fn presence_of(ending: &Ending<Presence>) -> Presence
+    ensures { result ≡ presence_of ending.now }
+{
+    if ending.has_stray {
+        Presence::Here
+    } else {
+        ending.end
+    }
 }
 
 /// The question for a device's Object_Identifier, which each device answers (clause 12.11).

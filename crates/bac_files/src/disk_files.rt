@@ -5,7 +5,9 @@ ghost use Rattle.sqlite.specs.Opening.{is_open_error};
 ghost use Rattle.sqlite_wal.specs.Files.{image_at};
 ghost use Rattle.bac_files.specs.Files.{IsClosedBy, IsNamed, IsOpenedBy, IsReason, IsReasonFor};
 ghost use Rattle.bac_files.specs.Files.{IsUnasked, IsUnclosed, IsUnopened, IsUnused};
+ghost use Rattle.bac_files.specs.Parts.{IsPlaced};
 
+use crate::folder::{Place, place_of};
 use crate::not_opened::NotOpened;
 use crate::obstacles::obstacle_of;
 use sqlite::{Connection, Error, ErrorCode, FileFrom, FileStore, Files, Start};
@@ -113,6 +115,41 @@ impl<'a, F: Start> DiskFiles<'a, F> {
             unclosed: None,
             closed: None,
         }
+    }
+
+    /// Where the archive of this name is kept: in the file of that name, or, if it is a folder, in
+    /// its newest part, or in the next one, where that has so many octets or more. If it can't be
+    /// told, that is as with a file that isn't opened.
+    pub fn place(&mut self, name: &str, may_make: bool, full: u64) -> Result<Place, NotOpened>
+        ensures placed { IfOk result (IsPlaced name.now) }
+        ensures named { result ≢ Err NotOpened.Memory → IsNamed name.now may_make self.new }
+        ensures refused { IfErr result (λ why. IsUnopened why self.new × IsReason may_make why) }
+        ensures kept { (self.new.closed ≡ self.old.closed)
+            × (self.new.unclosed ≡ self.old.unclosed) }
+    {
+        match self.try_place(name, may_make, full) {
+            Ok(place) => Ok(place),
+            Err(why) => {
+                self.refused = Some(why);
+                Err(why)
+            }
+        }
+    }
+
+    /// The same; why it can't be told isn't noted yet.
+    fn try_place(&mut self, name: &str, may_make: bool, full: u64) -> Result<Place, NotOpened>
+        ensures placed { IfOk result (IsPlaced name.now) }
+        ensures named { result ≢ Err NotOpened.Memory → IsNamed name.now may_make self.new }
+        ensures refused { IfErr result (IsReason may_make) }
+        ensures kept { (self.new.closed ≡ self.old.closed)
+            × (self.new.unclosed ≡ self.old.unclosed) }
+    {
+        let Ok(text) = String::from_str(self.rt.alloc(), name) else {
+            return Err(NotOpened::Memory);
+        };
+        self.name = Some(text);
+        self.may_make = may_make;
+        place_of(self.rt, name, full)
     }
 
     /// Opens the database of this name, unless it may not be made and isn't there.

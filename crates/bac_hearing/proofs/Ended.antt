@@ -6,6 +6,7 @@ use Rattle.bac_play.specs.declared.play.Outcome.{Outcome}
 use Rattle.bac_desks.specs.Served.{Serves}
 use Rattle.bac_desks.specs.Table.{TableState}
 use Rattle.bac_jobs.specs.Jobs.{AreEnded, IsIdle, MakesRounds}
+use Rattle.bac_jobs.specs.declared.job.Ending.{Ending}
 use Rattle.bac_jobs.specs.declared.job.Turn.{Turn}
 use Rattle.bac_hearing.specs.Hearing.{Ends, Waits}
 
@@ -35,7 +36,7 @@ waits {P = P} {C = C} sends receives reads rounds port port' last start start' s
 -- what was done from these desks on, which are those that were made
 pub ends : {P C J E : Type 0} (sends : P → List ℕ → List ℕ → Sending → P → Type 0) (receives : P → ℕ → Receiving → P → Type 0)
     (reads : C → ℕ → C → Type 0) (plays : J → List Outcome → Turn E → Type 0) (jobs : List J) (port port' last : P) (start start' stop : C)
-    (fresh fresh' left : TableState) (all : List E) → port' ≡ port → start' ≡ start → fresh' ≡ fresh →
+    (fresh fresh' left : TableState) (all : List (Ending E)) → port' ≡ port → start' ≡ start → fresh' ≡ fresh →
     Serves sends receives reads port' start' fresh' last stop left → (AreEnded plays jobs left.seats all × IsIdle left) →
     Ends sends receives reads plays jobs port start fresh all last
 ends {P = P} {C = C} sends receives reads plays jobs port port' last start start' stop fresh fresh' left all same_port same_clock same (events, does, keeps) ended =

@@ -13,6 +13,7 @@ use Rattle.bac_desks.specs.Words.{WasServed}
 use Rattle.bac_desks.specs.declared.rules.Rules.{Rules}
 use Rattle.bac_desks.specs.declared.seat.Seat.{Seat}
 use Rattle.bac_jobs.specs.Jobs.{AreEnded, IsIdle, MakesRounds}
+use Rattle.bac_jobs.specs.declared.job.Ending.{Ending}
 use Rattle.bac_jobs.specs.declared.job.Turn.{Turn}
 use Rattle.bac_hearing.specs.declared.hearing.NotHeard.{NotHeard}
 use Rattle.bac_hearing.specs.declared.hearing.NotHeard.TheVariants.{Memory, Unfinished, Unopened}
@@ -30,9 +31,10 @@ abbrev pub with_peers : TableState → List (List ℕ) → TableState
 with_peers t peers = record { rules = t.rules; time = t.time; seats = t.seats ++ map fresh_seat peers }
 
 -- What happened at the port and by the clock leads from these desks to those where each job has ended, by all that came
--- to the questions at the desk at its place, and none is open.
+-- to the questions at the desk at its place, which has a stray or none; and no question is open.
 abbrev pub Ends : {P C J E : Type 0} → (P → List ℕ → List ℕ → Sending → P → Type 0) → (P → ℕ → Receiving → P → Type 0) →
-    (C → ℕ → C → Type 0) → (J → List Outcome → Turn E → Type 0) → List J → P → C → TableState → List E → P → Type 0
+    (C → ℕ → C → Type 0) → (J → List Outcome → Turn E → Type 0) → List J → P → C → TableState → List (Ending E) → P →
+    Type 0
 Ends {C = C} sends receives reads plays jobs port start fresh ends last =
     (events : List Event) × (stop : C) × (left : TableState)
     × Does sends receives reads port start fresh events last stop left
@@ -50,7 +52,7 @@ started reads start = record { reads = reads; start = start }
 -- One socket was opened as asked. Over it the devices at these addresses were asked at once, from nothing on, each what
 -- the job at its place asks, up to where it ended so; and it was closed as the last of that left it.
 abbrev pub HearsAll : {S P C J E : Type 0} → SocketRules S P → StartedClock C → (J → List Outcome → Turn E → Type 0) →
-    List (List ℕ) → List J → Option (List ℕ) → ℕ → ℕ → S → List E → S → Type 0
+    List (List ℕ) → List J → Option (List ℕ) → ℕ → ℕ → S → List (Ending E) → S → Type 0
 HearsAll rules clock plays peers jobs local timeout retries before ends after =
     UsesSocket rules (own_address local) timeout before
     (λ port last. Ends rules.sends rules.receives_within clock.reads plays jobs port clock.start

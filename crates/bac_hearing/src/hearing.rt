@@ -6,7 +6,7 @@ ghost use Rattle.bac_hearing.specs.Hearing.{Ends, FailsToHear, HearsAll, Waits, 
 ghost use Rattle.bac_hearing.specs.Hearing.{with_peers};
 
 use bac_desks::{Clock, Desks, Rules};
-use bac_jobs::{Job, finish};
+use bac_jobs::{Ending, Job, finish};
 use bac_ports::{OpenFault, Port, Sockets};
 use std::alloc::{AllocError, Global};
 
@@ -59,7 +59,7 @@ fn hear<P: Port, C: Clock, J: Job>(
     desks: &mut Desks<P, C>,
     peers: &[[u8; 6]],
     jobs: &[J],
-) -> Result<Option<Vec<J::End>>, AllocError>
+) -> Result<Option<Vec<Ending<J::End>>>, AllocError>
     ensures heard { IfOk result (λ ended. IfSome ended
         (λ ends. Ends P.sends P.receives_within C.reads J.plays jobs.now desks.old.port
         desks.old.clock (with_peers desks.old.table peers.now) ends.items desks.new.port)) }
@@ -74,7 +74,7 @@ fn hear<P: Port, C: Clock, J: Job>(
 /// Brings a job for each of these devices to its end, all beside one another, over one socket that
 /// is opened at an address, or at any, and closed behind them. At most 64 questions are open, one
 /// at each address; a question waits so many milliseconds for its answer, and is sent so often
-/// again. How the jobs ended, in their order.
+/// again. How the jobs ended, in their order, and of which something came in an answer's place.
 pub fn hear_all<S: Sockets, C: Clock, J: Job>(
     sockets: &mut S,
     alloc: Global,
@@ -84,7 +84,7 @@ pub fn hear_all<S: Sockets, C: Clock, J: Job>(
     local: Option<[u8; 6]>,
     timeout: u32,
     retries: u8,
-) -> Result<Vec<J::End>, NotHeard>
+) -> Result<Vec<Ending<J::End>>, NotHeard>
 where
     C: Drop,
     ensures heard { IfOk result (λ ends. HearsAll

@@ -2,6 +2,7 @@
 use Rattle.std.proofs.Common.{◌≡◌, ◌⊎◌, inl, inr, ℕ, zero, suc, List, [], ◌∷◌, ◌++◌, Option, Some, None, IfSome, slice_get, length, refl, ap, sym, subst, ◌∙◌}
 use Rattle.bac_desks.specs.declared.seat.Seat.{Seat}
 use Rattle.bac_jobs.specs.Jobs.{HasEnded}
+use Rattle.bac_jobs.specs.declared.job.Ending.{Ending}
 use Rattle.bac_jobs.specs.declared.job.Turn.{Turn}
 use Rattle.bac_play.specs.declared.play.Outcome.{Outcome}
 
@@ -19,18 +20,18 @@ get_push (z ∷ xs) y x (suc at) is = later (get_push xs y x at is)
     later (inr (p, q)) = inr (ap suc p, q)
 
 -- one more has ended, at the place behind them
-pub pushed : {J E : Type 0} (plays : J → List Outcome → Turn E → Type 0) (jobs : List J) (seats : List Seat) (ends : List E) (end : E)
+pub pushed : {J E : Type 0} (plays : J → List Outcome → Turn E → Type 0) (jobs : List J) (seats : List Seat) (ends : List (Ending E)) (end : Ending E)
     (place : ℕ) → length ends ≡ place →
-    ((at : ℕ) (other : E) → slice_get ends at ≡ Some other → HasEnded plays jobs seats at other) →
+    ((at : ℕ) (other : Ending E) → slice_get ends at ≡ Some other → HasEnded plays jobs seats at other) →
     HasEnded plays jobs seats place end →
-    (at : ℕ) (other : E) → slice_get (ends ++ end ∷ []) at ≡ Some other → HasEnded plays jobs seats at other
+    (at : ℕ) (other : Ending E) → slice_get (ends ++ end ∷ []) at ≡ Some other → HasEnded plays jobs seats at other
 pushed {E = E} plays jobs seats ends end place are before this at other is = by (get_push ends end other at is)
   where
     by : (slice_get ends at ≡ Some other) ⊎ ((at ≡ length ends) × (other ≡ end)) → HasEnded plays jobs seats at other
     by (inl there) = before at other there
     by (inr (p, q)) =
         subst (λ (n : ℕ). HasEnded plays jobs seats n other) (sym (p ∙ are))
-        (subst (λ (e : E). HasEnded plays jobs seats place e) (sym q) this)
+        (subst (λ (e : Ending E). HasEnded plays jobs seats place e) (sym q) this)
 
 -- nothing stands in an empty list
 pub none_there : {X : Type 0} (xs : List X) (at : ℕ) (x : X) → xs ≡ [] → slice_get xs at ≡ Some x → ⊥

@@ -8,6 +8,7 @@ use Rattle.bac_desks.specs.Event.{Event}
 use Rattle.bac_desks.specs.Served.{Does, Keeps, TurnStep, Whole}
 use Rattle.bac_desks.specs.Table.{TableState, desks_of}
 use Rattle.bac_desks.specs.declared.seat.Seat.{Seat}
+use Rattle.bac_jobs.specs.declared.job.Ending.{Ending}
 use Rattle.bac_jobs.specs.declared.job.Turn.{Turn}
 use Rattle.bac_jobs.specs.declared.job.Turn.TheVariants.{Ended}
 use Rattle.bac_play.specs.declared.play.Outcome.{Outcome}
@@ -16,17 +17,18 @@ use Rattle.bac_play.specs.declared.play.Outcome.{Outcome}
 abbrev pub IsIdle : TableState → Type 0
 IsIdle t = count_by is_open t.seats ≡ 0
 
--- the job at a place ended so, by all that came to the questions of the desk at its place
-abbrev pub HasEnded : {J E : Type 0} → (J → List Outcome → Turn E → Type 0) → List J → List Seat → ℕ → E → Type 0
-HasEnded {J = J} plays jobs seats place end =
+-- the job at a place ended so, by all that came to the questions of the desk at its place, which has a stray or none
+abbrev pub HasEnded : {J E : Type 0} → (J → List Outcome → Turn E → Type 0) → List J → List Seat → ℕ → Ending E → Type 0
+HasEnded {J = J} plays jobs seats place ending =
     (job : J) × (seat : Seat) × (slice_get jobs place ≡ Some job) × (slice_get seats place ≡ Some seat)
-    × plays job seat.desk.outcomes (Ended end)
+    × plays job seat.desk.outcomes (Ended ending.end) × (ending.has_stray ≡ seat.has_stray)
 
 -- so did each of them
-abbrev pub AreEnded : {J E : Type 0} → (J → List Outcome → Turn E → Type 0) → List J → List Seat → List E → Type 0
+abbrev pub AreEnded : {J E : Type 0} → (J → List Outcome → Turn E → Type 0) → List J → List Seat → List (Ending E) →
+    Type 0
 AreEnded {E = E} plays jobs seats ends =
     (length ends ≡ length jobs)
-    × ((place : ℕ) (end : E) → slice_get ends place ≡ Some end → HasEnded plays jobs seats place end)
+    × ((place : ℕ) (ending : Ending E) → slice_get ends place ≡ Some ending → HasEnded plays jobs seats place ending)
 
 -- questions are asked, and then a turn is made
 abbrev pub RoundStep : {P C : Type 0} → (P → List ℕ → List ℕ → Sending → P → Type 0)

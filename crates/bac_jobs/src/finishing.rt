@@ -4,7 +4,7 @@ ghost use Rattle.std.specs.Prelude.{◌<◌, IfNone, IfOk, IfSome, length};
 ghost use Rattle.bac_desks.specs.Served.{Runs, Serves};
 ghost use Rattle.bac_jobs.specs.Jobs.{AreEnded, HasEnded, IsIdle, MakesRounds};
 
-use crate::job::{Job, Turn};
+use crate::job::{Ending, Job, Turn};
 use bac_desks::{Clock, Desks};
 use bac_ports::Port;
 use std::alloc::{AllocError, Global};
@@ -51,17 +51,17 @@ fn end_at<P: Port, C: Clock, J: Job>(
     desks: &Desks<P, C>,
     jobs: &[J],
     place: usize,
-) -> Result<Option<J::End>, AllocError>
+) -> Result<Option<Ending<J::End>>, AllocError>
     requires { place < length jobs.now }
     ensures { IfOk result
         (λ end. IfSome end (HasEnded J.plays jobs.now desks.now.table.seats place)) }
 {
-    let Some(outcomes) = desks.outcomes(place) else {
+    let (Some(outcomes), Some(has_stray)) = (desks.outcomes(place), desks.has_stray(place)) else {
         return Ok(None);
     };
     match jobs[place].play(alloc, outcomes)? {
         Turn::Wants(_) | Turn::Unfit => Ok(None),
-        Turn::Ended(end) => Ok(Some(end)),
+        Turn::Ended(end) => Ok(Some(Ending { end, has_stray })),
     }
 }
 
@@ -70,7 +70,7 @@ fn ends_of<P: Port, C: Clock, J: Job>(
     alloc: Global,
     desks: &Desks<P, C>,
     jobs: &[J],
-) -> Result<Option<Vec<J::End>>, AllocError>
+) -> Result<Option<Vec<Ending<J::End>>>, AllocError>
     ensures { IfOk result
         (λ ends. IfSome ends (λ all. AreEnded J.plays jobs.now desks.now.table.seats all.items)) }
 {
@@ -92,7 +92,7 @@ pub fn finish<P: Port, C: Clock, J: Job>(
     desks: &mut Desks<P, C>,
     jobs: &[J],
     turns: u64,
-) -> Result<Option<Vec<J::End>>, AllocError>
+) -> Result<Option<Vec<Ending<J::End>>>, AllocError>
     // Each job ended by all that came to the questions of its desk, and none is open.
     ensures ended { IfOk result (λ ends. IfSome ends
         (λ all. AreEnded J.plays jobs.now desks.new.table.seats all.items

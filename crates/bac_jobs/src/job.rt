@@ -19,6 +19,14 @@ pub enum Turn<E> {
     Unfit,
 }
 
+/// How the job of a device ended, and whether something came from the device's host, while its last
+/// question was open, that doesn't answer it.
+#[derive(Drop)]
+pub struct Ending<E> {
+    pub end: E,
+    pub has_stray: bool,
+}
+
 /// Something that asks a device question after question, and ends by what came to them.
 pub trait Job {
     /// What it ends with.

@@ -7,5 +7,5 @@ mod job;
 mod laws;
 
 pub use finishing::finish;
-pub use job::{Job, Turn};
+pub use job::{Ending, Job, Turn};
 pub use laws::places_stay;

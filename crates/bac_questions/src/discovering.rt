@@ -24,14 +24,14 @@ use bac_words::{Asked, Word};
 use std::alloc::Global;
 
 /// The type of a Device object (clause 21).
-pub(crate) const DEVICE: u16 = 8;
+pub const DEVICE: u16 = 8;
 
 const OBJECT_LIST: u32 = 76;
 
 const OBJECT_NAME: u32 = 77;
 
 /// The instance that stands for the device itself, whichever it has (clause 12.11).
-pub(crate) const ITSELF: u32 = 4_194_303;
+pub const ITSELF: u32 = 4_194_303;
 
 /// A device that is asked for its objects.
 #[derive(Drop)]

@@ -12,10 +12,10 @@ mod whose;
 
 pub use among::{copy_source, is_same_device, log_among};
 pub use connecting::connect;
-pub use discovering::discover;
+pub use discovering::{DEVICE, ITSELF, discover};
 pub use questions::{Count, read_count};
-pub use said::{Identity, Said, copy_text, identify, silent};
+pub use said::{Identity, OBJECT_IDENTIFIER, Said, copy_text, identify, silent};
 pub use whose::{
     Heard, add_heard, device_on_record, hindrance, is_heard, is_silent, is_told, of_device,
-    said_of, stands_elsewhere,
+    push_heard, said_of, stands_elsewhere,
 };

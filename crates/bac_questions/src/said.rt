@@ -22,7 +22,7 @@ use bac_wire::{Datagram, ObjectId};
 use bac_words::Word;
 use std::alloc::{AllocError, Global};
 
-const OBJECT_IDENTIFIER: u32 = 75;
+pub const OBJECT_IDENTIFIER: u32 = 75;
 
 const DATABASE_REVISION: u32 = 155;
 

@@ -105,7 +105,8 @@ pub fn add_heard(
     push_heard(heard, source, said, false)
 }
 
-fn push_heard(
+/// Puts what the device of a log says of itself behind what others said.
+pub fn push_heard(
     heard: &mut Vec<Heard>,
     source: Source,
     said: Said,

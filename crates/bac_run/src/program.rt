@@ -161,7 +161,7 @@ where
 /// The program `bac`: does what its words ask for, the first of which is its name, and answers the
 /// exit status. Results and help go to the output; faults, and the line of a server that is up, go
 /// to the errors. `counts` is for a terminal: of `keep` the errors have a count of records while a
-/// log is fetched.
+/// log is fetched. `waits` is the clock by which `keep` waits for devices that it calls at once.
 pub fn run<S: Tracing, F: Start, I: Read, O: Write, E: Write, C: Clock, W: WaitClock>(
     sockets: &mut S,
     files: &mut DiskFiles<'_, F>,

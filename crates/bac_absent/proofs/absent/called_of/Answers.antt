@@ -1,4 +1,4 @@
-use Rattle.std.proofs.Common.{◌≡◌, ◌∙◌, ◌+◌, ◌<◌, false, length, List, ◌∷◌, ◌++◌, [], map, take, get_or, subst, sym, ap, rules, arith}
+use Rattle.std.proofs.Common.{◌≡◌, ◌∙◌, ◌+◌, ◌<◌, false, length, List, ◌∷◌, ◌++◌, [], map, take, subst, sym, ap, rules, arith}
 use Rattle.std.proofs.lemmas.List.{take_more}
 use denote.Ref.{Bor}
 use Rattle.bac_asked.specs.declared.wanted.Wanted.{Wanted}

@@ -1,6 +1,5 @@
-use Rattle.std.proofs.Common.{None, sym, subst}
+use Rattle.std.proofs.Common.{None, subst}
 use Rattle.bac_link.specs.Requests.{IsTooLong}
-use Rattle.bac_link.specs.declared.request.Request.{Request}
 use Rattle.bac_questions.proofs.CountLemmas.{property_fits}
 use Rattle.bac_absent.proofs.call.begin.Goals as goal
 

@@ -4,7 +4,7 @@ use Rattle.bac_hearing.specs.Hearing.{started}
 use Rattle.bac_ports.specs.Sockets.{socket_rules}
 use Rattle.bac_absent.specs.Absent.{IsCall}
 use Rattle.bac_absent.proofs.Together.{calls_all, unending}
-use Rattle.bac_absent.proofs.absent.call_all.Goals as goal
+use Rattle.bac_absent.proofs.absent.hear_calls.Goals as goal
 
 pub returns-in-Ok-clause-called : goal.returns-in-Ok-clause-called
 returns-in-Ok-clause-called g c =

@@ -1,0 +1,170 @@
+//! A folder of parts: files with a name of six digits and `.db`, the greatest of which is the newest.
+
+ghost use Rattle.std.specs.Prelude.{Bool, IfErr, IfOk};
+ghost use Rattle.bac_files.specs.Files.{IsReason};
+ghost use Rattle.bac_files.specs.Parts.{IsPartOf, IsPlaced};
+
+use crate::not_opened::{NotOpened, Obstacle};
+use std::alloc::AllocError;
+use std::fmt::Write;
+use std::fs::{metadata, read_dir};
+
+/// The number of the last part that a folder has room for.
+const LAST: u32 = 999_999;
+
+/// The file of an archive, and the part of the archive before it.
+#[derive(Drop)]
+pub struct Place {
+    pub path: String,
+    /// The part that it follows on; of a file that has nothing it is made of that.
+    pub before: Option<String>,
+    /// That part, and not this file, is the one that is no use.
+    pub blames_before: bool,
+}
+
+impl Place {
+    /// A file that is no part of anything.
+    fn alone(rt: &HostRuntime, name: &str) -> Result<Place, AllocError>
+        ensures { IfOk result (IsPlaced name.now) }
+    {
+        Ok(Place {
+            path: String::from_str(rt.alloc(), name)?,
+            before: None,
+            blames_before: false,
+        })
+    }
+
+    /// A part, and the one that it follows on.
+    fn part(
+        rt: &HostRuntime,
+        folder: &str,
+        file: u32,
+        old: Option<u32>,
+    ) -> Result<Place, AllocError>
+        ensures { IfOk result (IsPlaced folder.now) }
+    {
+        let before = match old {
+            Some(old) => Some(part_path(rt, folder, old)?),
+            None => None,
+        };
+        Ok(Place {
+            path: part_path(rt, folder, file)?,
+            before,
+            blames_before: false,
+        })
+    }
+
+    /// The name of the file that is no use, where one of them is.
+    pub fn blamed(&self) -> &str {
+        match &self.before {
+            Some(before) if self.blames_before => before.as_str(),
+            _ => self.path.as_str(),
+        }
+    }
+}
+
+/// The name of a part in its folder: six digits and `.db`.
+fn part_name(rt: &HostRuntime, number: u32) -> Result<String, AllocError> {
+    let mut name = String::new(rt.alloc());
+    match write!(name, "{number:06}.db") {
+        Ok(()) => Ok(name),
+        Err(_) => Err(AllocError),
+    }
+}
+
+/// The path of a part.
+fn part_path(rt: &HostRuntime, folder: &str, number: u32) -> Result<String, AllocError>
+    ensures { IfOk result (λ path. IsPartOf folder.now path) }
+{
+    let name = part_name(rt, number)?;
+    let mut path = String::from_str(rt.alloc(), folder)?;
+    path.push_str("/")?;
+    path.push_str(name.as_str())?;
+    Ok(path)
+}
+
+/// The number of a part, by the name of its file.
+fn number_of(name: &str) -> Option<u32> {
+    let digits = name.strip_suffix(".db")?;
+    if digits.len() != 6 {
+        return None;
+    }
+    match digits.parse::<u32>() {
+        Ok(number) if number > 0 => Some(number),
+        _ => None,
+    }
+}
+
+/// The greatest number of the parts in a folder; 0 if it has none.
+fn newest_part(rt: &HostRuntime, folder: &str) -> Result<u32, NotOpened>
+    ensures { (may : Bool) → IfErr result (IsReason may) }
+{
+    let Ok(entries) = read_dir(rt, folder) else {
+        return Err(NotOpened::Barred(Obstacle::NotPermitted));
+    };
+    let mut newest = 0u32;
+    for entry in entries {
+        let Ok(entry) = entry else {
+            return Err(NotOpened::Barred(Obstacle::NotPermitted));
+        };
+        if let Some(number) = number_of(entry.file_name()) {
+            newest = newest.max(number);
+        }
+    }
+    Ok(newest)
+}
+
+/// How many octets the file of a part has; 0 if it isn't there.
+fn len_of(rt: &HostRuntime, folder: &str, number: u32) -> Result<u64, AllocError> {
+    let path = part_path(rt, folder, number)?;
+    match metadata(rt, path.as_str()) {
+        Ok(found) => Ok(found.len()),
+        Err(_) => Ok(0),
+    }
+}
+
+/// Which part of a folder is opened whose newest one has this number: the next one, where that has
+/// so many octets or more. One of which nothing is written yet follows on the one before it.
+fn choose(rt: &HostRuntime, folder: &str, newest: u32, full: u64) -> Result<Place, AllocError>
+    ensures { IfOk result (IsPlaced folder.now) }
+{
+    if newest == 0 {
+        return Place::part(rt, folder, 1, None);
+    }
+    let len = len_of(rt, folder, newest)?;
+    if len >= full && newest < LAST {
+        return Place::part(rt, folder, newest + 1, Some(newest));
+    }
+    if len == 0 && newest > 1 {
+        return Place::part(rt, folder, newest, Some(newest - 1));
+    }
+    Place::part(rt, folder, newest, None)
+}
+
+/// The part of a folder that is opened.
+fn place_in(rt: &HostRuntime, folder: &str, full: u64) -> Result<Place, NotOpened>
+    ensures placed { IfOk result (IsPlaced folder.now) }
+    ensures why { (may : Bool) → IfErr result (IsReason may) }
+{
+    match newest_part(rt, folder) {
+        Ok(newest) => match choose(rt, folder, newest, full) {
+            Ok(place) => Ok(place),
+            Err(_) => Err(NotOpened::Memory),
+        },
+        Err(why) => Err(why),
+    }
+}
+
+/// Where the archive of this name is kept: in the file, or in a part of the folder.
+pub(crate) fn place_of(rt: &HostRuntime, name: &str, full: u64) -> Result<Place, NotOpened>
+    ensures placed { IfOk result (IsPlaced name.now) }
+    ensures why { (may : Bool) → IfErr result (IsReason may) }
+{
+    if matches!(metadata(rt, name), Ok(found) if found.is_dir()) {
+        return place_in(rt, name, full);
+    }
+    match Place::alone(rt, name) {
+        Ok(place) => Ok(place),
+        Err(_) => Err(NotOpened::Memory),
+    }
+}
